@@ -1,0 +1,203 @@
+// A source and a sink in memory, which fail at the calls that they are told to. They serve tests.
+ghost use Rattle.std.specs.Prelude.{◌≡◌, ◌↔◌, ◌⊎◌, ◌+◌, ◌≤◌, ◌<◌, [], ◌++◌, length, take, drop, min, Some, IfOk, OnOk, OnErr, IsErr, Contains};
+ghost use Rattle.std.specs.Io.KnownBytes.{ReadConsumes, WriteAppends};
+ghost use Rattle.byte_io.specs.Causes.{HasCause};
+ghost use Rattle.byte_io.specs.Memory.{next_count};
+
+use crate::{Failed, Sink, Source};
+use std::alloc::Global;
+use std::marker::Model;
+
+/// A source of bytes in memory. A clause sees it as the bytes that are left, the numbers of the calls that are to
+/// fail, counted from 0, and how many calls and faults there were.
+#[derive(Debug, Drop)]
+pub struct MemSource {
+    bytes: Vec<u8>,
+    at: usize,
+    fail: Vec<u64>,
+    calls: u64,
+    faults: u64,
+}
+
+impl Model for MemSource {
+    ghost use Rattle.std.specs.Prelude.{◌≤◌, drop, vec_len};
+    ghost use Rattle.byte_io.specs.Memory.{SourceState};
+
+    ghost Value = { SourceState };
+
+    ghost view = { λ s. record {
+        bytes_left = drop s.at s.bytes.items;
+        failing_calls = s.fail.items;
+        calls = s.calls;
+        faults = s.faults
+    } };
+
+    ghost invariant = { λ s. s.at ≤ vec_len s.bytes };
+}
+
+impl MemSource {
+    /// A source of these bytes, whose calls with a number in `fail`, counted from 0, fail.
+    pub fn new(bytes: Vec<u8>, fail: Vec<u64>) -> MemSource
+        ensures left { result.bytes_left ≡ bytes.items }
+        ensures failing { result.failing_calls ≡ fail.items }
+        ensures calls { result.calls ≡ 0 }
+        ensures faults { result.faults ≡ 0 }
+    {
+        MemSource {
+            bytes,
+            at: 0,
+            fail,
+            calls: 0,
+            faults: 0,
+        }
+    }
+
+    /// How many reads there were. The count stays at the end of its type.
+    pub fn calls(&self) -> u64
+        ensures { result ≡ self.now.calls }
+    {
+        self.calls
+    }
+
+    /// How many reads failed. The count stays at the end of its type.
+    pub fn faults(&self) -> u64
+        ensures { result ≡ self.now.faults }
+    {
+        self.faults
+    }
+}
+
+impl Source for MemSource {
+    ghost left = { λ s. Some s.bytes_left };
+
+    ghost faults = { λ s. s.faults };
+
+    /// Gives as many bytes as are left and fit the buffer.
+    fn read(&mut self, buf: &mut [u8]) -> Result<usize, Failed>
+        ensures bound { IfOk result (λ n. n ≤ length buf.new) }
+        ensures bytes { ReadConsumes (Some self.old.bytes_left) (Some self.new.bytes_left) result buf.new }
+        ensures cause { HasCause self.old.faults self.new.faults result }
+
+        // Which calls fail, and what each changes.
+        ensures failed { IsErr result ↔ Contains self.old.failing_calls self.old.calls }
+        ensures counted { self.new.calls ≡ next_count self.old.calls }
+        ensures failing { self.new.failing_calls ≡ self.old.failing_calls }
+
+        ensures count { IfOk result (λ n. n ≡ min (length self.old.bytes_left) (length buf.old)) }
+        ensures copied { IfOk result (λ n. buf.new ≡ take n self.old.bytes_left ++ drop n buf.old) }
+        ensures rest { IfOk result (λ n. self.new.bytes_left ≡ drop n self.old.bytes_left) }
+        ensures no_fault { OnOk result (self.new.faults ≡ self.old.faults) }
+
+        ensures one_fault { OnErr result (self.new.faults ≡ next_count self.old.faults) }
+        ensures kept { OnErr result (self.new.bytes_left ≡ self.old.bytes_left) }
+        ensures untouched { OnErr result (buf.new ≡ buf.old) }
+    {
+        let fails = self.fail.contains(&self.calls);
+        self.calls = self.calls.saturating_add(1);
+        if fails {
+            self.faults = self.faults.saturating_add(1);
+            return Err(Failed);
+        }
+        let left = &self.bytes[self.at..];
+        let count = left.len().min(buf.len());
+        buf[..count].copy_from_slice(&left[..count]);
+        self.at += count;
+        Ok(count)
+    }
+}
+
+/// A sink that keeps its bytes in memory. A clause sees it as the bytes that it was given, the numbers of the calls
+/// that are to fail, counted from 0, and how many calls and faults there were.
+#[derive(Debug, Drop)]
+pub struct MemSink {
+    bytes: Vec<u8>,
+    fail: Vec<u64>,
+    calls: u64,
+    faults: u64,
+}
+
+impl Model for MemSink {
+    ghost use Rattle.byte_io.specs.Memory.{SinkState};
+
+    ghost Value = { SinkState };
+
+    ghost view = { λ s. record {
+        bytes_written = s.bytes.items;
+        failing_calls = s.fail.items;
+        calls = s.calls;
+        faults = s.faults
+    } };
+}
+
+impl MemSink {
+    /// A sink that holds nothing yet, whose calls with a number in `fail`, counted from 0, fail.
+    pub fn new(alloc: Global, fail: Vec<u64>) -> MemSink
+        ensures written { result.bytes_written ≡ [] }
+        ensures failing { result.failing_calls ≡ fail.items }
+        ensures calls { result.calls ≡ 0 }
+        ensures faults { result.faults ≡ 0 }
+    {
+        MemSink {
+            bytes: Vec::new(alloc),
+            fail,
+            calls: 0,
+            faults: 0,
+        }
+    }
+
+    /// What was written.
+    pub fn bytes(&self) -> &[u8]
+        ensures { result.now ≡ self.now.bytes_written }
+    {
+        &self.bytes
+    }
+
+    /// How many writes there were. The count stays at the end of its type.
+    pub fn calls(&self) -> u64
+        ensures { result ≡ self.now.calls }
+    {
+        self.calls
+    }
+
+    /// How many writes failed. The count stays at the end of its type.
+    pub fn faults(&self) -> u64
+        ensures { result ≡ self.now.faults }
+    {
+        self.faults
+    }
+}
+
+impl Sink for MemSink {
+    ghost written = { λ s. Some s.bytes_written };
+
+    ghost faults = { λ s. s.faults };
+
+    /// Takes all of the piece. It fails also where there is no memory for it.
+    fn write(&mut self, bytes: &[u8]) -> Result<usize, Failed>
+        ensures bound { IfOk result (λ n. n ≤ length bytes.now) }
+        ensures progress { IfOk result (λ n. 0 < length bytes.now → 0 < n) }
+        ensures bytes { WriteAppends (Some self.old.bytes_written) (Some self.new.bytes_written) result bytes.now }
+        ensures cause { HasCause self.old.faults self.new.faults result }
+
+        // Which calls fail, and what each changes.
+        ensures failed { Contains self.old.failing_calls self.old.calls → IsErr result }
+        ensures failed_only { OnErr result (Contains self.old.failing_calls self.old.calls ⊎ (0 < length bytes.now)) }
+        ensures counted { self.new.calls ≡ next_count self.old.calls }
+        ensures failing { self.new.failing_calls ≡ self.old.failing_calls }
+
+        ensures count { IfOk result (λ n. n ≡ length bytes.now) }
+        ensures grown { OnOk result (self.new.bytes_written ≡ self.old.bytes_written ++ bytes.now) }
+        ensures no_fault { OnOk result (self.new.faults ≡ self.old.faults) }
+
+        ensures one_fault { OnErr result (self.new.faults ≡ next_count self.old.faults) }
+        ensures kept { OnErr result (self.new.bytes_written ≡ self.old.bytes_written) }
+    {
+        let fails = self.fail.contains(&self.calls);
+        self.calls = self.calls.saturating_add(1);
+        if fails || self.bytes.extend_from_slice(bytes).is_err() {
+            self.faults = self.faults.saturating_add(1);
+            return Err(Failed);
+        }
+        Ok(bytes.len())
+    }
+}

@@ -1,0 +1,117 @@
+// Sources and sinks over std's readers and writers.
+ghost use Rattle.std.specs.Prelude.{◌≡◌, ◌≤◌, ◌<◌, length, IfOk, OnOk, OnErr};
+ghost use Rattle.std.specs.Io.KnownBytes.{Keeps, ReadConsumes, WriteAppends};
+ghost use Rattle.byte_io.specs.Causes.{HasCause};
+ghost use Rattle.byte_io.specs.Memory.{next_count};
+
+use crate::{Failed, Sink, Source, WriteFault};
+use std::io::{Read, Write};
+
+/// A reader of std as a source. Each error of the reader, also one that says that a signal came, is a fault.
+#[derive(Drop)]
+pub struct StdSource<R> {
+    inner: R,
+    faults: u64,
+}
+
+impl<R: Read> StdSource<R> {
+    ghost use Rattle.byte_io.specs.Standard.{source_inner, source_faults};
+
+    /// The reader as a source, with no fault so far.
+    pub fn new(inner: R) -> StdSource<R>
+        ensures inner { source_inner result ≡ inner }
+        ensures faults { source_faults result ≡ 0 }
+    {
+        StdSource { inner, faults: 0 }
+    }
+}
+
+impl<R: Read> Source for StdSource<R> {
+    ghost use Rattle.byte_io.specs.Standard.{source_inner, source_faults};
+
+    ghost left = { λ s. R.remaining (source_inner s) };
+
+    ghost faults = { source_faults };
+
+    fn read(&mut self, buf: &mut [u8]) -> Result<usize, Failed>
+        ensures bound { IfOk result (λ n. n ≤ length buf.new) }
+        ensures bytes { ReadConsumes (R.remaining (source_inner self.old)) (R.remaining (source_inner self.new))
+            result buf.new }
+        ensures cause { HasCause (source_faults self.old) (source_faults self.new) result }
+        ensures no_fault { OnOk result (source_faults self.new ≡ source_faults self.old) }
+        ensures one_fault { OnErr result (source_faults self.new ≡ next_count (source_faults self.old)) }
+    {
+        if let Ok(count) = self.inner.read(buf) {
+            return Ok(count);
+        }
+        self.faults = self.faults.saturating_add(1);
+        Err(Failed)
+    }
+}
+
+/// A writer of std as a sink. Each error of the writer, and each write of a piece of which it takes nothing, is a
+/// fault. A writer with a buffer, as a `BufWriter`, keeps bytes back until `flush`.
+#[derive(Drop)]
+pub struct StdSink<W> {
+    inner: W,
+    faults: u64,
+}
+
+impl<W: Write> StdSink<W> {
+    ghost use Rattle.byte_io.specs.Standard.{sink_inner, sink_faults};
+
+    /// The writer as a sink, with no fault so far.
+    pub fn new(inner: W) -> StdSink<W>
+        ensures inner { sink_inner result ≡ inner }
+        ensures faults { sink_faults result ≡ 0 }
+    {
+        StdSink { inner, faults: 0 }
+    }
+
+    /// Makes the writer send on what it keeps back.
+    pub fn flush(&mut self) -> Result<(), WriteFault>
+        ensures bytes { Keeps (W.contents (sink_inner self.old)) (W.contents (sink_inner self.new)) }
+        ensures cause { HasCause (sink_faults self.old) (sink_faults self.new) result }
+        ensures no_fault { OnOk result (sink_faults self.new ≡ sink_faults self.old) }
+        ensures one_fault { OnErr result (sink_faults self.new ≡ next_count (sink_faults self.old)) }
+    {
+        let Err(_) = self.inner.flush() else {
+            return Ok(());
+        };
+        self.faults = self.faults.saturating_add(1);
+        Err(WriteFault)
+    }
+
+    /// The writer, with all that it took.
+    pub fn into_inner(self) -> W
+        ensures { result ≡ sink_inner self }
+    {
+        self.inner
+    }
+}
+
+impl<W: Write> Sink for StdSink<W> {
+    ghost use Rattle.byte_io.specs.Standard.{sink_inner, sink_faults};
+
+    ghost written = { λ s. W.contents (sink_inner s) };
+
+    ghost faults = { sink_faults };
+
+    fn write(&mut self, bytes: &[u8]) -> Result<usize, Failed>
+        ensures bound { IfOk result (λ n. n ≤ length bytes.now) }
+        ensures progress { IfOk result (λ n. 0 < length bytes.now → 0 < n) }
+        ensures bytes { WriteAppends (W.contents (sink_inner self.old)) (W.contents (sink_inner self.new))
+            result bytes.now }
+        ensures cause { HasCause (sink_faults self.old) (sink_faults self.new) result }
+        ensures no_fault { OnOk result (sink_faults self.new ≡ sink_faults self.old) }
+        ensures one_fault { OnErr result (sink_faults self.new ≡ next_count (sink_faults self.old)) }
+    {
+        if let Ok(count) = self.inner.write(bytes) {
+            if count > 0 || bytes.is_empty() {
+                return Ok(count);
+            }
+        }
+        self.faults = self.faults.saturating_add(1);
+        Err(Failed)
+    }
+}

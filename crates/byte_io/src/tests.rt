@@ -1,0 +1,135 @@
+// What no clause says: that calls succeed where there is memory, and what each of the types does at a call.
+use super::*;
+use std::alloc::{AllocError, Global};
+use std::io;
+use std::io::{BufWriter, Read};
+use std::test::Fail;
+
+// A reader that only fails.
+#[derive(Drop)]
+struct Broken;
+
+impl Read for Broken {
+    fn read(&mut self, _buf: &mut [u8]) -> io::Result<usize> {
+        Err(io::Error::from(io::ErrorKind::Other))
+    }
+}
+
+// The number of a call that fails, in a list of its own.
+fn failing(alloc: Global, call: u64) -> Result<Vec<u64>, AllocError> {
+    Ok(vec![in alloc; call]?)
+}
+
+#[test]
+fn reads_to_the_end_or_says_why_not(rt: HostRuntime) -> Result<(), Fail> {
+    let alloc = rt.alloc();
+    // The bytes, the call that fails, the limit, the number of bytes or the refusal, the calls and the faults.
+    let cases: [(&[u8], u64, u64, Result<usize, ReadNo>, u64, u64); 10] = [
+        (b"", 9, 0, Ok(0), 1, 0),
+        (b"", 0, 0, Err(ReadNo::ReadFault), 1, 1),
+        (b"hello", 9, 6, Ok(5), 2, 0),
+        (b"hello", 9, 5, Ok(5), 2, 0),
+        (b"hello", 9, 4, Err(ReadNo::TooLong { limit: 4 }), 1, 0),
+        (b"hello", 9, 0, Err(ReadNo::TooLong { limit: 0 }), 1, 0),
+        (b"hello", 9, u64::MAX, Ok(5), 2, 0),
+        (b"hello", 0, 5, Err(ReadNo::ReadFault), 1, 1),
+        (b"hello", 1, 5, Err(ReadNo::ReadFault), 2, 1),
+        (b"hello", 2, 5, Ok(5), 2, 0),
+    ];
+    for (bytes, call, limit, want, calls, faults) in cases {
+        let mut source = MemSource::new(bytes.to_vec(alloc)?, failing(alloc, call)?);
+        match (read_all(alloc, &mut source, limit), want) {
+            (Ok(all), Ok(len)) => {
+                assert_eq!(rt; all.as_slice(), bytes, "at limit {limit}");
+                assert_eq!(rt; all.len(), len);
+            }
+            (got, want) => assert_eq!(rt; got.map(|all| all.len()), want, "at limit {limit}"),
+        }
+        assert_eq!(rt; source.calls(), calls, "at limit {limit}");
+        assert_eq!(rt; source.faults(), faults, "at limit {limit}");
+    }
+    Ok(())
+}
+
+#[test]
+fn reads_more_than_one_piece(rt: HostRuntime) -> Result<(), Fail> {
+    let alloc = rt.alloc();
+    // 70,000 bytes come as 65,536, then 4,464, then the end.
+    let cases: [(u64, u64, Result<usize, ReadNo>, u64); 7] = [
+        (9, 70_000, Ok(70_000), 3),
+        (0, 70_000, Err(ReadNo::ReadFault), 1),
+        (1, 70_000, Err(ReadNo::ReadFault), 2),
+        (2, 70_000, Err(ReadNo::ReadFault), 3),
+        (9, 69_999, Err(ReadNo::TooLong { limit: 69_999 }), 2),
+        (9, 65_536, Err(ReadNo::TooLong { limit: 65_536 }), 2),
+        (9, 65_535, Err(ReadNo::TooLong { limit: 65_535 }), 1),
+    ];
+    for (call, limit, want, calls) in cases {
+        let mut source = MemSource::new(vec![in alloc; 7; 70_000]?, failing(alloc, call)?);
+        let got = read_all(alloc, &mut source, limit);
+        assert_eq!(rt; got.map(|all| all.len()), want, "at limit {limit}");
+        assert_eq!(rt; source.calls(), calls, "at limit {limit}");
+    }
+    Ok(())
+}
+
+#[test]
+fn writes_all_or_says_that_a_write_failed(rt: HostRuntime) -> Result<(), Fail> {
+    let alloc = rt.alloc();
+    // The call that fails, and what is written of "ab", "cd" and "ef" by then.
+    let cases: [(u64, &[u8], u64); 4] = [(0, b"", 1), (1, b"ab", 2), (2, b"abcd", 3), (3, b"abcdef", 3)];
+    for (call, want, calls) in cases {
+        let mut sink = MemSink::new(alloc, failing(alloc, call)?);
+        let result = write_all(&mut sink, b"ab")
+            .and_then(|_| write_all(&mut sink, b"cd"))
+            .and_then(|_| write_all(&mut sink, b"ef"));
+        assert_eq!(rt; result.is_ok(), call == 3, "at call {call}");
+        assert_eq!(rt; sink.bytes(), want, "at call {call}");
+        assert_eq!(rt; sink.calls(), calls, "at call {call}");
+        assert_eq!(rt; sink.faults(), u64::from(call != 3), "at call {call}");
+    }
+    Ok(())
+}
+
+#[test]
+fn std_readers_are_sources(rt: HostRuntime) -> Result<(), Fail> {
+    let alloc = rt.alloc();
+    let first: &[u8] = b"hel";
+    let second: &[u8] = b"lo";
+    let mut source = StdSource::new(first.chain(second));
+    let all = read_all(alloc, &mut source, 5).map_err(|_| "refused")?;
+    assert_eq!(rt; all.as_slice(), b"hello".as_slice());
+    let mut broken = StdSource::new(Broken);
+    let got = read_all(alloc, &mut broken, 5).map(|all| all.len());
+    assert_eq!(rt; got, Err(ReadNo::ReadFault));
+    Ok(())
+}
+
+#[test]
+fn std_writers_are_sinks(rt: HostRuntime) -> Result<(), Fail> {
+    let alloc = rt.alloc();
+    let mut sink = StdSink::new(Vec::new(alloc));
+    assert_eq!(rt; write_all(&mut sink, b"hello"), Ok(()));
+    assert_eq!(rt; sink.into_inner().as_slice(), b"hello".as_slice());
+
+    // A writer with room for three bytes takes those, and then none.
+    let mut room = [0; 3];
+    let mut full = StdSink::new(room.as_mut_slice());
+    assert_eq!(rt; write_all(&mut full, b"hello"), Err(WriteFault));
+    assert_eq!(rt; room.as_slice(), b"hel".as_slice());
+
+    let mut kept = StdSink::new(BufWriter::new(alloc, Vec::new(alloc))?);
+    assert_eq!(rt; write_all(&mut kept, b"hello"), Ok(()));
+    assert_eq!(rt; kept.flush(), Ok(()));
+    assert_eq!(rt; kept.into_inner().get_ref().as_slice(), b"hello".as_slice());
+    Ok(())
+}
+
+#[test]
+fn refusals_have_texts(rt: HostRuntime) -> Result<(), Fail> {
+    let alloc = rt.alloc();
+    let limit = ReadNo::TooLong { limit: 7 };
+    let texts = format!(in alloc; "{limit}, {}, {Failed}, {WriteFault}", ReadNo::ReadFault)?;
+    assert_eq!(rt; texts.as_str(), "more than 7 bytes came, a read failed, a call to the outside failed, a write failed");
+    Ok(())
+}

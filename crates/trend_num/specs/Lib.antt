@@ -1,0 +1,11 @@
+pub mod Ranges
+pub mod Lines
+pub mod Names
+pub mod Numerals
+pub mod History
+pub mod Walk
+pub mod Content
+pub mod Bound
+pub mod Step
+pub mod Rows
+pub mod Texts

@@ -1,0 +1,25 @@
+-- The ranges of times, values and tunings.
+use Rattle.std.specs.Prelude.{ℕ, ◌≤◌, unsigned_abs}
+use Rattle.trend_num.specs.declared.points.Point.{Point}
+use Rattle.trend_num.specs.declared.tunings.Tuning.{Tuning}
+
+-- the last millisecond of the year 9999, from 1970
+abbrev pub last_time : ℕ
+last_time = 253402300799999
+
+-- the greatest amount of a value or a deviation
+abbrev pub largest_value : ℕ
+largest_value = 1000000000000000
+
+-- a point whose time is a time, and whose value is a value
+pub record InRange (p : Point) : Type 0 where
+  pub time : p.t ≤ last_time
+  pub value : unsigned_abs p.v ≤ largest_value
+
+-- a tuning of two deviations and three times
+pub record IsTuned (tuning : Tuning) : Type 0 where
+  pub exc_dev : tuning.exc_dev ≤ largest_value
+  pub exc_max : tuning.exc_max ≤ last_time
+  pub comp_dev : tuning.comp_dev ≤ largest_value
+  pub comp_min : tuning.comp_min ≤ last_time
+  pub comp_max : tuning.comp_max ≤ last_time

@@ -1,0 +1,44 @@
+use crate::points::Point;
+
+/// The most records that a tag may have.
+pub const MAX_RECORDS: u32 = 1_048_576;
+
+/// How a record came into an archive.
+#[derive(Clone, Copy, Debug, PartialEq, Eq)]
+pub enum Kind {
+    /// An end of a straight line, kept by the compression.
+    Kept,
+    /// A value that came late, recorded as it came.
+    Late,
+}
+
+/// A record of an archive.
+#[derive(Clone, Copy, Debug, PartialEq, Eq)]
+pub struct Rec {
+    pub kind: Kind,
+    pub point: Point,
+}
+
+/// What the exception test hands on of a value, and in which way.
+#[derive(Clone, Copy, Debug, PartialEq, Eq)]
+pub enum Sending {
+    /// The value is after every value sent in order before it.
+    InOrder(Point),
+    /// The value came after one that is at its time or later.
+    Late(Point),
+}
+
+/// The state of a tag beside its records.
+#[derive(Clone, Copy, Debug, PartialEq, Eq)]
+pub struct Summary {
+    /// How many raw values were taken since the tag began.
+    pub taken: u64,
+    /// How many records there are.
+    pub records: u32,
+    /// The last value sent in order: the archive's line is closed by it.
+    pub held: Option<Point>,
+    /// The newest value in order that was not sent.
+    pub pending: Option<Point>,
+    /// The last kept point, on which the doors hang.
+    pub hinge: Option<Point>,
+}
