@@ -1,13 +1,9 @@
-// A library with one function.
+//! Laws of the archive: what holds of its definitions for every tuning and every history.
+//!
+//! Each law is the contract of a public function without parameters, whose body is empty. Layers above cite the
+//! lemmas behind them.
 #![tactic(auto)]
 
-ghost use Rattle.std.specs.Prelude.{◌≡◌};
-ghost use Rattle.trend_law.specs.Echo.{echo_of};
+mod steps;
 
-// The `ensures` clause is the contract: what `echo` returns is `echo_of` of its argument, a definition
-// in `specs/Echo.antt`, which a caller's clause can cite too.
-pub fn echo(x: usize) -> usize
-    ensures { result ≡ echo_of x }
-{
-    x
-}
+pub use steps::{held_is_sent, prior_is_sent, step_stands};

@@ -1,2 +1,4 @@
 pub mod Numbers
 pub mod Examples
+pub mod Sent
+pub mod Walks

@@ -64,3 +64,9 @@ IsInOrder y (p ∷ h) = ((y ≡ p) × (is_late p h ≡ false)) ⊎ IsInOrder y h
 abbrev pub IsSent : Sending → List Sending → Type 0
 IsSent s [] = ⊥
 IsSent s (x ∷ xs) = (s ≡ x) ⊎ IsSent s xs
+
+-- the last value in order of what was sent
+abbrev pub last_in_order : List Sending → Option Point
+last_in_order [] = None
+last_in_order (Late x ∷ sendings) = last_in_order sendings
+last_in_order (InOrder x ∷ sendings) = Some x
