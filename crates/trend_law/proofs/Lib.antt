@@ -1,1 +1,7 @@
 pub mod StepLaw
+pub mod Near
+pub mod Order
+pub mod WalkLaw
+pub mod ContentLaw
+pub mod RawLaw
+pub mod BoundLaw

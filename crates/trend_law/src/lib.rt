@@ -4,6 +4,8 @@
 //! lemmas behind them.
 #![tactic(auto)]
 
+mod bounds;
 mod steps;
 
+pub use bounds::bound;
 pub use steps::{held_is_sent, prior_is_sent, step_stands};

@@ -2,3 +2,4 @@ pub mod Numbers
 pub mod Examples
 pub mod Sent
 pub mod Walks
+pub mod Cases

@@ -70,13 +70,13 @@ sent_next tuning (q ∷ h) p =
     next_of q (sent_before tuning h (Some q)) (is_late q h) (is_far_from tuning (prior tuning h) q) (is_pushed_out tuning (q ∷ h) (Some p))
 
 -- the two tests of an offer where nothing is pending, and where q is
-abbrev offer_alone : Bool → Bool → Point → Point → Offer
+abbrev pub offer_alone : Bool → Bool → Point → Point → Offer
 offer_alone late far s p =
     cond late (record { last = Some s; pending = None; first = None; second = Some (Late p) })
     (cond far (record { last = Some p; pending = None; first = None; second = Some (InOrder p) })
     (record { last = Some s; pending = Some p; first = None; second = None }))
 
-abbrev offer_after : Bool → Bool → Point → Point → Point → Offer
+abbrev pub offer_after : Bool → Bool → Point → Point → Point → Offer
 offer_after late far s q p =
     cond late (record { last = Some q; pending = None; first = Some q; second = Some (Late p) })
     (cond far (record { last = Some p; pending = None; first = Some q; second = Some (InOrder p) })

@@ -1,0 +1,12 @@
+-- The order of what was sent and of what was kept.
+use Rattle.std.specs.Prelude.{◌<◌, List, [], ◌∷◌}
+use Rattle.trend_num.specs.declared.points.Point.{Point}
+use Rattle.trend_num.specs.declared.records.Sending.{Sending}
+use Rattle.trend_num.specs.declared.records.Sending.TheVariants.{InOrder, Late}
+use Rattle.trend_num.specs.History.{IsSent}
+
+-- each value sent in order is after those sent in order before it
+abbrev pub RisesInTime : List Sending → Type 0
+RisesInTime [] = Unit {0}
+RisesInTime (Late x ∷ sendings) = RisesInTime sendings
+RisesInTime (InOrder p ∷ sendings) = ((x : Point) → IsSent (InOrder x) sendings → x.t < p.t) × RisesInTime sendings
