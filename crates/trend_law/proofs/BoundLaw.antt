@@ -1,5 +1,5 @@
 -- The archive's promise, from the walk, the content and the fate of each raw value.
-use Rattle.std.proofs.Common.{◌≡◌, ℕ, ◌+◌, ◌*◌, ◌<◌, ◌≤◌, ◌⊎◌, inl, inr, ℤ, ◌-ℤ◌, Bool, true, false, List, [], ◌∷◌, Option, None, Some, nat_lt, unsigned_abs, refl, sym, ap, ◌∙◌, subst, arith}
+use Rattle.std.proofs.Common.{◌≡◌, ℕ, ◌+◌, ◌*◌, ◌<◌, ◌≤◌, ◌⊎◌, inl, inr, ℤ, ◌-ℤ◌, true, false, List, Option, None, Some, nat_lt, unsigned_abs, refl, sym, ap, ◌∙◌, subst, arith}
 use Rattle.std.proofs.lemmas.Bool.Decides.{nat_tests}
 use Rattle.trend_num.specs.declared.points.Point.{Point}
 use Rattle.trend_num.specs.declared.records.Rec.{Rec}
@@ -9,7 +9,7 @@ use Rattle.trend_num.specs.declared.tunings.Tuning.{Tuning}
 use Rattle.trend_num.specs.Lines.{Within}
 use Rattle.trend_num.specs.History.{sent, prior, IsSent, IsInOrder}
 use Rattle.trend_num.specs.Walk.{records, hinge, since, passed, held, last_of}
-use Rattle.trend_num.specs.Content.{first_there, closed, closed_at, late_at, kept_at, point_at, IsAmong, IsCleanSpan}
+use Rattle.trend_num.specs.Content.{first_there, closed_at, late_at, kept_at, point_at, IsAmong, IsCleanSpan}
 use Rattle.trend_num.specs.Bound.{IsBounded}
 use Rattle.trend_num.proofs.Walks.{held_is_prior}
 use Rattle.trend_law.specs.Orders.{RisesInTime}
@@ -17,7 +17,7 @@ use Rattle.trend_law.proofs.Near.{within_more, within_between}
 use Rattle.trend_law.proofs.Order.{same_there, prior_is_sent, sent_not_after, sent_rises}
 use Rattle.trend_law.proofs.WalkLaw.{IsKept, IsWalked, walk_holds, end_of}
 use Rattle.trend_law.proofs.ContentLaw.{closed_there, closed_point, end_is, near_on_span}
-use Rattle.trend_law.proofs.RawLaw.{Fate, was_sent, lies_between, still_waits, IsBetween, IsWaiting, fate}
+use Rattle.trend_law.proofs.RawLaw.{was_sent, lies_between, still_waits, fate}
 
 -- the held point is the end of the hinge and what came since
 end_from : (a l : Point) (values : List Point) → last_of (Some a) values ≡ Some l → l ≡ end_of a values
@@ -48,9 +48,9 @@ kept_was_sent d sendings rs (Some a) values gone i l k = i.kept_sent l k
 
 not_before : (m n : ℕ) → (m < n → ⊥) → n ≤ m
 not_before m n no_less = elim (nat_lt m n) as (λ b. nat_lt m n ≡ b → n ≤ m) [
-    true ↦ (λ e. (let less : m < n = grind (arith, nat_tests) in absurd (no_less less)))
+  | true ↦ (λ e. (let less : m < n = grind (arith, nat_tests) in absurd (no_less less)))
   | false ↦ (λ e. grind (arith, nat_tests))
-  ] refl
+] refl
 
 -- the walk of a history holds its invariant
 history_walked : (tuning : Tuning) (h : List Point)
@@ -73,9 +73,9 @@ pub sent_near : (tuning : Tuning) (h : List Point) (l r x : Point) → IsCleanSp
     → l.t ≤ x.t → x.t ≤ r.t → Within l r x tuning.comp_dev
 sent_near tuning h l r x c s lx xr =
     near_sent tuning.comp_dev (sent tuning h) (records tuning h) (hinge tuning h) (since tuning h) (passed tuning h) (sent_rises tuning h)
-        (history_walked tuning h) l r x (left_end tuning h l r c) (right_end tuning h l r c) c.rises
-        (λ k there lk. not_before k.t r.t (λ kr. closed_there k (records tuning h) (held tuning h) there (c.neighbours k.t lk kr)))
-        s lx xr c.none_passed
+    (history_walked tuning h) l r x (left_end tuning h l r c) (right_end tuning h l r c) c.rises
+    (λ k there lk. not_before k.t r.t (λ kr. closed_there k (records tuning h) (held tuning h) there (c.neighbours k.t lk kr)))
+    s lx xr c.none_passed
 
 -- and near each raw value in order
 pub raw_near : (tuning : Tuning) (h : List Point) (l r y : Point) → IsCleanSpan tuning h l r → IsInOrder y h
@@ -84,17 +84,17 @@ raw_near tuning h l r y c there ly yr =
     let sent_l = end_sent tuning h l (left_end tuning h l r c) in
     let sent_r = end_sent tuning h r (right_end tuning h l r c) in
     elim (fate tuning h y there) [
-      was_sent s ↦ within_more l r y tuning.comp_dev (2 * tuning.exc_dev) (sent_near tuning h l r y c s ly yr)
-    | lies_between s z b ↦
-        (let after = b.after in let before = b.before in
-         let ls : l.t ≤ s.t = not_before s.t l.t (λ sl. (let beyond = b.neighbours l sent_l sl in absurd (omega arith))) in
-         let zr : z.t ≤ r.t = b.neighbours r sent_r (omega arith) in
-         within_between l r s y z tuning.comp_dev tuning.exc_dev
-            (sent_near tuning h l r s c b.first_sent ls (omega arith)) (sent_near tuning h l r z c b.second_sent (omega arith) zr)
-            ls (omega arith) (omega arith) b.near b.second_near)
-    | still_waits s q w ↦
-        (let below = sent_not_after tuning h (sent_rises tuning h) s r w.last sent_r in
-         let after = w.after in absurd (omega arith))
+      | was_sent s ↦ within_more l r y tuning.comp_dev (2 * tuning.exc_dev) (sent_near tuning h l r y c s ly yr)
+      | lies_between s z b ↦
+          (let after = b.after in let before = b.before in
+          let ls : l.t ≤ s.t = not_before s.t l.t (λ sl. (let beyond = b.neighbours l sent_l sl in absurd (omega arith))) in
+          let zr : z.t ≤ r.t = b.neighbours r sent_r (omega arith) in
+          within_between l r s y z tuning.comp_dev tuning.exc_dev
+          (sent_near tuning h l r s c b.first_sent ls (omega arith)) (sent_near tuning h l r z c b.second_sent (omega arith) zr)
+          ls (omega arith) (omega arith) b.near b.second_near)
+      | still_waits s q w ↦
+          (let below = sent_not_after tuning h (sent_rises tuning h) s r w.last sent_r in
+          let after = w.after in absurd (omega arith))
     ]
 
 -- what came after the held point is near it
@@ -103,11 +103,11 @@ pub newest_near : (tuning : Tuning) (h : List Point) (q y : Point) → held tuni
 newest_near tuning h q y holds there qy =
     let last = sym (held_is_prior tuning h) ∙ holds in
     elim (fate tuning h y there) [
-      was_sent s ↦ (let below = sent_not_after tuning h (sent_rises tuning h) q y last s in absurd (omega arith))
-    | lies_between s z b ↦
-        (let below = sent_not_after tuning h (sent_rises tuning h) q z last b.second_sent in
-         let before = b.before in absurd (omega arith))
-    | still_waits s w_q w ↦ subst (λ (z : Point). unsigned_abs (y.v -ℤ z.v) ≤ tuning.exc_dev) (same_there (prior tuning h) s q w.last last) w.near
+      | was_sent s ↦ (let below = sent_not_after tuning h (sent_rises tuning h) q y last s in absurd (omega arith))
+      | lies_between s z b ↦
+          (let below = sent_not_after tuning h (sent_rises tuning h) q z last b.second_sent in
+          let before = b.before in absurd (omega arith))
+      | still_waits s w_q w ↦ subst (λ (z : Point). unsigned_abs (y.v -ℤ z.v) ≤ tuning.exc_dev) (same_there (prior tuning h) s q w.last last) w.near
     ]
 
 -- at the time of a Late record the last one is read

@@ -10,9 +10,8 @@ use Rattle.trend_num.specs.declared.records.Sending.TheVariants.{InOrder}
 use Rattle.trend_num.specs.Lines.{Within}
 use Rattle.trend_num.specs.History.{IsSent}
 use Rattle.trend_num.specs.Walk.{kept, last_of}
-use Rattle.trend_num.specs.Content.{first_there, value_at, is_late_record, late_at, kept_at, content_at, point_at, closed_at, IsAmong}
+use Rattle.trend_num.specs.Content.{first_there, value_at, is_late_record, late_at, kept_at, point_at, closed_at, IsAmong}
 use Rattle.trend_law.specs.Orders.{RisesInTime}
-use Rattle.trend_law.proofs.Order.{not_both}
 use Rattle.trend_law.proofs.WalkLaw.{IsKept, IsHung, end_of, last_span, same_time}
 
 abbrev pub at : ℕ → ℤ → Point
@@ -38,6 +37,7 @@ value_there p = by_test (nat_eq p.t p.t) (same_test p.t)
     by_test : (here : Bool) → here ≡ true → cond here (Some p.v) None ≡ Some p.v
     by_test true e = refl
     by_test false e = cc
+
     same_test : (n : ℕ) → nat_eq n n ≡ true
     same_test n = grind (arith, nat_tests)
 
@@ -64,6 +64,7 @@ kept_there k (r ∷ rs) (inl e) = by_later (kept_at rs k.t)
   where
     own : cond (is_late_record r.kind) None (value_at r.point k.t) ≡ Some k.v
     own = ap (λ (s : Rec). cond (is_late_record s.kind) None (value_at s.point k.t)) e ∙ value_there k
+
     by_later : (later : Option ℤ) → (v : ℤ) × (first_there later (cond (is_late_record r.kind) None (value_at r.point k.t)) ≡ Some v)
     by_later (Some u) = (u, refl)
     by_later None = (k.v, own)
@@ -90,6 +91,7 @@ closed_point rs q p here in_order =
     by_held : (o : Option Point) → point_at o p.t ≡ Some p.v → o ≡ Some p
     by_held None e = none_some p.v e
     by_held (Some s) e = ap Some (point_of_value s p.t p.v (nat_eq s.t p.t) refl e)
+
     by_kept : (o : Option ℤ) → kept_at rs p.t ≡ o → first_there o (point_at q p.t) ≡ Some p.v → IsKept p rs ⊎ (q ≡ Some p)
     by_kept None here e = inr (by_held q e)
     by_kept (Some u) here e = inl (kept_is rs p.t p.v (here ∙ e))
@@ -101,9 +103,9 @@ end_is a (q ∷ since) = refl
 
 at_most : (m n : ℕ) → m ≤ n → (m < n → ⊥) → m ≡ n
 at_most m n h no_less = elim (nat_lt m n) as (λ b. nat_lt m n ≡ b → m ≡ n) [
-    true ↦ (λ e. (let less : m < n = grind (arith, nat_tests) in absurd (no_less less)))
+  | true ↦ (λ e. (let less : m < n = grind (arith, nat_tests) in absurd (no_less less)))
   | false ↦ (λ e. grind (arith, nat_tests))
-  ] refl
+] refl
 
 -- between neighbours that are kept, or the held point, every value sent is near the line, where nothing was passed over
 pub near_on_span : (d : ℕ) (sendings : List Sending) (rs : List Rec) (a : Point) (since passed : List Point) → RisesInTime sendings
@@ -126,4 +128,4 @@ near_on_span d sendings rs a (q ∷ since) passed rises i l r x (inl kl) (inr er
     let at_hinge : l.t ≡ a.t = at_most l.t a.t hinge_last (λ below. (let beyond = none a i.hinge_kept below in absurd (omega arith))) in
     let left : l ≡ a = same_time sendings rises l a (i.kept_sent l kl) (i.kept_sent a i.hinge_kept) at_hinge in
     subst (λ z. Within z r x d) (sym left) (subst (λ z. Within a z x d) (sym er)
-        (last_span d sendings rs a q since passed rises i x s (omega arith) (omega arith) (λ y h ay. (let beyond = clear y h (omega arith) in omega arith))))
+    (last_span d sendings rs a q since passed rises i x s (omega arith) (omega arith) (λ y h ay. (let beyond = clear y h (omega arith) in omega arith))))

@@ -5,3 +5,4 @@ pub mod WalkLaw
 pub mod ContentLaw
 pub mod RawLaw
 pub mod BoundLaw
+pub mod PlainLaws

@@ -1,10 +1,10 @@
 -- How near a point is to a line, where it lies between two that are near.
-use Rattle.std.proofs.Common.{◌≡◌, ℕ, suc, zero, ◌+◌, ◌-◌, ◌*◌, ◌<◌, ◌≤◌, ◌⊎◌, inl, inr, ℤ, pos, negsuc, ◌+ℤ◌, ◌-ℤ◌, ◌*ℤ◌, ◌≤ℤ◌, ◌<ℤ◌, unsigned_abs, refl, sym, ap, ◌∙◌, subst, arith}
+use Rattle.std.proofs.Common.{◌≡◌, ℕ, suc, ◌+◌, ◌-◌, ◌*◌, ◌≤◌, ◌⊎◌, inl, inr, ℤ, pos, negsuc, ◌-ℤ◌, ◌*ℤ◌, ◌≤ℤ◌, unsigned_abs, ap, arith}
 use Rattle.std.proofs.lemmas.Int.{ints, unsigned_abs-mul}
 use borrow.Author.Differences.{up, down}
 use Rattle.std.proofs.Math.Nat.{mul-le-mul_left, mul-le-mul_right}
 use Rattle.trend_num.specs.declared.points.Point.{Point}
-use Rattle.trend_num.specs.Lines.{cross, Within}
+use Rattle.trend_num.specs.Lines.{Within}
 
 -- a number times itself once less
 zero_cross : (x y : ℤ) → (x *ℤ y) -ℤ (x *ℤ y) ≡ pos 0
@@ -67,5 +67,5 @@ within_between l r s y z d e near_s near_z ls sy yz ys zs =
     let t = r.t - l.t in
     let sum : (d + 2 * e) * t ≡ d * t + 2 * (e * t) = omega arith in
     rw sum (between_products _ _ _ _ _ _ (d * t) (e * t) near_s near_z
-        (apart_times y.v s.v l.v t e ys) (apart_times z.v s.v l.v t e zs)
-        (product_between (r.v -ℤ l.v) (s.t - l.t) (y.t - l.t) (z.t - l.t) (omega arith) (omega arith)))
+    (apart_times y.v s.v l.v t e ys) (apart_times z.v s.v l.v t e zs)
+    (product_between (r.v -ℤ l.v) (s.t - l.t) (y.t - l.t) (z.t - l.t) (omega arith) (omega arith)))

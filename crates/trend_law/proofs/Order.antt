@@ -1,13 +1,13 @@
 -- What is sent in order rises in time.
-use Rattle.std.proofs.Common.{◌≡◌, ℕ, ◌<◌, ◌≤◌, ◌⊎◌, inl, inr, Bool, true, false, cond, List, [], ◌∷◌, ◌++◌, Option, None, Some, refl, sym, ap, ◌∙◌, subst, arith}
+use Rattle.std.proofs.Common.{◌≡◌, ◌<◌, ◌≤◌, inl, inr, List, [], ◌∷◌, Option, None, Some, refl, sym, ap, ◌∙◌, subst, arith}
 use Rattle.trend_num.specs.declared.points.Point.{Point}
 use Rattle.trend_num.specs.declared.records.Sending.{Sending}
 use Rattle.trend_num.specs.declared.records.Sending.TheVariants.{InOrder, Late}
 use Rattle.trend_num.specs.declared.tunings.Tuning.{Tuning}
 use Rattle.trend_num.specs.Content.{first_there}
-use Rattle.trend_num.specs.History.{is_late, is_far, newest, prior, pending, sent, IsSent, last_in_order}
+use Rattle.trend_num.specs.History.{newest, prior, pending, sent, IsSent, last_in_order}
 use Rattle.trend_num.proofs.Sent.{newest_is, last_in_order_is}
-use Rattle.trend_num.proofs.Cases.{Next, opens, comes_late, pushes_late, goes_far, pushes_far, waits, next_case}
+use Rattle.trend_num.proofs.Cases.{opens, comes_late, pushes_late, goes_far, pushes_far, waits, next_case}
 use Rattle.trend_law.specs.Orders.{RisesInTime}
 
 -- two values of one place are the same
@@ -69,16 +69,16 @@ pub pending_after : (tuning : Tuning) (h : List Point) (s q : Point) → prior t
 pending_after tuning [] s q last waiting = not_both None q waiting refl
 pending_after tuning (p ∷ h) s q last waiting =
     elim (next_case tuning h p) [
-      opens e ↦ not_both (pending tuning (p ∷ h)) q waiting (ap (λ l. pending tuning (p ∷ l)) e)
-    | comes_late x a b l sends now none ↦ not_both (pending tuning (p ∷ h)) q waiting none
-    | pushes_late x y a b l sends now none ↦ not_both (pending tuning (p ∷ h)) q waiting none
-    | goes_far x a b l sends now none ↦ not_both (pending tuning (p ∷ h)) q waiting none
-    | pushes_far x y a b l sends now none ↦ not_both (pending tuning (p ∷ h)) q waiting none
-    | waits x a after far sends now there ↦
-        let below : x.t < p.t = after_last tuning h x p (pending tuning h) a refl (λ y w. pending_after tuning h x y a w) after in
-        let one : x ≡ s = same_there (prior tuning (p ∷ h)) x s now last in
-        let two : p ≡ q = same_there (pending tuning (p ∷ h)) p q there waiting in
-        subst (λ (z : Point). s.t < z.t) two (subst (λ (z : Point). z.t < p.t) one below)
+      | opens e ↦ not_both (pending tuning (p ∷ h)) q waiting (ap (λ l. pending tuning (p ∷ l)) e)
+      | comes_late x a b l sends now none ↦ not_both (pending tuning (p ∷ h)) q waiting none
+      | pushes_late x y a b l sends now none ↦ not_both (pending tuning (p ∷ h)) q waiting none
+      | goes_far x a b l sends now none ↦ not_both (pending tuning (p ∷ h)) q waiting none
+      | pushes_far x y a b l sends now none ↦ not_both (pending tuning (p ∷ h)) q waiting none
+      | waits x a after far sends now there ↦
+          let below : x.t < p.t = after_last tuning h x p (pending tuning h) a refl (λ y w. pending_after tuning h x y a w) after in
+          let one : x ≡ s = same_there (prior tuning (p ∷ h)) x s now last in
+          let two : p ≡ q = same_there (pending tuning (p ∷ h)) p q there waiting in
+          subst (λ (z : Point). s.t < z.t) two (subst (λ (z : Point). z.t < p.t) one below)
     ]
 
 -- what is sent is not after the last value sent in order
@@ -105,12 +105,12 @@ sent_rises tuning [] = tt
 sent_rises tuning (p ∷ h) =
     let rises = sent_rises tuning h in
     elim (next_case tuning h p) [
-      opens e ↦ subst (λ l. RisesInTime (sent tuning (p ∷ l))) (sym e) (λ x there. absurd there, tt)
-    | comes_late s last none late sends now gone ↦ subst RisesInTime (sym sends) rises
-    | pushes_late s q last waiting late sends now gone ↦
-        subst RisesInTime (sym sends) (rises_with tuning h s q last (pending_after tuning h s q last waiting) rises)
-    | goes_far s last none after sends now gone ↦ subst RisesInTime (sym sends) (rises_with tuning h s p last after rises)
-    | pushes_far s q last waiting after sends now gone ↦
-        subst RisesInTime (sym sends) (rises_twice tuning h s q p last (pending_after tuning h s q last waiting) after rises)
-    | waits s last after far sends now there ↦ subst RisesInTime (sym sends) rises
+      | opens e ↦ subst (λ l. RisesInTime (sent tuning (p ∷ l))) (sym e) (λ x there. absurd there, tt)
+      | comes_late s last none late sends now gone ↦ subst RisesInTime (sym sends) rises
+      | pushes_late s q last waiting late sends now gone ↦
+          subst RisesInTime (sym sends) (rises_with tuning h s q last (pending_after tuning h s q last waiting) rises)
+      | goes_far s last none after sends now gone ↦ subst RisesInTime (sym sends) (rises_with tuning h s p last after rises)
+      | pushes_far s q last waiting after sends now gone ↦
+          subst RisesInTime (sym sends) (rises_twice tuning h s q p last (pending_after tuning h s q last waiting) after rises)
+      | waits s last after far sends now there ↦ subst RisesInTime (sym sends) rises
     ]

@@ -1,7 +1,6 @@
 -- The invariant of the compression's walk: on each span between kept points every value sent is near the line, unless one
 -- was passed over there; and the values since the hinge are near the line to the held point.
-use Rattle.std.proofs.Common.{◌≡◌, ℕ, ◌-◌, ◌<◌, ◌≤◌, ◌⊎◌, inl, inr, Bool, true, false, cond, ◌&&◌, List, [], ◌∷◌, ◌++◌, Option, None, Some, nat_le, nat_lt, refl, sym, ap, ◌∙◌, subst, arith}
-use Rattle.std.specs.List.{list_all}
+use Rattle.std.proofs.Common.{◌≡◌, ℕ, ◌-◌, ◌<◌, ◌≤◌, ◌⊎◌, inl, inr, Bool, true, false, ◌&&◌, List, [], ◌∷◌, ◌++◌, Option, None, Some, nat_le, nat_lt, refl, sym, ap, ◌∙◌, subst, arith}
 use Rattle.std.proofs.lemmas.Bool.Decides.{nat_tests}
 use Rattle.std.proofs.lemmas.Bool.{false≢true}
 use Rattle.trend_num.specs.declared.points.Point.{Point}
@@ -12,7 +11,7 @@ use Rattle.trend_num.specs.declared.records.Sending.TheVariants.{InOrder, Late}
 use Rattle.trend_num.specs.declared.tunings.Tuning.{Tuning}
 use Rattle.trend_num.specs.Lines.{Within, is_within}
 use Rattle.trend_num.specs.History.{IsSent}
-use Rattle.trend_num.specs.Walk.{Walk, at_start, walk, walk_on, walk_in_order, kept, late, is_fit, last_of}
+use Rattle.trend_num.specs.Walk.{Walk, walk, walk_in_order, kept, late, is_fit}
 use Rattle.trend_num.specs.Content.{IsAmong}
 use Rattle.trend_num.proofs.Walks.{walk_by}
 use Rattle.trend_law.specs.Orders.{RisesInTime}
@@ -206,19 +205,19 @@ hung_begins d sendings rs a passed p new i = record {
   hinge_last = i.hinge_last;
   since_sent = λ x h. elim h [ inl e ↦ sent_of x p sendings e | inr there ↦ absurd there ];
   since_after = λ x h. elim h [
-      inl e ↦ (let at = time_of x p e in let below = new a (i.kept_sent a i.hinge_kept) in omega arith)
+    | inl e ↦ (let at = time_of x p e in let below = new a (i.kept_sent a i.hinge_kept) in omega arith)
     | inr there ↦ absurd there
-    ];
+  ];
   since_near = λ x h. elim h [ inl e ↦ near_right a p x d e | inr there ↦ absurd there ];
   passed_sent = λ x h. inr (i.passed_sent x h);
   covers = λ x s after. elim s [
-      inl e ↦ inl (inl (same_in_order x p e))
+    | inl e ↦ inl (inl (same_in_order x p e))
     | inr there ↦ elim (i.covers x there after) [ inl h ↦ absurd h | inr h ↦ inr h ]
-    ];
+  ];
   end_last = λ x s. elim s [
-      inl e ↦ (let at = time_of x p (same_in_order x p e) in omega arith)
+    | inl e ↦ (let at = time_of x p (same_in_order x p e) in omega arith)
     | inr there ↦ (let below = new x there in omega arith)
-    ];
+  ];
   spans = spans_stay d sendings rs a [] passed passed p i new (λ y h. h);
 }
 
@@ -232,6 +231,7 @@ fit_near tuning a p x (v ∷ values) fits (inl e) =
     and_left : (b c : Bool) → b && c ≡ true → b ≡ true
     and_left true c h = refl
     and_left false c h = h
+
     leb_true : (m n : ℕ) → nat_le m n ≡ true → m ≤ n
     leb_true m n h = grind (arith, nat_tests)
 fit_near tuning a p x (v ∷ values) fits (inr there) = fit_near tuning a p x values (and_right (is_within a p v tuning.comp_dev) _ fits) there
@@ -249,19 +249,19 @@ hung_joins tuning sendings rs a q since passed p new fits i = record {
   hinge_last = i.hinge_last;
   since_sent = λ x h. elim h [ inl e ↦ sent_of x p sendings e | inr there ↦ inr (i.since_sent x there) ];
   since_after = λ x h. elim h [
-      inl e ↦ (let at = time_of x p e in let below = new a (i.kept_sent a i.hinge_kept) in omega arith)
+    | inl e ↦ (let at = time_of x p e in let below = new a (i.kept_sent a i.hinge_kept) in omega arith)
     | inr there ↦ i.since_after x there
-    ];
+  ];
   since_near = λ x h. elim h [ inl e ↦ near_right a p x tuning.comp_dev e | inr there ↦ fit_near tuning a p x (q ∷ since) fits there ];
   passed_sent = λ x h. inr (i.passed_sent x h);
   covers = λ x s after. elim s [
-      inl e ↦ inl (inl (same_in_order x p e))
+    | inl e ↦ inl (inl (same_in_order x p e))
     | inr there ↦ elim (i.covers x there after) [ inl h ↦ inl (inr h) | inr h ↦ inr h ]
-    ];
+  ];
   end_last = λ x s. elim s [
-      inl e ↦ (let at = time_of x p (same_in_order x p e) in omega arith)
+    | inl e ↦ (let at = time_of x p (same_in_order x p e) in omega arith)
     | inr there ↦ (let below = new x there in omega arith)
-    ];
+  ];
   spans = spans_stay tuning.comp_dev sendings rs a (q ∷ since) passed passed p i new (λ y h. h);
 }
 
@@ -274,19 +274,19 @@ hung_passes d sendings rs a q since passed p new i = record {
   hinge_last = i.hinge_last;
   since_sent = λ x h. elim h [ inl e ↦ sent_of x p sendings e | inr there ↦ absurd there ];
   since_after = λ x h. elim h [
-      inl e ↦ (let at = time_of x p e in let below = new a (i.kept_sent a i.hinge_kept) in omega arith)
+    | inl e ↦ (let at = time_of x p e in let below = new a (i.kept_sent a i.hinge_kept) in omega arith)
     | inr there ↦ absurd there
-    ];
+  ];
   since_near = λ x h. elim h [ inl e ↦ near_right a p x d e | inr there ↦ absurd there ];
   passed_sent = λ x h. elim (among_of_append x (q ∷ since) passed h) [ inl there ↦ inr (i.since_sent x there) | inr there ↦ inr (i.passed_sent x there) ];
   covers = λ x s after. elim s [
-      inl e ↦ inl (inl (same_in_order x p e))
+    | inl e ↦ inl (inl (same_in_order x p e))
     | inr there ↦ elim (i.covers x there after) [ inl h ↦ inr (among_left x (q ∷ since) passed h) | inr h ↦ inr (among_right x (q ∷ since) passed h) ]
-    ];
+  ];
   end_last = λ x s. elim s [
-      inl e ↦ (let at = time_of x p (same_in_order x p e) in omega arith)
+    | inl e ↦ (let at = time_of x p (same_in_order x p e) in omega arith)
     | inr there ↦ (let below = new x there in omega arith)
-    ];
+  ];
   spans = spans_stay d sendings rs a (q ∷ since) passed ((q ∷ since) ++ passed) p i new (λ y h. among_right y (q ∷ since) passed h);
 }
 
@@ -296,19 +296,19 @@ pub last_span : (d : ℕ) (sendings : List Sending) (rs : List Rec) (a q : Point
     → ((y : Point) → IsAmong y passed → a.t < y.t → q.t ≤ y.t) → Within a q x d
 last_span d sendings rs a q since passed rises i x s ax xq clear =
     elim (at_or_after a.t x.t ax) [
-      inl at ↦ subst (λ z. Within a q z d) (same_time sendings rises a x (i.kept_sent a i.hinge_kept) s at) (within_left a q d)
-    | inr after ↦ elim (i.covers x s after) [
-        inl h ↦ i.since_near x h
-      | inr h ↦ (let end : x.t ≡ q.t = (let beyond = clear x h after in omega arith) in
-          near_right a q x d (same_time sendings rises x q s (i.since_sent q (inl refl)) end))
+      | inl at ↦ subst (λ z. Within a q z d) (same_time sendings rises a x (i.kept_sent a i.hinge_kept) s at) (within_left a q d)
+      | inr after ↦ elim (i.covers x s after) [
+        | inl h ↦ i.since_near x h
+        | inr h ↦ (let end : x.t ≡ q.t = (let beyond = clear x h after in omega arith) in
+            near_right a q x d (same_time sendings rises x q s (i.since_sent q (inl refl)) end))
       ]
     ]
   where
     at_or_after : (m n : ℕ) → m ≤ n → (m ≡ n) ⊎ (m < n)
     at_or_after m n h = elim (nat_lt m n) as (λ b. nat_lt m n ≡ b → (m ≡ n) ⊎ (m < n)) [
-        true ↦ (λ e. inr (grind (arith, nat_tests)))
+      | true ↦ (λ e. inr (grind (arith, nat_tests)))
       | false ↦ (λ e. inl (grind (arith, nat_tests)))
-      ] refl
+    ] refl
 
 -- a kept point of the records with q
 keeps_spans : (d : ℕ) (sendings : List Sending) (rs : List Rec) (a q : Point) (since passed : List Point) (p : Point)
@@ -318,7 +318,7 @@ keeps_spans : (d : ℕ) (sendings : List Sending) (rs : List Rec) (a q : Point) 
     → IsSent (InOrder x) (InOrder p ∷ sendings) → l.t ≤ x.t → x.t ≤ r.t → ((y : Point) → IsAmong y passed → l.t < y.t → r.t ≤ y.t) → Within l r x d
 keeps_spans d sendings rs a q since passed p rises new i l r x (inl kl) (inl kr) lr none s lx xr clear =
     spans_stay d sendings rs a (q ∷ since) passed passed p i new (λ y h. h) l r x kl kr lr (λ k there lk. none k (kept_before k rs (kept q) there) lk)
-        s lx xr clear
+    s lx xr clear
 keeps_spans d sendings rs a q since passed p rises new i l r x (inr el) (inl kr) lr none s lx xr clear =
     let left = time_of l q (same_kept q l el) in
     let right = i.hinge_last r kr in
@@ -336,42 +336,42 @@ keeps_spans d sendings rs a q since passed p rises new i l r x (inl kl) (inr er)
     let sent_q = i.since_sent q (inl refl) in
     let old = older p x q sendings new sent_q (omega arith) s in
     subst (λ z. Within z r x d) (sym left) (subst (λ z. Within a z x d) (sym right)
-        (last_span d sendings rs a q since passed rises i x old (omega arith) (omega arith) (λ y h ay. (let beyond = clear y h (omega arith) in omega arith))))
+    (last_span d sendings rs a q since passed rises i x old (omega arith) (omega arith) (λ y h ay. (let beyond = clear y h (omega arith) in omega arith))))
   where
     at_most : (m n : ℕ) → m ≤ n → (m < n → ⊥) → m ≡ n
     at_most m n h no_less = elim (nat_lt m n) as (λ b. nat_lt m n ≡ b → m ≡ n) [
-        true ↦ (λ e. (let less : m < n = grind (arith, nat_tests) in absurd (no_less less)))
+      | true ↦ (λ e. (let less : m < n = grind (arith, nat_tests) in absurd (no_less less)))
       | false ↦ (λ e. grind (arith, nat_tests))
-      ] refl
+    ] refl
 
 hung_keeps : (d : ℕ) (sendings : List Sending) (rs : List Rec) (a q : Point) (since passed : List Point) (p : Point)
     → RisesInTime sendings → IsNew p sendings → IsHung d sendings rs a (q ∷ since) passed
     → IsHung d (InOrder p ∷ sendings) (rs ++ (kept q ∷ [])) q (p ∷ []) passed
 hung_keeps d sendings rs a q since passed p rises new i = record {
   kept_sent = λ x k. elim (kept_of_more x rs (kept q) k) [
-      inl h ↦ inr (i.kept_sent x h)
+    | inl h ↦ inr (i.kept_sent x h)
     | inr e ↦ inr (subst (λ z. IsSent (InOrder z) sendings) (sym (same_kept q x e)) (i.since_sent q (inl refl)))
-    ];
+  ];
   hinge_kept = kept_last q rs;
   hinge_last = λ x k. elim (kept_of_more x rs (kept q) k) [
-      inl h ↦ (let before = i.hinge_last x h in let after = i.since_after q (inl refl) in omega arith)
+    | inl h ↦ (let before = i.hinge_last x h in let after = i.since_after q (inl refl) in omega arith)
     | inr e ↦ (let at = time_of x q (same_kept q x e) in omega arith)
-    ];
+  ];
   since_sent = λ x h. elim h [ inl e ↦ sent_of x p sendings e | inr there ↦ absurd there ];
   since_after = λ x h. elim h [
-      inl e ↦ (let at = time_of x p e in let below = new q (i.since_sent q (inl refl)) in omega arith)
+    | inl e ↦ (let at = time_of x p e in let below = new q (i.since_sent q (inl refl)) in omega arith)
     | inr there ↦ absurd there
-    ];
+  ];
   since_near = λ x h. elim h [ inl e ↦ near_right q p x d e | inr there ↦ absurd there ];
   passed_sent = λ x h. inr (i.passed_sent x h);
   covers = λ x s after. elim s [
-      inl e ↦ inl (inl (same_in_order x p e))
+    | inl e ↦ inl (inl (same_in_order x p e))
     | inr there ↦ (let last = i.end_last x there in absurd (omega arith))
-    ];
+  ];
   end_last = λ x s. elim s [
-      inl e ↦ (let at = time_of x p (same_in_order x p e) in omega arith)
+    | inl e ↦ (let at = time_of x p (same_in_order x p e) in omega arith)
     | inr there ↦ (let below = new x there in omega arith)
-    ];
+  ];
   spans = λ l r x kl kr. keeps_spans d sendings rs a q since passed p rises new i l r x (kept_of_more l rs (kept q) kl) (kept_of_more r rs (kept q) kr);
 }
 
@@ -380,7 +380,7 @@ walked_by : (tuning : Tuning) (sendings : List Sending) (w : Walk) (a q : Point)
     → (fits ≡ true → is_fit tuning a (q ∷ since) p ≡ true) → RisesInTime sendings → IsNew p sendings
     → IsHung tuning.comp_dev sendings w.records a (q ∷ since) w.passed
     → IsWalked tuning.comp_dev (InOrder p ∷ sendings) (walk_by fits passes w p a q since).records (walk_by fits passes w p a q since).hinge
-        (walk_by fits passes w p a q since).since (walk_by fits passes w p a q since).passed
+    (walk_by fits passes w p a q since).since (walk_by fits passes w p a q since).passed
 walked_by tuning sendings w a q since p true over passes fits rises new i = hung_joins tuning sendings w.records a q since w.passed p new (fits refl) i
 walked_by tuning sendings w a q since p false over true fits rises new i = hung_passes tuning.comp_dev sendings w.records a q since w.passed p new i
 walked_by tuning sendings w a q since p false over false fits rises new i = hung_keeps tuning.comp_dev sendings w.records a q since w.passed p rises new i
@@ -388,7 +388,7 @@ walked_by tuning sendings w a q since p false over false fits rises new i = hung
 walked_in_order : (tuning : Tuning) (sendings : List Sending) (w : Walk) (p : Point) (hinge : Option Point) (since : List Point)
     → RisesInTime sendings → IsNew p sendings → IsWalked tuning.comp_dev sendings w.records hinge since w.passed
     → IsWalked tuning.comp_dev (InOrder p ∷ sendings) (walk_in_order tuning w p hinge since).records (walk_in_order tuning w p hinge since).hinge
-        (walk_in_order tuning w p hinge since).since (walk_in_order tuning w p hinge since).passed
+    (walk_in_order tuning w p hinge since).since (walk_in_order tuning w p hinge since).passed
 walked_in_order tuning sendings w p None since rises new i = hung_first tuning.comp_dev sendings w.records w.passed p i
 walked_in_order tuning sendings w p (Some a) [] rises new i = hung_begins tuning.comp_dev sendings w.records a w.passed p new i
 walked_in_order tuning sendings w p (Some a) (q ∷ since) rises new i =
@@ -411,7 +411,7 @@ pub walk_holds : (tuning : Tuning) (sendings : List Sending) → RisesInTime sen
 walk_holds tuning [] rises = record { none_sent = λ x s. s; none_kept = λ x k. k; none_passed = λ x h. h }
 walk_holds tuning (Late x ∷ sendings) rises =
     walked_late tuning.comp_dev sendings (walk tuning sendings).records (walk tuning sendings).hinge (walk tuning sendings).since
-        (walk tuning sendings).passed x (walk_holds tuning sendings rises)
+    (walk tuning sendings).passed x (walk_holds tuning sendings rises)
 walk_holds tuning (InOrder p ∷ sendings) rises =
     walked_in_order tuning sendings (walk tuning sendings) p (walk tuning sendings).hinge (walk tuning sendings).since
-        rises.1 rises.0 (walk_holds tuning sendings rises.1)
+    rises.1 rises.0 (walk_holds tuning sendings rises.1)

@@ -5,7 +5,14 @@
 #![tactic(auto)]
 
 mod bounds;
+mod examples;
+mod plain;
 mod steps;
 
 pub use bounds::bound;
-pub use steps::{held_is_sent, prior_is_sent, step_stands};
+pub use examples::{spans_exist, twice_is_needed, untested_value_is_far, worked_histories};
+pub use plain::{
+    held_is_sent, kept_points_rise, no_deviation_is_exact, no_wait_sends_all, prior_is_sent,
+    records_only_grow, sent_in_order_rises,
+};
+pub use steps::step_stands;
