@@ -1,22 +1,61 @@
 // A source and a sink in memory, which fail at the calls that they are told to. They serve tests.
-ghost use Rattle.std.specs.Prelude.{◌≡◌, ◌↔◌, ◌⊎◌, ◌+◌, ◌≤◌, ◌<◌, [], ◌++◌, length, take, drop, min, Some, IfOk, OnOk, OnErr, IsErr, Contains};
+ghost use Rattle.std.specs.Prelude.{◌≡◌, ◌↔◌, ◌⊎◌, ◌+◌, ◌≤◌, ◌<◌, [], ◌++◌, length, take, drop, min, Some, IfOk, OnOk, OnErr, IsErr, IsTrue, Contains};
 ghost use Rattle.std.specs.Io.KnownBytes.{ReadConsumes, WriteAppends};
-ghost use Rattle.byte_io.specs.Causes.{HasCause};
+ghost use Rattle.byte_io.specs.Causes.{HasCause, Rose};
 ghost use Rattle.byte_io.specs.Memory.{next_count};
 
 use crate::{Failed, Sink, Source};
 use std::alloc::Global;
 use std::marker::Model;
 
-/// A source of bytes in memory. A clause sees it as the bytes that are left, the numbers of the calls that are to
-/// fail, counted from 0, and how many calls and faults there were.
+// The calls of a source or a sink in memory: the numbers of those that are to fail, and how many
+// calls and faults there were. A count stays at the end of its type.
+#[derive(Debug, Drop)]
+struct Calls {
+    failing: Vec<u64>,
+    count: u64,
+    faults: u64,
+}
+
+impl Calls {
+    fn new(failing: Vec<u64>) -> Calls
+        ensures { result ≡ record { failing = failing; count = 0; faults = 0 } }
+    {
+        Calls {
+            failing,
+            count: 0,
+            faults: 0,
+        }
+    }
+
+    // Counts a call, and says whether it is to fail.
+    fn begin(&mut self) -> bool
+        ensures told { IsTrue result ↔ Contains self.old.failing.items self.old.count }
+        ensures counted { self.new ≡ record self.old { count = next_count self.old.count } }
+    {
+        let fails = self.failing.contains(&self.count);
+        self.count = self.count.saturating_add(1);
+        fails
+    }
+
+    // Counts a fault, and tells it.
+    fn fault(&mut self) -> Failed
+        ensures counted { self.new ≡ record self.old { faults = next_count self.old.faults } }
+        ensures later { self.old.faults ≤ self.new.faults }
+        ensures rose { Rose self.old.faults self.new.faults }
+    {
+        self.faults = self.faults.saturating_add(1);
+        Failed
+    }
+}
+
+/// A source of bytes in memory. A clause sees it as the bytes that are left, the numbers of the
+/// calls that are to fail, counted from 0, and how many calls and faults there were.
 #[derive(Debug, Drop)]
 pub struct MemSource {
     bytes: Vec<u8>,
     at: usize,
-    fail: Vec<u64>,
-    calls: u64,
-    faults: u64,
+    calls: Calls,
 }
 
 impl Model for MemSource {
@@ -26,10 +65,10 @@ impl Model for MemSource {
     ghost Value = { SourceState };
 
     ghost view = { λ s. record {
-        bytes_left = drop s.at s.bytes.items;
-        failing_calls = s.fail.items;
-        calls = s.calls;
-        faults = s.faults
+      bytes_left = drop s.at s.bytes.items;
+      failing_calls = s.calls.failing.items;
+      calls = s.calls.count;
+      faults = s.calls.faults;
     } };
 
     ghost invariant = { λ s. s.at ≤ vec_len s.bytes };
@@ -46,9 +85,7 @@ impl MemSource {
         MemSource {
             bytes,
             at: 0,
-            fail,
-            calls: 0,
-            faults: 0,
+            calls: Calls::new(fail),
         }
     }
 
@@ -56,14 +93,14 @@ impl MemSource {
     pub fn calls(&self) -> u64
         ensures { result ≡ self.now.calls }
     {
-        self.calls
+        self.calls.count
     }
 
     /// How many reads failed. The count stays at the end of its type.
     pub fn faults(&self) -> u64
         ensures { result ≡ self.now.faults }
     {
-        self.faults
+        self.calls.faults
     }
 }
 
@@ -75,7 +112,8 @@ impl Source for MemSource {
     /// Gives as many bytes as are left and fit the buffer.
     fn read(&mut self, buf: &mut [u8]) -> Result<usize, Failed>
         ensures bound { IfOk result (λ n. n ≤ length buf.new) }
-        ensures bytes { ReadConsumes (Some self.old.bytes_left) (Some self.new.bytes_left) result buf.new }
+        ensures bytes { ReadConsumes (Some self.old.bytes_left) (Some self.new.bytes_left)
+            result buf.new }
         ensures cause { HasCause self.old.faults self.new.faults result }
 
         // Which calls fail, and what each changes.
@@ -83,8 +121,10 @@ impl Source for MemSource {
         ensures counted { self.new.calls ≡ next_count self.old.calls }
         ensures failing { self.new.failing_calls ≡ self.old.failing_calls }
 
-        ensures count { IfOk result (λ n. n ≡ min (length self.old.bytes_left) (length buf.old)) }
-        ensures copied { IfOk result (λ n. buf.new ≡ take n self.old.bytes_left ++ drop n buf.old) }
+        ensures count { IfOk result (λ n.
+            n ≡ min (length self.old.bytes_left) (length buf.old)) }
+        ensures copied { IfOk result (λ n.
+            buf.new ≡ take n self.old.bytes_left ++ drop n buf.old) }
         ensures rest { IfOk result (λ n. self.new.bytes_left ≡ drop n self.old.bytes_left) }
         ensures no_fault { OnOk result (self.new.faults ≡ self.old.faults) }
 
@@ -92,11 +132,8 @@ impl Source for MemSource {
         ensures kept { OnErr result (self.new.bytes_left ≡ self.old.bytes_left) }
         ensures untouched { OnErr result (buf.new ≡ buf.old) }
     {
-        let fails = self.fail.contains(&self.calls);
-        self.calls = self.calls.saturating_add(1);
-        if fails {
-            self.faults = self.faults.saturating_add(1);
-            return Err(Failed);
+        if self.calls.begin() {
+            return Err(self.calls.fault());
         }
         let left = &self.bytes[self.at..];
         let count = left.len().min(buf.len());
@@ -106,14 +143,13 @@ impl Source for MemSource {
     }
 }
 
-/// A sink that keeps its bytes in memory. A clause sees it as the bytes that it was given, the numbers of the calls
-/// that are to fail, counted from 0, and how many calls and faults there were.
+/// A sink that keeps its bytes in memory. A clause sees it as the bytes that it was given, the
+/// numbers of the calls that are to fail, counted from 0, and how many calls and faults there
+/// were.
 #[derive(Debug, Drop)]
 pub struct MemSink {
     bytes: Vec<u8>,
-    fail: Vec<u64>,
-    calls: u64,
-    faults: u64,
+    calls: Calls,
 }
 
 impl Model for MemSink {
@@ -122,10 +158,10 @@ impl Model for MemSink {
     ghost Value = { SinkState };
 
     ghost view = { λ s. record {
-        bytes_written = s.bytes.items;
-        failing_calls = s.fail.items;
-        calls = s.calls;
-        faults = s.faults
+      bytes_written = s.bytes.items;
+      failing_calls = s.calls.failing.items;
+      calls = s.calls.count;
+      faults = s.calls.faults;
     } };
 }
 
@@ -139,9 +175,7 @@ impl MemSink {
     {
         MemSink {
             bytes: Vec::new(alloc),
-            fail,
-            calls: 0,
-            faults: 0,
+            calls: Calls::new(fail),
         }
     }
 
@@ -156,14 +190,14 @@ impl MemSink {
     pub fn calls(&self) -> u64
         ensures { result ≡ self.now.calls }
     {
-        self.calls
+        self.calls.count
     }
 
     /// How many writes failed. The count stays at the end of its type.
     pub fn faults(&self) -> u64
         ensures { result ≡ self.now.faults }
     {
-        self.faults
+        self.calls.faults
     }
 }
 
@@ -176,27 +210,27 @@ impl Sink for MemSink {
     fn write(&mut self, bytes: &[u8]) -> Result<usize, Failed>
         ensures bound { IfOk result (λ n. n ≤ length bytes.now) }
         ensures progress { IfOk result (λ n. 0 < length bytes.now → 0 < n) }
-        ensures bytes { WriteAppends (Some self.old.bytes_written) (Some self.new.bytes_written) result bytes.now }
+        ensures bytes { WriteAppends (Some self.old.bytes_written) (Some self.new.bytes_written)
+            result bytes.now }
         ensures cause { HasCause self.old.faults self.new.faults result }
 
         // Which calls fail, and what each changes.
         ensures failed { Contains self.old.failing_calls self.old.calls → IsErr result }
-        ensures failed_only { OnErr result (Contains self.old.failing_calls self.old.calls ⊎ (0 < length bytes.now)) }
+        ensures failed_only { OnErr result
+            (Contains self.old.failing_calls self.old.calls ⊎ (0 < length bytes.now)) }
         ensures counted { self.new.calls ≡ next_count self.old.calls }
         ensures failing { self.new.failing_calls ≡ self.old.failing_calls }
 
         ensures count { IfOk result (λ n. n ≡ length bytes.now) }
-        ensures grown { OnOk result (self.new.bytes_written ≡ self.old.bytes_written ++ bytes.now) }
+        ensures grown { OnOk result
+            (self.new.bytes_written ≡ self.old.bytes_written ++ bytes.now) }
         ensures no_fault { OnOk result (self.new.faults ≡ self.old.faults) }
 
         ensures one_fault { OnErr result (self.new.faults ≡ next_count self.old.faults) }
         ensures kept { OnErr result (self.new.bytes_written ≡ self.old.bytes_written) }
     {
-        let fails = self.fail.contains(&self.calls);
-        self.calls = self.calls.saturating_add(1);
-        if fails || self.bytes.extend_from_slice(bytes).is_err() {
-            self.faults = self.faults.saturating_add(1);
-            return Err(Failed);
+        if self.calls.begin() || self.bytes.extend_from_slice(bytes).is_err() {
+            return Err(self.calls.fault());
         }
         Ok(bytes.len())
     }

@@ -13,8 +13,8 @@ pub trait Sink {
     /// How often a write has failed.
     ghost faults: { Self → ℕ };
 
-    /// Writes some bytes from the front of `bytes`, and returns how many: at least one, unless `bytes` is empty.
-    /// A write that failed has written no byte.
+    /// Writes some bytes from the front of `bytes`, and returns how many: at least one, unless
+    /// `bytes` is empty. A write that failed has written no byte.
     fn write(&mut self, bytes: &[u8]) -> Result<usize, Failed>
         ensures bound { IfOk result (λ n. n ≤ length bytes.now) }
         ensures progress { IfOk result (λ n. 0 < length bytes.now → 0 < n) }

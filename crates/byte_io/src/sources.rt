@@ -13,8 +13,8 @@ pub trait Source {
     /// How often a read has failed.
     ghost faults: { Self → ℕ };
 
-    /// Reads some bytes to the front of `buf`, and returns how many. A read of none into a buffer with room is the
-    /// end of the source. A read that failed has taken no byte.
+    /// Reads some bytes to the front of `buf`, and returns how many. A read of none into a buffer
+    /// with room is the end of the source. A read that failed has taken no byte.
     fn read(&mut self, buf: &mut [u8]) -> Result<usize, Failed>
         ensures bound { IfOk result (λ n. n ≤ length buf.new) }
         ensures bytes { ReadConsumes (left self.old) (left self.new) result buf.new }

@@ -7,7 +7,8 @@ ghost use Rattle.byte_io.specs.Memory.{next_count};
 use crate::{Failed, Sink, Source, WriteFault};
 use std::io::{Read, Write};
 
-/// A reader of std as a source. Each error of the reader, also one that says that a signal came, is a fault.
+/// A reader of std as a source. Each error of the reader, also one that says that a signal came,
+/// is a fault.
 #[derive(Drop)]
 pub struct StdSource<R> {
     inner: R,
@@ -35,11 +36,12 @@ impl<R: Read> Source for StdSource<R> {
 
     fn read(&mut self, buf: &mut [u8]) -> Result<usize, Failed>
         ensures bound { IfOk result (λ n. n ≤ length buf.new) }
-        ensures bytes { ReadConsumes (R.remaining (source_inner self.old)) (R.remaining (source_inner self.new))
-            result buf.new }
+        ensures bytes { ReadConsumes (R.remaining (source_inner self.old))
+            (R.remaining (source_inner self.new)) result buf.new }
         ensures cause { HasCause (source_faults self.old) (source_faults self.new) result }
         ensures no_fault { OnOk result (source_faults self.new ≡ source_faults self.old) }
-        ensures one_fault { OnErr result (source_faults self.new ≡ next_count (source_faults self.old)) }
+        ensures one_fault { OnErr result
+            (source_faults self.new ≡ next_count (source_faults self.old)) }
     {
         if let Ok(count) = self.inner.read(buf) {
             return Ok(count);
@@ -49,8 +51,9 @@ impl<R: Read> Source for StdSource<R> {
     }
 }
 
-/// A writer of std as a sink. Each error of the writer, and each write of a piece of which it takes nothing, is a
-/// fault. A writer with a buffer, as a `BufWriter`, keeps bytes back until `flush`.
+/// A writer of std as a sink. Each error of the writer, and each write of a piece of which it
+/// takes nothing, is a fault. A writer with a buffer, as a `BufWriter`, keeps bytes back until
+/// `flush`.
 #[derive(Drop)]
 pub struct StdSink<W> {
     inner: W,
@@ -70,10 +73,12 @@ impl<W: Write> StdSink<W> {
 
     /// Makes the writer send on what it keeps back.
     pub fn flush(&mut self) -> Result<(), WriteFault>
-        ensures bytes { Keeps (W.contents (sink_inner self.old)) (W.contents (sink_inner self.new)) }
+        ensures bytes { Keeps (W.contents (sink_inner self.old))
+            (W.contents (sink_inner self.new)) }
         ensures cause { HasCause (sink_faults self.old) (sink_faults self.new) result }
         ensures no_fault { OnOk result (sink_faults self.new ≡ sink_faults self.old) }
-        ensures one_fault { OnErr result (sink_faults self.new ≡ next_count (sink_faults self.old)) }
+        ensures one_fault { OnErr result
+            (sink_faults self.new ≡ next_count (sink_faults self.old)) }
     {
         let Err(_) = self.inner.flush() else {
             return Ok(());
@@ -100,11 +105,12 @@ impl<W: Write> Sink for StdSink<W> {
     fn write(&mut self, bytes: &[u8]) -> Result<usize, Failed>
         ensures bound { IfOk result (λ n. n ≤ length bytes.now) }
         ensures progress { IfOk result (λ n. 0 < length bytes.now → 0 < n) }
-        ensures bytes { WriteAppends (W.contents (sink_inner self.old)) (W.contents (sink_inner self.new))
-            result bytes.now }
+        ensures bytes { WriteAppends (W.contents (sink_inner self.old))
+            (W.contents (sink_inner self.new)) result bytes.now }
         ensures cause { HasCause (sink_faults self.old) (sink_faults self.new) result }
         ensures no_fault { OnOk result (sink_faults self.new ≡ sink_faults self.old) }
-        ensures one_fault { OnErr result (sink_faults self.new ≡ next_count (sink_faults self.old)) }
+        ensures one_fault { OnErr result
+            (sink_faults self.new ≡ next_count (sink_faults self.old)) }
     {
         if let Ok(count) = self.inner.write(bytes) {
             if count > 0 || bytes.is_empty() {

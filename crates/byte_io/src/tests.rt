@@ -1,4 +1,5 @@
-// What no clause says: that calls succeed where there is memory, and what each of the types does at a call.
+// What no clause says: that calls succeed where there is memory, and what each of the types does
+// at a call.
 use super::*;
 use std::alloc::{AllocError, Global};
 use std::io;
@@ -23,7 +24,8 @@ fn failing(alloc: Global, call: u64) -> Result<Vec<u64>, AllocError> {
 #[test]
 fn reads_to_the_end_or_says_why_not(rt: HostRuntime) -> Result<(), Fail> {
     let alloc = rt.alloc();
-    // The bytes, the call that fails, the limit, the number of bytes or the refusal, the calls and the faults.
+    // The bytes, the call that fails, the limit, the number of bytes or the refusal, the calls and
+    // the faults.
     let cases: [(&[u8], u64, u64, Result<usize, ReadNo>, u64, u64); 10] = [
         (b"", 9, 0, Ok(0), 1, 0),
         (b"", 0, 0, Err(ReadNo::ReadFault), 1, 1),
@@ -77,7 +79,12 @@ fn reads_more_than_one_piece(rt: HostRuntime) -> Result<(), Fail> {
 fn writes_all_or_says_that_a_write_failed(rt: HostRuntime) -> Result<(), Fail> {
     let alloc = rt.alloc();
     // The call that fails, and what is written of "ab", "cd" and "ef" by then.
-    let cases: [(u64, &[u8], u64); 4] = [(0, b"", 1), (1, b"ab", 2), (2, b"abcd", 3), (3, b"abcdef", 3)];
+    let cases: [(u64, &[u8], u64); 4] = [
+        (0, b"", 1),
+        (1, b"ab", 2),
+        (2, b"abcd", 3),
+        (3, b"abcdef", 3),
+    ];
     for (call, want, calls) in cases {
         let mut sink = MemSink::new(alloc, failing(alloc, call)?);
         let result = write_all(&mut sink, b"ab")
@@ -130,6 +137,9 @@ fn refusals_have_texts(rt: HostRuntime) -> Result<(), Fail> {
     let alloc = rt.alloc();
     let limit = ReadNo::TooLong { limit: 7 };
     let texts = format!(in alloc; "{limit}, {}, {Failed}, {WriteFault}", ReadNo::ReadFault)?;
-    assert_eq!(rt; texts.as_str(), "more than 7 bytes came, a read failed, a call to the outside failed, a write failed");
+    assert_eq!(rt;
+        texts.as_str(),
+        "more than 7 bytes came, a read failed, a call to the outside failed, a write failed"
+    );
     Ok(())
 }

@@ -11,8 +11,8 @@ use std::alloc::Global;
 // How many bytes are asked of a source at once.
 const PIECE: usize = 65536;
 
-/// Reads a source to its end, and returns all its bytes. At most `limit + 1` bytes are asked for in all, and after
-/// an error those that were taken are gone. `limit` counts bytes.
+/// Reads a source to its end, and returns all its bytes. At most `limit + 1` bytes are asked for
+/// in all, and after an error those that were taken are gone. `limit` counts bytes.
 pub fn read_all<S: Source>(alloc: Global, src: &mut S, limit: u64) -> Result<Vec<u8>, ReadNo>
     // All that the source had left, and no more than the limit.
     ensures whole { IfOk result (λ v. Consumes (S.left src.old) (S.left src.new) v.items) }
@@ -20,7 +20,8 @@ pub fn read_all<S: Source>(alloc: Global, src: &mut S, limit: u64) -> Result<Vec
     ensures within { IfOk result (λ v. vec_len v ≤ limit) }
     ensures within_items { IfOk result (λ v. length v.items ≤ limit) }
 
-    // When each error comes. No clause says that there is memory, but a source at its end needs none.
+    // When each error comes. No clause says that there is memory, but a source at its end needs
+    // none.
     ensures too_long { IsErrOf result (TooLong limit) →
         ConsumesExactly (S.left src.old) (S.left src.new) (limit + 1) }
     ensures own_limit { (n : ℕ) → IsErrOf result (TooLong n) → n ≡ limit }
@@ -52,7 +53,8 @@ pub fn read_all<S: Source>(alloc: Global, src: &mut S, limit: u64) -> Result<Vec
     }
 }
 
-/// Writes all of `bytes` to a sink. After an error some of them, from the first on, are written. It takes no memory.
+/// Writes all of `bytes` to a sink. After an error some of them, from the first on, are written.
+/// It takes no memory.
 pub fn write_all<O: Sink>(out: &mut O, bytes: &[u8]) -> Result<(), WriteFault>
     ensures whole { OnOk result (Appends (O.written out.old) (O.written out.new) bytes.now) }
     ensures write_fault { OnErr result (Rose (O.faults out.old) (O.faults out.new)) }

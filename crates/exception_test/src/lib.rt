@@ -1,13 +1,12 @@
-// A library with one function.
+//! The exception test: which raw values of a tag are handed on.
+//!
+//! A gate keeps two places, the last value sent in order and the newest value after it that was not sent. Its model
+//! is that pair. For every gate, one offer follows the rules of `offered`; and a gate that stands for a history
+//! stands for the longer one after it, while what it hands out is exactly what that history sends more. Every value
+//! is answered, whatever its time, and no memory is taken.
 #![tactic(auto)]
 
-ghost use Rattle.std.specs.Prelude.{◌≡◌};
-ghost use Rattle.exception_test.specs.Echo.{echo_of};
+mod gates;
 
-// The `ensures` clause is the contract: what `echo` returns is `echo_of` of its argument, a definition
-// in `specs/Echo.antt`, which a caller's clause can cite too.
-pub fn echo(x: usize) -> usize
-    ensures { result ≡ echo_of x }
-{
-    x
-}
+pub use gates::{Gate, Sent};
+pub use trend_num::{Point, Sending, Tuning};

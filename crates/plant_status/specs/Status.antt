@@ -8,13 +8,13 @@ use Rattle.plant_status.specs.Words.{file_text, reason_word, what_word}
 abbrev pub code_of : Status → ℕ
 code_of Done = 0
 code_of BadWords = 2
-code_of (BadRow file row reason) = 4
-code_of (ReadFault file) = 5
+code_of (BadRow _ _ _) = 4
+code_of (ReadFault _) = 5
 code_of WriteFault = 6
-code_of (Limit what number) = 10
+code_of (Limit _ _) = 10
 code_of WantOfMemory = 13
 
--- a run that ended well prints no line, and neither does one that could not write
+-- the line with its line feed, or no bytes at all
 abbrev pub line_of : Status → List ℕ
 line_of Done = []
 line_of BadWords = codes "fault: words\n"
@@ -24,3 +24,13 @@ line_of (ReadFault file) = codes "fault: read " ++ file_text file ++ codes "\n"
 line_of WriteFault = []
 line_of (Limit what number) = codes "fault: limit " ++ what_word what ++ codes " " ++ decimal number ++ codes "\n"
 line_of WantOfMemory = codes "fault: memory\n"
+
+-- a run that ended well prints nothing, and neither does one that could not write
+abbrev pub IsSilent : Status → Type 0
+IsSilent Done = Unit {0}
+IsSilent BadWords = ⊥
+IsSilent (BadRow _ _ _) = ⊥
+IsSilent (ReadFault _) = ⊥
+IsSilent WriteFault = Unit {0}
+IsSilent (Limit _ _) = ⊥
+IsSilent WantOfMemory = ⊥

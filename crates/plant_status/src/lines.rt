@@ -1,19 +1,14 @@
-ghost use Rattle.std.specs.Prelude.{◌≡◌, ◌+◌, ◌≤◌, [], ◌++◌, length, codes};
+ghost use Rattle.std.specs.Prelude.{◌≡◌, ◌+◌, ◌<◌, ◌≤◌, [], ◌++◌, length, codes};
 ghost use Rattle.std.specs.Fmt.{decimal};
+ghost use Rattle.plant_status.specs.Line.{IsPrintable, IsLine};
 ghost use Rattle.plant_status.specs.Words.{file_text};
-ghost use Rattle.plant_status.specs.Status.{line_of};
 
 use crate::files::FileId;
-use crate::statuses::Status;
-use crate::words::{reason_word, what_word};
 use arrayvec::ArrayString;
 use itoa::Buffer;
 use std::marker::Model;
 
-/// The most bytes of a line.
-const MAX_LEN: usize = 120;
-
-/// What a status prints: at most 120 bytes, in an array of its own.
+/// What a status prints: at most 120 bytes, which lie in the value itself.
 #[derive(Debug, Drop)]
 pub struct Line {
     text: ArrayString<120>,
@@ -29,8 +24,9 @@ impl Model for Line {
     ghost invariant = { λ line. length line.text.bytes ≤ 120 };
 }
 
+#[tactic(auto, using(crate::proofs::Printable::printable))]
 impl Line {
-    /// The bytes of the line, with its line feed.
+    /// The bytes of the line, its line feed among them.
     pub fn bytes(&self) -> &[u8]
         ensures same { result.now ≡ self.now }
         ensures short { length result.now ≤ 120 }
@@ -39,7 +35,7 @@ impl Line {
     }
 
     /// The empty line.
-    fn empty() -> Line
+    pub(crate) fn empty() -> Self
         ensures { result ≡ [] }
     {
         Line {
@@ -47,76 +43,73 @@ impl Line {
         }
     }
 
-    /// Appends a word.
-    fn push(&mut self, word: &str)
-        requires { length self.old + length word.now ≤ 120 }
-        ensures { self.new ≡ self.old ++ word.now }
+    /// The start of a line that tells of a fault.
+    pub(crate) fn fault(kind: &str) -> Self
+        requires { length kind.now ≤ 20 }
+        ensures text { result ≡ codes "fault: " ++ kind.now }
+        ensures short { length result ≤ 27 }
+        ensures printable { IsPrintable kind.now → IsPrintable result }
     {
-        self.text.push_str(word);
+        let mut line = Line::empty();
+        line.push("fault: ");
+        line.push(kind);
+        line
     }
 
-    /// Appends a number.
-    fn push_number(&mut self, number: u64)
-        requires { length self.old + 20 ≤ 120 }
-        ensures text { self.new ≡ self.old ++ decimal number }
-        ensures short { length (decimal number) ≤ 20 }
+    /// The line with a space and a word after it.
+    pub(crate) fn word(mut self, word: &str) -> Self
+        requires { length self + length word.now < 120 }
+        ensures text { result ≡ self ++ codes " " ++ word.now }
+        ensures len { length result ≡ length self + 1 + length word.now }
+        ensures printable { IsPrintable self → IsPrintable word.now → IsPrintable result }
+    {
+        self.push(" ");
+        self.push(word);
+        self
+    }
+
+    /// The line with a space and a number after it.
+    pub(crate) fn number(self, number: u64) -> Self
+        requires { length self + 20 < 120 }
+        ensures text { result ≡ self ++ codes " " ++ decimal number }
+        ensures short { length result ≤ length self + 21 }
+        ensures printable { IsPrintable self → IsPrintable result }
     {
         let mut digits = Buffer::new();
-        self.push(digits.format(number));
+        self.word(digits.format(number))
     }
 
-    /// Appends the name of a file.
-    fn push_file(&mut self, file: FileId)
-        requires { length self.old + 30 ≤ 120 }
-        ensures text { self.new ≡ self.old ++ file_text file }
-        ensures short { length (file_text file) ≤ 30 }
+    /// The line with a space and the name of a file after it.
+    pub(crate) fn file(self, file: FileId) -> Self
+        requires { length self + 31 < 120 }
+        ensures text { result ≡ self ++ codes " " ++ file_text file }
+        ensures short { length result ≤ length self + 31 }
+        ensures printable { IsPrintable self → IsPrintable result }
     {
         match file {
-            FileId::Input => self.push("input"),
-            FileId::Base => self.push("base"),
-            FileId::Plan => self.push("plan"),
-            FileId::Collector(number) => {
-                self.push("collector ");
-                self.push_number(u64::from(number) + 1);
-            }
-            FileId::Reader(number) => {
-                self.push("reader ");
-                self.push_number(u64::from(number) + 1);
-            }
+            FileId::Input => self.word("input"),
+            FileId::Base => self.word("base"),
+            FileId::Plan => self.word("plan"),
+            FileId::Collector(number) => self.word("collector").number(u64::from(number) + 1),
+            FileId::Reader(number) => self.word("reader").number(u64::from(number) + 1),
         }
     }
-}
 
-/// The line of a status.
-pub fn line(status: &Status) -> Line
-    ensures { result ≡ line_of status.now }
-{
-    let mut line = Line::empty();
-    match *status {
-        Status::Done | Status::WriteFault => {}
-        Status::BadWords => line.push("fault: words\n"),
-        Status::BadRow { file, row, reason } => {
-            line.push("fault: row ");
-            line.push_file(file);
-            line.push(" ");
-            line.push_number(row);
-            line.push(" ");
-            line.push(reason_word(reason));
-            line.push("\n");
-        }
-        Status::ReadFault { file } => {
-            line.push("fault: read ");
-            line.push_file(file);
-            line.push("\n");
-        }
-        Status::Limit { what, number } => {
-            line.push("fault: limit ");
-            line.push(what_word(what));
-            line.push(" ");
-            line.push_number(number);
-            line.push("\n");
-        }
-        Status::WantOfMemory => line.push("fault: memory\n"),
+    /// The line, ended by its line feed.
+    pub(crate) fn end(mut self) -> Self
+        requires { length self < 120 }
+        ensures text { result ≡ self ++ codes "\n" }
+        ensures one_line { IsPrintable self → IsLine result }
+    {
+        self.push("\n");
+        self
     }
-    line
+
+    /// Appends a text.
+    fn push(&mut self, text: &str)
+        requires { length self.old + length text.now ≤ 120 }
+        ensures { self.new ≡ self.old ++ text.now }
+    {
+        self.text.push_str(text);
+    }
 }

@@ -1,13 +1,15 @@
 //! The words that a line calls reasons and quantities by.
 ghost use Rattle.std.specs.Prelude.{◌≡◌, ◌≤◌, length};
+ghost use Rattle.plant_status.specs.Line.{IsPrintable};
 ghost use Rattle.plant_status.specs.Words.{reason_word, what_word};
 
 use trend_num::{Reason, What};
 
 /// The word of a reason.
-pub fn reason_word(reason: Reason) -> &'static str
+pub(crate) fn reason_word(reason: Reason) -> &'static str
     ensures word { result.now ≡ reason_word reason }
     ensures short { length result.now ≤ 6 }
+    ensures printable { IsPrintable result.now }
 {
     match reason {
         Reason::Fields => "fields",
@@ -19,9 +21,10 @@ pub fn reason_word(reason: Reason) -> &'static str
 }
 
 /// The word of a quantity that has a limit.
-pub fn what_word(what: What) -> &'static str
+pub(crate) fn what_word(what: What) -> &'static str
     ensures word { result.now ≡ what_word what }
     ensures short { length result.now ≤ 13 }
+    ensures printable { IsPrintable result.now }
 {
     match what {
         What::FileBytes => "file_bytes",

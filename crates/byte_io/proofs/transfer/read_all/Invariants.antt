@@ -4,9 +4,9 @@ use Rattle.byte_io.proofs.transfer.read_all.Given as goal
 
 abbrev pub invariant-loop-count : goal.invariant-loop-count
 invariant-loop-count g l = record {
-    within : vec_len l.all ≤ l.limit;
-    taken : Consumes (g.S.Source.left l.initial.src) (g.S.Source.left l.src) l.all.items;
-    later : g.S.Source.faults l.initial.src ≤ g.S.Source.faults l.src
+  within : vec_len l.all ≤ l.limit;
+  taken : Consumes (g.S.Source.left l.initial.src) (g.S.Source.left l.src) l.all.items;
+  later : g.S.Source.faults l.initial.src ≤ g.S.Source.faults l.src;
 }
 
 abbrev pub decreases-loop-count : goal.decreases-loop-count
