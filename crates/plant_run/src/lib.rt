@@ -1,13 +1,10 @@
-// A library with one function.
+//! A run of the plant, from the bytes that come in to the text that goes out.
+//!
+//! `point_lines` reads the points of a text's lines, `words` the tuning of a command line, and `texts` prints the
+//! records of an archive. Each says by its contract which value the bytes stand for, and the first reason why they
+//! stand for none.
 #![tactic(auto)]
 
-ghost use Rattle.std.specs.Prelude.{◌≡◌};
-ghost use Rattle.plant_run.specs.Echo.{echo_of};
-
-// The `ensures` clause is the contract: what `echo` returns is `echo_of` of its argument, a definition
-// in `specs/Echo.antt`, which a caller's clause can cite too.
-pub fn echo(x: usize) -> usize
-    ensures { result ≡ echo_of x }
-{
-    x
-}
+mod point_lines;
+mod texts;
+mod words;

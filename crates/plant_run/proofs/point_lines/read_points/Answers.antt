@@ -1,0 +1,14 @@
+use Rattle.std.proofs.Common.{arith}
+use Rattle.plant_run.proofs.Points.{read_all, points_of-few, points_of-in_range}
+use Rattle.plant_run.proofs.point_lines.read_points.Goals as goal
+
+pub returns-clause-few : goal.returns-clause-few
+returns-clause-few c =
+    let read = read_all c.args.most c.args.bytes.now c.loop-line.rest.now c.loop-line.points.items c.loop-line.invariant c.in_default.ensures.none in
+    let few = points_of-few c.args.most c.args.bytes.now c.loop-line.points.items read in
+    omega (arith, c.loop-line.points.ok.0)
+
+pub returns-clause-in_range : goal.returns-clause-in_range
+returns-clause-in_range c =
+    let read = read_all c.args.most c.args.bytes.now c.loop-line.rest.now c.loop-line.points.items c.loop-line.invariant c.in_default.ensures.none in
+    points_of-in_range c.args.most c.args.bytes.now c.loop-line.points.items read

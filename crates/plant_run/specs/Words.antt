@@ -1,0 +1,31 @@
+-- What the words of a command line mean.
+use Rattle.std.specs.Prelude.{ℕ, cond, List, [], ◌∷◌, Option, None, Some, codes, option_and_then}
+use Rattle.std.specs.Str.{bytes_eq}
+use Rattle.trend_num.specs.declared.tunings.Tuning.{Tuning}
+use Rattle.trend_num.specs.Numerals.{numeral, natural_upto}
+use Rattle.trend_num.specs.Ranges.{last_time, largest_value}
+
+-- a numeral's number, from 0 up to `most`
+abbrev pub number_upto : ℕ → List ℕ → Option ℕ
+number_upto most word = option_and_then (natural_upto most) (numeral word)
+
+-- what f makes of the value, where there is one
+infixl 10 ◌>>=◌
+abbrev pub ◌>>=◌ : {A B : Type 0} → Option A → (A → Option B) → Option B
+o >>= f = option_and_then f o
+
+-- the tuning of five numerals in their ranges
+unfoldable pub tuning_of : List ℕ → List ℕ → List ℕ → List ℕ → List ℕ → Option Tuning
+tuning_of exc_dev exc_max comp_dev comp_min comp_max = do
+  exc_dev' ← number_upto largest_value exc_dev
+  exc_max' ← number_upto last_time exc_max
+  comp_dev' ← number_upto largest_value comp_dev
+  comp_min' ← number_upto last_time comp_min
+  comp_max' ← number_upto last_time comp_max
+  Some (record { exc_dev = exc_dev'; exc_max = exc_max'; comp_dev = comp_dev'; comp_min = comp_min'; comp_max = comp_max' })
+
+-- the tuning of the words `pack EXCDEV EXCMAX COMPDEV COMPMIN COMPMAX`
+abbrev pub pack_tuning : List (List ℕ) → Option Tuning
+pack_tuning (verb ∷ exc_dev ∷ exc_max ∷ comp_dev ∷ comp_min ∷ comp_max ∷ []) =
+    cond (bytes_eq verb (codes "pack")) (tuning_of exc_dev exc_max comp_dev comp_min comp_max) None
+pack_tuning words = None

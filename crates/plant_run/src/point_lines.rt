@@ -1,0 +1,199 @@
+ghost use Rattle.std.specs.Prelude.{◌≡◌, ◌≢◌, ◌+◌, ◌<◌, ◌≤◌, [], ◌∷◌, length, position, nat_eq, vec_len, All, IfOk, IfErr, IfSome, IfNone};
+ghost use Rattle.std.specs.List.{slice_split};
+ghost use Rattle.std.specs.Str.Lines.{lines, strip_carriage_return};
+ghost use Rattle.trend_num.specs.Numerals.{natural_upto};
+ghost use Rattle.trend_num.specs.Ranges.{InRange, last_time};
+ghost use Rattle.trend_num.specs.Rows.{point_of, point_of_line, points_of};
+ghost use Rattle.plant_run.specs.RowFaults.{IsRefusalOf};
+
+use std::alloc::Global;
+use trend_num::{MAX_T, MAX_V, Point, Reason, numeral};
+
+/// What stands between the fields of a line.
+const COMMA: u8 = b',';
+
+/// Why rows are refused.
+#[derive(Clone, Copy, Debug, PartialEq, Eq)]
+pub(crate) enum RowRefused {
+    /// The first bad row, counted from 1, and its first reason.
+    BadRow { row: u64, reason: Reason },
+    /// There are at least this many rows, one more than there may be.
+    TooMany { rows: u64 },
+    /// No memory was found.
+    WantOfMemory,
+}
+
+/// The points of a text's lines `TIME,VALUE`, oldest (first line) first.
+pub(crate) fn read_points(alloc: Global, bytes: &[u8], most: u64) -> Result<Vec<Point>, RowRefused>
+    ensures points { IfOk result (λ v. points_of most bytes.now ≡ Ok v.items) }
+    ensures refused { IfErr result (IsRefusalOf (points_of most bytes.now)) }
+    ensures few { IfOk result (λ v. vec_len v ≤ most) }
+    ensures in_range { IfOk result (λ v. All InRange v.items) }
+{
+    let mut points = Vec::new(alloc);
+    let mut rest = bytes;
+    while let Some((line, after)) = first_line(rest) {
+        let rows = points.len() as u64;
+        if rows == most {
+            return Err(RowRefused::TooMany { rows: rows + 1 });
+        }
+        let point = point_of_line(line).map_err(|reason| RowRefused::BadRow {
+            row: rows + 1,
+            reason,
+        })?;
+        points.push(point).map_err(|_| RowRefused::WantOfMemory)?;
+        rest = after;
+    }
+    Ok(points)
+}
+
+/// The first line of a text and what follows it, or none where no line is left.
+fn first_line(text: &[u8]) -> Option<(&[u8], &[u8])>
+    ensures line { IfSome result (λ p. lines text.now ≡ p.0.now ∷ lines p.1.now) }
+    ensures shorter { IfSome result (λ p. length p.1.now < length text.now) }
+    ensures none { IfNone result (lines text.now ≡ []) }
+{
+    if text.is_empty() {
+        return None;
+    }
+    match find_byte(text, b'\n') {
+        Some(end) => Some((without_carriage_return(&text[..end]), &text[end + 1..])),
+        None => Some((text, &text[text.len()..])),
+    }
+}
+
+/// The first index at which the byte stands.
+fn find_byte(bytes: &[u8], byte: u8) -> Option<usize>
+    ensures { result ≡ position (λ b. nat_eq b byte) bytes.now }
+{
+    bytes.iter().position(|b| *b == byte)
+}
+
+/// The line, less the one carriage return at its end, if it has one.
+fn without_carriage_return(line: &[u8]) -> &[u8]
+    ensures { result.now ≡ strip_carriage_return line.now }
+{
+    match line {
+        [front @ .., b'\r'] => front,
+        _ => line,
+    }
+}
+
+/// The point of a line, or the first reason why it has none.
+fn point_of_line(line: &[u8]) -> Result<Point, Reason>
+    ensures { result ≡ point_of_line line.now }
+{
+    let (time, value) = two_fields(line).ok_or(Reason::Fields)?;
+    let t = numeral(time).ok_or(Reason::Number)?;
+    let v = numeral(value).ok_or(Reason::Number)?;
+    point_of(t, v)
+}
+
+/// The two fields of a line that has one comma.
+fn two_fields(line: &[u8]) -> Option<(&[u8], &[u8])>
+    ensures two { IfSome result (λ p. slice_split (λ b. nat_eq b COMMA) line.now ≡ p.0.now ∷ p.1.now ∷ []) }
+    ensures none { IfNone result (length (slice_split (λ b. nat_eq b COMMA) line.now) ≢ 2) }
+{
+    let at = find_byte(line, COMMA)?;
+    let value = &line[at + 1..];
+    match find_byte(value, COMMA) {
+        Some(_) => None,
+        None => Some((&line[..at], value)),
+    }
+}
+
+/// The point of a time and a value, where both are in range.
+fn point_of(t: i128, v: i128) -> Result<Point, Reason>
+    ensures { result ≡ point_of (natural_upto last_time t) v }
+{
+    let largest = i128::from(MAX_V);
+    if 0 <= t && t <= i128::from(MAX_T) && -largest <= v && v <= largest {
+        Ok(Point {
+            t: t as u64,
+            v: v as i64,
+        })
+    } else {
+        Err(Reason::Range)
+    }
+}
+
+#[cfg(test)]
+mod tests {
+    use super::*;
+    use std::test::Fail;
+
+    fn at(t: u64, v: i64) -> Point {
+        Point { t, v }
+    }
+
+    #[test]
+    fn reads_points(rt: HostRuntime) -> Result<(), Fail> {
+        let last = at(253_402_300_799_999, 1_000_000_000_000_000);
+        let table: [(&[u8], &[Point]); 8] = [
+            (b"", &[]),
+            (b"1,2", &[at(1, 2)]),
+            (b"1,2\n", &[at(1, 2)]),
+            (b"1,2\r\n3,-4\r\n", &[at(1, 2), at(3, -4)]),
+            (b"-0,-0\n007,-0008", &[at(0, 0), at(7, -8)]),
+            (b"5,1\n5,1\n4,1\n", &[at(5, 1), at(5, 1), at(4, 1)]),
+            (b"253402300799999,1000000000000000\n", &[last]),
+            (
+                b"00000000000000000001,-1000000000000000",
+                &[at(1, -1_000_000_000_000_000)],
+            ),
+        ];
+        for (text, points) in table {
+            let read = read_points(rt.alloc(), text, 3)?;
+            assert_eq!(rt; read.as_slice(), points);
+        }
+        Ok(())
+    }
+
+    #[test]
+    fn refuses_rows(rt: HostRuntime) {
+        let table: [(&[u8], u64, Reason); 21] = [
+            (b"12", 1, Reason::Fields),
+            (b"1,2,3", 1, Reason::Fields),
+            (b"x,y,z", 1, Reason::Fields),
+            (b"\n1,2", 1, Reason::Fields),
+            (b"1,2\n\n", 2, Reason::Fields),
+            (b"1,2\n\r\n", 2, Reason::Fields),
+            (b"1, 2", 1, Reason::Number),
+            (b" 1,2\n", 1, Reason::Number),
+            (b"1,2 \n", 1, Reason::Number),
+            (b"--1,2\n", 1, Reason::Number),
+            (b"1,+1\n", 1, Reason::Number),
+            (b"1,000000000000000000001\n", 1, Reason::Number),
+            (b",1\n", 1, Reason::Number),
+            (b"1,\n", 1, Reason::Number),
+            (b"1,-\n", 1, Reason::Number),
+            (b"1,2\n3,4\r", 2, Reason::Number),
+            (b"1,2\r\r\n", 1, Reason::Number),
+            (b"253402300800000,0\n", 1, Reason::Range),
+            (b"-1,0\n", 1, Reason::Range),
+            (b"0,1000000000000001\n", 1, Reason::Range),
+            (b"0,-1000000000000001\n", 1, Reason::Range),
+        ];
+        for (text, row, reason) in table {
+            let read = read_points(rt.alloc(), text, 9);
+            assert!(rt; read.is_err_and(|e| e == RowRefused::BadRow { row, reason }));
+        }
+    }
+
+    #[test]
+    fn counts_rows(rt: HostRuntime) -> Result<(), Fail> {
+        let table: [(&[u8], u64, u64); 4] = [
+            (b"1,2", 0, 1),
+            (b"x", 0, 1),
+            (b"1,2\n3,4\n5,6\n", 2, 3),
+            (b"1,2\n3,4\nbad", 2, 3),
+        ];
+        for (text, most, rows) in table {
+            let read = read_points(rt.alloc(), text, most);
+            assert!(rt; read.is_err_and(|e| e == RowRefused::TooMany { rows }));
+        }
+        let all = read_points(rt.alloc(), b"1,2\n3,4\n", 2)?;
+        assert_eq!(rt; all.len(), 2);
+        Ok(())
+    }
+}
