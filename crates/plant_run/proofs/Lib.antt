@@ -1,3 +1,4 @@
 pub mod Splits
 pub mod Points
+pub mod Histories
 pub mod Forms

@@ -1,10 +1,20 @@
 //! A run of the plant, from the bytes that come in to the text that goes out.
 //!
-//! `point_lines` reads the points of a text's lines, `words` the tuning of a command line, and `texts` prints the
-//! records of an archive. Each says by its contract which value the bytes stand for, and the first reason why they
-//! stand for none.
+//! `run` is the top call: it takes the words of the command line and the source and sink that it is handed, and answers a
+//! status. Its contract says what was read and printed where the status is Done, and when each other status comes. Below
+//! it, `packs` does the work of `pack` without a runtime, so that it is proved to return: `point_lines` reads the points of
+//! a text's lines, `words` the tuning of a command line, `cores` takes the points into a core, and `texts` prints the
+//! records of an archive.
 #![tactic(auto)]
 
+mod cores;
+mod packs;
 mod point_lines;
+mod runs;
+#[cfg(test)]
+mod tests;
 mod texts;
 mod words;
+
+pub use plant_status::{FileId, Reason, Status, What};
+pub use runs::{refuse, run};

@@ -49,7 +49,7 @@ alone_by tuning h p s false true last none new late_is far_is f =
     goes_far s last none (after_newest p h s new late_is) f.sends (sym f.last) (sym f.pending)
 alone_by tuning h p s false false last none new late_is far_is f =
     waits s last (λ q e. subst (λ (x : Point). x.t < p.t) (same_there (newest h) s q new e) (after_newest p h s new late_is)) far_is
-        f.sends (sym f.last) (sym f.pending)
+    f.sends (sym f.last) (sym f.pending)
 
 after_by : (tuning : Tuning) (h : List Point) (p s q : Point) (late far : Bool) → prior tuning h ≡ Some s → pending tuning h ≡ Some q
     → newest h ≡ Some q → nat_le p.t q.t ≡ late → is_far tuning s p ≡ far → FollowsSent tuning h p (offer_after late far s q p) → Next tuning h p
@@ -59,7 +59,7 @@ after_by tuning h p s q false true last waiting new late_is far_is f =
     pushes_far s q last waiting (after_newest p h q new late_is) f.sends (sym f.last) (sym f.pending)
 after_by tuning h p s q false false last waiting new late_is far_is f =
     waits s last (λ x e. subst (λ (y : Point). y.t < p.t) (same_there (newest h) q x new e) (after_newest p h q new late_is)) far_is
-        f.sends (sym f.last) (sym f.pending)
+    f.sends (sym f.last) (sym f.pending)
 
 -- with the last value sent and the place of the pending one
 next_with : (tuning : Tuning) (h : List Point) (p s : Point) (waiting : Option Point) → prior tuning h ≡ Some s → pending tuning h ≡ waiting
@@ -72,7 +72,7 @@ next_with tuning h p s (Some q) last waiting new f =
 next_some : (tuning : Tuning) (h : List Point) (p s : Point) → prior tuning h ≡ Some s → Next tuning h p
 next_some tuning h p s last =
     next_with tuning h p s (pending tuning h) last refl (newest_is tuning h ∙ ap (first_there (pending tuning h)) last)
-        (subst (λ o. FollowsSent tuning h p (offered tuning o (pending tuning h) p)) last (offered_follows tuning h p))
+    (subst (λ o. FollowsSent tuning h p (offered tuning o (pending tuning h) p)) last (offered_follows tuning h p))
 
 -- one of the six things happens
 pub next_case : (tuning : Tuning) (h : List Point) (p : Point) → Next tuning h p

@@ -25,7 +25,7 @@ set_padded bytes i below fits =
     let split : front ++ replicate (64 - i) 0 ≡ front ++ 0 ∷ zeros = ap (λ l. front ++ l) (replicate_first (64 - i) (64 - (i + 1)) 0 (omega arith)) in
     let seam : set (front ++ 0 ∷ zeros) (length front) b ≡ front ++ b ∷ zeros = set-append_seam front 0 zeros b in
     ap (λ l. set l i b) split ∙ ap (λ k. set (front ++ 0 ∷ zeros) k b) (sym at) ∙ seam
-        ∙ sym (append_assoc front (b ∷ []) zeros) ∙ ap (λ l. l ++ zeros) (sym (take_more bytes i 0 below))
+    ∙ sym (append_assoc front (b ∷ []) zeros) ∙ ap (λ l. l ++ zeros) (sym (take_more bytes i 0 below))
 
 -- n is the value of these k digits
 pub record IsDigitsValue (n k : ℕ) (digits : List ℕ) : Type 0 where
@@ -36,8 +36,8 @@ pub record IsDigitsValue (n k : ℕ) (digits : List ℕ) : Type 0 where
 pub digit_at : (digits : List ℕ) (i : ℕ) → list_all is_ascii_digit digits ≡ true → i < length digits → is_ascii_digit (get_or digits i 0) ≡ true
 digit_at digits i all below =
     elim (is_ascii_digit (get_or digits i 0)) as (λ b. is_ascii_digit (get_or digits i 0) ≡ b → b ≡ true) [
-      true ↦ λ _. refl
-    | false ↦ λ e. absurd (false≢true (sym (list_all_at is_ascii_digit digits i 0 below e) ∙ all))
+      | true ↦ λ _. refl
+      | false ↦ λ e. absurd (false≢true (sym (list_all_at is_ascii_digit digits i 0 below e) ∙ all))
     ] refl
 
 -- a digit's code

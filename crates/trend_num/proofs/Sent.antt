@@ -105,8 +105,8 @@ followed_after false false s q p before = record { last_is = refl; pending_is = 
 
 followed : (tuning : Tuning) (p s : Point) (waiting : Option Point) (before : List Sending)
     → IsFollowed p (offered tuning (Some s) waiting p) (is_not_after (first_there waiting (Some s)) p) (is_far tuning s p)
-        (first_there waiting (Some s)) (Some s) before
-        (pushed_out (cond (is_not_after (first_there waiting (Some s)) p || is_far tuning s p) waiting None) ++ before)
+    (first_there waiting (Some s)) (Some s) before
+    (pushed_out (cond (is_not_after (first_there waiting (Some s)) p || is_far tuning s p) waiting None) ++ before)
 followed tuning p s None before = followed_alone (nat_le p.t s.t) (is_far tuning s p) s p before
 followed tuning p s (Some q) before = followed_after (nat_le p.t q.t) (is_far tuning s p) s q p before
 
@@ -118,7 +118,7 @@ pub record FollowsSent (tuning : Tuning) (h : List Point) (p : Point) (o : Offer
 
 follows_some : (tuning : Tuning) (h : List Point) (p s : Point) → prior tuning h ≡ Some s
     → IsFollowed p (offered tuning (prior tuning h) (pending tuning h) p) (is_late p h) (is_far_from tuning (prior tuning h) p)
-        (newest h) (prior tuning h) (sent tuning h) (sent_before tuning h (Some p))
+    (newest h) (prior tuning h) (sent tuning h) (sent_before tuning h (Some p))
 follows_some tuning h p s e = rw (sent_next tuning h p, is_late_newest p h, newest_is tuning h, e) (followed tuning p s (pending tuning h) (sent tuning h))
 
 -- the exception test's rules follow what is sent
@@ -128,7 +128,6 @@ offered_follows tuning (q ∷ h) p =
     let s = prior_there tuning q h in
     let f = follows_some tuning (q ∷ h) p s.0 s.1 in
     record { last = f.last_is; pending = f.pending_is; sends = f.sends }
-
 
 last_alone : (late far : Bool) (s p : Point) (before : List Sending) → last_in_order before ≡ Some s
     → last_in_order (gained (offer_alone late far s p).first (offer_alone late far s p).second ++ before) ≡ (offer_alone late far s p).last

@@ -21,7 +21,7 @@ is_within a b x d = nat_le (unsigned_abs (cross a b x)) (d * (b.t - a.t))
 abbrev pub line_value : Point → Point → ℕ → Frac
 line_value a b t = record {
   num = (a.v *ℤ pos (b.t - a.t)) +ℤ ((b.v -ℤ a.v) *ℤ pos (t - a.t));
-  den = b.t - a.t
+  den = b.t - a.t;
 }
 
 -- n is the whole number next to num / den, the upper one where two are as near: n ≤ num / den + 1/2 < n + 1

@@ -22,20 +22,20 @@ pub record Offer : Type 0 where
 abbrev pub offered_in_order : Tuning → Point → Option Point → Point → Offer
 offered_in_order tuning s waiting p =
     cond (is_far tuning s p)
-        (record { last = Some p; pending = None; first = waiting; second = Some (InOrder p) })
-        (record { last = Some s; pending = Some p; first = None; second = None })
+    (record { last = Some p; pending = None; first = waiting; second = Some (InOrder p) })
+    (record { last = Some s; pending = Some p; first = None; second = None })
 
 -- what an exception test does with p
 abbrev pub offered : Tuning → Option Point → Option Point → Point → Offer
 offered tuning None waiting p = record { last = Some p; pending = waiting; first = None; second = Some (InOrder p) }
 offered tuning (Some s) None p =
     cond (nat_le p.t s.t)
-        (record { last = Some s; pending = None; first = None; second = Some (Late p) })
-        (offered_in_order tuning s None p)
+    (record { last = Some s; pending = None; first = None; second = Some (Late p) })
+    (offered_in_order tuning s None p)
 offered tuning (Some s) (Some q) p =
     cond (nat_le p.t q.t)
-        (record { last = Some q; pending = None; first = Some q; second = Some (Late p) })
-        (offered_in_order tuning s (Some q) p)
+    (record { last = Some q; pending = None; first = Some q; second = Some (Late p) })
+    (offered_in_order tuning s (Some q) p)
 
 -- a pending value that is sent in order
 abbrev pub pushed_out : Option Point → List Sending
@@ -85,7 +85,7 @@ state_with tuning a taken last waiting = record {
   tuning = tuning;
   records = a.records;
   summary = record { taken = taken; records = length a.records; held = last; pending = waiting; hinge = a.hinge };
-  since = a.since
+  since = a.since;
 }
 
 -- the state after one more raw value
@@ -109,7 +109,7 @@ state_at tuning h = record {
     records = length (records tuning h);
     held = held tuning h;
     pending = pending tuning h;
-    hinge = hinge tuning h
+    hinge = hinge tuning h;
   };
-  since = since tuning h
+  since = since tuning h;
 }

@@ -42,10 +42,10 @@ walk_in_order tuning w p None since = record { records = w.records ++ (kept p �
 walk_in_order tuning w p (Some a) [] = record { records = w.records; hinge = Some a; since = p ∷ []; passed = w.passed }
 walk_in_order tuning w p (Some a) (q ∷ since) =
     cond (nat_le (p.t - a.t) tuning.comp_max && is_fit tuning a (q ∷ since) p)
-        (record { records = w.records; hinge = Some a; since = p ∷ q ∷ since; passed = w.passed })
+    (record { records = w.records; hinge = Some a; since = p ∷ q ∷ since; passed = w.passed })
     (cond (nat_le (p.t - a.t) tuning.comp_max && nat_lt (q.t - a.t) tuning.comp_min)
-        (record { records = w.records; hinge = Some a; since = p ∷ []; passed = (q ∷ since) ++ w.passed })
-        (record { records = w.records ++ (kept q ∷ []); hinge = Some q; since = p ∷ []; passed = w.passed }))
+    (record { records = w.records; hinge = Some a; since = p ∷ []; passed = (q ∷ since) ++ w.passed })
+    (record { records = w.records ++ (kept q ∷ []); hinge = Some q; since = p ∷ []; passed = w.passed }))
 
 -- the walk after one more value that was sent
 abbrev pub walk_on : Tuning → Walk → Sending → Walk

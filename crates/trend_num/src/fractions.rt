@@ -13,8 +13,6 @@ pub struct Frac {
     pub den: u64,
 }
 
-
-
 /// The value at `t` of the line from `a` to `b`, exactly.
 pub fn line_at(a: Point, b: Point, t: u64) -> Frac
     requires first { InRange a }

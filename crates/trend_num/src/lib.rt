@@ -14,6 +14,8 @@ mod points;
 mod records;
 mod slopes;
 mod terms;
+#[cfg(test)]
+mod tests;
 mod tunings;
 
 pub use counter::Steps;

@@ -51,7 +51,12 @@ impl Name {
 fn is_name_byte(b: u8) -> bool
     ensures { result ≡ is_name_byte b }
 {
-    b.is_ascii_uppercase() || b.is_ascii_lowercase() || b.is_ascii_digit() || b == b'_' || b == b'.' || b == b'-'
+    b.is_ascii_uppercase()
+        || b.is_ascii_lowercase()
+        || b.is_ascii_digit()
+        || b == b'_'
+        || b == b'.'
+        || b == b'-'
 }
 
 /// The name that these bytes spell, or none where they are no name.

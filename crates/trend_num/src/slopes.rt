@@ -2,11 +2,10 @@ ghost use Rattle.std.specs.Prelude.{◌≡◌, ◌+◌, ◌*◌, ◌<◌, ◌≤
 ghost use Rattle.trend_num.specs.Ranges.{InRange, largest_value, last_time};
 ghost use Rattle.trend_num.specs.Lines.{is_within, compare_slopes, cross};
 
-use std::cmp::Ordering;
-use std::sync::ledger::Ledger;
-
 use crate::counter::Steps;
 use crate::points::Point;
+use std::cmp::Ordering;
+use std::sync::ledger::Ledger;
 
 /// Whether x is more than `d` value units above or below the line from `a` to `b`. One step.
 pub fn deviates<L: Ledger>(a: Point, b: Point, x: Point, d: u64, steps: &mut Steps<L>) -> bool
@@ -25,7 +24,14 @@ pub fn deviates<L: Ledger>(a: Point, b: Point, x: Point, d: u64, steps: &mut Ste
 }
 
 /// Compares the slope from `a` to x raised by `dx` with the slope from `a` to y raised by `dy`, exactly. One step.
-pub fn slope_cmp<L: Ledger>(a: Point, x: Point, dx: i64, y: Point, dy: i64, steps: &mut Steps<L>) -> Ordering
+pub fn slope_cmp<L: Ledger>(
+    a: Point,
+    x: Point,
+    dx: i64,
+    y: Point,
+    dy: i64,
+    steps: &mut Steps<L>,
+) -> Ordering
     requires hinge { InRange a }
     requires first { InRange x }
     requires second { InRange y }

@@ -1,0 +1,164 @@
+ghost use Rattle.std.specs.Prelude.{◌≡◌, ◌↔◌, ◌+◌, ◌-◌, ◌*◌, ◌^◌, ◌<◌, ◌≤◌, List, [], ◌∷◌, ◌++◌, IfOk, IfErr, OnOk, OnErr, IsErr, length};
+ghost use Rattle.trend_num.specs.declared.points.Point.{Point};
+ghost use Rattle.trend_num.specs.declared.records.Rec.{Rec};
+ghost use Rattle.trend_num.specs.Ranges.{InRange, IsTuned};
+ghost use Rattle.trend_num.specs.Step.{state_at, step};
+ghost use Rattle.tag_core.specs.Sound.{IsSound};
+
+use crate::compression::Compressor;
+use exception_test::Gate;
+use std::alloc::Global;
+use std::marker::Model;
+use std::sync::ledger::Ledger;
+use trend_num::{MAX_RECORDS, Point, Rec, Steps, Summary, Tuning, WantOfMemory};
+
+/// A tag in memory: its records, and the state from which its next value goes on.
+#[derive(Drop)]
+pub struct TagCore {
+    tuning: Tuning,
+    compressor: Compressor,
+    gate: Gate,
+    taken: u64,
+}
+
+impl Model for TagCore {
+    ghost use Rattle.tag_core.specs.Core.{Core, spare_of};
+    ghost use Rattle.tag_core.specs.Sound.{IsSound};
+    ghost use Rattle.trend_num.specs.Step.{state_with};
+
+    ghost Value = { Core };
+
+    ghost view = { λ c. record {
+      state = state_with c.tuning c.compressor.archive c.taken c.gate.last c.gate.pending;
+      spare = spare_of c.compressor;
+    } };
+
+    ghost invariant = { λ c. IsSound (state_with c.tuning c.compressor.archive c.taken c.gate.last c.gate.pending) };
+}
+
+/// What one value changed.
+#[derive(Clone, Copy, Debug, PartialEq, Eq)]
+pub struct Took {
+    /// How many records were added, 0 to 2.
+    pub added: u8,
+}
+
+/// A tag whose records one more value could bring above `MAX_RECORDS`.
+#[derive(Clone, Copy, Debug, PartialEq, Eq)]
+pub struct Full {
+    /// How many records it has.
+    pub records: u32,
+}
+
+impl TagCore {
+    /// A tag before its first value, with memory for `room` values: two places for each. A room of 2^31 or more is
+    /// refused as memory that is not there.
+    pub fn new(alloc: Global, tuning: Tuning, room: u32) -> Result<TagCore, WantOfMemory>
+        requires { IsTuned tuning }
+        ensures state { IfOk result (λ core. core.state ≡ state_at tuning []) }
+        ensures spare { IfOk result (λ core. core.spare ≡ 2 * room) }
+    {
+        let places = room.checked_mul(2).ok_or(WantOfMemory)?;
+        let compressor = Compressor::new(alloc, places).map_err(|_| WantOfMemory)?;
+        Ok(TagCore {
+            tuning,
+            compressor,
+            gate: Gate::new(),
+            taken: 0,
+        })
+    }
+
+    /// Takes one raw value: what the exception test sends of it goes on to the compression.
+    pub fn take<L: Ledger>(&mut self, p: Point, steps: &mut Steps<L>) -> Result<Took, Full>
+        requires range { InRange p }
+        requires room { 2 ≤ self.old.spare }
+        requires countable { self.old.state.summary.taken < 2 ^ 64 - 1 }
+
+        // One step of the state, and so from a history to the one with p.
+        ensures step { OnOk result (self.new.state ≡ step self.old.state p) }
+        ensures stands { (h : List Point) → self.old.state ≡ state_at self.old.state.tuning h
+            → OnOk result (self.new.state ≡ state_at self.old.state.tuning (p ∷ h)) }
+        ensures grows { (more : List Rec) × (self.new.state.records ≡ self.old.state.records ++ more) }
+        ensures added { IfOk result (λ took. length self.new.state.records ≡ length self.old.state.records + took.added) }
+
+        // Refused, and unchanged, exactly where two more records would be too many.
+        ensures full { IsErr result ↔ (MAX_RECORDS < length self.old.state.records + 2) }
+        ensures full_records { IfErr result (λ full. full.records ≡ length self.old.state.records) }
+        ensures unchanged { OnErr result (self.new ≡ self.old) }
+
+        // It takes two places at most, and compares the value with those since the hinge.
+        ensures room { self.old.spare ≤ self.new.spare + 2 }
+        ensures cost { steps.new ≤ steps.old + 2 * length self.old.state.since + 1 }
+    {
+        let records = self.record_count();
+        if records + 2 > MAX_RECORDS {
+            return Err(Full { records });
+        }
+        let sent = self.gate.offer(&self.tuning, p);
+        self.compressor.take_sent(&self.tuning, sent, steps);
+        self.taken += 1;
+        Ok(Took {
+            added: (self.compressor.recs().len() as u32 - records) as u8,
+        })
+    }
+
+    /// How many records there are.
+    fn record_count(&self) -> u32
+        ensures value { result ≡ length self.now.state.records }
+        ensures few { result ≤ MAX_RECORDS }
+    {
+        self.compressor.recs().len() as u32
+    }
+
+    /// For how many more records, and values since the hinge, there is memory.
+    pub fn spare(&self) -> u32
+        ensures { result ≡ self.now.spare }
+    {
+        self.compressor.spare()
+    }
+
+    /// The records, the oldest first.
+    pub fn recs(&self) -> &[Rec]
+        ensures { result.now ≡ self.now.state.records }
+    {
+        self.compressor.recs()
+    }
+
+    /// The last value sent in order, which closes the line.
+    pub fn held(&self) -> Option<Point>
+        ensures { result ≡ self.now.state.summary.held }
+    {
+        self.gate.last
+    }
+
+    /// The state beside the records.
+    pub fn summary(&self) -> Summary
+        ensures value { result ≡ self.now.state.summary }
+        ensures sound { IsSound self.now.state }
+    {
+        Summary {
+            taken: self.taken,
+            records: self.record_count(),
+            held: self.gate.last,
+            pending: self.gate.pending,
+            hinge: self.compressor.hinge(),
+        }
+    }
+
+    /// The tuning that it was made with.
+    pub fn tuning(&self) -> Tuning
+        ensures value { result ≡ self.now.state.tuning }
+        ensures tuned { IsTuned result }
+    {
+        self.tuning
+    }
+
+    /// The records, the oldest first, and the state beside them.
+    pub fn into_parts(self) -> (Vec<Rec>, Summary)
+        ensures records { result.0.items ≡ self.state.records }
+        ensures summary { result.1 ≡ self.state.summary }
+    {
+        let summary = self.summary();
+        (self.compressor.into_recs(), summary)
+    }
+}
