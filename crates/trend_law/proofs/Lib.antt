@@ -6,3 +6,4 @@ pub mod ContentLaw
 pub mod RawLaw
 pub mod BoundLaw
 pub mod PlainLaws
+pub mod PartsLaw

@@ -52,7 +52,7 @@ prior_is_sent tuning h s e = last_is_sent (sent tuning h) s (last_in_order_is tu
 pub newest_with : (tuning : Tuning) (h : List Point) (s q : Point) → prior tuning h ≡ Some s → pending tuning h ≡ Some q → newest h ≡ Some q
 newest_with tuning h s q last waiting = newest_is tuning h ∙ ap (λ w. first_there w (prior tuning h)) waiting
 
-newest_without : (tuning : Tuning) (h : List Point) (s : Point) → prior tuning h ≡ Some s → pending tuning h ≡ None → newest h ≡ Some s
+pub newest_without : (tuning : Tuning) (h : List Point) (s : Point) → prior tuning h ≡ Some s → pending tuning h ≡ None → newest h ≡ Some s
 newest_without tuning h s last waiting = newest_is tuning h ∙ ap (λ w. first_there w (prior tuning h)) waiting ∙ last
 
 -- one more value after the newest is after the last one sent, where a pending value is

@@ -15,7 +15,8 @@ use Rattle.trend_num.specs.Step.{gained, offered}
 use Rattle.trend_num.proofs.Sent.{offered_follows}
 use Rattle.trend_num.proofs.Walks.{walk_by}
 use Rattle.trend_num.specs.History.{pending}
-use Rattle.trend_law.specs.Orders.{RisesInTime, AllInOrder, kept_points, RisesAfter, PointsRise, last_point}
+use Rattle.trend_num.specs.Parts.{kept_points, RisesAfter, PointsRise, last_point}
+use Rattle.trend_law.specs.Orders.{RisesInTime, AllInOrder}
 use Rattle.trend_law.proofs.Order.{same_there, not_both, sent_rises}
 use Rattle.trend_law.proofs.WalkLaw.{IsWalked, walk_holds}
 use Rattle.trend_law.proofs.BoundLaw.{raw_near}

@@ -15,4 +15,4 @@ pub use plain::{
     held_is_sent, kept_points_rise, no_deviation_is_exact, no_wait_sends_all, prior_is_sent,
     records_only_grow, sent_in_order_rises,
 };
-pub use steps::step_stands;
+pub use steps::{history_parts_are_ok, step_stands};

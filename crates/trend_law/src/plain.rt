@@ -7,7 +7,8 @@ ghost use Rattle.trend_num.specs.Lines.{cross};
 ghost use Rattle.trend_num.specs.History.{IsInOrder, last_in_order, prior, sent};
 ghost use Rattle.trend_num.specs.Walk.{held, hinge, records};
 ghost use Rattle.trend_num.specs.Content.{IsCleanSpan};
-ghost use Rattle.trend_law.specs.Orders.{AllInOrder, PointsRise, RisesInTime, kept_points, last_point};
+ghost use Rattle.trend_num.specs.Parts.{PointsRise, kept_points, last_point};
+ghost use Rattle.trend_law.specs.Orders.{AllInOrder, RisesInTime};
 
 /// The value that the exception test compares with is the last one marked in order among what was sent.
 pub fn prior_is_sent()

@@ -1,9 +1,21 @@
-ghost use Rattle.std.specs.Prelude.{◌≡◌, ◌∷◌, List};
+ghost use Rattle.std.specs.Prelude.{◌^◌, ◌<◌, ◌≤◌, [], ◌∷◌, All, List, length};
 ghost use Rattle.trend_num.specs.declared.points.Point.{Point};
 ghost use Rattle.trend_num.specs.declared.tunings.Tuning.{Tuning};
-ghost use Rattle.trend_num.specs.Step.{state_at, step};
+ghost use Rattle.trend_num.specs.Parts.{ArePartsOk};
+ghost use Rattle.trend_num.specs.Ranges.{InRange};
+ghost use Rattle.trend_num.specs.Step.{Stands, State, nothing_taken, step};
 
-/// One step from the state of a history is the state of the history and one more value.
+/// What stands for a history goes by one step to what stands for the history and one more value, and the state before any
+/// value stands for no values.
 pub fn step_stands()
-    ensures { (tuning : Tuning) (h : List Point) (p : Point) → step (state_at tuning h) p ≡ state_at tuning (p ∷ h) }
+    ensures step { (tuning : Tuning) (h : List Point) (p : Point) (s : State) →
+        Stands tuning h s → Stands tuning (p ∷ h) (step s p) }
+    ensures start { (tuning : Tuning) → Stands tuning [] (nothing_taken tuning) }
+{}
+
+/// What stands for a history of values in range meets the rules of records and summaries, where there are not too many of
+/// either.
+pub fn history_parts_are_ok()
+    ensures { (tuning : Tuning) (h : List Point) (s : State) → All InRange h → length h < 10 ^ 18
+        → length s.records ≤ 1048576 → Stands tuning h s → ArePartsOk tuning s.records s.summary }
 {}

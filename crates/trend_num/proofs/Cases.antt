@@ -1,13 +1,12 @@
 -- The six things that one more value does to an exception test.
-use Rattle.std.proofs.Common.{◌≡◌, ℕ, ◌<◌, ◌≤◌, Bool, true, false, cond, ◌||◌, List, [], ◌∷◌, ◌++◌, Option, None, Some, nat_le, refl, sym, ap, ◌∙◌, subst, arith}
+use Rattle.std.proofs.Common.{◌≡◌, ◌<◌, Bool, true, false, List, [], ◌∷◌, Option, None, Some, nat_le, refl, sym, ap, ◌∙◌, subst, arith}
 use Rattle.std.proofs.lemmas.Bool.Decides.{nat_tests}
 use Rattle.trend_num.specs.declared.points.Point.{Point}
-use Rattle.trend_num.specs.declared.records.Sending.{Sending}
 use Rattle.trend_num.specs.declared.records.Sending.TheVariants.{InOrder, Late}
 use Rattle.trend_num.specs.declared.tunings.Tuning.{Tuning}
 use Rattle.trend_num.specs.Content.{first_there}
 use Rattle.trend_num.specs.History.{is_late, is_far, newest, prior, pending, sent}
-use Rattle.trend_num.specs.Step.{Offer, offered}
+use Rattle.trend_num.specs.Step.{offered}
 use Rattle.trend_num.proofs.Sent.{is_not_after, is_late_newest, newest_is, prior_there, FollowsSent, offered_follows, offer_alone, offer_after}
 
 -- what p does after the values of h, s being the last value sent in order before it, and q the pending one

@@ -1,8 +1,8 @@
 -- Worked histories, computed by the definitions.
-use Rattle.std.proofs.Common.{◌≡◌, ℕ, ℤ, pos, negsuc, List, [], ◌∷◌, Some, refl}
+use Rattle.std.proofs.Common.{◌≡◌, ℕ, ℤ, pos, [], ◌∷◌, refl}
 use Rattle.trend_num.specs.declared.points.Point.{Point}
 use Rattle.trend_num.specs.declared.tunings.Tuning.{Tuning}
-use Rattle.trend_num.specs.Walk.{records, held, kept, late, passed}
+use Rattle.trend_num.specs.Walk.{records, kept}
 
 abbrev at : ℕ → ℤ → Point
 at t v = record { t = t; v = v }

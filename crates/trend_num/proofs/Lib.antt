@@ -3,3 +3,4 @@ pub mod Examples
 pub mod Sent
 pub mod Walks
 pub mod Cases
+pub mod Doors

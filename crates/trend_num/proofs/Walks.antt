@@ -1,13 +1,11 @@
 -- Lemmas on the walk of the compression.
-use Rattle.std.proofs.Common.{◌≡◌, ℕ, Bool, true, false, cond, ◌&&◌, List, [], ◌∷◌, ◌++◌, Option, None, Some, ◌-◌, nat_le, nat_lt, refl, sym, ap, ◌∙◌}
+use Rattle.std.proofs.Common.{◌≡◌, Bool, true, false, cond, ◌&&◌, List, [], ◌∷◌, ◌++◌, Option, None, Some, ◌-◌, nat_le, nat_lt, refl, ◌∙◌}
 use Rattle.trend_num.specs.declared.points.Point.{Point}
-use Rattle.trend_num.specs.declared.records.Rec.{Rec}
 use Rattle.trend_num.specs.declared.records.Sending.{Sending}
 use Rattle.trend_num.specs.declared.records.Sending.TheVariants.{InOrder, Late}
 use Rattle.trend_num.specs.declared.tunings.Tuning.{Tuning}
 use Rattle.trend_num.specs.History.{sent, prior, last_in_order}
-use Rattle.trend_num.specs.Walk.{Walk, walk, walk_on, walk_in_order, walked, kept, is_fit, last_of, held}
-use Rattle.trend_num.specs.Step.{Archive, archive_of, walk_of, archive_on, archived}
+use Rattle.trend_num.specs.Walk.{Walk, walk, walk_in_order, kept, is_fit, last_of, held}
 use Rattle.trend_num.proofs.Sent.{last_in_order_is}
 
 -- the three ways on from a hinge and values since it
@@ -40,28 +38,3 @@ last_of_walk tuning (InOrder p ∷ sendings) =
 -- the held point is the last value sent in order
 pub held_is_prior : (tuning : Tuning) (h : List Point) → held tuning h ≡ prior tuning h
 held_is_prior tuning h = last_of_walk tuning (sent tuning h) ∙ last_in_order_is tuning h
-
--- what was passed over changes nothing else
-forget_by : (joins passes : Bool) (w : Walk) (p a q : Point) (since : List Point)
-    → archive_of (walk_by joins passes (walk_of (archive_of w)) p a q since) ≡ archive_of (walk_by joins passes w p a q since)
-forget_by true passes w p a q since = refl
-forget_by false true w p a q since = refl
-forget_by false false w p a q since = refl
-
-forget_in_order : (tuning : Tuning) (w : Walk) (p : Point) (hinge : Option Point) (since : List Point)
-    → archive_of (walk_in_order tuning (walk_of (archive_of w)) p hinge since) ≡ archive_of (walk_in_order tuning w p hinge since)
-forget_in_order tuning w p None since = refl
-forget_in_order tuning w p (Some a) [] = refl
-forget_in_order tuning w p (Some a) (q ∷ since) =
-    forget_by (nat_le (p.t - a.t) tuning.comp_max && is_fit tuning a (q ∷ since) p) (nat_le (p.t - a.t) tuning.comp_max && nat_lt (q.t - a.t) tuning.comp_min) w p a q since
-
-forget_passed : (tuning : Tuning) (w : Walk) (s : Sending) → archive_on tuning (archive_of w) s ≡ archive_of (walk_on tuning w s)
-forget_passed tuning w (Late x) = refl
-forget_passed tuning w (InOrder p) = forget_in_order tuning w p w.hinge w.since
-
--- the archive of a longer walk
-pub archived_walk : (tuning : Tuning) (sendings before : List Sending)
-    → archived tuning (archive_of (walk tuning before)) sendings ≡ archive_of (walk tuning (sendings ++ before))
-archived_walk tuning [] before = refl
-archived_walk tuning (s ∷ sendings) before =
-    ap (λ a. archive_on tuning a s) (archived_walk tuning sendings before) ∙ forget_passed tuning (walk tuning (sendings ++ before)) s

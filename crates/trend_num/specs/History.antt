@@ -1,6 +1,6 @@
 -- What an exception test sends of a history. A history is the list of a tag's raw values, the newest first, and so is
 -- what was sent. Each definition asks of a place of the history what the rules say of it, and keeps no state.
-use Rattle.std.specs.Prelude.{◌≡◌, ℕ, ◌-◌, ◌-ℤ◌, Bool, true, false, cond, not, ◌||◌, ◌⊎◌, List, [], ◌∷◌, Option, None, Some, nat_lt, nat_le, unsigned_abs}
+use Rattle.std.specs.Prelude.{◌≡◌, ◌-◌, ◌-ℤ◌, Bool, true, false, cond, ◌||◌, ◌⊎◌, List, [], ◌∷◌, Option, None, Some, nat_lt, nat_le, unsigned_abs}
 use Rattle.trend_num.specs.declared.points.Point.{Point}
 use Rattle.trend_num.specs.declared.records.Sending.{Sending}
 use Rattle.trend_num.specs.declared.records.Sending.TheVariants.{InOrder, Late}

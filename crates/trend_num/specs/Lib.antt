@@ -6,6 +6,8 @@ pub mod History
 pub mod Walk
 pub mod Content
 pub mod Bound
+pub mod Doors
 pub mod Step
+pub mod Parts
 pub mod Rows
 pub mod Texts

@@ -1,5 +1,5 @@
 -- Rows of text, and the lines `TIME,VALUE` that points are read from.
-use Rattle.std.specs.Prelude.{ℕ, ◌+◌, ℤ, Bool, cond, List, [], ◌∷◌, Option, None, Some, nat_eq, nat_le, unsigned_abs, Result, Ok, Err}
+use Rattle.std.specs.Prelude.{ℕ, ◌+◌, ℤ, cond, List, [], ◌∷◌, Option, None, Some, nat_eq, nat_le, unsigned_abs, Result, Ok, Err}
 use Rattle.std.specs.List.{slice_split}
 use Rattle.std.specs.Str.Lines.{lines}
 use Rattle.trend_num.specs.declared.points.Point.{Point}

@@ -1,6 +1,6 @@
 -- One more raw value, from the records and the state that a tag keeps: the rules in the words of the exception test's
 -- two places, its last and its pending value. That this follows the definitions over histories is a law of its own.
-use Rattle.std.specs.Prelude.{ℕ, ◌+◌, Bool, true, false, cond, List, [], ◌∷◌, ◌++◌, length, Option, None, Some, nat_le}
+use Rattle.std.specs.Prelude.{◌≡◌, ℕ, ◌+◌, ◌-◌, ◌&&◌, Bool, cond, List, [], ◌∷◌, ◌++◌, length, Option, None, Some, nat_le, nat_lt}
 use Rattle.trend_num.specs.declared.points.Point.{Point}
 use Rattle.trend_num.specs.declared.records.Rec.{Rec}
 use Rattle.trend_num.specs.declared.records.Sending.{Sending}
@@ -8,7 +8,8 @@ use Rattle.trend_num.specs.declared.records.Sending.TheVariants.{InOrder, Late}
 use Rattle.trend_num.specs.declared.records.Summary.{Summary}
 use Rattle.trend_num.specs.declared.tunings.Tuning.{Tuning}
 use Rattle.trend_num.specs.History.{is_far, pending}
-use Rattle.trend_num.specs.Walk.{Walk, walk_on, last_of, records, hinge, since, held}
+use Rattle.trend_num.specs.Walk.{kept, late, records, hinge, since, held}
+use Rattle.trend_num.specs.Doors.{AreDoors, is_admitted, upper_after, lower_after}
 
 -- the two places of an exception test after one more value, and what it handed out: a pending value that is now sent in
 -- order, and the value itself where it was sent
@@ -47,46 +48,88 @@ abbrev pub gained : Option Point → Option Sending → List Sending
 gained first None = pushed_out first
 gained first (Some s) = s ∷ pushed_out first
 
--- what compression keeps: the records, the hinge, and the values since the hinge, the newest first
+-- what compression keeps: the records, the hinge, the last value sent in order, and the two doors, which are there where there
+-- are values since the hinge
 pub record Archive : Type 0 where
   pub records : List Rec
   pub hinge : Option Point
-  pub since : List Point
+  pub held : Option Point
+  pub upper : Option Point
+  pub lower : Option Point
 
--- a walk without the values that it passed over
-abbrev pub archive_of : Walk → Archive
-archive_of w = record { records = w.records; hinge = w.hinge; since = w.since }
+-- the line from the hinge to p is not too long, and passes between the doors
+abbrev pub joins : Tuning → Point → Point → Point → Point → Bool
+joins tuning a u l p = nat_le (p.t - a.t) tuning.comp_max && is_admitted a tuning.comp_dev u l p
 
-abbrev pub walk_of : Archive → Walk
-walk_of a = record { records = a.records; hinge = a.hinge; since = a.since; passed = [] }
+-- the last value before p is too near to the hinge to be kept
+abbrev pub passes : Tuning → Point → Point → Point → Bool
+passes tuning a q p = nat_le (p.t - a.t) tuning.comp_max && nat_lt (q.t - a.t) tuning.comp_min
+
+-- the archive after one more value in order, from its hinge, its held point and its doors
+abbrev pub archive_in_order : Tuning → Archive → Point → Option Point → Option Point → Option Point → Option Point → Archive
+archive_in_order tuning c p None held upper lower =
+    record { records = c.records ++ (kept p ∷ []); hinge = Some p; held = Some p; upper = None; lower = None }
+archive_in_order tuning c p (Some a) (Some q) (Some u) (Some l) =
+    cond (joins tuning a u l p)
+    (record {
+      records = c.records;
+      hinge = Some a;
+      held = Some p;
+      upper = Some (upper_after a tuning.comp_dev u p);
+      lower = Some (lower_after a tuning.comp_dev l p);
+    })
+    (cond (passes tuning a q p)
+    (record { records = c.records; hinge = Some a; held = Some p; upper = Some p; lower = Some p })
+    (record { records = c.records ++ (kept q ∷ []); hinge = Some q; held = Some p; upper = Some p; lower = Some p }))
+archive_in_order tuning c p (Some a) held upper lower =
+    record { records = c.records; hinge = Some a; held = Some p; upper = Some p; lower = Some p }
 
 -- the archive after one more value that was sent
 abbrev pub archive_on : Tuning → Archive → Sending → Archive
-archive_on tuning a s = archive_of (walk_on tuning (walk_of a) s)
+archive_on tuning c (Late x) =
+    record { records = c.records ++ (late x ∷ []); hinge = c.hinge; held = c.held; upper = c.upper; lower = c.lower }
+archive_on tuning c (InOrder p) = archive_in_order tuning c p c.hinge c.held c.upper c.lower
 
 -- the archive after these values, the newest first
 abbrev pub archived : Tuning → Archive → List Sending → Archive
-archived tuning a [] = a
-archived tuning a (s ∷ sendings) = archive_on tuning (archived tuning a sendings) s
+archived tuning c [] = c
+archived tuning c (s ∷ sendings) = archive_on tuning (archived tuning c sendings) s
 
 -- all that a tag keeps in memory
 pub record State : Type 0 where
   pub tuning : Tuning
   pub records : List Rec
   pub summary : Summary
-  pub since : List Point
 
 abbrev pub archive_in : State → Archive
-archive_in s = record { records = s.records; hinge = s.summary.hinge; since = s.since }
+archive_in s = record {
+  records = s.records;
+  hinge = s.summary.hinge;
+  held = s.summary.held;
+  upper = s.summary.upper;
+  lower = s.summary.lower;
+}
 
 -- the state of that archive, after `taken` values, with these two places of the exception test
 abbrev pub state_with : Tuning → Archive → ℕ → Option Point → Option Point → State
-state_with tuning a taken last waiting = record {
+state_with tuning c taken last waiting = record {
   tuning = tuning;
-  records = a.records;
-  summary = record { taken = taken; records = length a.records; held = last; pending = waiting; hinge = a.hinge };
-  since = a.since;
+  records = c.records;
+  summary = record {
+    taken = taken;
+    records = length c.records;
+    held = last;
+    pending = waiting;
+    hinge = c.hinge;
+    upper = c.upper;
+    lower = c.lower;
+  };
 }
+
+-- the state of a tag before its first value
+abbrev pub nothing_taken : Tuning → State
+nothing_taken tuning =
+    state_with tuning (record { records = []; hinge = None; held = None; upper = None; lower = None }) 0 None None
 
 -- the state after one more raw value
 abbrev pub step : State → Point → State
@@ -99,17 +142,20 @@ abbrev pub replay : State → List Point → State
 replay s [] = s
 replay s (p ∷ points) = step (replay s points) p
 
--- the state for which a history stands
-abbrev pub state_at : Tuning → List Point → State
-state_at tuning h = record {
-  tuning = tuning;
-  records = records tuning h;
-  summary = record {
-    taken = length h;
-    records = length (records tuning h);
-    held = held tuning h;
-    pending = pending tuning h;
-    hinge = hinge tuning h;
-  };
-  since = since tuning h;
-}
+-- two places of doors, for a hinge and the values since it: doors of these values, or none where there is no value
+abbrev pub DoorsStand : ℕ → Option Point → List Point → Option Point → Option Point → Type 0
+DoorsStand d None since upper lower = (upper ≡ None) × (lower ≡ None)
+DoorsStand d (Some a) [] upper lower = (upper ≡ None) × (lower ≡ None)
+DoorsStand d (Some a) (q ∷ since) upper lower =
+    (u : Point) × (l : Point) × (upper ≡ Some u) × (lower ≡ Some l) × AreDoors a d (q ∷ since) u l
+
+-- a state that stands for a history. Where slopes tie, any of the tied values may be a door
+pub record Stands (tuning : Tuning) (h : List Point) (s : State) : Type 0 where
+  pub same_tuning : s.tuning ≡ tuning
+  pub taken : s.summary.taken ≡ length h
+  pub same_records : s.records ≡ records tuning h
+  pub counted : s.summary.records ≡ length (records tuning h)
+  pub same_held : s.summary.held ≡ held tuning h
+  pub same_pending : s.summary.pending ≡ pending tuning h
+  pub same_hinge : s.summary.hinge ≡ hinge tuning h
+  pub doors : DoorsStand tuning.comp_dev (hinge tuning h) (since tuning h) s.summary.upper s.summary.lower

@@ -1,6 +1,6 @@
 -- Swinging-door compression, as a walk through what was sent (after Bristol): each line from the last kept point is
 -- tested against all values since.
-use Rattle.std.specs.Prelude.{ℕ, ◌-◌, Bool, true, false, cond, ◌&&◌, List, [], ◌∷◌, ◌++◌, Option, None, Some, nat_lt, nat_le}
+use Rattle.std.specs.Prelude.{◌-◌, Bool, cond, ◌&&◌, List, [], ◌∷◌, ◌++◌, Option, None, Some, nat_lt, nat_le}
 use Rattle.std.specs.List.{list_all}
 use Rattle.trend_num.specs.declared.points.Point.{Point}
 use Rattle.trend_num.specs.declared.records.Rec.{Rec}

@@ -3,7 +3,7 @@
 //! The types that every layer shares (points, records, tunings, names), exact arithmetic on lines and slopes,
 //! and in `specs/` the definitions that all contracts cite: which values of a history an exception test sends,
 //! how a swinging-door compressor keeps records of them, what those records read as, and how near they lie to
-//! the values. Nothing here takes memory, and nothing is refused.
+//! the values. Nothing here takes memory; what is no name and no numeral is answered None.
 #![tactic(auto)]
 
 mod counter;

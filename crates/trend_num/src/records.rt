@@ -41,4 +41,8 @@ pub struct Summary {
     pub pending: Option<Point>,
     /// The last kept point, on which the doors hang.
     pub hinge: Option<Point>,
+    /// The upper door: no value since the hinge has a lesser slope, raised by CompDev. None where no value is since.
+    pub upper: Option<Point>,
+    /// The lower door: no value since the hinge has a greater slope, lowered by CompDev. None where no value is since.
+    pub lower: Option<Point>,
 }

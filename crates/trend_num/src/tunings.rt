@@ -12,9 +12,10 @@ pub struct Tuning {
     pub exc_max: u64,
     /// CompDev: how far the kept line may be from a value sent, in value units.
     pub comp_dev: u64,
-    /// CompMin: no value is kept sooner than this after the one kept before, in milliseconds.
+    /// CompMin: a value that comes less than this after the hinge is passed over and not kept, unless CompMax ends the
+    /// segment, in milliseconds.
     pub comp_min: u64,
-    /// CompMax: a segment that would be longer than this is ended, in milliseconds.
+    /// CompMax: once a value comes more than this after the hinge, the value before it is kept, in milliseconds.
     pub comp_max: u64,
 }
 

@@ -1,5 +1,4 @@
-use Rattle.std.proofs.Common.{◌≡◌, ◌<◌, ◌^◌, pos, take}
-use Rattle.trend_num.specs.Numerals.{digits_value}
+use Rattle.std.proofs.Common.{take}
 use Rattle.trend_num.proofs.Numbers.{IsDigitsValue}
 use Rattle.trend_num.proofs.numerals.digits_value.Given as goal
 
