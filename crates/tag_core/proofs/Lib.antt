@@ -1,3 +1,4 @@
 pub mod Soundness
-pub mod Since
 pub mod Taking
+pub mod Scans
+pub mod Slopes

@@ -1,129 +1,201 @@
-ghost use Rattle.std.specs.Prelude.{◌≡◌, ◌+◌, ◌-◌, ◌*◌, ◌<◌, ◌≤◌, ◌&&◌, [], ◌∷◌, ◌++◌, All, IfOk, length, nat_le, nat_lt, reverse};
+ghost use Rattle.std.specs.Prelude.{◌≡◌, ◌+◌, ◌<◌, ◌≤◌, [], ◌∷◌, ◌++◌, IfOk, None, Some, length};
 ghost use Rattle.trend_num.specs.Ranges.{InRange, IsTuned};
-ghost use Rattle.trend_num.specs.Step.{gained, pushed_out};
-ghost use Rattle.trend_num.specs.Walk.{is_fit, kept, late, last_of};
-ghost use Rattle.tag_core.specs.Core.{compressed_after, nothing_in, spare_of};
-ghost use Rattle.tag_core.specs.Sound.{AreNext, IsBetween, IsNext, IsOrderly};
+ghost use Rattle.trend_num.specs.Step.{archived, gained, joins, passes, pushed_out};
+ghost use Rattle.trend_num.specs.Walk.{kept, late};
+ghost use Rattle.tag_core.specs.Core.{Compressed, HangAt, archive_with, compressed_after, lower_of, spare_of, upper_of};
+ghost use Rattle.tag_core.specs.Sound.{AreNext, IsNext, IsOrderly};
 
+use door_slopes::Doors;
 use exception_test::Sent;
 use std::alloc::{AllocError, Global};
 use std::marker::Model;
 use std::sync::ledger::Ledger;
-use trend_num::{Kind, Point, Rec, Sending, Steps, Tuning, deviates};
+use trend_num::{Kind, Point, Rec, Sending, Steps, Tuning};
 
 /// What swinging-door compression keeps of a tag (after Bristol), in memory that is reserved.
 #[derive(Drop)]
 pub(crate) struct Compressor {
+    tuning: Tuning,
     recs: Vec<Rec>,
     /// The last kept point.
     hinge: Option<Point>,
-    /// The values sent in order since the hinge that were not passed over, the oldest first.
-    since: Vec<Point>,
+    /// The doors at the hinge, where a value was sent in order since.
+    doors: Option<Doors>,
 }
 
 impl Model for Compressor {
-    ghost use Rattle.std.specs.Prelude.{◌<◌, ◌^◌, reverse, vec_capacity};
-    ghost use Rattle.tag_core.specs.Core.{Compressed};
+    ghost use Rattle.std.specs.Prelude.{◌<◌, ◌^◌, vec_capacity};
+    ghost use Rattle.trend_num.specs.Ranges.{IsTuned};
+    ghost use Rattle.tag_core.specs.Core.{Compressed, HangAt, lower_of, upper_of};
 
     ghost Value = { Compressed };
 
     ghost view = { λ c. record {
-      archive = record { records = c.recs.items; hinge = c.hinge; since = reverse c.since.items };
-      record_room = vec_capacity c.recs;
-      since_room = vec_capacity c.since;
+      tuning = c.tuning;
+      records = c.recs.items;
+      hinge = c.hinge;
+      upper = upper_of c.doors;
+      lower = lower_of c.doors;
+      places = vec_capacity c.recs;
     } };
 
-    ghost invariant = { λ c. (vec_capacity c.recs < 2 ^ 32) × (vec_capacity c.since < 2 ^ 32) };
+    ghost invariant = { λ c. IsTuned c.tuning × HangAt c.tuning.comp_dev c.hinge c.doors × (vec_capacity c.recs < 2 ^ 32) };
 }
 
 impl Compressor {
-    /// An empty one, of this many places for records and for values since the hinge.
-    pub(crate) fn new(alloc: Global, places: u32) -> Result<Compressor, AllocError>
-        ensures { IfOk result (λ c. c ≡ nothing_in places) }
+    /// An empty one, of this many places for records.
+    pub(crate) fn new(alloc: Global, tuning: Tuning, places: u32) -> Result<Compressor, AllocError>
+        requires { IsTuned tuning }
+        ensures { IfOk result (λ c. c ≡ record {
+          tuning = tuning;
+          records = [];
+          hinge = None;
+          upper = None;
+          lower = None;
+          places = places;
+        }) }
     {
         let recs = Vec::with_capacity(alloc, places as usize)?;
-        let since = Vec::with_capacity(alloc, places as usize)?;
         Ok(Compressor {
+            tuning,
             recs,
             hinge: None,
-            since,
+            doors: None,
         })
     }
 
-    /// The least of the free places.
+    /// One of these records, this hinge and these doors, and of this many places for records.
+    pub(crate) fn from_parts(
+        alloc: Global,
+        tuning: Tuning,
+        recs: &[Rec],
+        hinge: Option<Point>,
+        doors: Option<Doors>,
+        places: u32,
+    ) -> Result<Compressor, AllocError>
+        requires tuned { IsTuned tuning }
+        requires hang { HangAt tuning.comp_dev hinge doors }
+        requires room { length recs.now ≤ places }
+        ensures { IfOk result (λ c. c ≡ record {
+          tuning = tuning;
+          records = recs.now;
+          hinge = hinge;
+          upper = upper_of doors;
+          lower = lower_of doors;
+          places = places;
+        }) }
+    {
+        let mut copied = Vec::with_capacity(alloc, places as usize)?;
+        for rec in recs {
+            copied.push_reserved(*rec);
+        }
+        Ok(Compressor {
+            tuning,
+            recs: copied,
+            hinge,
+            doors,
+        })
+    }
+
+    /// How many places for records are free.
     pub(crate) fn spare(&self) -> u32
         ensures { result ≡ spare_of self.now }
     {
-        let for_recs = self.recs.capacity() - self.recs.len();
-        let for_since = self.since.capacity() - self.since.len();
-        for_recs.min(for_since) as u32
+        (self.recs.capacity() - self.recs.len()) as u32
+    }
+
+    /// The tuning that it was made with.
+    #[inline]
+    pub(crate) fn tuning(&self) -> &Tuning
+        ensures { result.now ≡ self.now.tuning }
+    {
+        &self.tuning
     }
 
     /// The records, the oldest first.
+    #[inline]
     pub(crate) fn recs(&self) -> &[Rec]
-        ensures { result.now ≡ self.now.archive.records }
+        ensures { result.now ≡ self.now.records }
     {
         self.recs.as_slice()
     }
 
     /// The last kept point.
     pub(crate) fn hinge(&self) -> Option<Point>
-        ensures { result ≡ self.now.archive.hinge }
+        ensures { result ≡ self.now.hinge }
     {
         self.hinge
     }
 
+    /// The upper door.
+    pub(crate) fn upper(&self) -> Option<Point>
+        ensures { result ≡ self.now.upper }
+    {
+        self.doors.map(|doors| doors.upper())
+    }
+
+    /// The lower door.
+    pub(crate) fn lower(&self) -> Option<Point>
+        ensures { result ≡ self.now.lower }
+    {
+        self.doors.map(|doors| doors.lower())
+    }
+
     /// The records alone.
     pub(crate) fn into_recs(self) -> Vec<Rec>
-        ensures { result.items ≡ self.archive.records }
+        ensures { result.items ≡ self.records }
     {
         self.recs
     }
 
-    /// Takes what an exception test hands on.
-    pub(crate) fn take_sent<L: Ledger>(&mut self, tuning: &Tuning, sent: Sent, steps: &mut Steps<L>)
-        requires tuned { IsTuned tuning.now }
-        requires orderly { IsOrderly self.old.archive }
-        requires next { AreNext tuning.now self.old.archive (gained sent.first sent.second) }
+    /// Takes what an exception test hands on, at this held point.
+    #[inline]
+    pub(crate) fn take_sent<L: Ledger>(
+        &mut self,
+        held: Option<Point>,
+        sent: Sent,
+        steps: &mut Steps<L>,
+    )
+        requires orderly { IsOrderly (archive_with self.old held) }
+        requires next { AreNext self.old.tuning (archive_with self.old held) (gained sent.first sent.second) }
         requires room { 2 ≤ spare_of self.old }
-        ensures after { self.new ≡ compressed_after tuning.now self.old (gained sent.first sent.second) }
-        ensures cost { steps.new ≤ steps.old + 2 * length self.old.archive.since + 1 }
+        ensures after { self.new ≡ compressed_after self.old held (gained sent.first sent.second) }
+        ensures cost { steps.new ≤ steps.old + 8 }
     {
-        self.take_pushed_out(tuning, sent.first, steps);
+        let held = self.take_pushed_out(held, sent.first, steps);
         match sent.second {
             None => {}
-            Some(Sending::InOrder(p)) => self.take_in_order(tuning, p, steps),
+            Some(Sending::InOrder(p)) => self.take_in_order(held, p, steps),
             Some(Sending::Late(p)) => self.take_late(p),
         }
     }
 
-    /// Takes a value that was pending, where there is one.
+    /// Takes a value that was pending, where there is one. Returns the point that is then held.
     fn take_pushed_out<L: Ledger>(
         &mut self,
-        tuning: &Tuning,
+        held: Option<Point>,
         first: Option<Point>,
         steps: &mut Steps<L>,
-    )
-        requires tuned { IsTuned tuning.now }
-        requires orderly { IsOrderly self.old.archive }
-        requires next { AreNext tuning.now self.old.archive (pushed_out first) }
+    ) -> Option<Point>
+        requires orderly { IsOrderly (archive_with self.old held) }
+        requires next { AreNext self.old.tuning (archive_with self.old held) (pushed_out first) }
         requires room { 0 < spare_of self.old }
-        ensures after { self.new ≡ compressed_after tuning.now self.old (pushed_out first) }
-        ensures cost { steps.new ≤ steps.old + length self.old.archive.since }
+        ensures after { self.new ≡ compressed_after self.old held (pushed_out first) }
+        ensures held { result ≡ (archived self.old.tuning (archive_with self.old held) (pushed_out first)).held }
+        ensures cost { steps.new ≤ steps.old + 4 }
     {
         if let Some(p) = first {
-            self.take_in_order(tuning, p, steps);
+            self.take_in_order(held, p, steps);
+            return first;
         }
+        held
     }
 
     /// Takes a value that is sent late.
+    #[inline]
     fn take_late(&mut self, p: Point)
-        requires { length self.old.archive.records < self.old.record_room }
-        ensures { self.new ≡ record {
-          archive = record { records = self.old.archive.records ++ (late p ∷ []); hinge = self.old.archive.hinge; since = self.old.archive.since };
-          record_room = self.old.record_room;
-          since_room = self.old.since_room;
-        } }
+        requires { 0 < spare_of self.old }
+        ensures { self.new ≡ record self.old { records = self.old.records ++ (late p ∷ []) } }
     {
         self.recs.push_reserved(Rec {
             kind: Kind::Late,
@@ -132,57 +204,50 @@ impl Compressor {
     }
 
     /// Takes a value that is sent in order.
-    fn take_in_order<L: Ledger>(&mut self, tuning: &Tuning, p: Point, steps: &mut Steps<L>)
-        requires tuned { IsTuned tuning.now }
-        requires orderly { IsOrderly self.old.archive }
-        requires next { IsNext (last_of self.old.archive.hinge self.old.archive.since) p }
+    fn take_in_order<L: Ledger>(&mut self, held: Option<Point>, p: Point, steps: &mut Steps<L>)
+        requires orderly { IsOrderly (archive_with self.old held) }
+        requires next { IsNext held p }
         requires room { 0 < spare_of self.old }
-        ensures after { self.new ≡ compressed_after tuning.now self.old (Sending.InOrder p ∷ []) }
-        ensures cost { steps.new ≤ steps.old + length self.old.archive.since }
+        ensures after { self.new ≡ compressed_after self.old held (Sending.InOrder p ∷ []) }
+        ensures cost { steps.new ≤ steps.old + 4 }
     {
-        match (self.hinge, self.since.last().copied()) {
-            (None, _) => self.keep(p),
-            (Some(_), None) => self.since.push_reserved(p),
-            (Some(hinge), Some(newest)) => self.go_on(tuning, hinge, newest, p, steps),
+        match (self.hinge, held, &mut self.doors) {
+            (None, _, _) => self.keep(p),
+            (Some(hinge), Some(newest), Some(doors)) => {
+                if joins(&self.tuning, doors, p, steps) {
+                    doors.swing(p, steps);
+                } else if passes(&self.tuning, hinge, newest, p) {
+                    self.hang(hinge, p);
+                } else {
+                    self.keep(newest);
+                    self.hang(newest, p);
+                }
+            }
+            (Some(hinge), _, _) => self.hang(hinge, p),
         }
     }
 
-    /// Goes on from values since the hinge: p joins them, or they are passed over, or the newest of them is kept.
-    fn go_on<L: Ledger>(
-        &mut self,
-        tuning: &Tuning,
-        hinge: Point,
-        newest: Point,
-        p: Point,
-        steps: &mut Steps<L>,
-    )
-        requires tuned { IsTuned tuning.now }
-        requires hinge { self.old.archive.hinge ≡ Some hinge }
-        requires newest { last_of None self.old.archive.since ≡ Some newest }
-        requires orderly { IsOrderly self.old.archive }
-        requires next { IsNext (Some newest) p }
-        requires room { 0 < spare_of self.old }
-        ensures after { self.new ≡ compressed_after tuning.now self.old (Sending.InOrder p ∷ []) }
-        ensures cost { steps.new ≤ steps.old + length self.old.archive.since }
+    /// Hangs both doors at p, the first value since the hinge.
+    #[inline]
+    fn hang(&mut self, hinge: Point, p: Point)
+        requires hinge { self.old.hinge ≡ Some hinge }
+        requires hinge_range { InRange hinge }
+        requires range { InRange p }
+        requires after { hinge.t < p.t }
+        ensures { self.new ≡ record self.old { upper = Some p; lower = Some p } }
     {
-        if joins(tuning, hinge, &self.since, p, steps) {
-            self.since.push_reserved(p);
-        } else if passes(tuning, hinge, newest, p) {
-            self.since.clear();
-            self.since.push_reserved(p);
-        } else {
-            self.keep(newest);
-            self.since.push_reserved(p);
-        }
+        self.doors = Some(Doors::hang(hinge, self.tuning.comp_dev, p));
     }
 
-    /// Keeps a point: it becomes the hinge, with no value since.
+    /// Keeps p, from which the next values go on.
+    #[inline]
     fn keep(&mut self, p: Point)
-        requires { length self.old.archive.records < self.old.record_room }
-        ensures { self.new ≡ record {
-          archive = record { records = self.old.archive.records ++ (kept p ∷ []); hinge = Some p; since = [] };
-          record_room = self.old.record_room;
-          since_room = self.old.since_room;
+        requires { 0 < spare_of self.old }
+        ensures { self.new ≡ record self.old {
+          records = self.old.records ++ (kept p ∷ []);
+          hinge = Some p;
+          upper = None;
+          lower = None;
         } }
     {
         self.recs.push_reserved(Rec {
@@ -190,58 +255,28 @@ impl Compressor {
             point: p,
         });
         self.hinge = Some(p);
-        self.since.clear();
+        self.doors = None;
     }
 }
 
-/// Whether p joins the values since the hinge: the line to it is not too long, and is near all of them.
-#[tactic(auto, using(crate::proofs::Since::is_fit_reverse))]
-fn joins<L: Ledger>(
-    tuning: &Tuning,
-    hinge: Point,
-    since: &[Point],
-    p: Point,
-    steps: &mut Steps<L>,
-) -> bool
-    requires tuned { IsTuned tuning.now }
-    requires hinge { InRange hinge }
+/// Whether p joins the values since the hinge: the line to it is not too long, and passes between the doors.
+#[inline]
+fn joins<L: Ledger>(tuning: &Tuning, doors: &Doors, p: Point, steps: &mut Steps<L>) -> bool
+    requires deviation { doors.now.deviation ≡ tuning.now.comp_dev }
     requires range { InRange p }
-    requires after { hinge.t ≤ p.t }
-    requires between { All (IsBetween hinge p) since.now }
-    ensures value { result ≡ (nat_le (p.t - hinge.t) tuning.now.comp_max && is_fit tuning.now hinge (reverse since.now) p) }
-    ensures cost { steps.new ≤ steps.old + length since.now }
+    requires after { doors.now.hinge.t < p.t }
+    ensures value { result ≡ joins tuning.now doors.now.hinge doors.now.upper doors.now.lower p }
+    ensures cost { steps.new ≤ steps.old + 2 }
 {
-    p.t - hinge.t <= tuning.comp_max && is_fit(tuning, hinge, since, p, steps)
+    p.t - doors.hinge().t <= tuning.comp_max && doors.admits(p, steps)
 }
 
 /// Whether the values since the hinge are passed over: the newest is too near to the hinge to be kept.
+#[inline]
 fn passes(tuning: &Tuning, hinge: Point, newest: Point, p: Point) -> bool
     requires newest { hinge.t ≤ newest.t }
     requires after { hinge.t ≤ p.t }
-    ensures { result ≡ (nat_le (p.t - hinge.t) tuning.now.comp_max && nat_lt (newest.t - hinge.t) tuning.now.comp_min) }
+    ensures { result ≡ passes tuning.now hinge newest p }
 {
     p.t - hinge.t <= tuning.comp_max && newest.t - hinge.t < tuning.comp_min
-}
-
-/// Whether the line from the hinge to p is within CompDev of each of these values. One step for each that is tested.
-fn is_fit<L: Ledger>(
-    tuning: &Tuning,
-    hinge: Point,
-    since: &[Point],
-    p: Point,
-    steps: &mut Steps<L>,
-) -> bool
-    requires tuned { IsTuned tuning.now }
-    requires hinge { InRange hinge }
-    requires range { InRange p }
-    requires between { All (IsBetween hinge p) since.now }
-    ensures value { result ≡ is_fit tuning.now hinge since.now p }
-    ensures cost { steps.new ≤ steps.old + length since.now }
-{
-    for x in since {
-        if deviates(hinge, p, *x, tuning.comp_dev, steps) {
-            return false;
-        }
-    }
-    true
 }

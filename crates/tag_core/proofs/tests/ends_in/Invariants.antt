@@ -1,4 +1,4 @@
-use Rattle.tag_core.proofs.tests.keeps_by_the_rules.Given as goal
+use Rattle.tag_core.proofs.tests.ends_in.Given as goal
 
 abbrev pub ghosts-compressed : goal.ghosts-compressed
 ghosts-compressed g a = record { name = a.blank.name; parts = a.blank.parts }
