@@ -1,10 +1,10 @@
 // Sources and sinks over std's readers and writers.
 ghost use Rattle.std.specs.Prelude.{◌≡◌, ◌≤◌, ◌<◌, length, IfOk, OnOk, OnErr};
-ghost use Rattle.std.specs.Io.KnownBytes.{Keeps, ReadConsumes, WriteAppends};
+ghost use Rattle.std.specs.Io.KnownBytes.{ReadConsumes, WriteAppends};
 ghost use Rattle.byte_io.specs.Causes.{HasCause};
 ghost use Rattle.byte_io.specs.Memory.{next_count};
 
-use crate::{Failed, Sink, Source, WriteFault};
+use crate::{Failed, Sink, Source};
 use std::io::{Read, Write};
 
 /// A reader of std as a source. Each error of the reader, also one that says that a signal came,
@@ -52,8 +52,7 @@ impl<R: Read> Source for StdSource<R> {
 }
 
 /// A writer of std as a sink. Each error of the writer, and each write of a piece of which it
-/// takes nothing, is a fault. A writer with a buffer, as a `BufWriter`, keeps bytes back until
-/// `flush`.
+/// takes nothing, is a fault. A writer with a buffer of its own may keep bytes back.
 #[derive(Drop)]
 pub struct StdSink<W> {
     inner: W,
@@ -69,22 +68,6 @@ impl<W: Write> StdSink<W> {
         ensures faults { sink_faults result ≡ 0 }
     {
         StdSink { inner, faults: 0 }
-    }
-
-    /// Makes the writer send on what it keeps back.
-    pub fn flush(&mut self) -> Result<(), WriteFault>
-        ensures bytes { Keeps (W.contents (sink_inner self.old))
-            (W.contents (sink_inner self.new)) }
-        ensures cause { HasCause (sink_faults self.old) (sink_faults self.new) result }
-        ensures no_fault { OnOk result (sink_faults self.new ≡ sink_faults self.old) }
-        ensures one_fault { OnErr result
-            (sink_faults self.new ≡ next_count (sink_faults self.old)) }
-    {
-        let Err(_) = self.inner.flush() else {
-            return Ok(());
-        };
-        self.faults = self.faults.saturating_add(1);
-        Err(WriteFault)
     }
 
     /// The writer, with all that it took.

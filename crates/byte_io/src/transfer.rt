@@ -26,6 +26,8 @@ pub fn read_all<S: Source>(alloc: Global, src: &mut S, limit: u64) -> Result<Vec
         ConsumesExactly (S.left src.old) (S.left src.new) (limit + 1) }
     ensures own_limit { (n : ℕ) → IsErrOf result (TooLong n) → n ≡ limit }
     ensures read_fault { IsErrOf result ReadFault → Rose (S.faults src.old) (S.faults src.new) }
+    ensures read_fault_within { IsErrOf result ReadFault →
+        ConsumesAtMost (S.left src.old) (S.left src.new) limit }
     ensures want_of_memory { IsErrOf result WantOfMemory →
         ConsumesSome (S.left src.old) (S.left src.new) limit }
 

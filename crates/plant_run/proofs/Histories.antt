@@ -1,12 +1,13 @@
 -- A history grows by its points in order.
-use Rattle.std.proofs.Common.{◌≡◌, ℕ, ◌+◌, ◌*◌, ◌<◌, ◌≤◌, Bool, true, false, cond, List, [], ◌∷◌, ◌++◌, length, get_or, take, drop, reverse, Option, None, Some, pos, nat_lt, refl, sym, ap, ◌∙◌, subst, arith, take-append-drop}
+use Rattle.std.proofs.Common.{◌≡◌, ℕ, ◌+◌, ◌*◌, ◌<◌, ◌≤◌, Bool, true, false, cond, List, [], ◌∷◌, ◌++◌, length, get_or, take, drop, Option, None, Some, pos, nat_lt, sym, ap, ◌∙◌, subst, arith, take-append-drop}
 use Rattle.std.proofs.lemmas.Bool.Decides.{nat_tests}
 use Rattle.std.proofs.lemmas.List.{take_more, reverse-append}
 use Rattle.trend_num.specs.declared.points.Point.{Point}
+use Rattle.trend_num.specs.declared.records.Rec.{Rec}
 use Rattle.trend_num.specs.declared.tunings.Tuning.{Tuning}
 use Rattle.trend_num.specs.Walk.{records}
 use Rattle.trend_num.specs.Content.{first_there}
-use Rattle.trend_num.specs.Step.{State, state_at, step}
+use Rattle.trend_num.specs.Step.{State, Stands, step}
 use Rattle.trend_law.proofs.StepLaw.{step_stands}
 use Rattle.plant_run.specs.Packing.{first_full, history_of, most_records}
 
@@ -49,7 +50,7 @@ history_whole points i = ap history_of (sym (take-append-drop i points)) ∙ rev
 
 -- a core that has taken the first i points, and has memory for the others
 pub record HasTaken (tuning : Tuning) (points : List Point) (i : ℕ) (state : State) (spare : ℕ) : Type 0 where
-  pub stands : state ≡ state_at tuning (history_of (take i points))
+  pub stands : Stands tuning (history_of (take i points)) state
   pub room : first_full tuning (history_of (take i points)) ≡ None
   pub places : 2 * length points ≤ spare + 2 * i
 
@@ -63,9 +64,9 @@ has_taken_more tuning points i d before after m n t below stepped places fits =
     let longer = history_more points i d below in
     let one = t.places in
     record {
-      stands = stepped ∙ ap (λ s. step s p) t.stands ∙ step_stands tuning h p ∙ ap (state_at tuning) (sym longer);
+      stands = subst (λ l. Stands tuning l after) (sym longer) (subst (Stands tuning (p ∷ h)) (sym stepped) (step_stands tuning h p before t.stands));
       room = ap (first_full tuning) longer
-          ∙ room_here tuning p h t.room (λ full. fits (subst (λ (s : State). most_records < length s.records + 2) (sym t.stands) full));
+          ∙ room_here tuning p h t.room (λ full. fits (subst (λ (rs : List Rec). most_records < length rs + 2) (sym t.stands.same_records) full));
       places = omega arith;
     }
 
@@ -76,9 +77,9 @@ pub refused_at : (tuning : Tuning) (points : List Point) (i : ℕ) (before : Sta
 refused_at tuning points i before m stood t below full records_are =
     let h = history_of (take i points) in
     let d : Point = record { t = 0; v = pos 0 } in
-    let same : length before.records ≡ length (records tuning h) = ap (λ (s : State). length s.records) t.stands in
+    let same : length before.records ≡ length (records tuning h) = ap length t.stands.same_records in
     ap (first_full tuning) (history_whole points (i + 1))
     ∙ full_stays tuning (history_of (drop (i + 1) points)) (history_of (take (i + 1) points)) stood
     (ap (first_full tuning) (history_more points i d below)
-    ∙ full_here tuning (get_or points i d) h t.room (subst (λ (s : State). most_records < length s.records + 2) t.stands full)
+    ∙ full_here tuning (get_or points i d) h t.room (subst (λ (rs : List Rec). most_records < length rs + 2) t.stands.same_records full)
     ∙ ap Some (sym (records_are ∙ same)))

@@ -9,7 +9,7 @@ use Rattle.std.specs.List.{slice_split, position_or_len}
 use Rattle.std.specs.Str.Lines.{lines, lines_of_parts, strip_carriage_return}
 
 -- the end of a list, as it is cut out of it
-rest_whole : (xs : List ℕ) (i : ℕ) → take (length xs - i) (drop i xs) ≡ drop i xs
+pub rest_whole : (xs : List ℕ) (i : ℕ) → take (length xs - i) (drop i xs) ≡ drop i xs
 rest_whole xs i = grind (arith, common_steps)
 
 -- the first part ends at the first separator
@@ -33,7 +33,7 @@ split_not_found p xs none =
     slice_split_none p xs (λ k d below. fails_before_first p xs k d (omega arith))
 
 -- a part before another one is a line
-lines_of_parts-cons : (x : List ℕ) (parts : List (List ℕ)) → 0 < length parts → lines_of_parts (x ∷ parts) ≡ strip_carriage_return x ∷ lines_of_parts parts
+pub lines_of_parts-cons : (x : List ℕ) (parts : List (List ℕ)) → 0 < length parts → lines_of_parts (x ∷ parts) ≡ strip_carriage_return x ∷ lines_of_parts parts
 lines_of_parts-cons x [] some = absurd (omega arith)
 lines_of_parts-cons x (y ∷ more) some = refl
 

@@ -70,10 +70,11 @@ pub record IsRead (before now : Option (List ℕ)) (points : List Point) : Type 
   pub within : length bytes ≤ most_bytes
   pub rows : points_of most_rows bytes ≡ Ok points
 
--- bytes were taken from the input that are refused so, whatever the tuning
+-- all of the input, or more than may be read, was taken, and it is refused so, whatever the tuning
 pub record RefusesInput (before now : Option (List ℕ)) (refusal : Status) : Type 0 where
   pub bytes : List ℕ
   pub taken : Consumes before now bytes
+  pub whole : IsAtEnd now ⊎ (most_bytes < length bytes)
   pub answer : (tuning : Tuning) → pack_answer tuning bytes ≡ Refuses refusal
 
 -- why no points came of the input
@@ -97,10 +98,11 @@ pub record IsPrinted (tuning : Tuning) (before now : Option (List ℕ)) (text : 
   pub room : first_full tuning (history_of points) ≡ None
   pub same : text ≡ archive_text (records tuning (history_of points)) (held tuning (history_of points))
 
--- bytes were taken from the input that are refused so
+-- all of the input, or more than may be read, was taken, and it is refused so
 pub record RefusesBytes (tuning : Tuning) (before now : Option (List ℕ)) (refusal : Status) : Type 0 where
   pub bytes : List ℕ
   pub taken : Consumes before now bytes
+  pub whole : IsAtEnd now ⊎ (most_bytes < length bytes)
   pub answer : pack_answer tuning bytes ≡ Refuses refusal
 
 -- why nothing is printed

@@ -1,6 +1,6 @@
 ghost use Rattle.std.specs.Prelude.{◌≡◌, ◌≤◌, ◌<◌, None, All, IfOk, IfErr, length};
 ghost use Rattle.trend_num.specs.Ranges.{InRange, IsTuned};
-ghost use Rattle.trend_num.specs.Step.{state_at};
+ghost use Rattle.trend_num.specs.Step.{Stands};
 ghost use Rattle.plant_run.specs.Packing.{IsHistoryRefusal, first_full, history_of, most_rows};
 
 use plant_status::{Status, What};
@@ -22,7 +22,7 @@ pub(crate) fn core_of<L: Ledger>(
     requires name { blank.name ≡ L.name }
     requires parts { blank.parts ≡ L.parts }
     requires some { 0 < L.parts }
-    ensures state { IfOk result (λ core. core.state ≡ state_at tuning (history_of points.now)) }
+    ensures stands { IfOk result (λ core. Stands tuning (history_of points.now) core.state) }
     ensures room { IfOk result (λ core. first_full tuning (history_of points.now) ≡ None) }
     ensures refused { IfErr result (IsHistoryRefusal tuning (history_of points.now)) }
 {

@@ -4,13 +4,18 @@ ghost use Rattle.std.specs.Str.Lines.{lines, strip_carriage_return};
 ghost use Rattle.trend_num.specs.Numerals.{natural_upto};
 ghost use Rattle.trend_num.specs.Ranges.{InRange, last_time};
 ghost use Rattle.trend_num.specs.Rows.{point_of, point_of_line, points_of};
+ghost use Rattle.plant_run.specs.FirstPoints.{IsFirstPoint};
 ghost use Rattle.plant_run.specs.RowFaults.{IsRefusalOf};
 
+use crate::plain_lines::plain_line;
 use std::alloc::Global;
 use trend_num::{MAX_T, MAX_V, Point, Reason, numeral};
 
 /// What stands between the fields of a line.
 const COMMA: u8 = b',';
+
+/// How long a line is taken to be, where room is made for the points before they are read.
+const BYTES_A_LINE: usize = 16;
 
 /// Why rows are refused.
 #[derive(Clone, Copy, Debug, PartialEq, Eq)]
@@ -30,14 +35,15 @@ pub(crate) fn read_points(alloc: Global, bytes: &[u8], most: u64) -> Result<Vec<
     ensures few { IfOk result (λ v. vec_len v ≤ most) }
     ensures in_range { IfOk result (λ v. All InRange v.items) }
 {
-    let mut points = Vec::new(alloc);
+    let room = (bytes.len() / BYTES_A_LINE + 1).min(most as usize);
+    let mut points = Vec::with_capacity(alloc, room).map_err(|_| RowRefused::WantOfMemory)?;
     let mut rest = bytes;
-    while let Some((line, after)) = first_line(rest) {
+    while let Some((read, after)) = first_point(rest) {
         let rows = points.len() as u64;
         if rows == most {
             return Err(RowRefused::TooMany { rows: rows + 1 });
         }
-        let point = point_of_line(line).map_err(|reason| RowRefused::BadRow {
+        let point = read.map_err(|reason| RowRefused::BadRow {
             row: rows + 1,
             reason,
         })?;
@@ -45,6 +51,31 @@ pub(crate) fn read_points(alloc: Global, bytes: &[u8], most: u64) -> Result<Vec<
         rest = after;
     }
     Ok(points)
+}
+
+/// The point of a text's first line, or the first reason why it has none, and what follows the line. None where no line is
+/// left.
+#[inline(always)]
+fn first_point(text: &[u8]) -> Option<(Result<Point, Reason>, &[u8])>
+    ensures point { IfSome result (λ p. IsFirstPoint text.now p.1.now p.0) }
+    ensures shorter { IfSome result (λ p. length p.1.now < length text.now) }
+    ensures none { IfNone result (lines text.now ≡ []) }
+{
+    match plain_line(text) {
+        Some((point, after)) => Some((Ok(point), after)),
+        None => point_of_any_line(text),
+    }
+}
+
+/// The same, whatever the line.
+#[cold]
+fn point_of_any_line(text: &[u8]) -> Option<(Result<Point, Reason>, &[u8])>
+    ensures point { IfSome result (λ p. IsFirstPoint text.now p.1.now p.0) }
+    ensures shorter { IfSome result (λ p. length p.1.now < length text.now) }
+    ensures none { IfNone result (lines text.now ≡ []) }
+{
+    let (line, after) = first_line(text)?;
+    Some((point_of_line(line), after))
 }
 
 /// The first line of a text and what follows it, or none where no line is left.
@@ -178,6 +209,70 @@ mod tests {
             let read = read_points(rt.alloc(), text, 9);
             assert!(rt; read.is_err_and(|e| e == RowRefused::BadRow { row, reason }));
         }
+    }
+
+    /// Lines enough to follow one that is read eight bytes at a time.
+    const TAIL: &str = "8,8\n1700000000986,5005\n1700000001518,-4998\n";
+
+    fn after(rt: &HostRuntime, line: &str) -> Result<String, Fail> {
+        Ok(format!(in rt.alloc(); "{line}\n{TAIL}")?)
+    }
+
+    #[test]
+    fn reads_long_texts(rt: HostRuntime) -> Result<(), Fail> {
+        let table = [
+            ("1700000000986,5005", at(1_700_000_000_986, 5005)),
+            ("0,0", at(0, 0)),
+            ("12345678,-87654321", at(12_345_678, -87_654_321)),
+            ("123456789,-987654321", at(123_456_789, -987_654_321)),
+            (
+                "253402300799999,-1000000000000000",
+                at(253_402_300_799_999, -1_000_000_000_000_000),
+            ),
+            ("0000000000000007,0000000000000008", at(7, 8)),
+            ("00000000000000000007,00000000000000000008", at(7, 8)),
+            ("-0,-0", at(0, 0)),
+            ("7,8\r", at(7, 8)),
+        ];
+        for (line, first) in table {
+            let text = after(&rt, line)?;
+            let read = read_points(rt.alloc(), text.as_bytes(), 4)?;
+            let points = [
+                first,
+                at(8, 8),
+                at(1_700_000_000_986, 5005),
+                at(1_700_000_001_518, -4998),
+            ];
+            assert_eq!(rt; read.as_slice(), points.as_slice());
+        }
+        Ok(())
+    }
+
+    #[test]
+    fn refuses_rows_of_long_texts(rt: HostRuntime) -> Result<(), Fail> {
+        let table = [
+            ("", Reason::Fields),
+            ("12345678", Reason::Fields),
+            ("1,2,3", Reason::Fields),
+            (",1", Reason::Number),
+            ("1,", Reason::Number),
+            ("1,-", Reason::Number),
+            ("1,--2", Reason::Number),
+            ("1,2/", Reason::Number),
+            ("1,2:", Reason::Number),
+            ("1234567\u{80},2", Reason::Number),
+            ("1,2\r\r", Reason::Number),
+            ("253402300800000,0", Reason::Range),
+            ("-1,0", Reason::Range),
+            ("0,1000000000000001", Reason::Range),
+            ("0,-1000000000000001", Reason::Range),
+        ];
+        for (line, reason) in table {
+            let text = after(&rt, line)?;
+            let read = read_points(rt.alloc(), text.as_bytes(), 9);
+            assert!(rt; read.is_err_and(|e| e == RowRefused::BadRow { row: 1, reason }));
+        }
+        Ok(())
     }
 
     #[test]

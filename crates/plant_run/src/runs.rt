@@ -33,6 +33,7 @@ pub fn run<R: Threads + Wait + Sync, I: Source, O: Sink>(
 
     // When each other answer comes. Want of memory alone is free.
     ensures bad_words { (result ≡ Status.BadWords) ↔ (pack_tuning (map string_bytes words.now) ≡ None) }
+    ensures untouched { result ≡ Status.BadWords → input.new ≡ input.old }
     ensures bad_row { (file : FileId) (row : ℕ) (reason : Reason) → result ≡ Status.BadRow file row reason
         → IsRefused (map string_bytes words.now) (I.left input.old) (I.left input.new) result }
     ensures limit { (what : What) (number : ℕ) → result ≡ Status.Limit what number

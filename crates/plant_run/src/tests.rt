@@ -39,7 +39,7 @@ fn bad(row: u64, reason: Reason) -> Status {
 
 #[test]
 fn pack_prints_what_is_kept(rt: HostRuntime) -> Result<(), Fail> {
-    let rows: [(&str, &[u8], &str); 14] = [
+    let rows: [(&str, &[u8], &str); 15] = [
         ("pack 0 1000000 0 0 1000000", b"", ""),
         (
             "pack 0 1000000 0 0 1000000",
@@ -60,6 +60,11 @@ fn pack_prints_what_is_kept(rt: HostRuntime) -> Result<(), Fail> {
             "pack 0 1000000 1 0 1000000",
             b"0,0\n10,1\n20,0\n",
             "kept,0,0\nheld,20,0\n",
+        ),
+        (
+            "pack 0 1000000 1 0 1000000",
+            b"0,0\n1,1\n2,1\n3,2\n",
+            "kept,0,0\nheld,3,2\n",
         ),
         (
             "pack 2 1000000 0 0 1000000",
@@ -432,5 +437,36 @@ fn a_text_that_is_too_long_is_refused(rt: HostRuntime) -> Result<(), Fail> {
         out.bytes(),
         b"fault: limit file_bytes 67108865\n".as_slice()
     );
+    Ok(())
+}
+
+#[test]
+fn counts_have_limits(rt: HostRuntime) -> Result<(), Fail> {
+    let records = Status::Limit {
+        what: What::Records,
+        number: 1_048_575,
+    };
+    let rows = Status::Limit {
+        what: What::Rows,
+        number: 4_000_001,
+    };
+    let bad = Status::BadRow {
+        file: FileId::Input,
+        row: 1_048_577,
+        reason: Reason::Fields,
+    };
+    let table: [(usize, &[u8], Status, &[u8]); 4] = [
+        (1_048_575, b"", Status::Done, b"late,0,0\nheld,0,0\n"),
+        (1_048_576, b"", records, b"fault: limit records 1048575\n"),
+        (1_048_576, b"x\n", bad, b"fault: row input 1048577 fields\n"),
+        (4_000_001, b"", rows, b"fault: limit rows 4000001\n"),
+    ];
+    for (lines, last, want, end) in table {
+        let mut text = "0,0\n".repeat(rt.alloc(), lines)?.into_bytes();
+        text.extend_from_slice(last)?;
+        let (status, printed) = ran(&rt, rt.alloc(), FOUR_WORDS, text.as_slice(), &[], &[])?;
+        assert_eq!(rt; status, want, "{lines} lines");
+        assert!(rt; printed.ends_with(end), "{lines} lines");
+    }
     Ok(())
 }

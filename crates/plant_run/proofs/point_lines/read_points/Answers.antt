@@ -4,11 +4,11 @@ use Rattle.plant_run.proofs.point_lines.read_points.Goals as goal
 
 pub returns-clause-few : goal.returns-clause-few
 returns-clause-few c =
-    let read = read_all c.args.most c.args.bytes.now c.loop-line.rest.now c.loop-line.points.items c.loop-line.invariant c.in_default.ensures.none in
-    let few = points_of-few c.args.most c.args.bytes.now c.loop-line.points.items read in
-    omega (arith, c.loop-line.points.ok.0)
+    let read = read_all c.args.most c.args.bytes.now c.loop-read.rest.now c.loop-read.points.items c.loop-read.invariant c.in_default.ensures.none in
+    let few = points_of-few c.args.most c.args.bytes.now c.loop-read.points.items read in
+    omega (arith, c.loop-read.points.ok.0)
 
 pub returns-clause-in_range : goal.returns-clause-in_range
 returns-clause-in_range c =
-    let read = read_all c.args.most c.args.bytes.now c.loop-line.rest.now c.loop-line.points.items c.loop-line.invariant c.in_default.ensures.none in
-    points_of-in_range c.args.most c.args.bytes.now c.loop-line.points.items read
+    let read = read_all c.args.most c.args.bytes.now c.loop-read.rest.now c.loop-read.points.items c.loop-read.invariant c.in_default.ensures.none in
+    points_of-in_range c.args.most c.args.bytes.now c.loop-read.points.items read
