@@ -1,5 +1,5 @@
 //! A plain, unverified packer with two doors, with the words and the output of `historian pack`: what the program is
-//! measured against. Compiled with `rustc -O`.
+//! measured against. `run.py` compiles it.
 use std::io::{Read, Write};
 
 #[derive(Clone, Copy)]
@@ -61,13 +61,6 @@ fn number<N: std::str::FromStr>(digits: &[u8]) -> N {
     std::str::from_utf8(digits).ok().and_then(|text| text.parse().ok()).expect("a number")
 }
 
-fn points(bytes: &[u8]) -> impl Iterator<Item = Point> + '_ {
-    bytes.split(|b| *b == b'\n').filter(|line| !line.is_empty()).map(|line| {
-        let comma = line.iter().position(|b| *b == b',').expect("a comma");
-        Point { t: number(&line[..comma]), v: number(&line[comma + 1..]) }
-    })
-}
-
 fn main() {
     let words: Vec<u64> = std::env::args().skip(2).map(|w| w.parse().expect("a number")).collect();
     let tuning = Tuning { exc_dev: words[0], exc_max: words[1], comp_dev: words[2] as i128, comp_min: words[3], comp_max: words[4] };
@@ -75,7 +68,12 @@ fn main() {
     std::io::stdin().read_to_end(&mut bytes).expect("standard input");
     let mut archive = Archive::default();
     let mut pending: Option<Point> = None;
-    for p in points(&bytes) {
+    for line in bytes.split(|b| *b == b'\n') {
+        if line.is_empty() {
+            continue;
+        }
+        let comma = line.iter().position(|b| *b == b',').expect("a comma");
+        let p = Point { t: number(&line[..comma]), v: number(&line[comma + 1..]) };
         let Some(last) = archive.held else {
             archive.take_in_order(&tuning, p);
             continue;

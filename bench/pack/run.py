@@ -1,7 +1,7 @@
 #!/usr/bin/env python3
 """run.py: times `historian pack` beside a plain packer in Rust, on 60 MB of lines.
 
-Builds the program (`rt run`) and the plain one (`rustc -O`), makes three series from a fixed seed, runs the two in turn, five
+Builds the program (`rt run`) and the plain one (`rustc`, at its fastest), makes three series from a fixed seed, runs the two in turn, five
 times each, compares what they print, and tells medians, the ratio, and peak memory. It runs by hand, never as a test."""
 import os
 import random
@@ -16,6 +16,7 @@ ROOT = os.path.dirname(os.path.dirname(HERE))
 WORDS = ["pack", "2", "600000", "20", "0", "28800000"]
 SIZE = 60_000_000
 RUNS = 5
+FAST = ["rustc", "--edition", "2021", "-C", "opt-level=3", "-C", "panic=abort", "-C", "lto=fat", "-C", "codegen-units=16"]
 
 
 def write_lines(path, kind, size):
@@ -71,7 +72,7 @@ def main():
     proved = os.path.join(ROOT, "crates", "historian", "out", "historian")
     with tempfile.TemporaryDirectory() as folder:
         plain = os.path.join(folder, "plain")
-        subprocess.run(["rustc", "-O", "-o", plain, os.path.join(HERE, "plain.rs")], check=True)
+        subprocess.run(FAST + ["-o", plain, os.path.join(HERE, "plain.rs")], check=True)
         for kind in ["walk", "flat", "quarter"]:
             path = os.path.join(folder, kind)
             write_lines(path, kind, SIZE)
