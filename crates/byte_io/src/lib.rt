@@ -12,17 +12,17 @@
 //! are told to. [`StdSource`] and [`StdSink`] stand over std's readers and writers.
 #![tactic(auto)]
 
-mod failures;
+mod failure;
 mod memory;
-mod sinks;
-mod sources;
+mod sink;
+mod source;
 mod standard;
 mod transfer;
 
-pub use failures::{Failed, ReadNo, WriteFault};
+pub use failure::{Failed, ReadNo, WriteFault};
 pub use memory::{MemSink, MemSource};
-pub use sinks::Sink;
-pub use sources::Source;
+pub use sink::Sink;
+pub use source::Source;
 pub use standard::{StdSink, StdSource};
 pub use transfer::{read_all, write_all};
 

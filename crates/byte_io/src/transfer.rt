@@ -3,7 +3,7 @@ ghost use Rattle.std.specs.Prelude.{◌≡◌, ◌+◌, ◌≤◌, ℕ, length, 
 ghost use Rattle.std.specs.Io.KnownBytes.{Consumes, Appends, IsAtEnd};
 ghost use Rattle.byte_io.specs.Causes.{Rose};
 ghost use Rattle.byte_io.specs.Transfer.{ConsumesExactly, ConsumesAtMost, ConsumesSome, AppendsPrefix};
-ghost use Rattle.byte_io.specs.declared.failures.ReadNo.TheVariants.{ReadFault, TooLong, WantOfMemory};
+ghost use Rattle.byte_io.specs.declared.failure.ReadNo.TheVariants.{ReadFault, TooLong, WantOfMemory};
 
 use crate::{ReadNo, Sink, Source, WriteFault};
 use std::alloc::Global;

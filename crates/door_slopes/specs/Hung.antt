@@ -1,7 +1,7 @@
 -- Two doors at their hinge.
 use Rattle.std.specs.Prelude.{ℕ, ◌<◌, ◌≤◌, List}
-use Rattle.trend_num.specs.declared.points.Point.{Point}
-use Rattle.trend_num.specs.Content.{IsAmong}
+use Rattle.trend_num.specs.declared.point.Point.{Point}
+use Rattle.trend_model.specs.Content.{IsAmong}
 use Rattle.trend_num.specs.Ranges.{InRange, largest_value}
 
 -- a hinge, a deviation in value units, and an upper and a lower door

@@ -9,9 +9,9 @@
 //! memory, and nothing is refused.
 #![tactic(auto)]
 
-mod pairs;
+mod doors;
 #[cfg(test)]
 mod tests;
 
-pub use pairs::Doors;
+pub use doors::Doors;
 pub use trend_num::{Point, Steps};

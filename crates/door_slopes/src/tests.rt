@@ -1,3 +1,4 @@
+// Doors worked by hand.
 ghost use Rattle.std.specs.Prelude.{◌≡◌, ◌<◌, ◌↔◌, IsTrue};
 ghost use Rattle.trend_num.specs.Ranges.{InRange};
 

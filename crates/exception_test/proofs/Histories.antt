@@ -1,12 +1,12 @@
 -- A gate that follows the rules stands for one history after another.
 use Rattle.std.proofs.Common.{◌≡◌, List, ◌∷◌, ◌++◌, Option, sym, ap, ap₂, ◌∙◌}
-use Rattle.trend_num.specs.declared.points.Point.{Point}
-use Rattle.trend_num.specs.declared.records.Sending.{Sending}
-use Rattle.trend_num.specs.declared.tunings.Tuning.{Tuning}
-use Rattle.trend_num.specs.History.{sent, prior, pending}
-use Rattle.trend_num.specs.Step.{offered, gained}
-use Rattle.trend_num.proofs.Sent.{offered_follows}
-use Rattle.exception_test.specs.declared.gates.Gate.{Gate}
+use Rattle.trend_num.specs.declared.point.Point.{Point}
+use Rattle.trend_num.specs.declared.sending.Sending.{Sending}
+use Rattle.trend_num.specs.declared.tuning.Tuning.{Tuning}
+use Rattle.trend_model.specs.History.{sent, prior, pending}
+use Rattle.trend_model.specs.Step.{offered, gained}
+use Rattle.trend_model.proofs.Sent.{offered_follows}
+use Rattle.exception_test.specs.declared.gate.Gate.{Gate}
 use Rattle.exception_test.specs.Gate.{GateStands}
 
 -- what the rules do at a gate that stands for a history is what they do at that history's two places

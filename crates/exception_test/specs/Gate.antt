@@ -1,9 +1,9 @@
 -- A gate that stands for a history.
 use Rattle.std.specs.Prelude.{◌≡◌, List}
-use Rattle.trend_num.specs.declared.points.Point.{Point}
-use Rattle.trend_num.specs.declared.tunings.Tuning.{Tuning}
-use Rattle.trend_num.specs.History as history
-use Rattle.exception_test.specs.declared.gates.Gate.{Gate}
+use Rattle.trend_num.specs.declared.point.Point.{Point}
+use Rattle.trend_num.specs.declared.tuning.Tuning.{Tuning}
+use Rattle.trend_model.specs.History as history
+use Rattle.exception_test.specs.declared.gate.Gate.{Gate}
 
 -- the gate is where this history leaves it
 pub record GateStands (tuning : Tuning) (gate : Gate) (h : List Point) : Type 0 where

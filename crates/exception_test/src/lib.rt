@@ -6,7 +6,7 @@
 //! is answered, whatever its time, and no memory is taken.
 #![tactic(auto)]
 
-mod gates;
+mod gate;
 
-pub use gates::{Gate, Sent};
+pub use gate::{Gate, Sent};
 pub use trend_num::{Point, Sending, Tuning};

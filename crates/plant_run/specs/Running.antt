@@ -1,17 +1,17 @@
 -- What a run of the program has to do with its words, its input and its output.
 use Rattle.std.specs.Prelude.{◌≡◌, ℕ, ◌⊎◌, List, Option, None, Some}
 use Rattle.std.specs.Io.KnownBytes.{Appends}
-use Rattle.trend_num.specs.declared.points.Point.{Point}
-use Rattle.trend_num.specs.declared.tunings.Tuning.{Tuning}
-use Rattle.trend_num.specs.Walk.{records, held}
-use Rattle.trend_num.specs.Texts.{archive_text}
-use Rattle.trend_num.specs.Bound.{IsBounded}
-use Rattle.plant_status.specs.declared.statuses.Status.{Status}
-use Rattle.plant_status.specs.declared.statuses.Status.TheVariants.{Done, WriteFault}
+use Rattle.trend_num.specs.declared.point.Point.{Point}
+use Rattle.trend_num.specs.declared.tuning.Tuning.{Tuning}
+use Rattle.trend_model.specs.Walk.{records, held}
+use Rattle.point_text.specs.Texts.{archive_text}
+use Rattle.trend_model.specs.Bound.{IsBounded}
+use Rattle.plant_status.specs.declared.status.Status.{Status}
+use Rattle.plant_status.specs.declared.status.Status.TheVariants.{Done, WriteFault}
 use Rattle.byte_io.specs.Causes.{Rose}
 use Rattle.byte_io.specs.Transfer.{AppendsPrefix}
 use Rattle.plant_run.specs.Words.{pack_tuning}
-use Rattle.plant_run.specs.Packing.{IsRead, RefusesBytes, IsPrinted, first_full, history_of}
+use Rattle.pack_command.specs.Packing.{IsRead, RefusesBytes, IsPrinted, first_full, history_of}
 
 -- the words ask for `pack` with a tuning; all of the input was read, and the output gained the text of what its history keeps.
 -- That is near all values of the history.

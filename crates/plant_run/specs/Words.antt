@@ -1,7 +1,7 @@
 -- What the words of a command line mean.
 use Rattle.std.specs.Prelude.{ℕ, cond, List, [], ◌∷◌, Option, None, Some, codes, option_and_then}
 use Rattle.std.specs.Str.{bytes_eq}
-use Rattle.trend_num.specs.declared.tunings.Tuning.{Tuning}
+use Rattle.trend_num.specs.declared.tuning.Tuning.{Tuning}
 use Rattle.trend_num.specs.Numerals.{numeral, natural_upto}
 use Rattle.trend_num.specs.Ranges.{last_time, largest_value}
 

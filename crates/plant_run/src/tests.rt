@@ -1,3 +1,4 @@
+// Runs of the program over sources and sinks in memory.
 use crate::{FileId, Reason, Status, What, run};
 use byte_io::{Failed, MemSink, MemSource, Sink, Source};
 use std::alloc::{AllocError, Global};

@@ -1,8 +1,8 @@
 -- The exit code of each status, and the line that it prints.
 use Rattle.std.specs.Prelude.{ℕ, List, [], ◌++◌, codes}
 use Rattle.std.specs.Fmt.{decimal}
-use Rattle.plant_status.specs.declared.statuses.Status.{Status}
-use Rattle.plant_status.specs.declared.statuses.Status.TheVariants.{Done, BadWords, BadRow, ReadFault, WriteFault, Limit, WantOfMemory}
+use Rattle.plant_status.specs.declared.status.Status.{Status}
+use Rattle.plant_status.specs.declared.status.Status.TheVariants.{Done, BadWords, BadRow, ReadFault, WriteFault, Limit, WantOfMemory}
 use Rattle.plant_status.specs.Words.{file_text, reason_word, what_word}
 
 abbrev pub code_of : Status → ℕ

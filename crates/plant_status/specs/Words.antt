@@ -1,12 +1,12 @@
 -- The words that a line calls files, reasons and quantities by.
 use Rattle.std.specs.Prelude.{ℕ, ◌+◌, List, ◌++◌, codes}
 use Rattle.std.specs.Fmt.{decimal}
-use Rattle.trend_num.specs.declared.terms.Reason.{Reason}
-use Rattle.trend_num.specs.declared.terms.Reason.TheVariants.{Fields, Verb, Name, Number, Range}
-use Rattle.trend_num.specs.declared.terms.What.{What}
-use Rattle.trend_num.specs.declared.terms.What.TheVariants.{FileBytes, TextBytes, Rows, Tags, Collectors, Readers, Queries, Groups, Calcs, Records, StoreRecords, Copies, Cells}
-use Rattle.plant_status.specs.declared.files.FileId.{FileId}
-use Rattle.plant_status.specs.declared.files.FileId.TheVariants.{Input, Base, Plan, Collector, Reader}
+use Rattle.trend_num.specs.declared.refusal.Reason.{Reason}
+use Rattle.trend_num.specs.declared.refusal.Reason.TheVariants.{Fields, Verb, Name, Number, Range}
+use Rattle.trend_num.specs.declared.refusal.What.{What}
+use Rattle.trend_num.specs.declared.refusal.What.TheVariants.{FileBytes, TextBytes, Rows, Tags, Collectors, Readers, Queries, Groups, Calcs, Records, StoreRecords, Copies, Cells}
+use Rattle.plant_status.specs.declared.file.FileId.{FileId}
+use Rattle.plant_status.specs.declared.file.FileId.TheVariants.{Input, Base, Plan, Collector, Reader}
 
 -- files are numbered from 0 in a run, and from 1 in a line
 abbrev pub file_text : FileId → List ℕ

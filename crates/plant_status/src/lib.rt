@@ -6,14 +6,14 @@
 //! printed when there is no memory. Nothing here takes memory, and every status has its code and its line.
 #![tactic(auto)]
 
-mod files;
-mod lines;
-mod statuses;
+mod fault_line;
+mod file;
+mod status;
 #[cfg(test)]
 mod tests;
-mod words;
+mod word;
 
-pub use files::FileId;
-pub use lines::Line;
-pub use statuses::{Status, code, line};
+pub use fault_line::Line;
+pub use file::FileId;
+pub use status::{Status, code, line};
 pub use trend_num::{Reason, What};

@@ -1,3 +1,4 @@
+// Each status with its code and line.
 use super::*;
 
 /// Each status with its exit code and its line, written out by hand.

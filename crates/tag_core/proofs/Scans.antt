@@ -1,7 +1,7 @@
 -- Scans of a list of records, from its first on.
 use Rattle.std.proofs.Common.{◌≡◌, List, [], ◌∷◌, Option, None, Some, refl}
-use Rattle.trend_num.specs.declared.points.Point.{Point}
-use Rattle.trend_num.specs.Parts.{PointsRise, RisesAfter, last_point}
+use Rattle.trend_num.specs.declared.point.Point.{Point}
+use Rattle.trend_model.specs.Parts.{PointsRise, RisesAfter, last_point}
 
 -- the last of these points, or else that one
 abbrev pub last_or : Option Point → List Point → Option Point

@@ -4,8 +4,8 @@ use Rattle.std.specs.Ordering.{int_cmp, is_le}
 use Rattle.std.specs.declared.cmp.Ordering.{Ordering}
 use Rattle.std.proofs.lemmas.Bool.{false≢true}
 use Rattle.std.proofs.lemmas.Int.{ints}
-use Rattle.trend_num.specs.declared.points.Point.{Point}
-use Rattle.trend_num.specs.Doors.{climb, down, IsNotSteeper}
+use Rattle.trend_num.specs.declared.point.Point.{Point}
+use Rattle.trend_model.specs.Doors.{climb, down, IsNotSteeper}
 use Rattle.trend_num.specs.Lines.{compare_slopes}
 use Rattle.tag_core.specs.Fits.{LowerFits}
 

@@ -1,17 +1,17 @@
 -- A step keeps a state sound.
 use Rattle.std.proofs.Common.{◌≡◌, ℕ, ◌+◌, ◌<◌, ◌≤◌, Bool, true, false, cond, List, [], ◌∷◌, ◌++◌, length, Option, None, Some, IfSome, nat_le, refl, sym, ap, ◌∙◌, arith, subst, leb-false, length-append, append_assoc, append-nil}
-use Rattle.trend_num.specs.declared.points.Point.{Point}
-use Rattle.trend_num.specs.declared.records.Rec.{Rec}
-use Rattle.trend_num.specs.declared.records.Sending.{Sending}
-use Rattle.trend_num.specs.declared.records.Sending.TheVariants.{InOrder, Late}
-use Rattle.trend_num.specs.declared.records.TheConstants.{MAX_RECORDS}
-use Rattle.trend_num.specs.declared.tunings.Tuning.{Tuning}
-use Rattle.trend_num.specs.Doors.{upper_after, lower_after}
-use Rattle.trend_num.specs.Parts.{EachRec, IsRecInRange}
+use Rattle.trend_num.specs.declared.point.Point.{Point}
+use Rattle.trend_num.specs.declared.archive.Rec.{Rec}
+use Rattle.trend_num.specs.declared.sending.Sending.{Sending}
+use Rattle.trend_num.specs.declared.sending.Sending.TheVariants.{InOrder, Late}
+use Rattle.trend_num.specs.declared.archive.TheConstants.{MAX_RECORDS}
+use Rattle.trend_num.specs.declared.tuning.Tuning.{Tuning}
+use Rattle.trend_model.specs.Doors.{upper_after, lower_after}
+use Rattle.trend_model.specs.Parts.{EachRec, IsRecInRange}
 use Rattle.trend_num.specs.Ranges.{InRange}
-use Rattle.trend_num.specs.History.{is_far}
-use Rattle.trend_num.specs.Walk.{kept, late}
-use Rattle.trend_num.specs.Step.{Archive, State, Offer, offered, gained, joins, passes, archive_in_order, archive_on, archived, archive_in, step}
+use Rattle.trend_model.specs.History.{is_far}
+use Rattle.trend_model.specs.Walk.{kept, late}
+use Rattle.trend_model.specs.Step.{Archive, State, Offer, offered, gained, joins, passes, archive_in_order, archive_on, archived, archive_in, step}
 use Rattle.tag_core.specs.Sound.{IsBetween, AreBetween, AreInPlace, IsNext, IsNextSending, AreNext, IsOrderly, IsSound}
 
 -- ---- one more value

@@ -1,12 +1,12 @@
 -- What one more value changes in a core.
 use Rattle.std.proofs.Common.{◌≡◌, ℕ, ◌+◌, ◌≤◌, List, ◌∷◌, ◌++◌, Option, None, Some, length, refl, ap, ◌∙◌, arith, length-append}
-use Rattle.trend_num.specs.declared.points.Point.{Point}
-use Rattle.trend_num.specs.declared.records.Rec.{Rec}
-use Rattle.trend_num.specs.declared.records.Sending.{Sending}
-use Rattle.trend_num.specs.declared.tunings.Tuning.{Tuning}
+use Rattle.trend_num.specs.declared.point.Point.{Point}
+use Rattle.trend_num.specs.declared.archive.Rec.{Rec}
+use Rattle.trend_num.specs.declared.sending.Sending.{Sending}
+use Rattle.trend_num.specs.declared.tuning.Tuning.{Tuning}
 use Rattle.trend_num.specs.Ranges.{InRange}
-use Rattle.trend_num.specs.Step.{Archive, State, Stands, pushed_out, offered, gained, archived, archive_in, state_with, step}
-use Rattle.trend_law.proofs.StepLaw.{step_stands}
+use Rattle.trend_model.specs.Step.{Archive, State, Stands, pushed_out, offered, gained, archived, archive_in, state_with, step}
+use Rattle.trend_model.proofs.StepLaw.{step_stands}
 use Rattle.tag_core.specs.Core.{Compressed, archive_with, compressed_after, spare_of}
 use Rattle.tag_core.specs.Sound.{AreNext, IsOrderly, IsSound}
 use Rattle.tag_core.proofs.Soundness.{orderly_archived, grows_archived, gained_few, step_fits}

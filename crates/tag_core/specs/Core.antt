@@ -1,10 +1,10 @@
 -- What a tag's core shows.
 use Rattle.std.specs.Prelude.{◌≡◌, ℕ, ◌-◌, List, Option, None, Some, length}
-use Rattle.trend_num.specs.declared.points.Point.{Point}
-use Rattle.trend_num.specs.declared.records.Rec.{Rec}
-use Rattle.trend_num.specs.declared.records.Sending.{Sending}
-use Rattle.trend_num.specs.declared.tunings.Tuning.{Tuning}
-use Rattle.trend_num.specs.Step.{Archive, State, archived}
+use Rattle.trend_num.specs.declared.point.Point.{Point}
+use Rattle.trend_num.specs.declared.archive.Rec.{Rec}
+use Rattle.trend_num.specs.declared.sending.Sending.{Sending}
+use Rattle.trend_num.specs.declared.tuning.Tuning.{Tuning}
+use Rattle.trend_model.specs.Step.{Archive, State, archived}
 use Rattle.door_slopes.specs.Hung.{Hung}
 
 -- the state of a tag, and for how many more records there is memory

@@ -1,7 +1,7 @@
 -- Each door of a summary, by its slopes.
 use Rattle.std.specs.Prelude.{ℕ, pos}
-use Rattle.trend_num.specs.declared.points.Point.{Point}
-use Rattle.trend_num.specs.Doors.{IsNotSteeper, down}
+use Rattle.trend_num.specs.declared.point.Point.{Point}
+use Rattle.trend_model.specs.Doors.{IsNotSteeper, down}
 
 -- the line to the held point passes under the raised upper door, which is not further open than there
 pub record UpperFits (d : ℕ) (a q u : Point) : Type 0 where

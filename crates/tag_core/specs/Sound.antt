@@ -1,13 +1,13 @@
 -- A sound state: its points are in range, and in order of time.
 use Rattle.std.specs.Prelude.{◌≡◌, ◌<◌, ◌≤◌, List, [], ◌∷◌, Option, None, Some, IfSome, length}
-use Rattle.trend_num.specs.declared.points.Point.{Point}
-use Rattle.trend_num.specs.declared.records.Sending.{Sending}
-use Rattle.trend_num.specs.declared.records.Sending.TheVariants.{InOrder, Late}
-use Rattle.trend_num.specs.declared.records.TheConstants.{MAX_RECORDS}
-use Rattle.trend_num.specs.declared.tunings.Tuning.{Tuning}
-use Rattle.trend_num.specs.Parts.{EachRec, IsRecInRange}
+use Rattle.trend_num.specs.declared.point.Point.{Point}
+use Rattle.trend_num.specs.declared.sending.Sending.{Sending}
+use Rattle.trend_num.specs.declared.sending.Sending.TheVariants.{InOrder, Late}
+use Rattle.trend_num.specs.declared.archive.TheConstants.{MAX_RECORDS}
+use Rattle.trend_num.specs.declared.tuning.Tuning.{Tuning}
+use Rattle.trend_model.specs.Parts.{EachRec, IsRecInRange}
 use Rattle.trend_num.specs.Ranges.{InRange, IsTuned}
-use Rattle.trend_num.specs.Step.{Archive, State, archive_in, archived}
+use Rattle.trend_model.specs.Step.{Archive, State, archive_in, archived}
 
 -- x is in range, later than a, and not later than q
 pub record IsBetween (a q x : Point) : Type 0 where

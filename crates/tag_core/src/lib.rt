@@ -8,12 +8,12 @@
 //! and none after that; it refuses a value only where the records could become too many.
 #![tactic(auto)]
 
-mod compression;
-mod parts;
-mod tags;
+mod compressor;
+mod restart;
+mod tag;
 
-pub use parts::parts_ok;
-pub use tags::{Full, TagCore, Took};
+pub use restart::parts_ok;
+pub use tag::{Full, TagCore, Took};
 pub use trend_num::{Point, Rec, Steps, Summary, Tuning, WantOfMemory};
 
 #[cfg(test)]

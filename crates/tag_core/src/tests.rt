@@ -1,3 +1,4 @@
+// Cores over whole histories, beside a plain one that keeps all values since the hinge.
 ghost use Rattle.std.specs.Prelude.{◌≡◌, ◌<◌};
 
 use super::*;

@@ -2,12 +2,3 @@ pub mod Ranges
 pub mod Lines
 pub mod Names
 pub mod Numerals
-pub mod History
-pub mod Walk
-pub mod Content
-pub mod Bound
-pub mod Doors
-pub mod Step
-pub mod Parts
-pub mod Rows
-pub mod Texts

@@ -1,7 +1,7 @@
 -- The ranges of times, values and tunings.
 use Rattle.std.specs.Prelude.{ℕ, ◌≤◌, unsigned_abs}
-use Rattle.trend_num.specs.declared.points.Point.{Point}
-use Rattle.trend_num.specs.declared.tunings.Tuning.{Tuning}
+use Rattle.trend_num.specs.declared.point.Point.{Point}
+use Rattle.trend_num.specs.declared.tuning.Tuning.{Tuning}
 
 -- the last millisecond of the year 9999, from 1970
 abbrev pub last_time : ℕ

@@ -1,29 +1,33 @@
-//! Numbers, names and definitions of a plant historian.
+//! Numbers, names and types of a plant historian.
 //!
-//! The types that every layer shares (points, records, tunings, names), exact arithmetic on lines and slopes,
-//! and in `specs/` the definitions that all contracts cite: which values of a history an exception test sends,
-//! how a swinging-door compressor keeps records of them, what those records read as, and how near they lie to
-//! the values. Nothing here takes memory; what is no name and no numeral is answered None.
+//! The types that every layer shares (points, records, tunings, names), and exact arithmetic on lines and slopes. The
+//! definitions in `specs/` are those of ranges, lines, names and numerals; what a tag's archive is stands in
+//! `trend_model`. Each call equals its formula. Nothing here takes memory; what is no name and no numeral is answered
+//! None.
 #![tactic(auto)]
 
+mod archive;
 mod counter;
-mod fractions;
-mod names;
-mod numerals;
-mod points;
-mod records;
-mod slopes;
-mod terms;
+mod digits;
+mod fraction;
+mod measure;
+mod name;
+mod point;
+mod refusal;
+mod sending;
+mod slope;
 #[cfg(test)]
 mod tests;
-mod tunings;
+mod tuning;
 
+pub use archive::{Kind, MAX_RECORDS, Rec, Summary};
 pub use counter::Steps;
-pub use fractions::{Frac, line_at, round_half_up};
-pub use names::{Name, name_from};
-pub use numerals::numeral;
-pub use points::{MAX_T, MAX_V, Point, in_range};
-pub use records::{Kind, MAX_RECORDS, Rec, Sending, Summary};
-pub use slopes::{deviates, slope_cmp};
-pub use terms::{Measure, Reason, WantOfMemory, What};
-pub use tunings::{Tuning, tuning_ok};
+pub use digits::numeral;
+pub use fraction::{Frac, line_at, round_half_up};
+pub use measure::Measure;
+pub use name::{Name, name_from};
+pub use point::{MAX_T, MAX_V, Point, in_range};
+pub use refusal::{Reason, WantOfMemory, What};
+pub use sending::Sending;
+pub use slope::{deviates, slope_cmp};
+pub use tuning::{MAX_DEV, Tuning, tuning_ok};

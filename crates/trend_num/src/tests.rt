@@ -1,3 +1,4 @@
+// Numbers, names and comparisons at their edges.
 ghost use Rattle.std.specs.Prelude.{◌≡◌, ◌<◌};
 
 use crate::{

@@ -1,0 +1,205 @@
+// The gate of a tag's exception test.
+ghost use Rattle.std.specs.Prelude.{◌≡◌, List, [], ◌∷◌, ◌++◌};
+ghost use Rattle.trend_num.specs.declared.point.Point.{Point};
+ghost use Rattle.trend_num.specs.declared.tuning.Tuning.{Tuning};
+ghost use Rattle.trend_model.specs.History.{is_far, sent};
+ghost use Rattle.trend_model.specs.Step.{offered, offered_in_order, gained};
+ghost use Rattle.exception_test.specs.Gate.{GateStands};
+
+use trend_num::{Point, Sending, Tuning};
+
+/// What an exception test keeps of a tag.
+#[derive(Clone, Copy, Debug, PartialEq, Eq)]
+pub struct Gate {
+    /// The last value sent in order.
+    pub last: Option<Point>,
+    /// The newest value in order after it, which was not sent.
+    pub pending: Option<Point>,
+}
+
+/// What the gate hands on at one offer, in this order.
+#[derive(Clone, Copy, Debug, PartialEq, Eq)]
+pub struct Sent {
+    /// A value that was pending, and is now sent in order.
+    pub first: Option<Point>,
+    /// The value that was offered, where it is sent.
+    pub second: Option<Sending>,
+}
+
+impl Gate {
+    /// A gate before any value.
+    pub fn new() -> Gate
+        ensures last { result.last ≡ None }
+        ensures pending { result.pending ≡ None }
+        ensures stands { (tuning : Tuning) → GateStands tuning result [] }
+    {
+        Gate {
+            last: None,
+            pending: None,
+        }
+    }
+
+    /// Takes one raw value, and hands on what is now sent (exception reporting, by the attributes ExcDev and ExcMax of
+    /// the PI manuals).
+    ///
+    /// The first value is sent. A value that is not after the newest one is late: the pending value is sent in order,
+    /// and the late one as it comes. A value in order that is far from the last one sent is sent after the pending
+    /// one, and any other becomes the pending value.
+    pub fn offer(&mut self, tuning: &Tuning, p: Point) -> Sent
+        // By the rules, whatever the gate holds.
+        ensures last { self.new.last ≡ (offered tuning.now self.old.last self.old.pending p).last }
+        ensures pending { self.new.pending ≡ (offered tuning.now self.old.last self.old.pending p).pending }
+        ensures first { result.first ≡ (offered tuning.now self.old.last self.old.pending p).first }
+        ensures second { result.second ≡ (offered tuning.now self.old.last self.old.pending p).second }
+
+        // Over any history.
+        ensures stands { (h : List Point) → GateStands tuning.now self.old h → GateStands tuning.now self.new (p ∷ h) }
+        ensures sends { (h : List Point) → GateStands tuning.now self.old h
+            → sent tuning.now (p ∷ h) ≡ gained result.first result.second ++ sent tuning.now h }
+    {
+        let (gate, sent) = self.after(tuning, p);
+        *self = gate;
+        sent
+    }
+
+    /// The gate after one more value, and what it hands on.
+    fn after(self, tuning: &Tuning, p: Point) -> (Gate, Sent)
+        ensures last { result.0.last ≡ (offered tuning.now self.last self.pending p).last }
+        ensures pending { result.0.pending ≡ (offered tuning.now self.last self.pending p).pending }
+        ensures first { result.1.first ≡ (offered tuning.now self.last self.pending p).first }
+        ensures second { result.1.second ≡ (offered tuning.now self.last self.pending p).second }
+    {
+        match (self.last, self.pending) {
+            (None, pending) => (
+                Gate {
+                    last: Some(p),
+                    pending,
+                },
+                in_order(None, p),
+            ),
+            (Some(last), None) if p.t <= last.t => (self, late(None, p)),
+            (Some(_), Some(waiting)) if p.t <= waiting.t => (
+                sent_last(waiting),
+                late(Some(waiting), p),
+            ),
+            (Some(last), _) => self.after_in_order(tuning, last, p),
+        }
+    }
+
+    /// The gate after one more value in order, and what it hands on.
+    fn after_in_order(self, tuning: &Tuning, last: Point, p: Point) -> (Gate, Sent)
+        requires { self.last ≡ Some last }
+        ensures last { result.0.last ≡ (offered_in_order tuning.now last self.pending p).last }
+        ensures pending { result.0.pending ≡ (offered_in_order tuning.now last self.pending p).pending }
+        ensures first { result.1.first ≡ (offered_in_order tuning.now last self.pending p).first }
+        ensures second { result.1.second ≡ (offered_in_order tuning.now last self.pending p).second }
+    {
+        if is_far(tuning, last, p) {
+            (sent_last(p), in_order(self.pending, p))
+        } else {
+            (
+                Gate {
+                    last: self.last,
+                    pending: Some(p),
+                },
+                Sent {
+                    first: None,
+                    second: None,
+                },
+            )
+        }
+    }
+}
+
+/// A gate whose last value is this one, with nothing pending.
+fn sent_last(p: Point) -> Gate
+    ensures { result ≡ record { last = Some p; pending = None } }
+{
+    Gate {
+        last: Some(p),
+        pending: None,
+    }
+}
+
+/// The value is sent in order, after the one that was pending.
+fn in_order(first: Option<Point>, p: Point) -> Sent
+    ensures { result ≡ record { first = first; second = Some (Sending.InOrder p) } }
+{
+    Sent {
+        first,
+        second: Some(Sending::InOrder(p)),
+    }
+}
+
+/// The value is sent late, after the one that was pending.
+fn late(first: Option<Point>, p: Point) -> Sent
+    ensures { result ≡ record { first = first; second = Some (Sending.Late p) } }
+{
+    Sent {
+        first,
+        second: Some(Sending::Late(p)),
+    }
+}
+
+/// Whether the value differs from the last one sent by more than ExcDev, or comes ExcMax after it or later.
+fn is_far(tuning: &Tuning, last: Point, p: Point) -> bool
+    ensures { result ≡ is_far tuning.now last p }
+{
+    p.v.abs_diff(last.v) > tuning.exc_dev || p.t.saturating_sub(last.t) >= tuning.exc_max
+}
+
+#[cfg(test)]
+mod tests {
+    use super::*;
+
+    const TUNING: Tuning = Tuning {
+        exc_dev: 5,
+        exc_max: 100,
+        comp_dev: 0,
+        comp_min: 0,
+        comp_max: 0,
+    };
+
+    fn at(t: u64, v: i64) -> Point {
+        Point { t, v }
+    }
+
+    #[test]
+    fn offers_in_turn(rt: HostRuntime) {
+        let rows = [
+            // the first value
+            (at(10, 0), None, Some(Sending::InOrder(at(10, 0)))),
+            // as much as ExcDev is not far
+            (at(20, 5), None, None),
+            // far, after the pending value
+            (
+                at(30, -6),
+                Some(at(20, 5)),
+                Some(Sending::InOrder(at(30, -6))),
+            ),
+            // late with nothing pending
+            (at(30, 9), None, Some(Sending::Late(at(30, 9)))),
+            (at(40, -8), None, None),
+            // a newer value takes the place of the pending one
+            (at(50, -9), None, None),
+            // late with a value pending
+            (at(45, 9), Some(at(50, -9)), Some(Sending::Late(at(45, 9)))),
+            (at(149, -9), None, None),
+            // as long as ExcMax is far
+            (
+                at(150, -9),
+                Some(at(149, -9)),
+                Some(Sending::InOrder(at(150, -9))),
+            ),
+        ];
+        let mut gate = Gate::new();
+        for (p, first, second) in rows {
+            assert_eq!(rt;
+                gate.offer(&TUNING, p),
+                Sent { first, second },
+                "at {}",
+                p.t
+            );
+        }
+    }
+}

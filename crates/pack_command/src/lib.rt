@@ -1,0 +1,12 @@
+//! The command `pack`, without a runtime, so that it is proved to return.
+//!
+//! `pack` reads points from a source to its end, takes them into the core of one tag, and gives the text of the records and
+//! the held point of their history, or the status of what it refuses: a read that failed, more bytes or lines than there
+//! may be, the first bad line, a take that finds no room.
+#![tactic(auto)]
+
+mod input;
+mod packer;
+
+pub use packer::pack;
+pub use plant_status::{FileId, Reason, Status, What};

@@ -1,5 +1,0 @@
-use Rattle.core.proofs.slice.Flagged.{flags_from_ten}
-use Rattle.plant_run.proofs.plain_lines.flags_from_ten.Goals as goal
-
-pub returns : goal.returns
-returns c = flags_from_ten c.args.word

@@ -1,0 +1,115 @@
+// The words of a command line.
+ghost use Rattle.std.specs.Prelude.{◌≡◌, ◌≤◌, map, string_bytes, IfSome};
+ghost use Rattle.trend_num.specs.Ranges.{IsTuned};
+ghost use Rattle.plant_run.specs.Words.{number_upto, tuning_of, pack_tuning};
+
+use trend_num::{MAX_DEV, MAX_T, Tuning, numeral};
+
+/// The tuning of the words `pack EXCDEV EXCMAX COMPDEV COMPMIN COMPMAX`, or none where the words are no form.
+pub(crate) fn pack_tuning(words: &[String]) -> Option<Tuning>
+    ensures value { result ≡ pack_tuning (map string_bytes words.now) }
+    ensures tuned { IfSome result IsTuned }
+{
+    match words {
+        [verb, exc_dev, exc_max, comp_dev, comp_min, comp_max] if verb.as_str() == "pack" =>
+            tuning_of(
+                exc_dev.as_bytes(),
+                exc_max.as_bytes(),
+                comp_dev.as_bytes(),
+                comp_min.as_bytes(),
+                comp_max.as_bytes(),
+            ),
+        _ => None,
+    }
+}
+
+/// The tuning of five numerals, or none where one is no numeral or out of its range.
+#[tactic(auto, unfolding(crate::specs::Words::tuning_of))]
+fn tuning_of(
+    exc_dev: &[u8],
+    exc_max: &[u8],
+    comp_dev: &[u8],
+    comp_min: &[u8],
+    comp_max: &[u8],
+) -> Option<Tuning>
+    ensures value { result ≡ tuning_of exc_dev.now exc_max.now comp_dev.now comp_min.now comp_max.now }
+    ensures tuned { IfSome result IsTuned }
+{
+    Some(Tuning {
+        exc_dev: number_upto(MAX_DEV, exc_dev)?,
+        exc_max: number_upto(MAX_T, exc_max)?,
+        comp_dev: number_upto(MAX_DEV, comp_dev)?,
+        comp_min: number_upto(MAX_T, comp_min)?,
+        comp_max: number_upto(MAX_T, comp_max)?,
+    })
+}
+
+/// The number of a numeral, from 0 up to `most`.
+fn number_upto(most: u64, word: &[u8]) -> Option<u64>
+    ensures value { result ≡ number_upto most word.now }
+    ensures small { IfSome result (λ n. n ≤ most) }
+{
+    let n = numeral(word)?;
+    if 0 <= n && n <= i128::from(most) {
+        Some(n as u64)
+    } else {
+        None
+    }
+}
+
+#[cfg(test)]
+mod tests {
+    use super::*;
+    use std::alloc::{AllocError, Global};
+    use std::test::Fail;
+
+    fn words_of(alloc: Global, line: &str) -> Result<Vec<String>, AllocError> {
+        line.split(' ')
+            .map(|word| String::from_str(alloc, word))
+            .try_collect(alloc)
+    }
+
+    #[test]
+    fn reads_tunings(rt: HostRuntime) -> Result<(), Fail> {
+        let largest = Tuning {
+            exc_dev: 1_000_000_000_000_000,
+            exc_max: 253_402_300_799_999,
+            comp_dev: 1_000_000_000_000_000,
+            comp_min: 253_402_300_799_999,
+            comp_max: 253_402_300_799_999,
+        };
+        let small = Tuning {
+            exc_dev: 0,
+            exc_max: 60,
+            comp_dev: 2,
+            comp_min: 0,
+            comp_max: 9,
+        };
+        let table = [
+            ("pack -0 00060 2 0 00000000000000000009", Some(small)),
+            (
+                "pack 1000000000000000 253402300799999 1000000000000000 253402300799999 253402300799999",
+                Some(largest),
+            ),
+            ("pack 1000000000000001 0 0 0 0", None),
+            ("pack 0 253402300800000 0 0 0", None),
+            ("pack 0 0 1000000000000001 0 0", None),
+            ("pack 0 0 0 253402300800000 0", None),
+            ("pack 0 0 0 0 253402300800000", None),
+            ("pack 0 0 0 0 -1", None),
+            ("pack 0 0 0 0 000000000000000000000", None),
+            ("pack 0 0 0 0", None),
+            ("pack 0 0 0 0 0 0", None),
+            ("pack 0 0 0 0 ", None),
+            ("Pack 0 0 0 0 0", None),
+            ("--help", None),
+            ("", None),
+        ];
+        for (line, tuning) in table {
+            let words = words_of(rt.alloc(), line)?;
+            assert_eq!(rt; pack_tuning(words.as_slice()), tuning, "{line}");
+        }
+        assert_eq!(rt; pack_tuning(&[]), None);
+        Ok(())
+    }
+}

@@ -1,0 +1,116 @@
+// A line in an array of its own, and the pieces that it is made of.
+ghost use Rattle.std.specs.Prelude.{◌≡◌, ◌+◌, ◌<◌, ◌≤◌, [], ◌++◌, length, codes};
+ghost use Rattle.std.specs.Fmt.{decimal};
+ghost use Rattle.plant_status.specs.Line.{IsPrintable, IsLine};
+ghost use Rattle.plant_status.specs.Words.{file_text};
+
+use crate::file::FileId;
+use arrayvec::ArrayString;
+use itoa::Buffer;
+use std::marker::Model;
+
+/// What a status prints: at most 120 bytes, which lie in the value itself.
+#[derive(Debug, Drop)]
+pub struct Line {
+    text: ArrayString<120>,
+}
+
+impl Model for Line {
+    ghost use Rattle.std.specs.Prelude.{ℕ, List, ◌≤◌, length};
+
+    ghost Value = { List ℕ };
+
+    ghost view = { λ line. line.text.bytes };
+
+    ghost invariant = { λ line. length line.text.bytes ≤ 120 };
+}
+
+#[tactic(auto, using(crate::proofs::Printable::printable))]
+impl Line {
+    /// The bytes of the line, its line feed among them.
+    pub fn bytes(&self) -> &[u8]
+        ensures same { result.now ≡ self.now }
+        ensures short { length result.now ≤ 120 }
+    {
+        self.text.as_str().as_bytes()
+    }
+
+    /// The empty line.
+    pub(crate) fn empty() -> Self
+        ensures { result ≡ [] }
+    {
+        Line {
+            text: ArrayString::new(),
+        }
+    }
+
+    /// The start of a line that tells of a fault.
+    pub(crate) fn fault(kind: &str) -> Self
+        requires { length kind.now ≤ 20 }
+        ensures text { result ≡ codes "fault: " ++ kind.now }
+        ensures short { length result ≤ 27 }
+        ensures printable { IsPrintable kind.now → IsPrintable result }
+    {
+        let mut line = Line::empty();
+        line.push("fault: ");
+        line.push(kind);
+        line
+    }
+
+    /// The line with a space and a word after it.
+    pub(crate) fn word(mut self, word: &str) -> Self
+        requires { length self + length word.now < 120 }
+        ensures text { result ≡ self ++ codes " " ++ word.now }
+        ensures len { length result ≡ length self + 1 + length word.now }
+        ensures printable { IsPrintable self → IsPrintable word.now → IsPrintable result }
+    {
+        self.push(" ");
+        self.push(word);
+        self
+    }
+
+    /// The line with a space and a number after it.
+    pub(crate) fn number(self, number: u64) -> Self
+        requires { length self + 20 < 120 }
+        ensures text { result ≡ self ++ codes " " ++ decimal number }
+        ensures short { length result ≤ length self + 21 }
+        ensures printable { IsPrintable self → IsPrintable result }
+    {
+        let mut digits = Buffer::new();
+        self.word(digits.format(number))
+    }
+
+    /// The line with a space and the name of a file after it.
+    pub(crate) fn file(self, file: FileId) -> Self
+        requires { length self + 31 < 120 }
+        ensures text { result ≡ self ++ codes " " ++ file_text file }
+        ensures short { length result ≤ length self + 31 }
+        ensures printable { IsPrintable self → IsPrintable result }
+    {
+        match file {
+            FileId::Input => self.word("input"),
+            FileId::Base => self.word("base"),
+            FileId::Plan => self.word("plan"),
+            FileId::Collector(number) => self.word("collector").number(u64::from(number) + 1),
+            FileId::Reader(number) => self.word("reader").number(u64::from(number) + 1),
+        }
+    }
+
+    /// The line, ended by its line feed.
+    pub(crate) fn end(mut self) -> Self
+        requires { length self < 120 }
+        ensures text { result ≡ self ++ codes "\n" }
+        ensures one_line { IsPrintable self → IsLine result }
+    {
+        self.push("\n");
+        self
+    }
+
+    /// Appends a text.
+    fn push(&mut self, text: &str)
+        requires { length self.old + length text.now ≤ 120 }
+        ensures { self.new ≡ self.old ++ text.now }
+    {
+        self.text.push_str(text);
+    }
+}

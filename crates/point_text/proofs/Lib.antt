@@ -1,0 +1,4 @@
+pub mod Splits
+pub mod Points
+pub mod DigitRuns
+pub mod PlainLines

@@ -1,0 +1,4 @@
+pub mod Rows
+pub mod RowFaults
+pub mod FirstPoints
+pub mod Texts

@@ -1,0 +1,133 @@
+// A line as most are, read in one pass, eight digits at a time.
+ghost use Rattle.std.specs.Prelude.{◌≡◌, ℕ, ◌+◌, ◌-◌, ◌*◌, ◌%◌, ◌^◌, ◌<◌, ◌≤◌, true, length, take, drop, nat_le, slice_range, List, IfSome};
+ghost use Rattle.std.specs.Char.{is_ascii_digit};
+ghost use Rattle.std.specs.List.{list_all};
+ghost use Rattle.std.specs.Float.Numeral.{digits_len};
+ghost use Rattle.core.specs.Dec2flt.Digits.{IsEightBytes, IsEightDigits};
+ghost use Rattle.core.specs.Int.Digits.{number_from_digits};
+ghost use Rattle.core.specs.Slice.Scan.{digits_from, flag_word, little_endian};
+ghost use Rattle.core.specs.Str.Parse.{digits_value as ascii_value};
+ghost use lib.Lanes.{number_l};
+ghost use Rattle.trend_num.specs.Numerals.{digits_value};
+ghost use Rattle.point_text.specs.FirstPoints.{IsFirstPoint};
+
+use core::dec2flt::ten_to;
+use trend_num::{MAX_T, MAX_V, Point};
+
+/// The most digits of a number in a plain line.
+const PLAIN_DIGITS: usize = 16;
+
+/// The most bytes of a plain line: two numbers, a comma, a sign and a line feed.
+const PLAIN_BYTES: usize = 2 * PLAIN_DIGITS + 3;
+
+/// The point of a plain line that a text begins with, and what follows the line. Plain is a line whose numbers are in range
+/// and of 1 to 16 digits, with a `-` at most before the value, and a line feed after it. None says nothing of the text.
+#[inline(always)]
+pub(crate) fn plain_line(text: &[u8]) -> Option<(Point, &[u8])>
+    ensures point { IfSome result (λ p. IsFirstPoint text.now p.1.now (Ok p.0)) }
+    ensures shorter { IfSome result (λ p. length p.1.now < length text.now) }
+{
+    if text.len() < PLAIN_BYTES {
+        return None;
+    }
+    let (t, comma) = digits(text, 0);
+    if comma == 0 || text[comma] != b',' || t > MAX_T {
+        return None;
+    }
+    let sign = comma + 1;
+    let negative = text[sign] == b'-';
+    let from = sign + usize::from(negative);
+    let (size, end) = digits(text, from);
+    if end == from || text[end] != b'\n' || size > MAX_V as u64 {
+        return None;
+    }
+    let amount = size as i64;
+    let v = if negative { -amount } else { amount };
+    Some((Point { t, v }, &text[end + 1..]))
+}
+
+/// The number that the digits from an index on spell, and the index after them. Digits past the sixteenth are left.
+#[inline(always)]
+fn digits(bytes: &[u8], at: usize) -> (u64, usize)
+    requires { at + PLAIN_DIGITS ≤ length bytes.now }
+    ensures end { result.1 ≡ at + digits_len (slice_range bytes.now at (at + PLAIN_DIGITS)) }
+    ensures within { result.1 ≤ at + PLAIN_DIGITS }
+    ensures digits { list_all is_ascii_digit (slice_range bytes.now at result.1) ≡ true }
+    ensures value { result.0 ≡ digits_value (slice_range bytes.now at result.1) }
+{
+    let (count, high) = digits_of_word(word_at(bytes, at));
+    if count < 8 {
+        return (high, at + count);
+    }
+    let (more, low) = digits_of_word(word_at(bytes, at + 8));
+    (
+        high.wrapping_mul(ten_to(more as u64)).wrapping_add(low),
+        at + 8 + more,
+    )
+}
+
+/// How many digits a word's bytes begin with, and the number that they spell.
+#[inline(always)]
+fn digits_of_word(word: u64) -> (usize, u64)
+    ensures most { result.0 ≤ 8 }
+    ensures read { (bytes : List ℕ) → IsEightBytes bytes → word ≡ number_l 256 bytes
+        → (result.0 ≡ digits_len bytes) × (result.1 ≡ ascii_value 10 (take result.0 bytes)) }
+{
+    let lanes = word ^ 0x3030_3030_3030_3030;
+    let others = flags_from_ten(lanes);
+    if others == 0 {
+        return (8, value_of_eight(lanes));
+    }
+    let count = others.trailing_zeros() / 8;
+    (count as usize, value_of_eight(keep_first(lanes, count)))
+}
+
+/// The eight bytes from an index on, the first of them the lowest.
+#[inline(always)]
+fn word_at(bytes: &[u8], at: usize) -> u64
+    requires { at + 8 ≤ length bytes.now }
+    ensures { result ≡ little_endian bytes.now at }
+{
+    u64::from_le_bytes([
+        bytes[at],
+        bytes[at + 1],
+        bytes[at + 2],
+        bytes[at + 3],
+        bytes[at + 4],
+        bytes[at + 5],
+        bytes[at + 6],
+        bytes[at + 7],
+    ])
+}
+
+/// The high bit of each byte that is 10 or more.
+#[inline(always)]
+fn flags_from_ten(word: u64) -> u64
+    ensures { (byte : ℕ → ℕ) → ((k : ℕ) → byte k < 256) → word ≡ digits_from byte 0 8
+        → result ≡ flag_word (λ k. nat_le 10 (byte k)) }
+{
+    // No sum carries into the next byte.
+    ((word & 0x7f7f_7f7f_7f7f_7f7f) + 0x7676_7676_7676_7676 | word) & 0x8080_8080_8080_8080
+}
+
+/// The word with its first `count` bytes moved up to the end, and zeros below them.
+#[inline(always)]
+fn keep_first(word: u64, count: u32) -> u64
+    requires { count < 8 }
+    ensures { result ≡ word * 256 ^ (8 - count) % 2 ^ 64 }
+{
+    // Two shifts, since a shift by 64 is not defined.
+    word << (56 - 8 * count) << 8
+}
+
+/// The number that eight digits spell, the first of them in the lowest byte: first each two as one number, then all four.
+#[inline(always)]
+fn value_of_eight(word: u64) -> u64
+    ensures { (ds : List ℕ) → IsEightDigits ds → word ≡ number_l 256 ds
+        → result ≡ number_from_digits 10 ds }
+{
+    let pairs = word.wrapping_mul(10).wrapping_add(word >> 8);
+    let first = (pairs & 0x0000_00ff_0000_00ff).wrapping_mul(100 + (1_000_000 << 32));
+    let second = ((pairs >> 16) & 0x0000_00ff_0000_00ff).wrapping_mul(1 + (10_000 << 32));
+    first.wrapping_add(second) >> 32
+}

@@ -1,4 +1,0 @@
-use Rattle.tag_core.proofs.parts.doors_fit.Given as goal
-
-abbrev pub ghosts-slopes_fit : goal.ghosts-slopes_fit
-ghosts-slopes_fit a = record { name = a.blank.name; parts = a.blank.parts }

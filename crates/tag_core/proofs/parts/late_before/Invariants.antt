@@ -1,6 +1,0 @@
-use Rattle.std.proofs.Common.{◌↔◌, drop}
-use Rattle.trend_num.specs.Parts.{EachRec, IsLateBefore}
-use Rattle.tag_core.proofs.parts.late_before.Given as goal
-
-abbrev pub invariant-loop-rec : goal.invariant-loop-rec
-invariant-loop-rec l = EachRec (IsLateBefore l.held) l.recs ↔ EachRec (IsLateBefore l.held) (drop l.rec-index l.recs)

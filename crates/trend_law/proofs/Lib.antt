@@ -1,9 +1,0 @@
-pub mod StepLaw
-pub mod Near
-pub mod Order
-pub mod WalkLaw
-pub mod ContentLaw
-pub mod RawLaw
-pub mod BoundLaw
-pub mod PlainLaws
-pub mod PartsLaw

@@ -1,8 +1,0 @@
-use Rattle.std.proofs.Common.{◌≤◌, pos, inl, refl, arith, lit<}
-use Rattle.trend_law.specs.Examples.{at}
-use Rattle.trend_law.proofs.examples.spans_exist.Goals as goal
-
-pub returns-clause-not_clean : goal.returns-clause-not_clean
-returns-clause-not_clean c = λ span.
-    let past : 2 ≤ 1 = span.none_passed (at 1 (pos 10)) (inl refl) (lit< tt) in
-    absurd (omega arith)

@@ -1,7 +1,0 @@
-use Rattle.std.proofs.Common.{sym, ◌∙◌}
-use Rattle.trend_num.proofs.Sent.{last_in_order_is}
-use Rattle.trend_num.proofs.Walks.{held_is_prior}
-use Rattle.trend_law.proofs.plain.held_is_sent.Goals as goal
-
-pub returns : goal.returns
-returns c = λ tuning h. held_is_prior tuning h ∙ sym (last_in_order_is tuning h)

@@ -1,6 +1,0 @@
-use Rattle.std.proofs.Common.{sym}
-use Rattle.trend_num.proofs.Sent.{last_in_order_is}
-use Rattle.trend_law.proofs.plain.prior_is_sent.Goals as goal
-
-pub returns : goal.returns
-returns c = λ tuning h. sym (last_in_order_is tuning h)

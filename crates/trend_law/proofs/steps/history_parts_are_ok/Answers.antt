@@ -1,5 +1,0 @@
-use Rattle.trend_law.proofs.PartsLaw.{each_of_all, parts_of_history}
-use Rattle.trend_law.proofs.steps.history_parts_are_ok.Goals as goal
-
-pub returns : goal.returns
-returns c = λ tuning h s each. parts_of_history tuning h s (each_of_all _ h each)

@@ -1,0 +1,13 @@
+pub mod Sent
+pub mod Cases
+pub mod Walks
+pub mod Doors
+pub mod StepLaw
+pub mod Near
+pub mod Order
+pub mod WalkLaw
+pub mod ContentLaw
+pub mod RawLaw
+pub mod BoundLaw
+pub mod PlainLaws
+pub mod PartsLaw

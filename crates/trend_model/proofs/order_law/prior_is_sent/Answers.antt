@@ -1,0 +1,6 @@
+use Rattle.std.proofs.Common.{sym}
+use Rattle.trend_model.proofs.Sent.{last_in_order_is}
+use Rattle.trend_model.proofs.order_law.prior_is_sent.Goals as goal
+
+pub returns : goal.returns
+returns c = λ tuning h. sym (last_in_order_is tuning h)

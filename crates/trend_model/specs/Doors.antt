@@ -1,0 +1,39 @@
+-- Two doors: the two values since the hinge that decide which lines fit (after Bristol).
+use Rattle.std.specs.Prelude.{ℕ, ◌-◌, ℤ, pos, ◌+ℤ◌, ◌-ℤ◌, ◌*ℤ◌, ◌≤ℤ◌, Bool, cond, ◌&&◌, int_le, List}
+use Rattle.trend_num.specs.declared.point.Point.{Point}
+use Rattle.trend_model.specs.Content.{IsAmong}
+
+-- how far x, raised by `raise`, is above a, times how long y is after a
+abbrev pub climb : Point → Point → ℤ → Point → ℤ
+climb a x raise y = ((x.v +ℤ raise) -ℤ a.v) *ℤ pos (y.t - a.t)
+
+-- a number of value units downwards
+abbrev pub down : ℕ → ℤ
+down d = pos 0 -ℤ pos d
+
+-- the slope from a to x raised by the one amount is at most that to y raised by the other, by cross products
+abbrev pub IsNotSteeper : Point → Point → ℤ → Point → ℤ → Type 0
+IsNotSteeper a x raise y lift = climb a x raise y ≤ℤ climb a y lift x
+
+-- whether it is
+abbrev pub is_not_steeper : Point → Point → ℤ → Point → ℤ → Bool
+is_not_steeper a x raise y lift = int_le (climb a x raise y) (climb a y lift x)
+
+-- u and l are doors of these values: u is one whose slope from the hinge, raised by d, is least, and l one whose slope,
+-- lowered by d, is greatest
+pub record AreDoors (a : Point) (d : ℕ) (values : List Point) (u l : Point) : Type 0 where
+  pub upper_there : IsAmong u values
+  pub lower_there : IsAmong l values
+  pub upper_least : (x : Point) → IsAmong x values → IsNotSteeper a u (pos d) x (pos d)
+  pub lower_greatest : (x : Point) → IsAmong x values → IsNotSteeper a x (down d) l (down d)
+
+-- the line from the hinge to p passes between the doors
+abbrev pub is_admitted : Point → ℕ → Point → Point → Point → Bool
+is_admitted a d u l p = is_not_steeper a p (pos 0) u (pos d) && is_not_steeper a l (down d) p (pos 0)
+
+-- the upper door after p, and the lower one
+abbrev pub upper_after : Point → ℕ → Point → Point → Point
+upper_after a d u p = cond (is_not_steeper a u (pos d) p (pos d)) u p
+
+abbrev pub lower_after : Point → ℕ → Point → Point → Point
+lower_after a d l p = cond (is_not_steeper a p (down d) l (down d)) l p

@@ -1,0 +1,9 @@
+pub mod History
+pub mod Walk
+pub mod Content
+pub mod Bound
+pub mod Doors
+pub mod Step
+pub mod Parts
+pub mod Orders
+pub mod Examples

@@ -1,0 +1,40 @@
+// What an archive keeps of a tag: its records, and the summary from which it goes on.
+use crate::point::Point;
+
+/// The most records that a tag may have.
+pub const MAX_RECORDS: u32 = 1_048_576;
+
+/// How a record came into an archive.
+#[derive(Clone, Copy, Debug, PartialEq, Eq)]
+pub enum Kind {
+    /// An end of a straight line, kept by the compression.
+    Kept,
+    /// A value that came late, recorded as it came.
+    Late,
+}
+
+/// A record of an archive.
+#[derive(Clone, Copy, Debug, PartialEq, Eq)]
+pub struct Rec {
+    pub kind: Kind,
+    pub point: Point,
+}
+
+/// The state of a tag beside its records.
+#[derive(Clone, Copy, Debug, PartialEq, Eq)]
+pub struct Summary {
+    /// How many raw values were taken since the tag began.
+    pub taken: u64,
+    /// How many records there are.
+    pub records: u32,
+    /// The last value sent in order: the archive's line is closed by it.
+    pub held: Option<Point>,
+    /// The newest value in order that was not sent.
+    pub pending: Option<Point>,
+    /// The last kept point, on which the doors hang.
+    pub hinge: Option<Point>,
+    /// The upper door: no value since the hinge has a lesser slope, raised by CompDev. None where no value is since.
+    pub upper: Option<Point>,
+    /// The lower door: no value since the hinge has a greater slope, lowered by CompDev. None where no value is since.
+    pub lower: Option<Point>,
+}

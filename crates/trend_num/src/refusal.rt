@@ -1,0 +1,47 @@
+// Why a text, a row or a count is refused.
+
+/// A quantity that has a limit.
+#[derive(Clone, Copy, Debug, PartialEq, Eq)]
+pub enum What {
+    /// Bytes of standard input, or of a collector's or a reader's file.
+    FileBytes,
+    /// Bytes of the base or the plan.
+    TextBytes,
+    /// Raw rows of all files of a run, or lines of standard input.
+    Rows,
+    Tags,
+    Collectors,
+    Readers,
+    /// Queries of one reader.
+    Queries,
+    Groups,
+    /// Calculations of one group.
+    Calcs,
+    /// Records of one tag.
+    Records,
+    /// Records of all tags when the store is opened.
+    StoreRecords,
+    /// Records that a group copied from its inputs.
+    Copies,
+    /// Windows times calculations of one group.
+    Cells,
+}
+
+/// Why a row is refused, in the order in which the reasons are tested.
+#[derive(Clone, Copy, Debug, PartialEq, Eq)]
+pub enum Reason {
+    /// It has another number of fields than its form.
+    Fields,
+    /// Its first field is no verb.
+    Verb,
+    /// A field is no name that is known here.
+    Name,
+    /// A field is no numeral.
+    Number,
+    /// A number is outside its range.
+    Range,
+}
+
+/// No memory was found.
+#[derive(Clone, Copy, Debug, PartialEq, Eq)]
+pub struct WantOfMemory;

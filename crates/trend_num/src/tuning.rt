@@ -1,0 +1,35 @@
+// The tuning of a tag.
+ghost use Rattle.std.specs.Prelude.{◌↔◌, IsTrue};
+ghost use Rattle.trend_num.specs.Ranges.{IsTuned};
+
+use crate::point::MAX_T;
+
+/// The tuning of a tag, by the attribute names of the PI manuals on exception and compression reporting.
+#[derive(Clone, Copy, Debug, PartialEq, Eq)]
+pub struct Tuning {
+    /// ExcDev: a value is sent where it differs by more than this from the last value sent, in value units.
+    pub exc_dev: u64,
+    /// ExcMax: a value is sent where it comes this long after the last value sent, or longer, in milliseconds.
+    pub exc_max: u64,
+    /// CompDev: how far the kept line may be from a value sent, in value units.
+    pub comp_dev: u64,
+    /// CompMin: a value that comes less than this after the hinge is passed over and not kept, unless CompMax ends the
+    /// segment, in milliseconds.
+    pub comp_min: u64,
+    /// CompMax: once a value comes more than this after the hinge, the value before it is kept, in milliseconds.
+    pub comp_max: u64,
+}
+
+/// The greatest deviation, in value units.
+pub const MAX_DEV: u64 = 1_000_000_000_000_000;
+
+/// Whether both deviations are at most 10^15 and the three times at most `MAX_T`.
+pub fn tuning_ok(t: &Tuning) -> bool
+    ensures { IsTrue result ↔ IsTuned t.now }
+{
+    t.exc_dev <= MAX_DEV
+        && t.exc_max <= MAX_T
+        && t.comp_dev <= MAX_DEV
+        && t.comp_min <= MAX_T
+        && t.comp_max <= MAX_T
+}
