@@ -3,22 +3,24 @@ use Rattle.std.proofs.Common.{◌≡◌, ℕ, ◌+◌, ◌-◌, ◌<◌, ◌≤�
 use Rattle.std.proofs.Math.Seq.{take-add}
 use Rattle.std.proofs.lemmas.List.{drop-drop, length-take-le, nil_from_length, take-append-drop, take_at, take_rest}
 use Rattle.std.proofs.KnownBytes.{Appends-trans, Consumes-trans}
-use Rattle.std.specs.Prelude.{Option}
-use Rattle.std.specs.Io.KnownBytes.{Appends, Consumes}
-use Rattle.byte_io.specs.Transfer.{ConsumesExactly, ConsumesAtMost, ConsumesSome}
+use Rattle.byte_io.specs.Outside.{Outside, Takes, TakesExactly, TakesSome, Gains}
 
 -- the first n bytes of a buffer were read after xs
-pub ConsumesExactly-piece : (a b c : Option (List ℕ)) (xs buf : List ℕ) (n : ℕ) → Consumes a b xs → Consumes b c (take n buf) → n ≤ length buf
-    → ConsumesExactly a c (length xs + n)
-ConsumesExactly-piece a b c xs buf n before piece bound =
-    (xs ++ take n buf, Consumes-trans a b c xs (take n buf) before piece, length-append xs (take n buf) ∙ ap (λ k. length xs + k) (length-take-le n buf bound))
+pub TakesExactly-piece : (a b c : Outside) (xs buf : List ℕ) (n : ℕ) → Takes a b xs → Takes b c (take n buf) → n ≤ length buf
+    → TakesExactly a c (length xs + n)
+TakesExactly-piece a b c xs buf n before piece bound = (
+  xs ++ take n buf,
+  Consumes-trans a.content b.content c.content xs (take n buf) before piece,
+  length-append xs (take n buf) ∙ ap (λ k. length xs + k) (length-take-le n buf bound),
+)
 
 -- the first n of the bytes past a place were written after those before it
-pub Appends-piece : (a b c : Option (List ℕ)) (bytes : List ℕ) (at n : ℕ) → Appends a b (take at bytes)
-    → Appends b c (take n (take (length bytes - at) (drop at bytes))) → Appends a c (take (at + n) bytes)
-Appends-piece a b c bytes at n before piece =
-    let next = subst (λ l. Appends b c (take n l)) (take_rest bytes at) piece in
-    subst (Appends a c) (sym (take-add at n bytes)) (Appends-trans a b c (take at bytes) (take n (drop at bytes)) before next)
+pub Gains-piece : (a b c : Outside) (bytes : List ℕ) (at n : ℕ) → Gains a b (take at bytes)
+    → Gains b c (take n (take (length bytes - at) (drop at bytes))) → Gains a c (take (at + n) bytes)
+Gains-piece a b c bytes at n before piece =
+    let next = subst (λ l. Gains b c (take n l)) (take_rest bytes at) piece in
+    subst (Gains a c) (sym (take-add at n bytes))
+    (Appends-trans a.content b.content c.content (take at bytes) (take n (drop at bytes)) before next)
 
 -- the part of a buffer that n bytes were copied to
 pub take-copied : (items copied rest : List ℕ) (at n : ℕ) → copied ≡ take n (drop at items) → n ≤ length (drop at items)
@@ -30,13 +32,9 @@ pub front-rest : (items front : List ℕ) (at n : ℕ) → front ≡ take n (dro
 front-rest items front at n is =
     sym (take-append-drop n (drop at items)) ∙ ap (λ l. l ++ drop n (drop at items)) (sym is) ∙ ap (λ l. front ++ l) (drop-drop n at items)
 
--- a number of bytes that is not above another
-pub ConsumesAtMost-exact : (a b : Option (List ℕ)) (m n : ℕ) → ConsumesExactly a b m → m ≤ n → ConsumesAtMost a b n
-ConsumesAtMost-exact a b m n taken bound = (taken.0, taken.1, omega (arith, taken.2))
-
 -- a number of bytes that is not 0 and not above another
-pub ConsumesSome-exact : (a b : Option (List ℕ)) (m n : ℕ) → ConsumesExactly a b m → 0 < m → m ≤ n → ConsumesSome a b n
-ConsumesSome-exact a b m n taken some bound = (taken.0, taken.1, omega (arith, taken.2), omega (arith, taken.2))
+pub TakesSome-exact : (a b : Outside) (m n : ℕ) → TakesExactly a b m → 0 < m → m ≤ n → TakesSome a b n
+TakesSome-exact a b m n taken some bound = (taken.0, taken.1, omega (arith, taken.2), omega (arith, taken.2))
 
 -- nothing is left where no byte was copied to a buffer with room
 pub drop-none_copied : (items front buf : List ℕ) (at n : ℕ) → n ≡ min (length (drop at items)) (length buf) → front ≡ take n (drop at items)

@@ -1,4 +1,3 @@
-pub mod Causes
+pub mod Outside
 pub mod Memory
 pub mod Standard
-pub mod Transfer

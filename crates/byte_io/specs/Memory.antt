@@ -1,5 +1,5 @@
 -- What a source and a sink in memory are seen as.
-use Rattle.std.specs.Prelude.{ℕ, ◌+◌, ◌-◌, ◌^◌, min, List}
+use Rattle.std.specs.Prelude.{ℕ, List}
 
 -- a source in memory: its bytes that are left, the numbers of the calls that are to fail, and its counts
 pub record SourceState : Type 0 where
@@ -14,7 +14,3 @@ pub record SinkState : Type 0 where
   pub failing_calls : List ℕ
   pub calls : ℕ
   pub faults : ℕ
-
--- one more, or the same at the end of the type
-abbrev pub next_count : ℕ → ℕ
-next_count n = min (n + 1) (2 ^ 64 - 1)

@@ -1,12 +1,13 @@
 //! Bytes in and out.
 //!
 //! A [`Source`] gives bytes and a [`Sink`] takes them. Each is something outside of the program
-//! that can fail at any call, and each keeps a count of its faults, which never falls. To a proof,
-//! a source may also tell the bytes that it has left, and a sink the bytes that it was given.
+//! that can fail at any call. To a proof each has one meaning, `Outside`: the bytes that a source
+//! has left or that a sink was given, where it tells them, and a count of its faults. A call that
+//! succeeds leaves that count as it was, and one that fails counts one.
 //!
 //! [`read_all`] takes a source to its end, and [`write_all`] gives a sink all of a text. Both
-//! promise that no byte is lost, added or changed where they succeed, that a failure is told only
-//! where the count of faults rose, and how much was read or written by then.
+//! promise that no byte is lost, added or changed where they succeed, that a fault is told where
+//! one call failed and nowhere else, and how much was read or written by then.
 //!
 //! [`MemSource`] and [`MemSink`] are sources and sinks in memory, which fail at the calls that they
 //! are told to. [`StdSource`] and [`StdSink`] stand over std's readers and writers.

@@ -1,8 +1,7 @@
 // A source and a sink in memory, which fail at the calls that they are told to. They serve tests.
 ghost use Rattle.std.specs.Prelude.{◌≡◌, ◌↔◌, ◌⊎◌, ◌+◌, ◌≤◌, ◌<◌, [], ◌++◌, length, take, drop, min, Some, IfOk, OnOk, OnErr, IsErr, IsTrue, Contains};
 ghost use Rattle.std.specs.Io.KnownBytes.{ReadConsumes, WriteAppends};
-ghost use Rattle.byte_io.specs.Causes.{HasCause, Rose};
-ghost use Rattle.byte_io.specs.Memory.{next_count};
+ghost use Rattle.byte_io.specs.Outside.{next_count};
 
 use crate::{Failed, Sink, Source};
 use std::alloc::Global;
@@ -40,9 +39,7 @@ impl Calls {
 
     // Counts a fault, and tells it.
     fn fault(&mut self) -> Failed
-        ensures counted { self.new ≡ record self.old { faults = next_count self.old.faults } }
-        ensures later { self.old.faults ≤ self.new.faults }
-        ensures rose { Rose self.old.faults self.new.faults }
+        ensures { self.new ≡ record self.old { faults = next_count self.old.faults } }
     {
         self.faults = self.faults.saturating_add(1);
         Failed
@@ -105,16 +102,15 @@ impl MemSource {
 }
 
 impl Source for MemSource {
-    ghost left = { λ s. Some s.bytes_left };
-
-    ghost faults = { λ s. s.faults };
+    ghost meaning = { λ s. record { content = Some s.bytes_left; faults = s.faults } };
 
     /// Gives as many bytes as are left and fit the buffer.
     fn read(&mut self, buf: &mut [u8]) -> Result<usize, Failed>
         ensures bound { IfOk result (λ n. n ≤ length buf.new) }
         ensures bytes { ReadConsumes (Some self.old.bytes_left) (Some self.new.bytes_left)
             result buf.new }
-        ensures cause { HasCause self.old.faults self.new.faults result }
+        ensures no_fault { OnOk result (self.new.faults ≡ self.old.faults) }
+        ensures one_fault { OnErr result (self.new.faults ≡ next_count self.old.faults) }
 
         // Which calls fail, and what each changes.
         ensures failed { IsErr result ↔ Contains self.old.failing_calls self.old.calls }
@@ -126,9 +122,7 @@ impl Source for MemSource {
         ensures copied { IfOk result (λ n.
             buf.new ≡ take n self.old.bytes_left ++ drop n buf.old) }
         ensures rest { IfOk result (λ n. self.new.bytes_left ≡ drop n self.old.bytes_left) }
-        ensures no_fault { OnOk result (self.new.faults ≡ self.old.faults) }
 
-        ensures one_fault { OnErr result (self.new.faults ≡ next_count self.old.faults) }
         ensures kept { OnErr result (self.new.bytes_left ≡ self.old.bytes_left) }
         ensures untouched { OnErr result (buf.new ≡ buf.old) }
     {
@@ -202,9 +196,7 @@ impl MemSink {
 }
 
 impl Sink for MemSink {
-    ghost written = { λ s. Some s.bytes_written };
-
-    ghost faults = { λ s. s.faults };
+    ghost meaning = { λ s. record { content = Some s.bytes_written; faults = s.faults } };
 
     /// Takes all of the piece. It fails also where there is no memory for it.
     fn write(&mut self, bytes: &[u8]) -> Result<usize, Failed>
@@ -212,7 +204,8 @@ impl Sink for MemSink {
         ensures progress { IfOk result (λ n. 0 < length bytes.now → 0 < n) }
         ensures bytes { WriteAppends (Some self.old.bytes_written) (Some self.new.bytes_written)
             result bytes.now }
-        ensures cause { HasCause self.old.faults self.new.faults result }
+        ensures no_fault { OnOk result (self.new.faults ≡ self.old.faults) }
+        ensures one_fault { OnErr result (self.new.faults ≡ next_count self.old.faults) }
 
         // Which calls fail, and what each changes.
         ensures failed { Contains self.old.failing_calls self.old.calls → IsErr result }
@@ -224,9 +217,7 @@ impl Sink for MemSink {
         ensures count { IfOk result (λ n. n ≡ length bytes.now) }
         ensures grown { OnOk result
             (self.new.bytes_written ≡ self.old.bytes_written ++ bytes.now) }
-        ensures no_fault { OnOk result (self.new.faults ≡ self.old.faults) }
 
-        ensures one_fault { OnErr result (self.new.faults ≡ next_count self.old.faults) }
         ensures kept { OnErr result (self.new.bytes_written ≡ self.old.bytes_written) }
     {
         if self.calls.begin() || self.bytes.extend_from_slice(bytes).is_err() {

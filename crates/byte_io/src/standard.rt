@@ -1,8 +1,5 @@
 // Sources and sinks over std's readers and writers.
-ghost use Rattle.std.specs.Prelude.{◌≡◌, ◌≤◌, ◌<◌, length, IfOk, OnOk, OnErr};
-ghost use Rattle.std.specs.Io.KnownBytes.{ReadConsumes, WriteAppends};
-ghost use Rattle.byte_io.specs.Causes.{HasCause};
-ghost use Rattle.byte_io.specs.Memory.{next_count};
+ghost use Rattle.std.specs.Prelude.{◌≡◌};
 
 use crate::{Failed, Sink, Source};
 use std::io::{Read, Write};
@@ -30,19 +27,12 @@ impl<R: Read> StdSource<R> {
 impl<R: Read> Source for StdSource<R> {
     ghost use Rattle.byte_io.specs.Standard.{source_inner, source_faults};
 
-    ghost left = { λ s. R.remaining (source_inner s) };
+    ghost meaning = { λ s. record {
+      content = R.remaining (source_inner s);
+      faults = source_faults s;
+    } };
 
-    ghost faults = { source_faults };
-
-    fn read(&mut self, buf: &mut [u8]) -> Result<usize, Failed>
-        ensures bound { IfOk result (λ n. n ≤ length buf.new) }
-        ensures bytes { ReadConsumes (R.remaining (source_inner self.old))
-            (R.remaining (source_inner self.new)) result buf.new }
-        ensures cause { HasCause (source_faults self.old) (source_faults self.new) result }
-        ensures no_fault { OnOk result (source_faults self.new ≡ source_faults self.old) }
-        ensures one_fault { OnErr result
-            (source_faults self.new ≡ next_count (source_faults self.old)) }
-    {
+    fn read(&mut self, buf: &mut [u8]) -> Result<usize, Failed> {
         if let Ok(count) = self.inner.read(buf) {
             return Ok(count);
         }
@@ -81,20 +71,12 @@ impl<W: Write> StdSink<W> {
 impl<W: Write> Sink for StdSink<W> {
     ghost use Rattle.byte_io.specs.Standard.{sink_inner, sink_faults};
 
-    ghost written = { λ s. W.contents (sink_inner s) };
+    ghost meaning = { λ s. record {
+      content = W.contents (sink_inner s);
+      faults = sink_faults s;
+    } };
 
-    ghost faults = { sink_faults };
-
-    fn write(&mut self, bytes: &[u8]) -> Result<usize, Failed>
-        ensures bound { IfOk result (λ n. n ≤ length bytes.now) }
-        ensures progress { IfOk result (λ n. 0 < length bytes.now → 0 < n) }
-        ensures bytes { WriteAppends (W.contents (sink_inner self.old))
-            (W.contents (sink_inner self.new)) result bytes.now }
-        ensures cause { HasCause (sink_faults self.old) (sink_faults self.new) result }
-        ensures no_fault { OnOk result (sink_faults self.new ≡ sink_faults self.old) }
-        ensures one_fault { OnErr result
-            (sink_faults self.new ≡ next_count (sink_faults self.old)) }
-    {
+    fn write(&mut self, bytes: &[u8]) -> Result<usize, Failed> {
         if let Ok(count) = self.inner.write(bytes) {
             if count > 0 || bytes.is_empty() {
                 return Ok(count);

@@ -3,16 +3,54 @@
 use super::*;
 use std::alloc::{AllocError, Global};
 use std::io;
-use std::io::Read;
+use std::io::{Read, Write};
 use std::test::Fail;
 
-// A reader that only fails.
+// A reader that gives a byte a call, and a writer that takes one, except that one call fails.
 #[derive(Drop)]
-struct Broken;
+struct FailsOnce {
+    bytes: Vec<u8>,
+    at: usize,
+    calls_until: u64,
+}
 
-impl Read for Broken {
-    fn read(&mut self, _buf: &mut [u8]) -> io::Result<usize> {
-        Err(io::Error::from(io::ErrorKind::Other))
+impl FailsOnce {
+    // Whether this call is the one that fails.
+    fn fails(&mut self) -> bool {
+        let fails = self.calls_until == 0;
+        self.calls_until = self.calls_until.checked_sub(1).unwrap_or(u64::MAX);
+        fails
+    }
+}
+
+impl Read for FailsOnce {
+    fn read(&mut self, buf: &mut [u8]) -> io::Result<usize> {
+        if self.fails() {
+            return Err(io::Error::from(io::ErrorKind::Interrupted));
+        }
+        if buf.is_empty() || self.at >= self.bytes.len() {
+            return Ok(0);
+        }
+        buf[0] = self.bytes[self.at];
+        self.at += 1;
+        Ok(1)
+    }
+}
+
+impl Write for FailsOnce {
+    fn write(&mut self, buf: &[u8]) -> io::Result<usize> {
+        if self.fails() {
+            return Err(io::Error::from(io::ErrorKind::Interrupted));
+        }
+        let Some(first) = buf.first() else {
+            return Ok(0);
+        };
+        self.bytes.push(*first)?;
+        Ok(1)
+    }
+
+    fn flush(&mut self) -> io::Result<()> {
+        Ok(())
     }
 }
 
@@ -122,9 +160,18 @@ fn std_readers_are_sources(rt: HostRuntime) -> Result<(), Fail> {
     let mut source = StdSource::new(first.chain(second));
     let all = read_all(alloc, &mut source, 5).map_err(|_| "refused")?;
     assert_eq!(rt; all.as_slice(), b"hello".as_slice());
-    let mut broken = StdSource::new(Broken);
-    let got = read_all(alloc, &mut broken, 5).map(|all| all.len());
-    assert_eq!(rt; got, Err(ReadNo::ReadFault));
+    // A read that fails once is told, and what comes after it is left in the reader.
+    for (call, left) in [(0u64, 5), (3, 2), (5, 0)] {
+        let mut once = StdSource::new(FailsOnce {
+            bytes: b"hello".to_vec(alloc)?,
+            at: 0,
+            calls_until: call,
+        });
+        let got = read_all(alloc, &mut once, 5).map(|all| all.len());
+        assert_eq!(rt; got, Err(ReadNo::ReadFault), "at call {call}");
+        let rest = read_all(alloc, &mut once, 5).map(|all| all.len());
+        assert_eq!(rt; rest, Ok(left), "after call {call}");
+    }
     Ok(())
 }
 
@@ -140,6 +187,22 @@ fn std_writers_are_sinks(rt: HostRuntime) -> Result<(), Fail> {
     let mut full = StdSink::new(room.as_mut_slice());
     assert_eq!(rt; write_all(&mut full, b"hello"), Err(WriteFault));
     assert_eq!(rt; room.as_slice(), b"hel".as_slice());
+
+    // A write that fails once is told, and no byte is written after it.
+    for (call, want) in [(0u64, b"".as_slice()), (3, b"hel"), (4, b"hell")] {
+        let mut once = StdSink::new(FailsOnce {
+            bytes: Vec::new(alloc),
+            at: 0,
+            calls_until: call,
+        });
+        assert_eq!(rt;
+            write_all(&mut once, b"hello"),
+            Err(WriteFault),
+            "at call {call}"
+        );
+        let FailsOnce { bytes, .. } = once.into_inner();
+        assert_eq!(rt; bytes.as_slice(), want, "at call {call}");
+    }
     Ok(())
 }
 

@@ -1,12 +1,12 @@
 use Rattle.std.proofs.Common.{◌+◌, ◌-◌, ◌≤◌, vec_len}
-use Rattle.std.specs.Io.KnownBytes.{Consumes}
+use Rattle.byte_io.specs.Outside.{CountsNoFault, Takes}
 use Rattle.byte_io.proofs.transfer.read_all.Given as goal
 
 abbrev pub invariant-loop-count : goal.invariant-loop-count
 invariant-loop-count g l = record {
   within : vec_len l.all ≤ l.limit;
-  taken : Consumes (g.S.Source.left l.initial.src) (g.S.Source.left l.src) l.all.items;
-  later : g.S.Source.faults l.initial.src ≤ g.S.Source.faults l.src;
+  taken : Takes (g.S.Source.meaning l.initial.src) (g.S.Source.meaning l.src) l.all.items;
+  no_fault : CountsNoFault (g.S.Source.meaning l.initial.src) (g.S.Source.meaning l.src);
 }
 
 abbrev pub decreases-loop-count : goal.decreases-loop-count
