@@ -1,3 +1,4 @@
+pub mod RowLists
 pub mod Splits
 pub mod Points
 pub mod DigitRuns

@@ -1,4 +1,4 @@
--- The point of a text's first line.
+-- The point of a text's first line. For private functions: no public call cites it.
 use Rattle.std.specs.Prelude.{◌≡◌, ℕ, List, ◌∷◌, Result}
 use Rattle.std.specs.Str.Lines.{lines}
 use Rattle.trend_num.specs.declared.point.Point.{Point}

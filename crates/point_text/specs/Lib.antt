@@ -1,4 +1,5 @@
+-- what the public calls mean
 pub mod Rows
-pub mod RowFaults
-pub mod FirstPoints
 pub mod Texts
+-- what private functions alone cite
+pub mod FirstPoints

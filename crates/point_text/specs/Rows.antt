@@ -1,30 +1,39 @@
 -- Rows of text, and the lines `TIME,VALUE` that points are read from.
-use Rattle.std.specs.Prelude.{ℕ, ◌+◌, ℤ, cond, List, [], ◌∷◌, Option, None, Some, nat_eq, nat_le, unsigned_abs, Result, Ok, Err}
+use Rattle.std.specs.Prelude.{ℕ, ◌+◌, ℤ, cond, List, [], ◌∷◌, length, map, take, Option, None, Some, nat_eq, nat_le, nat_lt, unsigned_abs, Result, Ok, Err}
 use Rattle.std.specs.List.{slice_split}
 use Rattle.std.specs.Str.Lines.{lines}
 use Rattle.trend_num.specs.declared.point.Point.{Point}
 use Rattle.trend_num.specs.declared.refusal.Reason.{Reason}
 use Rattle.trend_num.specs.declared.refusal.Reason.TheVariants.{Fields, Number, Range}
+use Rattle.point_text.specs.declared.failure.RowNo.{RowNo}
+use Rattle.point_text.specs.declared.failure.RowNo.TheVariants.{BadRow, TooMany}
 use Rattle.trend_num.specs.Ranges.{last_time, largest_value}
 use Rattle.trend_num.specs.Numerals.{numeral, natural_upto}
 
--- why rows are refused: the first bad row, counted from 1, with its first reason; or more rows than there may be
-pub data RowFault : Type 0 where
-  BadRow : ℕ → Reason → RowFault
-  TooMany : ℕ → RowFault
+-- ---- rows of any kind
 
--- a row before the others, where none of them is refused
-abbrev pub with_first : {R : Type 0} → ℕ → Result R Reason → Result (List R) RowFault → Result (List R) RowFault
-with_first row (Err reason) rest = Err (BadRow row reason)
-with_first row (Ok r) (Err fault) = Err fault
-with_first row (Ok r) (Ok rs) = Ok (r ∷ rs)
+-- a row before the others: it moves the place of a bad one among them
+abbrev pub with_first : {R : Type 0} → R → Result (List R) (ℕ × Reason) → Result (List R) (ℕ × Reason)
+with_first r (Ok rs) = Ok (r ∷ rs)
+with_first r (Err bad) = Err (bad.0 + 1, bad.1)
 
--- these rows, after `before` others, of at most `most` in all
-abbrev pub rows_after : {R : Type 0} → (List ℕ → Result R Reason) → ℕ → ℕ → List (List ℕ) → Result (List R) RowFault
-rows_after row_of most before [] = Ok []
-rows_after row_of most before (text ∷ texts) =
-    cond (nat_eq before most) (Err (TooMany (most + 1)))
-    (with_first (before + 1) (row_of text) (rows_after row_of most (before + 1) texts))
+-- all rows, where each line has one; otherwise the place of the first line that has none, counted from 1, and its reason
+abbrev pub all_rows : {R : Type 0} → List (Result R Reason) → Result (List R) (ℕ × Reason)
+all_rows [] = Ok []
+all_rows (Err reason ∷ reads) = Err (1, reason)
+all_rows (Ok r ∷ reads) = with_first r (all_rows reads)
+
+-- these rows of the first `most` lines, where there are no more lines than that
+abbrev pub unless_more : {R : Type 0} → ℕ → ℕ → Result (List R) (ℕ × Reason) → Result (List R) RowNo
+unless_more most count (Err bad) = Err (BadRow bad.0 bad.1)
+unless_more most count (Ok rs) = cond (nat_lt most count) (Err (TooMany (most + 1))) (Ok rs)
+
+-- the rows of lines: refused is the first bad one of the first `most` lines, with its place and its first reason; else that
+-- there are more lines
+abbrev pub rows_of : {R : Type 0} → (List ℕ → Result R Reason) → ℕ → List (List ℕ) → Result (List R) RowNo
+rows_of row_of most texts = unless_more most (length texts) (all_rows (map row_of (take most texts)))
+
+-- ---- points
 
 -- a point of these numbers, where they are in range
 abbrev pub point_of : Option ℕ → ℤ → Result Point Reason
@@ -46,5 +55,5 @@ abbrev pub point_of_line : List ℕ → Result Point Reason
 point_of_line line = point_of_fields (slice_split (λ b. nat_eq b 44) line)
 
 -- the points of a text's lines, of at most `most`
-abbrev pub points_of : ℕ → List ℕ → Result (List Point) RowFault
-points_of most bytes = rows_after point_of_line most 0 (lines bytes)
+abbrev pub points_of : ℕ → List ℕ → Result (List Point) RowNo
+points_of most bytes = rows_of point_of_line most (lines bytes)

@@ -1,12 +1,11 @@
 // The points of a text's lines.
-ghost use Rattle.std.specs.Prelude.{◌≡◌, ◌≢◌, ◌+◌, ◌<◌, ◌≤◌, [], ◌∷◌, length, position, nat_eq, vec_len, All, IfOk, IfErr, IfSome, IfNone};
+ghost use Rattle.std.specs.Prelude.{◌≡◌, ◌≢◌, ◌⊎◌, ◌+◌, ◌<◌, ◌≤◌, [], ◌∷◌, length, position, nat_eq, vec_len, All, IfOk, IfErr, IfSome, IfNone};
 ghost use Rattle.std.specs.List.{slice_split};
 ghost use Rattle.std.specs.Str.Lines.{lines, strip_carriage_return};
 ghost use Rattle.trend_num.specs.Numerals.{natural_upto};
 ghost use Rattle.trend_num.specs.Ranges.{InRange, last_time};
 ghost use Rattle.point_text.specs.Rows.{point_of, point_of_line, points_of};
 ghost use Rattle.point_text.specs.FirstPoints.{IsFirstPoint};
-ghost use Rattle.point_text.specs.RowFaults.{IsRefusalOf};
 
 use crate::failure::RowNo;
 use crate::plain_line::plain_line;
@@ -22,7 +21,7 @@ const BYTES_A_LINE: usize = 16;
 /// The points of a text's lines `TIME,VALUE`, oldest (first line) first.
 pub fn read_points(alloc: Global, bytes: &[u8], most: u64) -> Result<Vec<Point>, RowNo>
     ensures points { IfOk result (λ v. points_of most bytes.now ≡ Ok v.items) }
-    ensures refused { IfErr result (IsRefusalOf (points_of most bytes.now)) }
+    ensures refused { IfErr result (λ why. (why ≡ RowNo.WantOfMemory) ⊎ (points_of most bytes.now ≡ Err why)) }
     ensures few { IfOk result (λ v. vec_len v ≤ most) }
     ensures in_range { IfOk result (λ v. All InRange v.items) }
 {
