@@ -1,1 +1,4 @@
+-- what the public call means
 pub mod Packing
+-- what private functions alone cite
+pub mod Reading

@@ -1,7 +1,9 @@
 // The points of standard input, or the status of an input that is refused.
 ghost use Rattle.std.specs.Prelude.{◌≡◌, ◌≤◌, All, IfOk, IfErr, vec_len};
 ghost use Rattle.trend_num.specs.Ranges.{InRange};
-ghost use Rattle.pack_command.specs.Packing.{IsInputRefusal, IsRead, most_rows, status_of_reading, status_of_rows};
+ghost use Rattle.trend_num.specs.declared.tuning.Tuning.{Tuning};
+ghost use Rattle.pack_command.specs.Packing.{IsPackRefusal, IsRead, most_rows, status_of_rows};
+ghost use Rattle.pack_command.specs.Reading.{status_of_reading};
 
 use byte_io::{ReadNo, Source, read_all};
 use plant_status::{FileId, Status, What};
@@ -15,13 +17,13 @@ const MAX_FILE_BYTES: u64 = 67_108_864;
 /// The most lines of standard input.
 const MAX_ROWS: u64 = 4_000_000;
 
-/// The points of the lines of the input, oldest (first line) first.
+/// The points of the lines of the input, oldest (first line) first, or why `pack` refuses it, whatever the tuning.
 pub(crate) fn read_input<I: Source>(alloc: Global, input: &mut I) -> Result<Vec<Point>, Status>
-    ensures points { IfOk result (λ v. IsRead (I.left input.old) (I.left input.new) v.items) }
+    ensures points { IfOk result (λ v. IsRead (I.meaning input.old) (I.meaning input.new) v.items) }
     ensures few { IfOk result (λ v. vec_len v ≤ most_rows) }
     ensures in_range { IfOk result (λ v. All InRange v.items) }
-    ensures refused { IfErr result (IsInputRefusal (I.left input.old) (I.left input.new)
-        (I.faults input.old) (I.faults input.new)) }
+    ensures refused { IfErr result (λ why. (tuning : Tuning) →
+        IsPackRefusal tuning (I.meaning input.old) (I.meaning input.new) why) }
 {
     let bytes = match read_all(alloc, input, MAX_FILE_BYTES) {
         Ok(bytes) => bytes,

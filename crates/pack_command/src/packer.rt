@@ -1,10 +1,10 @@
 // What the archive of the input's points is, as a text.
-ghost use Rattle.std.specs.Prelude.{◌≡◌, ◌<◌, ◌≤◌, None, All, IfOk, IfErr, length, string_bytes};
+ghost use Rattle.std.specs.Prelude.{◌≡◌, ◌⊎◌, ◌<◌, ◌≤◌, None, All, IfOk, IfErr, length, string_bytes};
 ghost use Rattle.trend_num.specs.Ranges.{InRange, IsTuned};
 ghost use Rattle.trend_model.specs.Step.{Stands};
 ghost use Rattle.trend_model.specs.Walk.{held, records};
 ghost use Rattle.point_text.specs.Texts.{archive_text};
-ghost use Rattle.pack_command.specs.Packing.{IsHistoryRefusal, IsPackRefusal, IsPrinted, first_full, history_of, most_rows};
+ghost use Rattle.pack_command.specs.Packing.{Refuses, IsPackRefusal, IsPrinted, first_full, history_answer, history_of, most_rows};
 
 use crate::input::read_input;
 use byte_io::Source;
@@ -19,9 +19,9 @@ use trend_num::{Point, Steps, Tuning};
 /// What `pack` prints for its standard input, or why it prints nothing.
 pub fn pack<I: Source>(alloc: Global, tuning: Tuning, input: &mut I) -> Result<String, Status>
     requires { IsTuned tuning }
-    ensures printed { IfOk result (λ text. IsPrinted tuning (I.left input.old) (I.left input.new) (string_bytes text)) }
-    ensures refused { IfErr result (IsPackRefusal tuning (I.left input.old) (I.left input.new)
-        (I.faults input.old) (I.faults input.new)) }
+    ensures printed { IfOk result (λ text.
+        IsPrinted tuning (I.meaning input.old) (I.meaning input.new) (string_bytes text)) }
+    ensures refused { IfErr result (IsPackRefusal tuning (I.meaning input.old) (I.meaning input.new)) }
 {
     let points = read_input(alloc, input)?;
     let text = packed_text(alloc, tuning, points.as_slice())?;
@@ -36,7 +36,8 @@ fn packed_text(alloc: Global, tuning: Tuning, points: &[Point]) -> Result<String
     ensures text { IfOk result (λ text. string_bytes text
         ≡ archive_text (records tuning (history_of points.now)) (held tuning (history_of points.now))) }
     ensures room { IfOk result (λ text. first_full tuning (history_of points.now) ≡ None) }
-    ensures refused { IfErr result (IsHistoryRefusal tuning (history_of points.now)) }
+    ensures refused { IfErr result (λ why. (why ≡ Status.WantOfMemory)
+        ⊎ (history_answer tuning (history_of points.now) ≡ Refuses why)) }
 {
     let core = core_of::<Brand>(alloc, tuning, points, Blank::new(1))?;
     match archive_text(alloc, core.recs(), core.held()) {
@@ -60,7 +61,8 @@ fn core_of<L: Ledger>(
     requires some { 0 < L.parts }
     ensures stands { IfOk result (λ core. Stands tuning (history_of points.now) core.state) }
     ensures room { IfOk result (λ core. first_full tuning (history_of points.now) ≡ None) }
-    ensures refused { IfErr result (IsHistoryRefusal tuning (history_of points.now)) }
+    ensures refused { IfErr result (λ why. (why ≡ Status.WantOfMemory)
+        ⊎ (history_answer tuning (history_of points.now) ≡ Refuses why)) }
 {
     let Ok(mut core) = TagCore::new(alloc, tuning, points.len() as u32) else {
         return Err(Status::WantOfMemory);
