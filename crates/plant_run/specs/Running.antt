@@ -1,50 +1,51 @@
--- What a run of the program has to do with its words, its input and its output.
-use Rattle.std.specs.Prelude.{◌≡◌, ℕ, ◌⊎◌, List, Option, None, Some}
-use Rattle.std.specs.Io.KnownBytes.{Appends}
+-- How a run of the program ends: what it has read of its input, and what it has printed, in each status.
+use Rattle.std.specs.Prelude.{◌≡◌, ℕ, ◌⊎◌, List, None, Some}
 use Rattle.trend_num.specs.declared.point.Point.{Point}
 use Rattle.trend_num.specs.declared.tuning.Tuning.{Tuning}
 use Rattle.trend_model.specs.Walk.{records, held}
-use Rattle.point_text.specs.Texts.{archive_text}
 use Rattle.trend_model.specs.Bound.{IsBounded}
+use Rattle.byte_io.specs.Outside.{Outside, CountsNoFault, IsWritten, IsCutShort}
+use Rattle.point_text.specs.Texts.{archive_text}
+use Rattle.plant_status.specs.Status.{code_of, line_of}
 use Rattle.plant_status.specs.declared.status.Status.{Status}
-use Rattle.plant_status.specs.declared.status.Status.TheVariants.{Done, WriteFault}
-use Rattle.byte_io.specs.Causes.{Rose}
-use Rattle.byte_io.specs.Transfer.{AppendsPrefix}
+use Rattle.plant_status.specs.declared.status.Status.TheVariants.{Done, BadWords, WriteFault, WantOfMemory}
+use Rattle.pack_command.specs.Packing.{IsRead, IsPackRefusal, first_full, history_of}
 use Rattle.plant_run.specs.Words.{pack_tuning}
-use Rattle.pack_command.specs.Packing.{IsRead, RefusesBytes, IsPrinted, first_full, history_of}
 
--- the words ask for `pack` with a tuning; all of the input was read, and the output gained the text of what its history keeps.
--- That is near all values of the history.
-pub record IsPacked (words : List (List ℕ)) (before now out_before out_now : Option (List ℕ)) : Type 0 where
+-- the words ask for `pack` with a tuning; all of the input was read, and this is the text of what its history keeps. That is near
+-- all values of the history.
+pub record IsPacked (words : List (List ℕ)) (before now : Outside) (text : List ℕ) : Type 0 where
   pub tuning : Tuning
   pub points : List Point
   pub asked : pack_tuning words ≡ Some tuning
   pub read : IsRead before now points
   pub room : first_full tuning (history_of points) ≡ None
-  pub printed : Appends out_before out_now (archive_text (records tuning (history_of points)) (held tuning (history_of points)))
+  pub same : text ≡ archive_text (records tuning (history_of points)) (held tuning (history_of points))
   pub bounded : IsBounded tuning (history_of points)
 
--- the words ask for `pack` with a tuning, and bytes were taken from the input that it refuses so
-pub record IsRefused (words : List (List ℕ)) (before now : Option (List ℕ)) (refusal : Status) : Type 0 where
-  pub tuning : Tuning
-  pub asked : pack_tuning words ≡ Some tuning
-  pub refused : RefusesBytes tuning before now refusal
+-- why a run of these words has no result, by its status: they are no form; the input is refused; or memory is wanted, and no
+-- read has failed
+abbrev pub IsRefusal : List (List ℕ) → Outside → Outside → Status → Type 0
+IsRefusal words before now BadWords = pack_tuning words ≡ None
+IsRefusal words before now WantOfMemory = CountsNoFault before now
+IsRefusal words before now status = (tuning : Tuning) × (pack_tuning words ≡ Some tuning) × IsPackRefusal tuning before now status
 
--- the words ask for `pack` with a tuning; all of the input was read, and the output gained a part of what was to be printed
-pub record IsCutShort (words : List (List ℕ)) (before now out_before out_now : Option (List ℕ)) : Type 0 where
-  pub tuning : Tuning
-  pub text : List ℕ
-  pub asked : pack_tuning words ≡ Some tuning
-  pub answer : IsPrinted tuning before now text
-  pub part : AppendsPrefix out_before out_now text
+-- the output gained the line of this status and nothing else, or a part of it where a write failed
+abbrev pub IsTold : Outside → Outside → Status → Type 0
+IsTold before now status = IsWritten before now (line_of status) ⊎ IsCutShort before now (line_of status)
 
--- the output gained this text and nothing else, or a part of it where a write failed
-abbrev pub GainsText : Option (List ℕ) → Option (List ℕ) → ℕ → ℕ → List ℕ → Type 0
-GainsText before now faults_before faults_now text =
-    Appends before now text ⊎ (Rose faults_before faults_now × AppendsPrefix before now text)
+-- the meanings of the input and of the output
+pub record Streams : Type 0 where
+  pub input : Outside
+  pub output : Outside
 
--- the status of a run that printed no result
-abbrev pub IsRefusal : Status → Type 0
-IsRefusal Done = ⊥
-IsRefusal WriteFault = ⊥
-IsRefusal status = Unit {0}
+-- a run of these words ends in this status: it has printed its result, or a part of it where a write failed, or the line that
+-- tells why there is none
+abbrev pub EndsIn : List (List ℕ) → Streams → Streams → Status → Type 0
+EndsIn words before now Done = (text : List ℕ) × IsPacked words before.input now.input text × IsWritten before.output now.output text
+EndsIn words before now WriteFault = (text : List ℕ) × IsPacked words before.input now.input text × IsCutShort before.output now.output text
+EndsIn words before now status = IsRefusal words before.input now.input status × IsTold before.output now.output status
+
+-- it ends in a status of this exit code
+abbrev pub EndsWithCode : List (List ℕ) → Streams → Streams → ℕ → Type 0
+EndsWithCode words before now code = (status : Status) × (code ≡ code_of status) × EndsIn words before now status

@@ -1,14 +1,17 @@
-//! A run of the plant, from the words of the command line to the answer.
+//! A run of the plant, from the arguments of the process to its exit code.
 //!
 //! `run` is the top call: it reads the words of the command line, hands the source over to the command that they ask for,
-//! prints what that gives, and answers a status. Its contract says what was read and printed where the status is Done, and
-//! when each other status comes.
+//! prints what that gives, and answers a status. Its contract, `EndsIn`, says what was read and printed in each status.
+//! `run_args` is all that the program does beside handing over the real things: it takes the words from the arguments of
+//! the process, runs them, and gives the exit code of the status.
 #![tactic(auto)]
 
+mod argument;
 mod command_line;
 #[cfg(test)]
 mod tests;
 mod top_call;
 
+pub use argument::run_args;
 pub use plant_status::{FileId, Reason, Status, What};
 pub use top_call::{refuse, run};

@@ -1,8 +1,11 @@
 // Runs of the program over sources and sinks in memory.
-use crate::{FileId, Reason, Status, What, run};
+ghost use Rattle.std.specs.Prelude.{None};
+
+use crate::{FileId, Reason, Status, What, run, run_args};
 use byte_io::{Failed, MemSink, MemSource, Sink, Source};
 use std::alloc::{AllocError, Global};
-use std::process::Abort;
+use std::io;
+use std::process::{Abort, ExitCode};
 use std::sync::Wait;
 use std::test::Fail;
 use std::thread::Threads;
@@ -311,7 +314,7 @@ struct Trickle {
 }
 
 impl Source for Trickle {
-    ghost faults = { λ s. s.faults };
+    ghost meaning = { λ s. record { content = None; faults = s.faults } };
 
     fn read(&mut self, buf: &mut [u8]) -> Result<usize, Failed> {
         let call = self.calls;
@@ -339,7 +342,7 @@ struct Drip {
 }
 
 impl Sink for Drip {
-    ghost faults = { λ s. s.faults };
+    ghost meaning = { λ s. record { content = None; faults = s.faults } };
 
     fn write(&mut self, bytes: &[u8]) -> Result<usize, Failed> {
         let call = self.calls;
@@ -468,6 +471,99 @@ fn counts_have_limits(rt: HostRuntime) -> Result<(), Fail> {
         let (status, printed) = ran(&rt, rt.alloc(), FOUR_WORDS, text.as_slice(), &[], &[])?;
         assert_eq!(rt; status, want, "{lines} lines");
         assert!(rt; printed.ends_with(end), "{lines} lines");
+    }
+    Ok(())
+}
+
+/// The exit code and what is printed for these arguments; the calls of the source and of the sink with these numbers fail.
+fn exited<R: Threads + Wait + Sync>(
+    rt: &R,
+    alloc: Global,
+    args: io::Result<Vec<String>>,
+    text: &[u8],
+    reads: &[u64],
+    writes: &[u64],
+) -> Result<(ExitCode, Vec<u8>), AllocError> {
+    let mut input = MemSource::new(text.to_vec(alloc)?, reads.to_vec(alloc)?);
+    let mut out = MemSink::new(alloc, writes.to_vec(alloc)?);
+    let given = args.map(|words| words.into_iter());
+    let code = run_args(rt, alloc, given, &mut input, &mut out);
+    Ok((code, out.bytes().to_vec(alloc)?))
+}
+
+#[test]
+fn arguments_give_an_exit_code(rt: HostRuntime) -> Result<(), Fail> {
+    let alloc = rt.alloc();
+    // The arguments, the text, the calls that fail, the exit code and what is printed.
+    let rows: [(&str, &[u8], &[u64], &[u64], u8, &[u8]); 7] = [
+        (
+            "historian pack 0 1000000 1 0 1000000",
+            FOUR,
+            &[],
+            &[],
+            0,
+            FOUR_KEPT,
+        ),
+        (
+            "pack pack 0 1000000 1 0 1000000",
+            FOUR,
+            &[],
+            &[],
+            0,
+            FOUR_KEPT,
+        ),
+        (
+            "pack 0 1000000 1 0 1000000",
+            FOUR,
+            &[],
+            &[],
+            2,
+            b"fault: words\n",
+        ),
+        ("historian", FOUR, &[], &[], 2, b"fault: words\n"),
+        (
+            "historian pack 0 1000000 1 0 1000000",
+            b"1",
+            &[],
+            &[],
+            4,
+            b"fault: row input 1 fields\n",
+        ),
+        (
+            "historian pack 0 1000000 1 0 1000000",
+            FOUR,
+            &[0],
+            &[],
+            5,
+            b"fault: read input\n",
+        ),
+        (
+            "historian pack 0 1000000 1 0 1000000",
+            FOUR,
+            &[],
+            &[0],
+            6,
+            b"",
+        ),
+    ];
+    for (line, text, reads, writes, want, printed) in rows {
+        let args = Ok(words_of(alloc, line)?);
+        let (code, got) = exited(&rt, alloc, args, text, reads, writes)?;
+        assert_eq!(rt; code, ExitCode::from(want), "{line}");
+        assert_eq!(rt; got.as_slice(), printed, "{line}");
+    }
+    let none = Ok(Vec::new(alloc));
+    let (code, got) = exited(&rt, alloc, none, FOUR, &[], &[])?;
+    assert_eq!(rt; code, ExitCode::from(2));
+    assert_eq!(rt; got.as_slice(), b"fault: words\n".as_slice());
+    for (kind, want, line) in [
+        (io::ErrorKind::InvalidData, 2, "fault: words\n"),
+        (io::ErrorKind::OutOfMemory, 13, "fault: memory\n"),
+    ] {
+        let args = Err(io::Error::from(kind));
+        let (code, got) = exited(&rt, alloc, args, FOUR, &[], &[])?;
+        assert_eq!(rt; code, ExitCode::from(want), "{line}");
+        assert_eq!(rt; got.as_slice(), line.as_bytes());
     }
     Ok(())
 }

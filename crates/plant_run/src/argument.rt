@@ -1,0 +1,69 @@
+// The arguments of the process, and its exit code.
+ghost use Rattle.std.specs.Prelude.{◌≡◌, ◌⊎◌, None, drop, map, string_bytes, IfOk, IfErr};
+ghost use Rattle.std.specs.IoError.{error_kind};
+ghost use Rattle.std.specs.Process.{exit_status};
+ghost use Rattle.std.specs.Vec.Iter.{into_iter_items};
+ghost use Rattle.plant_status.specs.Status.{code_of};
+ghost use Rattle.plant_run.specs.Arguments.{status_of_args};
+ghost use Rattle.plant_run.specs.Running.{EndsWithCode, IsTold};
+ghost use Rattle.plant_run.specs.Words.{pack_tuning};
+
+use crate::top_call::{refuse, run};
+use byte_io::{Sink, Source};
+use plant_status::{Status, code};
+use std::alloc::{AllocError, Global};
+use std::env::Args;
+use std::io;
+use std::process::ExitCode;
+use std::sync::Wait;
+use std::thread::Threads;
+
+/// Runs the program on the arguments of its process, of which the first is its name: what the others ask for is done, and
+/// the exit code is that of the status. Where the arguments are not to be had, since one of them is no text or there is no
+/// memory for them, nothing is read, and the line of that is printed.
+pub fn run_args<R: Threads + Wait + Sync, I: Source, O: Sink>(
+    rt: &R,
+    alloc: Global,
+    args: io::Result<Args>,
+    input: &mut I,
+    out: &mut O,
+) -> ExitCode
+    // The words are the arguments after the first.
+    ensures ends { IfOk args (λ given. EndsWithCode (map string_bytes (drop 1 (into_iter_items given)))
+        (record { input = I.meaning input.old; output = O.meaning out.old })
+        (record { input = I.meaning input.new; output = O.meaning out.new }) (exit_status result)) }
+    ensures bad_words { IfOk args (λ given. pack_tuning (map string_bytes (drop 1 (into_iter_items given))) ≡ None
+        → (exit_status result ≡ code_of Status.BadWords) ⊎ (exit_status result ≡ code_of Status.WantOfMemory)) }
+
+    // No arguments.
+    ensures no_args_code { IfErr args (λ why. exit_status result ≡ code_of (status_of_args (error_kind why))) }
+    ensures no_args_line { IfErr args (λ why.
+        IsTold (O.meaning out.old) (O.meaning out.new) (status_of_args (error_kind why))) }
+    ensures untouched { IfErr args (λ why. input.new ≡ input.old) }
+{
+    let status = match args {
+        Ok(given) => match words_of(alloc, given) {
+            Ok(words) => run(rt, alloc, words.as_slice(), input, out),
+            Err(_) => refuse(Status::WantOfMemory, out),
+        },
+        Err(why) => refuse(status_of_args(why.kind()), out),
+    };
+    ExitCode::from(code(&status))
+}
+
+/// The arguments after the program's name.
+fn words_of(alloc: Global, given: Args) -> Result<Vec<String>, AllocError>
+    ensures { IfOk result (λ words. words.items ≡ drop 1 (into_iter_items given)) }
+{
+    given.skip(1).collect(alloc)
+}
+
+/// The status of arguments that are not to be had.
+fn status_of_args(kind: io::ErrorKind) -> Status
+    ensures { result ≡ status_of_args kind }
+{
+    match kind {
+        io::ErrorKind::OutOfMemory => Status::WantOfMemory,
+        _ => Status::BadWords,
+    }
+}
