@@ -6,7 +6,7 @@ use Rattle.byte_io.specs.declared.failure.ReadNo.TheVariants as read_no
 use Rattle.plant_status.specs.declared.file.FileId.TheVariants.{Input}
 use Rattle.plant_status.specs.declared.status.Status.{Status}
 use Rattle.plant_status.specs.declared.status.Status.TheVariants.{ReadFault, Limit, WantOfMemory}
-use Rattle.pack_command.specs.Packing.{most_bytes}
+use Rattle.pack_command.specs.Pack.{most_bytes}
 
 abbrev pub status_of_reading : ReadNo → Status
 status_of_reading read_no.ReadFault = ReadFault Input

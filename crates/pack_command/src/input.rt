@@ -2,7 +2,7 @@
 ghost use Rattle.std.specs.Prelude.{◌≡◌, ◌≤◌, All, IfOk, IfErr, vec_len};
 ghost use Rattle.trend_num.specs.Ranges.{InRange};
 ghost use Rattle.trend_num.specs.declared.tuning.Tuning.{Tuning};
-ghost use Rattle.pack_command.specs.Packing.{IsPackRefusal, IsRead, most_rows, status_of_rows};
+ghost use Rattle.pack_command.specs.Pack.{IsPackRefusal, IsRead, most_rows, status_of_rows};
 ghost use Rattle.pack_command.specs.Reading.{status_of_reading};
 
 use byte_io::{ReadNo, Source, read_all};

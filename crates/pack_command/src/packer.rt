@@ -3,8 +3,8 @@ ghost use Rattle.std.specs.Prelude.{◌≡◌, ◌⊎◌, ◌<◌, ◌≤◌, No
 ghost use Rattle.trend_num.specs.Ranges.{InRange, IsTuned};
 ghost use Rattle.trend_model.specs.Step.{Stands};
 ghost use Rattle.trend_model.specs.Walk.{held, records};
-ghost use Rattle.point_text.specs.Texts.{archive_text};
-ghost use Rattle.pack_command.specs.Packing.{Refuses, IsPackRefusal, IsPrinted, first_full, history_answer, history_of, most_rows};
+ghost use Rattle.point_text.specs.Text.{archive_text};
+ghost use Rattle.pack_command.specs.Pack.{Refuses, IsPackRefusal, IsPrinted, first_full, history_answer, history_of, most_rows};
 
 use crate::input::read_input;
 use byte_io::Source;

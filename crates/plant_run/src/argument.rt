@@ -4,9 +4,9 @@ ghost use Rattle.std.specs.IoError.{error_kind};
 ghost use Rattle.std.specs.Process.{exit_status};
 ghost use Rattle.std.specs.Vec.Iter.{into_iter_items};
 ghost use Rattle.plant_status.specs.Status.{code_of};
-ghost use Rattle.plant_run.specs.Arguments.{status_of_args};
-ghost use Rattle.plant_run.specs.Running.{EndsWithCode, IsTold};
-ghost use Rattle.plant_run.specs.Words.{pack_tuning};
+ghost use Rattle.plant_run.specs.Argument.{status_of_args};
+ghost use Rattle.plant_run.specs.Run.{EndsWithCode, IsTold};
+ghost use Rattle.plant_run.specs.CommandLine.{pack_tuning};
 
 use crate::top_call::{refuse, run};
 use byte_io::{Sink, Source};

@@ -1,7 +1,7 @@
 // The words of a command line.
 ghost use Rattle.std.specs.Prelude.{◌≡◌, ◌≤◌, map, string_bytes, IfSome};
 ghost use Rattle.trend_num.specs.Ranges.{IsTuned};
-ghost use Rattle.plant_run.specs.Words.{number_upto, tuning_of, pack_tuning};
+ghost use Rattle.plant_run.specs.CommandLine.{number_upto, tuning_of, pack_tuning};
 
 use trend_num::{MAX_DEV, MAX_T, Tuning, numeral};
 
@@ -24,7 +24,7 @@ pub(crate) fn pack_tuning(words: &[String]) -> Option<Tuning>
 }
 
 /// The tuning of five numerals, or none where one is no numeral or out of its range.
-#[tactic(auto, unfolding(crate::specs::Words::tuning_of))]
+#[tactic(auto, unfolding(crate::specs::CommandLine::tuning_of))]
 fn tuning_of(
     exc_dev: &[u8],
     exc_max: &[u8],

@@ -1,8 +1,8 @@
 // The top call, and the line of a refusal.
 ghost use Rattle.std.specs.Prelude.{◌≡◌, ◌↔◌, ◌⊎◌, None, map, string_bytes};
 ghost use Rattle.byte_io.specs.Outside.{IsWritten, IsCutShort};
-ghost use Rattle.plant_run.specs.Words.{pack_tuning};
-ghost use Rattle.plant_run.specs.Running.{EndsIn, IsTold};
+ghost use Rattle.plant_run.specs.CommandLine.{pack_tuning};
+ghost use Rattle.plant_run.specs.Run.{EndsIn, IsTold};
 
 use crate::command_line::pack_tuning;
 use byte_io::{Sink, Source, write_all};

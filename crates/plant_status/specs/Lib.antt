@@ -1,3 +1,3 @@
-pub mod Words
+pub mod Word
 pub mod Line
 pub mod Status

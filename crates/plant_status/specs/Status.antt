@@ -3,7 +3,7 @@ use Rattle.std.specs.Prelude.{ℕ, List, [], ◌++◌, codes}
 use Rattle.std.specs.Fmt.{decimal}
 use Rattle.plant_status.specs.declared.status.Status.{Status}
 use Rattle.plant_status.specs.declared.status.Status.TheVariants.{Done, BadWords, BadRow, ReadFault, WriteFault, Limit, WantOfMemory}
-use Rattle.plant_status.specs.Words.{file_text, reason_word, what_word}
+use Rattle.plant_status.specs.Word.{file_text, reason_word, what_word}
 
 abbrev pub code_of : Status → ℕ
 code_of Done = 0

@@ -2,7 +2,7 @@
 ghost use Rattle.std.specs.Prelude.{◌≡◌, ◌+◌, ◌<◌, ◌≤◌, [], ◌++◌, length, codes};
 ghost use Rattle.std.specs.Fmt.{decimal};
 ghost use Rattle.plant_status.specs.Line.{IsPrintable, IsLine};
-ghost use Rattle.plant_status.specs.Words.{file_text};
+ghost use Rattle.plant_status.specs.Word.{file_text};
 
 use crate::file::FileId;
 use arrayvec::ArrayString;

@@ -1,7 +1,7 @@
 //! The words that a line calls reasons and quantities by.
 ghost use Rattle.std.specs.Prelude.{◌≡◌, ◌≤◌, length};
 ghost use Rattle.plant_status.specs.Line.{IsPrintable};
-ghost use Rattle.plant_status.specs.Words.{reason_word, what_word};
+ghost use Rattle.plant_status.specs.Word.{reason_word, what_word};
 
 use trend_num::{Reason, What};
 

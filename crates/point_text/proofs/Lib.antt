@@ -1,5 +1,5 @@
-pub mod RowLists
-pub mod Splits
-pub mod Points
-pub mod DigitRuns
-pub mod PlainLines
+pub mod RowList
+pub mod Split
+pub mod PointList
+pub mod DigitRun
+pub mod PlainLine

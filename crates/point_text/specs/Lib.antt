@@ -1,5 +1,5 @@
 -- what the public calls mean
-pub mod Rows
-pub mod Texts
+pub mod Row
+pub mod Text
 -- what private functions alone cite
-pub mod FirstPoints
+pub mod FirstPoint

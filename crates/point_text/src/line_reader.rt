@@ -4,8 +4,8 @@ ghost use Rattle.std.specs.List.{slice_split};
 ghost use Rattle.std.specs.Str.Lines.{lines, strip_carriage_return};
 ghost use Rattle.trend_num.specs.Numerals.{natural_upto};
 ghost use Rattle.trend_num.specs.Ranges.{InRange, last_time};
-ghost use Rattle.point_text.specs.Rows.{point_of, point_of_line, points_of};
-ghost use Rattle.point_text.specs.FirstPoints.{IsFirstPoint};
+ghost use Rattle.point_text.specs.Row.{point_of, point_of_line, points_of};
+ghost use Rattle.point_text.specs.FirstPoint.{IsFirstPoint};
 
 use crate::failure::RowNo;
 use crate::plain_line::plain_line;

@@ -9,7 +9,7 @@ ghost use Rattle.core.specs.Slice.Scan.{digits_from, flag_word, little_endian};
 ghost use Rattle.core.specs.Str.Parse.{digits_value as ascii_value};
 ghost use lib.Lanes.{number_l};
 ghost use Rattle.trend_num.specs.Numerals.{digits_value};
-ghost use Rattle.point_text.specs.FirstPoints.{IsFirstPoint};
+ghost use Rattle.point_text.specs.FirstPoint.{IsFirstPoint};
 
 use core::dec2flt::ten_to;
 use trend_num::{MAX_T, MAX_V, Point};

@@ -1,6 +1,6 @@
 // The text of an archive.
 ghost use Rattle.std.specs.Prelude.{◌≡◌, IfOk, string_bytes};
-ghost use Rattle.point_text.specs.Texts.{archive_text};
+ghost use Rattle.point_text.specs.Text.{archive_text};
 
 use std::alloc::{AllocError, Global};
 use trend_num::{Kind, Point, Rec, WantOfMemory};

@@ -1,6 +1,6 @@
 use Rattle.std.proofs.Common.{◌≡◌, ◌+◌, ◌≤◌, ℕ, length, arith, subst, length-take}
 use Rattle.byte_io.specs.Outside.{TakesExactly}
-use Rattle.byte_io.proofs.Pieces.{TakesExactly-piece, TakesSome-exact}
+use Rattle.byte_io.proofs.Piece.{TakesExactly-piece, TakesSome-exact}
 use Rattle.byte_io.proofs.transfer.read_all.Goals as goal
 
 -- The piece that went past the limit is one byte more than there was room for.

@@ -1,5 +1,5 @@
 use Rattle.std.proofs.Common.{arith, ◌∙◌}
-use Rattle.byte_io.proofs.Pieces.{Gains-piece}
+use Rattle.byte_io.proofs.Piece.{Gains-piece}
 use Rattle.byte_io.proofs.transfer.write_all.Goals as goal
 
 pub loop-at-preserved : goal.loop-at-preserved

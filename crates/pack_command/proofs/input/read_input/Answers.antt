@@ -1,8 +1,8 @@
 use Rattle.std.proofs.Common.{◌≡◌, ◌⊎◌, ◌≤◌, Err, length, arith, subst, sym}
-use Rattle.point_text.specs.Rows.{points_of}
+use Rattle.point_text.specs.Row.{points_of}
 use Rattle.point_text.specs.declared.failure.RowNo.TheVariants.{WantOfMemory}
-use Rattle.pack_command.specs.Packing.{IsPackRefusal, most_bytes, most_rows}
-use Rattle.pack_command.proofs.Refusals.{rows_refused}
+use Rattle.pack_command.specs.Pack.{IsPackRefusal, most_bytes, most_rows}
+use Rattle.pack_command.proofs.Refusal.{rows_refused}
 use Rattle.pack_command.proofs.input.read_input.Goals as goal
 
 -- The rows of an input that was all read are refused.

@@ -1,7 +1,7 @@
 use Rattle.std.proofs.Common.{ap, inr, refl, ◌∙◌, pos}
 use Rattle.std.proofs.lemmas.Bool.{false≢true}
-use Rattle.pack_command.specs.Packing.{answer_full, history_of}
-use Rattle.pack_command.proofs.Histories.{has_taken_more, refused_at}
+use Rattle.pack_command.specs.Pack.{answer_full, history_of}
+use Rattle.pack_command.proofs.History.{has_taken_more, refused_at}
 use Rattle.pack_command.proofs.packer.core_of.Goals as goal
 
 pub returns-in-Err-clause-refused : goal.returns-in-Err-clause-refused

@@ -1,4 +1,4 @@
-use Rattle.pack_command.proofs.Histories.{HasTaken}
+use Rattle.pack_command.proofs.History.{HasTaken}
 use Rattle.pack_command.proofs.packer.core_of.Given as goal
 
 abbrev pub invariant-loop-p : goal.invariant-loop-p

@@ -1,7 +1,7 @@
 use Rattle.std.proofs.Common.{◌≡◌, ◌⊎◌, subst, rules}
 use Rattle.plant_status.specs.declared.status.Status.TheVariants.{WantOfMemory}
-use Rattle.pack_command.specs.Packing.{Refuses, history_answer, history_of}
-use Rattle.pack_command.proofs.Refusals.{history_refused}
+use Rattle.pack_command.specs.Pack.{Refuses, history_answer, history_of}
+use Rattle.pack_command.proofs.Refusal.{history_refused}
 use Rattle.pack_command.proofs.packer.pack.Goals as goal
 
 pub returns-in_err-points-clause-refused : goal.returns-in_err-points-clause-refused

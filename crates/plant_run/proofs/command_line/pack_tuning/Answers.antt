@@ -1,6 +1,6 @@
 use Rattle.std.proofs.Common.{map, string_bytes, sym, arith}
 use Rattle.std.proofs.lemmas.List.{length-map}
-use Rattle.plant_run.proofs.Forms.{pack_tuning_other}
+use Rattle.plant_run.proofs.Form.{pack_tuning_other}
 use Rattle.plant_run.proofs.command_line.pack_tuning.Goals as goal
 
 pub returns-in_default-clause-value : goal.returns-in_default-clause-value

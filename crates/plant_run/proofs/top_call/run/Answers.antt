@@ -3,8 +3,8 @@ use Rattle.byte_io.specs.Outside.{IsWritten, IsCutShort}
 use Rattle.plant_status.specs.declared.status.Status.{Status}
 use Rattle.plant_status.specs.declared.status.Status.TheVariants.{Done, WriteFault}
 use Rattle.trend_model.proofs.BoundLaw.{bounded}
-use Rattle.pack_command.specs.Packing.{history_of}
-use Rattle.plant_run.specs.Running.{EndsIn, IsPacked, Streams}
+use Rattle.pack_command.specs.Pack.{history_of}
+use Rattle.plant_run.specs.Run.{EndsIn, IsPacked, Streams}
 use Rattle.plant_run.proofs.top_call.run.Goals as goal
 
 -- a text that was packed and printed, or cut short

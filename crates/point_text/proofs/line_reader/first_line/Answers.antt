@@ -1,6 +1,6 @@
 use Rattle.std.proofs.Common.{length, ◌<◌, arith, sym, ◌∙◌}
 use Rattle.std.proofs.lemmas.Bool.Decides.{nat_tests}
-use Rattle.point_text.proofs.Splits.{lines_found, lines_not_found}
+use Rattle.point_text.proofs.Split.{lines_found, lines_not_found}
 use Rattle.point_text.proofs.line_reader.first_line.Goals as goal
 
 pub returns-in-Some-clause-line : goal.returns-in-Some-clause-line

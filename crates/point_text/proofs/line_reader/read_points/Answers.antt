@@ -2,9 +2,9 @@ use Rattle.std.proofs.Common.{◌≡◌, ◌+◌, [], ◌∷◌, ◌++◌, Ok, E
 use Rattle.std.proofs.lemmas.Grind.{common_steps}
 use Rattle.trend_num.specs.declared.refusal.Reason.{Reason}
 use Rattle.point_text.specs.declared.failure.RowNo.TheVariants.{TooMany}
-use Rattle.point_text.specs.Rows.{points_of}
-use Rattle.point_text.specs.FirstPoints.{IsFirstPoint}
-use Rattle.point_text.proofs.Points.{IsReadUpTo, read_all, found_in_range, read_bad, read_more, read_too_many}
+use Rattle.point_text.specs.Row.{points_of}
+use Rattle.point_text.specs.FirstPoint.{IsFirstPoint}
+use Rattle.point_text.proofs.PointList.{IsReadUpTo, read_all, found_in_range, read_bad, read_more, read_too_many}
 use Rattle.point_text.proofs.line_reader.read_points.Goals as goal
 
 pub returns-then-rows-most-clause-refused : goal.returns-then-rows-most-clause-refused

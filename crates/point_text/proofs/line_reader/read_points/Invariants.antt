@@ -1,5 +1,5 @@
 use Rattle.std.proofs.Common.{length}
-use Rattle.point_text.proofs.Points.{IsReadUpTo}
+use Rattle.point_text.proofs.PointList.{IsReadUpTo}
 use Rattle.point_text.proofs.line_reader.read_points.Given as goal
 
 abbrev pub invariant-loop-read : goal.invariant-loop-read

@@ -1,5 +1,5 @@
 use Rattle.std.proofs.Common.{◌∷◌, nat_eq, length, arith, sym, ◌∙◌, ap, take}
-use Rattle.point_text.proofs.Splits.{split_found, split_not_found, split_thrice}
+use Rattle.point_text.proofs.Split.{split_found, split_not_found, split_thrice}
 use Rattle.point_text.proofs.line_reader.two_fields.Goals as goal
 
 pub returns-in_err-at-clause-none : goal.returns-in_err-at-clause-none

@@ -1,7 +1,7 @@
 use Rattle.std.proofs.Common.{◌+◌, drop, length-drop, arith, ◌∙◌}
 use Rattle.std.proofs.lemmas.List.{drop-drop}
 use Rattle.core.proofs.dec2flt.Eight.{eight_at, word_at}
-use Rattle.point_text.proofs.DigitRuns.{digit_range_is, one_word, two_words}
+use Rattle.point_text.proofs.DigitRun.{digit_range_is, one_word, two_words}
 use Rattle.point_text.proofs.plain_line.digits.Goals as goal
 
 pub returns-then-count-lt8 : goal.returns-then-count-lt8

@@ -2,7 +2,7 @@ use Rattle.std.proofs.Common.{◌≡◌, ℕ, ◌+◌, Bool, true, false, nat_eq
 use mir.Val.{bool_byte}
 use Rattle.std.proofs.lemmas.Int.{ints}
 use Rattle.std.proofs.lemmas.Bool.{ne_eqb}
-use Rattle.point_text.proofs.PlainLines.{IsField, plain_positive, plain_negative}
+use Rattle.point_text.proofs.PlainLine.{IsField, plain_positive, plain_negative}
 use Rattle.point_text.proofs.plain_line.plain_line.Goals as goal
 use Rattle.point_text.proofs.plain_line.plain_line.Goals.{then-negative, else-negative}
 

@@ -1,6 +1,6 @@
 use Rattle.std.proofs.Common.{◌≡◌, take, string_bytes}
 use Rattle.std.specs.List.{flat_map}
-use Rattle.point_text.specs.Texts.{record_line}
+use Rattle.point_text.specs.Text.{record_line}
 use Rattle.point_text.proofs.printer.lines_of.Given as goal
 
 abbrev pub invariant-loop-rec : goal.invariant-loop-rec

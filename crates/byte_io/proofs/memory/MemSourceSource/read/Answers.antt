@@ -1,6 +1,6 @@
 use Rattle.std.proofs.Common.{◌≡◌, ◌-◌, ◌≤◌, min, length, take, drop, arith, ap, sym, ◌∙◌}
 use Rattle.std.proofs.lemmas.List.{take_rest}
-use Rattle.byte_io.proofs.Pieces.{take-copied, front-rest, drop-none_copied}
+use Rattle.byte_io.proofs.Piece.{take-copied, front-rest, drop-none_copied}
 use Rattle.byte_io.proofs.memory.MemSourceSource.read.Goals as goal
 
 -- What was copied is the front of the bytes from the place on, and the rest is what the source has left.

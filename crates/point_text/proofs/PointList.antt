@@ -9,9 +9,9 @@ use Rattle.trend_num.specs.declared.refusal.Reason.TheVariants.{Range}
 use Rattle.trend_num.specs.Numerals.{numeral, natural_upto}
 use Rattle.trend_num.specs.Ranges.{InRange, last_time, largest_value}
 use Rattle.point_text.specs.declared.failure.RowNo.TheVariants.{BadRow, TooMany}
-use Rattle.point_text.specs.FirstPoints.{IsFirstPoint}
-use Rattle.point_text.specs.Rows.{point_of, point_read, point_of_fields, point_of_line, points_of}
-use Rattle.point_text.proofs.RowLists.{AreRead, AreRead-All, AreRead-more, rows_of-all, rows_of-bad, rows_of-more}
+use Rattle.point_text.specs.FirstPoint.{IsFirstPoint}
+use Rattle.point_text.specs.Row.{point_of, point_read, point_of_fields, point_of_line, points_of}
+use Rattle.point_text.proofs.RowList.{AreRead, AreRead-All, AreRead-more, rows_of-all, rows_of-bad, rows_of-more}
 
 -- a number in range
 natural_upto-le : (most : ℕ) (z : ℤ) (n : ℕ) → natural_upto most z ≡ Some n → n ≤ most

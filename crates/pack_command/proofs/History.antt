@@ -10,7 +10,7 @@ use Rattle.trend_model.specs.Walk.{records}
 use Rattle.trend_model.specs.Content.{first_there}
 use Rattle.trend_model.specs.Step.{State, Stands, step}
 use Rattle.trend_model.proofs.StepLaw.{step_stands}
-use Rattle.pack_command.specs.Packing.{first_full, history_of}
+use Rattle.pack_command.specs.Pack.{first_full, history_of}
 
 -- a history that was full stays so
 pub full_stays : (tuning : Tuning) (later h : List Point) (n : ℕ) → first_full tuning h ≡ Some n → first_full tuning (later ++ h) ≡ Some n

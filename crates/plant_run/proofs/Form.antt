@@ -1,6 +1,6 @@
 -- Lemmas on the words of a command line.
 use Rattle.std.proofs.Common.{◌≡◌, ◌≢◌, ℕ, List, [], ◌∷◌, length, None, refl}
-use Rattle.plant_run.specs.Words.{pack_tuning}
+use Rattle.plant_run.specs.CommandLine.{pack_tuning}
 
 -- another number of words than six
 pub pack_tuning_other : (words : List (List ℕ)) → length words ≢ 6 → pack_tuning words ≡ None

@@ -5,12 +5,12 @@ use Rattle.trend_num.specs.declared.tuning.Tuning.{Tuning}
 use Rattle.trend_model.specs.Walk.{records, held}
 use Rattle.trend_model.specs.Bound.{IsBounded}
 use Rattle.byte_io.specs.Outside.{Outside, CountsNoFault, IsWritten, IsCutShort}
-use Rattle.point_text.specs.Texts.{archive_text}
+use Rattle.point_text.specs.Text.{archive_text}
 use Rattle.plant_status.specs.Status.{code_of, line_of}
 use Rattle.plant_status.specs.declared.status.Status.{Status}
 use Rattle.plant_status.specs.declared.status.Status.TheVariants.{Done, BadWords, WriteFault, WantOfMemory}
-use Rattle.pack_command.specs.Packing.{IsRead, IsPackRefusal, first_full, history_of}
-use Rattle.plant_run.specs.Words.{pack_tuning}
+use Rattle.pack_command.specs.Pack.{IsRead, IsPackRefusal, first_full, history_of}
+use Rattle.plant_run.specs.CommandLine.{pack_tuning}
 
 -- the words ask for `pack` with a tuning; all of the input was read, and this is the text of what its history keeps. That is near
 -- all values of the history.
@@ -23,12 +23,12 @@ pub record IsPacked (words : List (List ℕ)) (before now : Outside) (text : Lis
   pub same : text ≡ archive_text (records tuning (history_of points)) (held tuning (history_of points))
   pub bounded : IsBounded tuning (history_of points)
 
--- why a run of these words has no result, by its status: they are no form; the input is refused; or memory is wanted, and no
--- read has failed
-abbrev pub IsRefusal : List (List ℕ) → Outside → Outside → Status → Type 0
-IsRefusal words before now BadWords = pack_tuning words ≡ None
-IsRefusal words before now WantOfMemory = CountsNoFault before now
-IsRefusal words before now status = (tuning : Tuning) × (pack_tuning words ≡ Some tuning) × IsPackRefusal tuning before now status
+-- why a run of these words has no result, by its status: they are no form, and nothing was read; memory is wanted, and no read
+-- has failed; or they ask for `pack` with a tuning, and it refuses the input so
+abbrev pub IsRunRefusal : List (List ℕ) → Outside → Outside → Status → Type 0
+IsRunRefusal words before now BadWords = (pack_tuning words ≡ None) × (now ≡ before)
+IsRunRefusal words before now WantOfMemory = CountsNoFault before now
+IsRunRefusal words before now status = (tuning : Tuning) × (pack_tuning words ≡ Some tuning) × IsPackRefusal tuning before now status
 
 -- the output gained the line of this status and nothing else, or a part of it where a write failed
 abbrev pub IsTold : Outside → Outside → Status → Type 0
@@ -44,7 +44,7 @@ pub record Streams : Type 0 where
 abbrev pub EndsIn : List (List ℕ) → Streams → Streams → Status → Type 0
 EndsIn words before now Done = (text : List ℕ) × IsPacked words before.input now.input text × IsWritten before.output now.output text
 EndsIn words before now WriteFault = (text : List ℕ) × IsPacked words before.input now.input text × IsCutShort before.output now.output text
-EndsIn words before now status = IsRefusal words before.input now.input status × IsTold before.output now.output status
+EndsIn words before now status = IsRunRefusal words before.input now.input status × IsTold before.output now.output status
 
 -- it ends in a status of this exit code
 abbrev pub EndsWithCode : List (List ℕ) → Streams → Streams → ℕ → Type 0

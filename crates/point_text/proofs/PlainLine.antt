@@ -11,9 +11,9 @@ use Rattle.std.specs.Str.Lines.{lines, lines_of_parts, strip_carriage_return}
 use Rattle.trend_num.proofs.Numbers.{digit_at, digit_code}
 use Rattle.trend_num.specs.Numerals.{numeral, unsigned_numeral, digits_value}
 use Rattle.trend_num.specs.Ranges.{last_time, largest_value}
-use Rattle.point_text.specs.Rows.{point_read, point_of_fields, point_of_line}
-use Rattle.point_text.proofs.Splits.{lines_of_parts-cons, rest_whole}
-use Rattle.point_text.specs.FirstPoints.{IsFirstPoint}
+use Rattle.point_text.specs.Row.{point_read, point_of_fields, point_of_line}
+use Rattle.point_text.proofs.Split.{lines_of_parts-cons, rest_whole}
+use Rattle.point_text.specs.FirstPoint.{IsFirstPoint}
 
 -- from one index to another there are digits, which spell n, and then this byte
 pub record IsField (text : List ℕ) (at end byte n : ℕ) : Type 0 where

@@ -8,8 +8,8 @@ use Rattle.trend_num.specs.declared.tuning.Tuning.{Tuning}
 use Rattle.trend_model.specs.Walk.{records, held}
 use Rattle.trend_model.specs.Content.{first_there}
 use Rattle.byte_io.specs.Outside.{Outside, CountsNoFault, CountsOneFault, Takes, TakesAll, TakesExactly, TakesAtMost}
-use Rattle.point_text.specs.Rows.{points_of}
-use Rattle.point_text.specs.Texts.{archive_text}
+use Rattle.point_text.specs.Row.{points_of}
+use Rattle.point_text.specs.Text.{archive_text}
 use Rattle.point_text.specs.declared.failure.RowNo.{RowNo}
 use Rattle.point_text.specs.declared.failure.RowNo.TheVariants as row_no
 use Rattle.plant_status.specs.declared.file.FileId.TheVariants.{Input}

@@ -5,7 +5,7 @@ use Rattle.std.proofs.lemmas.List.{map-append, length-map, take_at, take_all, dr
 use Rattle.std.proofs.lemmas.List.Elements.{All-nil, All-cons}
 use Rattle.trend_num.specs.declared.refusal.Reason.{Reason}
 use Rattle.point_text.specs.declared.failure.RowNo.TheVariants.{BadRow, TooMany}
-use Rattle.point_text.specs.Rows.{all_rows, unless_more, rows_of, with_first}
+use Rattle.point_text.specs.Row.{all_rows, unless_more, rows_of, with_first}
 
 -- all of these were read
 abbrev pub reads_of : {R : Type 0} → List R → List (Result R Reason)
