@@ -7,9 +7,9 @@ use Rattle.std.specs.declared.cmp.Ordering.{Ordering}
 use Rattle.std.proofs.lemmas.Int.{ints}
 use Rattle.trend_num.specs.declared.point.Point.{Point}
 use Rattle.trend_num.specs.Lines.{compare_slopes, is_within}
-use Rattle.trend_model.specs.Doors.{climb, is_not_steeper, AreDoors, is_admitted, upper_after, lower_after}
+use Rattle.trend_model.specs.Doors.{AreAfter, climb, is_not_steeper, AreDoors, is_admitted, upper_after, lower_after}
 use Rattle.trend_model.proofs.Doors.{doors_decide, doors_swing}
-use Rattle.door_slopes.specs.Hung.{Hung, AreAfter}
+use Rattle.door_slopes.specs.Hung.{Hung}
 
 -- one number is not above another exactly where the test says so
 le_of_cmp : (m n : ℤ) → is_le (int_cmp m n) ≡ int_le m n

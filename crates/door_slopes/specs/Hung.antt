@@ -1,7 +1,6 @@
 -- Two doors at their hinge.
-use Rattle.std.specs.Prelude.{ℕ, ◌<◌, ◌≤◌, List}
+use Rattle.std.specs.Prelude.{ℕ, ◌<◌, ◌≤◌}
 use Rattle.trend_num.specs.declared.point.Point.{Point}
-use Rattle.trend_model.specs.Content.{IsAmong}
 use Rattle.trend_num.specs.Ranges.{InRange, largest_value}
 
 -- a hinge, a deviation in value units, and an upper and a lower door
@@ -19,7 +18,3 @@ pub record AreHung (hinge : Point) (deviation : ℕ) (upper lower : Point) : Typ
   pub lower_in_range : InRange lower
   pub upper_after : hinge.t < upper.t
   pub lower_after : hinge.t < lower.t
-
--- the values since the hinge come after it
-abbrev pub AreAfter : Point → List Point → Type 0
-AreAfter a values = (x : Point) → IsAmong x values → a.t < x.t

@@ -1,11 +1,10 @@
 // The two doors that hang at a hinge.
-ghost use Rattle.std.specs.Prelude.{◌≡◌, ◌+◌, ◌<◌, ◌≤◌, List, [], ◌∷◌, pos, unsigned_abs};
+ghost use Rattle.std.specs.Prelude.{◌≡◌, ◌↔◌, IsTrue, ◌+◌, ◌<◌, ◌≤◌, List, [], ◌∷◌, cond, pos, unsigned_abs};
 ghost use Rattle.std.specs.List.{list_all};
 ghost use Rattle.trend_num.specs.declared.point.Point.{Point};
-ghost use Rattle.trend_model.specs.Doors.{AreDoors, down, is_admitted, is_not_steeper, lower_after, upper_after};
+ghost use Rattle.trend_model.specs.Doors.{AreAfter, AreDoors, down, is_admitted, is_not_steeper, lower_after, upper_after};
 ghost use Rattle.trend_num.specs.Lines.{is_within};
 ghost use Rattle.trend_num.specs.Ranges.{InRange, largest_value};
-ghost use Rattle.door_slopes.specs.Hung.{AreAfter};
 
 use std::marker::Model;
 use std::sync::ledger::Ledger;
@@ -114,7 +113,10 @@ impl Doors {
             → AreDoors self.now.hinge self.now.deviation values self.now.upper self.now.lower
             → AreAfter self.now.hinge values
             → result ≡ list_all (λ x. is_within self.now.hinge p x self.now.deviation) values }
-        ensures cost { steps.new ≤ steps.old + 2 }
+
+        // One step where the upper door refuses, else two.
+        ensures cost { steps.new ≡ steps.old
+            + cond (is_not_steeper self.now.hinge p (pos 0) self.now.upper (pos self.now.deviation)) 2 1 }
     {
         self.is_under_upper(p, steps) && self.is_over_lower(p, steps)
     }
@@ -195,6 +197,13 @@ impl Doors {
             p
         }
     }
+}
+
+/// Whether two pairs of doors hang at one hinge with one deviation, and are the same, by `==`.
+pub fn same_doors(a: &Doors, b: &Doors) -> bool
+    ensures { IsTrue result ↔ (a.now ≡ b.now) }
+{
+    a == b
 }
 
 /// A deviation upwards.

@@ -13,5 +13,5 @@ mod doors;
 #[cfg(test)]
 mod tests;
 
-pub use doors::Doors;
+pub use doors::{Doors, same_doors};
 pub use trend_num::{Point, Steps};

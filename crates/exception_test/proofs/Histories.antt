@@ -1,38 +1,42 @@
 -- A gate that follows the rules stands for one history after another.
-use Rattle.std.proofs.Common.{◌≡◌, List, ◌∷◌, ◌++◌, Option, sym, ap, ap₂, ◌∙◌}
+use Rattle.std.proofs.Common.{◌≡◌, List, ◌∷◌, ◌++◌, Option, sym, ap, ap₂, ◌∙◌, subst}
 use Rattle.trend_num.specs.declared.point.Point.{Point}
 use Rattle.trend_num.specs.declared.sending.Sending.{Sending}
 use Rattle.trend_num.specs.declared.tuning.Tuning.{Tuning}
-use Rattle.trend_model.specs.History.{sent, prior, pending}
-use Rattle.trend_model.specs.Step.{offered, gained}
-use Rattle.trend_model.proofs.Sent.{offered_follows}
+use Rattle.trend_model.specs.History.{Event, Origin, Raw, in_force, sent, prior, pending}
+use Rattle.trend_model.specs.State.{offered, gained}
+use Rattle.trend_model.proofs.Offers.{offered_follows}
+use Rattle.trend_model.proofs.Sent.{last_in_order_is}
 use Rattle.exception_test.specs.declared.gate.Gate.{Gate}
 use Rattle.exception_test.specs.Gate.{GateStands}
 
 -- what the rules do at a gate that stands for a history is what they do at that history's two places
-offered_there : (tuning : Tuning) (gate : Gate) (p : Point) (h : List Point) → GateStands tuning gate h
-    → offered tuning gate.last gate.pending p ≡ offered tuning (prior tuning h) (pending tuning h) p
-offered_there tuning gate p h stands = ap₂ (λ l w. offered tuning l w p) stands.last stands.pending
+offered_there : (u : Tuning) (gate : Gate) (p : Point) (o : Origin) (h : List Event) → in_force o h ≡ u → GateStands o gate h
+    → offered u gate.last gate.pending p ≡ offered (in_force o h) (prior o h) (pending o h) p
+offered_there u gate p o h same stands =
+    ap (λ t. offered t gate.last gate.pending p) (sym same)
+    ∙ ap₂ (λ s w. offered (in_force o h) s w p) (stands.last ∙ last_in_order_is o h) stands.pending
 
 -- the gate after one more value stands for the history with it
-pub stands_on : (tuning : Tuning) (old new : Gate) (p : Point) → new.last ≡ (offered tuning old.last old.pending p).last
-    → new.pending ≡ (offered tuning old.last old.pending p).pending
-    → (h : List Point) → GateStands tuning old h → GateStands tuning new (p ∷ h)
-stands_on tuning old new p last waits h stands =
-    let there = offered_there tuning old p h stands in
-    let follows = offered_follows tuning h p in
+pub stands_on : (u : Tuning) (old new : Gate) (p : Point) → new.last ≡ (offered u old.last old.pending p).last
+    → new.pending ≡ (offered u old.last old.pending p).pending
+    → (o : Origin) (h : List Event) → in_force o h ≡ u → GateStands o old h → GateStands o new (Raw p ∷ h)
+stands_on u old new p last waits o h same stands =
+    let there = offered_there u old p o h same stands in
+    let follows = offered_follows o h p in
     record {
-      last = last ∙ ap (λ o. o.last) there ∙ follows.last;
-      pending = waits ∙ ap (λ o. o.pending) there ∙ follows.pending;
+      last = last ∙ ap (λ f. f.last) there ∙ follows.last_is ∙ sym (last_in_order_is o (Raw p ∷ h));
+      pending = waits ∙ ap (λ f. f.pending) there ∙ follows.pending_is;
     }
 
 -- what it hands on is what that history sends more
-pub sends_on : (tuning : Tuning) (old : Gate) (p : Point) (first : Option Point) (second : Option Sending)
-    → first ≡ (offered tuning old.last old.pending p).first → second ≡ (offered tuning old.last old.pending p).second
-    → (h : List Point) → GateStands tuning old h → sent tuning (p ∷ h) ≡ gained first second ++ sent tuning h
-sends_on tuning old p first second one two h stands =
-    let there = offered_there tuning old p h stands in
-    let follows = offered_follows tuning h p in
-    let firsts = one ∙ ap (λ o. o.first) there in
-    let seconds = two ∙ ap (λ o. o.second) there in
-    follows.sends ∙ ap (λ more. more ++ sent tuning h) (sym (ap₂ gained firsts seconds))
+pub sends_on : (u : Tuning) (old : Gate) (p : Point) (first : Option Point) (second : Option Sending)
+    → first ≡ (offered u old.last old.pending p).first → second ≡ (offered u old.last old.pending p).second
+    → (o : Origin) (h : List Event) → in_force o h ≡ u → GateStands o old h
+    → sent o (Raw p ∷ h) ≡ gained first second ++ sent o h
+sends_on u old p first second one two o h same stands =
+    let there = offered_there u old p o h same stands in
+    let follows = offered_follows o h p in
+    let firsts = one ∙ ap (λ f. f.first) there in
+    let seconds = two ∙ ap (λ f. f.second) there in
+    follows.sends ∙ ap (λ more. more ++ sent o h) (sym (ap₂ gained firsts seconds))

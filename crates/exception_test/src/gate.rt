@@ -1,9 +1,7 @@
 // The gate of a tag's exception test.
-ghost use Rattle.std.specs.Prelude.{◌≡◌, List, [], ◌∷◌, ◌++◌};
-ghost use Rattle.trend_num.specs.declared.point.Point.{Point};
-ghost use Rattle.trend_num.specs.declared.tuning.Tuning.{Tuning};
-ghost use Rattle.trend_model.specs.History.{is_far, sent};
-ghost use Rattle.trend_model.specs.Step.{offered, offered_in_order, gained};
+ghost use Rattle.std.specs.Prelude.{◌≡◌, ◌↔◌, IsTrue, List, [], ◌∷◌, ◌++◌};
+ghost use Rattle.trend_model.specs.History.{Event, Origin, Raw, in_force, is_far, sent};
+ghost use Rattle.trend_model.specs.State.{gained, offered, offered_in_order};
 ghost use Rattle.exception_test.specs.Gate.{GateStands};
 
 use trend_num::{Point, Sending, Tuning};
@@ -11,7 +9,7 @@ use trend_num::{Point, Sending, Tuning};
 /// What an exception test keeps of a tag.
 #[derive(Clone, Copy, Debug, PartialEq, Eq)]
 pub struct Gate {
-    /// The last value sent in order.
+    /// The last value sent in order: the held point of the compression behind the gate.
     pub last: Option<Point>,
     /// The newest value in order after it, which was not sent.
     pub pending: Option<Point>,
@@ -31,7 +29,7 @@ impl Gate {
     pub fn new() -> Gate
         ensures last { result.last ≡ None }
         ensures pending { result.pending ≡ None }
-        ensures stands { (tuning : Tuning) → GateStands tuning result [] }
+        ensures stands { (o : Origin) → GateStands o result [] }
     {
         Gate {
             last: None,
@@ -52,10 +50,11 @@ impl Gate {
         ensures first { result.first ≡ (offered tuning.now self.old.last self.old.pending p).first }
         ensures second { result.second ≡ (offered tuning.now self.old.last self.old.pending p).second }
 
-        // Over any history.
-        ensures stands { (h : List Point) → GateStands tuning.now self.old h → GateStands tuning.now self.new (p ∷ h) }
-        ensures sends { (h : List Point) → GateStands tuning.now self.old h
-            → sent tuning.now (p ∷ h) ≡ gained result.first result.second ++ sent tuning.now h }
+        // Over any history of any tag that has this tuning in force.
+        ensures stands { (o : Origin) (h : List Event) → in_force o h ≡ tuning.now
+            → GateStands o self.old h → GateStands o self.new (Raw p ∷ h) }
+        ensures sends { (o : Origin) (h : List Event) → in_force o h ≡ tuning.now
+            → GateStands o self.old h → sent o (Raw p ∷ h) ≡ gained result.first result.second ++ sent o h }
     {
         let (gate, sent) = self.after(tuning, p);
         *self = gate;
@@ -111,6 +110,20 @@ impl Gate {
     }
 }
 
+/// Whether two gates have the same two places, by `==`.
+pub fn same_gate(a: &Gate, b: &Gate) -> bool
+    ensures { IsTrue result ↔ (a.now ≡ b.now) }
+{
+    a == b
+}
+
+/// Whether the same is handed on twice, by `==`.
+pub fn same_sent(a: &Sent, b: &Sent) -> bool
+    ensures { IsTrue result ↔ (a.now ≡ b.now) }
+{
+    a == b
+}
+
 /// A gate whose last value is this one, with nothing pending.
 fn sent_last(p: Point) -> Gate
     ensures { result ≡ record { last = Some p; pending = None } }
@@ -145,7 +158,8 @@ fn late(first: Option<Point>, p: Point) -> Sent
 fn is_far(tuning: &Tuning, last: Point, p: Point) -> bool
     ensures { result ≡ is_far tuning.now last p }
 {
-    p.v.abs_diff(last.v) > tuning.exc_dev || p.t.saturating_sub(last.t) >= tuning.exc_max
+    let lasted = last.t <= p.t && p.t - last.t >= tuning.exc_max;
+    p.v.abs_diff(last.v) > tuning.exc_dev || lasted
 }
 
 #[cfg(test)]

@@ -4,6 +4,7 @@ use Rattle.std.proofs.lemmas.Bool.Decides.{nat_tests}
 use Rattle.trend_num.specs.declared.point.Point.{Point}
 use Rattle.trend_num.specs.declared.refusal.What.TheVariants.{FileBytes, Rows, Records}
 use Rattle.trend_num.specs.declared.tuning.Tuning.{Tuning}
+use Rattle.trend_model.specs.History.{Event, Origin}
 use Rattle.byte_io.specs.Outside.{Outside, CountsNoFault, TakesAll}
 use Rattle.point_text.specs.Row.{points_of}
 use Rattle.point_text.specs.declared.failure.RowNo.{RowNo}
@@ -11,7 +12,7 @@ use Rattle.point_text.specs.declared.failure.RowNo.TheVariants as row_no
 use Rattle.plant_status.specs.declared.file.FileId.TheVariants.{Input}
 use Rattle.plant_status.specs.declared.status.Status.{Status}
 use Rattle.plant_status.specs.declared.status.Status.TheVariants.{BadRow, Limit, WantOfMemory}
-use Rattle.pack_command.specs.Pack.{Refuses, IsPackRefusal, IsRead, RefusesBytes, answer_full, answer_rows, first_full, history_answer, history_of, most_bytes, most_rows, pack_answer, status_of_rows}
+use Rattle.pack_command.specs.Pack.{Refuses, IsPackRefusal, IsRead, RefusesBytes, answer_full, answer_rows, first_full, history_answer, history_of, most_bytes, origin_of, most_rows, pack_answer, status_of_rows}
 
 -- the test of too many bytes, where there are none too many
 within_is : (n : ℕ) → n ≤ most_bytes → nat_lt most_bytes n ≡ false
@@ -46,17 +47,17 @@ rows_refused tuning before now bytes (row_no.TooMany count) whole no_fault few (
 rows_refused tuning before now bytes row_no.WantOfMemory whole no_fault few why = no_fault
 
 -- the answer to a history is no other refusal than that of its records
-full_is : (tuning : Tuning) (h : List Point) (full : Option ℕ) (why : Status) → answer_full tuning h full ≡ Refuses why
+full_is : (o : Origin) (h : List Event) (full : Option ℕ) (why : Status) → answer_full o h full ≡ Refuses why
     → (number : ℕ) × (why ≡ Limit Records number)
-full_is tuning h None why is = absurd (cc)
-full_is tuning h (Some number) why is = (number, cc)
+full_is o h None why is = absurd (cc)
+full_is o h (Some number) why is = (number, cc)
 
 -- a history that is refused
 pub history_refused : (tuning : Tuning) (before now : Outside) (points : List Point) (why : Status) → IsRead before now points
-    → (why ≡ WantOfMemory) ⊎ (history_answer tuning (history_of points) ≡ Refuses why) → IsPackRefusal tuning before now why
+    → (why ≡ WantOfMemory) ⊎ (history_answer (origin_of tuning) (history_of points) ≡ Refuses why) → IsPackRefusal tuning before now why
 history_refused tuning before now points why read (inl memory) = subst (IsPackRefusal tuning before now) (sym memory) read.no_fault
 history_refused tuning before now points why read (inr is) =
-    let full = full_is tuning (history_of points) (first_full tuning (history_of points)) why is in
+    let full = full_is (origin_of tuning) (history_of points) (first_full (origin_of tuning) (history_of points)) why is in
     subst (IsPackRefusal tuning before now) (sym full.1) (
       bytes_refused tuning before now read.bytes (Limit Records full.0) read.whole read.no_fault read.within
           (ap (answer_rows tuning) read.rows ∙ is ∙ ap (λ s. Refuses s) full.1),

@@ -1,12 +1,13 @@
 -- What `pack` answers to the bytes of its standard input.
-use Rattle.std.specs.Prelude.{◌≡◌, ℕ, ◌+◌, ◌<◌, ◌≤◌, ◌⊎◌, cond, List, [], ◌∷◌, length, reverse, Option, None, Some, nat_lt, Result, Ok, Err}
+use Rattle.std.specs.Prelude.{◌≡◌, ℕ, ◌+◌, ◌<◌, ◌≤◌, ◌⊎◌, cond, false, List, [], ◌∷◌, length, map, reverse, Option, None, Some, nat_lt, Result, Ok, Err}
 use Rattle.std.specs.Io.KnownBytes.{IsAtEnd}
+use Rattle.std.specs.Option.{option_or}
 use Rattle.trend_num.specs.declared.archive.TheConstants.{MAX_RECORDS}
 use Rattle.trend_num.specs.declared.point.Point.{Point}
 use Rattle.trend_num.specs.declared.refusal.What.TheVariants.{FileBytes, Rows, Records}
 use Rattle.trend_num.specs.declared.tuning.Tuning.{Tuning}
+use Rattle.trend_model.specs.History.{Event, Raw, Origin}
 use Rattle.trend_model.specs.Walk.{records, held}
-use Rattle.trend_model.specs.Content.{first_there}
 use Rattle.byte_io.specs.Outside.{Outside, CountsNoFault, CountsOneFault, Takes, TakesAll, TakesExactly, TakesAtMost}
 use Rattle.point_text.specs.Row.{points_of}
 use Rattle.point_text.specs.Text.{archive_text}
@@ -30,25 +31,28 @@ pub data Answer : Type 0 where
   Prints : List ℕ → Answer
   Refuses : Status → Answer
 
--- the history of the points of a text, which come the oldest first
-abbrev pub history_of : List Point → List Point
-history_of points = reverse points
+-- a tag of lines that was made with this tuning
+abbrev pub origin_of : Tuning → Origin
+origin_of tuning = record { tuning = tuning; step = false }
 
--- the records that stood at the first take that had no room for two more, in a history
-abbrev pub first_full : Tuning → List Point → Option ℕ
-first_full tuning [] = None
-first_full tuning (p ∷ h) =
-    first_there (first_full tuning h)
-    (cond (nat_lt MAX_RECORDS (length (records tuning h) + 2)) (Some (length (records tuning h))) None)
+-- the history of the points of a text, which come the oldest first: each is a raw value
+abbrev pub history_of : List Point → List Event
+history_of points = map Raw (reverse points)
+
+-- the records that stood at the first event of a history that had no room for two more
+abbrev pub first_full : Origin → List Event → Option ℕ
+first_full o [] = None
+first_full o (e ∷ h) =
+    option_or (first_full o h) (cond (nat_lt MAX_RECORDS (length (records o h) + 2)) (Some (length (records o h))) None)
 
 -- the text of a history that had room throughout
-abbrev pub answer_full : Tuning → List Point → Option ℕ → Answer
-answer_full tuning h None = Prints (archive_text (records tuning h) (held tuning h))
-answer_full tuning h (Some stood) = Refuses (Limit Records stood)
+abbrev pub answer_full : Origin → List Event → Option ℕ → Answer
+answer_full o h None = Prints (archive_text (records o h) (held o h))
+answer_full o h (Some stood) = Refuses (Limit Records stood)
 
 -- the answer to a history
-abbrev pub history_answer : Tuning → List Point → Answer
-history_answer tuning h = answer_full tuning h (first_full tuning h)
+abbrev pub history_answer : Origin → List Event → Answer
+history_answer o h = answer_full o h (first_full o h)
 
 -- the status of rows that are refused
 abbrev pub status_of_rows : RowNo → Status
@@ -58,7 +62,7 @@ status_of_rows row_no.WantOfMemory = WantOfMemory
 
 -- the answer to what the lines say
 abbrev pub answer_rows : Tuning → Result (List Point) RowNo → Answer
-answer_rows tuning (Ok points) = history_answer tuning (history_of points)
+answer_rows tuning (Ok points) = history_answer (origin_of tuning) (history_of points)
 answer_rows tuning (Err why) = Refuses (status_of_rows why)
 
 -- the answer to bytes
@@ -80,8 +84,8 @@ pub record IsRead (before now : Outside) (points : List Point) : Type 0 where
 pub record IsPrinted (tuning : Tuning) (before now : Outside) (text : List ℕ) : Type 0 where
   pub points : List Point
   pub read : IsRead before now points
-  pub room : first_full tuning (history_of points) ≡ None
-  pub same : text ≡ archive_text (records tuning (history_of points)) (held tuning (history_of points))
+  pub room : first_full (origin_of tuning) (history_of points) ≡ None
+  pub same : text ≡ archive_text (records (origin_of tuning) (history_of points)) (held (origin_of tuning) (history_of points))
 
 -- all of the input, or more than may be read, was taken, no read failed, and the answer to it is this refusal
 pub record RefusesBytes (tuning : Tuning) (before now : Outside) (refusal : Status) : Type 0 where

@@ -1,10 +1,10 @@
 // What the archive of the input's points is, as a text.
 ghost use Rattle.std.specs.Prelude.{◌≡◌, ◌⊎◌, ◌<◌, ◌≤◌, None, All, IfOk, IfErr, length, string_bytes};
 ghost use Rattle.trend_num.specs.Ranges.{InRange, IsTuned};
-ghost use Rattle.trend_model.specs.Step.{Stands};
+ghost use Rattle.trend_model.specs.State.{Stands};
 ghost use Rattle.trend_model.specs.Walk.{held, records};
 ghost use Rattle.point_text.specs.Text.{archive_text};
-ghost use Rattle.pack_command.specs.Pack.{Refuses, IsPackRefusal, IsPrinted, first_full, history_answer, history_of, most_rows};
+ghost use Rattle.pack_command.specs.Pack.{Refuses, IsPackRefusal, IsPrinted, first_full, history_answer, history_of, most_rows, origin_of};
 
 use crate::input::read_input;
 use byte_io::Source;
@@ -34,10 +34,10 @@ fn packed_text(alloc: Global, tuning: Tuning, points: &[Point]) -> Result<String
     requires few { length points.now ≤ most_rows }
     requires in_range { All InRange points.now }
     ensures text { IfOk result (λ text. string_bytes text
-        ≡ archive_text (records tuning (history_of points.now)) (held tuning (history_of points.now))) }
-    ensures room { IfOk result (λ text. first_full tuning (history_of points.now) ≡ None) }
+        ≡ archive_text (records (origin_of tuning) (history_of points.now)) (held (origin_of tuning) (history_of points.now))) }
+    ensures room { IfOk result (λ text. first_full (origin_of tuning) (history_of points.now) ≡ None) }
     ensures refused { IfErr result (λ why. (why ≡ Status.WantOfMemory)
-        ⊎ (history_answer tuning (history_of points.now) ≡ Refuses why)) }
+        ⊎ (history_answer (origin_of tuning) (history_of points.now) ≡ Refuses why)) }
 {
     let core = core_of::<Brand>(alloc, tuning, points, Blank::new(1))?;
     match archive_text(alloc, core.recs(), core.held()) {
@@ -59,12 +59,12 @@ fn core_of<L: Ledger>(
     requires name { blank.name ≡ L.name }
     requires parts { blank.parts ≡ L.parts }
     requires some { 0 < L.parts }
-    ensures stands { IfOk result (λ core. Stands tuning (history_of points.now) core.state) }
-    ensures room { IfOk result (λ core. first_full tuning (history_of points.now) ≡ None) }
+    ensures stands { IfOk result (λ core. Stands (origin_of tuning) (history_of points.now) core.state) }
+    ensures room { IfOk result (λ core. first_full (origin_of tuning) (history_of points.now) ≡ None) }
     ensures refused { IfErr result (λ why. (why ≡ Status.WantOfMemory)
-        ⊎ (history_answer tuning (history_of points.now) ≡ Refuses why)) }
+        ⊎ (history_answer (origin_of tuning) (history_of points.now) ≡ Refuses why)) }
 {
-    let Ok(mut core) = TagCore::new(alloc, tuning, points.len() as u32) else {
+    let Ok(mut core) = TagCore::new(alloc, tuning, false, points.len() as u32) else {
         return Err(Status::WantOfMemory);
     };
     let mut steps = Steps::<L>::new(blank);

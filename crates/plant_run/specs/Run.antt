@@ -9,7 +9,7 @@ use Rattle.point_text.specs.Text.{archive_text}
 use Rattle.plant_status.specs.Status.{code_of, line_of}
 use Rattle.plant_status.specs.declared.status.Status.{Status}
 use Rattle.plant_status.specs.declared.status.Status.TheVariants.{Done, BadWords, WriteFault, WantOfMemory}
-use Rattle.pack_command.specs.Pack.{IsRead, IsPackRefusal, first_full, history_of}
+use Rattle.pack_command.specs.Pack.{IsRead, IsPackRefusal, first_full, history_of, origin_of}
 use Rattle.plant_run.specs.CommandLine.{pack_tuning}
 
 -- the words ask for `pack` with a tuning; all of the input was read, and this is the text of what its history keeps. That is near
@@ -19,9 +19,9 @@ pub record IsPacked (words : List (List ℕ)) (before now : Outside) (text : Lis
   pub points : List Point
   pub asked : pack_tuning words ≡ Some tuning
   pub read : IsRead before now points
-  pub room : first_full tuning (history_of points) ≡ None
-  pub same : text ≡ archive_text (records tuning (history_of points)) (held tuning (history_of points))
-  pub bounded : IsBounded tuning (history_of points)
+  pub room : first_full (origin_of tuning) (history_of points) ≡ None
+  pub same : text ≡ archive_text (records (origin_of tuning) (history_of points)) (held (origin_of tuning) (history_of points))
+  pub bounded : IsBounded (origin_of tuning) (history_of points)
 
 -- why a run of these words has no result, by its status: they are no form, and nothing was read; memory is wanted, and no read
 -- has failed; or they ask for `pack` with a tuning, and it refuses the input so

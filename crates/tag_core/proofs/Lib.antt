@@ -1,4 +1,4 @@
-pub mod Soundness
 pub mod Taking
+pub mod Counts
 pub mod Scans
 pub mod Slopes

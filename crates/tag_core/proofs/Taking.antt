@@ -1,74 +1,119 @@
--- What one more value changes in a core.
-use Rattle.std.proofs.Common.{◌≡◌, ℕ, ◌+◌, ◌≤◌, List, ◌∷◌, ◌++◌, Option, None, Some, length, refl, ap, ◌∙◌, arith, length-append}
+-- What one more event changes in a core.
+use Rattle.std.proofs.Common.{◌≡◌, ℕ, ◌+◌, ◌≤◌, Bool, List, [], ◌∷◌, Option, None, Some, length, refl, sym, ap, ap₂, ◌∙◌, subst, arith, length-append}
+use Rattle.std.specs.Option.{option_or}
 use Rattle.trend_num.specs.declared.point.Point.{Point}
-use Rattle.trend_num.specs.declared.archive.Rec.{Rec}
+use Rattle.trend_num.specs.declared.archive.TheConstants.{MAX_RECORDS}
 use Rattle.trend_num.specs.declared.sending.Sending.{Sending}
 use Rattle.trend_num.specs.declared.tuning.Tuning.{Tuning}
-use Rattle.trend_num.specs.Ranges.{InRange}
-use Rattle.trend_model.specs.Step.{Archive, State, Stands, pushed_out, offered, gained, archived, archive_in, state_with, step}
-use Rattle.trend_model.proofs.StepLaw.{step_stands}
-use Rattle.tag_core.specs.Core.{Compressed, archive_with, compressed_after, spare_of}
-use Rattle.tag_core.specs.Sound.{AreNext, IsOrderly, IsSound}
-use Rattle.tag_core.proofs.Soundness.{orderly_archived, grows_archived, gained_few, step_fits}
+use Rattle.trend_num.specs.Ranges.{InRange, IsTuned}
+use Rattle.trend_model.specs.History.{Event, Origin, Raw, Sent}
+use Rattle.trend_model.specs.State.{State, Stands, pushed_out, gained, offered, turned, archive_on, archived, state_with, after_under, after}
+use Rattle.trend_model.specs.Orders.{AllPoints, tuned_by}
+use Rattle.trend_model.proofs.Following.{held_after, held_archived, grows_archived}
+use Rattle.trend_model.proofs.RulesLaw.{after_adds, after_ruled, tuning_is}
+use Rattle.trend_model.proofs.StateLaw.{stands_after}
+use Rattle.tag_core.specs.Compressed.{AddsTwo, Compressed, archive_with, compressed_in, compressed_after}
+use Rattle.tag_core.specs.Core.{IsCore}
 
--- what is sent of a sound state's next value comes in order of time
-pub sent_next : (s : State) (tuning : Tuning) (p : Point) (first : Option Point) (second : Option Sending) → IsSound s → InRange p
-    → tuning ≡ s.tuning → first ≡ (offered tuning s.summary.held s.summary.pending p).first
-    → second ≡ (offered tuning s.summary.held s.summary.pending p).second
-    → AreNext s.tuning (archive_in s) (gained first second)
-sent_next s tuning p first second sound range same one two = rw (one, two, same) (step_fits s p sound range).next
+-- ---- what is compressed
 
--- the pending value goes first
-first_next : (tuning : Tuning) (a : Archive) (first : Option Point) (second : Option Sending) → AreNext tuning a (gained first second)
-    → AreNext tuning a (pushed_out first)
-first_next tuning a first None next = next
-first_next tuning a first (Some s) next = next.0
+-- a pending value that is sent is held
+held_pushed : (held first : Option Point) → held_after held (pushed_out first) ≡ option_or first held
+held_pushed held None = refl
+held_pushed held (Some q) = refl
 
-pub orderly_after_first : (old new : Compressed) (held then : Option Point) (first : Option Point) (second : Option Sending)
-    → IsOrderly (archive_with old held) → AreNext old.tuning (archive_with old held) (gained first second)
-    → new ≡ compressed_after old held (pushed_out first) → then ≡ (archived old.tuning (archive_with old held) (pushed_out first)).held
-    → IsOrderly (archive_with new then)
-orderly_after_first old new held then first second orderly next after same =
-    rw (after, same)
-    (orderly_archived old.tuning (archive_with old held) (pushed_out first) orderly
-    (first_next old.tuning (archive_with old held) first second next))
+-- what is compressed of a pending value, at the point that is then held, is the archive after it
+pub first_archive : (old new : Compressed) (held first : Option Point) → new ≡ compressed_after old held (pushed_out first)
+    → archive_with new (option_or first held) ≡ archived old.step (archive_with old held) (pushed_out first)
+first_archive old new held first after =
+    let a = archived old.step (archive_with old held) (pushed_out first) in
+    let same : option_or first held ≡ a.held =
+    sym (held_archived old.step (archive_with old held) (pushed_out first) ∙ held_pushed held first) in
+    rw (after, same) refl
 
--- a compression that holds up to so many records more, in up to so many places
-pub record Takes (most : ℕ) (old new : Compressed) : Type 0 where
-  pub more : List Rec
-  pub at_end : new.records ≡ old.records ++ more
-  pub not_fewer : length old.records ≤ length new.records
-  pub few : length new.records ≤ length old.records + most
-  pub spare : spare_of old ≤ spare_of new + most
+-- a pending value is compressed, and then one thing more
+pub after_both : (old mid new : Compressed) (held first then : Option Point) (s : Sent) → mid ≡ compressed_after old held (pushed_out first)
+    → then ≡ option_or first held → new ≡ compressed_after mid then (s ∷ []) → new ≡ compressed_after old held (s ∷ pushed_out first)
+after_both old mid new held first then s after same last =
+    let a = archived old.step (archive_with old held) (pushed_out first) in
+    last ∙ ap (λ q. compressed_after mid q (s ∷ [])) same
+    ∙ ap (λ b. compressed_in mid.step (archive_on mid.step b s) mid.places) (first_archive old mid held first after)
+    ∙ ap (λ (m : Compressed). compressed_in m.step (archive_on m.step a s) m.places) after
 
-pub takes : (most : ℕ) (old new : Compressed) (held : Option Point) (sendings : List Sending) → length sendings ≤ most
-    → new ≡ compressed_after old held sendings → Takes most old new
-takes most old new held sendings few_sent e =
-    let grown = grows_archived old.tuning (archive_with old held) sendings in
-    let after = compressed_after old held sendings in
-    let records : length after.records ≡ length old.records + length grown.more =
-    ap length grown.at_end ∙ length-append old.records grown.more in
-    let few = grown.few in
-    rw e (record { more = grown.more; at_end = grown.at_end; not_fewer = omega arith; few = omega arith; spare = omega arith })
+-- two things that are sent add two records at most, at the end, in the places that were there
+pub adds_two : (old new : Compressed) (held : Option Point) (ss : List Sent) → length ss ≤ 2 → new ≡ compressed_after old held ss → AddsTwo old new
+adds_two old new held ss two after =
+    let grown = grows_archived old.step (archive_with old held) ss in
+    let more = grown.few in
+    let n = ap length grown.at_end ∙ length-append old.records grown.more in
+    subst (AddsTwo old) (sym after)
+    (record { grows = (grown.more, grown.at_end); not_fewer = omega arith; few = omega arith; same_places = refl })
 
-pub takes_two : (old new : Compressed) (held first : Option Point) (second : Option Sending)
-    → new ≡ compressed_after old held (gained first second) → Takes 2 old new
-takes_two old new held first second e = takes 2 old new held (gained first second) (gained_few first second) e
+-- ---- the core
 
-pub takes_first : (old new : Compressed) (held first : Option Point) → new ≡ compressed_after old held (pushed_out first) → Takes 1 old new
-takes_first old new held None e = takes 1 old new held (pushed_out None) (omega arith) e
-takes_first old new held (Some p) e = takes 1 old new held (pushed_out (Some p)) (omega arith) e
+-- the state of a core of these parts
+abbrev pub state_of : Compressed → ℕ → Option Point → Option Point → State
+state_of c taken last waiting = state_with (archive_with c last) taken last waiting
 
--- the parts of a core after one value are those of its state after one step
-pub step_taken : (old new : Compressed) (tuning : Tuning) (taken : ℕ) (last waiting last_then waiting_then : Option Point) (p : Point)
-    (first : Option Point) (second : Option Sending) → tuning ≡ old.tuning → new ≡ compressed_after old last (gained first second)
-    → last_then ≡ (offered tuning last waiting p).last → waiting_then ≡ (offered tuning last waiting p).pending
-    → first ≡ (offered tuning last waiting p).first → second ≡ (offered tuning last waiting p).second
-    → state_with new.tuning (archive_with new last_then) (taken + 1) last_then waiting_then
-    ≡ step (state_with old.tuning (archive_with old last) taken last waiting) p
-step_taken old new tuning taken last waiting last_then waiting_then p first second same after lasts waits one two =
-    rw (after, lasts, waits, one, two, same) refl
+-- the parts of a core after one more event: what is compressed, how many events were taken, and the gate's two places
+pub record Turns (old new : Compressed) (taken then : ℕ) (last waiting last_then waiting_then : Option Point) (e : Event) : Type 0 where
+  pub compressed : new ≡ compressed_after old last (turned old.tuning last waiting e).sends
+  pub last_is : last_then ≡ (turned old.tuning last waiting e).last
+  pub pending_is : waiting_then ≡ (turned old.tuning last waiting e).pending
+  pub counted : then ≡ taken + 1
 
--- a core that stands for a history stands for the longer one after a step
-pub stands_on : (old new : State) (p : Point) → new ≡ step old p → (h : List Point) → Stands old.tuning h old → Stands old.tuning (p ∷ h) new
-stands_on old new p stepped h stands = rw stepped (step_stands old.tuning h p old stands)
+-- what an exception test hands on of a value turns the parts
+pub value_turns : (old new : Compressed) (taken then : ℕ) (last waiting last_then waiting_then : Option Point) (u : Tuning) (p : Point)
+    (first : Option Point) (second : Option Sending) → u ≡ old.tuning → new ≡ compressed_after old last (gained first second)
+    → last_then ≡ (offered u last waiting p).last → waiting_then ≡ (offered u last waiting p).pending
+    → first ≡ (offered u last waiting p).first → second ≡ (offered u last waiting p).second → then ≡ taken + 1
+    → Turns old new taken then last waiting last_then waiting_then (Raw p)
+value_turns old new taken then last waiting last_then waiting_then u p first second same compressed lasts waits one two counted =
+    let offer = λ (t : Tuning). offered t last waiting p in
+    record {
+      compressed = compressed ∙ ap (λ ss. compressed_after old last ss)
+          (ap₂ gained (one ∙ ap (λ t. (offer t).first) same) (two ∙ ap (λ t. (offer t).second) same));
+      last_is = lasts ∙ ap (λ t. (offer t).last) same;
+      pending_is = waits ∙ ap (λ t. (offer t).pending) same;
+      counted = counted;
+    }
+
+-- the state of parts that turned is the state after the event
+pub turned_state : (old new : Compressed) (taken then : ℕ) (last waiting last_then waiting_then : Option Point) (e : Event)
+    → Turns old new taken then last waiting last_then waiting_then e
+    → state_of new then last_then waiting_then ≡ after old.step (state_of old taken last waiting) e
+turned_state old new taken then last waiting last_then waiting_then e t = rw (t.compressed, t.last_is, t.pending_is, t.counted) refl
+
+-- one more event keeps what is true of each core
+core_on : (u : Tuning) (step : Bool) (s : State) (e : Event) → IsCore u step s → AllPoints InRange (e ∷ []) → IsTuned (tuned_by u e)
+    → length s.records + 2 ≤ MAX_RECORDS → IsCore (tuned_by u e) step (after step s e)
+core_on u step s e core here tuned room = record {
+  tuned = subst (λ t. (after_under step s e t).summary.tuning ≡ Some (tuned_by u e)) (sym core.tuned) (ap Some (tuning_is u step s e));
+  tuned_ok = tuned;
+  ruled = after_ruled InRange u step s e core.ruled core.tuned here;
+  few = (let few = after_adds step s e in omega arith);
+}
+
+-- so it does of the parts
+pub core_turned : (old new : Compressed) (taken then : ℕ) (last waiting last_then waiting_then : Option Point) (e : Event)
+    → Turns old new taken then last waiting last_then waiting_then e → IsCore old.tuning old.step (state_of old taken last waiting)
+    → AllPoints InRange (e ∷ []) → IsTuned (tuned_by old.tuning e) → length old.records + 2 ≤ MAX_RECORDS
+    → IsCore new.tuning new.step (state_of new then last_then waiting_then)
+core_turned old new taken then last waiting last_then waiting_then e t core here tuned room =
+    let s = state_of old taken last waiting in
+    let same : new.tuning ≡ tuned_by old.tuning e = ap (λ (c : Compressed). c.tuning) t.compressed ∙ tuning_is old.tuning old.step s e in
+    let kind : new.step ≡ old.step = ap (λ (c : Compressed). c.step) t.compressed in
+    let state = turned_state old new taken then last waiting last_then waiting_then e t in
+    let on = core_on old.tuning old.step s e core here tuned room in
+    subst (λ x. IsCore new.tuning new.step x) (sym state)
+    (subst (λ b. IsCore new.tuning b (after old.step s e)) (sym kind)
+    (subst (λ u. IsCore u old.step (after old.step s e)) (sym same) on))
+
+-- what stands for a history stands for the history and the event
+pub stands_turned : (old new : Compressed) (taken then : ℕ) (last waiting last_then waiting_then : Option Point) (e : Event)
+    → Turns old new taken then last waiting last_then waiting_then e
+    → (o : Origin) (h : List Event) → o.step ≡ old.step → Stands o h (state_of old taken last waiting)
+    → Stands o (e ∷ h) (state_of new then last_then waiting_then)
+stands_turned old new taken then last waiting last_then waiting_then e t o h kind stands =
+    rw (turned_state old new taken then last waiting last_then waiting_then e t, ← kind)
+    (stands_after o h e (state_of old taken last waiting) stands)

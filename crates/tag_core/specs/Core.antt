@@ -1,60 +1,53 @@
 -- What a tag's core shows.
-use Rattle.std.specs.Prelude.{◌≡◌, ℕ, ◌-◌, List, Option, None, Some, length}
+use Rattle.std.specs.Prelude.{◌≡◌, ℕ, ◌+◌, ◌≤◌, pos, Bool, true, false, cond, List, [], ◌∷◌, Option, None, Some, length}
+use Rattle.trend_num.specs.declared.archive.TheConstants.{MAX_RECORDS}
 use Rattle.trend_num.specs.declared.point.Point.{Point}
-use Rattle.trend_num.specs.declared.archive.Rec.{Rec}
-use Rattle.trend_num.specs.declared.sending.Sending.{Sending}
 use Rattle.trend_num.specs.declared.tuning.Tuning.{Tuning}
-use Rattle.trend_model.specs.Step.{Archive, State, archived}
-use Rattle.door_slopes.specs.Hung.{Hung}
+use Rattle.trend_num.specs.Ranges.{InRange, IsTuned}
+use Rattle.trend_model.specs.History.{Event, Sent, InOrder, Late, Tuned}
+use Rattle.trend_model.specs.Walk.{is_short}
+use Rattle.trend_model.specs.Doors.{is_admitted, is_not_steeper}
+use Rattle.trend_model.specs.State.{Archive, State, archive_in, archived, turned}
+use Rattle.trend_model.specs.Parts.{IsRuled}
 
--- the state of a tag, and for how many more records there is memory
+-- the state of a tag, whether it is a step tag, and for how many more records there is memory
 pub record Core : Type 0 where
   pub state : State
+  pub step : Bool
   pub spare : ℕ
 
--- what compression keeps of a tag of this tuning, in memory of this many places for records
-pub record Compressed : Type 0 where
-  pub tuning : Tuning
-  pub records : List Rec
-  pub hinge : Option Point
-  pub upper : Option Point
-  pub lower : Option Point
-  pub places : ℕ
+-- what is true of the state of each core of this kind, u being its tuning
+pub record IsCore (u : Tuning) (step : Bool) (s : State) : Type 0 where
+  pub tuned : s.summary.tuning ≡ Some u
+  pub tuned_ok : IsTuned u
+  pub ruled : IsRuled InRange u step s.records s.summary
+  pub few : length s.records ≤ MAX_RECORDS
 
--- the upper door of two doors, and the lower one
-abbrev pub upper_of : Option Hung → Option Point
-upper_of None = None
-upper_of (Some doors) = Some doors.upper
+-- ---- how many slopes are compared
 
-abbrev pub lower_of : Option Hung → Option Point
-lower_of None = None
-lower_of (Some doors) = Some doors.lower
+-- for a value p of a tag of lines: where the line to it is not too long, its slope with the upper door and, where it passes
+-- under that, with the lower one; and where p joins, one for each door that may swing
+abbrev pub line_compared : Tuning → Point → Option Point → Option Point → Option Point → Option Point → ℕ
+line_compared t p (Some a) (Some q) (Some u) (Some l) = cond (is_short t a p)
+    (cond (is_not_steeper a p (pos 0) u (pos t.comp_dev)) 2 1 + cond (is_admitted a t.comp_dev u l p) 2 0) 0
+line_compared t p hinge held upper lower = 0
 
--- the doors hang at the hinge, with this deviation
-abbrev pub HangAt : ℕ → Option Point → Option Hung → Type 0
-HangAt deviation hinge None = Unit {0}
-HangAt deviation None (Some doors) = ⊥
-HangAt deviation (Some a) (Some doors) = (doors.hinge ≡ a) × (doors.deviation ≡ deviation)
+-- for one thing that is sent; a step tag compares none
+abbrev pub compared_on : Bool → Archive → Sent → ℕ
+compared_on step c (Late x) = 0
+compared_on step c (Tuned u) = 0
+compared_on false c (InOrder p) = line_compared c.tuning p c.hinge c.held c.upper c.lower
+compared_on true c (InOrder p) = 0
 
--- it is an archive, with this held point
-abbrev pub archive_with : Compressed → Option Point → Archive
-archive_with c held = record { records = c.records; hinge = c.hinge; held = held; upper = c.upper; lower = c.lower }
+-- for all of this, the newest first
+abbrev pub compared : Bool → Archive → List Sent → ℕ
+compared step c [] = 0
+compared step c (s ∷ ss) = compared step c ss + compared_on step (archived step c ss) s
 
--- an archive in memory of this many places
-abbrev pub compressed_in : Tuning → Archive → ℕ → Compressed
-compressed_in tuning a places = record {
-  tuning = tuning;
-  records = a.records;
-  hinge = a.hinge;
-  upper = a.upper;
-  lower = a.lower;
-  places = places;
-}
+-- for an event, under the tuning of the state
+abbrev pub compared_under : Bool → State → Event → Option Tuning → ℕ
+compared_under step s e None = 0
+compared_under step s e (Some u) = compared step (archive_in u s) (turned u s.summary.held s.summary.pending e).sends
 
--- the same memory after these values, the newest first
-abbrev pub compressed_after : Compressed → Option Point → List Sending → Compressed
-compressed_after c held sendings = compressed_in c.tuning (archived c.tuning (archive_with c held) sendings) c.places
-
--- the free places
-abbrev pub spare_of : Compressed → ℕ
-spare_of c = c.places - length c.records
+abbrev pub comparisons : Bool → State → Event → ℕ
+comparisons step s e = compared_under step s e s.summary.tuning

@@ -1,10 +1,14 @@
 // The records, the hinge and the doors of a tag.
-ghost use Rattle.std.specs.Prelude.{◌≡◌, ◌+◌, ◌<◌, ◌≤◌, [], ◌∷◌, ◌++◌, IfOk, None, Some, length};
+ghost use Rattle.std.specs.Prelude.{◌≡◌, ◌+◌, ◌<◌, ◌≤◌, [], ◌∷◌, ◌++◌, ◌&&◌, ◌||◌, IfOk, None, Some, cond, length, pos};
+ghost use Rattle.std.specs.Option.{option_or};
 ghost use Rattle.trend_num.specs.Ranges.{InRange, IsTuned};
-ghost use Rattle.trend_model.specs.Step.{archived, gained, joins, passes, pushed_out};
-ghost use Rattle.trend_model.specs.Walk.{kept, late};
-ghost use Rattle.tag_core.specs.Core.{Compressed, HangAt, archive_with, compressed_after, lower_of, spare_of, upper_of};
-ghost use Rattle.tag_core.specs.Sound.{AreNext, IsNext, IsOrderly};
+ghost use Rattle.trend_model.specs.History.{InOrder, Tuned};
+ghost use Rattle.trend_model.specs.Lists.{IfThere};
+ghost use Rattle.trend_model.specs.State.{gained, joins, line_after, pushed_out, stair_after};
+ghost use Rattle.trend_model.specs.Walk.{is_early, is_near, is_short, kept, late};
+ghost use Rattle.tag_core.specs.Compressed.{AddsTwo, ArePlaced, Compressed, HangAt, IsNext, IsNextSending, archive_with, compressed_after, compressed_in, lower_of, spare_of, upper_of};
+ghost use Rattle.tag_core.specs.Core.{compared, compared_on, line_compared};
+ghost use Rattle.trend_model.specs.Doors.{is_not_steeper};
 
 use door_slopes::Doors;
 use exception_test::Sent;
@@ -13,26 +17,29 @@ use std::marker::Model;
 use std::sync::ledger::Ledger;
 use trend_num::{Kind, Point, Rec, Sending, Steps, Tuning};
 
-/// What swinging-door compression keeps of a tag (after Bristol), in memory that is reserved.
+/// What compression keeps of a tag (swinging doors, after Bristol), in memory that is reserved.
 #[derive(Drop)]
 pub(crate) struct Compressor {
     tuning: Tuning,
+    /// Whether it is that of a step tag.
+    step: bool,
     recs: Vec<Rec>,
     /// The last kept point.
     hinge: Option<Point>,
-    /// The doors at the hinge, where a value was sent in order since.
+    /// The doors at the hinge, where a value was sent in order since. Those of a step tag are both that value.
     doors: Option<Doors>,
 }
 
 impl Model for Compressor {
     ghost use Rattle.std.specs.Prelude.{◌<◌, ◌^◌, vec_capacity};
     ghost use Rattle.trend_num.specs.Ranges.{IsTuned};
-    ghost use Rattle.tag_core.specs.Core.{Compressed, HangAt, lower_of, upper_of};
+    ghost use Rattle.tag_core.specs.Compressed.{Compressed, HangAt, lower_of, upper_of};
 
     ghost Value = { Compressed };
 
     ghost view = { λ c. record {
       tuning = c.tuning;
+      step = c.step;
       records = c.recs.items;
       hinge = c.hinge;
       upper = upper_of c.doors;
@@ -45,10 +52,16 @@ impl Model for Compressor {
 
 impl Compressor {
     /// An empty one, of this many places for records.
-    pub(crate) fn new(alloc: Global, tuning: Tuning, places: u32) -> Result<Compressor, AllocError>
+    pub(crate) fn new(
+        alloc: Global,
+        tuning: Tuning,
+        step: bool,
+        places: u32,
+    ) -> Result<Compressor, AllocError>
         requires { IsTuned tuning }
         ensures { IfOk result (λ c. c ≡ record {
           tuning = tuning;
+          step = step;
           records = [];
           hinge = None;
           upper = None;
@@ -59,6 +72,7 @@ impl Compressor {
         let recs = Vec::with_capacity(alloc, places as usize)?;
         Ok(Compressor {
             tuning,
+            step,
             recs,
             hinge: None,
             doors: None,
@@ -69,6 +83,7 @@ impl Compressor {
     pub(crate) fn from_parts(
         alloc: Global,
         tuning: Tuning,
+        step: bool,
         recs: &[Rec],
         hinge: Option<Point>,
         doors: Option<Doors>,
@@ -79,6 +94,7 @@ impl Compressor {
         requires room { length recs.now ≤ places }
         ensures { IfOk result (λ c. c ≡ record {
           tuning = tuning;
+          step = step;
           records = recs.now;
           hinge = hinge;
           upper = upper_of doors;
@@ -92,6 +108,7 @@ impl Compressor {
         }
         Ok(Compressor {
             tuning,
+            step,
             recs: copied,
             hinge,
             doors,
@@ -105,12 +122,20 @@ impl Compressor {
         (self.recs.capacity() - self.recs.len()) as u32
     }
 
-    /// The tuning that it was made with.
+    /// The tuning in force.
     #[inline]
     pub(crate) fn tuning(&self) -> &Tuning
-        ensures { result.now ≡ self.now.tuning }
+        ensures value { result.now ≡ self.now.tuning }
+        ensures tuned { IsTuned result.now }
     {
         &self.tuning
+    }
+
+    /// Whether it is that of a step tag.
+    pub(crate) fn step(&self) -> bool
+        ensures { result ≡ self.now.step }
+    {
+        self.step
     }
 
     /// The records, the oldest first.
@@ -157,39 +182,75 @@ impl Compressor {
         sent: Sent,
         steps: &mut Steps<L>,
     )
-        requires orderly { IsOrderly (archive_with self.old held) }
-        requires next { AreNext self.old.tuning (archive_with self.old held) (gained sent.first sent.second) }
+        requires placed { ArePlaced self.old.hinge held }
+        requires first { IfThere (IsNext held) sent.first }
+        requires second { IsNextSending (option_or sent.first held) sent.second }
         requires room { 2 ≤ spare_of self.old }
         ensures after { self.new ≡ compressed_after self.old held (gained sent.first sent.second) }
-        ensures cost { steps.new ≤ steps.old + 8 }
+        ensures adds { AddsTwo self.old self.new }
+        ensures cost { steps.new ≡ steps.old
+            + compared self.old.step (archive_with self.old held) (gained sent.first sent.second) }
     {
-        let held = self.take_pushed_out(held, sent.first, steps);
+        self.take_pushed_out(held, sent.first, steps);
         match sent.second {
             None => {}
-            Some(Sending::InOrder(p)) => self.take_in_order(held, p, steps),
+            Some(Sending::InOrder(p)) => self.take_in_order(sent.first.or(held), p, steps),
             Some(Sending::Late(p)) => self.take_late(p),
         }
     }
 
-    /// Takes a value that was pending, where there is one. Returns the point that is then held.
+    /// Takes a new tuning, at this held point. What waits is taken first, and then the span since the hinge is ended.
+    pub(crate) fn retune<L: Ledger>(
+        &mut self,
+        held: Option<Point>,
+        waiting: Option<Point>,
+        tuning: Tuning,
+        steps: &mut Steps<L>,
+    )
+        requires placed { ArePlaced self.old.hinge held }
+        requires waiting { IfThere (IsNext held) waiting }
+        requires tuned { IsTuned tuning }
+        requires room { 2 ≤ spare_of self.old }
+        ensures after { self.new ≡ compressed_after self.old held (Tuned tuning ∷ pushed_out waiting) }
+        ensures adds { AddsTwo self.old self.new }
+        ensures cost { steps.new ≡ steps.old
+            + compared self.old.step (archive_with self.old held) (Tuned tuning ∷ pushed_out waiting) }
+    {
+        self.take_pushed_out(held, waiting, steps);
+        self.end_span(waiting.or(held), tuning);
+    }
+
+    /// Keeps the held point, where values are since the hinge, and goes on by this tuning.
+    fn end_span(&mut self, held: Option<Point>, tuning: Tuning)
+        requires placed { ArePlaced self.old.hinge held }
+        requires tuned { IsTuned tuning }
+        requires room { 0 < spare_of self.old }
+        ensures { self.new ≡ compressed_after self.old held (Tuned tuning ∷ []) }
+    {
+        if let (Some(held), Some(_)) = (held, &self.doors) {
+            self.keep(held);
+        }
+        self.tuning = tuning;
+    }
+
+    /// Takes a value that was pending, where there is one.
     fn take_pushed_out<L: Ledger>(
         &mut self,
         held: Option<Point>,
         first: Option<Point>,
         steps: &mut Steps<L>,
-    ) -> Option<Point>
-        requires orderly { IsOrderly (archive_with self.old held) }
-        requires next { AreNext self.old.tuning (archive_with self.old held) (pushed_out first) }
+    )
+        requires placed { ArePlaced self.old.hinge held }
+        requires first { IfThere (IsNext held) first }
         requires room { 0 < spare_of self.old }
         ensures after { self.new ≡ compressed_after self.old held (pushed_out first) }
-        ensures held { result ≡ (archived self.old.tuning (archive_with self.old held) (pushed_out first)).held }
-        ensures cost { steps.new ≤ steps.old + 4 }
+        ensures placed { ArePlaced self.new.hinge (option_or first held) }
+        ensures room { spare_of self.old ≤ spare_of self.new + 1 }
+        ensures cost { steps.new ≡ steps.old + compared self.old.step (archive_with self.old held) (pushed_out first) }
     {
         if let Some(p) = first {
             self.take_in_order(held, p, steps);
-            return first;
         }
-        held
     }
 
     /// Takes a value that is sent late.
@@ -206,18 +267,42 @@ impl Compressor {
 
     /// Takes a value that is sent in order.
     fn take_in_order<L: Ledger>(&mut self, held: Option<Point>, p: Point, steps: &mut Steps<L>)
-        requires orderly { IsOrderly (archive_with self.old held) }
+        requires placed { ArePlaced self.old.hinge held }
         requires next { IsNext held p }
         requires room { 0 < spare_of self.old }
-        ensures after { self.new ≡ compressed_after self.old held (Sending.InOrder p ∷ []) }
-        ensures cost { steps.new ≤ steps.old + 4 }
+        ensures after { self.new ≡ compressed_after self.old held (InOrder p ∷ []) }
+        ensures placed { ArePlaced self.new.hinge (Some p) }
+        ensures room { spare_of self.old ≤ spare_of self.new + 1 }
+        ensures cost { steps.new ≡ steps.old + compared_on self.old.step (archive_with self.old held) (InOrder p) }
+    {
+        if self.step {
+            self.take_stair(held, p);
+        } else {
+            self.take_line(held, p, steps);
+        }
+    }
+
+    /// Takes a value of a tag of lines that is sent in order.
+    #[inline]
+    fn take_line<L: Ledger>(&mut self, held: Option<Point>, p: Point, steps: &mut Steps<L>)
+        requires placed { ArePlaced self.old.hinge held }
+        requires next { IsNext held p }
+        requires room { 0 < spare_of self.old }
+        ensures after { self.new ≡ compressed_in self.old.step
+            (line_after (archive_with self.old held) p self.old.hinge held self.old.upper self.old.lower) self.old.places }
+        ensures placed { ArePlaced self.new.hinge (Some p) }
+        ensures room { spare_of self.old ≤ spare_of self.new + 1 }
+        ensures cost { steps.new ≡ steps.old
+            + line_compared self.old.tuning p self.old.hinge held self.old.upper self.old.lower }
     {
         match (self.hinge, held, &mut self.doors) {
             (None, _, _) => self.keep(p),
             (Some(hinge), Some(newest), Some(doors)) => {
                 if joins(&self.tuning, doors, p, steps) {
                     doors.swing(p, steps);
-                } else if passes(&self.tuning, hinge, newest, p) {
+                } else if is_short(&self.tuning, hinge, p)
+                    && is_early(&self.tuning, hinge, newest)
+                {
                     self.hang(hinge, p);
                 } else {
                     self.keep(newest);
@@ -228,7 +313,23 @@ impl Compressor {
         }
     }
 
-    /// Hangs both doors at p, the first value since the hinge.
+    /// Takes a value of a step tag that is sent in order.
+    fn take_stair(&mut self, held: Option<Point>, p: Point)
+        requires placed { ArePlaced self.old.hinge held }
+        requires next { IsNext held p }
+        requires room { 0 < spare_of self.old }
+        ensures after { self.new ≡ compressed_in self.old.step
+            (stair_after (archive_with self.old held) p self.old.hinge) self.old.places }
+        ensures placed { ArePlaced self.new.hinge (Some p) }
+        ensures room { spare_of self.old ≤ spare_of self.new + 1 }
+    {
+        match self.hinge {
+            Some(hinge) if stays(&self.tuning, hinge, p) => self.hang(hinge, p),
+            _ => self.keep(p),
+        }
+    }
+
+    /// Hangs both doors at p, the last value since the hinge.
     #[inline]
     fn hang(&mut self, hinge: Point, p: Point)
         requires hinge { self.old.hinge ≡ Some hinge }
@@ -263,21 +364,51 @@ impl Compressor {
 /// Whether p joins the values since the hinge: the line to it is not too long, and passes between the doors.
 #[inline]
 fn joins<L: Ledger>(tuning: &Tuning, doors: &Doors, p: Point, steps: &mut Steps<L>) -> bool
+    requires tuned { IsTuned tuning.now }
     requires deviation { doors.now.deviation ≡ tuning.now.comp_dev }
     requires range { InRange p }
     requires after { doors.now.hinge.t < p.t }
     ensures value { result ≡ joins tuning.now doors.now.hinge doors.now.upper doors.now.lower p }
-    ensures cost { steps.new ≤ steps.old + 2 }
+    ensures cost { steps.new ≡ steps.old + cond (is_short tuning.now doors.now.hinge p)
+        (cond (is_not_steeper doors.now.hinge p (pos 0) doors.now.upper (pos tuning.now.comp_dev)) 2 1) 0 }
 {
-    p.t - doors.hinge().t <= tuning.comp_max && doors.admits(p, steps)
+    is_short(tuning, doors.hinge(), p) && doors.admits(p, steps)
 }
 
-/// Whether the values since the hinge are passed over: the newest is too near to the hinge to be kept.
+/// Whether p, a value of a step tag, is covered by the hinge: it comes within CompMax, near to the hinge in value or too
+/// near in time to be kept.
 #[inline]
-fn passes(tuning: &Tuning, hinge: Point, newest: Point, p: Point) -> bool
-    requires newest { hinge.t ≤ newest.t }
-    requires after { hinge.t ≤ p.t }
-    ensures { result ≡ passes tuning.now hinge newest p }
+fn stays(tuning: &Tuning, hinge: Point, p: Point) -> bool
+    requires tuned { IsTuned tuning.now }
+    requires hinge { InRange hinge }
+    ensures { result ≡ (is_short tuning.now hinge p && (is_near tuning.now hinge p || is_early tuning.now hinge p)) }
 {
-    p.t - hinge.t <= tuning.comp_max && newest.t - hinge.t < tuning.comp_min
+    is_short(tuning, hinge, p) && (is_near(tuning, hinge, p) || is_early(tuning, hinge, p))
+}
+
+/// Whether p is not too long after the hinge.
+#[inline]
+fn is_short(tuning: &Tuning, hinge: Point, p: Point) -> bool
+    requires tuned { IsTuned tuning.now }
+    requires hinge { InRange hinge }
+    ensures { result ≡ is_short tuning.now hinge p }
+{
+    p.t <= hinge.t + tuning.comp_max
+}
+
+/// Whether p is too near in time to the hinge to be kept.
+#[inline]
+fn is_early(tuning: &Tuning, hinge: Point, p: Point) -> bool
+    requires tuned { IsTuned tuning.now }
+    requires hinge { InRange hinge }
+    ensures { result ≡ is_early tuning.now hinge p }
+{
+    p.t < hinge.t + tuning.comp_min
+}
+
+/// Whether the value of p is within CompDev of that of the hinge.
+fn is_near(tuning: &Tuning, hinge: Point, p: Point) -> bool
+    ensures { result ≡ is_near tuning.now hinge p }
+{
+    p.v.abs_diff(hinge.v) <= tuning.comp_dev
 }

@@ -1,12 +1,14 @@
 // The core of a tag: the gate before the compressor.
-ghost use Rattle.std.specs.Prelude.{◌≡◌, ◌↔◌, ◌+◌, ◌-◌, ◌*◌, ◌^◌, ◌<◌, ◌≤◌, List, [], ◌∷◌, ◌++◌, IfOk, IfErr, OnOk, OnErr, IsErr, length};
-ghost use Rattle.trend_num.specs.declared.point.Point.{Point};
+ghost use Rattle.std.specs.Prelude.{◌≡◌, ◌↔◌, ◌+◌, ◌-◌, ◌*◌, ◌^◌, ◌<◌, ◌≤◌, List, [], ◌∷◌, ◌++◌, IfOk, IfErr, OnOk, OnErr, IsErr, None, Some, length, true};
 ghost use Rattle.trend_num.specs.declared.archive.Rec.{Rec};
-ghost use Rattle.trend_model.specs.Parts.{ArePartsOk};
+ghost use Rattle.trend_num.specs.declared.point.Point.{Point};
+ghost use Rattle.trend_num.specs.declared.tuning.Tuning.{Tuning};
 ghost use Rattle.trend_num.specs.Ranges.{InRange, IsTuned};
-ghost use Rattle.trend_model.specs.Step.{Stands, nothing_taken, step};
-ghost use Rattle.tag_core.specs.Core.{HangAt, lower_of, upper_of};
-ghost use Rattle.tag_core.specs.Sound.{IsSound};
+ghost use Rattle.trend_model.specs.History.{Event, Origin, Raw, Tune};
+ghost use Rattle.trend_model.specs.Parts.{ArePartsOk};
+ghost use Rattle.trend_model.specs.State.{Stands, after, nothing_taken};
+ghost use Rattle.tag_core.specs.Compressed.{HangAt, lower_of, upper_of};
+ghost use Rattle.tag_core.specs.Core.{comparisons};
 
 use crate::compressor::Compressor;
 use door_slopes::Doors;
@@ -16,7 +18,7 @@ use std::marker::Model;
 use std::sync::ledger::Ledger;
 use trend_num::{MAX_RECORDS, Point, Rec, Steps, Summary, Tuning, WantOfMemory};
 
-/// A tag in memory: its records, and the state from which its next value goes on.
+/// A tag in memory: its records, and the state from which its next event goes on.
 #[derive(Drop)]
 pub struct TagCore {
     compressor: Compressor,
@@ -25,28 +27,30 @@ pub struct TagCore {
 }
 
 impl Model for TagCore {
-    ghost use Rattle.tag_core.specs.Core.{Core, archive_with, spare_of};
-    ghost use Rattle.tag_core.specs.Sound.{IsSound};
-    ghost use Rattle.trend_model.specs.Step.{state_with};
+    ghost use Rattle.trend_model.specs.State.{state_with};
+    ghost use Rattle.tag_core.specs.Compressed.{archive_with, spare_of};
+    ghost use Rattle.tag_core.specs.Core.{Core, IsCore};
 
     ghost Value = { Core };
 
     ghost view = { λ c. record {
-      state = state_with c.compressor.tuning (archive_with c.compressor c.gate.last) c.taken c.gate.last c.gate.pending;
+      state = state_with (archive_with c.compressor c.gate.last) c.taken c.gate.last c.gate.pending;
+      step = c.compressor.step;
       spare = spare_of c.compressor;
     } };
 
-    ghost invariant = { λ c. IsSound (state_with c.compressor.tuning (archive_with c.compressor c.gate.last) c.taken c.gate.last c.gate.pending) };
+    ghost invariant = { λ c. IsCore c.compressor.tuning c.compressor.step
+        (state_with (archive_with c.compressor c.gate.last) c.taken c.gate.last c.gate.pending) };
 }
 
-/// What one value changed.
+/// What one event changed.
 #[derive(Clone, Copy, Debug, PartialEq, Eq)]
 pub struct Took {
     /// How many records were added, 0 to 2.
     pub added: u8,
 }
 
-/// A tag whose records one more value could bring above `MAX_RECORDS`.
+/// A tag whose records one more event could bring above `MAX_RECORDS`.
 #[derive(Clone, Copy, Debug, PartialEq, Eq)]
 pub struct Full {
     /// How many records it has.
@@ -54,16 +58,22 @@ pub struct Full {
 }
 
 impl TagCore {
-    /// A tag before its first value, with memory for `room` values: two records for each. A room of 2^31 or more is
+    /// A tag before its first event, with memory for `room` events: two records for each. A room of 2^31 or more is
     /// refused as memory that is not there.
-    pub fn new(alloc: Global, tuning: Tuning, room: u32) -> Result<TagCore, WantOfMemory>
+    pub fn new(
+        alloc: Global,
+        tuning: Tuning,
+        step: bool,
+        room: u32,
+    ) -> Result<TagCore, WantOfMemory>
         requires { IsTuned tuning }
         ensures state { IfOk result (λ core. core.state ≡ nothing_taken tuning) }
+        ensures step { IfOk result (λ core. core.step ≡ step) }
         ensures spare { IfOk result (λ core. core.spare ≡ 2 * room) }
-        ensures stands { IfOk result (λ core. Stands tuning [] core.state) }
+        ensures stands { IfOk result (λ core. Stands (record { tuning = tuning; step = step }) [] core.state) }
     {
         let places = room.checked_mul(2).ok_or(WantOfMemory)?;
-        let compressor = Compressor::new(alloc, tuning, places).map_err(|_| WantOfMemory)?;
+        let compressor = Compressor::new(alloc, tuning, step, places).map_err(|_| WantOfMemory)?;
         Ok(TagCore {
             compressor,
             gate: Gate::new(),
@@ -71,28 +81,31 @@ impl TagCore {
         })
     }
 
-    /// A tag of these records and this summary, with memory for `room` more values: two records for each. Its doors
-    /// are as they are in the summary. A room for which there are too many places is refused as memory that is not
-    /// there.
+    /// A tag of these records and this summary, with memory for `room` more events: two records for each. Its doors are
+    /// as they are in the summary; a summary without a tuning gets the given one. A room for which there are too many
+    /// places is refused as memory that is not there.
     pub fn from_parts(
         alloc: Global,
         tuning: Tuning,
+        step: bool,
         recs: &[Rec],
-        summary: Summary,
+        summary: &Summary,
         room: u32,
     ) -> Result<TagCore, WantOfMemory>
         requires tuned { IsTuned tuning }
-        requires parts { ArePartsOk tuning recs.now summary }
-        ensures state { IfOk result
-            (λ core. core.state ≡ record { tuning = tuning; records = recs.now; summary = summary }) }
+        requires parts { ArePartsOk tuning step recs.now summary.now }
+        ensures records { IfOk result (λ core. core.state.records ≡ recs.now) }
+        ensures summary { IfOk result (λ core. core.state.summary ≡ record summary.now { tuning = Some tuning }) }
+        ensures step { IfOk result (λ core. core.step ≡ step) }
         ensures spare { IfOk result (λ core. core.spare ≡ 2 * room) }
     {
         let free = room.checked_mul(2).ok_or(WantOfMemory)?;
         let places = free.checked_add(recs.len() as u32).ok_or(WantOfMemory)?;
-        let doors = doors_of(&tuning, recs, &summary);
+        let doors = doors_of(&tuning, step, recs, summary);
         let compressor = Compressor::from_parts(
             alloc,
             tuning,
+            step,
             recs,
             summary.hinge,
             doors,
@@ -114,34 +127,97 @@ impl TagCore {
         requires room { 2 ≤ self.old.spare }
         requires countable { self.old.state.summary.taken < 2 ^ 64 - 1 }
 
-        // One step of the state, and so from a history to the one with p.
-        ensures step { OnOk result (self.new.state ≡ step self.old.state p) }
-        ensures stands { (h : List Point) → Stands self.old.state.tuning h self.old.state
-            → OnOk result (Stands self.old.state.tuning (p ∷ h) self.new.state) }
+        // The state after p, and so from a history to the one with p.
+        ensures after { OnOk result (self.new.state ≡ after self.old.step self.old.state (Raw p)) }
+        ensures stands { (o : Origin) (h : List Event) → o.step ≡ self.old.step → Stands o h self.old.state
+            → OnOk result (Stands o (Raw p ∷ h) self.new.state) }
+        ensures step { self.new.step ≡ self.old.step }
+        ensures counted { OnOk result (self.new.state.summary.taken ≡ self.old.state.summary.taken + 1) }
+
+        // It adds two records at most, in the memory that was there.
         ensures grows { (more : List Rec) × (self.new.state.records ≡ self.old.state.records ++ more) }
         ensures added { IfOk result (λ took. length self.new.state.records ≡ length self.old.state.records + took.added) }
+        ensures few { IfOk result (λ took. took.added ≤ 2) }
+        ensures room { self.new.spare + length self.new.state.records ≡ self.old.spare + length self.old.state.records }
 
         // Refused, and unchanged, exactly where two more records would be too many.
         ensures full { IsErr result ↔ (MAX_RECORDS < length self.old.state.records + 2) }
         ensures full_records { IfErr result (λ full. full.records ≡ length self.old.state.records) }
         ensures unchanged { OnErr result (self.new ≡ self.old) }
+        ensures uncounted { OnErr result (steps.new ≡ steps.old) }
 
-        // It takes two places at most. Two values are sent in order at most, and each is compared with two doors, which
-        // it then may swing.
-        ensures room { self.old.spare ≤ self.new.spare + 2 }
-        ensures cost { steps.new ≤ steps.old + 8 }
+        // Two values are sent in order at most, and each is compared with two doors, which it then may swing. A step tag
+        // has no lines to compare, and a late value with nothing pending is not compared.
+        ensures exact { OnOk result (steps.new ≡ steps.old + comparisons self.old.step self.old.state (Raw p)) }
+        ensures counts { steps.old ≤ steps.new }
+        ensures most { steps.new ≤ steps.old + 8 }
+        ensures stairs { self.old.step ≡ true → steps.new ≡ steps.old }
+        ensures late { (q : Point) → self.old.state.summary.held ≡ Some q → self.old.state.summary.pending ≡ None
+            → p.t ≤ q.t → steps.new ≡ steps.old }
+    {
+        let before = self.records_unless_full()?;
+        let held = self.gate.last;
+        let sent = self.gate.offer(self.compressor.tuning(), p);
+        self.compressor.take_sent(held, sent, steps);
+        Ok(counted(&mut self.taken, before, self.compressor.recs()))
+    }
+
+    /// Takes a new tuning: a value that waits is sent under the old one, the held point is kept, and then the new one is
+    /// in force. It takes no memory.
+    pub fn retune<L: Ledger>(&mut self, tuning: Tuning, steps: &mut Steps<L>) -> Result<Took, Full>
+        requires tuned { IsTuned tuning }
+        requires room { 2 ≤ self.old.spare }
+        requires countable { self.old.state.summary.taken < 2 ^ 64 - 1 }
+
+        // The state after the retuning, and so from a history to the one with it.
+        ensures after { OnOk result (self.new.state ≡ after self.old.step self.old.state (Tune tuning)) }
+        ensures stands { (o : Origin) (h : List Event) → o.step ≡ self.old.step → Stands o h self.old.state
+            → OnOk result (Stands o (Tune tuning ∷ h) self.new.state) }
+        ensures step { self.new.step ≡ self.old.step }
+        ensures counted { OnOk result (self.new.state.summary.taken ≡ self.old.state.summary.taken + 1) }
+
+        // It adds two records at most, in the memory that was there.
+        ensures grows { (more : List Rec) × (self.new.state.records ≡ self.old.state.records ++ more) }
+        ensures added { IfOk result (λ took. length self.new.state.records ≡ length self.old.state.records + took.added) }
+        ensures few { IfOk result (λ took. took.added ≤ 2) }
+        ensures room { self.new.spare + length self.new.state.records ≡ self.old.spare + length self.old.state.records }
+
+        // Refused, and unchanged, exactly where two more records would be too many.
+        ensures full { IsErr result ↔ (MAX_RECORDS < length self.old.state.records + 2) }
+        ensures full_records { IfErr result (λ full. full.records ≡ length self.old.state.records) }
+        ensures unchanged { OnErr result (self.new ≡ self.old) }
+        ensures uncounted { OnErr result (steps.new ≡ steps.old) }
+
+        // A value that waits is compared as one that is sent in order; nothing else is compared.
+        ensures exact { OnOk result (steps.new ≡ steps.old + comparisons self.old.step self.old.state (Tune tuning)) }
+        ensures counts { steps.old ≤ steps.new }
+        ensures most { steps.new ≤ steps.old + 4 }
+        ensures stairs { self.old.step ≡ true → steps.new ≡ steps.old }
+        ensures none_waits { self.old.state.summary.pending ≡ None → steps.new ≡ steps.old }
+    {
+        let records = self.records_unless_full()?;
+        let Gate { last, pending } = self.gate;
+        self.compressor.retune(last, pending, tuning, steps);
+        self.gate = Gate {
+            last: pending.or(last),
+            pending: None,
+        };
+        Ok(counted(&mut self.taken, records, self.compressor.recs()))
+    }
+
+    /// How many records there are, or that two more would be too many.
+    #[inline]
+    fn records_unless_full(&self) -> Result<u32, Full>
+        ensures value { IfOk result (λ n. n ≡ length self.now.state.records) }
+        ensures room { OnOk result (length self.now.state.records + 2 ≤ MAX_RECORDS) }
+        ensures full { IsErr result ↔ (MAX_RECORDS < length self.now.state.records + 2) }
+        ensures full_records { IfErr result (λ full. full.records ≡ length self.now.state.records) }
     {
         let records = self.record_count();
         if records + 2 > MAX_RECORDS {
             return Err(Full { records });
         }
-        let held = self.gate.last;
-        let sent = self.gate.offer(self.compressor.tuning(), p);
-        self.compressor.take_sent(held, sent, steps);
-        self.taken += 1;
-        Ok(Took {
-            added: (self.compressor.recs().len() as u32 - records) as u8,
-        })
+        Ok(records)
     }
 
     /// How many records there are.
@@ -161,6 +237,21 @@ impl TagCore {
         self.compressor.spare()
     }
 
+    /// How many events it has taken, values and retunings.
+    #[inline]
+    pub fn taken(&self) -> u64
+        ensures { result ≡ self.now.state.summary.taken }
+    {
+        self.taken
+    }
+
+    /// Whether it is a step tag.
+    pub fn step(&self) -> bool
+        ensures { result ≡ self.now.step }
+    {
+        self.compressor.step()
+    }
+
     /// The records, the oldest first.
     #[inline]
     pub fn recs(&self) -> &[Rec]
@@ -177,10 +268,11 @@ impl TagCore {
         self.gate.last
     }
 
-    /// The state beside the records.
+    /// The state beside the records. With them it is fit to go on from, where fewer than 10^18 events were taken.
     pub fn summary(&self) -> Summary
         ensures value { result ≡ self.now.state.summary }
-        ensures sound { IsSound self.now.state }
+        ensures parts { (u : Tuning) → result.tuning ≡ Some u → result.taken < 10 ^ 18
+            → ArePartsOk u self.now.step self.now.state.records result }
     {
         Summary {
             taken: self.taken,
@@ -190,31 +282,50 @@ impl TagCore {
             hinge: self.compressor.hinge(),
             upper: self.compressor.upper(),
             lower: self.compressor.lower(),
+            tuning: Some(self.tuning()),
         }
     }
 
-    /// The tuning that it was made with.
+    /// The tuning in force.
     pub fn tuning(&self) -> Tuning
-        ensures value { result ≡ self.now.state.tuning }
+        ensures value { self.now.state.summary.tuning ≡ Some result }
         ensures tuned { IsTuned result }
     {
         *self.compressor.tuning()
     }
 
-    /// The records, the oldest first, and the state beside them.
+    /// The records, the oldest first, and the state beside them. They are fit to go on from, where fewer than 10^18
+    /// events were taken.
     pub fn into_parts(self) -> (Vec<Rec>, Summary)
         ensures records { result.0.items ≡ self.state.records }
         ensures summary { result.1 ≡ self.state.summary }
+        ensures parts { (u : Tuning) → result.1.tuning ≡ Some u → result.1.taken < 10 ^ 18
+            → ArePartsOk u self.step result.0.items result.1 }
     {
         let summary = self.summary();
         (self.compressor.into_recs(), summary)
     }
 }
 
+/// Counts one event, of a tag that had this many records before it and has these now.
+#[inline]
+fn counted(taken: &mut u64, before: u32, recs: &[Rec]) -> Took
+    requires countable { taken.old < 2 ^ 64 - 1 }
+    requires not_fewer { before ≤ length recs.now }
+    requires few { length recs.now ≤ before + 2 }
+    ensures taken { taken.new ≡ taken.old + 1 }
+    ensures added { length recs.now ≡ before + result.added }
+{
+    *taken += 1;
+    Took {
+        added: (recs.len() - before as usize) as u8,
+    }
+}
+
 /// The doors of a summary, where it has them.
-fn doors_of(tuning: &Tuning, recs: &[Rec], summary: &Summary) -> Option<Doors>
+fn doors_of(tuning: &Tuning, step: bool, recs: &[Rec], summary: &Summary) -> Option<Doors>
     requires tuned { IsTuned tuning.now }
-    requires parts { ArePartsOk tuning.now recs.now summary.now }
+    requires parts { ArePartsOk tuning.now step recs.now summary.now }
     ensures upper { upper_of result ≡ summary.now.upper }
     ensures lower { lower_of result ≡ summary.now.lower }
     ensures hang { HangAt tuning.now.comp_dev summary.now.hinge result }

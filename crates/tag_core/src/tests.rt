@@ -18,8 +18,19 @@ const PLAIN: Tuning = Tuning {
     comp_max: 1_000_000,
 };
 
+/// What happens to a tag.
+#[derive(Clone, Copy, Debug)]
+enum Event {
+    Raw(Point),
+    Tune(Tuning),
+}
+
 const fn at(t: u64, v: i64) -> Point {
     Point { t, v }
+}
+
+const fn raw(t: u64, v: i64) -> Event {
+    Event::Raw(at(t, v))
 }
 
 fn kept(t: u64, v: i64) -> Rec {
@@ -36,8 +47,8 @@ fn late(t: u64, v: i64) -> Rec {
     }
 }
 
-/// The state after four values, where nothing is pending, and both doors are at the held point.
-fn closed(records: u32, held: Point, hinge: Point) -> Summary {
+/// The state after four events, where nothing is pending, and both doors are at the held point.
+fn closed(tuning: Tuning, records: u32, held: Point, hinge: Point) -> Summary {
     Summary {
         taken: 4,
         records,
@@ -46,51 +57,101 @@ fn closed(records: u32, held: Point, hinge: Point) -> Summary {
         hinge: Some(hinge),
         upper: Some(held),
         lower: Some(held),
+        tuning: Some(tuning),
     }
 }
 
-/// Takes these values.
+/// The state after so many events, where nothing is pending and the held point is kept.
+fn ended(tuning: Tuning, taken: u64, records: u32, held: Point) -> Summary {
+    Summary {
+        taken,
+        upper: None,
+        lower: None,
+        ..closed(tuning, records, held, held)
+    }
+}
+
+/// Lets these events happen.
 fn take_all<L: Ledger>(
     rt: &impl Abort,
     core: &mut TagCore,
-    values: &[Point],
+    events: &[Event],
     steps: &mut Steps<L>,
 ) -> Result<(), Fail> {
-    for p in values {
-        assert!(rt; in_range(*p));
-        assert!(rt; core.spare() >= 2);
-        assert!(rt; core.summary().taken < 8);
+    for event in events {
         let before = core.recs().len();
-        let took = core.take(*p, steps)?;
+        let took = taken(rt, core, *event, steps)?;
         assert_eq!(rt; core.recs().len(), before + usize::from(took.added));
     }
     Ok(())
 }
 
-/// The same core, made again of its parts.
+/// Lets one event happen.
+fn taken<L: Ledger>(
+    rt: &impl Abort,
+    core: &mut TagCore,
+    event: Event,
+    steps: &mut Steps<L>,
+) -> Result<Took, Full> {
+    assert!(rt; core.spare() >= 2);
+    assert!(rt; core.taken() < 8);
+    match event {
+        Event::Raw(p) => {
+            assert!(rt; in_range(p));
+            core.take(p, steps)
+        }
+        Event::Tune(tuning) => {
+            assert!(rt; tuning_ok(&tuning));
+            core.retune(tuning, steps)
+        }
+    }
+}
+
+/// The same core, made again of its parts without their tuning.
 fn made_again(rt: &impl Abort, alloc: Global, core: TagCore) -> Result<TagCore, Fail> {
-    let tuning = core.tuning();
+    let (tuning, step) = (core.tuning(), core.step());
     let (recs, summary) = core.into_parts();
-    assert!(rt; parts_ok(&tuning, &recs, &summary));
-    let other = Summary {
-        taken: 9,
-        held: None,
+    let untuned = Summary {
+        tuning: None,
         ..summary
     };
-    assert!(rt; !parts_ok(&tuning, &recs, &other));
-    let again = TagCore::from_parts(alloc, tuning, &recs, summary, 4)?;
+    let other = Tuning {
+        exc_dev: 999,
+        ..tuning
+    };
+    let gone = Summary {
+        taken: 9,
+        held: None,
+        hinge: summary.held,
+        ..summary
+    };
+    assert!(rt; parts_ok(&tuning, step, &recs, &summary));
+    assert!(rt; parts_ok(&tuning, step, &recs, &untuned));
+    assert!(rt; tuning_ok(&other) && !parts_ok(&other, step, &recs, &summary));
+    assert!(rt; gone.hinge.is_none() || !parts_ok(&tuning, step, &recs, &gone));
+    let again = TagCore::from_parts(alloc, tuning, step, &recs, &untuned, 4)?;
     assert_eq!(rt; again.spare(), 8);
     assert_eq!(rt; again.recs(), recs.as_slice());
     assert_eq!(rt; again.summary(), summary);
     Ok(again)
 }
 
-/// What a core keeps of these values, taken apart and made again between the two parts of them.
+/// How a tag was made, what happened to it, and the records and the summary in which that ends.
+#[derive(Clone, Copy)]
+struct Row<'a> {
+    step: bool,
+    tuning: Tuning,
+    events: &'a [Event],
+    recs: &'a [Rec],
+    summary: Summary,
+}
+
+/// What a core keeps of a row's events, taken apart and made again after so many of them.
 fn compressed<L: Ledger>(
     rt: &impl Abort,
     alloc: Global,
-    tuning: Tuning,
-    parts: (&[Point], &[Point]),
+    row: &Row,
+    cut: usize,
     blank: Blank,
 ) -> Result<(Vec<Rec>, Summary), Fail>
     requires name { blank.name ≡ L.name }
@@ -98,43 +159,31 @@ fn compressed<L: Ledger>(
     requires some { 0 < L.parts }
 {
     let mut steps: Steps<L> = Steps::new(blank);
-    assert!(rt; tuning_ok(&tuning));
-    let mut core = TagCore::new(alloc, tuning, 4)?;
+    assert!(rt; tuning_ok(&row.tuning) && cut <= row.events.len());
+    let (first, second) = row.events.split_at(cut);
+    let mut core = TagCore::new(alloc, row.tuning, row.step, 4)?;
     assert_eq!(rt; core.spare(), 8);
-    take_all(rt, &mut core, parts.0, &mut steps)?;
+    take_all(rt, &mut core, first, &mut steps)?;
     let mut again = made_again(rt, alloc, core)?;
-    take_all(rt, &mut again, parts.1, &mut steps)?;
-    assert_eq!(rt; again.tuning(), tuning);
+    take_all(rt, &mut again, second, &mut steps)?;
     assert_eq!(rt; again.held(), again.summary().held);
     Ok(again.into_parts())
 }
 
-/// A history, cut anywhere, ends in these records and this summary.
-fn ends_in(
-    rt: &impl Abort,
-    alloc: Global,
-    tuning: Tuning,
-    values: &[Point],
-    recs: &[Rec],
-    summary: Summary,
-) -> Result<(), Fail> {
-    for cut in 0..=values.len() {
-        let parts = values.split_at(cut);
-        let kept = compressed::<Brand>(rt, alloc, tuning, parts, Blank::new(1))?;
-        assert_eq!(rt; kept.0.as_slice(), recs, "cut at {cut}");
-        assert_eq!(rt; kept.1, summary, "cut at {cut}");
+/// A row's history, cut anywhere, ends as it says.
+fn ends_so(rt: &impl Abort, alloc: Global, row: &Row) -> Result<(), Fail> {
+    for cut in 0..=row.events.len() {
+        let (recs, summary) = compressed::<Brand>(rt, alloc, row, cut, Blank::new(1))?;
+        assert_eq!(rt; recs.as_slice(), row.recs, "cut at {cut}");
+        assert_eq!(rt; summary, row.summary, "cut at {cut}");
     }
     Ok(())
 }
 
-/// Each of these histories ends in these records and this summary.
-fn all_end(
-    rt: &impl Abort,
-    alloc: Global,
-    rows: &[(Tuning, &[Point], &[Rec], Summary)],
-) -> Result<(), Fail> {
-    for (tuning, values, recs, summary) in rows {
-        ends_in(rt, alloc, *tuning, values, recs, *summary)?;
+/// So does each of these.
+fn all_end(rt: &impl Abort, alloc: Global, rows: &[Row]) -> Result<(), Fail> {
+    for row in rows {
+        ends_so(rt, alloc, row)?;
     }
     Ok(())
 }
@@ -145,31 +194,34 @@ fn keeps_by_the_line(rt: HostRuntime) -> Result<(), Fail> {
         comp_dev: 1,
         ..PLAIN
     };
-    let rows: [(Tuning, &[Point], &[Rec], Summary); 3] = [
+    let rows = [
         // a value that the line would miss ends the segment
-        (
-            one,
-            &[at(0, 0), at(1, 0), at(2, 3), at(3, 0)],
-            &[kept(0, 0), kept(1, 0), kept(2, 3)],
-            closed(3, at(3, 0), at(2, 3)),
-        ),
+        Row {
+            step: false,
+            tuning: one,
+            events: &[raw(0, 0), raw(1, 0), raw(2, 3), raw(3, 0)],
+            recs: &[kept(0, 0), kept(1, 0), kept(2, 3)],
+            summary: closed(one, 3, at(3, 0), at(2, 3)),
+        },
         // a straight line is one segment
-        (
-            PLAIN,
-            &[at(0, 0), at(10, 10), at(20, 20), at(30, 31)],
-            &[kept(0, 0), kept(20, 20)],
-            closed(2, at(30, 31), at(20, 20)),
-        ),
+        Row {
+            step: false,
+            tuning: PLAIN,
+            events: &[raw(0, 0), raw(10, 10), raw(20, 20), raw(30, 31)],
+            recs: &[kept(0, 0), kept(20, 20)],
+            summary: closed(PLAIN, 2, at(30, 31), at(20, 20)),
+        },
         // the doors swing, and a slope that only touches a door leaves it
-        (
-            one,
-            &[at(0, 0), at(1, 1), at(2, 1), at(3, 2)],
-            &[kept(0, 0)],
-            Summary {
+        Row {
+            step: false,
+            tuning: one,
+            events: &[raw(0, 0), raw(1, 1), raw(2, 1), raw(3, 2)],
+            recs: &[kept(0, 0)],
+            summary: Summary {
                 upper: Some(at(2, 1)),
-                ..closed(1, at(3, 2), at(0, 0))
+                ..closed(one, 1, at(3, 2), at(0, 0))
             },
-        ),
+        },
     ];
     all_end(&rt, rt.alloc(), &rows)
 }
@@ -184,27 +236,29 @@ fn keeps_by_time(rt: HostRuntime) -> Result<(), Fail> {
         comp_max: 10,
         ..PLAIN
     };
-    let rows: [(Tuning, &[Point], &[Rec], Summary); 2] = [
+    let rows = [
         // sooner than CompMin nothing is kept
-        (
-            slow,
-            &[at(0, 0), at(1, 10), at(2, 0)],
-            &[kept(0, 0)],
-            Summary {
+        Row {
+            step: false,
+            tuning: slow,
+            events: &[raw(0, 0), raw(1, 10), raw(2, 0)],
+            recs: &[kept(0, 0)],
+            summary: Summary {
                 taken: 3,
-                ..closed(1, at(2, 0), at(0, 0))
+                ..closed(slow, 1, at(2, 0), at(0, 0))
             },
-        ),
+        },
         // no segment is longer than CompMax
-        (
-            short,
-            &[at(0, 0), at(6, 6), at(12, 12)],
-            &[kept(0, 0), kept(6, 6)],
-            Summary {
+        Row {
+            step: false,
+            tuning: short,
+            events: &[raw(0, 0), raw(6, 6), raw(12, 12)],
+            recs: &[kept(0, 0), kept(6, 6)],
+            summary: Summary {
                 taken: 3,
-                ..closed(2, at(12, 12), at(6, 6))
+                ..closed(short, 2, at(12, 12), at(6, 6))
             },
-        ),
+        },
     ];
     all_end(&rt, rt.alloc(), &rows)
 }
@@ -215,13 +269,119 @@ fn keeps_late_values_as_they_come(rt: HostRuntime) -> Result<(), Fail> {
         exc_dev: 5,
         ..PLAIN
     };
-    // the first late value pushes out the pending one
-    let rows: [(Tuning, &[Point], &[Rec], Summary); 1] = [(
-        dull,
-        &[at(10, 0), at(20, 1), at(15, 9), at(5, 3)],
-        &[kept(10, 0), late(15, 9), late(5, 3)],
-        closed(3, at(20, 1), at(10, 0)),
-    )];
+    let rows = [
+        // the first late value pushes out the pending one
+        Row {
+            step: false,
+            tuning: dull,
+            events: &[raw(10, 0), raw(20, 1), raw(15, 9), raw(5, 3)],
+            recs: &[kept(10, 0), late(15, 9), late(5, 3)],
+            summary: closed(dull, 3, at(20, 1), at(10, 0)),
+        },
+        // one before a retuning, which keeps the held point, and one after it
+        Row {
+            step: false,
+            tuning: dull,
+            events: &[
+                raw(0, 0),
+                raw(20, 1),
+                raw(15, 9),
+                Event::Tune(PLAIN),
+                raw(10, 4),
+                raw(30, 1),
+            ],
+            recs: &[kept(0, 0), late(15, 9), kept(20, 1), late(10, 4)],
+            summary: Summary {
+                pending: Some(at(30, 1)),
+                ..ended(PLAIN, 6, 4, at(20, 1))
+            },
+        },
+    ];
+    all_end(&rt, rt.alloc(), &rows)
+}
+
+#[test]
+fn a_retuning_ends_a_span(rt: HostRuntime) -> Result<(), Fail> {
+    let loose = Tuning {
+        comp_dev: 5,
+        ..PLAIN
+    };
+    let dull = Tuning {
+        exc_dev: 5,
+        ..PLAIN
+    };
+    let rows = [
+        // the held point is kept, and what comes later goes by the new deviation
+        Row {
+            step: false,
+            tuning: PLAIN,
+            events: &[
+                raw(0, 0),
+                raw(10, 10),
+                raw(20, 20),
+                Event::Tune(loose),
+                raw(30, 33),
+                raw(40, 40),
+            ],
+            recs: &[kept(0, 0), kept(20, 20)],
+            summary: Summary {
+                taken: 6,
+                lower: Some(at(30, 33)),
+                ..closed(loose, 2, at(40, 40), at(20, 20))
+            },
+        },
+        // a pending value is sent first
+        Row {
+            step: false,
+            tuning: dull,
+            events: &[raw(0, 0), raw(10, 1), Event::Tune(PLAIN)],
+            recs: &[kept(0, 0), kept(10, 1)],
+            summary: ended(PLAIN, 3, 2, at(10, 1)),
+        },
+        // a tag without values only changes its tuning
+        Row {
+            step: false,
+            tuning: PLAIN,
+            events: &[Event::Tune(dull)],
+            recs: &[],
+            summary: Summary {
+                held: None,
+                hinge: None,
+                ..ended(dull, 1, 0, at(0, 0))
+            },
+        },
+    ];
+    all_end(&rt, rt.alloc(), &rows)
+}
+
+#[test]
+fn a_step_tag_keeps_the_new_value(rt: HostRuntime) -> Result<(), Fail> {
+    let two = Tuning {
+        comp_dev: 2,
+        ..PLAIN
+    };
+    let slow = Tuning {
+        comp_min: 15,
+        ..two
+    };
+    let rows = [
+        // the value after a step is kept, and one within CompDev of the hinge is not
+        Row {
+            step: true,
+            tuning: two,
+            events: &[raw(0, 10), raw(10, 11), raw(20, 15), raw(30, 14)],
+            recs: &[kept(0, 10), kept(20, 15)],
+            summary: closed(two, 2, at(30, 14), at(20, 15)),
+        },
+        // sooner than CompMin nothing is kept
+        Row {
+            step: true,
+            tuning: slow,
+            events: &[raw(0, 10), raw(10, 20), raw(20, 21)],
+            recs: &[kept(0, 10), kept(20, 21)],
+            summary: ended(slow, 3, 2, at(20, 21)),
+        },
+    ];
     all_end(&rt, rt.alloc(), &rows)
 }
 
@@ -229,25 +389,57 @@ fn keeps_late_values_as_they_come(rt: HostRuntime) -> Result<(), Fail> {
 #[derive(Drop)]
 struct Listed {
     tuning: Tuning,
+    step: bool,
+    gate: Gate,
     recs: Vec<Rec>,
     hinge: Option<Point>,
     since: Vec<Point>,
 }
 
 impl Listed {
-    /// Takes a value that was sent.
+    /// Lets one event happen.
     fn take<L: Ledger>(
         &mut self,
         rt: &impl Abort,
-        sending: Sending,
+        event: Event,
         steps: &mut Steps<L>,
     ) -> Result<(), AllocError> {
-        match sending {
-            Sending::InOrder(p) => self.take_in_order(rt, p, steps),
-            Sending::Late(p) => {
-                self.recs.push(late(p.t, p.v))?;
-                Ok(())
+        match event {
+            Event::Raw(p) => {
+                let sent = self.gate.offer(&self.tuning, p);
+                self.take_waiting(rt, sent.first, steps)?;
+                match sent.second {
+                    None => {}
+                    Some(Sending::InOrder(p)) => self.take_in_order(rt, p, steps)?,
+                    Some(Sending::Late(p)) => self.recs.push(late(p.t, p.v))?,
+                }
             }
+            Event::Tune(tuning) => {
+                let waiting = self.gate.pending;
+                self.take_waiting(rt, waiting, steps)?;
+                self.gate = Gate {
+                    last: waiting.or(self.gate.last),
+                    pending: None,
+                };
+                if let Some(newest) = self.since.last().copied() {
+                    self.keep(newest)?;
+                }
+                self.tuning = tuning;
+            }
+        }
+        Ok(())
+    }
+
+    /// Takes a value that was pending.
+    fn take_waiting<L: Ledger>(
+        &mut self,
+        rt: &impl Abort,
+        waiting: Option<Point>,
+        steps: &mut Steps<L>,
+    ) -> Result<(), AllocError> {
+        match waiting {
+            None => Ok(()),
+            Some(p) => self.take_in_order(rt, p, steps),
         }
     }
 
@@ -261,13 +453,19 @@ impl Listed {
         let Some(hinge) = self.hinge else {
             return self.keep(p);
         };
-        if let Some(newest) = self.since.last().copied() {
-            let near = p.t.saturating_sub(hinge.t) <= self.tuning.comp_max;
-            if !(near && self.is_fit(rt, hinge, p, steps)) {
-                if !(near && newest.t.saturating_sub(hinge.t) < self.tuning.comp_min) {
-                    self.keep(newest)?;
-                }
+        let short = p.t.saturating_sub(hinge.t) <= self.tuning.comp_max;
+        if self.step {
+            let near = p.v.abs_diff(hinge.v) <= self.tuning.comp_dev;
+            if !(short && (near || p.t.saturating_sub(hinge.t) < self.tuning.comp_min)) {
+                return self.keep(p);
+            }
+        } else if let Some(newest) = self.since.last().copied()
+            && !(short && self.is_fit(rt, hinge, p, steps))
+        {
+            if short && newest.t.saturating_sub(hinge.t) < self.tuning.comp_min {
                 self.since.clear();
+            } else {
+                self.keep(newest)?;
             }
         }
         self.since.push(p)?;
@@ -277,6 +475,7 @@ impl Listed {
     /// Keeps a point.
     fn keep(&mut self, p: Point) -> Result<(), AllocError> {
         self.hinge = Some(p);
+        self.since.clear();
         self.recs.push(kept(p.t, p.v))?;
         Ok(())
     }
@@ -314,21 +513,24 @@ fn next_by(choice: u32, p: Point) -> Point {
     }
 }
 
-/// Six values by five such choices.
-fn history_by(choices: u32) -> [Point; 6] {
+/// The event that comes after this value, by a choice of seven: such a value, or a retuning. Returns the last value too.
+fn event_by(choice: u32, p: Point, tuning: Tuning) -> (Event, Point) {
+    if choice % 7 == 6 {
+        return (Event::Tune(tuning), p);
+    }
+    let next = next_by(choice % 7, p);
+    (Event::Raw(next), next)
+}
+
+/// Six events by five such choices.
+fn history_by(choices: u32, tuning: Tuning) -> [Event; 6] {
     let first = at(10, 0);
-    let second = next_by(choices, first);
-    let third = next_by(choices / 6, second);
-    let fourth = next_by(choices / 36, third);
-    let fifth = next_by(choices / 216, fourth);
-    [
-        first,
-        second,
-        third,
-        fourth,
-        fifth,
-        next_by(choices / 1296, fifth),
-    ]
+    let (second, p) = event_by(choices, first, tuning);
+    let (third, p) = event_by(choices / 7, p, tuning);
+    let (fourth, p) = event_by(choices / 49, p, tuning);
+    let (fifth, p) = event_by(choices / 343, p, tuning);
+    let (sixth, _) = event_by(choices / 2401, p, tuning);
+    [Event::Raw(first), second, third, fourth, fifth, sixth]
 }
 
 /// A core and the list end in the same records and the same held point.
@@ -336,7 +538,8 @@ fn agree<L: Ledger>(
     rt: &impl Abort,
     alloc: Global,
     tuning: Tuning,
-    values: &[Point],
+    step: bool,
+    events: &[Event],
     blank: Blank,
 ) -> Result<(), Fail>
     requires name { blank.name ≡ L.name }
@@ -345,23 +548,18 @@ fn agree<L: Ledger>(
 {
     let mut steps: Steps<L> = Steps::new(blank);
     assert!(rt; tuning_ok(&tuning));
-    let mut core = TagCore::new(alloc, tuning, 6)?;
-    take_all(rt, &mut core, values, &mut steps)?;
-    let mut gate = Gate::new();
+    let mut core = TagCore::new(alloc, tuning, step, 6)?;
+    take_all(rt, &mut core, events, &mut steps)?;
     let mut listed = Listed {
         tuning,
+        step,
+        gate: Gate::new(),
         recs: Vec::new(alloc),
         hinge: None,
         since: Vec::new(alloc),
     };
-    for p in values {
-        let sent = gate.offer(&tuning, *p);
-        if let Some(q) = sent.first {
-            listed.take(rt, Sending::InOrder(q), &mut steps)?;
-        }
-        if let Some(sending) = sent.second {
-            listed.take(rt, sending, &mut steps)?;
-        }
+    for event in events {
+        listed.take(rt, *event, &mut steps)?;
     }
     assert_eq!(rt; core.recs(), listed.recs.as_slice());
     assert_eq!(rt; core.held(), listed.since.last().copied().or(listed.hinge));
@@ -369,33 +567,37 @@ fn agree<L: Ledger>(
 }
 
 #[test]
-fn two_doors_keep_what_the_whole_list_keeps(rt: HostRuntime) -> Result<(), Fail> {
+fn a_core_keeps_what_the_whole_list_keeps(rt: HostRuntime) -> Result<(), Fail> {
     let all_sent = Tuning {
         exc_max: 0,
         comp_dev: 1,
         ..PLAIN
     };
-    let tunings = [
-        all_sent,
-        Tuning {
-            comp_dev: 0,
-            ..all_sent
-        },
-        Tuning {
-            comp_min: 3,
-            comp_max: 4,
-            ..all_sent
-        },
-        Tuning {
-            exc_dev: 1,
-            exc_max: 3,
-            ..all_sent
-        },
+    let exact = Tuning {
+        comp_dev: 0,
+        ..all_sent
+    };
+    let timed = Tuning {
+        comp_min: 3,
+        comp_max: 4,
+        ..all_sent
+    };
+    let dull = Tuning {
+        exc_dev: 1,
+        exc_max: 3,
+        ..all_sent
+    };
+    let rows = [
+        (all_sent, exact),
+        (exact, dull),
+        (timed, all_sent),
+        (dull, timed),
     ];
-    for choices in 0..7776 {
-        let values = history_by(choices);
-        for tuning in tunings {
-            agree::<Brand>(&rt, rt.alloc(), tuning, &values, Blank::new(1))?;
+    for choices in 0..16807 {
+        for (tuning, then) in rows {
+            let events = history_by(choices, then);
+            agree::<Brand>(&rt, rt.alloc(), tuning, false, &events, Blank::new(1))?;
+            agree::<Brand>(&rt, rt.alloc(), tuning, true, &events, Blank::new(1))?;
         }
     }
     Ok(())

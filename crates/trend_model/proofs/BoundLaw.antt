@@ -1,124 +1,210 @@
--- The archive's promise, from the walk, the content and the fate of each raw value.
-use Rattle.std.proofs.Common.{◌≡◌, ℕ, ◌+◌, ◌*◌, ◌<◌, ◌≤◌, ◌⊎◌, inl, inr, ℤ, ◌-ℤ◌, true, false, List, Option, None, Some, nat_lt, unsigned_abs, refl, sym, ap, ◌∙◌, subst, arith}
-use Rattle.std.proofs.lemmas.Bool.Decides.{nat_tests}
+-- The archive's promise, from the walk, the content and the place of each raw value.
+use Rattle.std.proofs.Common.{◌≡◌, ℕ, ◌*◌, ◌<◌, ◌≤◌, inl, inr, ℤ, ◌-ℤ◌, Bool, true, false, List, ◌∷◌, ◌++◌, Option, None, Some, unsigned_abs, refl, sym, ◌∙◌, subst, arith}
+use Rattle.std.proofs.lemmas.Int.{ints}
 use Rattle.trend_num.specs.declared.point.Point.{Point}
 use Rattle.trend_num.specs.declared.archive.Rec.{Rec}
-use Rattle.trend_num.specs.declared.sending.Sending.{Sending}
-use Rattle.trend_num.specs.declared.sending.Sending.TheVariants.{InOrder}
 use Rattle.trend_num.specs.declared.tuning.Tuning.{Tuning}
-use Rattle.trend_num.specs.Lines.{Within}
-use Rattle.trend_model.specs.History.{sent, prior, IsSent, IsInOrder}
-use Rattle.trend_model.specs.Walk.{records, hinge, since, passed, held, last_of}
-use Rattle.trend_model.specs.Content.{first_there, closed_at, late_at, kept_at, point_at, IsAmong, IsCleanSpan}
-use Rattle.trend_model.specs.Bound.{IsBounded}
-use Rattle.trend_model.proofs.Walks.{held_is_prior}
+use Rattle.trend_num.specs.declared.reading.Reading.TheVariants.{Exact}
+use Rattle.trend_model.specs.Contents.{closed_by, closed_points, listed}
+use Rattle.trend_model.specs.Reads.{read_at}
+use Rattle.trend_model.proofs.ContentList.{content_closed, content_listed}
+use Rattle.trend_model.proofs.ReadLaw.{late_read}
+use Rattle.trend_model.specs.Lists.{IsAmong}
+use Rattle.trend_model.specs.History.{Event, Origin, InOrder, in_force, tuning_at, prior, pending, sent, IsInOrder}
+use Rattle.trend_model.specs.Walk.{records, passed, held, walked}
+use Rattle.trend_model.specs.Content.{late_at, IsCleanSpan}
+use Rattle.trend_model.specs.Bound.{IsNear, raw_deviation, IsBounded}
 use Rattle.trend_model.specs.Orders.{RisesInTime}
+use Rattle.trend_model.specs.State.{pushed_out}
 use Rattle.trend_model.proofs.Near.{within_more, within_between}
-use Rattle.trend_model.proofs.Order.{same_there, prior_is_sent, sent_not_after, sent_rises}
-use Rattle.trend_model.proofs.WalkLaw.{IsKept, IsWalked, walk_holds, end_of}
-use Rattle.trend_model.proofs.ContentLaw.{closed_there, closed_point, end_is, near_on_span}
-use Rattle.trend_model.proofs.RawLaw.{was_sent, lies_between, still_waits, fate}
+use Rattle.trend_model.proofs.Sent.{same_there, flushed, last_in_order_is}
+use Rattle.trend_model.proofs.Order.{same_in_order, not_above, last_is_sent, sent_in_flushed, sent_rises, flushed_rises}
+use Rattle.trend_model.proofs.Walks.{held_is_prior}
+use Rattle.trend_model.proofs.Made.{IsMade, force_is, made_at, made_at_flushed, sent_of_made}
+use Rattle.trend_model.proofs.Chain.{NoneKept, IsSpanNear, not_before, older}
+use Rattle.trend_model.proofs.WalkLaw.{IsWalk, walk_holds}
+use Rattle.trend_model.proofs.ContentLaw.{IsEnd, closed_there, closed_point, kept_was_sent, span_walked}
+use Rattle.trend_model.proofs.RawLaw.{IsLast, IsBetween, IsPlaced, was_sent, lies_between, placed, pending_near, first_is_last}
 
--- the held point is the end of the hinge and what came since
-end_from : (a l : Point) (values : List Point) → last_of (Some a) values ≡ Some l → l ≡ end_of a values
-end_from a l values e = same_there (last_of (Some a) values) l (end_of a values) e (end_is a values)
-
--- a kept point, or the held one
-abbrev IsEnd : Point → List Rec → Option Point → Type 0
-IsEnd l rs q = IsKept l rs ⊎ (q ≡ Some l)
-
-end_of_walk : (a l : Point) (rs : List Rec) (values : List Point) → IsEnd l rs (last_of (Some a) values) → IsKept l rs ⊎ (l ≡ end_of a values)
-end_of_walk a l rs values (inl k) = inl k
-end_of_walk a l rs values (inr e) = inr (end_from a l values e)
-
--- a value sent between two ends with none kept between them is near
-near_sent : (d : ℕ) (sendings : List Sending) (rs : List Rec) (a : Option Point) (values gone : List Point) → RisesInTime sendings
-    → IsWalked d sendings rs a values gone → (l r x : Point) → IsEnd l rs (last_of a values) → IsEnd r rs (last_of a values)
-    → l.t < r.t → ((k : Point) → IsKept k rs → l.t < k.t → r.t ≤ k.t) → IsSent (InOrder x) sendings → l.t ≤ x.t → x.t ≤ r.t
-    → ((y : Point) → IsAmong y gone → l.t < y.t → r.t ≤ y.t) → Within l r x d
-near_sent d sendings rs None values gone rises i l r x left right lr none s lx xr clear = absurd (i.none_sent x s)
-near_sent d sendings rs (Some a) values gone rises i l r x left right lr none s lx xr clear =
-    near_on_span d sendings rs a values gone rises i l r x (end_of_walk a l rs values left) (end_of_walk a r rs values right) lr none s lx xr clear
-
--- what is kept was sent
-kept_was_sent : (d : ℕ) (sendings : List Sending) (rs : List Rec) (a : Option Point) (values gone : List Point)
-    → IsWalked d sendings rs a values gone → (l : Point) → IsKept l rs → IsSent (InOrder l) sendings
-kept_was_sent d sendings rs None values gone i l k = absurd (i.none_kept l k)
-kept_was_sent d sendings rs (Some a) values gone i l k = i.kept_sent l k
-
-not_before : (m n : ℕ) → (m < n → ⊥) → n ≤ m
-not_before m n no_less = elim (nat_lt m n) as (λ b. nat_lt m n ≡ b → n ≤ m) [
-  | true ↦ (λ e. (let less : m < n = grind (arith, nat_tests) in absurd (no_less less)))
-  | false ↦ (λ e. grind (arith, nat_tests))
-] refl
+-- a clean span of a history
+abbrev IsCleanOf : Origin → List Event → Point → Point → Type 0
+IsCleanOf o h l r = IsCleanSpan (records o h) (held o h) (passed o h) l r
 
 -- the walk of a history holds its invariant
-history_walked : (tuning : Tuning) (h : List Point)
-    → IsWalked tuning.comp_dev (sent tuning h) (records tuning h) (hinge tuning h) (since tuning h) (passed tuning h)
-history_walked tuning h = walk_holds tuning (sent tuning h) (sent_rises tuning h)
+history_walks : (o : Origin) (h : List Event) → IsWalk o (sent o h) (walked o h)
+history_walks o h = walk_holds o (sent o h) (sent_rises o h)
 
-left_end : (tuning : Tuning) (h : List Point) (l r : Point) → IsCleanSpan tuning h l r → IsEnd l (records tuning h) (held tuning h)
-left_end tuning h l r c = closed_point (records tuning h) (held tuning h) l c.left c.left_in_order
+-- the left end of a clean span is kept or held
+left_end : (o : Origin) (h : List Event) (l r : Point) → IsCleanOf o h l r → IsEnd l (records o h) (held o h)
+left_end o h l r c = closed_point (records o h) (held o h) l c.left c.left_in_order
 
-right_end : (tuning : Tuning) (h : List Point) (l r : Point) → IsCleanSpan tuning h l r → IsEnd r (records tuning h) (held tuning h)
-right_end tuning h l r c = closed_point (records tuning h) (held tuning h) r c.right c.right_in_order
+-- and so is its right end
+right_end : (o : Origin) (h : List Event) (l r : Point) → IsCleanOf o h l r → IsEnd r (records o h) (held o h)
+right_end o h l r c = closed_point (records o h) (held o h) r c.right c.right_in_order
 
-end_sent : (tuning : Tuning) (h : List Point) (l : Point) → IsEnd l (records tuning h) (held tuning h) → IsSent (InOrder l) (sent tuning h)
-end_sent tuning h l (inl k) =
-    kept_was_sent tuning.comp_dev (sent tuning h) (records tuning h) (hinge tuning h) (since tuning h) (passed tuning h) (history_walked tuning h) l k
-end_sent tuning h l (inr e) = prior_is_sent tuning h l (sym (held_is_prior tuning h) ∙ e)
+-- the held point was sent
+held_is_sent : (o : Origin) (h : List Event) (s : Point) → held o h ≡ Some s → IsAmong (InOrder s) (sent o h)
+held_is_sent o h s e = last_is_sent (sent o h) s (last_in_order_is o h ∙ sym (held_is_prior o h) ∙ e)
 
--- the line of a clean span is near each value sent in order
-pub sent_near : (tuning : Tuning) (h : List Point) (l r x : Point) → IsCleanSpan tuning h l r → IsSent (InOrder x) (sent tuning h)
-    → l.t ≤ x.t → x.t ≤ r.t → Within l r x tuning.comp_dev
-sent_near tuning h l r x c s lx xr =
-    near_sent tuning.comp_dev (sent tuning h) (records tuning h) (hinge tuning h) (since tuning h) (passed tuning h) (sent_rises tuning h)
-    (history_walked tuning h) l r x (left_end tuning h l r c) (right_end tuning h l r c) c.rises
-    (λ k there lk. not_before k.t r.t (λ kr. closed_there k (records tuning h) (held tuning h) there (c.neighbours k.t lk kr)))
-    s lx xr c.none_passed
+-- both ends were sent
+end_sent : (o : Origin) (h : List Event) (l : Point) → IsEnd l (records o h) (held o h)
+    → IsAmong (InOrder l) (sent o h)
+end_sent o h l (inl k) =
+    let w = walked o h in
+    kept_was_sent o (sent o h) w.records w.hinge w.since w.passed (history_walks o h).walked l k
+end_sent o h l (inr e) = held_is_sent o h l e
 
--- and near each raw value in order
-pub raw_near : (tuning : Tuning) (h : List Point) (l r y : Point) → IsCleanSpan tuning h l r → IsInOrder y h
-    → l.t ≤ y.t → y.t ≤ r.t → Within l r y (tuning.comp_dev + 2 * tuning.exc_dev)
-raw_near tuning h l r y c there ly yr =
-    let sent_l = end_sent tuning h l (left_end tuning h l r c) in
-    let sent_r = end_sent tuning h r (right_end tuning h l r c) in
-    elim (fate tuning h y there) [
-      | was_sent s ↦ within_more l r y tuning.comp_dev (2 * tuning.exc_dev) (sent_near tuning h l r y c s ly yr)
-      | lies_between s z b ↦
-          (let after = b.after in let before = b.before in
-          let ls : l.t ≤ s.t = not_before s.t l.t (λ sl. (let beyond = b.neighbours l sent_l sl in absurd (omega arith))) in
-          let zr : z.t ≤ r.t = b.neighbours r sent_r (omega arith) in
-          within_between l r s y z tuning.comp_dev tuning.exc_dev
-          (sent_near tuning h l r s c b.first_sent ls (omega arith)) (sent_near tuning h l r z c b.second_sent (omega arith) zr)
-          ls (omega arith) (omega arith) b.near b.second_near)
-      | still_waits s q w ↦
-          (let below = sent_not_after tuning h (sent_rises tuning h) s r w.last sent_r in
-          let after = w.after in absurd (omega arith))
+-- a value sent in order on a clean span is near
+span_near : (o : Origin) (h : List Event) (l r x : Point) → IsCleanOf o h l r → IsAmong (InOrder x) (sent o h)
+    → l.t ≤ x.t → x.t ≤ r.t → IsSpanNear o (sent o h) l r x
+span_near o h l r x c there lx xr =
+    let w = walked o h in
+    span_walked o (sent o h) w.records w.hinge w.since w.passed (sent_rises o h) (history_walks o h).walked
+    l r (left_end o h l r c) (right_end o h l r c) c.rises none_kept x there lx xr c.none_passed
+  where
+    none_kept : NoneKept (records o h) l r
+    none_kept k kept_k lk =
+        not_before k.t r.t (λ kr. closed_there k (records o h) (held o h) kept_k (c.neighbours k.t lk kr))
+
+-- by the tuning of its right end
+sent_near : (o : Origin) (h : List Event) (l r x : Point) → IsCleanOf o h l r → IsAmong (InOrder x) (sent o h)
+    → l.t ≤ x.t → x.t ≤ r.t → IsNear o.step l r x (tuning_at o h r.t).comp_dev
+sent_near o h l r x c there lx xr =
+    let n = span_near o h l r x c there lx xr in
+    subst (λ (u : Tuning). IsNear o.step l r x u.comp_dev) (sym (made_at o n.tuning r h n.right_made)) n.near
+
+-- what was sent on a span was made under the tuning of its right end
+made_on_span : (o : Origin) (h : List Event) (l r x : Point) → IsCleanOf o h l r
+    → IsAmong (InOrder x) (sent o h) → l.t < x.t → x.t ≤ r.t → tuning_at o h x.t ≡ tuning_at o h r.t
+made_on_span o h l r x c there lx xr =
+    let n = span_near o h l r x c there (omega arith) xr in
+    made_at o n.tuning x h (n.made lx) ∙ sym (made_at o n.tuning r h n.right_made)
+
+-- what is sent once the pending value is pushed out, and is not after what was sent, was sent
+older_flushed : (o : Origin) (h : List Event) (w : Option Point) → pending o h ≡ w → (x r : Point)
+    → IsAmong (InOrder r) (sent o h) → x.t ≤ r.t → IsAmong (InOrder x) (pushed_out w ++ sent o h)
+    → IsAmong (InOrder x) (sent o h)
+older_flushed o h None waiting x r sent_r xr there = there
+older_flushed o h (Some q) waiting x r sent_r xr there =
+    older (InOrder q) x r (sent o h)
+    (subst (λ v. RisesInTime (pushed_out v ++ sent o h)) waiting (flushed_rises o h)) sent_r xr there
+
+-- ---- raw values
+
+-- near by CompDev is near by the raw deviation
+near_more : (step : Bool) (l r x : Point) (u : Tuning) → IsNear step l r x u.comp_dev
+    → IsNear step l r x (raw_deviation step u)
+near_more false l r x u near = within_more l r x u.comp_dev (2 * u.exc_dev) near
+near_more true l r x u near = λ before. (let h = near before in omega arith)
+
+-- y between two that are near, and within ExcDev of the first as the second is
+near_between : (step : Bool) (l r s y z : Point) (u : Tuning) → IsNear step l r s u.comp_dev
+    → IsNear step l r z u.comp_dev → l.t ≤ s.t → s.t ≤ y.t → y.t ≤ z.t → unsigned_abs (y.v -ℤ s.v) ≤ u.exc_dev
+    → unsigned_abs (z.v -ℤ s.v) ≤ u.exc_dev → IsNear step l r y (raw_deviation step u)
+near_between false l r s y z u near_s near_z ls sy yz ys zs =
+    within_between l r s y z u.comp_dev u.exc_dev near_s near_z ls sy yz ys zs
+near_between true l r s y z u near_s near_z ls sy yz ys zs =
+    λ before. (let h = near_s (omega arith) in omega (arith, ints))
+
+-- a raw value between two neighbours that were sent is near a clean span
+between_near : (o : Origin) (h : List Event) (l r y s z : Point) → IsCleanOf o h l r → l.t ≤ y.t → y.t ≤ r.t
+    → IsBetween o (flushed o h) y s z → IsNear o.step l r y (raw_deviation o.step (tuning_at o h r.t))
+between_near o h l r y s z c ly yr b =
+    let after = b.after in
+    let before = b.before in
+    let sent_l = end_sent o h l (left_end o h l r c) in
+    let sent_r = end_sent o h r (right_end o h l r c) in
+    let zr : z.t ≤ r.t = b.neighbours r (in_flushed r sent_r) (omega arith) in
+    let ls : l.t ≤ s.t = not_before s.t l.t
+    (λ sl. (let beyond = b.neighbours l (in_flushed l sent_l) sl in absurd (omega arith))) in
+    let sent_s = older_flushed o h (pending o h) refl s r sent_r (omega arith) b.first_sent in
+    let flushed_z = sent_of_made o.tuning b.tuning z (flushed o h) b.second_made in
+    let sent_z = older_flushed o h (pending o h) refl z r sent_r zr flushed_z in
+    let came : tuning_at o h z.t ≡ b.tuning = made_at_flushed o b.tuning z h b.second_made in
+    let same : b.tuning ≡ tuning_at o h r.t = sym came ∙ made_on_span o h l r z c sent_z (omega arith) zr in
+    near_between o.step l r s y z (tuning_at o h r.t) (sent_near o h l r s c sent_s ls (omega arith))
+    (sent_near o h l r z c sent_z (omega arith) zr) ls (omega arith) (omega arith)
+    (subst (λ (u : Tuning). unsigned_abs (y.v -ℤ s.v) ≤ u.exc_dev) same b.near)
+    (subst (λ (u : Tuning). unsigned_abs (z.v -ℤ s.v) ≤ u.exc_dev) same b.second_near)
+  where
+    in_flushed : (x : Point) → IsAmong (InOrder x) (sent o h) → IsAmong (InOrder x) (flushed o h)
+    in_flushed x there = sent_in_flushed (pending o h) (sent o h) (InOrder x) there
+
+-- each raw value in order is
+pub raw_near : (o : Origin) (h : List Event) (l r y : Point) → IsCleanOf o h l r → IsInOrder y h → l.t ≤ y.t
+    → y.t ≤ r.t → IsNear o.step l r y (raw_deviation o.step (tuning_at o h r.t))
+raw_near o h l r y c there ly yr = elim (placed o h y there) [
+  | was_sent s ↦
+      (let sent_y = older_flushed o h (pending o h) refl y r (end_sent o h r (right_end o h l r c)) yr s in
+      near_more o.step l r y (tuning_at o h r.t) (sent_near o h l r y c sent_y ly yr))
+  | lies_between s z b ↦ between_near o h l r y s z c ly yr b
+]
+
+-- ---- what came after the held point
+
+-- what is after the last value sent was not sent
+none_after : (o : Origin) (h : List Event) (s x : Point) → prior o h ≡ Some s → IsAmong (InOrder x) (sent o h)
+    → x.t ≤ s.t
+none_after o h s x last there = not_above (sent o h) s x (sent_rises o h) (last_in_order_is o h ∙ last) there
+
+-- a value between two neighbours that is after it lies before the pending one, and so near it
+before_pending : (o : Origin) (h : List Event) (s q y first z : Point) → prior o h ≡ Some s
+    → IsLast (sent o h) s q → s.t < y.t → (b : IsBetween o (InOrder q ∷ sent o h) y first z)
+    → IsMade o.tuning b.tuning z (InOrder q ∷ sent o h) → unsigned_abs (y.v -ℤ s.v) ≤ (in_force o h).exc_dev
+before_pending o h s q y first z last i sy b (inl here) =
+    let at_end = subst (λ v. IsBetween o (InOrder q ∷ sent o h) y first v) here.0 b in
+    let same = first_is_last o (sent o h) y s q first i at_end in
+    subst (λ (v : Point). unsigned_abs (y.v -ℤ v.v) ≤ (in_force o h).exc_dev) same
+    (subst (λ (u : Tuning). unsigned_abs (y.v -ℤ first.v) ≤ u.exc_dev) (here.1 ∙ force_is o h) b.near)
+before_pending o h s q y first z last i sy b (inr made) =
+    let below = none_after o h s z last (sent_of_made o.tuning b.tuning z (sent o h) made) in
+    let before = b.before in absurd (omega arith)
+
+-- each raw value after it is near it, with a pending value or without
+after_last : (o : Origin) (h : List Event) (s y : Point) (w : Option Point) → prior o h ≡ Some s
+    → pending o h ≡ w → s.t < y.t → IsPlaced o (pushed_out w ++ sent o h) y
+    → unsigned_abs (y.v -ℤ s.v) ≤ (in_force o h).exc_dev
+after_last o h s y None last waiting sy there = elim there [
+  | was_sent old ↦ (let below = none_after o h s y last old in absurd (omega arith))
+  | lies_between first z b ↦
+      (let below = none_after o h s z last (sent_of_made o.tuning b.tuning z (sent o h) b.second_made) in
+      let before = b.before in absurd (omega arith))
+]
+after_last o h s y (Some q) last waiting sy there =
+    let i : IsLast (sent o h) s q = record {
+      rises = subst (λ v. RisesInTime (pushed_out v ++ sent o h)) waiting (flushed_rises o h);
+      is_last = last_in_order_is o h ∙ last;
+    } in
+    elim there [
+      | was_sent old ↦ elim old [
+        | inl e ↦
+            (let n = pending_near o h q waiting in
+            subst (λ (v : Point). unsigned_abs (v.v -ℤ s.v) ≤ (in_force o h).exc_dev)
+            (sym (same_in_order y q e))
+            (subst (λ (v : Point). unsigned_abs (q.v -ℤ v.v) ≤ (in_force o h).exc_dev)
+            (same_there (prior o h) n.first s n.is_last last) n.near))
+        | inr older_one ↦ (let below = none_after o h s y last older_one in absurd (omega arith))
+      ]
+      | lies_between first z b ↦ before_pending o h s q y first z last i sy b b.second_made
     ]
 
 -- what came after the held point is near it
-pub newest_near : (tuning : Tuning) (h : List Point) (q y : Point) → held tuning h ≡ Some q → IsInOrder y h → q.t < y.t
-    → unsigned_abs (y.v -ℤ q.v) ≤ tuning.exc_dev
-newest_near tuning h q y holds there qy =
-    let last = sym (held_is_prior tuning h) ∙ holds in
-    elim (fate tuning h y there) [
-      | was_sent s ↦ (let below = sent_not_after tuning h (sent_rises tuning h) q y last s in absurd (omega arith))
-      | lies_between s z b ↦
-          (let below = sent_not_after tuning h (sent_rises tuning h) q z last b.second_sent in
-          let before = b.before in absurd (omega arith))
-      | still_waits s w_q w ↦ subst (λ (z : Point). unsigned_abs (y.v -ℤ z.v) ≤ tuning.exc_dev) (same_there (prior tuning h) s q w.last last) w.near
-    ]
+pub newest_near : (o : Origin) (h : List Event) (s y : Point) → held o h ≡ Some s → IsInOrder y h → s.t < y.t
+    → unsigned_abs (y.v -ℤ s.v) ≤ (in_force o h).exc_dev
+newest_near o h s y holds there sy =
+    after_last o h s y (pending o h) (sym (held_is_prior o h) ∙ holds) refl sy (placed o h y there)
 
--- at the time of a Late record the last one is read
-pub late_exact : (rs : List Rec) (q : Option Point) (t : ℕ) (v : ℤ) → late_at rs t ≡ Some v → closed_at rs q t ≡ Some v
-late_exact rs q t v e = ap (λ o. first_there (first_there o (kept_at rs t)) (point_at q t)) e
+-- at a time with Late records a read is exact, with the value of the last one
+late_exact : (step : Bool) (rs : List Rec) (q : Option Point) (t : ℕ) (v : ℤ) → late_at rs t ≡ Some v
+    → read_at step (closed_points rs q) t ≡ Exact v
+late_exact step rs q t v e =
+    late_read rs (closed_by q (listed rs)) q step t v (content_closed rs (listed rs) q (content_listed rs)) e
 
 -- the promise
-pub bounded : (tuning : Tuning) (h : List Point) → IsBounded tuning h
-bounded tuning h = record {
-  sent_values = λ l r x c s lx xr. sent_near tuning h l r x c s lx xr;
-  raw_values = λ l r y c there ly yr. raw_near tuning h l r y c there ly yr;
-  newest_values = λ q y holds there qy. newest_near tuning h q y holds there qy;
-  late_values = λ t v e. late_exact (records tuning h) (held tuning h) t v e;
+pub bounded : (o : Origin) (h : List Event) → IsBounded o h
+bounded o h = record {
+  sent_values = λ l r x c there lx xr. sent_near o h l r x c there lx xr;
+  raw_values = λ l r y c there ly yr. raw_near o h l r y c there ly yr;
+  newest_values = λ s y holds there sy. newest_near o h s y holds there sy;
+  late_values = λ t v e. late_exact o.step (records o h) (held o h) t v e;
 }

@@ -10,10 +10,11 @@ use Rattle.trend_num.specs.Lines.{Within}
 zero_cross : (x y : ℤ) → (x *ℤ y) -ℤ (x *ℤ y) ≡ pos 0
 zero_cross x y = omega (arith, ints)
 
--- the ends of a line are on it
+-- the right end of a line is on it
 pub within_right : (a b : Point) (d : ℕ) → Within a b b d
 within_right a b d = rw (zero_cross (b.v -ℤ a.v) (pos (b.t - a.t))) (omega arith)
 
+-- and so is the left one
 pub within_left : (a b : Point) (d : ℕ) → Within a b a d
 within_left a b d =
     let same : a.v -ℤ a.v ≡ pos 0 = omega (arith, ints) in
@@ -26,7 +27,8 @@ within_more a b x d e h = omega arith
 
 -- a product with a natural number lies between the products with those on either side
 product_between : (m : ℤ) (u v w : ℕ) → u ≤ v → v ≤ w
-    → ((m *ℤ pos u) ≤ℤ (m *ℤ pos v)) × ((m *ℤ pos v) ≤ℤ (m *ℤ pos w)) ⊎ ((m *ℤ pos w) ≤ℤ (m *ℤ pos v)) × ((m *ℤ pos v) ≤ℤ (m *ℤ pos u))
+    → ((m *ℤ pos u) ≤ℤ (m *ℤ pos v)) × ((m *ℤ pos v) ≤ℤ (m *ℤ pos w))
+    ⊎ ((m *ℤ pos w) ≤ℤ (m *ℤ pos v)) × ((m *ℤ pos v) ≤ℤ (m *ℤ pos u))
 product_between (pos m) u v w uv vw =
     let first = mul-le-mul_left m uv in
     let second = mul-le-mul_left m vw in
@@ -44,7 +46,8 @@ sub_times x y t =
     omega (arith, ints)
 
 -- the same numbers apart, the same products apart
-apart_times : (y s l : ℤ) (t e : ℕ) → unsigned_abs (y -ℤ s) ≤ e → unsigned_abs (((y -ℤ l) *ℤ pos t) -ℤ ((s -ℤ l) *ℤ pos t)) ≤ e * t
+apart_times : (y s l : ℤ) (t e : ℕ) → unsigned_abs (y -ℤ s) ≤ e
+    → unsigned_abs (((y -ℤ l) *ℤ pos t) -ℤ ((s -ℤ l) *ℤ pos t)) ≤ e * t
 apart_times y s l t e h =
     let left = sub_times y l t in
     let right = sub_times s l t in
@@ -59,10 +62,11 @@ between_products : (s y z a b c : ℤ) (d e : ℕ) → unsigned_abs (s -ℤ a) �
 between_products s y z a b c d e sa zc ys zs (inl h) = omega (arith, ints)
 between_products s y z a b c d e sa zc ys zs (inr h) = omega (arith, ints)
 
--- where s and z are within d of a line, and the values of y and z differ by at most e from that of s, which comes before y,
--- as y does before z, then y is within d and twice e of the line
-pub within_between : (l r s y z : Point) (d e : ℕ) → Within l r s d → Within l r z d → l.t ≤ s.t → s.t ≤ y.t → y.t ≤ z.t
-    → unsigned_abs (y.v -ℤ s.v) ≤ e → unsigned_abs (z.v -ℤ s.v) ≤ e → Within l r y (d + 2 * e)
+-- where s and z are within d of a line, and the values of y and z differ by at most e from that of s, which comes
+-- before y, as y does before z, then y is within d and twice e of the line
+pub within_between : (l r s y z : Point) (d e : ℕ) → Within l r s d → Within l r z d → l.t ≤ s.t
+    → s.t ≤ y.t → y.t ≤ z.t → unsigned_abs (y.v -ℤ s.v) ≤ e → unsigned_abs (z.v -ℤ s.v) ≤ e
+    → Within l r y (d + 2 * e)
 within_between l r s y z d e near_s near_z ls sy yz ys zs =
     let t = r.t - l.t in
     let sum : (d + 2 * e) * t ≡ d * t + 2 * (e * t) = omega arith in

@@ -1,116 +1,107 @@
 -- What is sent in order rises in time.
-use Rattle.std.proofs.Common.{◌≡◌, ◌<◌, ◌≤◌, inl, inr, List, [], ◌∷◌, Option, None, Some, refl, sym, ap, ◌∙◌, subst, arith}
+use Rattle.std.proofs.Common.{◌≡◌, ◌<◌, ◌≤◌, inl, inr, false, List, [], ◌∷◌, ◌++◌, Option, None, Some, refl, sym, ap, ◌∙◌, subst, arith}
+use Rattle.std.proofs.lemmas.Bool.Decides.{nat_tests}
 use Rattle.trend_num.specs.declared.point.Point.{Point}
-use Rattle.trend_num.specs.declared.sending.Sending.{Sending}
-use Rattle.trend_num.specs.declared.sending.Sending.TheVariants.{InOrder, Late}
-use Rattle.trend_num.specs.declared.tuning.Tuning.{Tuning}
-use Rattle.trend_model.specs.Content.{first_there}
-use Rattle.trend_model.specs.History.{newest, prior, pending, sent, IsSent, last_in_order}
-use Rattle.trend_model.proofs.Sent.{newest_is, last_in_order_is}
-use Rattle.trend_model.proofs.Cases.{opens, comes_late, pushes_late, goes_far, pushes_far, waits, next_case}
+use Rattle.trend_model.specs.Lists.{IsAmong}
+use Rattle.trend_model.specs.History.{Event, Raw, Tune, Origin, Sent, InOrder, Late, Tuned, is_late, newest, pending, sent, last_in_order}
 use Rattle.trend_model.specs.Orders.{RisesInTime}
+use Rattle.trend_model.specs.State.{pushed_out}
+use Rattle.trend_model.proofs.Sent.{same_there, not_both, is_not_after, is_late_newest, flushed, tune_sends, comes_late, goes, waits, happens, newest_is_last}
 
--- two values of one place are the same
-pub same_there : {A : Type 0} (o : Option A) (x y : A) → o ≡ Some x → o ≡ Some y → x ≡ y
-same_there o x y a b = cc
-
--- no place has a value and has none
-pub not_both : {A : Type 0} {P : Type 0} (o : Option A) (x : A) → o ≡ Some x → o ≡ None → P
-not_both o x a b = cc
-
--- a value sent in order is no late one
+-- a value sent in order is no late one, and no tuning
 pub not_late : {P : Type 0} (x y : Point) → InOrder x ≡ Late y → P
 not_late x y e = cc
 
+-- what is sent in order is one value
 pub same_in_order : (x y : Point) → InOrder x ≡ InOrder y → x ≡ y
 same_in_order x y e = cc
 
--- no value sent in order is after the last one
-pub not_after_last : (sendings : List Sending) → RisesInTime sendings → (s x : Point) → last_in_order sendings ≡ Some s
-    → IsSent (InOrder x) sendings → x.t ≤ s.t
-not_after_last [] rises s x last there = absurd there
-not_after_last (Late y ∷ sendings) rises s x last (inl e) = not_late x y e
-not_after_last (Late y ∷ sendings) rises s x last (inr there) = not_after_last sendings rises s x last there
-not_after_last (InOrder y ∷ sendings) rises s x last (inl e) =
-    let same : x ≡ s = same_in_order x y e ∙ same_there (Some y) y s refl last in
-    subst (λ (z : Point). x.t ≤ z.t) same (omega arith)
-not_after_last (InOrder y ∷ sendings) rises s x last (inr there) =
-    let before = rises.0 x there in
-    let same : y ≡ s = same_there (Some y) y s refl last in
-    subst (λ (z : Point). x.t ≤ z.t) same (omega arith)
+-- one value has one time
+pub time_of : (x y : Point) → x ≡ y → x.t ≡ y.t
+time_of x y e = ap (λ (z : Point). z.t) e
+
+-- and so has what is sent of it
+pub time_of_sent : (x y : Point) → InOrder x ≡ InOrder y → x.t ≡ y.t
+time_of_sent x y e = time_of x y (same_in_order x y e)
+
+-- every value sent in order is before p
+abbrev pub IsNew : Point → List Sent → Type 0
+IsNew p ss = (x : Point) → IsAmong (InOrder x) ss → x.t < p.t
+
+-- a value sent in order is not after the last one
+pub not_after_last : (ss : List Sent) → RisesInTime ss → (x : Point) → IsAmong (InOrder x) ss
+    → (s : Point) × (last_in_order ss ≡ Some s) × (x.t ≤ s.t)
+not_after_last [] rises x there = absurd there
+not_after_last (Late y ∷ ss) rises x (inl e) = not_late x y e
+not_after_last (Late y ∷ ss) rises x (inr there) = not_after_last ss rises x there
+not_after_last (Tuned u ∷ ss) rises x (inl e) = absurd (cc)
+not_after_last (Tuned u ∷ ss) rises x (inr there) = not_after_last ss rises x there
+not_after_last (InOrder y ∷ ss) rises x (inl e) =
+    let at = time_of_sent x y e in (y, refl, omega arith)
+not_after_last (InOrder y ∷ ss) rises x (inr there) = let before = rises.0 x there in (y, refl, omega arith)
+
+-- with the last value given
+pub not_above : (ss : List Sent) (s x : Point) → RisesInTime ss → last_in_order ss ≡ Some s
+    → IsAmong (InOrder x) ss → x.t ≤ s.t
+not_above ss s x rises is_last there =
+    let last = not_after_last ss rises x there in
+    let same = time_of last.0 s (same_there (last_in_order ss) last.0 s last.1 is_last) in
+    let below = last.2 in omega arith
 
 -- the last value sent in order was sent
-pub last_is_sent : (sendings : List Sending) (s : Point) → last_in_order sendings ≡ Some s → IsSent (InOrder s) sendings
+pub last_is_sent : (ss : List Sent) (s : Point) → last_in_order ss ≡ Some s → IsAmong (InOrder s) ss
 last_is_sent [] s e = not_both None s e refl
-last_is_sent (Late y ∷ sendings) s e = inr (last_is_sent sendings s e)
-last_is_sent (InOrder y ∷ sendings) s e = inl (ap InOrder (same_there (Some y) s y e refl))
+last_is_sent (Late y ∷ ss) s e = inr (last_is_sent ss s e)
+last_is_sent (Tuned u ∷ ss) s e = inr (last_is_sent ss s e)
+last_is_sent (InOrder y ∷ ss) s e = inl (ap InOrder (same_there (Some y) s y e refl))
 
-pub prior_is_sent : (tuning : Tuning) (h : List Point) (s : Point) → prior tuning h ≡ Some s → IsSent (InOrder s) (sent tuning h)
-prior_is_sent tuning h s e = last_is_sent (sent tuning h) s (last_in_order_is tuning h ∙ e)
+-- what was sent is sent once the pending value is pushed out
+pub sent_in_flushed : (w : Option Point) (ss : List Sent) (x : Sent) → IsAmong x ss
+    → IsAmong x (pushed_out w ++ ss)
+sent_in_flushed None ss x there = there
+sent_in_flushed (Some q) ss x there = inr there
 
--- the newest value is the pending one, or else the last one sent
-pub newest_with : (tuning : Tuning) (h : List Point) (s q : Point) → prior tuning h ≡ Some s → pending tuning h ≡ Some q → newest h ≡ Some q
-newest_with tuning h s q last waiting = newest_is tuning h ∙ ap (λ w. first_there w (prior tuning h)) waiting
+-- and rises where all that rises
+rises_before : (w : Option Point) (ss : List Sent) → RisesInTime (pushed_out w ++ ss) → RisesInTime ss
+rises_before None ss rises = rises
+rises_before (Some q) ss rises = rises.1
 
-pub newest_without : (tuning : Tuning) (h : List Point) (s : Point) → prior tuning h ≡ Some s → pending tuning h ≡ None → newest h ≡ Some s
-newest_without tuning h s last waiting = newest_is tuning h ∙ ap (λ w. first_there w (prior tuning h)) waiting ∙ last
+-- a value after the newest one is after it in time
+new_by : (n : Option Point) (p s : Point) → is_not_after n p ≡ false → n ≡ Some s → s.t < p.t
+new_by None p s after e = not_both None s e refl
+new_by (Some q) p s after e =
+    let same : q ≡ s = same_there (Some q) q s refl e in
+    let below : q.t < p.t = grind (arith, nat_tests) in subst (λ (z : Point). z.t < p.t) same below
 
--- one more value after the newest is after the last one sent, where a pending value is
-after_last : (tuning : Tuning) (h : List Point) (s p : Point) (w : Option Point) → prior tuning h ≡ Some s → pending tuning h ≡ w
-    → ((q : Point) → pending tuning h ≡ Some q → s.t < q.t) → ((q : Point) → newest h ≡ Some q → q.t < p.t) → s.t < p.t
-after_last tuning h s p None last waiting between after = after s (newest_without tuning h s last waiting)
-after_last tuning h s p (Some q) last waiting between after =
-    let first = between q waiting in
-    let second = after q (newest_with tuning h s q last waiting) in
-    omega arith
+-- a value in order is after all that was sent, or waits to be
+pub new_after : (o : Origin) (p : Point) (h : List Event) → RisesInTime (flushed o h) → is_late p h ≡ false
+    → IsNew p (flushed o h)
+new_after o p h rises in_order x there =
+    let last = not_after_last (flushed o h) rises x there in
+    let newest_is = sym (newest_is_last o h) ∙ last.1 in
+    let below = new_by (newest h) p last.0 (sym (is_late_newest p h) ∙ in_order) newest_is in
+    let before = last.2 in omega arith
 
--- a pending value is after the last one sent
-pub pending_after : (tuning : Tuning) (h : List Point) (s q : Point) → prior tuning h ≡ Some s → pending tuning h ≡ Some q → s.t < q.t
-pending_after tuning [] s q last waiting = not_both None q waiting refl
-pending_after tuning (p ∷ h) s q last waiting =
-    elim (next_case tuning h p) [
-      | opens e ↦ not_both (pending tuning (p ∷ h)) q waiting (ap (λ l. pending tuning (p ∷ l)) e)
-      | comes_late x a b l sends now none ↦ not_both (pending tuning (p ∷ h)) q waiting none
-      | pushes_late x y a b l sends now none ↦ not_both (pending tuning (p ∷ h)) q waiting none
-      | goes_far x a b l sends now none ↦ not_both (pending tuning (p ∷ h)) q waiting none
-      | pushes_far x y a b l sends now none ↦ not_both (pending tuning (p ∷ h)) q waiting none
-      | waits x a after far sends now there ↦
-          let below : x.t < p.t = after_last tuning h x p (pending tuning h) a refl (λ y w. pending_after tuning h x y a w) after in
-          let one : x ≡ s = same_there (prior tuning (p ∷ h)) x s now last in
-          let two : p ≡ q = same_there (pending tuning (p ∷ h)) p q there waiting in
-          subst (λ (z : Point). s.t < z.t) two (subst (λ (z : Point). z.t < p.t) one below)
+-- and so after all that was sent
+pub new_sent : (o : Origin) (p : Point) (h : List Event) → RisesInTime (flushed o h) → is_late p h ≡ false
+    → IsNew p (sent o h)
+new_sent o p h rises in_order x old =
+    new_after o p h rises in_order x (sent_in_flushed (pending o h) (sent o h) (InOrder x) old)
+
+-- what is sent in order rises in time, once the pending value is pushed out
+pub flushed_rises : (o : Origin) (h : List Event) → RisesInTime (flushed o h)
+flushed_rises o [] = tt
+flushed_rises o (Tune u ∷ h) = subst RisesInTime (sym (tune_sends o u h)) (flushed_rises o h)
+flushed_rises o (Raw p ∷ h) =
+    let rises = flushed_rises o h in
+    elim (happens o p h) [
+      | comes_late late none all ↦ subst RisesInTime (sym all) rises
+      | goes in_order none all ↦ subst RisesInTime (sym all) (new_after o p h rises in_order, rises)
+      | waits in_order near last there all ↦
+          subst RisesInTime (sym all)
+          (new_sent o p h rises in_order, rises_before (pending o h) (sent o h) rises)
     ]
-
--- what is sent is not after the last value sent in order
-pub sent_not_after : (tuning : Tuning) (h : List Point) → RisesInTime (sent tuning h) → (s x : Point) → prior tuning h ≡ Some s
-    → IsSent (InOrder x) (sent tuning h) → x.t ≤ s.t
-sent_not_after tuning h rises s x last there = not_after_last (sent tuning h) rises s x (last_in_order_is tuning h ∙ last) there
-
-rises_with : (tuning : Tuning) (h : List Point) (s p : Point) → prior tuning h ≡ Some s → s.t < p.t → RisesInTime (sent tuning h)
-    → RisesInTime (InOrder p ∷ sent tuning h)
-rises_with tuning h s p last after rises = (λ x there. let below = sent_not_after tuning h rises s x last there in omega arith, rises)
-
--- two values in order after the last one sent
-rises_twice : (tuning : Tuning) (h : List Point) (s q p : Point) → prior tuning h ≡ Some s → s.t < q.t → q.t < p.t → RisesInTime (sent tuning h)
-    → RisesInTime (InOrder p ∷ InOrder q ∷ sent tuning h)
-rises_twice tuning h s q p last first second rises = (below, rises_with tuning h s q last first rises)
-  where
-    below : (x : Point) → IsSent (InOrder x) (InOrder q ∷ sent tuning h) → x.t < p.t
-    below x (inl e) = subst (λ (z : Point). z.t < p.t) (sym (same_in_order x q e)) second
-    below x (inr there) = let not_above = sent_not_after tuning h rises s x last there in omega arith
 
 -- what is sent in order rises in time
-pub sent_rises : (tuning : Tuning) (h : List Point) → RisesInTime (sent tuning h)
-sent_rises tuning [] = tt
-sent_rises tuning (p ∷ h) =
-    let rises = sent_rises tuning h in
-    elim (next_case tuning h p) [
-      | opens e ↦ subst (λ l. RisesInTime (sent tuning (p ∷ l))) (sym e) (λ x there. absurd there, tt)
-      | comes_late s last none late sends now gone ↦ subst RisesInTime (sym sends) rises
-      | pushes_late s q last waiting late sends now gone ↦
-          subst RisesInTime (sym sends) (rises_with tuning h s q last (pending_after tuning h s q last waiting) rises)
-      | goes_far s last none after sends now gone ↦ subst RisesInTime (sym sends) (rises_with tuning h s p last after rises)
-      | pushes_far s q last waiting after sends now gone ↦
-          subst RisesInTime (sym sends) (rises_twice tuning h s q p last (pending_after tuning h s q last waiting) after rises)
-      | waits s last after far sends now there ↦ subst RisesInTime (sym sends) rises
-    ]
+pub sent_rises : (o : Origin) (h : List Event) → RisesInTime (sent o h)
+sent_rises o h = rises_before (pending o h) (sent o h) (flushed_rises o h)

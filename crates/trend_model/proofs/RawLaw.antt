@@ -1,211 +1,244 @@
--- Where a raw value in order stands among those that were sent.
-use Rattle.std.proofs.Common.{◌≡◌, ℕ, ◌-◌, ◌<◌, ◌≤◌, ◌⊎◌, inl, inr, ◌-ℤ◌, Bool, true, false, ◌||◌, List, [], ◌∷◌, Some, nat_lt, nat_le, unsigned_abs, refl, sym, ap, ◌∙◌, subst, arith}
-use Rattle.std.proofs.lemmas.Bool.Decides.{nat_tests}
+-- Where a raw value in order stands among those that are sent once the pending one is pushed out.
+use Rattle.std.proofs.Common.{◌≡◌, ◌<◌, ◌≤◌, inl, inr, ◌-ℤ◌, false, ◌+◌, List, [], ◌∷◌, ◌++◌, Option, None, Some, unsigned_abs, refl, sym, ap, ◌∙◌, subst, arith}
+use Rattle.std.proofs.lemmas.Bool.{true≢false}
 use Rattle.trend_num.specs.declared.point.Point.{Point}
-use Rattle.trend_num.specs.declared.sending.Sending.{Sending}
-use Rattle.trend_num.specs.declared.sending.Sending.TheVariants.{InOrder, Late}
 use Rattle.trend_num.specs.declared.tuning.Tuning.{Tuning}
-use Rattle.trend_model.specs.History.{is_late, is_far, prior, pending, sent, IsSent, IsInOrder}
-use Rattle.trend_model.proofs.Cases.{opens, comes_late, pushes_late, goes_far, pushes_far, waits, next_case}
-use Rattle.trend_model.proofs.Order.{same_in_order, not_late, same_there, not_both, prior_is_sent, pending_after, newest_with, sent_not_after, sent_rises}
+use Rattle.trend_model.specs.Lists.{IsAmong}
+use Rattle.trend_model.specs.History.{Event, Raw, Tune, Origin, Sent, InOrder, Late, Tuned, in_force, is_late, is_far_from, prior, pending, sent, last_in_order, IsInOrder}
+use Rattle.trend_model.specs.Orders.{RisesInTime}
+use Rattle.trend_model.specs.State.{pushed_out}
+use Rattle.trend_model.proofs.Sent.{same_there, not_both, not_far, flushed, tune_sends, comes_late, goes, waits, happens, last_in_order_is}
+use Rattle.trend_model.proofs.Order.{same_in_order, not_late, time_of_sent, not_above, last_is_sent, new_after, flushed_rises}
+use Rattle.trend_model.proofs.Made.{force_sent, force_is, IsMade, made_more, sent_of_made}
+use Rattle.trend_model.proofs.Chain.{same_time, older, not_before}
 
--- y lies strictly between two sent neighbours, and is near the first of them, as the second is
-pub record IsBetween (e : ℕ) (sendings : List Sending) (y s z : Point) : Type 0 where
-  pub first_sent : IsSent (InOrder s) sendings
-  pub second_sent : IsSent (InOrder z) sendings
+-- y lies strictly between two sent neighbours, and is near the first of them, as the second is, by the tuning under
+-- which the second was sent
+pub record IsBetween (o : Origin) (ss : List Sent) (y s z : Point) : Type 0 where
+  pub tuning : Tuning
+  pub first_sent : IsAmong (InOrder s) ss
+  pub second_made : IsMade o.tuning tuning z ss
   pub after : s.t < y.t
   pub before : y.t < z.t
-  pub neighbours : (x : Point) → IsSent (InOrder x) sendings → s.t < x.t → z.t ≤ x.t
-  pub near : unsigned_abs (y.v -ℤ s.v) ≤ e
-  pub second_near : unsigned_abs (z.v -ℤ s.v) ≤ e
-
--- y waits after the last value sent s, with q pending: q is y or comes after it
-pub record IsWaiting (tuning : Tuning) (h : List Point) (y s q : Point) : Type 0 where
-  pub last : prior tuning h ≡ Some s
-  pub there : pending tuning h ≡ Some q
-  pub after : s.t < y.t
+  pub neighbours : (x : Point) → IsAmong (InOrder x) ss → s.t < x.t → z.t ≤ x.t
   pub near : unsigned_abs (y.v -ℤ s.v) ≤ tuning.exc_dev
-  pub pending_near : unsigned_abs (q.v -ℤ s.v) ≤ tuning.exc_dev
-  pub order : (y ≡ q) ⊎ (y.t < q.t)
+  pub second_near : unsigned_abs (z.v -ℤ s.v) ≤ tuning.exc_dev
 
--- what became of a raw value in order
-pub data Fate (tuning : Tuning) (h : List Point) (y : Point) : Type 0 where
-  was_sent : IsSent (InOrder y) (sent tuning h) → Fate tuning h y
-  lies_between : (s z : Point) → IsBetween tuning.exc_dev (sent tuning h) y s z → Fate tuning h y
-  still_waits : (s q : Point) → IsWaiting tuning h y s q → Fate tuning h y
+-- y was sent, or lies between two that were
+pub data IsPlaced (o : Origin) (ss : List Sent) (y : Point) : Type 0 where
+  was_sent : IsAmong (InOrder y) ss → IsPlaced o ss y
+  lies_between : (s z : Point) → IsBetween o ss y s z → IsPlaced o ss y
 
--- a value that is not far is near
-not_far : (tuning : Tuning) (s p : Point) → is_far tuning s p ≡ false → unsigned_abs (p.v -ℤ s.v) ≤ tuning.exc_dev
-not_far tuning s p e = by_tests (nat_lt tuning.exc_dev (unsigned_abs (p.v -ℤ s.v))) (nat_le tuning.exc_max (p.t - s.t)) e refl
-  where
-    below : (m n : ℕ) → nat_lt m n ≡ false → n ≤ m
-    below m n h = grind (arith, nat_tests)
+-- ---- near values
 
-    by_tests : (far long : Bool) → far || long ≡ false → nat_lt tuning.exc_dev (unsigned_abs (p.v -ℤ s.v)) ≡ far
-        → unsigned_abs (p.v -ℤ s.v) ≤ tuning.exc_dev
-    by_tests true long h test = absurd (cc)
-    by_tests false long h test = below tuning.exc_dev (unsigned_abs (p.v -ℤ s.v)) test
+-- what waits is near the last value sent, and comes soon after it
+pub record IsNearLast (u : Tuning) (last : Option Point) (p : Point) : Type 0 where
+  pub first : Point
+  pub is_last : last ≡ Some first
+  pub near : unsigned_abs (p.v -ℤ first.v) ≤ u.exc_dev
+  pub soon : p.t < first.t + u.exc_max
 
--- what was sent before was sent
-later : (tuning : Tuning) (h : List Point) (p : Point) (s : Sending) → IsSent s (sent tuning h) → IsSent s (sent tuning (p ∷ h))
-later tuning h p s there =
-    elim (next_case tuning h p) [
-      | opens e ↦ absurd (subst (λ l. IsSent s (sent tuning l)) e there)
-      | comes_late x last none late sends now gone ↦ subst (IsSent s) (sym sends) (inr there)
-      | pushes_late x q last waiting late sends now gone ↦ subst (IsSent s) (sym sends) (inr (inr there))
-      | goes_far x last none after sends now gone ↦ subst (IsSent s) (sym sends) (inr there)
-      | pushes_far x q last waiting after sends now gone ↦ subst (IsSent s) (sym sends) (inr (inr there))
-      | waits x last after far sends now waiting ↦ subst (IsSent s) (sym sends) there
+-- a value that is not far from the last one is near it
+pub near_last : (u : Tuning) (last : Option Point) (p : Point) → is_far_from u last p ≡ false
+    → IsNearLast u last p
+near_last u None p e = absurd (cc)
+near_last u (Some s) p e =
+    let n = not_far u s p e in record { first = s; is_last = refl; near = n.0; soon = n.1 }
+
+-- and so is the pending value
+pub pending_near : (o : Origin) (h : List Event) (q : Point) → pending o h ≡ Some q
+    → IsNearLast (in_force o h) (prior o h) q
+pending_near o [] q waiting = not_both None q waiting refl
+pending_near o (Tune u ∷ h) q waiting = not_both None q waiting refl
+pending_near o (Raw p ∷ h) q waiting =
+    elim (happens o p h) [
+      | comes_late late none all ↦ not_both (pending o (Raw p ∷ h)) q waiting none
+      | goes in_order none all ↦ not_both (pending o (Raw p ∷ h)) q waiting none
+      | waits in_order near last there all ↦
+          subst (λ z. IsNearLast (in_force o h) (prior o (Raw p ∷ h)) z)
+          (same_there (pending o (Raw p ∷ h)) p q there waiting)
+          (subst (λ s. IsNearLast (in_force o h) s p) (sym last)
+          (near_last (in_force o h) (prior o h) p near))
     ]
 
--- a value of a longer history is sent of the shorter one, or comes after all that was sent of it
-new_or_old : (tuning : Tuning) (h : List Point) (p x : Point) → IsSent (InOrder x) (sent tuning (p ∷ h))
-    → IsSent (InOrder x) (sent tuning h) ⊎ ((z : Point) → IsSent (InOrder z) (sent tuning h) → z.t < x.t)
-new_or_old tuning h p x there =
-    elim (next_case tuning h p) [
-      | opens e ↦ inr (λ z old. absurd (subst (λ l. IsSent (InOrder z) (sent tuning l)) e old))
-      | comes_late s last none late sends now gone ↦ after_late p (subst (IsSent (InOrder x)) sends there)
-      | pushes_late s q last waiting late sends now gone ↦
-          elim (subst (IsSent (InOrder x)) sends there) [
-            | inl e ↦ not_late x p e
-            | inr rest ↦ after_one s q last (pending_after tuning h s q last waiting) rest
-          ]
-      | goes_far s last none after sends now gone ↦ after_one s p last after (subst (IsSent (InOrder x)) sends there)
-      | pushes_far s q last waiting after sends now gone ↦
-          elim (subst (IsSent (InOrder x)) sends there) [
-            | inl e ↦ inr (λ z old. (let first = not_above s last z old in let second = pending_after tuning h s q last waiting in
-                let at : x.t ≡ p.t = time_of x p e in omega arith))
-            | inr rest ↦ after_one s q last (pending_after tuning h s q last waiting) rest
-          ]
-      | waits s last after far sends now waiting ↦ inl (subst (IsSent (InOrder x)) sends there)
-    ]
-  where
-    time_of : (x p : Point) → InOrder x ≡ InOrder p → x.t ≡ p.t
-    time_of x p e = ap (λ (z : Point). z.t) (same_in_order x p e)
+-- ---- one thing more that is sent
 
-    not_above : (s : Point) → prior tuning h ≡ Some s → (z : Point) → IsSent (InOrder z) (sent tuning h) → z.t ≤ s.t
-    not_above s last z old = sent_not_after tuning h (sent_rises tuning h) s z last old
-
-    after_late : (y : Point) → IsSent (InOrder x) (Late y ∷ sent tuning h)
-        → IsSent (InOrder x) (sent tuning h) ⊎ ((z : Point) → IsSent (InOrder z) (sent tuning h) → z.t < x.t)
-    after_late y (inl e) = not_late x y e
-    after_late y (inr old) = inl old
-
-    after_one : (s y : Point) → prior tuning h ≡ Some s → s.t < y.t → IsSent (InOrder x) (InOrder y ∷ sent tuning h)
-        → IsSent (InOrder x) (sent tuning h) ⊎ ((z : Point) → IsSent (InOrder z) (sent tuning h) → z.t < x.t)
-    after_one s y last below (inl e) = inr (λ z old. (let first = not_above s last z old in let at : x.t ≡ y.t = time_of x y e in omega arith))
-    after_one s y last below (inr old) = inl old
-
--- what lies between neighbours goes on to
-between_stays : (tuning : Tuning) (h : List Point) (p y s z : Point) → IsBetween tuning.exc_dev (sent tuning h) y s z
-    → IsBetween tuning.exc_dev (sent tuning (p ∷ h)) y s z
-between_stays tuning h p y s z b = record {
-  first_sent = later tuning h p (InOrder s) b.first_sent;
-  second_sent = later tuning h p (InOrder z) b.second_sent;
+-- what lies between two neighbours goes on to, when one thing more is sent
+between_more : (o : Origin) (e : Sent) (ss : List Sent) (y s z : Point) → RisesInTime (e ∷ ss)
+    → IsBetween o ss y s z → IsBetween o (e ∷ ss) y s z
+between_more o e ss y s z rises b = record {
+  tuning = b.tuning;
+  first_sent = inr b.first_sent;
+  second_made = made_more o.tuning b.tuning z e ss b.second_made;
   after = b.after;
   before = b.before;
-  neighbours = λ x there sx. elim (new_or_old tuning h p x there) [
-    | inl old ↦ b.neighbours x old sx
-    | inr beyond ↦ (let past = beyond z b.second_sent in omega arith)
+  neighbours = λ x there sx. elim there [
+    | inl same ↦ beyond e rises x same
+    | inr old ↦ b.neighbours x old sx
   ];
   near = b.near;
   second_near = b.second_near;
 }
-
--- the pending value is sent: what waited is sent with it, or lies before it
-pushed : (tuning : Tuning) (h : List Point) (p y s q : Point) → IsWaiting tuning h y s q → IsSent (InOrder q) (sent tuning (p ∷ h))
-    → ((x : Point) → IsSent (InOrder x) (sent tuning (p ∷ h)) → s.t < x.t → q.t ≤ x.t) → Fate tuning (p ∷ h) y
-pushed tuning h p y s q w out next =
-    elim w.order [
-      | inl e ↦ was_sent (subst (λ z. IsSent (InOrder z) (sent tuning (p ∷ h))) (sym e) out)
-      | inr before ↦ lies_between s q (record {
-        first_sent = later tuning h p (InOrder s) (prior_is_sent tuning h s w.last);
-        second_sent = out;
-        after = w.after;
-        before = before;
-        neighbours = next;
-        near = w.near;
-        second_near = w.pending_near;
-      })
-    ]
-
--- the values sent after s, where nothing but q and what follows it was added
-next_of_pushed : (tuning : Tuning) (h : List Point) (s q x : Point) → prior tuning h ≡ Some s → IsSent (InOrder x) (InOrder q ∷ sent tuning h)
-    → s.t < x.t → q.t ≤ x.t
-next_of_pushed tuning h s q x last (inl e) sx = let at : x.t ≡ q.t = ap (λ (z : Point). z.t) (same_in_order x q e) in omega arith
-next_of_pushed tuning h s q x last (inr old) sx = let below = sent_not_after tuning h (sent_rises tuning h) s x last old in absurd (omega arith)
-
-waited : (tuning : Tuning) (h : List Point) (p y s q : Point) → IsWaiting tuning h y s q → Fate tuning (p ∷ h) y
-waited tuning h p y s q w =
-    elim (next_case tuning h p) [
-      | opens e ↦ not_both (pending tuning h) q w.there (ap (pending tuning) e)
-      | comes_late x last none late sends now gone ↦ not_both (pending tuning h) q w.there none
-      | pushes_late x z last waiting late sends now gone ↦
-          (let same : z ≡ q = same_there (pending tuning h) z q waiting w.there in
-          let sends' : sent tuning (p ∷ h) ≡ Late p ∷ InOrder q ∷ sent tuning h = sends ∙ ap (λ v. Late p ∷ InOrder v ∷ sent tuning h) same in
-          pushed tuning h p y s q w (subst (IsSent (InOrder q)) (sym sends') (inr (inl refl)))
-          (λ v there sv. elim (subst (IsSent (InOrder v)) sends' there) [
-            | inl e ↦ not_late v p e
-            | inr rest ↦ next_of_pushed tuning h s q v w.last rest sv
-          ]))
-      | goes_far x last none after sends now gone ↦ not_both (pending tuning h) q w.there none
-      | pushes_far x z last waiting after sends now gone ↦
-          (let same : z ≡ q = same_there (pending tuning h) z q waiting w.there in
-          let sends' : sent tuning (p ∷ h) ≡ InOrder p ∷ InOrder q ∷ sent tuning h = sends ∙ ap (λ v. InOrder p ∷ InOrder v ∷ sent tuning h) same in
-          let after' : q.t < p.t = subst (λ (v : Point). v.t < p.t) same after in
-          pushed tuning h p y s q w (subst (IsSent (InOrder q)) (sym sends') (inr (inl refl)))
-          (λ v there sv. elim (subst (IsSent (InOrder v)) sends' there) [
-            | inl e ↦ (let at : v.t ≡ p.t = ap (λ (u : Point). u.t) (same_in_order v p e) in omega arith)
-            | inr rest ↦ next_of_pushed tuning h s q v w.last rest sv
-          ]))
-      | waits x last after far sends now waiting ↦
-          (let same : x ≡ s = same_there (prior tuning h) x s last w.last in
-          let beyond : q.t < p.t = after q (newest_with tuning h s q w.last w.there) in
-          let near : is_far tuning s p ≡ false = subst (λ v. is_far tuning v p ≡ false) same far in
-          still_waits s p (record {
-            last = now ∙ ap Some same;
-            there = waiting;
-            after = w.after;
-            near = w.near;
-            pending_near = not_far tuning s p near;
-            order = elim w.order [
-              | inl e ↦ (let at : y.t ≡ q.t = ap (λ (v : Point). v.t) e in inr (omega arith))
-              | inr before ↦ inr (omega arith)
-            ];
-          }))
-    ]
-
--- the newest value of all
-own_fate : (tuning : Tuning) (h : List Point) (p : Point) → is_late p h ≡ false → Fate tuning (p ∷ h) p
-own_fate tuning h p in_order =
-    elim (next_case tuning h p) [
-      | opens e ↦ was_sent (subst (λ l. IsSent (InOrder p) (sent tuning (p ∷ l))) (sym e) (inl refl))
-      | comes_late s last none late sends now gone ↦ absurd (both (is_late p h) late in_order)
-      | pushes_late s q last waiting late sends now gone ↦ absurd (both (is_late p h) late in_order)
-      | goes_far s last none after sends now gone ↦ was_sent (subst (IsSent (InOrder p)) (sym sends) (inl refl))
-      | pushes_far s q last waiting after sends now gone ↦ was_sent (subst (IsSent (InOrder p)) (sym sends) (inl refl))
-      | waits s last after far sends now waiting ↦
-          (let near = not_far tuning s p far in
-          still_waits s p (record {
-            last = now;
-            there = waiting;
-            after = pending_after tuning (p ∷ h) s p now waiting;
-            near = near;
-            pending_near = near;
-            order = inl refl;
-          }))
-    ]
   where
-    both : (b : Bool) → b ≡ true → b ≡ false → ⊥
-    both b yes_it no_it = cc
+    beyond : (e : Sent) → RisesInTime (e ∷ ss) → (x : Point) → InOrder x ≡ e → z.t ≤ x.t
+    beyond (Late p) rises x same = not_late x p same
+    beyond (Tuned u) rises x same = absurd (cc)
+    beyond (InOrder p) rises x same =
+        let at = time_of_sent x p same in
+        let below = rises.0 z (sent_of_made o.tuning b.tuning z ss b.second_made) in omega arith
 
--- each raw value in order was sent, or lies between two sent neighbours, or waits
-pub fate : (tuning : Tuning) (h : List Point) (y : Point) → IsInOrder y h → Fate tuning h y
-fate tuning [] y there = absurd there
-fate tuning (p ∷ h) y (inl here) = subst (Fate tuning (p ∷ h)) (sym here.0) (own_fate tuning h p here.1)
-fate tuning (p ∷ h) y (inr there) =
-    elim (fate tuning h y there) [
-      | was_sent s ↦ was_sent (later tuning h p (InOrder y) s)
-      | lies_between s z b ↦ lies_between s z (between_stays tuning h p y s z b)
-      | still_waits s q w ↦ waited tuning h p y s q w
+-- what has its place keeps it
+placed_more : (o : Origin) (e : Sent) (ss : List Sent) (y : Point) → RisesInTime (e ∷ ss) → IsPlaced o ss y
+    → IsPlaced o (e ∷ ss) y
+placed_more o e ss y rises placed = elim placed [
+  | was_sent there ↦ was_sent (inr there)
+  | lies_between s z b ↦ lies_between s z (between_more o e ss y s z rises b)
+]
+
+-- ---- a value that waits in place of another
+
+-- the last value sent, s, and the pending one, q
+pub record IsLast (ss : List Sent) (s q : Point) : Type 0 where
+  pub rises : RisesInTime (InOrder q ∷ ss)
+  pub is_last : last_in_order ss ≡ Some s
+
+-- the value before the pending one is s
+pub first_is_last : (o : Origin) (ss : List Sent) (y s q first : Point) → IsLast ss s q
+    → IsBetween o (InOrder q ∷ ss) y first q → first ≡ s
+first_is_last o ss y s q first i b =
+    let after = b.after in
+    let before = b.before in
+    let sent_s = last_is_sent ss s i.is_last in
+    let waits_after = i.rises.0 s sent_s in
+    elim b.first_sent [
+      | inl e ↦ (let at = time_of_sent first q e in absurd (omega arith))
+      | inr old ↦
+          (let below = not_above ss s first i.rises.1 i.is_last old in
+          let above : s.t ≤ first.t = not_before first.t s.t
+          (λ less. (let beyond = b.neighbours s (inr sent_s) less in absurd (omega arith))) in
+          same_time ss i.rises.1 first s old sent_s (omega arith))
     ]
+
+-- p waits in place of q: y, near s and not after q, lies between s and p
+between_waiting : (o : Origin) (u : Tuning) (ss : List Sent) (y s q p : Point) → IsLast ss s q → q.t < p.t
+    → u ≡ force_sent o.tuning ss → s.t < y.t → y.t ≤ q.t → unsigned_abs (y.v -ℤ s.v) ≤ u.exc_dev
+    → unsigned_abs (p.v -ℤ s.v) ≤ u.exc_dev → IsBetween o (InOrder p ∷ ss) y s p
+between_waiting o u ss y s q p i qp force after before near second = record {
+  tuning = u;
+  first_sent = inr (last_is_sent ss s i.is_last);
+  second_made = inl (refl, force);
+  after = after;
+  before = omega arith;
+  neighbours = λ x there sx. elim there [
+    | inl e ↦ (let at = time_of_sent x p e in omega arith)
+    | inr old ↦ (let below = not_above ss s x i.rises.1 i.is_last old in absurd (omega arith))
+  ];
+  near = near;
+  second_near = second;
+}
+
+-- what lay before the pending value q lies so before p, and what lay between values sent goes on to
+between_moves : (o : Origin) (u : Tuning) (ss : List Sent) (y s q p first z : Point) → IsLast ss s q
+    → RisesInTime (InOrder p ∷ ss) → q.t < p.t → u ≡ force_sent o.tuning ss
+    → unsigned_abs (p.v -ℤ s.v) ≤ u.exc_dev → (b : IsBetween o (InOrder q ∷ ss) y first z)
+    → IsMade o.tuning b.tuning z (InOrder q ∷ ss) → IsPlaced o (InOrder p ∷ ss) y
+between_moves o u ss y s q p first z i rises qp force second b (inl here) =
+    let at_end : IsBetween o (InOrder q ∷ ss) y first q =
+    subst (λ v. IsBetween o (InOrder q ∷ ss) y first v) here.0 b in
+    let same : first ≡ s = first_is_last o ss y s q first i at_end in
+    let tuning : b.tuning ≡ u = here.1 ∙ sym force in
+    let near : unsigned_abs (y.v -ℤ s.v) ≤ u.exc_dev =
+    subst (λ (v : Point). unsigned_abs (y.v -ℤ v.v) ≤ u.exc_dev) same
+    (subst (λ (t : Tuning). unsigned_abs (y.v -ℤ first.v) ≤ t.exc_dev) tuning b.near) in
+    let after : s.t < y.t = subst (λ (v : Point). v.t < y.t) same b.after in
+    let before : y.t < q.t = at_end.before in
+    lies_between s p (between_waiting o u ss y s q p i qp force after (omega arith) near second)
+between_moves o u ss y s q p first z i rises qp force second b (inr made) =
+    let sent_z = sent_of_made o.tuning b.tuning z ss made in
+    let after = b.after in
+    let before = b.before in
+    lies_between first z (between_more o (InOrder p) ss y first z rises (record {
+      tuning = b.tuning;
+      first_sent = older (InOrder q) first z ss i.rises sent_z (omega arith) b.first_sent;
+      second_made = made;
+      after = after;
+      before = before;
+      neighbours = λ x there. b.neighbours x (inr there);
+      near = b.near;
+      second_near = b.second_near;
+    }))
+
+-- what had its place when q was pending has one when p is
+placed_waiting : (o : Origin) (u : Tuning) (ss : List Sent) (y s q p : Point) → IsLast ss s q
+    → RisesInTime (InOrder p ∷ ss) → q.t < p.t → u ≡ force_sent o.tuning ss
+    → unsigned_abs (q.v -ℤ s.v) ≤ u.exc_dev → unsigned_abs (p.v -ℤ s.v) ≤ u.exc_dev
+    → IsPlaced o (InOrder q ∷ ss) y → IsPlaced o (InOrder p ∷ ss) y
+placed_waiting o u ss y s q p i rises qp force near second placed = elim placed [
+  | was_sent there ↦ elim there [
+    | inl e ↦ subst (λ v. IsPlaced o (InOrder p ∷ ss) v) (sym (same_in_order y q e))
+        (lies_between s p (between_waiting o u ss q s q p i qp force
+        (i.rises.0 s (last_is_sent ss s i.is_last)) (omega arith) near second))
+    | inr old ↦ was_sent (inr old)
+  ]
+  | lies_between first z b ↦ between_moves o u ss y s q p first z i rises qp force second b b.second_made
+]
+
+-- ---- the place of each raw value
+
+-- p waits, and what was pending before it, if anything was, does not
+waits_on : (o : Origin) (h : List Event) (p y : Point) (w : Option Point) → pending o h ≡ w
+    → is_late p h ≡ false → RisesInTime (InOrder p ∷ sent o h) → IsNearLast (in_force o h) (prior o h) p
+    → IsPlaced o (pushed_out w ++ sent o h) y → IsPlaced o (InOrder p ∷ sent o h) y
+waits_on o h p y None waiting in_order rises near placed = placed_more o (InOrder p) (sent o h) y rises placed
+waits_on o h p y (Some q) waiting in_order rises near placed =
+    let s = near.first in
+    let before = pending_near o h q waiting in
+    let same : before.first ≡ s = same_there (prior o h) before.first s before.is_last near.is_last in
+    let pushed : flushed o h ≡ InOrder q ∷ sent o h = ap (λ v. pushed_out v ++ sent o h) waiting in
+    let last : IsLast (sent o h) s q = record {
+      rises = subst RisesInTime pushed (flushed_rises o h);
+      is_last = last_in_order_is o h ∙ near.is_last;
+    } in
+    placed_waiting o (in_force o h) (sent o h) y s q p last rises
+    (new_after o p h (flushed_rises o h) in_order q (subst (IsAmong (InOrder q)) (sym pushed) (inl refl)))
+    (sym (force_is o h))
+    (subst (λ (v : Point). unsigned_abs (q.v -ℤ v.v) ≤ (in_force o h).exc_dev) same before.near)
+    near.near placed
+
+-- what one more value makes of the place of an older one
+placed_on : (o : Origin) (p y : Point) (h : List Event) → IsPlaced o (flushed o h) y
+    → IsPlaced o (flushed o (Raw p ∷ h)) y
+placed_on o p y h placed =
+    let rises = flushed_rises o (Raw p ∷ h) in
+    elim (happens o p h) [
+      | comes_late late none all ↦
+          subst (λ ss. IsPlaced o ss y) (sym all)
+          (placed_more o (Late p) (flushed o h) y (subst RisesInTime all rises) placed)
+      | goes in_order none all ↦
+          subst (λ ss. IsPlaced o ss y) (sym all)
+          (placed_more o (InOrder p) (flushed o h) y (subst RisesInTime all rises) placed)
+      | waits in_order near last there all ↦
+          subst (λ ss. IsPlaced o ss y) (sym all)
+          (waits_on o h p y (pending o h) refl in_order (subst RisesInTime all rises)
+          (near_last (in_force o h) (prior o h) p near) placed)
+    ]
+
+-- a value in order is sent, or waits
+own_place : (o : Origin) (p : Point) (h : List Event) → is_late p h ≡ false
+    → IsAmong (InOrder p) (flushed o (Raw p ∷ h))
+own_place o p h in_order =
+    elim (happens o p h) [
+      | comes_late late none all ↦ absurd (true≢false (sym late ∙ in_order))
+      | goes in_order none all ↦ subst (IsAmong (InOrder p)) (sym all) (inl refl)
+      | waits in_order near last there all ↦ subst (IsAmong (InOrder p)) (sym all) (inl refl)
+    ]
+
+-- each raw value in order is sent, or lies between two neighbours that are
+pub placed : (o : Origin) (h : List Event) (y : Point) → IsInOrder y h → IsPlaced o (flushed o h) y
+placed o [] y there = absurd there
+placed o (Tune u ∷ h) y there =
+    subst (λ l. IsPlaced o l y) (sym (tune_sends o u h))
+    (placed_more o (Tuned u) (flushed o h) y (flushed_rises o h) (placed o h y there))
+placed o (Raw p ∷ h) y (inl here) =
+    subst (λ v. IsPlaced o (flushed o (Raw p ∷ h)) v) (sym here.0) (was_sent (own_place o p h here.1))
+placed o (Raw p ∷ h) y (inr there) = placed_on o p y h (placed o h y there)

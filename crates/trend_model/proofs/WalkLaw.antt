@@ -1,417 +1,286 @@
--- The invariant of the compression's walk: on each span between kept points every value sent is near the line, unless one
--- was passed over there; and the values since the hinge are near the line to the held point.
-use Rattle.std.proofs.Common.{◌≡◌, ℕ, ◌-◌, ◌<◌, ◌≤◌, ◌⊎◌, inl, inr, Bool, true, false, ◌&&◌, List, [], ◌∷◌, ◌++◌, Option, None, Some, nat_le, nat_lt, refl, sym, ap, ◌∙◌, subst, arith}
+-- The invariant of the compression's walk, of lines and of stairs: the chain of kept points, and the values since
+-- the last.
+use Rattle.std.proofs.Common.{◌≡◌, ℕ, ◌≤◌, ◌⊎◌, inl, inr, Bool, true, false, ◌&&◌, ◌-ℤ◌, List, [], ◌∷◌, ◌++◌, Option, None, Some, nat_le, unsigned_abs, refl, sym, subst, arith}
 use Rattle.std.proofs.lemmas.Bool.Decides.{nat_tests}
-use Rattle.std.proofs.lemmas.Bool.{false≢true}
 use Rattle.trend_num.specs.declared.point.Point.{Point}
 use Rattle.trend_num.specs.declared.archive.Rec.{Rec}
-use Rattle.trend_num.specs.declared.archive.Kind.TheVariants as kind
-use Rattle.trend_num.specs.declared.sending.Sending.{Sending}
-use Rattle.trend_num.specs.declared.sending.Sending.TheVariants.{InOrder, Late}
 use Rattle.trend_num.specs.declared.tuning.Tuning.{Tuning}
 use Rattle.trend_num.specs.Lines.{Within, is_within}
-use Rattle.trend_model.specs.History.{IsSent}
-use Rattle.trend_model.specs.Walk.{Walk, walk, walk_in_order, kept, late, is_fit}
-use Rattle.trend_model.specs.Content.{IsAmong}
-use Rattle.trend_model.proofs.Walks.{walk_by}
+use Rattle.trend_model.specs.Lists.{IsAmong}
+use Rattle.trend_model.specs.History.{Origin, Sent, InOrder, Late, Tuned}
+use Rattle.trend_model.specs.Walk.{Walk, walk, walk_on, line_on, stair_on, ended, kept, late, is_short, is_early, is_fit, is_near}
 use Rattle.trend_model.specs.Orders.{RisesInTime}
-use Rattle.trend_model.proofs.Order.{same_in_order, not_late}
-use Rattle.trend_model.proofs.Near.{within_left, within_right}
-
--- x is a kept point of these records
-abbrev pub IsKept : Point → List Rec → Type 0
-IsKept x [] = ⊥
-IsKept x (r ∷ rs) = (r ≡ kept x) ⊎ IsKept x rs
-
--- a record more
-pub kept_before : (x : Point) (rs : List Rec) (r : Rec) → IsKept x rs → IsKept x (rs ++ (r ∷ []))
-kept_before x [] r there = absurd there
-kept_before x (s ∷ rs) r (inl e) = inl e
-kept_before x (s ∷ rs) r (inr there) = inr (kept_before x rs r there)
-
-pub kept_last : (x : Point) (rs : List Rec) → IsKept x (rs ++ (kept x ∷ []))
-kept_last x [] = inl refl
-kept_last x (s ∷ rs) = inr (kept_last x rs)
-
-pub kept_of_more : (x : Point) (rs : List Rec) (r : Rec) → IsKept x (rs ++ (r ∷ [])) → IsKept x rs ⊎ (r ≡ kept x)
-kept_of_more x [] r (inl e) = inr e
-kept_of_more x [] r (inr there) = absurd there
-kept_of_more x (s ∷ rs) r (inl e) = inl (inl e)
-kept_of_more x (s ∷ rs) r (inr there) = elim (kept_of_more x rs r there) [ inl h ↦ inl (inr h) | inr e ↦ inr e ]
-
-same_kept : (x y : Point) → kept x ≡ kept y → y ≡ x
-same_kept x y e = ap (λ (r : Rec). r.point) (sym e)
-
-late_not_kept : {P : Type 0} (x y : Point) → late x ≡ kept y → P
-late_not_kept x y e = late_kind (ap (λ (r : Rec). r.kind) e)
-  where
-    late_kind : {P : Type 0} → kind.Late ≡ kind.Kept → P
-    late_kind h = cc
-
-kept_of_late : (x y : Point) (rs : List Rec) → IsKept x (rs ++ (late y ∷ [])) → IsKept x rs
-kept_of_late x y rs there = elim (kept_of_more x rs (late y) there) [ inl h ↦ h | inr e ↦ late_not_kept y x e ]
-
--- two values sent in order at one time are the same
-pub same_time : (sendings : List Sending) → RisesInTime sendings → (x y : Point) → IsSent (InOrder x) sendings → IsSent (InOrder y) sendings
-    → x.t ≡ y.t → x ≡ y
-same_time [] rises x y here there e = absurd here
-same_time (Late z ∷ sendings) rises x y (inl a) there e = not_late x z a
-same_time (Late z ∷ sendings) rises x y (inr here) (inl b) e = not_late y z b
-same_time (Late z ∷ sendings) rises x y (inr here) (inr there) e = same_time sendings rises x y here there e
-same_time (InOrder z ∷ sendings) rises x y (inl a) (inl b) e = same_in_order x z a ∙ sym (same_in_order y z b)
-same_time (InOrder z ∷ sendings) rises x y (inl a) (inr there) e =
-    let at : x.t ≡ z.t = ap (λ (p : Point). p.t) (same_in_order x z a) in
-    let below = rises.0 y there in absurd (omega arith)
-same_time (InOrder z ∷ sendings) rises x y (inr here) (inl b) e =
-    let at : y.t ≡ z.t = ap (λ (p : Point). p.t) (same_in_order y z b) in
-    let below = rises.0 x here in absurd (omega arith)
-same_time (InOrder z ∷ sendings) rises x y (inr here) (inr there) e = same_time sendings rises.1 x y here there e
-
--- the last of the values since the hinge, or the hinge
-abbrev pub end_of : Point → List Point → Point
-end_of a [] = a
-end_of a (q ∷ since) = q
+use Rattle.trend_model.specs.Examples.{lines, stairs}
+use Rattle.trend_model.proofs.Doors.{pass_each, second_of_both, within_test}
+use Rattle.trend_model.proofs.Walks.{line_by, stair_by}
+use Rattle.trend_model.proofs.Order.{time_of, time_of_sent}
+use Rattle.trend_model.proofs.Made.{force_sent, sent_of_made}
+use Rattle.trend_model.proofs.Since.{IsFitted, IsSince, since_none, since_late, since_adds, sent_of_late, sent_of_tuned, last_span}
+use Rattle.trend_model.proofs.Chain.{IsChain, among_left, among_right, near_right, kept_of_late, chain_recorded, chain_more, chain_first, chain_keeps}
 
 -- what holds once there is a hinge a
-pub record IsHung (d : ℕ) (sendings : List Sending) (rs : List Rec) (a : Point) (since passed : List Point) : Type 0 where
-  pub kept_sent : (x : Point) → IsKept x rs → IsSent (InOrder x) sendings
-  pub hinge_kept : IsKept a rs
-  pub hinge_last : (x : Point) → IsKept x rs → x.t ≤ a.t
-  pub since_sent : (x : Point) → IsAmong x since → IsSent (InOrder x) sendings
-  pub since_after : (x : Point) → IsAmong x since → a.t < x.t
-  pub since_near : (x : Point) → IsAmong x since → Within a (end_of a since) x d
-  pub passed_sent : (x : Point) → IsAmong x passed → IsSent (InOrder x) sendings
-  pub covers : (x : Point) → IsSent (InOrder x) sendings → a.t < x.t → IsAmong x since ⊎ IsAmong x passed
-  pub end_last : (x : Point) → IsSent (InOrder x) sendings → x.t ≤ (end_of a since).t
-  pub spans : (l r x : Point) → IsKept l rs → IsKept r rs → l.t < r.t → ((k : Point) → IsKept k rs → l.t < k.t → r.t ≤ k.t)
-      → IsSent (InOrder x) sendings → l.t ≤ x.t → x.t ≤ r.t → ((y : Point) → IsAmong y passed → l.t < y.t → r.t ≤ y.t) → Within l r x d
+pub record IsHung (o : Origin) (ss : List Sent) (rs : List Rec) (a : Point) (since passed : List Point) : Type 0
+  where
+    pub chain : IsChain o ss rs passed a
+    pub values : IsSince o ss a since passed
 
 -- what holds before there is one
-pub record IsUnhung (sendings : List Sending) (rs : List Rec) (passed : List Point) : Type 0 where
-  pub none_sent : (x : Point) → IsSent (InOrder x) sendings → ⊥
-  pub none_kept : (x : Point) → IsKept x rs → ⊥
-  pub none_passed : (x : Point) → IsAmong x passed → ⊥
+pub record IsUnhung (ss : List Sent) (rs : List Rec) : Type 0 where
+  pub none_sent : (x : Point) → IsAmong (InOrder x) ss → ⊥
+  pub none_kept : (x : Point) → IsAmong (kept x) rs → ⊥
 
--- the invariant of the walk
-abbrev pub IsWalked : ℕ → List Sending → List Rec → Option Point → List Point → List Point → Type 0
-IsWalked d sendings rs None since passed = IsUnhung sendings rs passed
-IsWalked d sendings rs (Some a) since passed = IsHung d sendings rs a since passed
+-- with a hinge and without; before there is one nothing is since it
+abbrev pub IsWalked : Origin → List Sent → List Rec → Option Point → List Point → List Point → Type 0
+IsWalked o ss rs None [] passed = IsUnhung ss rs
+IsWalked o ss rs None (q ∷ since) passed = ⊥
+IsWalked o ss rs (Some a) since passed = IsHung o ss rs a since passed
 
--- ---- members of lists
+-- a walk through what was sent
+pub record IsWalk (o : Origin) (ss : List Sent) (w : Walk) : Type 0 where
+  pub tuned : w.tuning ≡ force_sent o.tuning ss
+  pub walked : IsWalked o ss w.records w.hinge w.since w.passed
 
-pub among_of_append : (x : Point) (xs ys : List Point) → IsAmong x (xs ++ ys) → IsAmong x xs ⊎ IsAmong x ys
-among_of_append x [] ys there = inr there
-among_of_append x (z ∷ xs) ys (inl e) = inl (inl e)
-among_of_append x (z ∷ xs) ys (inr there) = elim (among_of_append x xs ys there) [ inl h ↦ inl (inr h) | inr h ↦ inr h ]
+-- a walk by its parts
+abbrev walk_at : List Rec → Option Point → List Point → List Point → Tuning → Walk
+walk_at rs hinge since passed u =
+    record { records = rs; hinge = hinge; since = since; passed = passed; tuning = u }
 
-pub among_left : (x : Point) (xs ys : List Point) → IsAmong x xs → IsAmong x (xs ++ ys)
-among_left x [] ys there = absurd there
-among_left x (z ∷ xs) ys (inl e) = inl e
-among_left x (z ∷ xs) ys (inr there) = inr (among_left x xs ys there)
+-- the hinge was sent
+hinge_sent : (o : Origin) (ss : List Sent) (rs : List Rec) (a : Point) (since passed : List Point)
+    → IsHung o ss rs a since passed → IsAmong (InOrder a) ss
+hinge_sent o ss rs a since passed i = i.chain.kept_sent a i.chain.hinge_kept
 
-pub among_right : (x : Point) (xs ys : List Point) → IsAmong x ys → IsAmong x (xs ++ ys)
-among_right x [] ys there = there
-among_right x (z ∷ xs) ys there = inr (among_right x xs ys there)
-
-sent_of_late : (y x : Point) (sendings : List Sending) → IsSent (InOrder y) (Late x ∷ sendings) → IsSent (InOrder y) sendings
-sent_of_late y x sendings (inl e) = not_late y x e
-sent_of_late y x sendings (inr there) = there
-
--- every value sent in order so far is before p
-abbrev pub IsNew : Point → List Sending → Type 0
-IsNew p sendings = (x : Point) → IsSent (InOrder x) sendings → x.t < p.t
-
--- a value sent that is not after an older one is older than p
-older : (p x r : Point) (sendings : List Sending) → IsNew p sendings → IsSent (InOrder r) sendings → x.t ≤ r.t
-    → IsSent (InOrder x) (InOrder p ∷ sendings) → IsSent (InOrder x) sendings
-older p x r sendings new sent_r below (inr there) = there
-older p x r sendings new sent_r below (inl e) =
-    let at : x.t ≡ p.t = ap (λ (z : Point). z.t) (same_in_order x p e) in
-    let before = new r sent_r in absurd (omega arith)
-
--- ---- the six ways on
-
-hung_late : (d : ℕ) (sendings : List Sending) (rs : List Rec) (a : Point) (since passed : List Point) (x : Point)
-    → IsHung d sendings rs a since passed → IsHung d (Late x ∷ sendings) (rs ++ (late x ∷ [])) a since passed
-hung_late d sendings rs a since passed x i = record {
-  kept_sent = λ y k. inr (i.kept_sent y (kept_of_late y x rs k));
-  hinge_kept = kept_before a rs (late x) i.hinge_kept;
-  hinge_last = λ y k. i.hinge_last y (kept_of_late y x rs k);
-  since_sent = λ y h. inr (i.since_sent y h);
-  since_after = i.since_after;
-  since_near = i.since_near;
-  passed_sent = λ y h. inr (i.passed_sent y h);
-  covers = λ y s after. i.covers y (sent_of_late y x sendings s) after;
-  end_last = λ y s. i.end_last y (sent_of_late y x sendings s);
-  spans = λ l r y kl kr lr none s ly yr clear. i.spans l r y (kept_of_late l x rs kl) (kept_of_late r x rs kr) lr
-      (λ k there lk. none k (kept_before k rs (late x) there) lk) (sent_of_late y x sendings s) ly yr clear;
+-- the first value is kept
+hung_first : (o : Origin) (ss : List Sent) (rs : List Rec) (passed : List Point) (p : Point) → IsUnhung ss rs
+    → IsHung o (InOrder p ∷ ss) (rs ++ (kept p ∷ [])) p [] passed
+hung_first o ss rs passed p i = record {
+  chain = chain_first o ss rs passed p i.none_kept;
+  values = since_none o (InOrder p ∷ ss) p passed (λ x there. elim there [
+    | inl e ↦ (let at = time_of_sent x p e in omega arith)
+    | inr old ↦ absurd (i.none_sent x old)
+  ]);
 }
 
-unhung_late : (sendings : List Sending) (rs : List Rec) (passed : List Point) (x : Point)
-    → IsUnhung sendings rs passed → IsUnhung (Late x ∷ sendings) (rs ++ (late x ∷ [])) passed
-unhung_late sendings rs passed x i = record {
-  none_sent = λ y s. i.none_sent y (sent_of_late y x sendings s);
-  none_kept = λ y k. i.none_kept y (kept_of_late y x rs k);
-  none_passed = i.none_passed;
+-- the last of the values since is kept
+hung_keeps : (o : Origin) (ss : List Sent) (rs : List Rec) (a q : Point) (since passed : List Point)
+    → RisesInTime ss → IsHung o ss rs a (q ∷ since) passed → IsHung o ss (rs ++ (kept q ∷ [])) q [] passed
+hung_keeps o ss rs a q since passed rises i = record {
+  chain = chain_keeps o ss rs passed a q rises i.chain
+      (sent_of_made o.tuning _ q ss (i.values.made q (inl refl))) (i.values.after q (inl refl))
+      (last_span o ss a q since passed rises (hinge_sent o ss rs a (q ∷ since) passed i) i.values);
+  values = since_none o ss q passed i.values.end_last;
 }
 
--- the only kept point
-only_kept : (p x : Point) (rs : List Rec) → ((y : Point) → IsKept y rs → ⊥) → IsKept x (rs ++ (kept p ∷ [])) → x ≡ p
-only_kept p x rs none there = elim (kept_of_more x rs (kept p) there) [ inl h ↦ absurd (none x h) | inr e ↦ same_kept p x e ]
-
-only_sent : (p x : Point) (sendings : List Sending) → ((y : Point) → IsSent (InOrder y) sendings → ⊥) → IsSent (InOrder x) (InOrder p ∷ sendings) → x ≡ p
-only_sent p x sendings none (inl e) = same_in_order x p e
-only_sent p x sendings none (inr there) = absurd (none x there)
-
-time_of : (x p : Point) → x ≡ p → x.t ≡ p.t
-time_of x p e = ap (λ (z : Point). z.t) e
-
-hung_first : (d : ℕ) (sendings : List Sending) (rs : List Rec) (passed : List Point) (p : Point)
-    → IsUnhung sendings rs passed → IsHung d (InOrder p ∷ sendings) (rs ++ (kept p ∷ [])) p [] passed
-hung_first d sendings rs passed p i = record {
-  kept_sent = λ x k. inl (ap InOrder (only_kept p x rs i.none_kept k));
-  hinge_kept = kept_last p rs;
-  hinge_last = λ x k. let at = time_of x p (only_kept p x rs i.none_kept k) in omega arith;
-  since_sent = λ x h. absurd h;
-  since_after = λ x h. absurd h;
-  since_near = λ x h. absurd h;
-  passed_sent = λ x h. absurd (i.none_passed x h);
-  covers = λ x s after. let at = time_of x p (only_sent p x sendings i.none_sent s) in absurd (omega arith);
-  end_last = λ x s. let at = time_of x p (only_sent p x sendings i.none_sent s) in omega arith;
-  spans = λ l r x kl kr lr none s lx xr clear.
-      let left = time_of l p (only_kept p l rs i.none_kept kl) in
-      let right = time_of r p (only_kept p r rs i.none_kept kr) in absurd (omega arith);
+-- p joins some of the values since
+hung_adds : (o : Origin) (ss : List Sent) (rs : List Rec) (a p : Point) (old before since passed : List Point)
+    → RisesInTime (InOrder p ∷ ss) → IsHung o ss rs a old before
+    → ((x : Point) → IsAmong x since → IsAmong x old) → ((x : Point) → IsAmong x before → IsAmong x passed)
+    → ((x : Point) → IsAmong x old → IsAmong x since ⊎ IsAmong x passed)
+    → ((x : Point) → IsAmong x (p ∷ since) → IsFitted o.step a p x (force_sent o.tuning ss).comp_dev passed)
+    → IsHung o (InOrder p ∷ ss) rs a (p ∷ since) passed
+hung_adds o ss rs a p old before since passed rises i left gone covered fits = record {
+  chain = chain_more o (InOrder p) ss rs before passed a rises gone i.chain;
+  values = since_adds o ss a p old before since passed rises.0 (hinge_sent o ss rs a old before i) i.values
+      left (λ x h. elim h [ inl there ↦ covered x there | inr there ↦ inr (gone x there) ]) fits;
 }
 
--- the spans between the kept points stay as near when a value comes after them
-spans_stay : (d : ℕ) (sendings : List Sending) (rs : List Rec) (a : Point) (since passed more : List Point) (p : Point)
-    → IsHung d sendings rs a since passed → IsNew p sendings → ((y : Point) → IsAmong y passed → IsAmong y more)
-    → (l r x : Point) → IsKept l rs → IsKept r rs → l.t < r.t → ((k : Point) → IsKept k rs → l.t < k.t → r.t ≤ k.t)
-    → IsSent (InOrder x) (InOrder p ∷ sendings) → l.t ≤ x.t → x.t ≤ r.t → ((y : Point) → IsAmong y more → l.t < y.t → r.t ≤ y.t) → Within l r x d
-spans_stay d sendings rs a since passed more p i new within l r x kl kr lr none s lx xr clear =
-    i.spans l r x kl kr lr none (older p x r sendings new (i.kept_sent r kr) xr s) lx xr (λ y h. clear y (within y h))
+-- ---- lines
 
-near_right : (a p x : Point) (d : ℕ) → x ≡ p → Within a p x d
-near_right a p x d e = subst (λ z. Within a p z d) (sym e) (within_right a p d)
-
-sent_of : (x p : Point) (sendings : List Sending) → x ≡ p → IsSent (InOrder x) (InOrder p ∷ sendings)
-sent_of x p sendings e = inl (ap InOrder e)
-
-hung_begins : (d : ℕ) (sendings : List Sending) (rs : List Rec) (a : Point) (passed : List Point) (p : Point)
-    → IsNew p sendings → IsHung d sendings rs a [] passed → IsHung d (InOrder p ∷ sendings) rs a (p ∷ []) passed
-hung_begins d sendings rs a passed p new i = record {
-  kept_sent = λ x k. inr (i.kept_sent x k);
-  hinge_kept = i.hinge_kept;
-  hinge_last = i.hinge_last;
-  since_sent = λ x h. elim h [ inl e ↦ sent_of x p sendings e | inr there ↦ absurd there ];
-  since_after = λ x h. elim h [
-    | inl e ↦ (let at = time_of x p e in let below = new a (i.kept_sent a i.hinge_kept) in omega arith)
-    | inr there ↦ absurd there
-  ];
-  since_near = λ x h. elim h [ inl e ↦ near_right a p x d e | inr there ↦ absurd there ];
-  passed_sent = λ x h. inr (i.passed_sent x h);
-  covers = λ x s after. elim s [
-    | inl e ↦ inl (inl (same_in_order x p e))
-    | inr there ↦ elim (i.covers x there after) [ inl h ↦ absurd h | inr h ↦ inr h ]
-  ];
-  end_last = λ x s. elim s [
-    | inl e ↦ (let at = time_of x p (same_in_order x p e) in omega arith)
-    | inr there ↦ (let below = new x there in omega arith)
-  ];
-  spans = spans_stay d sendings rs a [] passed passed p i new (λ y h. h);
-}
+-- the end of a line is on it
+near_end : (a p x : Point) (d : ℕ) → x ≡ p → Within a p x d
+near_end a p x d e = subst (λ z. Within a p z d) (sym e) (near_right false a p d)
 
 -- each of the values is near the line that fits
-fit_near : (tuning : Tuning) (a p x : Point) (values : List Point) → is_fit tuning a values p ≡ true → IsAmong x values → Within a p x tuning.comp_dev
-fit_near tuning a p x [] fits there = absurd there
-fit_near tuning a p x (v ∷ values) fits (inl e) =
-    let first : is_within a p v tuning.comp_dev ≡ true = and_left (is_within a p v tuning.comp_dev) _ fits in
-    subst (λ z. Within a p z tuning.comp_dev) (sym e) (leb_true _ _ first)
-  where
-    and_left : (b c : Bool) → b && c ≡ true → b ≡ true
-    and_left true c h = refl
-    and_left false c h = h
+fit_near : (u : Tuning) (a p x : Point) (values : List Point) → is_fit u a values p ≡ true → IsAmong x values
+    → Within a p x u.comp_dev
+fit_near u a p x values fits there =
+    within_test a p x u.comp_dev (pass_each (λ y. is_within a p y u.comp_dev) values fits x there)
 
-    leb_true : (m n : ℕ) → nat_le m n ≡ true → m ≤ n
-    leb_true m n h = grind (arith, nat_tests)
-fit_near tuning a p x (v ∷ values) fits (inr there) = fit_near tuning a p x values (and_right (is_within a p v tuning.comp_dev) _ fits) there
-  where
-    and_right : (b c : Bool) → b && c ≡ true → c ≡ true
-    and_right true c h = h
-    and_right false c h = absurd (false≢true h)
+-- p alone is on its line
+hung_alone : (t : Tuning) (ss : List Sent) (rs : List Rec) (a p : Point) (old before passed : List Point)
+    → RisesInTime (InOrder p ∷ ss) → IsHung (lines t) ss rs a old before
+    → ((x : Point) → IsAmong x before → IsAmong x passed) → ((x : Point) → IsAmong x old → IsAmong x passed)
+    → IsHung (lines t) (InOrder p ∷ ss) rs a (p ∷ []) passed
+hung_alone t ss rs a p old before passed rises i gone covered =
+    hung_adds (lines t) ss rs a p old before [] passed rises i (λ x h. absurd h) gone
+    (λ x h. inr (covered x h))
+    (λ x h. elim h [ inl e ↦ near_end a p x (force_sent t ss).comp_dev e | inr none ↦ absurd none ])
 
-hung_joins : (tuning : Tuning) (sendings : List Sending) (rs : List Rec) (a q : Point) (since passed : List Point) (p : Point)
-    → IsNew p sendings → is_fit tuning a (q ∷ since) p ≡ true → IsHung tuning.comp_dev sendings rs a (q ∷ since) passed
-    → IsHung tuning.comp_dev (InOrder p ∷ sendings) rs a (p ∷ q ∷ since) passed
-hung_joins tuning sendings rs a q since passed p new fits i = record {
-  kept_sent = λ x k. inr (i.kept_sent x k);
-  hinge_kept = i.hinge_kept;
-  hinge_last = i.hinge_last;
-  since_sent = λ x h. elim h [ inl e ↦ sent_of x p sendings e | inr there ↦ inr (i.since_sent x there) ];
-  since_after = λ x h. elim h [
-    | inl e ↦ (let at = time_of x p e in let below = new a (i.kept_sent a i.hinge_kept) in omega arith)
-    | inr there ↦ i.since_after x there
-  ];
-  since_near = λ x h. elim h [ inl e ↦ near_right a p x tuning.comp_dev e | inr there ↦ fit_near tuning a p x (q ∷ since) fits there ];
-  passed_sent = λ x h. inr (i.passed_sent x h);
-  covers = λ x s after. elim s [
-    | inl e ↦ inl (inl (same_in_order x p e))
-    | inr there ↦ elim (i.covers x there after) [ inl h ↦ inl (inr h) | inr h ↦ inr h ]
-  ];
-  end_last = λ x s. elim s [
-    | inl e ↦ (let at = time_of x p (same_in_order x p e) in omega arith)
-    | inr there ↦ (let below = new x there in omega arith)
-  ];
-  spans = spans_stay tuning.comp_dev sendings rs a (q ∷ since) passed passed p i new (λ y h. h);
+-- a line goes on in each of three ways
+line_walks_by : (t : Tuning) (ss : List Sent) (rs : List Rec) (a q p : Point) (since passed : List Point)
+    (joins early : Bool) → (joins ≡ true → is_fit (force_sent t ss) a (q ∷ since) p ≡ true)
+    → RisesInTime (InOrder p ∷ ss) → IsHung (lines t) ss rs a (q ∷ since) passed
+    → IsWalk (lines t) (InOrder p ∷ ss)
+    (line_by joins early (walk_at rs (Some a) (q ∷ since) passed (force_sent t ss)) p q)
+line_walks_by t ss rs a q p since passed true early fits rises i = record {
+  tuned = refl;
+  walked = hung_adds (lines t) ss rs a p (q ∷ since) passed (q ∷ since) passed rises i (λ x h. h) (λ x h. h)
+      (λ x h. inl h) (λ x h. elim h [
+        | inl e ↦ near_end a p x (force_sent t ss).comp_dev e
+        | inr there ↦ fit_near (force_sent t ss) a p x (q ∷ since) (fits refl) there
+      ]);
+}
+line_walks_by t ss rs a q p since passed false true fits rises i = record {
+  tuned = refl;
+  walked = hung_alone t ss rs a p (q ∷ since) passed ((q ∷ since) ++ passed) rises i
+      (λ x h. among_right x (q ∷ since) passed h) (λ x h. among_left x (q ∷ since) passed h);
+}
+line_walks_by t ss rs a q p since passed false false fits rises i = record {
+  tuned = refl;
+  walked = hung_alone t ss (rs ++ (kept q ∷ [])) q p [] passed passed rises
+      (hung_keeps (lines t) ss rs a q since passed rises.1 i) (λ x h. h) (λ x h. absurd h);
 }
 
-hung_passes : (d : ℕ) (sendings : List Sending) (rs : List Rec) (a q : Point) (since passed : List Point) (p : Point)
-    → IsNew p sendings → IsHung d sendings rs a (q ∷ since) passed
-    → IsHung d (InOrder p ∷ sendings) rs a (p ∷ []) ((q ∷ since) ++ passed)
-hung_passes d sendings rs a q since passed p new i = record {
-  kept_sent = λ x k. inr (i.kept_sent x k);
-  hinge_kept = i.hinge_kept;
-  hinge_last = i.hinge_last;
-  since_sent = λ x h. elim h [ inl e ↦ sent_of x p sendings e | inr there ↦ absurd there ];
-  since_after = λ x h. elim h [
-    | inl e ↦ (let at = time_of x p e in let below = new a (i.kept_sent a i.hinge_kept) in omega arith)
-    | inr there ↦ absurd there
-  ];
-  since_near = λ x h. elim h [ inl e ↦ near_right a p x d e | inr there ↦ absurd there ];
-  passed_sent = λ x h. elim (among_of_append x (q ∷ since) passed h) [ inl there ↦ inr (i.since_sent x there) | inr there ↦ inr (i.passed_sent x there) ];
-  covers = λ x s after. elim s [
-    | inl e ↦ inl (inl (same_in_order x p e))
-    | inr there ↦ elim (i.covers x there after) [ inl h ↦ inr (among_left x (q ∷ since) passed h) | inr h ↦ inr (among_right x (q ∷ since) passed h) ]
-  ];
-  end_last = λ x s. elim s [
-    | inl e ↦ (let at = time_of x p (same_in_order x p e) in omega arith)
-    | inr there ↦ (let below = new x there in omega arith)
-  ];
-  spans = spans_stay d sendings rs a (q ∷ since) passed ((q ∷ since) ++ passed) p i new (λ y h. among_right y (q ∷ since) passed h);
+-- a line goes on by a value in order
+line_walks : (t : Tuning) (ss : List Sent) (p : Point) (rs : List Rec) (hinge : Option Point)
+    (since passed : List Point) → RisesInTime (InOrder p ∷ ss) → IsWalked (lines t) ss rs hinge since passed
+    → IsWalk (lines t) (InOrder p ∷ ss)
+    (line_on (walk_at rs hinge since passed (force_sent t ss)) p hinge since)
+line_walks t ss p rs None [] passed rises i =
+    record { tuned = refl; walked = hung_first (lines t) ss rs passed p i }
+line_walks t ss p rs None (q ∷ since) passed rises i = absurd i
+line_walks t ss p rs (Some a) [] passed rises i = record {
+  tuned = refl;
+  walked = hung_alone t ss rs a p [] passed passed rises i (λ x h. h) (λ x h. absurd h);
+}
+line_walks t ss p rs (Some a) (q ∷ since) passed rises i =
+    let u = force_sent t ss in
+    line_walks_by t ss rs a q p since passed (is_short u a p && is_fit u a (q ∷ since) p)
+    (is_short u a p && is_early u a q) (second_of_both (is_short u a p) (is_fit u a (q ∷ since) p)) rises i
+
+-- ---- stairs
+
+-- the fact of a test
+at_most_of_test : (m n : ℕ) → nat_le m n ≡ true → m ≤ n
+at_most_of_test m n h = grind (arith, nat_tests)
+
+-- p is passed over
+hung_skips : (t : Tuning) (ss : List Sent) (rs : List Rec) (a p : Point) (since passed : List Point)
+    → RisesInTime (InOrder p ∷ ss) → IsHung (stairs t) ss rs a since passed
+    → IsHung (stairs t) (InOrder p ∷ ss) rs a (p ∷ since) (p ∷ passed)
+hung_skips t ss rs a p since passed rises i =
+    hung_adds (stairs t) ss rs a p since passed since (p ∷ passed) rises i (λ x h. h) (λ x h. inr h)
+    (λ x h. inl h) (λ x h. elim h [
+      | inl e ↦ inr (inl e)
+      | inr there ↦ elim (i.values.fit x there) [ inl near ↦ inl near | inr gone ↦ inr (inr gone) ]
+    ])
+
+-- a stair goes on in each of three ways
+stair_walks_by : (t : Tuning) (ss : List Sent) (rs : List Rec) (a p : Point) (since passed : List Point)
+    (joins early : Bool) → (joins ≡ true → is_near (force_sent t ss) a p ≡ true)
+    → RisesInTime (InOrder p ∷ ss) → IsHung (stairs t) ss rs a since passed
+    → IsWalk (stairs t) (InOrder p ∷ ss)
+    (stair_by joins early (walk_at rs (Some a) since passed (force_sent t ss)) p)
+stair_walks_by t ss rs a p since passed true early nears rises i = record {
+  tuned = refl;
+  walked = hung_adds (stairs t) ss rs a p since passed since passed rises i (λ x h. h) (λ x h. h)
+      (λ x h. inl h) (λ x h. elim h [
+        | inl e ↦ inl (subst (λ (z : Point). unsigned_abs (z.v -ℤ a.v) ≤ (force_sent t ss).comp_dev) (sym e)
+            (at_most_of_test _ _ (nears refl)))
+        | inr there ↦ i.values.fit x there
+      ]);
+}
+stair_walks_by t ss rs a p since passed false true nears rises i =
+    record { tuned = refl; walked = hung_skips t ss rs a p since passed rises i }
+stair_walks_by t ss rs a p since passed false false nears rises i =
+    let skipped = hung_skips t ss rs a p since passed rises i in
+    let sent_a = hinge_sent (stairs t) (InOrder p ∷ ss) rs a (p ∷ since) (p ∷ passed) skipped in
+    record {
+      tuned = refl;
+      walked = record {
+        chain = chain_keeps (stairs t) (InOrder p ∷ ss) rs passed a p rises
+            (chain_more (stairs t) (InOrder p) ss rs passed passed a rises (λ x h. h) i.chain) (inl refl)
+            (skipped.values.after p (inl refl))
+            (λ x there ax xp clear. last_span (stairs t) (InOrder p ∷ ss) a p since (p ∷ passed) rises sent_a
+            skipped.values x there ax xp (λ y h ay. elim h [
+              | inl e ↦ (let at = time_of y p e in omega arith)
+              | inr gone ↦ clear y gone ay
+            ]));
+        values = since_none (stairs t) (InOrder p ∷ ss) p passed skipped.values.end_last;
+      };
+    }
+
+-- a stair goes on by a value in order
+stair_walks : (t : Tuning) (ss : List Sent) (p : Point) (rs : List Rec) (hinge : Option Point)
+    (since passed : List Point) → RisesInTime (InOrder p ∷ ss) → IsWalked (stairs t) ss rs hinge since passed
+    → IsWalk (stairs t) (InOrder p ∷ ss) (stair_on (walk_at rs hinge since passed (force_sent t ss)) p hinge)
+stair_walks t ss p rs None [] passed rises i =
+    record { tuned = refl; walked = hung_first (stairs t) ss rs passed p i }
+stair_walks t ss p rs None (q ∷ since) passed rises i = absurd i
+stair_walks t ss p rs (Some a) since passed rises i =
+    let u = force_sent t ss in
+    stair_walks_by t ss rs a p since passed (is_short u a p && is_near u a p)
+    (is_short u a p && is_early u a p) (second_of_both (is_short u a p) (is_near u a p)) rises i
+
+-- ---- late values and tunings
+
+-- a late value is recorded
+late_walks : (o : Origin) (ss : List Sent) (y : Point) (rs : List Rec) (hinge : Option Point)
+    (since passed : List Point) → RisesInTime (Late y ∷ ss) → IsWalked o ss rs hinge since passed
+    → IsWalked o (Late y ∷ ss) (rs ++ (late y ∷ [])) hinge since passed
+late_walks o ss y rs None [] passed rises i = record {
+  none_sent = λ x there. i.none_sent x (sent_of_late x y ss there);
+  none_kept = λ x k. i.none_kept x (kept_of_late x y rs k);
+}
+late_walks o ss y rs None (q ∷ since) passed rises i = absurd i
+late_walks o ss y rs (Some a) since passed rises i = record {
+  chain = chain_recorded o (Late y ∷ ss) rs passed a y
+      (chain_more o (Late y) ss rs passed passed a rises (λ x h. h) i.chain);
+  values = since_late o ss a y since passed i.values;
 }
 
--- the span from the hinge to the held point, when nothing is passed over there
-pub last_span : (d : ℕ) (sendings : List Sending) (rs : List Rec) (a q : Point) (since passed : List Point) → RisesInTime sendings
-    → IsHung d sendings rs a (q ∷ since) passed → (x : Point) → IsSent (InOrder x) sendings → a.t ≤ x.t → x.t ≤ q.t
-    → ((y : Point) → IsAmong y passed → a.t < y.t → q.t ≤ y.t) → Within a q x d
-last_span d sendings rs a q since passed rises i x s ax xq clear =
-    elim (at_or_after a.t x.t ax) [
-      | inl at ↦ subst (λ z. Within a q z d) (same_time sendings rises a x (i.kept_sent a i.hinge_kept) s at) (within_left a q d)
-      | inr after ↦ elim (i.covers x s after) [
-        | inl h ↦ i.since_near x h
-        | inr h ↦ (let end : x.t ≡ q.t = (let beyond = clear x h after in omega arith) in
-            near_right a q x d (same_time sendings rises x q s (i.since_sent q (inl refl)) end))
-      ]
-    ]
-  where
-    at_or_after : (m n : ℕ) → m ≤ n → (m ≡ n) ⊎ (m < n)
-    at_or_after m n h = elim (nat_lt m n) as (λ b. nat_lt m n ≡ b → (m ≡ n) ⊎ (m < n)) [
-      | true ↦ (λ e. inr (grind (arith, nat_tests)))
-      | false ↦ (λ e. inl (grind (arith, nat_tests)))
-    ] refl
-
--- a kept point of the records with q
-keeps_spans : (d : ℕ) (sendings : List Sending) (rs : List Rec) (a q : Point) (since passed : List Point) (p : Point)
-    → RisesInTime sendings → IsNew p sendings → IsHung d sendings rs a (q ∷ since) passed
-    → (l r x : Point) → IsKept l rs ⊎ (kept q ≡ kept l) → IsKept r rs ⊎ (kept q ≡ kept r) → l.t < r.t
-    → ((k : Point) → IsKept k (rs ++ (kept q ∷ [])) → l.t < k.t → r.t ≤ k.t)
-    → IsSent (InOrder x) (InOrder p ∷ sendings) → l.t ≤ x.t → x.t ≤ r.t → ((y : Point) → IsAmong y passed → l.t < y.t → r.t ≤ y.t) → Within l r x d
-keeps_spans d sendings rs a q since passed p rises new i l r x (inl kl) (inl kr) lr none s lx xr clear =
-    spans_stay d sendings rs a (q ∷ since) passed passed p i new (λ y h. h) l r x kl kr lr (λ k there lk. none k (kept_before k rs (kept q) there) lk)
-    s lx xr clear
-keeps_spans d sendings rs a q since passed p rises new i l r x (inr el) (inl kr) lr none s lx xr clear =
-    let left = time_of l q (same_kept q l el) in
-    let right = i.hinge_last r kr in
-    let after = i.since_after q (inl refl) in absurd (omega arith)
-keeps_spans d sendings rs a q since passed p rises new i l r x (inr el) (inr er) lr none s lx xr clear =
-    let left = time_of l q (same_kept q l el) in
-    let right = time_of r q (same_kept q r er) in absurd (omega arith)
-keeps_spans d sendings rs a q since passed p rises new i l r x (inl kl) (inr er) lr none s lx xr clear =
-    let right = same_kept q r er in
-    let at_end = time_of r q right in
-    let hinge_last = i.hinge_last l kl in
-    let after = i.since_after q (inl refl) in
-    let at_hinge : l.t ≡ a.t = at_most l.t a.t hinge_last (λ below. (let beyond = none a (kept_before a rs (kept q) i.hinge_kept) below in absurd (omega arith))) in
-    let left : l ≡ a = same_time sendings rises l a (i.kept_sent l kl) (i.kept_sent a i.hinge_kept) at_hinge in
-    let sent_q = i.since_sent q (inl refl) in
-    let old = older p x q sendings new sent_q (omega arith) s in
-    subst (λ z. Within z r x d) (sym left) (subst (λ z. Within a z x d) (sym right)
-    (last_span d sendings rs a q since passed rises i x old (omega arith) (omega arith) (λ y h ay. (let beyond = clear y h (omega arith) in omega arith))))
-  where
-    at_most : (m n : ℕ) → m ≤ n → (m < n → ⊥) → m ≡ n
-    at_most m n h no_less = elim (nat_lt m n) as (λ b. nat_lt m n ≡ b → m ≡ n) [
-      | true ↦ (λ e. (let less : m < n = grind (arith, nat_tests) in absurd (no_less less)))
-      | false ↦ (λ e. grind (arith, nat_tests))
-    ] refl
-
-hung_keeps : (d : ℕ) (sendings : List Sending) (rs : List Rec) (a q : Point) (since passed : List Point) (p : Point)
-    → RisesInTime sendings → IsNew p sendings → IsHung d sendings rs a (q ∷ since) passed
-    → IsHung d (InOrder p ∷ sendings) (rs ++ (kept q ∷ [])) q (p ∷ []) passed
-hung_keeps d sendings rs a q since passed p rises new i = record {
-  kept_sent = λ x k. elim (kept_of_more x rs (kept q) k) [
-    | inl h ↦ inr (i.kept_sent x h)
-    | inr e ↦ inr (subst (λ z. IsSent (InOrder z) sendings) (sym (same_kept q x e)) (i.since_sent q (inl refl)))
-  ];
-  hinge_kept = kept_last q rs;
-  hinge_last = λ x k. elim (kept_of_more x rs (kept q) k) [
-    | inl h ↦ (let before = i.hinge_last x h in let after = i.since_after q (inl refl) in omega arith)
-    | inr e ↦ (let at = time_of x q (same_kept q x e) in omega arith)
-  ];
-  since_sent = λ x h. elim h [ inl e ↦ sent_of x p sendings e | inr there ↦ absurd there ];
-  since_after = λ x h. elim h [
-    | inl e ↦ (let at = time_of x p e in let below = new q (i.since_sent q (inl refl)) in omega arith)
-    | inr there ↦ absurd there
-  ];
-  since_near = λ x h. elim h [ inl e ↦ near_right q p x d e | inr there ↦ absurd there ];
-  passed_sent = λ x h. inr (i.passed_sent x h);
-  covers = λ x s after. elim s [
-    | inl e ↦ inl (inl (same_in_order x p e))
-    | inr there ↦ (let last = i.end_last x there in absurd (omega arith))
-  ];
-  end_last = λ x s. elim s [
-    | inl e ↦ (let at = time_of x p (same_in_order x p e) in omega arith)
-    | inr there ↦ (let below = new x there in omega arith)
-  ];
-  spans = λ l r x kl kr. keeps_spans d sendings rs a q since passed p rises new i l r x (kept_of_more l rs (kept q) kl) (kept_of_more r rs (kept q) kr);
+-- a tuning leaves a hinge with nothing since
+hung_tuned : (o : Origin) (ss : List Sent) (u : Tuning) (rs : List Rec) (a : Point) (passed : List Point)
+    → RisesInTime ss → IsHung o ss rs a [] passed → IsHung o (Tuned u ∷ ss) rs a [] passed
+hung_tuned o ss u rs a passed rises i = record {
+  chain = chain_more o (Tuned u) ss rs passed passed a rises (λ x h. h) i.chain;
+  values = since_none o (Tuned u ∷ ss) a passed (λ x there. i.values.end_last x (sent_of_tuned x u ss there));
 }
 
--- the three ways on, by their tests
-walked_by : (tuning : Tuning) (sendings : List Sending) (w : Walk) (a q : Point) (since : List Point) (p : Point) (fits over passes : Bool)
-    → (fits ≡ true → is_fit tuning a (q ∷ since) p ≡ true) → RisesInTime sendings → IsNew p sendings
-    → IsHung tuning.comp_dev sendings w.records a (q ∷ since) w.passed
-    → IsWalked tuning.comp_dev (InOrder p ∷ sendings) (walk_by fits passes w p a q since).records (walk_by fits passes w p a q since).hinge
-    (walk_by fits passes w p a q since).since (walk_by fits passes w p a q since).passed
-walked_by tuning sendings w a q since p true over passes fits rises new i = hung_joins tuning sendings w.records a q since w.passed p new (fits refl) i
-walked_by tuning sendings w a q since p false over true fits rises new i = hung_passes tuning.comp_dev sendings w.records a q since w.passed p new i
-walked_by tuning sendings w a q since p false over false fits rises new i = hung_keeps tuning.comp_dev sendings w.records a q since w.passed p rises new i
+-- a tuning ends the span
+tuned_walks : (o : Origin) (ss : List Sent) (u w : Tuning) (rs : List Rec) (hinge : Option Point)
+    (since passed : List Point) → RisesInTime ss → IsWalked o ss rs hinge since passed
+    → IsWalk o (Tuned u ∷ ss) (record (ended (walk_at rs hinge since passed w) since) { tuning = u })
+tuned_walks o ss u w rs None [] passed rises i = record {
+  tuned = refl;
+  walked =
+      record { none_sent = λ x there. i.none_sent x (sent_of_tuned x u ss there); none_kept = i.none_kept };
+}
+tuned_walks o ss u w rs None (q ∷ since) passed rises i = absurd i
+tuned_walks o ss u w rs (Some a) [] passed rises i =
+    record { tuned = refl; walked = hung_tuned o ss u rs a passed rises i }
+tuned_walks o ss u w rs (Some a) (q ∷ since) passed rises i = record {
+  tuned = refl;
+  walked =
+      hung_tuned o ss u (rs ++ (kept q ∷ [])) q passed rises (hung_keeps o ss rs a q since passed rises i);
+}
 
-walked_in_order : (tuning : Tuning) (sendings : List Sending) (w : Walk) (p : Point) (hinge : Option Point) (since : List Point)
-    → RisesInTime sendings → IsNew p sendings → IsWalked tuning.comp_dev sendings w.records hinge since w.passed
-    → IsWalked tuning.comp_dev (InOrder p ∷ sendings) (walk_in_order tuning w p hinge since).records (walk_in_order tuning w p hinge since).hinge
-    (walk_in_order tuning w p hinge since).since (walk_in_order tuning w p hinge since).passed
-walked_in_order tuning sendings w p None since rises new i = hung_first tuning.comp_dev sendings w.records w.passed p i
-walked_in_order tuning sendings w p (Some a) [] rises new i = hung_begins tuning.comp_dev sendings w.records a w.passed p new i
-walked_in_order tuning sendings w p (Some a) (q ∷ since) rises new i =
-    let fits = is_fit tuning a (q ∷ since) p in
-    let over = nat_le (p.t - a.t) tuning.comp_max in
-    walked_by tuning sendings w a q since p (over && fits) over (over && nat_lt (q.t - a.t) tuning.comp_min) (both over fits) rises new i
-  where
-    both : (b c : Bool) → b && c ≡ true → c ≡ true
-    both true c h = h
-    both false c h = absurd (false≢true h)
-
-walked_late : (d : ℕ) (sendings : List Sending) (rs : List Rec) (hinge : Option Point) (since passed : List Point) (x : Point)
-    → IsWalked d sendings rs hinge since passed → IsWalked d (Late x ∷ sendings) (rs ++ (late x ∷ [])) hinge since passed
-walked_late d sendings rs None since passed x i = unhung_late sendings rs passed x i
-walked_late d sendings rs (Some a) since passed x i = hung_late d sendings rs a since passed x i
+-- a value in order, of a tag of either kind
+value_walks : (t : Tuning) (step : Bool) (ss : List Sent) (p : Point) (w : Walk)
+    → RisesInTime (InOrder p ∷ ss) → IsWalk (record { tuning = t; step = step }) ss w
+    → IsWalk (record { tuning = t; step = step }) (InOrder p ∷ ss) (walk_on step w (InOrder p))
+value_walks t false ss p w rises i =
+    subst (λ u. IsWalk (lines t) (InOrder p ∷ ss)
+    (line_on (walk_at w.records w.hinge w.since w.passed u) p w.hinge w.since))
+    (sym i.tuned) (line_walks t ss p w.records w.hinge w.since w.passed rises i.walked)
+value_walks t true ss p w rises i =
+    subst (λ u. IsWalk (stairs t) (InOrder p ∷ ss)
+    (stair_on (walk_at w.records w.hinge w.since w.passed u) p w.hinge))
+    (sym i.tuned) (stair_walks t ss p w.records w.hinge w.since w.passed rises i.walked)
 
 -- the walk keeps its invariant
-pub walk_holds : (tuning : Tuning) (sendings : List Sending) → RisesInTime sendings
-    → IsWalked tuning.comp_dev sendings (walk tuning sendings).records (walk tuning sendings).hinge (walk tuning sendings).since (walk tuning sendings).passed
-walk_holds tuning [] rises = record { none_sent = λ x s. s; none_kept = λ x k. k; none_passed = λ x h. h }
-walk_holds tuning (Late x ∷ sendings) rises =
-    walked_late tuning.comp_dev sendings (walk tuning sendings).records (walk tuning sendings).hinge (walk tuning sendings).since
-    (walk tuning sendings).passed x (walk_holds tuning sendings rises)
-walk_holds tuning (InOrder p ∷ sendings) rises =
-    walked_in_order tuning sendings (walk tuning sendings) p (walk tuning sendings).hinge (walk tuning sendings).since
-    rises.1 rises.0 (walk_holds tuning sendings rises.1)
+pub walk_holds : (o : Origin) (ss : List Sent) → RisesInTime ss → IsWalk o ss (walk o ss)
+walk_holds o [] rises = record {
+  tuned = refl;
+  walked = record { none_sent = λ x there. there; none_kept = λ x k. k };
+}
+walk_holds o (Late y ∷ ss) rises =
+    let i = walk_holds o ss rises in
+    let w = walk o ss in
+    record { tuned = i.tuned; walked = late_walks o ss y w.records w.hinge w.since w.passed rises i.walked }
+walk_holds o (Tuned u ∷ ss) rises =
+    let i = walk_holds o ss rises in
+    let w = walk o ss in
+    tuned_walks o ss u w.tuning w.records w.hinge w.since w.passed rises i.walked
+walk_holds o (InOrder p ∷ ss) rises =
+    value_walks o.tuning o.step ss p (walk o ss) rises (walk_holds o ss rises.1)

@@ -1,40 +1,66 @@
 -- Lemmas on the walk of the compression.
-use Rattle.std.proofs.Common.{◌≡◌, Bool, true, false, cond, ◌&&◌, List, [], ◌∷◌, ◌++◌, Option, None, Some, ◌-◌, nat_le, nat_lt, refl, ◌∙◌}
+use Rattle.std.proofs.Common.{◌≡◌, Bool, true, false, cond, ◌&&◌, List, [], ◌∷◌, Option, None, Some, refl, sym, ap, ◌∙◌}
 use Rattle.trend_num.specs.declared.point.Point.{Point}
-use Rattle.trend_num.specs.declared.sending.Sending.{Sending}
-use Rattle.trend_num.specs.declared.sending.Sending.TheVariants.{InOrder, Late}
-use Rattle.trend_num.specs.declared.tuning.Tuning.{Tuning}
-use Rattle.trend_model.specs.History.{sent, prior, last_in_order}
-use Rattle.trend_model.specs.Walk.{Walk, walk, walk_in_order, kept, is_fit, last_of, held}
+use Rattle.trend_model.specs.History.{Event, Origin, Sent, InOrder, Late, Tuned, sent, prior, last_in_order}
+use Rattle.trend_model.specs.Walk.{Walk, walk, walk_on, line_on, stair_on, joined, skipped, replaced, keeping, ended, is_short, is_early, is_fit, is_near, last_of, held}
 use Rattle.trend_model.proofs.Sent.{last_in_order_is}
 
--- the three ways on from a hinge and values since it
-abbrev pub walk_by : Bool → Bool → Walk → Point → Point → Point → List Point → Walk
-walk_by joins passes w p a q since =
-    cond joins (record { records = w.records; hinge = Some a; since = p ∷ q ∷ since; passed = w.passed })
-    (cond passes (record { records = w.records; hinge = Some a; since = p ∷ []; passed = (q ∷ since) ++ w.passed })
-    (record { records = w.records ++ (kept q ∷ []); hinge = Some q; since = p ∷ []; passed = w.passed }))
+-- the three ways on of a line from a hinge and the last value since it
+abbrev pub line_by : Bool → Bool → Walk → Point → Point → Walk
+line_by joins early w p q = cond joins (joined w p) (cond early (replaced w p) (joined (keeping w q) p))
 
-last_by : (joins passes : Bool) (w : Walk) (p a q : Point) (since : List Point)
-    → last_of (walk_by joins passes w p a q since).hinge (walk_by joins passes w p a q since).since ≡ Some p
-last_by true passes w p a q since = refl
-last_by false true w p a q since = refl
-last_by false false w p a q since = refl
+-- the three ways on of a stair from a hinge
+abbrev pub stair_by : Bool → Bool → Walk → Point → Walk
+stair_by joins early w p = cond joins (joined w p) (cond early (skipped w p) (keeping w p))
 
--- a value in order is held
-last_of_in_order : (tuning : Tuning) (w : Walk) (p : Point) (hinge : Option Point) (since : List Point)
-    → last_of (walk_in_order tuning w p hinge since).hinge (walk_in_order tuning w p hinge since).since ≡ Some p
-last_of_in_order tuning w p None since = refl
-last_of_in_order tuning w p (Some a) [] = refl
-last_of_in_order tuning w p (Some a) (q ∷ since) =
-    last_by (nat_le (p.t - a.t) tuning.comp_max && is_fit tuning a (q ∷ since) p) (nat_le (p.t - a.t) tuning.comp_max && nat_lt (q.t - a.t) tuning.comp_min) w p a q since
+-- the point that closes the line of a walk
+abbrev pub last_in : Walk → Option Point
+last_in w = last_of w.hinge w.since
 
-last_of_walk : (tuning : Tuning) (sendings : List Sending) → last_of (walk tuning sendings).hinge (walk tuning sendings).since ≡ last_in_order sendings
-last_of_walk tuning [] = refl
-last_of_walk tuning (Late x ∷ sendings) = last_of_walk tuning sendings
-last_of_walk tuning (InOrder p ∷ sendings) =
-    last_of_in_order tuning (walk tuning sendings) p (walk tuning sendings).hinge (walk tuning sendings).since
+-- on each of these ways p is held
+last_line_by : (joins early : Bool) (w : Walk) (p q : Point) → last_in (line_by joins early w p q) ≡ Some p
+last_line_by true early w p q = refl
+last_line_by false true w p q = refl
+last_line_by false false w p q = refl
+
+-- on each of these too
+last_stair_by : (joins early : Bool) (w : Walk) (p : Point) → last_in (stair_by joins early w p) ≡ Some p
+last_stair_by true early w p = refl
+last_stair_by false true w p = refl
+last_stair_by false false w p = refl
+
+-- a value in order is held, of a line
+last_line : (w : Walk) (p : Point) (hinge : Option Point) (since : List Point)
+    → last_in (line_on w p hinge since) ≡ Some p
+last_line w p None since = refl
+last_line w p (Some a) [] = refl
+last_line w p (Some a) (q ∷ since) =
+    last_line_by (is_short w.tuning a p && is_fit w.tuning a (q ∷ since) p)
+    (is_short w.tuning a p && is_early w.tuning a q) w p q
+
+-- and of a stair
+last_stair : (w : Walk) (p : Point) (hinge : Option Point) → last_in (stair_on w p hinge) ≡ Some p
+last_stair w p None = refl
+last_stair w p (Some a) =
+    last_stair_by (is_short w.tuning a p && is_near w.tuning a p)
+    (is_short w.tuning a p && is_early w.tuning a p) w p
+
+-- the end of a span leaves it held
+last_ended : (w : Walk) (since : List Point) → w.since ≡ since → last_in (ended w since) ≡ last_in w
+last_ended w [] e = refl
+last_ended w (q ∷ since) e = ap (last_of w.hinge) (sym e)
+
+-- the walk holds the last value that was sent in order
+last_of_walk : (o : Origin) (ss : List Sent) → last_in (walk o ss) ≡ last_in_order ss
+last_of_walk o [] = refl
+last_of_walk o (Late x ∷ ss) = last_of_walk o ss
+last_of_walk o (Tuned u ∷ ss) = last_ended (walk o ss) (walk o ss).since refl ∙ last_of_walk o ss
+last_of_walk o (InOrder p ∷ ss) = by_kind o.step
+  where
+    by_kind : (step : Bool) → last_in (walk_on step (walk o ss) (InOrder p)) ≡ Some p
+    by_kind false = last_line (walk o ss) p (walk o ss).hinge (walk o ss).since
+    by_kind true = last_stair (walk o ss) p (walk o ss).hinge
 
 -- the held point is the last value sent in order
-pub held_is_prior : (tuning : Tuning) (h : List Point) → held tuning h ≡ prior tuning h
-held_is_prior tuning h = last_of_walk tuning (sent tuning h) ∙ last_in_order_is tuning h
+pub held_is_prior : (o : Origin) (h : List Event) → held o h ≡ prior o h
+held_is_prior o h = last_of_walk o (sent o h) ∙ last_in_order_is o h

@@ -1,22 +1,41 @@
--- How near the archive's line is to the values.
-use Rattle.std.specs.Prelude.{◌≡◌, ℕ, ◌+◌, ◌*◌, ◌<◌, ◌≤◌, ◌-ℤ◌, ℤ, List, Some, unsigned_abs}
+-- How near the archive's line, or a step tag's stair, is to the values.
+use Rattle.std.specs.Prelude.{◌≡◌, ℕ, ◌+◌, ◌*◌, ◌<◌, ◌≤◌, ◌-ℤ◌, ℤ, Bool, true, false, List, Option, Some, unsigned_abs}
 use Rattle.trend_num.specs.declared.point.Point.{Point}
-use Rattle.trend_num.specs.declared.sending.Sending.TheVariants.{InOrder}
+use Rattle.trend_num.specs.declared.archive.Rec.{Rec}
 use Rattle.trend_num.specs.declared.tuning.Tuning.{Tuning}
 use Rattle.trend_num.specs.Lines.{Within}
-use Rattle.trend_model.specs.History.{sent, IsInOrder, IsSent}
-use Rattle.trend_model.specs.Walk.{records, held}
-use Rattle.trend_model.specs.Content.{closed, late_at, IsCleanSpan}
+use Rattle.trend_model.specs.Lists.{IsAmong}
+use Rattle.trend_model.specs.History.{Event, Origin, Sent, InOrder, sent, in_force, tuning_at, IsInOrder}
+use Rattle.trend_model.specs.Walk.{records, held, passed}
+use Rattle.trend_model.specs.Content.{late_at, IsCleanSpan}
+use Rattle.trend_model.specs.Contents.{closed_points}
+use Rattle.trend_model.specs.Reads.{read_at}
+use Rattle.trend_num.specs.declared.reading.Reading.TheVariants.{Exact}
 
--- the promise of the archive, for one history
-pub record IsBounded (tuning : Tuning) (h : List Point) : Type 0 where
+-- x is within d of the line from l to r, or of the stair that goes on from l until r comes
+abbrev pub IsNear : Bool → Point → Point → Point → ℕ → Type 0
+IsNear false l r x d = Within l r x d
+IsNear true l r x d = x.t < r.t → unsigned_abs (x.v -ℤ l.v) ≤ d
+
+-- how far a raw value may be
+abbrev pub raw_deviation : Bool → Tuning → ℕ
+raw_deviation false u = u.comp_dev + 2 * u.exc_dev
+raw_deviation true u = u.comp_dev + u.exc_dev
+
+-- these records, closed by this held point, keep the promise to a history of which this was sent and passed over. The
+-- tuning of a span is that which was in force when its right end came
+pub record IsBoundedBy (rs : List Rec) (q : Option Point) (gone : List Point) (ss : List Sent) (o : Origin) (h : List Event) : Type 0 where
   -- on each clean span the line is within CompDev of each value sent in order
-  pub sent_values : (l r x : Point) → IsCleanSpan tuning h l r → IsSent (InOrder x) (sent tuning h) → l.t ≤ x.t → x.t ≤ r.t
-      → Within l r x tuning.comp_dev
-  -- and within CompDev and twice ExcDev of each raw value in order
-  pub raw_values : (l r y : Point) → IsCleanSpan tuning h l r → IsInOrder y h → l.t ≤ y.t → y.t ≤ r.t
-      → Within l r y (tuning.comp_dev + 2 * tuning.exc_dev)
+  pub sent_values : (l r x : Point) → IsCleanSpan rs q gone l r → IsAmong (InOrder x) ss → l.t ≤ x.t → x.t ≤ r.t
+      → IsNear o.step l r x (tuning_at o h r.t).comp_dev
+  -- and within CompDev and twice ExcDev of each raw value in order; a stair within CompDev and ExcDev
+  pub raw_values : (l r y : Point) → IsCleanSpan rs q gone l r → IsInOrder y h → l.t ≤ y.t → y.t ≤ r.t
+      → IsNear o.step l r y (raw_deviation o.step (tuning_at o h r.t))
   -- each value in order after the held point is within ExcDev of it
-  pub newest_values : (q y : Point) → held tuning h ≡ Some q → IsInOrder y h → q.t < y.t → unsigned_abs (y.v -ℤ q.v) ≤ tuning.exc_dev
-  -- at the time of a Late record the last one is what reads
-  pub late_values : (t : ℕ) (v : ℤ) → late_at (records tuning h) t ≡ Some v → closed tuning h t ≡ Some v
+  pub newest_values : (s y : Point) → q ≡ Some s → IsInOrder y h → s.t < y.t → unsigned_abs (y.v -ℤ s.v) ≤ (in_force o h).exc_dev
+  -- at a time with Late records a read is exact, with the value of the last one
+  pub late_values : (t : ℕ) (v : ℤ) → late_at rs t ≡ Some v → read_at o.step (closed_points rs q) t ≡ Exact v
+
+-- the promise of the archive of a history
+abbrev pub IsBounded : Origin → List Event → Type 0
+IsBounded o h = IsBoundedBy (records o h) (held o h) (passed o h) (sent o h) o h

@@ -1,16 +1,13 @@
--- What a list of records reads as at each time, and on which spans its line is bound to the values.
-use Rattle.std.specs.Prelude.{◌≡◌, ℕ, ◌<◌, ◌≤◌, ℤ, Bool, true, false, cond, ◌⊎◌, List, [], ◌∷◌, Option, None, Some, nat_eq}
+-- What a list of records reads as at each time, and on which spans its line or stair is bound to the values.
+use Rattle.std.specs.Prelude.{◌≡◌, ℕ, ◌<◌, ◌≤◌, ℤ, Bool, true, false, cond, List, [], ◌∷◌, Option, None, Some, nat_eq}
+use Rattle.std.specs.Option.{option_or}
 use Rattle.trend_num.specs.declared.point.Point.{Point}
 use Rattle.trend_num.specs.declared.archive.Rec.{Rec}
 use Rattle.trend_num.specs.declared.archive.Kind.{Kind}
 use Rattle.trend_num.specs.declared.archive.Kind.TheVariants.{Kept, Late}
-use Rattle.trend_num.specs.declared.tuning.Tuning.{Tuning}
-use Rattle.trend_model.specs.Walk.{records, held, passed}
-
--- the first of these that is there
-abbrev pub first_there : {A : Type 0} → Option A → Option A → Option A
-first_there (Some x) y = Some x
-first_there None y = y
+use Rattle.trend_model.specs.Lists.{IsAmong}
+use Rattle.trend_model.specs.History.{Event, Origin}
+use Rattle.trend_model.specs.Walk.{records, held}
 
 -- the value of p, where it stands at the time t
 abbrev pub value_at : Point → ℕ → Option ℤ
@@ -23,16 +20,16 @@ is_late_record Kept = false
 -- the value of the last Late record at t
 abbrev pub late_at : List Rec → ℕ → Option ℤ
 late_at [] t = None
-late_at (r ∷ rs) t = first_there (late_at rs t) (cond (is_late_record r.kind) (value_at r.point t) None)
+late_at (r ∷ rs) t = option_or (late_at rs t) (cond (is_late_record r.kind) (value_at r.point t) None)
 
 -- the value of the last Kept record at t
 abbrev pub kept_at : List Rec → ℕ → Option ℤ
 kept_at [] t = None
-kept_at (r ∷ rs) t = first_there (kept_at rs t) (cond (is_late_record r.kind) None (value_at r.point t))
+kept_at (r ∷ rs) t = option_or (kept_at rs t) (cond (is_late_record r.kind) None (value_at r.point t))
 
 -- the content at t: the value of the last Late record there, else of the last Kept one
 abbrev pub content_at : List Rec → ℕ → Option ℤ
-content_at rs t = first_there (late_at rs t) (kept_at rs t)
+content_at rs t = option_or (late_at rs t) (kept_at rs t)
 
 -- the value of a point that may be there
 abbrev pub point_at : Option Point → ℕ → Option ℤ
@@ -41,23 +38,19 @@ point_at (Some q) t = value_at q t
 
 -- the closed content at t: the content, and the held point where nothing stands at its time
 abbrev pub closed_at : List Rec → Option Point → ℕ → Option ℤ
-closed_at rs q t = first_there (content_at rs t) (point_at q t)
+closed_at rs q t = option_or (content_at rs t) (point_at q t)
 
 -- the closed content of a history
-abbrev pub closed : Tuning → List Point → ℕ → Option ℤ
-closed tuning h t = closed_at (records tuning h) (held tuning h) t
+abbrev pub closed : Origin → List Event → ℕ → Option ℤ
+closed o h t = closed_at (records o h) (held o h) t
 
--- p is one of the points
-abbrev pub IsAmong : Point → List Point → Type 0
-IsAmong p [] = ⊥
-IsAmong p (x ∷ xs) = (p ≡ x) ⊎ IsAmong p xs
-
--- l and r are neighbours in a history's closed content, with no Late record at either time, and no value was passed over between them
-pub record IsCleanSpan (tuning : Tuning) (h : List Point) (l r : Point) : Type 0 where
-  pub left : closed tuning h l.t ≡ Some l.v
-  pub right : closed tuning h r.t ≡ Some r.v
+-- l and r are neighbours in the closed content of these records and this held point, with no Late record at either time,
+-- and none of these values was passed over between them
+pub record IsCleanSpan (rs : List Rec) (q : Option Point) (passed : List Point) (l r : Point) : Type 0 where
+  pub left : closed_at rs q l.t ≡ Some l.v
+  pub right : closed_at rs q r.t ≡ Some r.v
   pub rises : l.t < r.t
-  pub neighbours : (t : ℕ) → l.t < t → t < r.t → closed tuning h t ≡ None
-  pub left_in_order : late_at (records tuning h) l.t ≡ None
-  pub right_in_order : late_at (records tuning h) r.t ≡ None
-  pub none_passed : (x : Point) → IsAmong x (passed tuning h) → l.t < x.t → r.t ≤ x.t
+  pub neighbours : (t : ℕ) → l.t < t → t < r.t → closed_at rs q t ≡ None
+  pub left_in_order : late_at rs l.t ≡ None
+  pub right_in_order : late_at rs r.t ≡ None
+  pub none_passed : (x : Point) → IsAmong x passed → l.t < x.t → r.t ≤ x.t

@@ -1,7 +1,7 @@
 -- Two doors: the two values since the hinge that decide which lines fit (after Bristol).
-use Rattle.std.specs.Prelude.{ℕ, ◌-◌, ℤ, pos, ◌+ℤ◌, ◌-ℤ◌, ◌*ℤ◌, ◌≤ℤ◌, Bool, cond, ◌&&◌, int_le, List}
+use Rattle.std.specs.Prelude.{ℕ, ◌-◌, ◌<◌, ℤ, pos, ◌+ℤ◌, ◌-ℤ◌, ◌*ℤ◌, ◌≤ℤ◌, Bool, cond, ◌&&◌, int_le, List}
 use Rattle.trend_num.specs.declared.point.Point.{Point}
-use Rattle.trend_model.specs.Content.{IsAmong}
+use Rattle.trend_model.specs.Lists.{IsAmong}
 
 -- how far x, raised by `raise`, is above a, times how long y is after a
 abbrev pub climb : Point → Point → ℤ → Point → ℤ
@@ -18,6 +18,10 @@ IsNotSteeper a x raise y lift = climb a x raise y ≤ℤ climb a y lift x
 -- whether it is
 abbrev pub is_not_steeper : Point → Point → ℤ → Point → ℤ → Bool
 is_not_steeper a x raise y lift = int_le (climb a x raise y) (climb a y lift x)
+
+-- the values since the hinge come after it
+abbrev pub AreAfter : Point → List Point → Type 0
+AreAfter a values = (x : Point) → IsAmong x values → a.t < x.t
 
 -- u and l are doors of these values: u is one whose slope from the hinge, raised by d, is least, and l one whose slope,
 -- lowered by d, is greatest

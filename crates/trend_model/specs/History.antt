@@ -1,72 +1,102 @@
--- What an exception test sends of a history. A history is the list of a tag's raw values, the newest first, and so is
--- what was sent. Each definition asks of a place of the history what the rules say of it, and keeps no state.
-use Rattle.std.specs.Prelude.{◌≡◌, ◌-◌, ◌-ℤ◌, Bool, true, false, cond, ◌||◌, ◌⊎◌, List, [], ◌∷◌, Option, None, Some, nat_lt, nat_le, unsigned_abs}
+-- What an exception test sends of a history. A history is the list of what happened to a tag, the newest first, and so
+-- is what was sent. Each definition asks of a place of the history what the rules say of it, and keeps no state.
+use Rattle.std.specs.Prelude.{◌≡◌, ◌+◌, ◌-ℤ◌, ℕ, Bool, true, false, cond, ◌||◌, ◌&&◌, not, ◌⊎◌, List, [], ◌∷◌, Option, None, Some, nat_eq, nat_lt, nat_le, unsigned_abs}
 use Rattle.trend_num.specs.declared.point.Point.{Point}
-use Rattle.trend_num.specs.declared.sending.Sending.{Sending}
-use Rattle.trend_num.specs.declared.sending.Sending.TheVariants.{InOrder, Late}
 use Rattle.trend_num.specs.declared.tuning.Tuning.{Tuning}
 
+-- what happens to a tag: a raw value comes, or the tag is retuned
+pub data Event : Type 0 where
+  Raw : Point → Event
+  Tune : Tuning → Event
+
+-- the tuning and the kind with which a tag was made: a step tag keeps its value from point to point, any other goes along lines
+pub record Origin : Type 0 where
+  pub tuning : Tuning
+  pub step : Bool
+
+-- what is sent: a value in order, a late value, or a new tuning
+pub data Sent : Type 0 where
+  InOrder : Point → Sent
+  Late : Point → Sent
+  Tuned : Tuning → Sent
+
+-- the tuning in force after these events
+abbrev pub in_force : Origin → List Event → Tuning
+in_force o [] = o.tuning
+in_force o (Tune u ∷ h) = u
+in_force o (Raw p ∷ h) = in_force o h
+
 -- p, coming after the values of h, is late: its time is not after that of each of them
-abbrev pub is_late : Point → List Point → Bool
+abbrev pub is_late : Point → List Event → Bool
 is_late p [] = false
-is_late p (q ∷ h) = nat_le p.t q.t || is_late p h
+is_late p (Tune u ∷ h) = is_late p h
+is_late p (Raw q ∷ h) = nat_le p.t q.t || is_late p h
 
 -- y is far from s: it differs by more than ExcDev, or comes ExcMax later or more
 abbrev pub is_far : Tuning → Point → Point → Bool
-is_far tuning s y = nat_lt tuning.exc_dev (unsigned_abs (y.v -ℤ s.v)) || nat_le tuning.exc_max (y.t - s.t)
+is_far u s y = nat_lt u.exc_dev (unsigned_abs (y.v -ℤ s.v)) || nat_le (s.t + u.exc_max) y.t
 
 -- y is far from the value that was sent before it; the first value of all is
 abbrev pub is_far_from : Tuning → Option Point → Point → Bool
-is_far_from tuning None y = true
-is_far_from tuning (Some s) y = is_far tuning s y
+is_far_from u None y = true
+is_far_from u (Some s) y = is_far u s y
 
 -- the last value in order
-abbrev pub newest : List Point → Option Point
+abbrev pub newest : List Event → Option Point
 newest [] = None
-newest (p ∷ h) = cond (is_late p h) (newest h) (Some p)
+newest (Tune u ∷ h) = newest h
+newest (Raw p ∷ h) = cond (is_late p h) (newest h) (Some p)
 
--- the last value sent in order, once the values of h have come: a late value pushes out the newest one
-abbrev pub prior : Tuning → List Point → Option Point
-prior tuning [] = None
-prior tuning (p ∷ h) = cond (is_late p h) (newest h) (cond (is_far_from tuning (prior tuning h) p) (Some p) (prior tuning h))
+-- the last value sent in order, once the events of h have happened: a late value and a retuning push out the newest one
+abbrev pub prior : Origin → List Event → Option Point
+prior o [] = None
+prior o (Tune u ∷ h) = newest h
+prior o (Raw p ∷ h) = cond (is_late p h) (newest h) (cond (is_far_from (in_force o h) (prior o h) p) (Some p) (prior o h))
 
 -- the newest value, where it is in order and not sent
-abbrev pub pending : Tuning → List Point → Option Point
-pending tuning [] = None
-pending tuning (p ∷ h) = cond (is_late p h || is_far_from tuning (prior tuning h) p) None (Some p)
+abbrev pub pending : Origin → List Event → Option Point
+pending o [] = None
+pending o (Tune u ∷ h) = None
+pending o (Raw p ∷ h) = cond (is_late p h || is_far_from (in_force o h) (prior o h) p) None (Some p)
 
--- the value that comes after those of h, if one does, pushes out the newest of them: it is late, or far from the value sent before it
-abbrev pub is_pushed_out : Tuning → List Point → Option Point → Bool
-is_pushed_out tuning h None = false
-is_pushed_out tuning h (Some next) = is_late next h || is_far_from tuning (prior tuning h) next
+-- what happens after the events of h, if something does, pushes out the newest value: a retuning, a late value, or one
+-- that is far from the value sent before it
+abbrev pub is_pushed_out : Origin → List Event → Option Event → Bool
+is_pushed_out o h None = false
+is_pushed_out o h (Some (Tune u)) = true
+is_pushed_out o h (Some (Raw y)) = is_late y h || is_far_from (in_force o h) (prior o h) y
 
--- p, in order after the values of h and before the next one, is sent
-abbrev pub is_sent : Tuning → Point → List Point → Option Point → Bool
-is_sent tuning p h next = is_far_from tuning (prior tuning h) p || is_pushed_out tuning (p ∷ h) next
+-- p, in order after the events of h and before the next one, is sent
+abbrev pub is_sent : Origin → Point → List Event → Option Event → Bool
+is_sent o p h next = is_far_from (in_force o h) (prior o h) p || is_pushed_out o (Raw p ∷ h) next
 
--- what is sent of the values of h, which the next one follows, the newest first
-abbrev pub sent_before : Tuning → List Point → Option Point → List Sending
-sent_before tuning [] next = []
-sent_before tuning (p ∷ h) next =
-    cond (is_late p h) (Late p ∷ sent_before tuning h (Some p))
-    (cond (is_sent tuning p h next) (InOrder p ∷ sent_before tuning h (Some p)) (sent_before tuning h (Some p)))
+-- what is sent of the events of h, which the next one follows, the newest first
+abbrev pub sent_before : Origin → List Event → Option Event → List Sent
+sent_before o [] next = []
+sent_before o (Tune u ∷ h) next = Tuned u ∷ sent_before o h (Some (Tune u))
+sent_before o (Raw p ∷ h) next =
+    cond (is_late p h) (Late p ∷ sent_before o h (Some (Raw p)))
+    (cond (is_sent o p h next) (InOrder p ∷ sent_before o h (Some (Raw p))) (sent_before o h (Some (Raw p))))
 
--- what is sent of the values of h, the newest first
-abbrev pub sent : Tuning → List Point → List Sending
-sent tuning h = sent_before tuning h None
+-- what is sent of the events of h, the newest first
+abbrev pub sent : Origin → List Event → List Sent
+sent o h = sent_before o h None
 
 -- y is a value of the history, and in order there
-abbrev pub IsInOrder : Point → List Point → Type 0
+abbrev pub IsInOrder : Point → List Event → Type 0
 IsInOrder y [] = ⊥
-IsInOrder y (p ∷ h) = ((y ≡ p) × (is_late p h ≡ false)) ⊎ IsInOrder y h
+IsInOrder y (Tune u ∷ h) = IsInOrder y h
+IsInOrder y (Raw p ∷ h) = ((y ≡ p) × (is_late p h ≡ false)) ⊎ IsInOrder y h
 
--- s is among what was sent
-abbrev pub IsSent : Sending → List Sending → Type 0
-IsSent s [] = ⊥
-IsSent s (x ∷ xs) = (s ≡ x) ⊎ IsSent s xs
+-- the tuning that was in force when the value in order with the time t came
+abbrev pub tuning_at : Origin → List Event → ℕ → Tuning
+tuning_at o [] t = o.tuning
+tuning_at o (Tune u ∷ h) t = tuning_at o h t
+tuning_at o (Raw p ∷ h) t = cond (not (is_late p h) && nat_eq p.t t) (in_force o h) (tuning_at o h t)
 
 -- the last value in order of what was sent
-abbrev pub last_in_order : List Sending → Option Point
+abbrev pub last_in_order : List Sent → Option Point
 last_in_order [] = None
-last_in_order (Late x ∷ sendings) = last_in_order sendings
-last_in_order (InOrder x ∷ sendings) = Some x
+last_in_order (Tuned u ∷ ss) = last_in_order ss
+last_in_order (Late x ∷ ss) = last_in_order ss
+last_in_order (InOrder x ∷ ss) = Some x

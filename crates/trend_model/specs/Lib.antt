@@ -1,9 +1,14 @@
+pub mod Lists
 pub mod History
 pub mod Walk
 pub mod Content
+pub mod Contents
+pub mod Reads
 pub mod Bound
 pub mod Doors
-pub mod Step
+pub mod State
 pub mod Parts
+pub mod Windows
 pub mod Orders
+pub mod ReadFacts
 pub mod Examples

@@ -1,10 +1,12 @@
 -- Which records and which summary can be those of a tag.
-use Rattle.std.specs.Prelude.{◌≡◌, ℕ, ◌-◌, ◌*◌, ◌^◌, ◌<◌, ◌≤◌, ◌-ℤ◌, pos, true, false, cond, List, [], ◌∷◌, length, Option, None, Some, unsigned_abs}
+use Rattle.std.specs.Prelude.{◌≡◌, ℕ, ◌+◌, ◌*◌, ◌^◌, ◌<◌, ◌≤◌, ◌-ℤ◌, pos, Bool, true, false, cond, List, [], ◌∷◌, length, Option, None, Some, unsigned_abs}
+use Rattle.trend_num.specs.declared.archive.TheConstants.{MAX_RECORDS}
 use Rattle.trend_num.specs.declared.point.Point.{Point}
 use Rattle.trend_num.specs.declared.archive.Rec.{Rec}
 use Rattle.trend_num.specs.declared.archive.Summary.{Summary}
 use Rattle.trend_num.specs.declared.tuning.Tuning.{Tuning}
 use Rattle.trend_num.specs.Ranges.{InRange}
+use Rattle.trend_model.specs.Lists.{Each, IfThere}
 use Rattle.trend_model.specs.Content.{is_late_record}
 use Rattle.trend_model.specs.Doors.{IsNotSteeper, down}
 
@@ -28,28 +30,14 @@ last_point [] = None
 last_point (x ∷ []) = Some x
 last_point (x ∷ y ∷ xs) = last_point (y ∷ xs)
 
--- the first record is Kept, if there is one
+-- there is a first record, and it is Kept
 abbrev pub BeginsKept : List Rec → Type 0
-BeginsKept [] = Unit {0}
+BeginsKept [] = ⊥
 BeginsKept (r ∷ rs) = is_late_record r.kind ≡ false
-
--- a fact of each record
-abbrev pub EachRec : (Rec → Type 0) → List Rec → Type 0
-EachRec P [] = Unit {0}
-EachRec P (r ∷ rs) = P r × EachRec P rs
 
 -- a Late record is not after q
 abbrev pub IsLateBefore : Point → Rec → Type 0
 IsLateBefore q r = is_late_record r.kind ≡ true → r.point.t ≤ q.t
-
--- a record's point is in range
-abbrev pub IsRecInRange : Rec → Type 0
-IsRecInRange r = InRange r.point
-
--- a point that may be there is in range
-abbrev pub IsPlaceInRange : Option Point → Type 0
-IsPlaceInRange None = Unit {0}
-IsPlaceInRange (Some p) = InRange p
 
 -- two doors on a hinge a that q has passed: they are after the hinge and not after q, and the slope to q lies between that
 -- to the upper one raised by d and that to the lower one lowered by d, and neither door is further open than at q
@@ -63,52 +51,60 @@ pub record AreDoorsAt (d : ℕ) (a q u l : Point) : Type 0 where
   pub over_lower : IsNotSteeper a l (down d) q (pos 0)
   pub lower_not_below : IsNotSteeper a q (down d) l (down d)
 
--- the doors of a hinge a and a held point q: none where the held point is the hinge, else two
-abbrev pub DoorsFit : ℕ → Point → Point → Option Point → Option Point → Type 0
-DoorsFit d a q None None = q ≡ a
-DoorsFit d a q (Some u) (Some l) = (a.t < q.t) × AreDoorsAt d a q u l
-DoorsFit d a q upper lower = ⊥
+-- the two doors of a held point q; those of a step tag are both q
+abbrev pub AreFitDoors : Bool → ℕ → Point → Point → Point → Point → Type 0
+AreFitDoors false d a q u l = AreDoorsAt d a q u l
+AreFitDoors true d a q u l = (u ≡ q) × (l ≡ q)
 
--- a pending value is after the held point q, differs from it by at most ExcDev, and is less than ExcMax after it
-abbrev pub PendingFits : Tuning → Point → Option Point → Type 0
-PendingFits tuning q None = Unit {0}
-PendingFits tuning q (Some w) = (q.t < w.t) × (unsigned_abs (w.v -ℤ q.v) ≤ tuning.exc_dev) × (w.t - q.t < tuning.exc_max)
+-- the doors of a hinge a and a held point q: none where the held point is the hinge, else two
+abbrev pub DoorsFit : Bool → ℕ → Point → Point → Option Point → Option Point → Type 0
+DoorsFit step d a q None None = q ≡ a
+DoorsFit step d a q (Some u) (Some l) = (a.t < q.t) × AreFitDoors step d a q u l
+DoorsFit step d a q upper lower = ⊥
+
+-- a pending value is after the held point, differs from it by at most ExcDev, and is less than ExcMax after it
+abbrev pub PendingFits : Tuning → Option Point → Option Point → Type 0
+PendingFits u held None = Unit {0}
+PendingFits u None (Some w) = ⊥
+PendingFits u (Some q) (Some w) = (q.t < w.t) × (unsigned_abs (w.v -ℤ q.v) ≤ u.exc_dev) × (w.t < q.t + u.exc_max)
 
 -- a tag that has begun, with this held point and this hinge
-pub record IsBegun (tuning : Tuning) (rs : List Rec) (s : Summary) (q a : Point) : Type 0 where
-  pub taken : 0 < s.taken
-  pub recorded : 0 < length rs
+pub record IsBegun (step : Bool) (d : ℕ) (rs : List Rec) (q a : Point) (upper lower : Option Point) : Type 0 where
   pub begins_kept : BeginsKept rs
   pub kept_rise : PointsRise (kept_points rs)
   pub hinge_last : last_point (kept_points rs) ≡ Some a
-  pub late_before : EachRec (IsLateBefore q) rs
-  pub doors : DoorsFit tuning.comp_dev a q s.upper s.lower
-  pub pending : PendingFits tuning q s.pending
+  pub late_before : Each (IsLateBefore q) rs
+  pub doors : DoorsFit step d a q upper lower
 
 -- a tag before its first value
-pub record IsBlank (rs : List Rec) (s : Summary) : Type 0 where
-  pub taken : s.taken ≡ 0
-  pub recorded : length rs ≡ 0
-  pub pending : s.pending ≡ None
-  pub upper : s.upper ≡ None
-  pub lower : s.lower ≡ None
+pub record IsBlank (rs : List Rec) (upper lower : Option Point) : Type 0 where
+  pub none_recorded : rs ≡ []
+  pub no_upper : upper ≡ None
+  pub no_lower : lower ≡ None
 
 -- it has begun exactly where it has a held point, and a hinge
-abbrev pub IsBegunOrBlank : Tuning → List Rec → Summary → Option Point → Option Point → Type 0
-IsBegunOrBlank tuning rs s None None = IsBlank rs s
-IsBegunOrBlank tuning rs s (Some q) (Some a) = IsBegun tuning rs s q a
-IsBegunOrBlank tuning rs s held hinge = ⊥
+abbrev pub IsBegunOrBlank : Bool → ℕ → List Rec → Option Point → Option Point → Option Point → Option Point → Type 0
+IsBegunOrBlank step d rs None None upper lower = IsBlank rs upper lower
+IsBegunOrBlank step d rs (Some q) (Some a) upper lower = IsBegun step d rs q a upper lower
+IsBegunOrBlank step d rs held hinge upper lower = ⊥
 
--- records and a summary that can be those of a tag of this tuning
-pub record ArePartsOk (tuning : Tuning) (rs : List Rec) (s : Summary) : Type 0 where
+-- records and a summary that keep the rules of a tag of this tuning and this kind, each point of which has the property P
+pub record IsRuled (P : Point → Type 0) (u : Tuning) (step : Bool) (rs : List Rec) (s : Summary) : Type 0 where
   pub counted : s.records ≡ length rs
   pub at_most_two : length rs ≤ 2 * s.taken
-  pub few : length rs ≤ 1048576
+  pub whole : IsBegunOrBlank step u.comp_dev rs s.held s.hinge s.upper s.lower
+  pub waits : PendingFits u s.held s.pending
+  pub records_are : Each (λ r. P r.point) rs
+  pub held_is : IfThere P s.held
+  pub pending_is : IfThere P s.pending
+  pub hinge_is : IfThere P s.hinge
+  pub upper_is : IfThere P s.upper
+  pub lower_is : IfThere P s.lower
+
+-- records and a summary that can be those of a tag of this tuning and this kind: they keep the rules, their points are in
+-- range, and there are not too many of anything; a summary that was written without its tuning may be any
+pub record ArePartsOk (u : Tuning) (step : Bool) (rs : List Rec) (s : Summary) : Type 0 where
+  pub ruled : IsRuled InRange u step rs s
+  pub few : length rs ≤ MAX_RECORDS
   pub countable : s.taken < 10 ^ 18
-  pub whole : IsBegunOrBlank tuning rs s s.held s.hinge
-  pub records_in_range : EachRec IsRecInRange rs
-  pub held_in_range : IsPlaceInRange s.held
-  pub pending_in_range : IsPlaceInRange s.pending
-  pub hinge_in_range : IsPlaceInRange s.hinge
-  pub upper_in_range : IsPlaceInRange s.upper
-  pub lower_in_range : IsPlaceInRange s.lower
+  pub same_tuning : IfThere (λ t. t ≡ u) s.tuning

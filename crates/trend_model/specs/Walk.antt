@@ -1,15 +1,13 @@
--- Swinging-door compression, as a walk through what was sent (after Bristol): each line from the last kept point is
--- tested against all values since.
-use Rattle.std.specs.Prelude.{◌-◌, Bool, cond, ◌&&◌, List, [], ◌∷◌, ◌++◌, Option, None, Some, nat_lt, nat_le}
+-- Compression, as a walk through what was sent. A tag of lines is compressed by swinging doors (after Bristol): each line
+-- from the last kept point is tested against all values since. A step tag keeps each new value that is not near the last.
+use Rattle.std.specs.Prelude.{◌+◌, ◌-ℤ◌, Bool, true, false, cond, ◌&&◌, List, [], ◌∷◌, ◌++◌, Option, None, Some, nat_lt, nat_le, unsigned_abs}
 use Rattle.std.specs.List.{list_all}
 use Rattle.trend_num.specs.declared.point.Point.{Point}
 use Rattle.trend_num.specs.declared.archive.Rec.{Rec}
 use Rattle.trend_num.specs.declared.archive.Kind.TheVariants as kind
-use Rattle.trend_num.specs.declared.sending.Sending.{Sending}
-use Rattle.trend_num.specs.declared.sending.Sending.TheVariants.{InOrder, Late}
 use Rattle.trend_num.specs.declared.tuning.Tuning.{Tuning}
 use Rattle.trend_num.specs.Lines.{is_within}
-use Rattle.trend_model.specs.History.{sent}
+use Rattle.trend_model.specs.History.{Event, Origin, Sent, InOrder, Late, Tuned, sent}
 
 -- a point as a record
 abbrev pub kept : Point → Rec
@@ -24,64 +22,105 @@ pub record Walk : Type 0 where
   pub records : List Rec
   -- the last kept point
   pub hinge : Option Point
-  -- the values sent in order since the hinge that were not passed over, the newest first
+  -- the values sent in order since the hinge that the line or stair to come still covers, the newest first
   pub since : List Point
   -- the values that were passed over, the newest first
   pub passed : List Point
+  -- the tuning in force
+  pub tuning : Tuning
 
-abbrev pub at_start : Walk
-at_start = record { records = []; hinge = None; since = []; passed = [] }
+abbrev pub at_start : Tuning → Walk
+at_start u = record { records = []; hinge = None; since = []; passed = []; tuning = u }
+
+-- p joins the values since
+abbrev pub joined : Walk → Point → Walk
+joined w p = record w { since = p ∷ w.since }
+
+-- p joins the values since, and is passed over
+abbrev pub skipped : Walk → Point → Walk
+skipped w p = record w { since = p ∷ w.since; passed = p ∷ w.passed }
+
+-- the values since are passed over, and p stands in their place
+abbrev pub replaced : Walk → Point → Walk
+replaced w p = record w { since = p ∷ []; passed = w.since ++ w.passed }
+
+-- q is kept and becomes the hinge
+abbrev pub keeping : Walk → Point → Walk
+keeping w q = record w { records = w.records ++ (kept q ∷ []); hinge = Some q; since = [] }
+
+-- p is not too long after the hinge a
+abbrev pub is_short : Tuning → Point → Point → Bool
+is_short u a p = nat_le p.t (a.t + u.comp_max)
+
+-- q is too near in time to the hinge a to be kept
+abbrev pub is_early : Tuning → Point → Point → Bool
+is_early u a q = nat_lt q.t (a.t + u.comp_min)
 
 -- the line from the hinge to p is within CompDev of each of these values
 abbrev pub is_fit : Tuning → Point → List Point → Point → Bool
-is_fit tuning a values p = list_all (λ x. is_within a p x tuning.comp_dev) values
+is_fit u a values p = list_all (λ x. is_within a p x u.comp_dev) values
 
--- the walk after one more value in order
-abbrev pub walk_in_order : Tuning → Walk → Point → Option Point → List Point → Walk
-walk_in_order tuning w p None since = record { records = w.records ++ (kept p ∷ []); hinge = Some p; since = []; passed = w.passed }
-walk_in_order tuning w p (Some a) [] = record { records = w.records; hinge = Some a; since = p ∷ []; passed = w.passed }
-walk_in_order tuning w p (Some a) (q ∷ since) =
-    cond (nat_le (p.t - a.t) tuning.comp_max && is_fit tuning a (q ∷ since) p)
-    (record { records = w.records; hinge = Some a; since = p ∷ q ∷ since; passed = w.passed })
-    (cond (nat_le (p.t - a.t) tuning.comp_max && nat_lt (q.t - a.t) tuning.comp_min)
-    (record { records = w.records; hinge = Some a; since = p ∷ []; passed = (q ∷ since) ++ w.passed })
-    (record { records = w.records ++ (kept q ∷ []); hinge = Some q; since = p ∷ []; passed = w.passed }))
+-- the value of p is within CompDev of that of the hinge
+abbrev pub is_near : Tuning → Point → Point → Bool
+is_near u a p = nat_le (unsigned_abs (p.v -ℤ a.v)) u.comp_dev
 
--- the walk after one more value that was sent
-abbrev pub walk_on : Tuning → Walk → Sending → Walk
-walk_on tuning w (Late x) = record { records = w.records ++ (late x ∷ []); hinge = w.hinge; since = w.since; passed = w.passed }
-walk_on tuning w (InOrder p) = walk_in_order tuning w p w.hinge w.since
+-- the walk of a tag of lines after one more value in order
+abbrev pub line_on : Walk → Point → Option Point → List Point → Walk
+line_on w p None since = keeping w p
+line_on w p (Some a) [] = joined w p
+line_on w p (Some a) (q ∷ since) =
+    cond (is_short w.tuning a p && is_fit w.tuning a (q ∷ since) p) (joined w p)
+    (cond (is_short w.tuning a p && is_early w.tuning a q) (replaced w p) (joined (keeping w q) p))
+
+-- the walk of a step tag after one more value in order
+abbrev pub stair_on : Walk → Point → Option Point → Walk
+stair_on w p None = keeping w p
+stair_on w p (Some a) =
+    cond (is_short w.tuning a p && is_near w.tuning a p) (joined w p)
+    (cond (is_short w.tuning a p && is_early w.tuning a p) (skipped w p) (keeping w p))
+
+-- the span since the hinge is ended: its last value is kept
+abbrev pub ended : Walk → List Point → Walk
+ended w [] = w
+ended w (q ∷ since) = keeping w q
+
+-- the walk after one thing more that was sent
+abbrev pub walk_on : Bool → Walk → Sent → Walk
+walk_on step w (Late x) = record w { records = w.records ++ (late x ∷ []) }
+walk_on step w (Tuned u) = record (ended w w.since) { tuning = u }
+walk_on false w (InOrder p) = line_on w p w.hinge w.since
+walk_on true w (InOrder p) = stair_on w p w.hinge
 
 -- the walk through what was sent, which is listed the newest first
-abbrev pub walk : Tuning → List Sending → Walk
-walk tuning [] = at_start
-walk tuning (s ∷ sendings) = walk_on tuning (walk tuning sendings) s
+abbrev pub walk : Origin → List Sent → Walk
+walk o [] = at_start o.tuning
+walk o (s ∷ ss) = walk_on o.step (walk o ss) s
 
 -- where the walk is after a history
-abbrev pub walked : Tuning → List Point → Walk
-walked tuning h = walk tuning (sent tuning h)
+abbrev pub walked : Origin → List Event → Walk
+walked o h = walk o (sent o h)
 
 -- the records of a history, the oldest first
-abbrev pub records : Tuning → List Point → List Rec
-records tuning h = (walked tuning h).records
+abbrev pub records : Origin → List Event → List Rec
+records o h = (walked o h).records
 
 -- the last kept point of a history
-abbrev pub hinge : Tuning → List Point → Option Point
-hinge tuning h = (walked tuning h).hinge
+abbrev pub hinge : Origin → List Event → Option Point
+hinge o h = (walked o h).hinge
 
--- the values that a history sent in order since the hinge and that were not passed over, the newest first
-abbrev pub since : Tuning → List Point → List Point
-since tuning h = (walked tuning h).since
+-- the values that a history sent in order since the hinge, less those that others replaced, the newest first
+abbrev pub since : Origin → List Event → List Point
+since o h = (walked o h).since
 
 -- the values that a history passed over
-abbrev pub passed : Tuning → List Point → List Point
-passed tuning h = (walked tuning h).passed
+abbrev pub passed : Origin → List Event → List Point
+passed o h = (walked o h).passed
 
 -- the last of the values since the hinge, or the hinge where there is none
 abbrev pub last_of : Option Point → List Point → Option Point
 last_of hinge [] = hinge
 last_of hinge (q ∷ since) = Some q
 
--- the point that closes a history's line
-abbrev pub held : Tuning → List Point → Option Point
-held tuning h = last_of (hinge tuning h) (since tuning h)
+-- the point that closes a history's line; an exception test calls it the last value sent in order
+abbrev pub held : Origin → List Event → Option Point
+held o h = last_of (hinge o h) (since o h)

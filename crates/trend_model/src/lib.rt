@@ -1,21 +1,37 @@
 //! What a tag's archive is, and the laws that hold of it for every tuning and every history.
 //!
-//! The definitions stand in `specs/`, over whole histories; read them in this order: `History` (what an exception test
-//! sends), `Walk` (which values compression keeps), `Content` (what records read as, and which spans are clean), `Bound`
-//! (the promise), `Doors` (the two values that decide in place of all since the hinge), `Step` (the state that a tag keeps,
-//! and one more value), `Parts` (which records and summary can be a tag's). Each law is the contract of a public function
-//! without parameters, whose body is empty. Layers above cite the lemmas behind them.
+//! The definitions stand in `specs/`, over whole histories of values and retunings; read them in this order: `History`
+//! (what an exception test sends), `Walk` (which values compression keeps, of a tag of lines and of a step tag), `Content`
+//! (what records read as, and which spans are clean), `Bound` (the promise), `Doors` (the two values that decide in place of
+//! all since the hinge), `State` (what a tag keeps, and what one more event makes of it), `Parts` (which records and summary
+//! can be a tag's); and of what an archive is asked: `Contents` (the content as a list), `Reads` (what stands at a time),
+//! `Windows` (what a window measures). Each law is the contract of a public function without parameters, whose body is empty. Layers above
+//! cite the lemmas behind them.
 #![tactic(auto)]
 
 mod bound_law;
+mod content_law;
 mod example;
 mod order_law;
+mod read_law;
 mod step_law;
+mod window_example;
+mod window_law;
 
 pub use bound_law::bound;
-pub use example::{spans_exist, twice_is_needed, untested_value_is_far, worked_histories};
+pub use content_law::{closed_is_content, listed_is_content};
+pub use example::{
+    own_tuning_is_needed, spans_exist, twice_is_needed, untested_value_is_refused, worked_contents,
+    worked_histories, worked_retunings, worked_stairs,
+};
 pub use order_law::{
     held_is_sent, kept_points_rise, no_deviation_is_exact, no_wait_sends_all, prior_is_sent,
     records_only_grow, sent_in_order_rises,
 };
-pub use step_law::{history_parts_are_ok, step_stands};
+pub use read_law::{
+    exact_reads_are_the_content, read_at_a_point_is_exact, read_of_a_line_lies_between,
+    read_of_a_stair_is_flat, rounded_is_next,
+};
+pub use step_law::{after_keeps_parts, after_stands, history_parts_are_ok};
+pub use window_example::{worked_reads, worked_stair_windows, worked_windows};
+pub use window_law::{areas_add_up, counts_add_up, uncovered_windows_have_no_value};

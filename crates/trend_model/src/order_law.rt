@@ -1,50 +1,52 @@
 // Laws that tie the definitions to plain words.
-ghost use Rattle.std.specs.Prelude.{◌≡◌, ◌≤◌, ◌∷◌, ◌++◌, List, map, pos};
+ghost use Rattle.std.specs.Prelude.{◌≡◌, ◌≤◌, ◌++◌, List, map};
 ghost use Rattle.trend_num.specs.declared.point.Point.{Point};
 ghost use Rattle.trend_num.specs.declared.archive.Rec.{Rec};
-ghost use Rattle.trend_num.specs.declared.sending.Sending.TheVariants.{InOrder};
 ghost use Rattle.trend_num.specs.declared.tuning.Tuning.{Tuning};
-ghost use Rattle.trend_num.specs.Lines.{cross};
-ghost use Rattle.trend_model.specs.History.{IsInOrder, last_in_order, prior, sent};
-ghost use Rattle.trend_model.specs.Walk.{held, hinge, records};
+ghost use Rattle.trend_model.specs.Lists.{Each};
+ghost use Rattle.trend_model.specs.History.{Event, Origin, IsInOrder, last_in_order, prior, sent, tuning_at};
+ghost use Rattle.trend_model.specs.Walk.{held, hinge, passed, records};
 ghost use Rattle.trend_model.specs.Content.{IsCleanSpan};
+ghost use Rattle.trend_model.specs.Bound.{IsNear};
 ghost use Rattle.trend_model.specs.Parts.{PointsRise, kept_points, last_point};
-ghost use Rattle.trend_model.specs.Orders.{AllInOrder, RisesInTime};
+ghost use Rattle.trend_model.specs.Orders.{AllInOrder, RisesInTime, sent_plainly, tunings};
 
 /// The value that the exception test compares with is the last one marked in order among what was sent.
 pub fn prior_is_sent()
-    ensures { (tuning : Tuning) (h : List Point) → prior tuning h ≡ last_in_order (sent tuning h) }
+    ensures { (o : Origin) (h : List Event) → prior o h ≡ last_in_order (sent o h) }
 {}
 
 /// The point that closes the line is the last value sent in order.
 pub fn held_is_sent()
-    ensures { (tuning : Tuning) (h : List Point) → held tuning h ≡ last_in_order (sent tuning h) }
+    ensures { (o : Origin) (h : List Event) → held o h ≡ last_in_order (sent o h) }
 {}
 
 /// What is sent in order rises strictly in time.
 pub fn sent_in_order_rises()
-    ensures { (tuning : Tuning) (h : List Point) → RisesInTime (sent tuning h) }
+    ensures { (o : Origin) (h : List Event) → RisesInTime (sent o h) }
 {}
 
 /// Kept points rise strictly in time, and the hinge is the last of them.
 pub fn kept_points_rise()
-    ensures rise { (tuning : Tuning) (h : List Point) → PointsRise (kept_points (records tuning h)) }
-    ensures last { (tuning : Tuning) (h : List Point) → hinge tuning h ≡ last_point (kept_points (records tuning h)) }
+    ensures rise { (o : Origin) (h : List Event) → PointsRise (kept_points (records o h)) }
+    ensures last { (o : Origin) (h : List Event) → hinge o h ≡ last_point (kept_points (records o h)) }
 {}
 
 /// The records of a prefix of a history are a prefix of its records.
 pub fn records_only_grow()
-    ensures { (tuning : Tuning) (later h : List Point) →
-        (more : List Rec) × (records tuning (later ++ h) ≡ records tuning h ++ more) }
+    ensures { (o : Origin) (later h : List Event) →
+        (more : List Rec) × (records o (later ++ h) ≡ records o h ++ more) }
 {}
 
-/// With ExcMax 0 the exception test sends every value of a history in rising time, whatever ExcDev is.
+/// Where ExcMax is 0 in every tuning, the exception test sends every value of a history in rising time, whatever ExcDev is.
 pub fn no_wait_sends_all()
-    ensures { (tuning : Tuning) (h : List Point) → tuning.exc_max ≡ 0 → AllInOrder h → sent tuning h ≡ map InOrder h }
+    ensures { (o : Origin) (h : List Event) → Each (λ (u : Tuning). u.exc_max ≡ 0) (tunings o h) → AllInOrder h
+        → sent o h ≡ map sent_plainly h }
 {}
 
-/// With ExcDev and CompDev 0 every value in order of a clean span lies exactly on its line.
+/// Every value in order of a clean span whose tuning has ExcDev and CompDev 0 lies exactly on its line or its stair.
 pub fn no_deviation_is_exact()
-    ensures { (tuning : Tuning) (h : List Point) (l r y : Point) → tuning.exc_dev ≡ 0 → tuning.comp_dev ≡ 0
-        → IsCleanSpan tuning h l r → IsInOrder y h → l.t ≤ y.t → y.t ≤ r.t → cross l r y ≡ pos 0 }
+    ensures { (o : Origin) (h : List Event) (l r y : Point) → (tuning_at o h r.t).exc_dev ≡ 0
+        → (tuning_at o h r.t).comp_dev ≡ 0 → IsCleanSpan (records o h) (held o h) (passed o h) l r
+        → IsInOrder y h → l.t ≤ y.t → y.t ≤ r.t → IsNear o.step l r y 0 }
 {}

@@ -1,22 +1,35 @@
-// Laws of one more value, and of records and summaries.
-ghost use Rattle.std.specs.Prelude.{◌^◌, ◌<◌, ◌≤◌, [], ◌∷◌, All, List, length};
-ghost use Rattle.trend_num.specs.declared.point.Point.{Point};
+// Laws of one more event, and of records and summaries.
+ghost use Rattle.std.specs.Prelude.{◌≡◌, ◌+◌, ◌^◌, ◌<◌, ◌≤◌, Bool, Some, [], ◌∷◌, List, length};
+ghost use Rattle.trend_num.specs.declared.archive.TheConstants.{MAX_RECORDS};
 ghost use Rattle.trend_num.specs.declared.tuning.Tuning.{Tuning};
-ghost use Rattle.trend_model.specs.Parts.{ArePartsOk};
 ghost use Rattle.trend_num.specs.Ranges.{InRange};
-ghost use Rattle.trend_model.specs.Step.{Stands, State, nothing_taken, step};
+ghost use Rattle.trend_model.specs.History.{Event, Origin, in_force};
+ghost use Rattle.trend_model.specs.Parts.{ArePartsOk};
+ghost use Rattle.trend_model.specs.State.{Stands, State, after, followed, nothing_taken, replay};
+ghost use Rattle.trend_model.specs.Orders.{AllPoints, tuned_by};
 
-/// What stands for a history goes by one step to what stands for the history and one more value, and the state before any
-/// value stands for no values.
-pub fn step_stands()
-    ensures step { (tuning : Tuning) (h : List Point) (p : Point) (s : State) →
-        Stands tuning h s → Stands tuning (p ∷ h) (step s p) }
-    ensures start { (tuning : Tuning) → Stands tuning [] (nothing_taken tuning) }
+/// What stands for a history goes by one more event to what stands for the history and that event, and by any list of
+/// events to what stands for the history followed by that list; the state before any event stands for no events.
+pub fn after_stands()
+    ensures one { (o : Origin) (h : List Event) (e : Event) (s : State) →
+        Stands o h s → Stands o (e ∷ h) (after o.step s e) }
+    ensures all { (o : Origin) (h events : List Event) (s : State) →
+        Stands o h s → Stands o (followed h events) (replay o.step s events) }
+    ensures start { (o : Origin) → Stands o [] (nothing_taken o.tuning) }
+{}
+
+/// The rules of records and summaries are kept by one more event, from any records and summary that meet them, whether or
+/// not they stand for a history, while there are not too many of either.
+pub fn after_keeps_parts()
+    ensures { (u : Tuning) (step : Bool) (s : State) (e : Event) → s.summary.tuning ≡ Some u
+        → ArePartsOk u step s.records s.summary → AllPoints InRange (e ∷ [])
+        → length (after step s e).records ≤ MAX_RECORDS → s.summary.taken + 1 < 10 ^ 18
+        → ArePartsOk (tuned_by u e) step (after step s e).records (after step s e).summary }
 {}
 
 /// What stands for a history of values in range meets the rules of records and summaries, where there are not too many of
 /// either.
 pub fn history_parts_are_ok()
-    ensures { (tuning : Tuning) (h : List Point) (s : State) → All InRange h → length h < 10 ^ 18
-        → length s.records ≤ 1048576 → Stands tuning h s → ArePartsOk tuning s.records s.summary }
+    ensures { (o : Origin) (h : List Event) (s : State) → AllPoints InRange h → length h < 10 ^ 18
+        → length s.records ≤ MAX_RECORDS → Stands o h s → ArePartsOk (in_force o h) o.step s.records s.summary }
 {}

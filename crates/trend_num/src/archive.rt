@@ -1,5 +1,6 @@
 // What an archive keeps of a tag: its records, and the summary from which it goes on.
 use crate::point::Point;
+use crate::tuning::Tuning;
 
 /// The most records that a tag may have.
 pub const MAX_RECORDS: u32 = 1_048_576;
@@ -37,4 +38,7 @@ pub struct Summary {
     pub upper: Option<Point>,
     /// The lower door: no value since the hinge has a greater slope, lowered by CompDev. None where no value is since.
     pub lower: Option<Point>,
+    /// The tuning in force. None stands only in a summary that was written before tags could be retuned, and means the
+    /// tuning with which the tag was made.
+    pub tuning: Option<Tuning>,
 }

@@ -2,7 +2,7 @@
 ghost use Rattle.std.specs.Prelude.{◌↔◌, IsTrue};
 ghost use Rattle.trend_num.specs.Ranges.{IsTuned};
 
-use crate::point::MAX_T;
+use crate::point::{MAX_T, MAX_V};
 
 /// The tuning of a tag, by the attribute names of the PI manuals on exception and compression reporting.
 #[derive(Clone, Copy, Debug, PartialEq, Eq)]
@@ -20,8 +20,8 @@ pub struct Tuning {
     pub comp_max: u64,
 }
 
-/// The greatest deviation, in value units.
-pub const MAX_DEV: u64 = 1_000_000_000_000_000;
+/// The greatest deviation, in value units: that of a value from zero.
+pub const MAX_DEV: u64 = MAX_V as u64;
 
 /// Whether both deviations are at most 10^15 and the three times at most `MAX_T`.
 pub fn tuning_ok(t: &Tuning) -> bool

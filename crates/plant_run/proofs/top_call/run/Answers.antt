@@ -3,7 +3,7 @@ use Rattle.byte_io.specs.Outside.{IsWritten, IsCutShort}
 use Rattle.plant_status.specs.declared.status.Status.{Status}
 use Rattle.plant_status.specs.declared.status.Status.TheVariants.{Done, WriteFault}
 use Rattle.trend_model.proofs.BoundLaw.{bounded}
-use Rattle.pack_command.specs.Pack.{history_of}
+use Rattle.pack_command.specs.Pack.{history_of, origin_of}
 use Rattle.plant_run.specs.Run.{EndsIn, IsPacked, Streams}
 use Rattle.plant_run.proofs.top_call.run.Goals as goal
 
@@ -29,7 +29,7 @@ returns-in-Ok-clause-ends g c =
       read = answer.read;
       room = answer.room;
       same = answer.same;
-      bounded = bounded c.in-Some.tuning (history_of answer.points);
+      bounded = bounded (origin_of c.in-Some.tuning) (history_of answer.points);
     } in
     packed_ends (map string_bytes c.args.words.now) before now text c.print.result packed c.print.ensures.known
     (λ done. subst (IsWritten before.output now.output) c.as_str.ensures.value (c.print.ensures.whole done))

@@ -3,4 +3,4 @@ use Rattle.trend_model.proofs.Sent.{last_in_order_is}
 use Rattle.trend_model.proofs.order_law.prior_is_sent.Goals as goal
 
 pub returns : goal.returns
-returns c = λ tuning h. sym (last_in_order_is tuning h)
+returns c = λ o h. sym (last_in_order_is o h)

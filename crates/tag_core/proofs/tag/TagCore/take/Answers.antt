@@ -1,75 +1,41 @@
-use Rattle.std.proofs.Common.{◌+◌, ◌≤◌, ◌++◌, length, arith, sym, ap, ◌∙◌, subst}
-use Rattle.trend_model.specs.Step.{state_with, step}
-use Rattle.tag_core.specs.Core.{Core, archive_with}
-use Rattle.tag_core.specs.Sound.{IsSound}
-use Rattle.tag_core.proofs.Soundness.{step_sound}
-use Rattle.tag_core.proofs.Taking.{sent_next, takes_two, step_taken, stands_on}
+use Rattle.std.proofs.Common.{◌+◌, ◌≤◌, ◌≡◌, length, sym, ap, ◌∙◌, subst, arith}
+use Rattle.trend_model.specs.History.{Raw}
+use Rattle.trend_model.specs.State.{Stands}
+use Rattle.trend_model.specs.State.{gained}
+use Rattle.trend_model.proofs.RulesLaw.{gained_few}
+use Rattle.tag_core.specs.Compressed.{archive_with}
+use Rattle.tag_core.specs.Core.{Core}
+use Rattle.tag_core.proofs.Counts.{compared_most}
+use Rattle.tag_core.proofs.Taking.{core_turned, stands_turned, value_turns}
 use Rattle.tag_core.proofs.tag.TagCore.take.Goals as goal
-
-pub take_sent-requires-clause-next : goal.take_sent-requires-clause-next
-take_sent-requires-clause-next g c =
-    let core = c.self.inside in
-    sent_next (state_with core.compressor.tuning (archive_with core.compressor core.gate.last) core.taken core.gate.last core.gate.pending) _
-    c.args.p _ _ c.self.invariant c.requires.range c.tuning.ensures c.offer-sent.ensures.first c.offer-sent.ensures.second
-
-pub overflow_cast-result : goal.overflow_cast-result
-overflow_cast-result g c =
-    let two = takes_two c.self.inside.compressor c.take_sent.new.self _ _ _ c.take_sent.ensures.after in
-    let few = two.few in
-    let now = ap length c.recs.ensures in
-    let was = ap (λ (v : Core). length v.state.records) c.self.view_is in
-    omega arith
-
-pub overflow_sub-result : goal.overflow_sub-result
-overflow_sub-result g c =
-    let two = takes_two c.self.inside.compressor c.take_sent.new.self _ _ _ c.take_sent.ensures.after in
-    let not_fewer = two.not_fewer in
-    let now = ap length c.recs.ensures in
-    let was = ap (λ (v : Core). length v.state.records) c.self.view_is in
-    omega arith
-
-pub overflow_cast-result-2 : goal.overflow_cast-result-2
-overflow_cast-result-2 g c =
-    let two = takes_two c.self.inside.compressor c.take_sent.new.self _ _ _ c.take_sent.ensures.after in
-    let few = two.few in
-    let now = ap length c.recs.ensures in
-    let was = ap (λ (v : Core). length v.state.records) c.self.view_is in
-    omega arith
 
 pub invariant_of-self : goal.invariant_of-self
 invariant_of-self g c =
     let core = c.self.inside in
     let was = ap (λ (v : Core). length v.state.records) c.self.view_is in
+    let few = c.in_ok-before.ensures.room in
     let room : length core.compressor.records + 2 ≤ 1048576 = omega arith in
-    let stepped = step_taken core.compressor c.take_sent.new.self _ core.taken core.gate.last core.gate.pending _ _ c.args.p _ _
-    c.tuning.ensures c.take_sent.ensures.after c.offer-sent.ensures.last c.offer-sent.ensures.pending c.offer-sent.ensures.first c.offer-sent.ensures.second in
-    subst IsSound (sym stepped)
-    (step_sound (state_with core.compressor.tuning (archive_with core.compressor core.gate.last) core.taken core.gate.last core.gate.pending)
-    c.args.p c.self.invariant c.requires.range room)
+    core_turned core.compressor c.take_sent.new.self core.taken _ core.gate.last core.gate.pending _ _ (Raw c.args.p)
+    (value_turns core.compressor c.take_sent.new.self core.taken _ core.gate.last core.gate.pending _ _ _ c.args.p _ _
+    c.tuning.ensures.value c.take_sent.ensures.after c.offer-sent.ensures.last c.offer-sent.ensures.pending
+    c.offer-sent.ensures.first c.offer-sent.ensures.second c.counted.ensures.taken)
+    c.self.invariant (c.requires.range, tt) c.self.invariant.tuned_ok room
 
 pub returns-clause-stands : goal.returns-clause-stands
-returns-clause-stands g c = λ h stands.
+returns-clause-stands g c =
     let core = c.self.inside in
-    let stepped = step_taken core.compressor c.take_sent.new.self _ core.taken core.gate.last core.gate.pending _ _ c.args.p _ _
-    c.tuning.ensures c.take_sent.ensures.after c.offer-sent.ensures.last c.offer-sent.ensures.pending c.offer-sent.ensures.first c.offer-sent.ensures.second in
-    stands_on c.args.self.now.state _ c.args.p (stepped ∙ ap (λ (v : Core). step v.state c.args.p) c.self.view_is) h stands
+    let on = stands_turned core.compressor c.take_sent.new.self core.taken _ core.gate.last core.gate.pending _ _ (Raw c.args.p)
+    (value_turns core.compressor c.take_sent.new.self core.taken _ core.gate.last core.gate.pending _ _ _ c.args.p _ _
+    c.tuning.ensures.value c.take_sent.ensures.after c.offer-sent.ensures.last c.offer-sent.ensures.pending
+    c.offer-sent.ensures.first c.offer-sent.ensures.second c.counted.ensures.taken) in
+    λ o h kind stands.
+    let kind_was : o.step ≡ core.compressor.step = kind ∙ ap (λ (v : Core). v.step) (sym c.self.view_is) in
+    on o h kind_was (subst (λ (v : Core). Stands o h v.state) (sym c.self.view_is) stands)
 
-pub returns-clause-added : goal.returns-clause-added
-returns-clause-added g c =
-    let two = takes_two c.self.inside.compressor c.take_sent.new.self _ _ _ c.take_sent.ensures.after in
-    let not_fewer = two.not_fewer in
-    let now = ap length c.recs.ensures in
-    let was = ap (λ (v : Core). length v.state.records) c.self.view_is in
-    omega arith
-
-pub returns-clause-room : goal.returns-clause-room
-returns-clause-room g c =
-    let two = takes_two c.self.inside.compressor c.take_sent.new.self _ _ _ c.take_sent.ensures.after in
-    let spare = two.spare in
-    let was = ap (λ (v : Core). v.spare) c.self.view_is in
-    omega arith
-
-pub returns-clause-grows : goal.returns-clause-grows
-returns-clause-grows g c =
-    let two = takes_two c.self.inside.compressor c.take_sent.new.self _ _ _ c.take_sent.ensures.after in
-    (two.more, two.at_end ∙ ap (λ (v : Core). v.state.records ++ two.more) c.self.view_is)
+pub returns-clause-most : goal.returns-clause-most
+returns-clause-most g c =
+    let core = c.self.inside in
+    let sent = c.offer-sent.result in
+    let two = gained_few sent.first sent.second in
+    let most = compared_most core.compressor.step (archive_with core.compressor core.gate.last) (gained sent.first sent.second) in
+    omega (arith, c.take_sent.ensures.cost)

@@ -1,0 +1,67 @@
+-- The content of a list of records as a list: one record for each time that occurs, in order of time. Its kind tells whether
+-- a Late record stands there.
+use Rattle.std.specs.Prelude.{◌≡◌, ℕ, ◌<◌, cond, ◌&&◌, not, List, [], ◌∷◌, Option, None, Some, is_some, nat_lt, fold, map, All, AllPairs, Contains, ◌≤◌}
+use Rattle.trend_num.specs.declared.point.Point.{Point}
+use Rattle.trend_num.specs.declared.archive.Rec.{Rec}
+use Rattle.trend_model.specs.Content.{is_late_record, content_at, late_at, closed_at}
+use Rattle.trend_model.specs.Walk.{kept}
+
+-- each time stands once, in rising order
+abbrev pub IsRising : List Rec → Type 0
+IsRising l = AllPairs (λ x y. x.point.t < y.point.t) l
+
+-- l is the content of the records rs
+pub record IsContentOf (rs l : List Rec) : Type 0 where
+  pub rising : IsRising l
+  -- at each time it has the value that the records read as, and a Late one where they have one
+  pub content : (t : ℕ) → content_at l t ≡ content_at rs t
+  pub late : (t : ℕ) → late_at l t ≡ late_at rs t
+
+-- l is the content of the records rs, closed by the point q
+pub record IsClosedContentOf (rs : List Rec) (q : Option Point) (l : List Rec) : Type 0 where
+  pub rising : IsRising l
+  pub content : (t : ℕ) → content_at l t ≡ closed_at rs q t
+  pub late : (t : ℕ) → late_at l t ≡ late_at rs t
+
+-- what a content is seen as: its records, and for how many more there is room
+pub record ContentState : Type 0 where
+  pub records : List Rec
+  pub spare : ℕ
+
+-- which of two records at one time stands there: the newer one, but no Kept one in place of a Late one
+abbrev pub over : Rec → Rec → Rec
+over r x = cond (is_late_record x.kind && not (is_late_record r.kind)) x r
+
+-- a content after one more record
+abbrev pub placed : Rec → List Rec → List Rec
+placed r [] = r ∷ []
+placed r (x ∷ xs) =
+    cond (nat_lt r.point.t x.point.t) (r ∷ x ∷ xs)
+    (cond (nat_lt x.point.t r.point.t) (x ∷ placed r xs) (over r x ∷ xs))
+
+-- the content of these records
+abbrev pub listed : List Rec → List Rec
+listed rs = fold (λ l r. placed r l) [] rs
+
+-- a content closed by a point: the point is added where nothing stands at its time
+abbrev pub closed_by : Option Point → List Rec → List Rec
+closed_by None l = l
+closed_by (Some q) l = cond (is_some (content_at l q.t)) l (placed (kept q) l)
+
+-- the points of a content
+abbrev pub points_of : List Rec → List Point
+points_of l = map (λ r. r.point) l
+
+-- p is the last point of l that is not after t, or there is none
+abbrev pub IsFloor : ℕ → List Rec → Option Point → Type 0
+IsFloor t l None = All (λ r. t < r.point.t) l
+IsFloor t l (Some p) = Contains (points_of l) p × (p.t ≤ t) × All (λ r. r.point.t ≤ t → r.point.t ≤ p.t) l
+
+-- p is the first point of l that is not before t, or there is none
+abbrev pub IsCeil : ℕ → List Rec → Option Point → Type 0
+IsCeil t l None = All (λ r. r.point.t < t) l
+IsCeil t l (Some p) = Contains (points_of l) p × (t ≤ p.t) × All (λ r. t ≤ r.point.t → p.t ≤ r.point.t) l
+
+-- the points of the closed content of records, in order of time
+abbrev pub closed_points : List Rec → Option Point → List Point
+closed_points rs q = points_of (closed_by q (listed rs))

@@ -1,0 +1,39 @@
+-- What a list of points reads as. The points rise in time; a content's points are such a list. Every definition is decided
+-- by the listed points alone. The first argument tells whether they are those of a step tag.
+use Rattle.std.specs.Prelude.{ℕ, ◌*◌, ℤ, pos, ◌+ℤ◌, ◌*ℤ◌, Bool, cond, ◌&&◌, List, [], ◌∷◌, Option, None, Some, nat_eq, nat_le, nat_lt}
+use Rattle.std.specs.Int.{int_div_euclid}
+use Rattle.std.specs.List.{filter}
+use Rattle.trend_num.specs.declared.point.Point.{Point}
+use Rattle.trend_num.specs.declared.reading.Reading.{Reading}
+use Rattle.trend_num.specs.declared.reading.Reading.TheVariants.{Exact, Line, Flat, Nothing}
+use Rattle.trend_num.specs.Lines.{line_value}
+
+-- between p and q a line goes on, and a stair stays
+abbrev pub between : Bool → Point → Point → ℕ → Reading
+between step p q t = cond step (Flat p.v) (Line (line_value p q t))
+
+-- the read at t, from the point p on
+abbrev pub read_from : Bool → Point → List Point → ℕ → Reading
+read_from step p [] t = cond (nat_eq p.t t) (Exact p.v) (Flat p.v)
+read_from step p (q ∷ ps) t =
+    cond (nat_eq p.t t) (Exact p.v) (cond (nat_lt t q.t) (between step p q t) (read_from step q ps t))
+
+-- the read at t: exact at a point, between two points by the line or the stair, flat after the last, nothing before the first
+abbrev pub read_at : Bool → List Point → ℕ → Reading
+read_at step [] t = Nothing
+read_at step (p ∷ ps) t = cond (nat_lt t p.t) Nothing (read_from step p ps t)
+
+-- the whole number next to a fraction, the upper one where two are as near
+abbrev pub rounded : ℤ → ℕ → ℤ
+rounded num den = int_div_euclid ((pos 2 *ℤ num) +ℤ pos den) (pos (2 * den))
+
+-- the value that is read, rounded
+abbrev pub value_read : Reading → Option ℤ
+value_read (Exact v) = Some v
+value_read (Line f) = Some (rounded f.num f.den)
+value_read (Flat v) = Some v
+value_read Nothing = None
+
+-- the points from one time to another, both included
+abbrev pub points_from_to : List Point → ℕ → ℕ → List Point
+points_from_to ps from to = filter (λ p. nat_le from p.t && nat_le p.t to) ps
