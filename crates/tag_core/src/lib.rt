@@ -11,6 +11,7 @@
 
 mod compressor;
 mod restart;
+mod span;
 mod tag;
 
 pub use restart::parts_ok;
