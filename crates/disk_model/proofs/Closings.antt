@@ -1,0 +1,180 @@
+-- What a crash leaves while gates are closed, one after the other.
+use Rattle.std.proofs.Common.{◌≡◌, ◌≢◌, ◌⊎◌, inl, inr, ⊎_elim, ℕ, ◌+◌, ◌-◌, ◌<◌, ◌≤◌, List, [], ◌∷◌, length, get_or, drop, Option, None, Some, Result, Ok, Err, OnOk, refl, sym, ◌∙◌, ap, subst, arith, add-zero}
+use Rattle.std.proofs.lemmas.Bool.{cases_lt}
+use Rattle.std.proofs.lemmas.List.{get_or_past, get_or-take, get_or-drop}
+use Rattle.disk_model.specs.Traces.{Wrote, WroteInPart, Synced, Idle, Trace, seen, noted, written}
+use Rattle.disk_model.specs.Images.{IsOutside, IsTorn, MayLeave, Now, FromOld}
+use Rattle.disk_model.specs.Moments.{ComesAfter, During}
+use Rattle.disk_model.specs.Calls.{IsNoted, Reaches, Reads}
+use Rattle.disk_model.specs.Gates.{open_byte, HasGatesOf, AreShut, IsClosing}
+use Rattle.disk_model.proofs.Bytes.{torn_written}
+use Rattle.disk_model.proofs.Images.{wrote_now, synced_now}
+use Rattle.disk_model.proofs.Moments.{started, during_now, goes_on, in_turn, weaker}
+
+-- no gate closed
+pub closing_self : (at n : ℕ) (c : List ℕ) → IsClosing at n c c
+closing_self at n c = record { same_length = refl; same = λ i out. refl }
+
+-- an open gate, torn
+pub closing_torn : (gate : ℕ) (d c : List ℕ) → gate < length d → get_or d gate 0 ≡ open_byte → IsTorn gate 1 d c → IsClosing gate 1 d c
+closing_torn gate d c there opened torn = record { same_length = size; same = λ i out. ⊎_elim (inside i out) (past i) (cases_lt i (length d)) }
+  where
+    size : length c ≡ length d
+    size = omega (arith, torn.no_shorter, torn.no_longer)
+
+    beside : (i : ℕ) → IsOutside gate 1 i ⊎ (get_or d i 0 ≢ open_byte) → IsOutside gate 1 i
+    beside i (inl out) = out
+    beside i (inr other) = let apart : i ≢ gate = λ same. other (ap (λ k. get_or d k 0) same ∙ opened) in grind arith
+
+    inside : (i : ℕ) → IsOutside gate 1 i ⊎ (get_or d i 0 ≢ open_byte) → i < length d → get_or c i 0 ≡ get_or d i 0
+    inside i out below = torn.outside i below (beside i out)
+
+    past : (i : ℕ) → length d ≤ i → get_or c i 0 ≡ get_or d i 0
+    past i above = get_or_past c i 0 (omega (arith, size)) ∙ sym (get_or_past d i 0 above)
+
+-- one gate of several closed after others
+pub closing_more : (at n gate : ℕ) (a b c : List ℕ) → at ≤ gate → gate < at + n → IsClosing at n a b → IsClosing gate 1 b c → IsClosing at n a c
+closing_more at n gate a b c low high before now = record {
+  same_length = now.same_length ∙ before.same_length;
+  same = λ i out. ⊎_elim (λ o. now.same i (inl (beside i o)) ∙ before.same i (inl o))
+      (λ shut. let same = before.same i (inr shut) in now.same i (inr (λ opened. shut (sym same ∙ opened))) ∙ same) out;
+}
+  where
+    beside : (i : ℕ) → IsOutside at n i → IsOutside gate 1 i
+    beside i (inl below) = inl (omega arith)
+    beside i (inr above) = inr (omega arith)
+
+-- what a read of one byte says of the bytes that a read gives
+byte_read : (t : Trace) (gate : ℕ) (b : List ℕ) → length b ≡ 1 → Reads (Some t) gate b → get_or b 0 0 ≡ get_or (seen (Some t)) gate 0
+byte_read t gate b one reads =
+    ap (λ l. get_or l 0 0) reads ∙ get_or-take (length b) (drop gate (seen (Some t))) 0 0 (omega (arith, one)) ∙ get_or-drop gate (seen (Some t)) 0 0
+    ∙ ap (λ k. get_or (seen (Some t)) k 0) (add-zero gate)
+
+-- nothing was done
+pub closing_kept : (o now : Option Trace) (gate : ℕ) → now ≡ o → During o now (FromOld o (IsClosing gate 1))
+closing_kept o now gate same =
+    subst (λ x. During o x (FromOld o (IsClosing gate 1))) (sym same) (started o (FromOld o (IsClosing gate 1)) (record { each = λ c may. (c, may, closing_self gate 1 c) }))
+
+-- an open gate of each image
+gate_of : (o : Option Trace) (gate : ℕ) (b : List ℕ) → Now o (HasGatesOf (seen o) gate 1) → length b ≡ 1 → Reads o gate b → get_or b 0 0 ≡ open_byte
+    → (d : List ℕ) → MayLeave o d → (gate < length d) × (get_or d gate 0 ≡ open_byte)
+gate_of None gate b gates one reads opened d may = absurd may.image
+gate_of (Some t) gate b gates one reads opened d may =
+    let has = gates.each d may in
+    (omega (arith, has.there), has.same gate (omega arith) (omega arith) ∙ sym (byte_read t gate b one reads) ∙ opened)
+
+-- a gate that reads open was written
+pub closing_wrote : {E : Type 0} (o now next : Option Trace) (gate : ℕ) (b : List ℕ) (r : Result (Unit {0}) E) → Now o (HasGatesOf (seen o) gate 1)
+    → length b ≡ 1 → Reads o gate b → get_or b 0 0 ≡ open_byte → now ≡ o → IsNoted (Wrote gate (0 ∷ [])) (WroteInPart gate (0 ∷ [])) r now next
+    → During o next (FromOld o (IsClosing gate 1))
+closing_wrote o now next gate b r gates one reads opened same wrote =
+    let closes : (c : List ℕ) → MayLeave next c → FromOld o (IsClosing gate 1) c =
+    λ c may.
+    let from = wrote_now r now next gate (0 ∷ []) c wrote may in
+    let earlier = subst (λ x. MayLeave x from.0) same from.1 in
+    let is_open = gate_of o gate b gates one reads opened from.0 earlier in
+    (from.0, earlier, closing_torn gate from.0 c is_open.0 is_open.1 from.2) in
+    goes_on (Wrote gate (0 ∷ [])) (WroteInPart gate (0 ∷ [])) r o now next (FromOld o (IsClosing gate 1)) (closing_kept o now gate same) wrote (record { each = closes })
+
+-- and then a read gives a closed gate there, and the same elsewhere
+pub closing_read : (o now next : Option Trace) (gate : ℕ) (b : List ℕ) → Reaches o (gate + 1) → length b ≡ 1 → Reads o gate b → get_or b 0 0 ≡ open_byte
+    → now ≡ o → next ≡ noted (Wrote gate (0 ∷ [])) now → IsClosing gate 1 (seen o) (seen next)
+closing_read None now next gate b room one reads opened same wrote =
+    subst (λ x. IsClosing gate 1 [] (seen x)) (sym (wrote ∙ ap (noted (Wrote gate (0 ∷ []))) same)) (closing_self gate 1 [])
+closing_read (Some t) now next gate b room one reads opened same wrote =
+    let s = seen (Some t) in
+    subst (λ x. IsClosing gate 1 s (seen x)) (sym (wrote ∙ ap (noted (Wrote gate (0 ∷ []))) same))
+    (closing_torn gate s (written s gate (0 ∷ [])) (omega (arith, room)) (sym (byte_read t gate b one reads) ∙ opened) (torn_written s gate (0 ∷ [])))
+
+-- the same, of whatever the write answered
+pub closing_answered : {E : Type 0} (r : Result (Unit {0}) E) (o now next : Option Trace) (gate : ℕ) (b : List ℕ) → Reaches o (gate + 1) → length b ≡ 1 → Reads o gate b
+    → get_or b 0 0 ≡ open_byte → now ≡ o → IsNoted (Wrote gate (0 ∷ [])) (WroteInPart gate (0 ∷ [])) r now next → OnOk r (IsClosing gate 1 (seen o) (seen next))
+closing_answered (Ok x) o now next gate b room one reads opened same wrote = closing_read o now next gate b room one reads opened same wrote
+closing_answered (Err e) o now next gate b room one reads opened same wrote = tt
+
+-- the first k of count gates are closed
+pub record AreClosed (at count k : ℕ) (o now : Option Trace) : Type 0 where
+  pub any_moment : During o now (FromOld o (IsClosing at count))
+  pub reads : IsClosing at count (seen o) (seen now)
+  pub shut : (i : ℕ) → at ≤ i → i < at + k → get_or (seen now) i 0 ≢ open_byte
+  pub left : Now now (HasGatesOf (seen now) (at + k) (count - k))
+  pub room : Reaches now (at + count)
+
+-- none are
+pub none_closed : (at count : ℕ) (o : Option Trace) → Reaches o (at + count) → Now o (HasGatesOf (seen o) at count) → AreClosed at count 0 o o
+none_closed at count o room gates = record {
+  any_moment = started o (FromOld o (IsClosing at count)) (record { each = λ c may. (c, may, closing_self at count c) });
+  reads = closing_self at count (seen o);
+  shut = λ i low high. absurd (omega arith);
+  left = record { each = λ c may. let has = gates.each c may in record { there = omega (arith, has.there); same = λ i low high. has.same i (omega arith) (omega arith) } };
+  room = room;
+}
+
+-- a device that comes after another has its length where a read gives as many bytes
+reaches_after : (a b : Option Trace) (n : ℕ) → ComesAfter a b → length (seen b) ≡ length (seen a) → Reaches a n → Reaches b n
+reaches_after None None n later same room = tt
+reaches_after None (Some u) n later same room = absurd later
+reaches_after (Some t) None n later same room = absurd later
+reaches_after (Some t) (Some u) n later same room = omega (arith, same, room)
+
+module _ (at count k gate : ℕ) (o now next : Option Trace) (before : AreClosed at count k o now) (here : k < count) (is_gate : gate ≡ at + k) (during : During now next (FromOld now (IsClosing gate 1))) where
+  -- through the next one, whatever came of it
+  pub closing_goes_on : During o next (FromOld o (IsClosing at count))
+  closing_goes_on =
+      let closes : (c : List ℕ) → FromOld now (IsClosing gate 1) c → FromOld o (IsClosing at count) c =
+      λ c from.
+      let earlier = (during_now o now (FromOld o (IsClosing at count)) before.any_moment).each from.0 from.1 in
+      (earlier.0, earlier.1, closing_more at count gate earlier.0 from.0 c (omega arith) (omega arith) earlier.2 from.2) in
+      in_turn o now next (FromOld o (IsClosing at count)) before.any_moment (weaker now next (FromOld now (IsClosing gate 1)) (FromOld o (IsClosing at count)) closes during)
+
+  -- once it is closed too
+  pub one_closed : IsClosing gate 1 (seen now) (seen next) → get_or (seen next) gate 0 ≢ open_byte → AreClosed at count (k + 1) o next
+  one_closed reads shut = record {
+    any_moment = closing_goes_on;
+    reads = closing_more at count gate (seen o) (seen now) (seen next) (omega arith) (omega arith) before.reads reads;
+    shut = λ i low high. ⊎_elim (λ below opened. before.shut i low below (sym (reads.same i (inl (inl (omega (arith, below, is_gate))))) ∙ opened))
+        (λ above opened. let is : i ≡ gate = omega arith in shut (ap (λ j. get_or (seen next) j 0) (sym is) ∙ opened)) (cases_lt i (at + k));
+    left = record { each = others };
+    room = reaches_after now next (at + count) during.later reads.same_length before.room;
+  }
+    where
+      others : (c : List ℕ) → MayLeave next c → HasGatesOf (seen next) (at + (k + 1)) (count - (k + 1)) c
+      others c may =
+          let from = (during_now now next (FromOld now (IsClosing gate 1)) during).each c may in
+          let has = before.left.each from.0 from.1 in
+          record {
+            there = omega (arith, has.there, from.2.same_length);
+            same = λ i low high. from.2.same i (inl (inr (omega arith))) ∙ has.same i (omega arith) (omega arith) ∙ sym (reads.same i (inl (inr (omega arith))));
+          }
+
+-- through the sync at the end
+pub all_moments : {E : Type 0} (at count k : ℕ) (o now next : Option Trace) (r : Result (Unit {0}) E) → AreClosed at count k o now → IsNoted Synced Idle r now next
+    → During o next (FromOld o (IsClosing at count))
+all_moments at count k o now next r before synced =
+    goes_on Synced Idle r o now next (FromOld o (IsClosing at count)) before.any_moment synced
+    (record { each = λ c may. (during_now o now (FromOld o (IsClosing at count)) before.any_moment).each c (synced_now r now next c synced may) })
+
+-- after it a read gives what it gave before
+synced_reads : (now : Option Trace) → seen (noted Synced now) ≡ seen now
+synced_reads None = refl
+synced_reads (Some t) = refl
+
+pub all_read : {E : Type 0} (at count k : ℕ) (o now next : Option Trace) (r : Result (Unit {0}) E) → AreClosed at count k o now → IsNoted Synced Idle r now next
+    → OnOk r (IsClosing at count (seen o) (seen next))
+all_read at count k o now next (Ok x) before synced = subst (λ s. IsClosing at count (seen o) s) (sym (ap seen synced ∙ synced_reads now)) before.reads
+all_read at count k o now next (Err e) before synced = tt
+
+-- and each image has all gates closed
+shut_in : (at count k : ℕ) (now : Option Trace) → count ≤ k → Reaches now (at + count) → ((i : ℕ) → at ≤ i → i < at + k → get_or (seen now) i 0 ≢ open_byte)
+    → (c : List ℕ) → MayLeave (noted Synced now) c → AreShut at count c
+shut_in at count k None all room shut c may = absurd may.image
+shut_in at count k (Some t) all room shut c may = λ i low high. record {
+  there = omega (arith, ap length may.image, room);
+  closed = λ opened. shut i low (omega arith) (sym (ap (λ l. get_or l i 0) may.image) ∙ opened);
+}
+
+pub all_shut : {E : Type 0} (at count k : ℕ) (o now next : Option Trace) (r : Result (Unit {0}) E) → count ≤ k → AreClosed at count k o now → IsNoted Synced Idle r now next
+    → OnOk r (Now next (AreShut at count))
+all_shut at count k o now next (Ok x) all before synced =
+    record { each = λ c may. shut_in at count k now all before.room before.shut c (subst (λ y. MayLeave y c) synced may) }
+all_shut at count k o now next (Err e) all before synced = tt

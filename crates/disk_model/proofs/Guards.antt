@@ -1,0 +1,112 @@
+-- What a crash leaves in each of the four steps of a guarded write.
+use Rattle.std.proofs.Common.{◌≡◌, ◌≢◌, inl, inr, ℕ, ◌+◌, ◌<◌, ◌≤◌, List, [], ◌∷◌, length, Option, None, Some, Result, refl, sym, ◌∙◌, ap, subst, arith}
+use Rattle.disk_model.specs.Traces.{Wrote, WroteInPart, Synced, Idle, Trace, seen, noted, written}
+use Rattle.disk_model.specs.Images.{IsOutside, IsTorn, MayLeave, Now, FromOld}
+use Rattle.disk_model.specs.Moments.{During}
+use Rattle.disk_model.specs.Calls.{IsNoted, Reaches, Sees}
+use Rattle.disk_model.specs.Gates.{open_byte, IsShut, Holds, IsGuarded}
+use Rattle.disk_model.proofs.Bytes.{length-written, holds_written, holds_same}
+use Rattle.disk_model.proofs.Images.{present, wrote_now, synced_now}
+use Rattle.disk_model.proofs.Moments.{started, during_now, goes_on}
+
+-- nothing is behind a closed gate
+guarded_self : (at : ℕ) (bytes : List ℕ) (gate : ℕ) (c : List ℕ) → IsShut gate c → IsGuarded at bytes gate c c
+guarded_self at bytes gate c shut = record {
+  whole = λ opened. absurd (shut.closed opened);
+  outside = λ i there out other. refl;
+  no_shorter = omega arith;
+  no_longer = omega arith;
+}
+
+-- a write behind a closed gate that a crash cuts short
+guarded_torn : (at : ℕ) (bytes : List ℕ) (gate : ℕ) (d c : List ℕ) → IsOutside at (length bytes) gate → IsShut gate d → IsTorn at (length bytes) d c
+    → IsGuarded at bytes gate d c
+guarded_torn at bytes gate d c apart shut torn = record {
+  whole = λ opened. absurd (shut.closed (sym (torn.outside gate shut.there apart) ∙ opened));
+  outside = λ i there out other. torn.outside i there out;
+  no_shorter = torn.no_shorter;
+  no_longer = torn.no_longer;
+}
+
+-- the gate, torn, before bytes that stand whole
+guarded_opening : (at : ℕ) (bytes : List ℕ) (gate : ℕ) (d0 d c : List ℕ) → IsOutside at (length bytes) gate → gate < length d0
+    → at + length bytes ≤ length d → Holds at bytes d → IsGuarded at bytes gate d0 d → IsTorn gate 1 d c → IsGuarded at bytes gate d0 c
+guarded_opening at bytes gate d0 d c apart there long holds before torn = record {
+  whole = λ opened. holds_same at bytes c d (omega (arith, torn.no_shorter)) long (λ i low high. torn.outside i (omega arith) (beside apart i low high)) holds;
+  outside = λ i inside out other. torn.outside i (omega (arith, before.no_shorter)) (apart_from i other) ∙ before.outside i inside out other;
+  no_shorter = omega (arith, before.no_shorter, torn.no_shorter);
+  no_longer = omega (arith, before.no_shorter, before.no_longer, torn.no_longer);
+}
+  where
+    apart_from : (i : ℕ) → i ≢ gate → IsOutside gate 1 i
+    apart_from i other = grind arith
+
+    beside : IsOutside at (length bytes) gate → (i : ℕ) → at ≤ i → i < at + length bytes → IsOutside gate 1 i
+    beside (inl below) i low high = inr (omega arith)
+    beside (inr above) i low high = inl (omega arith)
+
+-- where each image has the gate, a read gives it
+gate_there : (o : Option Trace) (gate : ℕ) → Now o (IsShut gate) → Reaches o (gate + 1)
+gate_there None gate shut = tt
+gate_there (Some t) gate shut = omega (arith, (shut.each (seen (Some t)) (present t)).there)
+
+-- after the first write and a sync the bytes stand there whole
+whole_there : (o : Option Trace) (at : ℕ) (bytes d : List ℕ) → Reaches o at → MayLeave (noted Synced (noted (Wrote at bytes) o)) d
+    → (at + length bytes ≤ length d) × Holds at bytes d
+whole_there None at bytes d room may = absurd may.image
+whole_there (Some t) at bytes d room may =
+    let s = seen (Some t) in
+    let is : d ≡ written s at bytes = may.image in
+    (omega (arith, ap length is, length-written s at bytes room), subst (λ l. Holds at bytes l) (sym is) (holds_written s at bytes room))
+
+-- the gate is there as well
+pub gate_reached : (o : Option Trace) (at : ℕ) (bytes : List ℕ) (gate : ℕ) → Reaches o at → Now o (IsShut gate) → Reaches (noted Synced (noted (Wrote at bytes) o)) gate
+gate_reached None at bytes gate room shut = tt
+gate_reached (Some t) at bytes gate room shut =
+    omega (arith, length-written (seen (Some t)) at bytes room, (shut.each (seen (Some t)) (present t)).there)
+
+-- what a read gives after all four calls
+pub all_read : (o : Option Trace) (at : ℕ) (bytes : List ℕ) (gate : ℕ)
+    → Sees (noted Synced (noted (Wrote gate (open_byte ∷ [])) (noted Synced (noted (Wrote at bytes) o)))) (written (written (seen o) at bytes) gate (open_byte ∷ []))
+all_read None at bytes gate = tt
+all_read (Some t) at bytes gate = refl
+
+-- an image from before with the bytes whole behind the open gate, or the gate closed
+abbrev Guarded : Option Trace → ℕ → List ℕ → ℕ → List ℕ → Type 0
+Guarded o at bytes gate = FromOld o (IsGuarded at bytes gate)
+
+module _ (o : Option Trace) (at : ℕ) (bytes : List ℕ) (gate : ℕ) (room : Reaches o at) (apart : IsOutside at (length bytes) gate) (shut : Now o (IsShut gate)) where
+  -- through the first write
+  pub first : {E : Type 0} (o1 : Option Trace) (r : Result (Unit {0}) E) → IsNoted (Wrote at bytes) (WroteInPart at bytes) r o o1 → During o o1 (Guarded o at bytes gate)
+  first o1 r wrote =
+      goes_on (Wrote at bytes) (WroteInPart at bytes) r o o o1 (Guarded o at bytes gate)
+      (started o (Guarded o at bytes gate) (record { each = λ c may. (c, may, guarded_self at bytes gate c (shut.each c may)) })) wrote
+      (record { each = λ c may. let from = wrote_now r o o1 at bytes c wrote may in (from.0, from.1, guarded_torn at bytes gate from.0 c apart (shut.each from.0 from.1) from.2) })
+
+  -- and the first sync
+  pub second : {E : Type 0} (o1 o2 : Option Trace) (r q : Result (Unit {0}) E) → IsNoted (Wrote at bytes) (WroteInPart at bytes) r o o1 → IsNoted Synced Idle q o1 o2 → During o o2 (Guarded o at bytes gate)
+  second o1 o2 r q wrote synced =
+      let so_far = first o1 r wrote in
+      goes_on Synced Idle q o o1 o2 (Guarded o at bytes gate) so_far synced (record { each = λ c may. (during_now o o1 (Guarded o at bytes gate) so_far).each c (synced_now q o1 o2 c synced may) })
+
+  -- once both were done, through the second write
+  pub third : {E : Type 0} (o1 o2 o3 : Option Trace) (r q p : Result (Unit {0}) E) → IsNoted (Wrote at bytes) (WroteInPart at bytes) r o o1 → IsNoted Synced Idle q o1 o2
+      → o1 ≡ noted (Wrote at bytes) o → o2 ≡ noted Synced o1 → IsNoted (Wrote gate (open_byte ∷ [])) (WroteInPart gate (open_byte ∷ [])) p o2 o3 → During o o3 (Guarded o at bytes gate)
+  third o1 o2 o3 r q p wrote synced done synced_done opened =
+      let so_far = second o1 o2 r q wrote synced in
+      let all_done : o2 ≡ noted Synced (noted (Wrote at bytes) o) = synced_done ∙ ap (noted Synced) done in
+      let opens : (c : List ℕ) → MayLeave o3 c → Guarded o at bytes gate c =
+      λ c may.
+      let from = wrote_now p o2 o3 gate (open_byte ∷ []) c opened may in
+      let before = (during_now o o2 (Guarded o at bytes gate) so_far).each from.0 from.1 in
+      let whole = whole_there o at bytes from.0 room (subst (λ x. MayLeave x from.0) all_done from.1) in
+      (before.0, before.1, guarded_opening at bytes gate before.0 from.0 c apart (shut.each before.0 before.1).there whole.0 whole.1 before.2 from.2) in
+      goes_on (Wrote gate (open_byte ∷ [])) (WroteInPart gate (open_byte ∷ [])) p o o2 o3 (Guarded o at bytes gate) so_far opened (record { each = opens })
+
+  -- and the second sync
+  pub fourth : {E : Type 0} (o1 o2 o3 o4 : Option Trace) (r q p s : Result (Unit {0}) E) → IsNoted (Wrote at bytes) (WroteInPart at bytes) r o o1 → IsNoted Synced Idle q o1 o2
+      → o1 ≡ noted (Wrote at bytes) o → o2 ≡ noted Synced o1 → IsNoted (Wrote gate (open_byte ∷ [])) (WroteInPart gate (open_byte ∷ [])) p o2 o3
+      → IsNoted Synced Idle s o3 o4 → During o o4 (Guarded o at bytes gate)
+  fourth o1 o2 o3 o4 r q p s wrote synced done synced_done opened ended =
+      let so_far = third o1 o2 o3 r q p wrote synced done synced_done opened in
+      goes_on Synced Idle s o o3 o4 (Guarded o at bytes gate) so_far ended (record { each = λ c may. (during_now o o3 (Guarded o at bytes gate) so_far).each c (synced_now s o3 o4 c ended may) })

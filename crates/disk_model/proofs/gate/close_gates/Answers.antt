@@ -1,0 +1,36 @@
+use Rattle.std.proofs.Common.{refl, arith, ◌∙◌}
+use Rattle.disk_model.proofs.Closings.{none_closed, closing_goes_on, one_closed, all_moments, all_read, all_shut}
+use Rattle.disk_model.proofs.gate.close_gates.Goals as goal
+
+pub loop-k-init : goal.loop-k-init
+loop-k-init g c = record {
+  closed = none_closed c.args.at c.args.count (g.D.Disk.trace c.args.dev.now) c.requires.room c.requires.gates;
+  later = omega arith;
+  clock = omega arith;
+  faultless = refl;
+}
+
+pub returns-in_err-close_gate-clause-any_moment : goal.returns-in_err-close_gate-clause-any_moment
+returns-in_err-close_gate-clause-any_moment g c =
+    closing_goes_on c.args.at c.args.count c.loop-k.k _ _ _ _ c.loop-k.invariant.closed c.loop-k-test.true (omega (arith, c.from.ensures)) c.close_gate.ensures.any_moment
+
+pub loop-k-preserved : goal.loop-k-preserved
+loop-k-preserved g c = record {
+  closed = one_closed c.args.at c.args.count c.loop-k.k _ _ _ _ c.loop-k.invariant.closed c.loop-k-test.true (omega (arith, c.from.ensures)) c.close_gate.ensures.any_moment
+      c.in_ok-close_gate.ensures.reads c.in_ok-close_gate.ensures.shut;
+  later = omega (arith, c.loop-k.invariant.later, c.close_gate.ensures.later);
+  clock = omega (arith, c.loop-k.invariant.clock, c.close_gate.ensures.clock);
+  faultless = c.in_ok-close_gate.ensures.cause.passed ∙ c.loop-k.invariant.faultless;
+}
+
+pub returns-clause-any_moment : goal.returns-clause-any_moment
+returns-clause-any_moment g c =
+    all_moments c.args.at c.args.count c.loop-k.k _ _ _ c.sync.result c.loop-k.invariant.closed c.sync.ensures.noted
+
+pub returns-clause-reads : goal.returns-clause-reads
+returns-clause-reads g c =
+    all_read c.args.at c.args.count c.loop-k.k _ _ _ c.sync.result c.loop-k.invariant.closed c.sync.ensures.noted
+
+pub returns-clause-shut : goal.returns-clause-shut
+returns-clause-shut g c =
+    all_shut c.args.at c.args.count c.loop-k.k _ _ _ c.sync.result c.loop-k-test.false c.loop-k.invariant.closed c.sync.ensures.noted

@@ -1,0 +1,48 @@
+-- What the calls of a device say and do.
+use Rattle.std.specs.Prelude.{◌≡◌, ◌⊎◌, ℕ, ◌+◌, ◌-◌, ◌^◌, ◌<◌, ◌≤◌, min, List, length, take, drop, Option, Result, MatchResult, IfSome, OnOk, OnErr}
+use Rattle.disk_model.specs.Traces.{Event, Idle, Trace, seen, noted}
+
+-- one more, or the same at the end of the type
+abbrev pub next_count : ℕ → ℕ
+next_count n = min (n + 1) (2 ^ 64 - 1)
+
+-- the sum of two counts, or the end of the type
+abbrev pub sum_of_counts : ℕ → ℕ → ℕ
+sum_of_counts m n = min (m + n) (2 ^ 64 - 1)
+
+-- a count of faults has risen, or stands at the end of its type
+abbrev pub Rose : ℕ → ℕ → Type 0
+Rose before now = (before < now) ⊎ (now ≡ 2 ^ 64 - 1)
+
+-- over one call the count of faults stays where the call answered Ok, and rises where it failed
+pub record HasCause {T E : Type 0} (before now : ℕ) (result : Result T E) : Type 0 where
+  pub later : before ≤ now
+  pub passed : OnOk result (now ≡ before)
+  pub failed : OnErr result (Rose before now)
+
+-- over one call the clock goes on by one, or stays at the end of its type, where the call fails
+pub record IsTimed {T E : Type 0} (before now : ℕ) (result : Result T E) : Type 0 where
+  pub later : before ≤ now
+  pub counted : now ≡ next_count before
+  pub in_time : OnOk result (before < 2 ^ 64 - 1)
+
+-- where the device tells its calls, a read gives these bytes in all
+abbrev pub Sees : Option Trace → List ℕ → Type 0
+Sees o bytes = IfSome o (λ t. seen (Option.Some t) ≡ bytes)
+
+-- where the device tells its calls, this is its length
+abbrev pub HasLength : Option Trace → ℕ → Type 0
+HasLength o n = IfSome o (λ t. length (seen (Option.Some t)) ≡ n)
+
+-- where the device tells its calls, it has at least this many bytes
+abbrev pub Reaches : Option Trace → ℕ → Type 0
+Reaches o n = IfSome o (λ t. n ≤ length (seen (Option.Some t)))
+
+-- where the device tells its calls, these bytes stand at the place
+abbrev pub Reads : Option Trace → ℕ → List ℕ → Type 0
+Reads o at bytes = IfSome o (λ t. bytes ≡ take (length bytes) (drop at (seen (Option.Some t))))
+
+-- the calls that a device tells after one more: that call, or where it failed the same in part, or an idle one, or, at the end
+-- of the clock, none
+abbrev pub IsNoted : {T E : Type 0} → Event → Event → Result T E → Option Trace → Option Trace → Type 0
+IsNoted whole part result old new = MatchResult result (λ _. new ≡ noted whole old) (λ _. (new ≡ noted part old) ⊎ (new ≡ noted Idle old) ⊎ (new ≡ old))

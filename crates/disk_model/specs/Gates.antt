@@ -1,0 +1,40 @@
+-- Gates: a byte that says whether the bytes that it guards count.
+use Rattle.std.specs.Prelude.{◌≡◌, ◌≢◌, ◌⊎◌, ℕ, ◌+◌, ◌<◌, ◌≤◌, max, List, length, take, drop, slice_index}
+use Rattle.disk_model.specs.Images.{IsOutside}
+
+-- the byte of an open gate; any other byte is that of a closed one
+abbrev pub open_byte : ℕ
+open_byte = 165
+
+abbrev pub IsOpen : ℕ → List ℕ → Type 0
+IsOpen gate c = slice_index c gate ≡ open_byte
+
+-- the gate is there, and closed
+pub record IsShut (gate : ℕ) (c : List ℕ) : Type 0 where
+  pub there : gate < length c
+  pub closed : slice_index c gate ≢ open_byte
+
+-- these bytes stand at the place
+abbrev pub Holds : ℕ → List ℕ → List ℕ → Type 0
+Holds at bytes c = take (length bytes) (drop at c) ≡ bytes
+
+-- new is old but for the bytes behind the gate and the gate itself, and where the gate is open it guards the bytes whole
+pub record IsGuarded (at : ℕ) (bytes : List ℕ) (gate : ℕ) (old new : List ℕ) : Type 0 where
+  pub whole : IsOpen gate new → Holds at bytes new
+  pub outside : (i : ℕ) → i < length old → IsOutside at (length bytes) i → i ≢ gate → slice_index new i ≡ slice_index old i
+  pub no_shorter : length old ≤ length new
+  pub no_longer : length new ≤ max (length old) (at + length bytes)
+
+-- the n gates from at on are there, and read as in s
+pub record HasGatesOf (s : List ℕ) (at n : ℕ) (c : List ℕ) : Type 0 where
+  pub there : at + n ≤ length c
+  pub same : (i : ℕ) → at ≤ i → i < at + n → slice_index c i ≡ slice_index s i
+
+-- the n gates from at on are there, and closed
+abbrev pub AreShut : ℕ → ℕ → List ℕ → Type 0
+AreShut at n c = (i : ℕ) → at ≤ i → i < at + n → IsShut i c
+
+-- new is old but for open ones of the n gates from at on: what reads closed is not touched
+pub record IsClosing (at n : ℕ) (old new : List ℕ) : Type 0 where
+  pub same_length : length new ≡ length old
+  pub same : (i : ℕ) → IsOutside at n i ⊎ (slice_index old i ≢ open_byte) → slice_index new i ≡ slice_index old i

@@ -1,0 +1,10 @@
+pub mod Calls
+pub mod Disks
+pub mod Folders
+pub mod Gates
+pub mod Images
+pub mod Logs
+pub mod Memory
+pub mod Moments
+pub mod Stores
+pub mod Traces

@@ -1,0 +1,49 @@
+-- What a device in memory is seen as, and which image of it is picked.
+use Rattle.std.specs.Prelude.{◌≡◌, ◌⊎◌, ℕ, ◌≤◌, List, [], ◌∷◌, length, replicate, Contains, Option, IsSomeAnd, Result, IsErr, is_ok, if◌then◌else◌}
+use Rattle.disk_model.specs.declared.memory_disk.Pick.{Pick}
+use Rattle.disk_model.specs.declared.memory_disk.Pick.TheVariants.{Old, New, Fill}
+use Rattle.disk_model.specs.Traces.{Event, Wrote, WroteInPart, Resized, ResizedInPart, Synced, Idle, Trace, written, resized, content}
+use Rattle.disk_model.specs.Calls.{next_count}
+
+-- a device in memory: its trace, the numbers of the calls that are to fail, the number from which all are to fail, and its counts
+pub record DiskState : Type 0 where
+  pub trace : Trace
+  pub failing_calls : List ℕ
+  pub stop : Option ℕ
+  pub calls : ℕ
+  pub faults : ℕ
+
+-- the next call is to fail
+abbrev pub IsToFail : DiskState → Type 0
+IsToFail s = Contains s.failing_calls s.calls ⊎ IsSomeAnd s.stop (λ stop. stop ≤ s.calls)
+
+-- over one call: it is counted, what is to fail stays, and the faults rise by one where it failed
+pub record IsCalled {T E : Type 0} (old new : DiskState) (result : Result T E) : Type 0 where
+  pub calls : new.calls ≡ next_count old.calls
+  pub failing_calls : new.failing_calls ≡ old.failing_calls
+  pub stop : new.stop ≡ old.stop
+  pub faults : new.faults ≡ (if is_ok result then old.faults else next_count old.faults)
+  pub fails : IsToFail old → IsErr result
+
+-- what is picked of a range in which bytes were written
+abbrev pub picked_bytes : Pick → List ℕ → List ℕ → ℕ → List ℕ
+picked_bytes Old bytes image at = image
+picked_bytes New bytes image at = written image at bytes
+picked_bytes (Fill b) bytes image at = written image at (replicate (length bytes) b)
+
+-- what is picked of a length to which the device was brought
+abbrev pub picked_length : Pick → List ℕ → ℕ → List ℕ
+picked_length Old image len = image
+picked_length New image len = resized image len
+picked_length (Fill b) image len = resized image len
+
+-- The image that is picked: none of what was done since the last sync, all of it, or all of it with one byte in place of each
+-- that was written. Of calls that failed, a write counts as done and a change of the length does not.
+abbrev pub picked : Pick → List ℕ → List Event → List ℕ
+picked pick first [] = first
+picked pick first (Wrote at bytes ∷ es) = picked_bytes pick bytes (picked pick first es) at
+picked pick first (WroteInPart at bytes ∷ es) = picked_bytes pick bytes (picked pick first es) at
+picked pick first (Resized len ∷ es) = picked_length pick (picked pick first es) len
+picked pick first (ResizedInPart len ∷ es) = picked pick first es
+picked pick first (Synced ∷ es) = content first es
+picked pick first (Idle ∷ es) = picked pick first es

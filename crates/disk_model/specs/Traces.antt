@@ -1,0 +1,50 @@
+-- A device, as the bytes that it held at first and the calls on it since.
+use Rattle.std.specs.Prelude.{ℕ, ◌+◌, ◌-◌, List, [], ◌∷◌, ◌++◌, length, take, drop, replicate, Option, None, Some}
+
+-- a call that may change what a crash leaves. A call in part answered that it failed, and may have done some of its work;
+-- an idle one did none
+pub data Event : Type 0 where
+  Wrote : (at : ℕ) (bytes : List ℕ) → Event
+  WroteInPart : (at : ℕ) (bytes : List ℕ) → Event
+  Resized : (len : ℕ) → Event
+  ResizedInPart : (len : ℕ) → Event
+  Synced : Event
+  Idle : Event
+
+-- the first bytes, and the calls since, the newest first
+pub record Trace : Type 0 where
+  pub first : List ℕ
+  pub events : List Event
+
+-- the bytes with others written over them and past their end
+abbrev pub written : List ℕ → ℕ → List ℕ → List ℕ
+written old at bytes = take at old ++ (bytes ++ drop (at + length bytes) old)
+
+-- the bytes cut to a length, or filled up to it with zeros
+abbrev pub resized : List ℕ → ℕ → List ℕ
+resized old len = take len old ++ replicate (len - length old) 0
+
+-- what a read gives
+abbrev pub content : List ℕ → List Event → List ℕ
+content first [] = first
+content first (Wrote at bytes ∷ es) = written (content first es) at bytes
+content first (WroteInPart at bytes ∷ es) = content first es
+content first (Resized len ∷ es) = resized (content first es) len
+content first (ResizedInPart len ∷ es) = content first es
+content first (Synced ∷ es) = content first es
+content first (Idle ∷ es) = content first es
+
+-- what a read gives of a device that tells its calls
+abbrev pub seen : Option Trace → List ℕ
+seen None = []
+seen (Some t) = content t.first t.events
+
+-- one call more
+abbrev pub noted : Event → Option Trace → Option Trace
+noted e None = None
+noted e (Some t) = Some (record { first = t.first; events = e ∷ t.events })
+
+-- how many calls were told
+abbrev pub moment : Option Trace → ℕ
+moment None = 0
+moment (Some t) = length t.events

@@ -1,0 +1,40 @@
+// Devices by name.
+ghost use Rattle.std.specs.Prelude.{◌≡◌, ◌≢◌, ℕ, List, Bool, Option, None, IfOk, OnOk, OnErr, IsTrue};
+ghost use Rattle.disk_model.specs.Traces.{Trace};
+ghost use Rattle.disk_model.specs.Calls.{HasCause, sum_of_counts};
+
+use crate::{Disk, Failed};
+
+/// Something that keeps devices by name, and may fail at any call.
+pub trait Store {
+    type Dev: Disk + Send;
+
+    /// The trace of the device of a name, or `None` where the store does not tell.
+    ghost device_at: { Self → List ℕ → Option Trace } = { λ _ _. None };
+
+    /// There is a place for the device of this name, which a call of `device` has made.
+    ghost has_place: { Self → List ℕ → Bool };
+
+    /// How often a call of the store, or of a device that was given back, has failed.
+    ghost fault_count: { Self → ℕ };
+
+    /// Hands out the device of a name, and makes it where there is none. Until it is given back the store says nothing
+    /// of it.
+    fn device(&mut self, name: &str) -> Result<Self::Dev, Failed>
+        ensures told { IfOk result (λ dev. Self.Dev.trace dev ≡ device_at self.old name.now) }
+        ensures faultless { IfOk result (λ dev. Self.Dev.fault_count dev ≡ 0) }
+        ensures place { OnOk result (IsTrue (has_place self.new name.now)) }
+        ensures places { (n : List ℕ) → IsTrue (has_place self.old n) → IsTrue (has_place self.new n) }
+        ensures others { (n : List ℕ) → n ≢ name.now → device_at self.new n ≡ device_at self.old n }
+        ensures unchanged { OnErr result ((n : List ℕ) → device_at self.new n ≡ device_at self.old n) }
+        ensures cause { HasCause (fault_count self.old) (fault_count self.new) result };
+
+    /// Takes back the device of a name, and adds its faults to the store's.
+    fn give_back(&mut self, name: &str, dev: Self::Dev)
+        requires { IsTrue (has_place self.old name.now) }
+        ensures told { device_at self.new name.now ≡ Self.Dev.trace dev }
+        ensures places { (n : List ℕ) → IsTrue (has_place self.old n) → IsTrue (has_place self.new n) }
+        ensures others { (n : List ℕ) → n ≢ name.now → device_at self.new n ≡ device_at self.old n }
+        ensures counted { fault_count self.new
+            ≡ sum_of_counts (fault_count self.old) (Self.Dev.fault_count dev) };
+}

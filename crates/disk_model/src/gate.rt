@@ -1,0 +1,83 @@
+// Writing behind a gate, and closing gates.
+ghost use Rattle.std.specs.Prelude.{◌≡◌, ◌⊎◌, ◌+◌, ◌<◌, ◌≤◌, ◌^◌, [], ◌∷◌, ◌≢◌, length, slice_index, OnOk};
+ghost use Rattle.disk_model.specs.Traces.{seen, written};
+ghost use Rattle.disk_model.specs.Images.{Now, FromOld, IsSettled, IsOutside};
+ghost use Rattle.disk_model.specs.Moments.{During};
+ghost use Rattle.disk_model.specs.Calls.{HasCause, Reaches, Sees};
+ghost use Rattle.disk_model.specs.Gates.{IsShut, IsGuarded, HasGatesOf, AreShut, IsClosing, open_byte};
+
+use crate::{Disk, Failed};
+
+/// The byte of an open gate. Any other byte is that of a closed one.
+pub const OPEN: u8 = 0xa5;
+
+// The byte that closes a gate.
+const CLOSED: u8 = 0;
+
+/// Writes `bytes` at `at`, which are to count once the gate is open, syncs, opens the gate, and syncs. At Ok all of it is
+/// on the device. After a failure the device is opened again. `at` and `gate` count bytes.
+pub fn write_guarded<D: Disk>(dev: &mut D, at: u64, bytes: &[u8], gate: u64) -> Result<(), Failed>
+    requires room { Reaches (D.trace dev.old) at }
+    requires apart { IsOutside at (length bytes.now) gate }
+    requires shut { Now (D.trace dev.old) (IsShut gate) }
+
+    // A crash at any moment leaves an image from before with the bytes whole behind the open gate, or the gate closed.
+    ensures any_moment { During (D.trace dev.old) (D.trace dev.new)
+        (FromOld (D.trace dev.old) (IsGuarded at bytes.now gate)) }
+
+    ensures reads { OnOk result (Sees (D.trace dev.new)
+        (written (written (seen (D.trace dev.old)) at bytes.now) gate (open_byte ∷ []))) }
+    ensures settled { OnOk result (IsSettled (D.trace dev.new)) }
+    ensures clock { OnOk result (D.ticks dev.new ≡ D.ticks dev.old + 4) }
+    ensures later { D.ticks dev.old ≤ D.ticks dev.new }
+    ensures cause { HasCause (D.fault_count dev.old) (D.fault_count dev.new) result }
+{
+    dev.write_at(at, bytes)?;
+    dev.sync()?;
+    dev.write_at(gate, &[OPEN])?;
+    dev.sync()
+}
+
+/// Closes those of the `count` gates from `at` on that read open, and syncs. What reads closed is left as it is: to write it
+/// once more might open it in a crash. After a failure the device is opened again. `at` counts bytes.
+pub fn close_gates<D: Disk>(dev: &mut D, at: u64, count: u32) -> Result<(), Failed>
+    requires end { at + count < 2 ^ 64 }
+    requires room { Reaches (D.trace dev.old) (at + count) }
+    requires gates { Now (D.trace dev.old) (HasGatesOf (seen (D.trace dev.old)) at count) }
+
+    // A crash at any moment leaves an image from before with some of its open gates closed or torn.
+    ensures any_moment { During (D.trace dev.old) (D.trace dev.new)
+        (FromOld (D.trace dev.old) (IsClosing at count)) }
+
+    ensures reads { OnOk result (IsClosing at count (seen (D.trace dev.old)) (seen (D.trace dev.new))) }
+    ensures shut { OnOk result (Now (D.trace dev.new) (AreShut at count)) }
+    ensures settled { OnOk result (IsSettled (D.trace dev.new)) }
+    ensures later { D.ticks dev.old ≤ D.ticks dev.new }
+    ensures clock { D.ticks dev.new ≤ D.ticks dev.old + (count + 1) }
+    ensures cause { HasCause (D.fault_count dev.old) (D.fault_count dev.new) result }
+{
+    for k in 0..count {
+        close_gate(dev, at + u64::from(k))?;
+    }
+    dev.sync()
+}
+
+// Closes a gate if it reads open, with no sync.
+fn close_gate<D: Disk>(dev: &mut D, gate: u64) -> Result<(), Failed>
+    requires room { Reaches (D.trace dev.old) (gate + 1) }
+    requires gates { Now (D.trace dev.old) (HasGatesOf (seen (D.trace dev.old)) gate 1) }
+    ensures any_moment { During (D.trace dev.old) (D.trace dev.new)
+        (FromOld (D.trace dev.old) (IsClosing gate 1)) }
+    ensures reads { OnOk result (IsClosing gate 1 (seen (D.trace dev.old)) (seen (D.trace dev.new))) }
+    ensures shut { OnOk result (slice_index (seen (D.trace dev.new)) gate ≢ open_byte) }
+    ensures later { D.ticks dev.old ≤ D.ticks dev.new }
+    ensures clock { D.ticks dev.new ≤ D.ticks dev.old + 1 }
+    ensures cause { HasCause (D.fault_count dev.old) (D.fault_count dev.new) result }
+{
+    let mut byte = [0];
+    dev.read(gate, &mut byte)?;
+    if byte[0] != OPEN {
+        return Ok(());
+    }
+    dev.write_at(gate, &[CLOSED])
+}

@@ -1,0 +1,292 @@
+// A device in memory, which fails at the calls that it is told to, and gives the images that a crash may leave.
+ghost use Rattle.std.specs.Prelude.{◌≡◌, ◌⊎◌, ◌↔◌, ◌+◌, ◌-◌, ◌^◌, ◌<◌, ◌≤◌, [], ◌∷◌, length, take, drop, Option, None, Some, IfOk, IsErr, OnOk, OnErr, IsTrue, Contains, MatchResult, IsSomeAnd, IsOk, is_ok, if◌then◌else◌};
+ghost use Rattle.disk_model.specs.Logs.{log_first, log_events};
+ghost use Rattle.disk_model.specs.Traces.{Trace, Wrote, WroteInPart, Resized, ResizedInPart, Synced, Idle, seen, noted};
+ghost use Rattle.disk_model.specs.Images.{MayLeave};
+ghost use Rattle.disk_model.specs.Calls.{next_count, Rose, HasCause, IsTimed, Reaches, Reads, IsNoted};
+
+use crate::memory_log::Log;
+use crate::{Disk, Failed, WantOfMemory};
+use std::alloc::AllocError;
+use std::marker::Model;
+
+/// Which of the images that a crash may leave is picked.
+#[derive(Clone, Copy, Debug, PartialEq, Eq)]
+pub enum Pick {
+    /// Nothing of what was done since the last sync.
+    Old,
+    /// All of what was done since the last sync.
+    New,
+    /// All of it, with this byte in place of each that was written.
+    Fill(u8),
+}
+
+// The calls of a device: the numbers of those that are to fail, from which number on all are to fail, how many calls and
+// faults there were, and the clock. A count stays at the end of its type.
+#[derive(Drop)]
+struct Calls {
+    failing: Vec<u64>,
+    stop: Option<u64>,
+    count: u64,
+    faults: u64,
+    clock: u64,
+}
+
+impl Calls {
+    // Counts a call, and says whether it is to fail.
+    fn begin(&mut self) -> bool
+        ensures told { IsTrue result ↔ (Contains self.old.failing.items self.old.count
+            ⊎ IsSomeAnd self.old.stop (λ stop. stop ≤ self.old.count)) }
+        ensures counted { self.new ≡ record self.old { count = next_count self.old.count } }
+    {
+        let fails = self.failing.contains(&self.count)
+            || self.stop.is_some_and(|stop| stop <= self.count);
+        self.count = self.count.saturating_add(1);
+        fails
+    }
+
+    // Lets the clock go on, and says whether it did.
+    fn tick(&mut self) -> bool
+        ensures told { IsTrue result ↔ (self.old.clock < 2 ^ 64 - 1) }
+        ensures timed { self.new ≡ record self.old { clock = next_count self.old.clock } }
+    {
+        let goes_on = self.clock < u64::MAX;
+        self.clock = self.clock.saturating_add(1);
+        goes_on
+    }
+
+    // Counts a fault, and tells it.
+    fn fault(&mut self) -> Failed
+        ensures counted { self.new ≡ record self.old { faults = next_count self.old.faults } }
+        ensures later { self.old.faults ≤ self.new.faults }
+        ensures rose { Rose self.old.faults self.new.faults }
+    {
+        self.faults = self.faults.saturating_add(1);
+        Failed
+    }
+}
+
+/// A device in memory. A clause sees it as its trace, the numbers of the calls that are to fail, counted from 0, the number
+/// from which on all fail, and how many calls and faults there were. Calls of `len` and `read` count among them.
+#[derive(Drop)]
+pub struct MemDisk {
+    log: Log,
+    calls: Calls,
+}
+
+impl Model for MemDisk {
+    ghost use Rattle.disk_model.specs.Memory.{DiskState};
+
+    ghost Value = { DiskState };
+
+    ghost use Rattle.disk_model.specs.Logs.{log_first, log_events};
+    ghost use Rattle.disk_model.specs.Disks.{IsKept};
+
+    ghost view = { λ d. record {
+      trace = record { first = log_first d.log; events = log_events d.log };
+      failing_calls = d.calls.failing.items;
+      stop = d.calls.stop;
+      calls = d.calls.count;
+      faults = d.calls.faults;
+    } };
+
+    ghost invariant = { λ d. IsKept d.log d.calls.clock };
+}
+
+impl MemDisk {
+    ghost use Rattle.disk_model.specs.Memory.{picked};
+
+    /// A device of these bytes, whose calls with a number in `fail`, counted from 0, fail.
+    pub fn new(bytes: Vec<u8>, fail: Vec<u64>) -> MemDisk
+        ensures trace { result.trace ≡ record { first = bytes.items; events = [] } }
+        ensures failing { result.failing_calls ≡ fail.items }
+        ensures stop { result.stop ≡ None }
+        ensures calls { result.calls ≡ 0 }
+        ensures faults { result.faults ≡ 0 }
+    {
+        MemDisk {
+            log: Log::new(bytes),
+            calls: Calls {
+                failing: fail,
+                stop: None,
+                count: 0,
+                faults: 0,
+                clock: 0,
+            },
+        }
+    }
+
+    /// Makes each call fail whose number, counted from 0 since the device was made, is at least `calls`.
+    pub fn stop_after(&mut self, calls: u64)
+        ensures { self.new ≡ record self.old { stop = Some calls } }
+    {
+        self.calls.stop = Some(calls);
+    }
+
+    /// A new device that holds an image which a crash now may leave: the picked one.
+    pub fn crash(&self, pick: Pick) -> Result<MemDisk, WantOfMemory>
+        ensures trace { IfOk result (λ d. d.trace
+            ≡ record { first = picked pick self.now.trace.first self.now.trace.events; events = [] }) }
+        ensures image { IfOk result (λ d. MayLeave (Some self.now.trace) d.trace.first) }
+        ensures failing { IfOk result (λ d. d.failing_calls ≡ []) }
+        ensures stop { IfOk result (λ d. d.stop ≡ None) }
+        ensures calls { IfOk result (λ d. d.calls ≡ 0) }
+        ensures faults { IfOk result (λ d. d.faults ≡ 0) }
+    {
+        let Ok(image) = self.log.picked(pick) else {
+            return Err(WantOfMemory);
+        };
+        let alloc = *image.allocator();
+        Ok(MemDisk::new(image, Vec::new(alloc)))
+    }
+
+    /// How many calls there were, those of `len` and `read` among them. The count stays at the end of its type.
+    pub fn calls(&self) -> u64
+        ensures { result ≡ self.now.calls }
+    {
+        self.calls.count
+    }
+
+    /// The bytes that it holds.
+    pub fn bytes(&self) -> &[u8]
+        ensures { result.now ≡ seen (Some self.now.trace) }
+    {
+        &self.log.content
+    }
+
+    // The faults so far, of which it forgets.
+    pub(crate) fn take_faults(&mut self) -> u64
+        ensures result { result ≡ self.old.faults }
+        ensures zero { self.new ≡ record self.old { faults = 0 } }
+    {
+        let faults = self.calls.faults;
+        self.calls.faults = 0;
+        faults
+    }
+}
+
+// Ends a call: it was idle where there was no memory to note it, and it is whole where it was noted so.
+fn end(
+    log: &mut Log,
+    calls: &mut Calls,
+    noted: Result<(), AllocError>,
+    whole: bool,
+) -> Result<(), Failed>
+    requires { OnErr noted (length (log_events log.old) < 2 ^ 64 - 1) }
+    ensures first { log_first log.new ≡ log_first log.old }
+    ensures content { log.new.content.items ≡ log.old.content.items }
+    ensures events { log_events log.new ≡ (if is_ok noted then log_events log.old else Idle ∷ log_events log.old) }
+    ensures ok { IsOk result ↔ (IsTrue whole × IsOk noted) }
+    ensures calls { calls.new ≡ record calls.old { faults = (if is_ok result then calls.old.faults else next_count calls.old.faults) } }
+    ensures cause { HasCause calls.old.faults calls.new.faults result }
+{
+    if noted.is_err() {
+        log.rest();
+    }
+    if whole && noted.is_ok() {
+        return Ok(());
+    }
+    Err(calls.fault())
+}
+
+impl Disk for MemDisk {
+    ghost use Rattle.disk_model.specs.Memory.{DiskState, IsToFail, IsCalled};
+    ghost use Rattle.std.specs.Prelude.{refl};
+
+    ghost trace = { λ s. Some s.trace };
+
+    ghost ticks = { λ s. length s.trace.events };
+
+    ghost fault_count = { λ s. s.faults };
+
+    ghost told = { λ s. refl };
+
+    fn len(&mut self) -> Result<u64, Failed>
+        ensures length { IfOk result (λ n. length (seen (Some self.old.trace)) ≡ n) }
+        ensures same { Some self.new.trace ≡ Some self.old.trace }
+        ensures untimed { length self.new.trace.events ≡ length self.old.trace.events }
+        ensures cause { HasCause self.old.faults self.new.faults result }
+        ensures called { IsCalled self.old self.new result }
+        ensures failed_only { IsErr result → IsToFail self.old }
+    {
+        if self.calls.begin() {
+            return Err(self.calls.fault());
+        }
+        Ok(self.log.content.len() as u64)
+    }
+
+    fn read(&mut self, at: u64, buf: &mut [u8]) -> Result<(), Failed>
+        requires { Reaches (Some self.old.trace) (at + length buf.old) }
+        ensures bytes { OnOk result (Reads (Some self.old.trace) at buf.new) }
+        ensures same { Some self.new.trace ≡ Some self.old.trace }
+        ensures untimed { length self.new.trace.events ≡ length self.old.trace.events }
+        ensures cause { HasCause self.old.faults self.new.faults result }
+        ensures called { IsCalled self.old self.new result }
+        ensures failed_only { IsErr result → IsToFail self.old }
+    {
+        if self.calls.begin() {
+            return Err(self.calls.fault());
+        }
+        let at = at as usize;
+        buf.copy_from_slice(&self.log.content[at..at + buf.len()]);
+        Ok(())
+    }
+
+    /// It fails also where there is no memory to note it; then it did nothing. Where it is to fail it is done in part.
+    fn write_at(&mut self, at: u64, bytes: &[u8]) -> Result<(), Failed>
+        ensures noted { IsNoted (Wrote at bytes.now) (WroteInPart at bytes.now) result
+            (Some self.old.trace) (Some self.new.trace) }
+        ensures clock { IsTimed (length self.old.trace.events) (length self.new.trace.events) result }
+        ensures cause { HasCause self.old.faults self.new.faults result }
+        ensures called { IsCalled self.old self.new result }
+    {
+        let whole = !self.calls.begin();
+        if !self.calls.tick() {
+            return Err(self.calls.fault());
+        }
+        let noted = self.log.write(at, bytes, whole);
+        end(&mut self.log, &mut self.calls, noted, whole)
+    }
+
+    /// It fails also where there is no memory to note it; then it did nothing. Where it is to fail it is done in part.
+    fn cut(&mut self, len: u64) -> Result<(), Failed>
+        ensures noted { IsNoted (Resized len) (ResizedInPart len) result
+            (Some self.old.trace) (Some self.new.trace) }
+        ensures clock { IsTimed (length self.old.trace.events) (length self.new.trace.events) result }
+        ensures cause { HasCause self.old.faults self.new.faults result }
+        ensures called { IsCalled self.old self.new result }
+    {
+        let whole = !self.calls.begin();
+        if !self.calls.tick() {
+            return Err(self.calls.fault());
+        }
+        let noted = self.log.resize(len, whole);
+        end(&mut self.log, &mut self.calls, noted, whole)
+    }
+
+    /// It fails also where there is no memory to note it.
+    fn sync(&mut self) -> Result<(), Failed>
+        ensures noted { IsNoted Synced Idle result (Some self.old.trace) (Some self.new.trace) }
+        ensures clock { IsTimed (length self.old.trace.events) (length self.new.trace.events) result }
+        ensures cause { HasCause self.old.faults self.new.faults result }
+        ensures called { IsCalled self.old self.new result }
+    {
+        let whole = !self.calls.begin();
+        if !self.calls.tick() {
+            return Err(self.calls.fault());
+        }
+        if whole && self.log.sync().is_ok() {
+            return Ok(());
+        }
+        self.log.rest();
+        Err(self.calls.fault())
+    }
+
+    fn clock(&self) -> u64 {
+        self.calls.clock
+    }
+
+    fn faults(&self) -> u64 {
+        self.calls.faults
+    }
+}

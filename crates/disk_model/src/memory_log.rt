@@ -1,0 +1,236 @@
+// The calls that a device in memory has had, as data, and the images that they leave.
+ghost use Rattle.std.specs.Prelude.{◌≡◌, ◌+◌, ◌-◌, ◌^◌, ◌<◌, ◌≤◌, [], ◌∷◌, length, vec_len, IfOk, OnOk, OnErr, IsSome, if◌then◌else◌};
+ghost use Rattle.std.specs.Vec.{vec_capacity};
+ghost use Rattle.disk_model.specs.Traces.{Synced, Idle, written, resized, content};
+ghost use Rattle.disk_model.specs.Memory.{picked, picked_bytes, picked_length};
+ghost use Rattle.disk_model.specs.Logs.{event_of, write_event, resize_event, first_of, log_first, log_events};
+
+use crate::memory_disk::Pick;
+use std::alloc::AllocError;
+
+// A call that was noted. `whole` is false where it failed.
+#[derive(Drop)]
+pub(crate) enum Call {
+    Write {
+        at: u64,
+        bytes: Vec<u8>,
+        whole: bool,
+    },
+    Resize {
+        len: u64,
+        whole: bool,
+    },
+    Sync,
+}
+
+// A call, and how many idle ones came before it and after the one that was noted before.
+#[derive(Drop)]
+pub(crate) struct Note {
+    pub(crate) idle: u64,
+    pub(crate) call: Call,
+}
+
+// What a device holds, and its calls so far. `base` has the first bytes once they may have changed, `notes` the calls,
+// the oldest first, and `idle` counts the idle ones since the last note: those need no memory.
+#[derive(Drop)]
+pub(crate) struct Log {
+    pub(crate) base: Option<Vec<u8>>,
+    pub(crate) content: Vec<u8>,
+    pub(crate) notes: Vec<Note>,
+    pub(crate) idle: u64,
+}
+
+impl Log {
+    pub(crate) fn new(bytes: Vec<u8>) -> Log
+        ensures first { log_first result ≡ bytes.items }
+        ensures events { log_events result ≡ [] }
+        ensures content { result.content.items ≡ bytes.items }
+    {
+        let alloc = *bytes.allocator();
+        Log {
+            base: None,
+            content: bytes,
+            notes: Vec::new(alloc),
+            idle: 0,
+        }
+    }
+
+    // A call that did nothing.
+    pub(crate) fn rest(&mut self)
+        requires { length (log_events self.old) < 2 ^ 64 - 1 }
+        ensures first { log_first self.new ≡ log_first self.old }
+        ensures events { log_events self.new ≡ Idle ∷ log_events self.old }
+        ensures content { self.new.content.items ≡ self.old.content.items }
+    {
+        self.idle += 1;
+    }
+
+    // A write, which fails in part unless it is whole.
+    pub(crate) fn write(&mut self, at: u64, bytes: &[u8], whole: bool) -> Result<(), AllocError>
+        ensures first { log_first self.new ≡ log_first self.old }
+        ensures events { OnOk result
+            (log_events self.new ≡ write_event whole at bytes.now ∷ log_events self.old) }
+        ensures content { OnOk result (self.new.content.items
+            ≡ (if whole then written self.old.content.items at bytes.now else self.old.content.items)) }
+        ensures err { OnErr result (log_events self.new ≡ log_events self.old) }
+        ensures err_content { OnErr result (self.new.content.items ≡ self.old.content.items) }
+    {
+        let copy = bytes.to_vec(*self.content.allocator())?;
+        self.prepare()?;
+        if whole {
+            put(&mut self.content, at, bytes)?;
+        }
+        self.note(Call::Write {
+            at,
+            bytes: copy,
+            whole,
+        });
+        Ok(())
+    }
+
+    // A change of the length, which fails in part unless it is whole.
+    pub(crate) fn resize(&mut self, len: u64, whole: bool) -> Result<(), AllocError>
+        ensures first { log_first self.new ≡ log_first self.old }
+        ensures events { OnOk result
+            (log_events self.new ≡ resize_event whole len ∷ log_events self.old) }
+        ensures content { OnOk result (self.new.content.items
+            ≡ (if whole then resized self.old.content.items len else self.old.content.items)) }
+        ensures err { OnErr result (log_events self.new ≡ log_events self.old) }
+        ensures err_content { OnErr result (self.new.content.items ≡ self.old.content.items) }
+    {
+        self.prepare()?;
+        if whole {
+            self.content.resize(len as usize, 0)?;
+        }
+        self.note(Call::Resize { len, whole });
+        Ok(())
+    }
+
+    // A sync.
+    pub(crate) fn sync(&mut self) -> Result<(), AllocError>
+        ensures first { log_first self.new ≡ log_first self.old }
+        ensures events { OnOk result (log_events self.new ≡ Synced ∷ log_events self.old) }
+        ensures content { self.new.content.items ≡ self.old.content.items }
+        ensures err { OnErr result (log_events self.new ≡ log_events self.old) }
+    {
+        self.prepare()?;
+        self.note(Call::Sync);
+        Ok(())
+    }
+
+    // Keeps the first bytes apart, and makes room for a note.
+    fn prepare(&mut self) -> Result<(), AllocError>
+        ensures first { log_first self.new ≡ log_first self.old }
+        ensures events { log_events self.new ≡ log_events self.old }
+        ensures content { self.new.content.items ≡ self.old.content.items }
+        ensures apart { OnOk result (IsSome self.new.base) }
+        ensures room { OnOk result (vec_len self.new.notes < vec_capacity self.new.notes) }
+    {
+        if self.base.is_none() {
+            self.base = Some(self.content.to_vec(*self.content.allocator())?);
+        }
+        self.notes.reserve(1)
+    }
+
+    // Notes a call. There is room for it.
+    fn note(&mut self, call: Call)
+        requires { vec_len self.old.notes < vec_capacity self.old.notes }
+        ensures base { self.new.base ≡ self.old.base }
+        ensures events { log_events self.new ≡ event_of call ∷ log_events self.old }
+        ensures content { self.new.content.items ≡ self.old.content.items }
+    {
+        let idle = self.idle;
+        self.idle = 0;
+        let Ok(()) = self.notes.push(Note { idle, call }) else {
+            unreachable!();
+        };
+    }
+
+    // The first bytes.
+    fn first(&self) -> &[u8]
+        ensures { result.now ≡ log_first self.now }
+    {
+        match &self.base {
+            Some(bytes) => bytes,
+            None => &self.content,
+        }
+    }
+
+    // The picked one of the images that a crash now may leave.
+    pub(crate) fn picked(&self, pick: Pick) -> Result<Vec<u8>, AllocError>
+        ensures { IfOk result (λ v. v.items ≡ picked pick (log_first self.now) (log_events self.now)) }
+    {
+        let alloc = *self.content.allocator();
+        let mut content = self.first().to_vec(alloc)?;
+        let mut image = self.first().to_vec(alloc)?;
+        for note in &self.notes {
+            replay(&note.call, pick, &mut content, &mut image)?;
+        }
+        Ok(image)
+    }
+}
+
+// Writes bytes over what is there and past the end; at the end where `at` is past it.
+fn put(held: &mut Vec<u8>, at: u64, bytes: &[u8]) -> Result<(), AllocError>
+    ensures ok { OnOk result (held.new.items ≡ written held.old.items at bytes.now) }
+    ensures err { OnErr result (held.new.items ≡ held.old.items) }
+{
+    let at = at.min(held.len() as u64) as usize;
+    let over = bytes.len().min(held.len() - at);
+    held.extend_from_slice(&bytes[over..])?;
+    held[at..at + over].copy_from_slice(&bytes[..over]);
+    Ok(())
+}
+
+// Does a call once more on what a read gives and on the picked image.
+fn replay(
+    call: &Call,
+    pick: Pick,
+    held: &mut Vec<u8>,
+    image: &mut Vec<u8>,
+) -> Result<(), AllocError>
+    ensures { (first : _) (es : _) → held.old.items ≡ content first es → image.old.items ≡ picked pick first es →
+        OnOk result ((held.new.items ≡ content first (event_of call.now ∷ es)) × (image.new.items ≡ picked pick first (event_of call.now ∷ es))) }
+{
+    match call {
+        Call::Write { at, bytes, whole } => {
+            if *whole {
+                put(held, *at, bytes)?;
+            }
+            put_picked(pick, image, *at, bytes)
+        }
+        Call::Resize { len, whole: true } => {
+            held.resize(*len as usize, 0)?;
+            resize_picked(pick, image, *len)
+        }
+        Call::Resize { .. } => Ok(()),
+        Call::Sync => {
+            *image = held.to_vec(*held.allocator())?;
+            Ok(())
+        }
+    }
+}
+
+// What is picked of a write.
+fn put_picked(pick: Pick, image: &mut Vec<u8>, at: u64, bytes: &[u8]) -> Result<(), AllocError>
+    ensures { OnOk result (image.new.items ≡ picked_bytes pick bytes.now image.old.items at) }
+{
+    match pick {
+        Pick::Old => Ok(()),
+        Pick::New => put(image, at, bytes),
+        Pick::Fill(byte) => {
+            let filled = vec![in *image.allocator(); byte; bytes.len()]?;
+            put(image, at, &filled)
+        }
+    }
+}
+
+// What is picked of a change of the length.
+fn resize_picked(pick: Pick, image: &mut Vec<u8>, len: u64) -> Result<(), AllocError>
+    ensures { OnOk result (image.new.items ≡ picked_length pick image.old.items len) }
+{
+    match pick {
+        Pick::Old => Ok(()),
+        Pick::New | Pick::Fill(_) => image.resize(len as usize, 0),
+    }
+}

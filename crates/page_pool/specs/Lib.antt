@@ -1,0 +1,3 @@
+pub mod Pool
+pub mod Slots
+pub mod Lending

@@ -1,0 +1,37 @@
+-- What a pool of frames is seen as: a list of places, each with the frame that was taken there, or None.
+use Rattle.std.specs.Prelude.{◌≡◌, ℕ, ◌<◌, pos, List, Option, Some, None, IsSome, is_none, length, replicate, count_by, slice_index_or, slice_set}
+use Rattle.page_pool.specs.declared.frame.Frame.{Frame}
+
+-- a frame of no points
+unfoldable pub empty_frame : Frame
+empty_frame = record {
+  len = 0;
+  times = replicate 128 0;
+  values = replicate 128 (pos 0);
+  late = 0;
+  area = pos 0;
+  low = pos 0;
+  high = pos 0;
+}
+
+-- the frame of an id, where it was taken
+abbrev pub frame_at : List (Option Frame) → ℕ → Option Frame
+frame_at pool id = slice_index_or pool id None
+
+-- the id is of this pool: its frame was taken
+abbrev pub IsHeld : List (Option Frame) → ℕ → Type 0
+IsHeld pool id = IsSome (frame_at pool id)
+
+-- how many frames are spare
+abbrev pub spare_of : List (Option Frame) → ℕ
+spare_of pool = count_by is_none pool
+
+-- the id's frame was spare, and is now taken and empty; every other one is as it was
+pub record Takes (old : List (Option Frame)) (id : ℕ) (new : List (Option Frame)) : Type 0 where
+  pub within : id < length old
+  pub was_spare : frame_at old id ≡ None
+  pub now_empty : new ≡ slice_set old id (Some empty_frame)
+
+-- the id's frame is now spare; every other one is as it was
+abbrev pub Gives : List (Option Frame) → ℕ → List (Option Frame) → Type 0
+Gives old id new = new ≡ slice_set old id None

@@ -1,0 +1,38 @@
+// What a frame has room for.
+ghost use Rattle.std.specs.Prelude.{◌≡◌};
+ghost use Rattle.page_pool.specs.Pool.{empty_frame};
+
+/// A page of up to 128 points: the first `len` places of two arrays, a mark for each point, and totals over them. The
+/// pool does not look at what is in it.
+#[derive(Clone, Copy, Debug, PartialEq, Eq)]
+pub struct Frame {
+    /// How many points there are.
+    pub len: u32,
+    /// The time of each point.
+    pub times: [u64; 128],
+    /// The value of each point.
+    pub values: [i64; 128],
+    /// A bit for each point, the first one the lowest.
+    pub late: u128,
+    /// Twice the area under the points.
+    pub area: i128,
+    /// The least value.
+    pub low: i64,
+    /// The greatest value.
+    pub high: i64,
+}
+
+/// A frame of no points.
+pub(crate) fn empty() -> Frame
+    ensures { result ≡ empty_frame }
+{
+    Frame {
+        len: 0,
+        times: [0; 128],
+        values: [0; 128],
+        late: 0,
+        area: 0,
+        low: 0,
+        high: 0,
+    }
+}

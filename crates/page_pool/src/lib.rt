@@ -1,0 +1,15 @@
+//! A region of frames, each with room for a page of points.
+//!
+//! A pool is seen as a list of places: a place holds a frame that was taken, or is spare (None). All memory is taken
+//! when the pool is reserved; from then on taking a frame, giving it back and writing into it take none. A frame is
+//! taken exactly where a place is spare, and whoever has its id alone changes it: every other frame stays as it is.
+#![tactic(auto)]
+
+mod frame;
+mod pool;
+
+pub use frame::Frame;
+pub use pool::{FrameId, NoFrame, Pool, WantOfMemory};
+
+#[cfg(test)]
+mod tests;

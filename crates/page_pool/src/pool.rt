@@ -1,0 +1,139 @@
+// The pool: its slots, and the ids that were given back.
+ghost use Rattle.std.specs.Prelude.{◌≡◌, ◌↔◌, ◌+◌, IfOk, OnOk, OnErr, IsErr, Some, None, replicate};
+ghost use Rattle.std.specs.Borrow.{sem};
+ghost use Rattle.page_pool.specs.Pool.{Gives, IsHeld, Takes, frame_at, spare_of};
+ghost use Rattle.page_pool.specs.Lending.{LendsFrame};
+
+use crate::Frame;
+use crate::frame::empty;
+use std::alloc::Global;
+use std::marker::Model;
+
+/// There is no memory for so many frames.
+#[derive(Clone, Copy, Debug, PartialEq, Eq)]
+pub struct WantOfMemory;
+
+/// No frame is spare.
+#[derive(Clone, Copy, Debug, PartialEq, Eq)]
+pub struct NoFrame;
+
+/// The place of a frame that was taken. It can't be copied; where it is dropped, its frame stays taken.
+#[derive(Debug, Drop)]
+pub struct FrameId {
+    place: u32,
+}
+
+impl Model for FrameId {
+    ghost use Rattle.std.specs.Prelude.{ℕ, ◌<◌, ◌^◌};
+
+    ghost Value = { ℕ };
+
+    ghost view = { λ id. id.place };
+
+    ghost invariant = { λ id. id.place < 2 ^ 32 };
+}
+
+// A place that was taken once, and whether it is taken now.
+#[derive(Drop)]
+struct Slot {
+    held: bool,
+    frame: Frame,
+}
+
+/// A region of frames.
+#[derive(Drop)]
+pub struct Pool {
+    // The places that were taken once. The memory of the others is not touched yet.
+    slots: Vec<Slot>,
+    // The ids that were given back.
+    free: Vec<FrameId>,
+    size: u32,
+}
+
+impl Model for Pool {
+    ghost use Rattle.std.specs.Prelude.{List, Option, vec_capacity};
+    ghost use Rattle.page_pool.specs.declared.frame.Frame.{Frame};
+
+    ghost Value = { List (Option Frame) };
+
+    ghost use Rattle.page_pool.specs.Slots.{IsStored, places_of};
+
+    ghost view = { λ p. places_of p.slots.items p.size };
+
+    ghost invariant = { λ p. IsStored p.slots.items p.free.items p.size (vec_capacity p.slots) (vec_capacity p.free) };
+}
+
+impl Pool {
+    /// A pool of so many frames, all spare. No other call takes memory.
+    pub fn reserve(alloc: Global, frames: u32) -> Result<Pool, WantOfMemory>
+        ensures value { IfOk result (λ pool. pool ≡ replicate frames None) }
+        ensures spare { IfOk result (λ pool. spare_of pool ≡ frames) }
+    {
+        let slots = Vec::with_capacity(alloc, frames as usize).map_err(|_| WantOfMemory)?;
+        let free = Vec::with_capacity(alloc, frames as usize).map_err(|_| WantOfMemory)?;
+        Ok(Pool {
+            slots,
+            free,
+            size: frames,
+        })
+    }
+
+    /// Takes a frame, which is empty.
+    pub fn take_frame(&mut self) -> Result<FrameId, NoFrame>
+        ensures taken { IfOk result (λ id. Takes self.old id self.new) }
+        ensures spare { OnOk result (spare_of self.new + 1 ≡ spare_of self.old) }
+
+        // Refused, and unchanged, exactly where none is spare.
+        ensures none_spare { IsErr result ↔ (spare_of self.old ≡ 0) }
+        ensures unchanged { OnErr result (self.new ≡ self.old) }
+    {
+        let slot = Slot {
+            held: true,
+            frame: empty(),
+        };
+        if let Some(id) = self.free.pop() {
+            self.slots[id.place as usize] = slot;
+            return Ok(id);
+        }
+        let place = self.slots.len() as u32;
+        if place == self.size {
+            return Err(NoFrame);
+        }
+        self.slots.push_reserved(slot);
+        Ok(FrameId { place })
+    }
+
+    /// Gives a frame back, which is then spare.
+    pub fn give_frame(&mut self, id: FrameId)
+        requires { IsHeld self.old id }
+        ensures given { Gives self.old id self.new }
+        ensures spare { spare_of self.new ≡ spare_of self.old + 1 }
+    {
+        self.slots[id.place as usize].held = false;
+        self.free.push_reserved(id);
+    }
+
+    /// How many frames are spare.
+    pub fn spare(&self) -> u32
+        ensures { result ≡ spare_of self.now }
+    {
+        self.size - self.slots.len() as u32 + self.free.len() as u32
+    }
+
+    /// The frame of this id.
+    pub fn frame(&self, id: &FrameId) -> &Frame
+        requires { IsHeld self.now id.now }
+        ensures { frame_at self.now id.now ≡ Some result.now }
+    {
+        &self.slots[id.place as usize].frame
+    }
+
+    /// The frame of this id, to be written into.
+    pub fn frame_mut(&mut self, id: &FrameId) -> &mut Frame
+        requires { IsHeld self.old id.now }
+        ensures* writes_back { sem 𝓛 (LendsFrame self.entry id.now result) }
+        ensures value { frame_at self.old id.now ≡ Some result.now }
+    {
+        &mut self.slots[id.place as usize].frame
+    }
+}
