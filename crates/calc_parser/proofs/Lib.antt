@@ -1,0 +1,15 @@
+pub mod Lexing
+pub mod Names
+pub mod Steps
+pub mod Builds
+pub mod Walks
+pub mod Fills
+pub mod Verdicts
+pub mod Parsing
+pub mod Directs
+pub mod Sizes
+pub mod Apart
+pub mod Written
+pub mod Pieces
+pub mod ReadBack
+pub mod RoundTrip

@@ -1,0 +1,92 @@
+-- Which texts are formulas, and which token of another decides.
+use Rattle.std.specs.Prelude.{◌≡◌, ℕ, ◌<◌, ◌≤◌, List, [], ◌∷◌, ◌++◌, length, take, slice_index_or, All, Result, Ok, Err}
+use Rattle.calc_parser.specs.declared.refusal.SyntaxKind.{SyntaxKind}
+use Rattle.calc_parser.specs.declared.refusal.SyntaxKind.TheVariants as kind
+use Rattle.calc_parser.specs.declared.refusal.ParseNo.{ParseNo}
+use Rattle.calc_parser.specs.declared.refusal.ParseNo.TheVariants.{Long, Deep, Syntax, WantOfMemory}
+use Rattle.calc_parser.specs.declared.tree.Expr.{Expr}
+use Rattle.calc_parser.specs.declared.token.Token.{Token}
+use Rattle.calc_parser.specs.declared.token.Token.TheVariants.{Ill}
+use Rattle.calc_parser.specs.Grammar.{Reading, formula, words, tree, opens}
+use Rattle.calc_parser.specs.Tokens.{tokens_of, places_of}
+use Rattle.calc_parser.specs.Tree.{Tree, tree_of}
+
+-- the most bytes of a formula
+abbrev pub most_bytes : ℕ
+most_bytes = 1024
+
+-- the deepest nesting of a formula
+abbrev pub deepest : ℕ
+deepest = 32
+
+-- the text has the tokens of a derivation, and this is its tree
+pub record IsTree (text : List ℕ) (t : Tree) : Type 0 where
+  pub reading : Reading formula
+  pub spelled : words reading ≡ tokens_of text
+  pub tree_is : tree reading ≡ t
+
+-- that derivation is no deeper than a formula may be, and the text no longer
+pub record IsFormula (text : List ℕ) (t : Tree) : Type 0 where
+  pub reading : Reading formula
+  pub spelled : words reading ≡ tokens_of text
+  pub tree_is : tree reading ≡ t
+  pub shallow : All (λ level. level ≤ deepest) (opens 0 reading)
+  pub short : length text ≤ most_bytes
+
+-- some rest makes these tokens a formula, whatever its length and nesting
+pub record Begins (front : List Token) : Type 0 where
+  pub reading : Reading formula
+  pub more : List Token
+  pub spelled : words reading ≡ front ++ more
+
+-- in no formula that begins with these tokens does one of them open a level that is too deep
+abbrev pub IsShallow : List Token → Type 0
+IsShallow front = (d : Reading formula) (more : List Token) → words d ≡ front ++ more
+    → All (λ level. level ≤ deepest) (take (length front) (opens 0 d))
+
+-- what comes next follows these tokens in no formula; where nothing comes, they are none
+abbrev pub CannotFollow : List Token → List Token → Type 0
+CannotFollow front [] = (d : Reading formula) → words d ≡ front → ⊥
+CannotFollow front (next ∷ rest) = (d : Reading formula) (more : List Token) → words d ≡ front ++ next ∷ more → ⊥
+
+-- what is wrong with what comes next
+abbrev pub kind_of : List Token → SyntaxKind
+kind_of [] = kind.End
+kind_of (Ill why ∷ rest) = why
+kind_of (token ∷ rest) = kind.Token
+
+-- the first token that is refused is ill formed or cannot follow those before it, or the text ends too soon
+pub record IsSyntax (text : List ℕ) (place : ℕ) (why : SyntaxKind) : Type 0 where
+  pub front : List Token
+  pub rest : List Token
+  pub cut : tokens_of text ≡ front ++ rest
+  pub begins : Begins front
+  pub shallow : IsShallow front
+  pub refused : CannotFollow front rest
+  pub placed : place ≡ slice_index_or (places_of text) (length front) (length text)
+  pub kind_is : why ≡ kind_of rest
+
+-- the first token that is refused can follow those before it, and opens a level that is too deep
+pub record IsDeep (text : List ℕ) (place : ℕ) : Type 0 where
+  pub front : List Token
+  pub next : Token
+  pub rest : List Token
+  pub cut : tokens_of text ≡ front ++ next ∷ rest
+  pub begins : Begins (front ++ next ∷ [])
+  pub shallow : IsShallow front
+  pub too_deep : (d : Reading formula) (more : List Token) → words d ≡ front ++ next ∷ more
+      → deepest < slice_index_or (opens 0 d) (length front) 0
+  pub placed : place ≡ slice_index_or (places_of text) (length front) (length text)
+
+-- why a text is refused
+abbrev pub HasCause : List ℕ → ParseNo → Type 0
+HasCause text (Long n) = (most_bytes < length text) × (n ≡ length text)
+HasCause text (Deep place) = (length text ≤ most_bytes) × IsDeep text place
+HasCause text (Syntax place why) = (length text ≤ most_bytes) × IsSyntax text place why
+HasCause text WantOfMemory = Unit {0}
+
+-- this tree is given, or no memory was found
+abbrev pub Gives : Result Expr ParseNo → Tree → Type 0
+Gives (Ok e) t = tree_of e ≡ t
+Gives (Err WantOfMemory) t = Unit {0}
+Gives (Err why) t = ⊥

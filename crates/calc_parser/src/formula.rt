@@ -1,0 +1,67 @@
+// From a text to its tree.
+
+ghost use Rattle.std.specs.Prelude.{◌≡◌, ◌-◌, ◌≤◌, ◌<◌, length, drop, slice_index_or, IfOk, IfErr};
+ghost use Rattle.calc_parser.specs.Formulas.{IsFormula, HasCause, Gives, kind_of};
+ghost use Rattle.calc_parser.specs.Scan.{refusal_of};
+ghost use Rattle.calc_parser.specs.Tree.{Tree, tree_of};
+
+use crate::lexer::lexed;
+use crate::parser::{Parser, Stop};
+use crate::token::{Lexed, Token};
+use crate::{Expr, ParseNo, SyntaxKind};
+use std::alloc::Global;
+
+/// The most bytes of a formula.
+const MAX_BYTES: usize = 1024;
+
+/// The tree of a formula, or why the text is none. Levels and places are those of the first token that is refused.
+pub fn parse(alloc: Global, text: &str) -> Result<Expr, ParseNo>
+    // A tree is the text's, which is short and shallow enough.
+    ensures tree { IfOk result (λ e. IsFormula text.now (tree_of e)) }
+    // Such a text's tree is given, unless no memory is found.
+    ensures only { (t : Tree) → IsFormula text.now t → Gives result t }
+    // What each refusal means.
+    ensures refused { IfErr result (HasCause text.now) }
+{
+    let bytes = text.as_bytes();
+    if bytes.len() > MAX_BYTES {
+        return Err(ParseNo::Long {
+            len: bytes.len() as u64,
+        });
+    }
+    let lexed = lexed(alloc, bytes)?;
+    let mut parser = Parser::new(alloc, lexed.tokens.as_slice());
+    match parser.all() {
+        Ok(e) => Ok(e),
+        Err(stop) => Err(refusal(stop, &lexed, parser.left(), bytes.len())),
+    }
+}
+
+/// The refusal at the token before which so many are left, of a text of `end` bytes.
+fn refusal(stop: Stop, lexed: &Lexed, left: usize, end: usize) -> ParseNo
+    requires { end ≤ 1024 }
+    ensures { let tokens = lexed.now.tokens.items in let i = length tokens - left in
+        result ≡ refusal_of stop (slice_index_or lexed.now.places.items i end) (drop i tokens) }
+{
+    let i = lexed.tokens.len().saturating_sub(left);
+    let at = lexed.places.get(i).copied().unwrap_or(end as u32);
+    match stop {
+        Stop::Off => ParseNo::Syntax {
+            at,
+            kind: kind_at(lexed.tokens.as_slice(), i),
+        },
+        Stop::Deep => ParseNo::Deep { at },
+        Stop::WantOfMemory => ParseNo::WantOfMemory,
+    }
+}
+
+/// What is wrong with the token at an index.
+fn kind_at(tokens: &[Token], i: usize) -> SyntaxKind
+    ensures { result ≡ kind_of (drop i tokens.now) }
+{
+    match tokens.get(i) {
+        Some(Token::Ill(kind)) => *kind,
+        Some(_) => SyntaxKind::Token,
+        None => SyntaxKind::End,
+    }
+}

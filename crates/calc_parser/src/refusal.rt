@@ -1,0 +1,46 @@
+// Why a text is no formula.
+
+ghost use Rattle.std.specs.Prelude.{◌≡◌};
+
+use trend_num::WantOfMemory;
+
+/// What is wrong with the token that decides.
+#[derive(Clone, Copy, Debug, PartialEq, Eq)]
+pub enum SyntaxKind {
+    /// A byte that begins no token.
+    Char,
+    /// A numeral above 10^18.
+    Number,
+    /// A `'` that begins no quoted name.
+    Name,
+    /// A word that is none of the language.
+    Word,
+    /// A token that cannot stand there.
+    Token,
+    /// The end of the text, where the formula is not complete.
+    End,
+}
+
+/// Why a text has no tree. Places are bytes from the text's start.
+#[derive(Clone, Copy, Debug, PartialEq, Eq)]
+pub enum ParseNo {
+    /// It has more than 1,024 bytes: so many.
+    Long { len: u64 },
+    /// The first token that is refused would open nesting level 33.
+    Deep { at: u32 },
+    /// The first token that is refused is ill formed, or follows the tokens before it in no formula.
+    Syntax { at: u32, kind: SyntaxKind },
+    /// No memory was found.
+    WantOfMemory,
+}
+
+impl From<WantOfMemory> for ParseNo {
+    ghost use Rattle.std.specs.Prelude.{◌≡◌};
+    ghost use Rattle.calc_parser.specs.declared.refusal.ParseNo.TheVariants.{WantOfMemory};
+
+    ghost from_gives = { λ _ no. no ≡ WantOfMemory };
+
+    fn from(_: WantOfMemory) -> ParseNo {
+        ParseNo::WantOfMemory
+    }
+}
