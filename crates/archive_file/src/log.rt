@@ -1,0 +1,160 @@
+// Records on a device.
+ghost use Rattle.std.specs.Prelude.{◌≡◌, ◌+◌, ◌*◌, ◌^◌, ◌<◌, ◌≤◌, ℕ, Option, length, take, drop, slice_index, Some, IfOk, IfSome, OnErr, IsErrOf};
+ghost use Rattle.disk_model.specs.Traces.{Wrote, WroteInPart, seen};
+ghost use Rattle.disk_model.specs.Calls.{IsNoted, Reaches, Reads, Rose};
+ghost use Rattle.archive_file.specs.declared.failure.ScanNo.TheVariants.{DeviceFault, Damaged};
+ghost use Rattle.archive_file.specs.declared.failure.PutNo.TheVariants.{DeviceFault as PutFault};
+ghost use Rattle.archive_file.specs.Records.{rec_image, recs_image};
+ghost use Rattle.trend_num.specs.declared.archive.Rec.{Rec};
+ghost use Rattle.trend_num.specs.Ranges.{InRange};
+ghost use Rattle.archive_file.specs.Places.{HasRecords, BreaksAt, IsDamage, IsBroken};
+
+use crate::field::take_point;
+use crate::record::{REC_LEN, kind_of, read_rec, rec_bytes};
+use crate::{PutNo, ScanNo};
+use disk_model::Disk;
+use std::alloc::{AllocError, Global};
+use trend_num::{MAX_T, Rec};
+
+/// Writes records at a place, in one write. Want of memory comes before the write. `at` counts bytes.
+pub fn put_records<D: Disk>(alloc: Global, dev: &mut D, at: u64, recs: &[Rec]) -> Result<(), PutNo>
+    requires room { Reaches (D.trace dev.old) at }
+    ensures noted { IsNoted (Wrote at (recs_image recs.now)) (WroteInPart at (recs_image recs.now)) result
+        (D.trace dev.old) (D.trace dev.new) }
+    ensures device_fault { IsErrOf result PutFault → Rose (D.fault_count dev.old) (D.fault_count dev.new) }
+    ensures faults { D.fault_count dev.old ≤ D.fault_count dev.new }
+    ensures later { D.ticks dev.old ≤ D.ticks dev.new }
+{
+    let Ok(bytes) = bytes_of(alloc, recs) else {
+        return Err(PutNo::WantOfMemory);
+    };
+    match dev.write_at(at, &bytes) {
+        Ok(()) => Ok(()),
+        Err(_) => Err(PutNo::DeviceFault),
+    }
+}
+
+// The bytes of records, one after the other.
+fn bytes_of(alloc: Global, recs: &[Rec]) -> Result<Vec<u8>, AllocError>
+    ensures { IfOk result (λ v. v.items ≡ recs_image recs.now) }
+{
+    let mut bytes = Vec::new(alloc);
+    for r in recs {
+        bytes.extend_from_slice(&rec_bytes(*r))?;
+    }
+    Ok(bytes)
+}
+
+/// Reads `count` records at a place, or names the first byte of the first field that breaks the layout, or the end of a
+/// device that is too short. `at` counts bytes.
+pub fn read_records<D: Disk>(
+    alloc: Global,
+    dev: &mut D,
+    at: u64,
+    count: u32,
+) -> Result<Vec<Rec>, ScanNo>
+    ensures ok { IfOk result (λ v. IfSome (D.trace dev.old) (λ t. HasRecords (seen (Option.Some t)) at count v.items)) }
+    ensures damaged { (a : ℕ) (byte : Option ℕ) → IsErrOf result (Damaged a byte) →
+        IfSome (D.trace dev.old) (λ t. IsDamage (seen (Option.Some t)) at count a byte) }
+    ensures device_fault { IsErrOf result DeviceFault → Rose (D.fault_count dev.old) (D.fault_count dev.new) }
+    ensures same { D.trace dev.new ≡ D.trace dev.old }
+    ensures untimed { D.ticks dev.new ≡ D.ticks dev.old }
+    ensures faults { D.fault_count dev.old ≤ D.fault_count dev.new }
+{
+    let Ok(len) = dev.len() else {
+        return Err(ScanNo::DeviceFault);
+    };
+    let size = REC_LEN as u64 * u64::from(count);
+    if len < at || len - at < size {
+        return Err(ScanNo::Damaged {
+            at: len,
+            byte: None,
+        });
+    }
+    match read_bytes(alloc, dev, at, size as usize) {
+        Ok(bytes) => parse(alloc, at, count, &bytes),
+        Err(why) => Err(why),
+    }
+}
+
+// So many bytes of a device.
+fn read_bytes<D: Disk>(alloc: Global, dev: &mut D, at: u64, size: usize) -> Result<Vec<u8>, ScanNo>
+    requires { Reaches (D.trace dev.old) (at + size) }
+    ensures reads { IfOk result (λ v. Reads (D.trace dev.old) at v.items) }
+    ensures len { IfOk result (λ v. length v.items ≡ size) }
+    ensures damaged { (a : ℕ) (byte : Option ℕ) → IsErrOf result (Damaged a byte) → ⊥ }
+    ensures device_fault { IsErrOf result DeviceFault → Rose (D.fault_count dev.old) (D.fault_count dev.new) }
+    ensures same { D.trace dev.new ≡ D.trace dev.old }
+    ensures untimed { D.ticks dev.new ≡ D.ticks dev.old }
+    ensures faults { D.fault_count dev.old ≤ D.fault_count dev.new }
+{
+    let Ok(mut bytes) = vec![in alloc; 0; size] else {
+        return Err(ScanNo::WantOfMemory);
+    };
+    let Ok(()) = dev.read(at, &mut bytes) else {
+        return Err(ScanNo::DeviceFault);
+    };
+    Ok(bytes)
+}
+
+// The records that the bytes spell, which stand at a place of a device.
+fn parse(alloc: Global, at: u64, count: u32, bytes: &[u8]) -> Result<Vec<Rec>, ScanNo>
+    requires whole { length bytes.now ≡ 17 * count }
+    requires end { at + 17 * count < 2 ^ 64 }
+    ensures ok { IfOk result (λ v. HasRecords bytes.now 0 count v.items) }
+    ensures damaged { (a : ℕ) (byte : Option ℕ) → IsErrOf result (Damaged a byte) →
+        (p : ℕ) × (a ≡ at + p) × (rs : _) × (k : ℕ) × IsBroken bytes.now 0 count p byte rs k }
+    ensures device_fault { IsErrOf result DeviceFault → ⊥ }
+{
+    let mut recs = Vec::new(alloc);
+    for k in 0..count {
+        let place = REC_LEN * k as usize;
+        let b = piece(bytes, place);
+        let Some(r) = read_rec(b) else {
+            return Err(damage(at + place as u64, b));
+        };
+        let Ok(()) = recs.push(r) else {
+            return Err(ScanNo::WantOfMemory);
+        };
+    }
+    Ok(recs)
+}
+
+// The bytes of the record at a place.
+fn piece(bytes: &[u8], place: usize) -> &[u8]
+    requires { place + 17 ≤ length bytes.now }
+    ensures value { result.now ≡ take 17 (drop place bytes.now) }
+    ensures len { length result.now ≡ 17 }
+{
+    let (_, rest) = bytes.split_at(place);
+    let (b, _) = rest.split_at(REC_LEN);
+    b
+}
+
+// The damage of 17 bytes at a place, which are no record.
+fn damage(at: u64, b: &[u8]) -> ScanNo
+    requires len { length b.now ≡ 17 }
+    requires end { at + 17 < 2 ^ 64 }
+    requires none { (r : Rec) → InRange r.point → b.now ≡ rec_image r → ⊥ }
+    ensures { (k : ℕ) × BreaksAt b.now k × (k < 17) × (result ≡ Damaged (at + k) (Some (slice_index b.now k))) }
+{
+    let place = bad_place(b);
+    ScanNo::Damaged {
+        at: at + place as u64,
+        byte: Some(b[place]),
+    }
+}
+
+// Where the first field of 17 bytes begins that breaks a record's layout.
+fn bad_place(b: &[u8]) -> usize
+    requires len { length b.now ≡ 17 }
+    requires none { (r : Rec) → InRange r.point → b.now ≡ rec_image r → ⊥ }
+    ensures breaks { BreaksAt b.now result }
+    ensures within { result < 17 }
+{
+    let Some(_) = kind_of(b[0]) else {
+        return 0;
+    };
+    let (point, _) = take_point(&b[1..]);
+    if point.t > MAX_T { 1 } else { 9 }
+}

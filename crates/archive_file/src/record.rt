@@ -1,0 +1,69 @@
+// The bytes of records.
+ghost use Rattle.std.specs.Prelude.{◌≡◌, ◌≢◌, ◌↔◌, length, Some, IfSome, IfNone};
+ghost use Rattle.trend_num.specs.declared.archive.Rec.{Rec};
+ghost use Rattle.trend_num.specs.declared.archive.Kind.{Kind};
+ghost use Rattle.trend_num.specs.Ranges.{InRange};
+ghost use Rattle.archive_file.specs.Records.{kind_byte, rec_image};
+
+use crate::field::{put, put_point, take_point};
+use arrayvec::ArrayVec;
+use trend_num::{Kind, Rec, in_range};
+
+// The kinds, as bytes: the letters K and L.
+const KEPT: u8 = b'K';
+
+const LATE: u8 = b'L';
+
+/// How many bytes a record has.
+pub const REC_LEN: usize = 17;
+
+/// The bytes of a record: its kind, its time, its value.
+pub fn rec_bytes(r: Rec) -> [u8; REC_LEN]
+    ensures { result ≡ rec_image r }
+{
+    let kind = match r.kind {
+        Kind::Kept => KEPT,
+        Kind::Late => LATE,
+    };
+    let mut out = ArrayVec::<u8, REC_LEN>::new();
+    put(&mut out, &[kind]);
+    put_point(&mut out, r.point);
+    let Ok(bytes) = out.into_inner() else {
+        unreachable!();
+    };
+    bytes
+}
+
+/// The record that the bytes spell, whose point is in range. None exactly where they spell none, and none is spelled in two
+/// ways.
+pub fn rec_of(b: &[u8; REC_LEN]) -> Option<Rec>
+    ensures { (r : Rec) → (result ≡ Some r) ↔ (InRange r.point × (b.now ≡ rec_image r)) }
+{
+    read_rec(b)
+}
+
+// The record that 17 bytes spell.
+pub(crate) fn read_rec(b: &[u8]) -> Option<Rec>
+    requires { length b.now ≡ 17 }
+    ensures { (r : Rec) → (result ≡ Some r) ↔ (InRange r.point × (b.now ≡ rec_image r)) }
+{
+    let kind = kind_of(b[0])?;
+    let (point, _) = take_point(&b[1..]);
+    if in_range(point) {
+        Some(Rec { kind, point })
+    } else {
+        None
+    }
+}
+
+// The kind that a byte says.
+pub(crate) fn kind_of(byte: u8) -> Option<Kind>
+    ensures some { IfSome result (λ kind. byte ≡ kind_byte kind) }
+    ensures none { IfNone result ((kind : Kind) → byte ≢ kind_byte kind) }
+{
+    match byte {
+        KEPT => Some(Kind::Kept),
+        LATE => Some(Kind::Late),
+        _ => None,
+    }
+}

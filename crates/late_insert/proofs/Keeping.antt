@@ -1,0 +1,45 @@
+-- What holds of the pages of every content.
+use Rattle.std.proofs.Common.{◌≡◌, ℕ, ◌+◌, ◌*◌, ◌<◌, ◌≤◌, inl, inr, List, [], ◌∷◌, ◌++◌, length, Option, All, ap, sym, subst, arith, length-append}
+use Rattle.std.proofs.lemmas.List.Elements.{All-nil, All-head, All-tail, All-append, All-map}
+use Rattle.std.proofs.lemmas.Bool.{cases_lt}
+use Rattle.trend_num.specs.declared.archive.Rec.{Rec}
+use Rattle.trend_num.specs.Ranges.{InRange}
+use Rattle.page_pool.specs.declared.frame.Frame.{Frame}
+use Rattle.page_pool.specs.Pool.{spare_of}
+use Rattle.late_insert.specs.declared.directory.Page.{Page}
+use Rattle.late_insert.specs.Pages.{records_at, page_in, records_of, ArePagesFrom, IsKept}
+use Rattle.trend_model.specs.Contents.{points_of}
+use Rattle.late_insert.proofs.Replacing.{IsHalf}
+
+-- pages that are half full hold many records
+many_records : (pool : List (Option Frame)) (pages : List Page) → All (IsHalf pool) pages → 64 * length pages ≤ length (records_of pool pages)
+many_records pool [] halves = omega arith
+many_records pool (p ∷ ps) halves =
+    let here : 64 ≤ length (page_in pool p) = All-head (IsHalf pool) p ps halves in
+    let rest = many_records pool ps (All-tail (IsHalf pool) p ps halves) in
+    omega (arith, length-append (page_in pool p) (records_of pool ps))
+
+-- while there is room, a frame is spare
+pub frame_spare : (pool : List (Option Frame)) (pages : List Page) (places len room : ℕ) → IsKept pool pages places len room → 0 < spare_of pool
+frame_spare pool pages places len room kept =
+    elim (cases_lt 1 (length pages)) [
+      | inl several ↦
+          omega (arith, many_records pool pages (kept.paged.halves several), kept.counted, kept.within, kept.frames)
+      | inr one ↦ omega (arith, kept.frames)
+    ]
+
+-- each record of the pages is in range
+pub all_in_range : (pool : List (Option Frame)) (place : ℕ) (pages : List Page) → ArePagesFrom pool place pages
+    → All (λ r. InRange r.point) (records_of pool pages)
+all_in_range pool place [] each = All-nil (λ r. InRange r.point)
+all_in_range pool place (p ∷ ps) each =
+    let In : Rec → Type 0 = λ r. InRange r.point in
+    All-append In (page_in pool p) (records_of pool ps)
+    (subst (All In) (sym (ap records_at each.0.there)) each.0.page.recorded.range)
+    (all_in_range pool (place + length (page_in pool p)) ps each.1)
+
+-- and so is each point
+pub points_in_range : (pool : List (Option Frame)) (place : ℕ) (pages : List Page) → ArePagesFrom pool place pages
+    → All InRange (points_of (records_of pool pages))
+points_in_range pool place pages each =
+    All-map InRange (λ (r : Rec). r.point) (records_of pool pages) (all_in_range pool place pages each)

@@ -1,0 +1,15 @@
+pub mod Marks
+pub mod Areas
+pub mod Summing
+pub mod Halving
+pub mod Moving
+pub mod Sorted
+pub mod Storing
+pub mod Joining
+pub mod Found
+pub mod Finding
+pub mod Replacing
+pub mod Reading
+pub mod Shelving
+pub mod Nearest
+pub mod Keeping

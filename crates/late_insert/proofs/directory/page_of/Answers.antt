@@ -1,0 +1,13 @@
+use Rattle.std.proofs.Common.{arith}
+use Rattle.late_insert.proofs.Halving.{halved_up, halved_down}
+use Rattle.late_insert.proofs.directory.page_of.Goals as goal
+
+pub loop-low-preserved-then-pages-middle : goal.loop-low-preserved-then-pages-middle
+loop-low-preserved-then-pages-middle c =
+    halved_up (λ p. p.first) c.args.pages.now c.args.i c.loop-low.low c.loop-low.high _ c.index-pages-middle.result c.requires.rising
+    c.loop-low.invariant (omega (arith, c.loop-low-test.true)) (omega (arith, c.loop-low-test.true)) c.if-pages-middle.true
+
+pub loop-low-preserved : goal.loop-low-preserved
+loop-low-preserved c =
+    halved_down (λ p. p.first) c.args.pages.now c.args.i c.loop-low.low c.loop-low.high _ c.index-pages-middle.result c.requires.rising
+    c.loop-low.invariant (omega (arith, c.loop-low-test.true)) (omega (arith, c.loop-low-test.true)) c.if-pages-middle.false

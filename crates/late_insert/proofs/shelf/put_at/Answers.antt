@@ -1,0 +1,54 @@
+use Rattle.std.proofs.Common.{Some, ap, sym, ◌∙◌, get_or, length, arith, subst}
+use Rattle.late_insert.specs.Pages.{records_at, page_in}
+use Rattle.late_insert.proofs.Summing.{length-records_in}
+use Rattle.late_insert.proofs.Reading.{IsRead, frame_page, frame_rises, count_gap}
+use Rattle.late_insert.proofs.Shelving.{IsShelved, pages_shelved, records-shelved, len-shelved, small_places}
+use Rattle.late_insert.proofs.shelf.put_at.Goals as goal
+
+pub put_rec-grown-requires-clause-page : goal.put_rec-grown-requires-clause-page
+put_rec-grown-requires-clause-page c =
+    let is : IsRead c.args.pool.now c.args.pages.now.items c.args.k c.index.result.now c.frame_mut-frame.result.now =
+    record { paged = c.requires.pages; within = c.requires.page.within; read = c.index.ensures; there = c.frame_mut-frame.ensures.value } in
+    frame_page _ _ _ _ _ is
+
+pub put_rec-grown-requires-clause-rising : goal.put_rec-grown-requires-clause-rising
+put_rec-grown-requires-clause-rising c =
+    let is : IsRead c.args.pool.now c.args.pages.now.items c.args.k c.index.result.now c.frame_mut-frame.result.now =
+    record { paged = c.requires.pages; within = c.requires.page.within; read = c.index.ensures; there = c.frame_mut-frame.ensures.value } in
+    frame_rises _ _ _ _ _ is
+
+pub put_rec-grown-requires-clause-room : goal.put_rec-grown-requires-clause-room
+put_rec-grown-requires-clause-room c =
+    let room = c.requires.room c.index.result.now in
+    let same = ap (λ p. length (page_in c.args.pool.now p)) (sym c.index.ensures) in
+    let there = ap (λ o. length (records_at o)) c.frame_mut-frame.ensures.value in
+    omega (arith, length-records_in c.frame_mut-frame.result.now)
+
+pub move_on-requires-clause-small : goal.move_on-requires-clause-small
+move_on-requires-clause-small c =
+    small_places c.args.pool.now c.args.pages.now.items c.deref_mut.result.now c.args.k c.put_rec-grown.result c.index_mut.result.now _ c.requires.pages
+    c.requires.page.within c.index_mut.ensures.value c.deref_mut.ensures.value c.requires.few c.put_rec-grown.ensures.by_one
+
+pub returns-clause-pages : goal.returns-clause-pages
+returns-clause-pages c =
+    let is : IsRead c.args.pool.now c.args.pages.now.items c.args.k c.index.result.now c.frame_mut-frame.result.now =
+    record { paged = c.requires.pages; within = c.requires.page.within; read = c.index.ensures; there = c.frame_mut-frame.ensures.value } in
+    let shelved : IsShelved c.args.pages.now.items c.move_on.new.pages c.deref_mut.result.now c.args.k c.args.pages.now.len c.put_rec-grown.result c.index_mut.result.now c.put_rec-grown.new.frame =
+    record { again = c.index_mut.ensures.value; wrote = c.deref_mut.ensures.value; moves = c.move_on.ensures; long = c.args.pages.now.ok.0 } in
+    pages_shelved _ _ _ _ _ _ _ _ _ _ _ _ c.args.rec is c.requires.page c.put_rec-grown.ensures.page c.put_rec-grown.ensures.records c.put_rec-grown.ensures.grown shelved
+
+pub returns-clause-records : goal.returns-clause-records
+returns-clause-records c =
+    let is : IsRead c.args.pool.now c.args.pages.now.items c.args.k c.index.result.now c.frame_mut-frame.result.now =
+    record { paged = c.requires.pages; within = c.requires.page.within; read = c.index.ensures; there = c.frame_mut-frame.ensures.value } in
+    let shelved : IsShelved c.args.pages.now.items c.move_on.new.pages c.deref_mut.result.now c.args.k c.args.pages.now.len c.put_rec-grown.result c.index_mut.result.now c.put_rec-grown.new.frame =
+    record { again = c.index_mut.ensures.value; wrote = c.deref_mut.ensures.value; moves = c.move_on.ensures; long = c.args.pages.now.ok.0 } in
+    records-shelved _ _ _ _ _ _ _ _ _ _ _ _ c.args.rec is c.requires.page c.put_rec-grown.ensures.page c.put_rec-grown.ensures.records c.put_rec-grown.ensures.grown shelved
+
+pub returns-clause-grown : goal.returns-clause-grown
+returns-clause-grown c =
+    let is : IsRead c.args.pool.now c.args.pages.now.items c.args.k c.index.result.now c.frame_mut-frame.result.now =
+    record { paged = c.requires.pages; within = c.requires.page.within; read = c.index.ensures; there = c.frame_mut-frame.ensures.value } in
+    let shelved : IsShelved c.args.pages.now.items c.move_on.new.pages c.deref_mut.result.now c.args.k c.args.pages.now.len c.put_rec-grown.result c.index_mut.result.now c.put_rec-grown.new.frame =
+    record { again = c.index_mut.ensures.value; wrote = c.deref_mut.ensures.value; moves = c.move_on.ensures; long = c.args.pages.now.ok.0 } in
+    len-shelved _ _ _ _ _ _ _ _ _ _ _ _ c.args.rec is c.requires.page c.put_rec-grown.ensures.page c.put_rec-grown.ensures.records c.put_rec-grown.ensures.grown shelved

@@ -1,0 +1,107 @@
+-- How a content is kept in pages, each in a frame.
+use Rattle.std.specs.Prelude.{◌≡◌, ◌≢◌, ℕ, zero, suc, pos, ◌+◌, ◌*◌, ◌^◌, ◌<◌, ◌≤◌, List, [], ◌∷◌, Option, None, Some, length, map, slice_index, slice_index_or, take, drop, All}
+use Rattle.std.specs.Int.{bit_at}
+use Rattle.std.specs.List.{flat_map, range_with_len}
+use Rattle.trend_num.specs.declared.archive.Rec.{Rec}
+use Rattle.trend_num.specs.declared.archive.Kind.{Kind}
+use Rattle.trend_num.specs.declared.archive.Kind.TheVariants.{Kept, Late}
+use Rattle.trend_num.specs.Ranges.{InRange}
+use Rattle.page_pool.specs.declared.frame.Frame.{Frame}
+use Rattle.page_pool.specs.Pool.{frame_at, spare_of}
+use Rattle.late_insert.specs.declared.directory.Page.{Page}
+use Rattle.trend_model.specs.Contents.{IsRising, points_of}
+use Rattle.late_insert.specs.Totals.{area_of, least_of, greatest_of}
+
+-- ---- a page in a frame
+
+-- the kind that a mark stands for
+abbrev pub kind_of : ℕ → Kind
+kind_of zero = Kept
+kind_of (suc n) = Late
+
+-- the record at a place of a frame
+abbrev pub rec_in : Frame → ℕ → Rec
+rec_in f i = record {
+  kind = kind_of (bit_at f.late i);
+  point = record { t = slice_index f.times i; v = slice_index_or f.values i (pos 0) };
+}
+
+-- the records of a frame
+abbrev pub records_in : Frame → List Rec
+records_in f = map (rec_in f) (range_with_len 0 f.len)
+
+-- a frame that holds records
+pub record IsRecorded (f : Frame) : Type 0 where
+  pub few : f.len ≤ 128
+  pub times : length f.times ≡ 128
+  pub values : length f.values ≡ 128
+  pub marks : f.late < 2 ^ f.len
+  pub range : All (λ r. InRange r.point) (records_in f)
+
+-- a frame that holds records and their totals
+pub record IsPage (f : Frame) : Type 0 where
+  pub recorded : IsRecorded f
+  pub area : f.area ≡ area_of (points_of (records_in f))
+  pub low : f.low ≡ least_of (points_of (records_in f))
+  pub high : f.high ≡ greatest_of (points_of (records_in f))
+
+-- ---- pages of a pool
+
+-- the records of a frame that may be there
+abbrev pub records_at : Option Frame → List Rec
+records_at None = []
+records_at (Some f) = records_in f
+
+-- the records of a page
+abbrev pub page_in : List (Option Frame) → Page → List Rec
+page_in pool p = records_at (frame_at pool p.id)
+
+-- the records of pages, one page after another
+abbrev pub records_of : List (Option Frame) → List Page → List Rec
+records_of pool pages = flat_map (page_in pool) pages
+
+-- a page in its frame, whose first record stands at this place
+pub record IsPageAt (pool : List (Option Frame)) (place : ℕ) (p : Page) : Type 0 where
+  pub frame : Frame
+  pub there : frame_at pool p.id ≡ Some frame
+  pub page : IsPage frame
+  pub first : p.first ≡ place
+  pub start : p.start ≡ slice_index frame.times 0
+
+-- pages one after another, from this place on
+abbrev pub ArePagesFrom : List (Option Frame) → ℕ → List Page → Type 0
+ArePagesFrom pool place [] = Unit {0}
+ArePagesFrom pool place (p ∷ ps) = IsPageAt pool place p × ArePagesFrom pool (place + length (page_in pool p)) ps
+
+-- no two of these ids are one
+abbrev pub AreApart : List ℕ → Type 0
+AreApart [] = Unit {0}
+AreApart (x ∷ xs) = All (λ y. y ≢ x) xs × AreApart xs
+
+abbrev pub ids_of : List Page → List ℕ
+ids_of pages = map (λ p. p.id) pages
+
+-- pages that hold a rising list
+pub record ArePages (pool : List (Option Frame)) (pages : List Page) : Type 0 where
+  pub each : ArePagesFrom pool 0 pages
+  pub apart : AreApart (ids_of pages)
+  pub rising : IsRising (records_of pool pages)
+  pub some : 0 < length pages
+  -- of several pages each is at least half full
+  pub halves : 1 < length pages → All (λ p. 64 ≤ length (page_in pool p)) pages
+
+-- the page k is the one for the time t: no page before it has a record from t on, and none after it one up to t
+pub record IsFor (pool : List (Option Frame)) (pages : List Page) (k t : ℕ) : Type 0 where
+  pub within : k < length pages
+  pub before : All (λ r. r.point.t < t) (records_of pool (take k pages))
+  pub after : All (λ r. t < r.point.t) (records_of pool (drop (k + 1) pages))
+
+-- a content of so many records, in pages, with room for so many in all
+pub record IsKept (pool : List (Option Frame)) (pages : List Page) (places len room : ℕ) : Type 0 where
+  pub paged : ArePages pool pages
+  pub counted : len ≡ length (records_of pool pages)
+  pub within : len ≤ room
+  pub few : room < 2 ^ 32
+  -- a frame is spare for each page that may be split
+  pub frames : room + 65 ≤ 64 * (length pages + spare_of pool)
+  pub reserved : length pages + spare_of pool ≤ places

@@ -1,0 +1,220 @@
+// A content, in pages.
+ghost use Rattle.std.specs.Prelude.{◌≡◌, ◌↔◌, ℕ, ◌+◌, ◌-◌, ◌^◌, ◌<◌, ◌≤◌, List, [], ◌∷◌, ◌++◌, IfNone, IfOk, IfSome, IsTrue, IsSome, length, count_by, nat_lt, take, drop, slice_index_or, slice_get, map, All};
+ghost use Rattle.trend_num.specs.declared.archive.Rec.{Rec};
+ghost use Rattle.trend_num.specs.Ranges.{InRange};
+ghost use Rattle.trend_model.specs.Content.{is_late_record, late_at};
+ghost use Rattle.trend_model.specs.Contents.{IsCeil, IsContentOf, IsFloor, IsRising, placed, points_of};
+ghost use Rattle.late_insert.specs.Standing.{StandsAt};
+ghost use Rattle.late_insert.specs.PageTotals.{IsPageOf};
+
+use crate::directory::{Page, page_for, page_of};
+use crate::page::{below_in, rec_at};
+use crate::shelf::{first_page, make_room, put_at};
+use page_pool::Pool;
+use std::alloc::Global;
+use std::marker::Model;
+use trend_num::{Kind, Point, Rec, WantOfMemory};
+
+/// The content of an archive's records: one point for each time that occurs, in order of time.
+#[derive(Drop)]
+pub struct Content {
+    pool: Pool,
+    pages: Vec<Page>,
+    len: u32,
+    // How many points there may be.
+    room: u32,
+}
+
+impl Model for Content {
+    ghost use Rattle.std.specs.Prelude.{◌-◌, vec_capacity};
+    ghost use Rattle.trend_model.specs.Contents.{ContentState};
+    ghost use Rattle.late_insert.specs.Pages.{IsKept, records_of};
+
+    ghost Value = { ContentState };
+
+    ghost view = { λ c. record { records = records_of c.pool c.pages.items; spare = c.room - c.len } };
+
+    ghost invariant = { λ c. IsKept c.pool c.pages.items (vec_capacity c.pages) c.len c.room };
+}
+
+/// Totals of a page of a content.
+#[derive(Clone, Copy, Debug, PartialEq, Eq)]
+pub struct PageTotals {
+    /// The place of the page's first point.
+    pub first: u32,
+    /// How many points it has.
+    pub len: u32,
+    /// Twice the area under the line through them, in value units times milliseconds.
+    pub area: i128,
+    /// Their least value.
+    pub low: i64,
+    /// Their greatest value.
+    pub high: i64,
+}
+
+impl Content {
+    /// An empty content, with memory for so many points. No other call takes memory.
+    pub fn new(alloc: Global, points: u32) -> Result<Content, WantOfMemory>
+        ensures empty { IfOk result (λ content. content.records ≡ []) }
+        ensures spare { IfOk result (λ content. content.spare ≡ points) }
+    {
+        let frames = points / 64 + 2;
+        let mut pool = Pool::reserve(alloc, frames).map_err(|_| WantOfMemory)?;
+        let mut pages = Vec::with_capacity(alloc, frames as usize).map_err(|_| WantOfMemory)?;
+        first_page(&mut pool, &mut pages);
+        Ok(Content {
+            pool,
+            pages,
+            len: 0,
+            room: points,
+        })
+    }
+
+    /// Puts one more record in. A Late one takes the place of what is at its time, a Kept one that of a Kept one.
+    pub fn put(&mut self, rec: Rec)
+        requires spare { 1 ≤ self.old.spare }
+        requires range { InRange rec.point }
+        ensures placed { self.new.records ≡ placed rec self.old.records }
+        ensures content { (rs : List Rec) → IsContentOf rs self.old.records → IsContentOf (rs ++ rec ∷ []) self.new.records }
+
+        // Room is taken by a new time alone.
+        ensures spare { self.old.spare ≤ self.new.spare + 1 }
+        ensures room { length self.new.records + self.new.spare ≡ length self.old.records + self.old.spare }
+    {
+        let k = make_room(&mut self.pool, &mut self.pages, rec.point.t);
+        self.len += put_at(&mut self.pool, &mut self.pages, k, rec);
+    }
+
+    /// For how many more points there is room.
+    pub fn spare(&self) -> u32
+        ensures { result ≡ self.now.spare }
+    {
+        self.room - self.len
+    }
+
+    /// How many points there are.
+    pub fn len(&self) -> u32
+        ensures value { result ≡ length self.now.records }
+        ensures rising { IsRising self.now.records }
+        ensures range { All InRange (points_of self.now.records) }
+    {
+        self.len
+    }
+
+    /// Whether there is no point.
+    pub fn is_empty(&self) -> bool
+        ensures { IsTrue result ↔ (self.now.records ≡ []) }
+    {
+        self.len == 0
+    }
+
+    /// The point at a place.
+    pub fn point(&self, i: u32) -> Point
+        requires { i < length self.now.records }
+        ensures value { slice_get (points_of self.now.records) i ≡ Some result }
+        ensures range { InRange result }
+    {
+        self.rec(i).point
+    }
+
+    /// How many points are before the time t.
+    pub fn below(&self, t: u64) -> u32
+        ensures value { result ≡ count_by (λ r. nat_lt r.point.t t) self.now.records }
+    {
+        self.gap(t)
+    }
+
+    /// The last point that is not after the time t.
+    pub fn floor(&self, t: u64) -> Option<Point>
+        ensures { IsFloor t self.now.records result }
+    {
+        let i = self.gap(t);
+        if let Some(rec) = self.standing(i, t) {
+            return Some(rec.point);
+        }
+        if i == 0 {
+            return None;
+        }
+        Some(self.rec(i - 1).point)
+    }
+
+    /// The first point that is not before the time t.
+    pub fn ceil(&self, t: u64) -> Option<Point>
+        ensures { IsCeil t self.now.records result }
+    {
+        let i = self.gap(t);
+        if i == self.len {
+            return None;
+        }
+        Some(self.rec(i).point)
+    }
+
+    /// Whether a Late record stands at the time t.
+    pub fn late_at(&self, t: u64) -> bool
+        ensures { IsTrue result ↔ IsSome (late_at self.now.records t) }
+    {
+        match self.standing(self.gap(t), t) {
+            None => false,
+            Some(rec) => is_late(rec.kind),
+        }
+    }
+
+    /// The page that has the point at a place.
+    pub fn page(&self, i: u32) -> PageTotals
+        requires { i < length self.now.records }
+        ensures { IsPageOf self.now.records i result }
+    {
+        let page = &self.pages[page_of(self.pages.as_slice(), i)];
+        let frame = self.pool.frame(&page.id);
+        PageTotals {
+            first: page.first,
+            len: frame.len,
+            area: frame.area,
+            low: frame.low,
+            high: frame.high,
+        }
+    }
+
+    // The record at a place.
+    fn rec(&self, i: u32) -> Rec
+        requires { i < length self.now.records }
+        ensures value { (d : Rec) → slice_index_or self.now.records i d ≡ result }
+        ensures range { InRange result.point }
+    {
+        let page = &self.pages[page_of(self.pages.as_slice(), i)];
+        rec_at(self.pool.frame(&page.id), (i - page.first) as usize)
+    }
+
+    // The record at a place, where its time is t.
+    fn standing(&self, i: u32, t: u64) -> Option<Rec>
+        requires { i ≤ length self.now.records }
+        ensures there { IfSome result (StandsAt self.now.records i t) }
+        ensures none { IfNone result ((r : Rec) → StandsAt self.now.records i t r → ⊥) }
+    {
+        if i == self.len {
+            return None;
+        }
+        let rec = self.rec(i);
+        if rec.point.t == t { Some(rec) } else { None }
+    }
+
+    // The place up to which all records are before the time t, and from which on none is.
+    fn gap(&self, t: u64) -> u32
+        ensures bound { result ≤ length self.now.records }
+        ensures before { All (λ r. r.point.t < t) (take result self.now.records) }
+        ensures after { All (λ r. t ≤ r.point.t) (drop result self.now.records) }
+        ensures rising { IsRising self.now.records }
+    {
+        let page = &self.pages[page_for(self.pages.as_slice(), t)];
+        page.first + below_in(self.pool.frame(&page.id), t) as u32
+    }
+}
+
+fn is_late(kind: Kind) -> bool
+    ensures { result ≡ is_late_record kind }
+{
+    match kind {
+        Kind::Kept => false,
+        Kind::Late => true,
+    }
+}

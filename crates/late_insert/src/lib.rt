@@ -1,0 +1,22 @@
+//! The content of an archive's records: what they read as, one point for each time.
+//!
+//! A content is seen as a list of records that rises in time: at each time the last Late record, where there is one, else
+//! the last Kept one. That list is defined in `trend_model`, where a law says that it reads as the records do. It is
+//! kept in pages of up to 128 records, each in a frame of a pool: a full page is split into two halves with one new
+//! frame, so a value goes into the middle of a million as fast as into the middle of a page. All memory is taken when
+//! a content is made. Each page keeps its totals; the list of pages keeps the place and the time of each one's first
+//! record, so every look-up searches, and none walks.
+#![tactic(auto)]
+
+mod array;
+mod content;
+mod directory;
+mod mark;
+mod page;
+mod shelf;
+#[cfg(test)]
+mod tests;
+mod total;
+
+pub use content::{Content, PageTotals};
+pub use trend_num::{Kind, Point, Rec, WantOfMemory};

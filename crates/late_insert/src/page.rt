@@ -1,0 +1,163 @@
+// The records of a page, in its frame.
+ghost use Rattle.std.specs.Prelude.{◌≡◌, ℕ, ◌+◌, ◌<◌, ◌≤◌, pos, slice_index, slice_index_or, length, ◌++◌, ◌∷◌, [], insert, slice_set, take, drop};
+ghost use Rattle.trend_num.specs.Ranges.{InRange};
+ghost use Rattle.trend_model.specs.Contents.{IsRising, over, placed};
+ghost use Rattle.late_insert.specs.Pages.{IsPage, IsRecorded, rec_in, records_in};
+
+use crate::array::{count_below, insert_at, rotate};
+use crate::mark::{kind_at, mark_inserted, mark_put};
+use crate::total::{point_at, refresh, trapezoid};
+use page_pool::Frame;
+use trend_num::{Kind, Rec};
+
+/// How many records of a page are before t.
+pub(crate) fn below_in(frame: &Frame, t: u64) -> usize
+    requires recorded { IsRecorded frame.now }
+    requires rising { IsRising (records_in frame.now) }
+    ensures bound { result ≤ frame.now.len }
+    ensures before { (k : ℕ) → k < result → slice_index frame.now.times k < t }
+    ensures after { (k : ℕ) → result ≤ k → k < frame.now.len → t ≤ slice_index frame.now.times k }
+{
+    count_below(&frame.times[..frame.len as usize], t)
+}
+
+/// The record at a place of a page.
+pub(crate) fn rec_at(frame: &Frame, i: usize) -> Rec
+    requires recorded { IsRecorded frame.now }
+    requires within { i < frame.now.len }
+    ensures value { result ≡ rec_in frame.now i }
+    ensures range { InRange result.point }
+{
+    Rec {
+        kind: kind_at(frame.late, i),
+        point: point_at(frame, i),
+    }
+}
+
+/// Puts a record behind the others of a page, and adds it to the totals.
+fn append(frame: &mut Frame, rec: Rec)
+    requires page { IsPage frame.old }
+    requires some { 0 < frame.old.len }
+    requires room { frame.old.len < 128 }
+    requires range { InRange rec.point }
+    ensures page { IsPage frame.new }
+    ensures records { records_in frame.new ≡ records_in frame.old ++ rec ∷ [] }
+{
+    let n = frame.len as usize;
+    let last = point_at(frame, n - 1);
+    store(frame, n, rec);
+    frame.area += trapezoid(last, rec.point);
+    frame.low = frame.low.min(rec.point.v);
+    frame.high = frame.high.max(rec.point.v);
+}
+
+/// Stores a record at the place i among the others of a page, and leaves the totals.
+fn store(frame: &mut Frame, i: usize, rec: Rec)
+    requires recorded { IsRecorded frame.old }
+    requires room { frame.old.len < 128 }
+    requires within { i ≤ frame.old.len }
+    requires range { InRange rec.point }
+    ensures recorded { IsRecorded frame.new }
+    ensures records { records_in frame.new ≡ insert (records_in frame.old) i rec }
+    ensures area { frame.new.area ≡ frame.old.area }
+    ensures low { frame.new.low ≡ frame.old.low }
+    ensures high { frame.new.high ≡ frame.old.high }
+{
+    let n = frame.len as usize;
+    insert_at(&mut frame.times, n, i, rec.point.t);
+    insert_at(&mut frame.values, n, i, rec.point.v);
+    frame.late = mark_inserted(frame.late, n, i, rec.kind);
+    frame.len += 1;
+}
+
+/// Which of two records at one time stands there: the newer one, but no Kept one in place of a Late one.
+fn over(rec: Rec, old: Rec) -> Rec
+    requires same { rec.point.t ≡ old.point.t }
+    requires new_range { InRange rec.point }
+    requires old_range { InRange old.point }
+    ensures value { result ≡ over rec old }
+    ensures time { result.point.t ≡ old.point.t }
+    ensures range { InRange result.point }
+{
+    match (old.kind, rec.kind) {
+        (Kind::Late, Kind::Kept) => old,
+        _ => rec,
+    }
+}
+
+/// Puts a record over the one that is at its time.
+fn replace(frame: &mut Frame, i: usize, rec: Rec)
+    requires page { IsPage frame.old }
+    requires within { i < frame.old.len }
+    requires same { rec.point.t ≡ slice_index frame.old.times i }
+    requires range { InRange rec.point }
+    ensures page { IsPage frame.new }
+    ensures records { records_in frame.new ≡ slice_set (records_in frame.old) i (over rec (rec_in frame.old i)) }
+{
+    let now = over(rec, rec_at(frame, i));
+    frame.values[i] = now.point.v;
+    frame.late = mark_put(frame.late, frame.len as usize, i, now.kind);
+    refresh(frame);
+}
+
+/// Puts a record behind the others of a page, if it has others.
+fn push(frame: &mut Frame, rec: Rec)
+    requires page { IsPage frame.old }
+    requires room { frame.old.len < 128 }
+    requires range { InRange rec.point }
+    ensures page { IsPage frame.new }
+    ensures records { records_in frame.new ≡ records_in frame.old ++ rec ∷ [] }
+{
+    if frame.len > 0 {
+        append(frame, rec);
+        return;
+    }
+    store(frame, 0, rec);
+    refresh(frame);
+}
+
+/// Puts a record into a page that is not full. Returns by how many records the page grew.
+pub(crate) fn put_rec(frame: &mut Frame, rec: Rec) -> u32
+    requires page { IsPage frame.old }
+    requires rising { IsRising (records_in frame.old) }
+    requires room { frame.old.len < 128 }
+    requires range { InRange rec.point }
+    ensures page { IsPage frame.new }
+    ensures records { records_in frame.new ≡ placed rec (records_in frame.old) }
+    ensures grown { frame.new.len ≡ frame.old.len + result }
+    ensures by_one { result ≤ 1 }
+{
+    let i = below_in(frame, rec.point.t);
+    if i == frame.len as usize {
+        push(frame, rec);
+        return 1;
+    }
+    if frame.times[i] == rec.point.t {
+        replace(frame, i, rec);
+        return 0;
+    }
+    store(frame, i, rec);
+    refresh(frame);
+    1
+}
+
+/// Takes the upper half of a full page out of it.
+pub(crate) fn cut(frame: &mut Frame) -> Frame
+    requires page { IsPage frame.old }
+    requires full { frame.old.len ≡ 128 }
+    ensures lower { IsPage frame.new }
+    ensures upper { IsPage result }
+    ensures lower_records { records_in frame.new ≡ take 64 (records_in frame.old) }
+    ensures upper_records { records_in result ≡ drop 64 (records_in frame.old) }
+{
+    let mut upper = *frame;
+    rotate(&mut upper.times, 64);
+    rotate(&mut upper.values, 64);
+    upper.late = frame.late >> 64;
+    upper.len = 64;
+    refresh(&mut upper);
+    frame.late &= 0xffff_ffff_ffff_ffff;
+    frame.len = 64;
+    refresh(frame);
+    upper
+}

@@ -1,0 +1,111 @@
+// Pages in the frames of a pool: one that is full is split, and one record more is put in.
+ghost use Rattle.std.specs.Prelude.{◌≡◌, ℕ, ◌+◌, ◌^◌, ◌<◌, ◌≤◌, [], length, vec_len, vec_capacity, slice_index_or, insert};
+ghost use Rattle.trend_num.specs.Ranges.{InRange};
+ghost use Rattle.page_pool.specs.Pool.{spare_of};
+ghost use Rattle.late_insert.specs.declared.directory.Page.{Page};
+ghost use Rattle.trend_model.specs.Contents.{placed};
+ghost use Rattle.late_insert.specs.Pages.{ArePages, IsFor, page_in, records_of};
+
+use crate::directory::{Page, move_on, page_for};
+use crate::page::{cut, put_rec};
+use page_pool::Pool;
+use trend_num::Rec;
+
+/// Takes the first page, which is empty.
+pub(crate) fn first_page(pool: &mut Pool, pages: &mut Vec<Page>)
+    requires none { pages.old.items ≡ [] }
+    requires spare { 0 < spare_of pool.old }
+    requires room { 0 < vec_capacity pages.old }
+    ensures pages { ArePages pool.new pages.new.items }
+    ensures empty { records_of pool.new pages.new.items ≡ [] }
+    ensures one { vec_len pages.new ≡ 1 }
+    ensures frames { spare_of pool.new + 1 ≡ spare_of pool.old }
+    ensures capacity { vec_capacity pages.new ≡ vec_capacity pages.old }
+{
+    let id = pool.take_frame().unwrap();
+    pages.push_reserved(Page {
+        id,
+        first: 0,
+        start: 0,
+    });
+}
+
+/// The page for a time, which is split before where it is full.
+pub(crate) fn make_room(pool: &mut Pool, pages: &mut Vec<Page>, t: u64) -> usize
+    requires pages { ArePages pool.old pages.old.items }
+    requires spare { 0 < spare_of pool.old }
+    requires room { vec_len pages.old < vec_capacity pages.old }
+    requires few { length (records_of pool.old pages.old.items) < 2 ^ 32 }
+    ensures pages { ArePages pool.new pages.new.items }
+    ensures records { records_of pool.new pages.new.items ≡ records_of pool.old pages.old.items }
+    ensures frames { vec_len pages.new + spare_of pool.new ≡ vec_len pages.old + spare_of pool.old }
+    ensures capacity { vec_capacity pages.old ≤ vec_capacity pages.new }
+    ensures found { IsFor pool.new pages.new.items result t }
+    ensures not_full { (d : Page) → length (page_in pool.new (slice_index_or pages.new.items result d)) < 128 }
+{
+    let k = page_for(pages.as_slice(), t);
+    if pool.frame(&pages[k].id).len < 128 {
+        return k;
+    }
+    split(pool, pages, k);
+    if pages[k + 1].start <= t { k + 1 } else { k }
+}
+
+/// Splits a full page into two halves.
+fn split(pool: &mut Pool, pages: &mut Vec<Page>, k: usize)
+    requires pages { ArePages pool.old pages.old.items }
+    requires spare { 0 < spare_of pool.old }
+    requires room { vec_len pages.old < vec_capacity pages.old }
+    requires within { k < vec_len pages.old }
+    requires full { (d : Page) → length (page_in pool.old (slice_index_or pages.old.items k d)) ≡ 128 }
+    requires few { length (records_of pool.old pages.old.items) < 2 ^ 32 }
+    ensures pages { ArePages pool.new pages.new.items }
+    ensures records { records_of pool.new pages.new.items ≡ records_of pool.old pages.old.items }
+    ensures list { (q : Page) × (pages.new.items ≡ insert pages.old.items (k + 1) q) }
+    ensures lower { (d : Page) → length (page_in pool.new (slice_index_or pages.new.items k d)) ≡ 64 }
+    ensures upper { (d : Page) → length (page_in pool.new (slice_index_or pages.new.items (k + 1) d)) ≡ 64 }
+    ensures frames { spare_of pool.new + 1 ≡ spare_of pool.old }
+    ensures capacity { vec_capacity pages.old ≤ vec_capacity pages.new }
+{
+    let upper = cut(pool.frame_mut(&pages[k].id));
+    let id = pool.take_frame().unwrap();
+    *pool.frame_mut(&id) = upper;
+    let page = Page {
+        id,
+        first: pages[k].first + 64,
+        start: upper.times[0],
+    };
+    insert_page(pages, k + 1, page);
+}
+
+/// Puts a page into a list that has room.
+fn insert_page(pages: &mut Vec<Page>, at: usize, page: Page)
+    requires within { at ≤ vec_len pages.old }
+    requires room { vec_len pages.old < vec_capacity pages.old }
+    ensures list { pages.new.items ≡ insert pages.old.items at page }
+    ensures capacity { vec_capacity pages.old ≤ vec_capacity pages.new }
+{
+    let _ = pages.insert(at, page);
+}
+
+/// Puts a record into the page for its time. Returns by how many records the pages grew.
+pub(crate) fn put_at(pool: &mut Pool, pages: &mut Vec<Page>, k: usize, rec: Rec) -> u32
+    requires pages { ArePages pool.old pages.old.items }
+    requires page { IsFor pool.old pages.old.items k rec.point.t }
+    requires room { (d : Page) → length (page_in pool.old (slice_index_or pages.old.items k d)) < 128 }
+    requires few { length (records_of pool.old pages.old.items) + 1 < 2 ^ 32 }
+    requires range { InRange rec.point }
+    ensures pages { ArePages pool.new pages.new.items }
+    ensures records { records_of pool.new pages.new.items ≡ placed rec (records_of pool.old pages.old.items) }
+    ensures grown { length (records_of pool.new pages.new.items) ≡ length (records_of pool.old pages.old.items) + result }
+    ensures by_one { result ≤ 1 }
+    ensures pages_len { vec_len pages.new ≡ vec_len pages.old }
+    ensures frames { spare_of pool.new ≡ spare_of pool.old }
+    ensures capacity { vec_capacity pages.new ≡ vec_capacity pages.old }
+{
+    let frame = pool.frame_mut(&pages[k].id);
+    let grown = put_rec(frame, rec);
+    pages[k].start = frame.times[0];
+    move_on(pages, k, grown);
+    grown
+}
