@@ -1,0 +1,4 @@
+pub mod RisingPoints
+pub mod ClosedPoints
+pub mod ReadsNextTo
+pub mod Listing

@@ -1,0 +1,18 @@
+//! Reads of a tag's content: what stands at a time, and the points from one time to another.
+//!
+//! A content is closed by the tag's held point, where the caller gives one: the point counts as one more, unless something
+//! stands at its time. `Reads` of the model says what a list of points reads as, for lines and for the stairs of a step tag;
+//! each call here says that of the closed content. Reads take no memory.
+#![tactic(auto)]
+
+mod closing;
+mod list;
+mod query;
+mod read;
+#[cfg(test)]
+mod tests;
+
+pub use list::{MOST_LISTED, PointList, points};
+pub use query::{Reply, TagQuery};
+pub use read::{at, at_step};
+pub use trend_num::Reading;

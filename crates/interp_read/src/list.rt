@@ -1,0 +1,123 @@
+// The points from one time to another.
+ghost use Rattle.std.specs.Prelude.{◌≡◌, ◌↔◌, ◌<◌, ◌≤◌, ◌++◌, [], ◌∷◌, IfOk, IsTrue, OnOk, List, length, slice_range, take};
+ghost use Rattle.std.specs.Option.{option_to_list};
+ghost use Rattle.trend_num.specs.declared.point.Point.{Point};
+ghost use Rattle.trend_num.specs.Ranges.{InRange};
+ghost use Rattle.trend_model.specs.Contents.{points_of};
+ghost use Rattle.trend_model.specs.Lists.{IfThere};
+ghost use Rattle.trend_model.specs.Reads.{points_from_to};
+ghost use Rattle.interp_read.specs.Closing.{IsNotBefore, points_closed_by};
+
+use crate::closing::added;
+use late_insert::Content;
+use std::alloc::Global;
+use trend_num::{Point, WantOfMemory};
+
+/// How many points a list has at most.
+pub const MOST_LISTED: u32 = 256;
+
+/// The first points of a question for points.
+#[derive(Drop)]
+pub struct PointList {
+    pub list: Vec<Point>,
+    /// Whether there are others.
+    pub more: bool,
+}
+
+/// The first points of the closed content from one time to another, both included. The held point is not before a point of
+/// the content. The one error is want of memory.
+pub fn points(
+    alloc: Global,
+    content: &Content,
+    held: Option<Point>,
+    from: u64,
+    to: u64,
+) -> Result<PointList, WantOfMemory>
+    requires range { IfThere InRange held }
+    requires last { IfThere (IsNotBefore content.now.records) held }
+    ensures list { IfOk result (λ p. p.list.items ≡ take MOST_LISTED (points_from_to (points_closed_by held content.now.records) from to)) }
+    ensures more { IfOk result (λ p. IsTrue p.more ↔ (MOST_LISTED < length (points_from_to (points_closed_by held content.now.records) from to))) }
+{
+    let places = places_from_to(content, from, to);
+    let stop = places.end.min(places.start.saturating_add(MOST_LISTED));
+    let list = copied(alloc, content, places.start, stop)?;
+    completed(
+        list,
+        stop < places.end,
+        held_from_to(content, held, from, to),
+    )
+}
+
+/// Places of a content, one after another: from the first on, before the other.
+#[derive(Clone, Copy)]
+struct Places {
+    start: u32,
+    end: u32,
+}
+
+/// The places of the points of a content from one time to another.
+fn places_from_to(content: &Content, from: u64, to: u64) -> Places
+    ensures points { points_from_to (points_of content.now.records) from to ≡ slice_range (points_of content.now.records) result.start result.end }
+    ensures within { result.end ≤ length content.now.records }
+{
+    let _len = content.len();
+    Places {
+        start: content.below(from),
+        end: content.below(to.saturating_add(1)),
+    }
+}
+
+/// The points at places one after another.
+fn copied(
+    alloc: Global,
+    content: &Content,
+    start: u32,
+    stop: u32,
+) -> Result<Vec<Point>, WantOfMemory>
+    requires { stop ≤ length content.now.records }
+    ensures { IfOk result (λ v. v.items ≡ slice_range (points_of content.now.records) start stop) }
+{
+    let mut list = Vec::new(alloc);
+    for i in start..stop {
+        push_point(&mut list, content.point(i))?;
+    }
+    Ok(list)
+}
+
+/// The held point, where it is added to the content and stands from one time to another.
+fn held_from_to(content: &Content, held: Option<Point>, from: u64, to: u64) -> Option<Point>
+    requires range { IfThere InRange held }
+    requires last { IfThere (IsNotBefore content.now.records) held }
+    ensures { points_from_to (points_closed_by held content.now.records) from to
+        ≡ points_from_to (points_of content.now.records) from to ++ option_to_list result }
+{
+    match added(content, held) {
+        Some(q) if from <= q.t && q.t <= to => Some(q),
+        _ => None,
+    }
+}
+
+/// The first of some points and of a last one, from the first of those points.
+fn completed(first: Vec<Point>, more: bool, last: Option<Point>) -> Result<PointList, WantOfMemory>
+    ensures list { (all : List Point) → first.items ≡ take MOST_LISTED all → (IsTrue more ↔ (MOST_LISTED < length all))
+        → IfOk result (λ p. p.list.items ≡ take MOST_LISTED (all ++ option_to_list last)) }
+    ensures more { (all : List Point) → first.items ≡ take MOST_LISTED all → (IsTrue more ↔ (MOST_LISTED < length all))
+        → IfOk result (λ p. IsTrue p.more ↔ (MOST_LISTED < length (all ++ option_to_list last))) }
+{
+    let mut list = first;
+    match last {
+        None => Ok(PointList { list, more }),
+        Some(q) if list.len() < MOST_LISTED as usize => {
+            push_point(&mut list, q)?;
+            Ok(PointList { list, more: false })
+        }
+        Some(_) => Ok(PointList { list, more: true }),
+    }
+}
+
+/// Adds a point to a list.
+fn push_point(list: &mut Vec<Point>, p: Point) -> Result<(), WantOfMemory>
+    ensures { OnOk result (list.new.items ≡ list.old.items ++ p ∷ []) }
+{
+    list.push(p).map_err(|_| WantOfMemory)
+}

@@ -1,0 +1,60 @@
+// What stands at a time.
+ghost use Rattle.std.specs.Prelude.{◌≡◌, ◌<◌, ◌≤◌, true, false};
+ghost use Rattle.trend_num.specs.Ranges.{InRange};
+ghost use Rattle.trend_model.specs.Lists.{IfThere};
+ghost use Rattle.trend_model.specs.Reads.{between, read_at};
+ghost use Rattle.interp_read.specs.Closing.{IsNotBefore, points_closed_by};
+
+use crate::closing::neighbours_at;
+use late_insert::Content;
+use trend_num::{Point, Reading, line_at};
+
+/// What the line of a tag reads at t: the value of a point there, between two points that of the line between them, after
+/// the last point its value, and nothing before the first. The held point is not before a point of the content.
+pub fn at(content: &Content, held: Option<Point>, t: u64) -> Reading
+    requires range { IfThere InRange held }
+    requires last { IfThere (IsNotBefore content.now.records) held }
+    ensures { result ≡ read_at false (points_closed_by held content.now.records) t }
+{
+    read(content, held, false, t)
+}
+
+/// What the stair of a step tag reads at t: the value of a point there, else that of the last point before it, and nothing
+/// before the first. The held point is not before a point of the content.
+pub fn at_step(content: &Content, held: Option<Point>, t: u64) -> Reading
+    requires range { IfThere InRange held }
+    requires last { IfThere (IsNotBefore content.now.records) held }
+    ensures { result ≡ read_at true (points_closed_by held content.now.records) t }
+{
+    read(content, held, true, t)
+}
+
+/// What a line or a stair reads at t.
+fn read(content: &Content, held: Option<Point>, step: bool, t: u64) -> Reading
+    requires range { IfThere InRange held }
+    requires last { IfThere (IsNotBefore content.now.records) held }
+    ensures { result ≡ read_at step (points_closed_by held content.now.records) t }
+{
+    let next = neighbours_at(content, held, t);
+    match (next.before, next.after) {
+        (_, Some(q)) if q.t == t => Reading::Exact(q.v),
+        (None, _) => Reading::Nothing,
+        (Some(p), None) => Reading::Flat(p.v),
+        (Some(p), Some(q)) => reading_between(p, q, step, t),
+    }
+}
+
+/// What stands between two points.
+fn reading_between(p: Point, q: Point, step: bool, t: u64) -> Reading
+    requires first { InRange p }
+    requires second { InRange q }
+    requires after { p.t < t }
+    requires before { t ≤ q.t }
+    ensures { result ≡ between step p q t }
+{
+    if step {
+        Reading::Flat(p.v)
+    } else {
+        Reading::Line(line_at(p, q, t))
+    }
+}
