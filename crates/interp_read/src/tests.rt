@@ -1,13 +1,12 @@
 // Reads of small contents, worked by hand.
-ghost use Rattle.std.specs.Prelude.{◌≡◌, ◌<◌, ◌^◌, All, length};
-ghost use Rattle.trend_num.specs.Ranges.{InRange};
+ghost use Rattle.std.specs.Prelude.{◌≡◌, ◌<◌, ◌^◌, length};
 
 use crate::{Reading, at, at_step, points};
 use late_insert::{Content, Kind, Point, Rec};
 use std::alloc::Global;
 use std::process::Abort;
 use std::test::Fail;
-use trend_num::{Frac, MAX_T, MAX_V, WantOfMemory};
+use trend_num::{Frac, MAX_T, MAX_V, WantOfMemory, in_range};
 
 fn rec(kind: Kind, t: u64, v: i64) -> Rec
     ensures { result ≡ record { kind = kind; point = record { t = t; v = v } } }
@@ -18,20 +17,30 @@ fn rec(kind: Kind, t: u64, v: i64) -> Rec
     }
 }
 
-fn content_of(alloc: Global, recs: &[Rec]) -> Result<Content, WantOfMemory>
-    requires range { All (λ r. InRange r.point) recs.now }
+/// Puts a record in, where there is room and its point is in range.
+fn put(rt: &impl Abort, content: &mut Content, rec: Rec) {
+    assert!(rt; content.spare() > 0);
+    assert!(rt; in_range(rec.point));
+    content.put(rec);
+}
+
+fn content_of(rt: &impl Abort, alloc: Global, recs: &[Rec]) -> Result<Content, WantOfMemory>
     requires few { length recs.now < 2 ^ 32 }
 {
     let mut content = Content::new(alloc, recs.len() as u32)?;
     for rec in recs {
-        content.put(*rec);
+        put(rt, &mut content, *rec);
     }
     Ok(content)
 }
 
 #[test]
 fn a_line_reads_exact_between_flat_or_nothing(rt: HostRuntime) -> Result<(), Fail> {
-    let content = content_of(rt.alloc(), &[rec(Kind::Kept, 5, 4), rec(Kind::Kept, 15, 8)])?;
+    let content = content_of(
+        &rt,
+        rt.alloc(),
+        &[rec(Kind::Kept, 5, 4), rec(Kind::Kept, 15, 8)],
+    )?;
     let between = Reading::Line(Frac { num: 60, den: 10 });
     assert_eq!(rt; at(&content, None, 4), Reading::Nothing);
     assert_eq!(rt; at(&content, None, 5), Reading::Exact(4));
@@ -45,6 +54,7 @@ fn a_line_reads_exact_between_flat_or_nothing(rt: HostRuntime) -> Result<(), Fai
 #[test]
 fn a_late_value_beside_a_kept_one_is_read(rt: HostRuntime) -> Result<(), Fail> {
     let content = content_of(
+        &rt,
         rt.alloc(),
         &[rec(Kind::Kept, 10, 5), rec(Kind::Late, 10, 7)],
     )?;
@@ -55,6 +65,7 @@ fn a_late_value_beside_a_kept_one_is_read(rt: HostRuntime) -> Result<(), Fail> {
 #[test]
 fn values_at_the_limits_are_read(rt: HostRuntime) -> Result<(), Fail> {
     let content = content_of(
+        &rt,
         rt.alloc(),
         &[rec(Kind::Kept, 0, -MAX_V), rec(Kind::Kept, MAX_T, MAX_V)],
     )?;
@@ -84,7 +95,7 @@ fn a_held_point_closes_the_content(rt: HostRuntime) -> Result<(), Fail> {
 fn at_most_256_points_are_listed(rt: HostRuntime) -> Result<(), Fail> {
     let mut content = Content::new(rt.alloc(), 257)?;
     for t in 0..257u64 {
-        content.put(rec(Kind::Kept, t, 0));
+        put(&rt, &mut content, rec(Kind::Kept, t, 0));
     }
     for (from, listed, more) in [(2, 255, false), (1, 256, false), (0, 256, true)] {
         let found = points(rt.alloc(), &content, None, from, 256)?;
