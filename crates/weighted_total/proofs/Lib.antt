@@ -1,0 +1,6 @@
+mod Covered
+pub mod EndsOf
+pub mod Measuring
+pub mod Readable
+pub mod Sums
+pub mod Walking

@@ -1,0 +1,120 @@
+-- Measures of the points between two ends, and of these.
+use Rattle.std.proofs.Common.{◌≡◌, ℕ, ◌-◌, ◌*◌, ◌^◌, ◌≤◌, ℤ, pos, ◌+ℤ◌, Bool, true, List, [], ◌∷◌, ◌++◌, Some, All, length, refl, sym, ap, ◌∙◌, subst, arith}
+use Rattle.std.specs.Prelude.{count_by, nat_lt, unsigned_abs}
+use Rattle.std.proofs.lemmas.Int.{ints}
+use Rattle.std.proofs.lemmas.List.{get_or_append_left, length-append}
+use Rattle.std.proofs.lemmas.List.Edits.{length-between}
+use Rattle.std.proofs.lemmas.List.Elements.{All-head}
+use Rattle.trend_num.specs.declared.archive.Rec.{Rec}
+use Rattle.trend_num.specs.declared.measure.Measure.{Measure}
+use Rattle.trend_num.specs.declared.measure.Measure.TheVariants.{Area, Avg, Total, Low, High, Count, First, Last}
+use Rattle.trend_num.specs.declared.point.Point.{Point}
+use Rattle.trend_num.specs.Ranges.{InRange, largest_value, last_time}
+use Rattle.trend_model.specs.Contents.{IsRising, points_of}
+use Rattle.trend_model.specs.Windows.{area, but_last, greatest_from, last_from, least_from, measured, of_first, piece, taken_values, window_value}
+use Rattle.trend_model.proofs.ReadLaw.{points_rise}
+use Rattle.interp_read.proofs.RisingPoints.{IsGapAt, gap_at}
+use Rattle.weighted_total.specs.declared.shape.Ends.{Ends}
+use Rattle.weighted_total.specs.Shapes.{AreEnds, IsShape, counted, inner, outline}
+use Rattle.weighted_total.proofs.EndsOf.{counted_places, gaps_rise}
+use Rattle.weighted_total.proofs.Sums.{area_joined, area_small, last_in_range, last_joined, piece_bounded}
+use Rattle.weighted_total.proofs.Walking.{rises_front, rises_seam}
+
+-- the area under all but the last point, and that to the last
+pub area_to_end : (step : Bool) (p : Point) (xs : List Point) (q : Point)
+    → area step (p ∷ xs) +ℤ piece step (last_from p xs) q ≡ area step ((p ∷ xs) ++ q ∷ [])
+area_to_end step p xs q = no_more (area step (p ∷ xs) +ℤ piece step (last_from p xs) q)
+    ∙ sym (area_joined step p xs q [])
+  where
+    no_more : (a : ℤ) → a ≡ a +ℤ pos 0
+    no_more a = omega (arith, ints)
+
+-- it can be rounded
+pub outline_small : (step : Bool) (ps : List Point) (e : Ends) → AreEnds ps e
+    → unsigned_abs (area step (outline ps e)) ≤ 10 ^ 30
+outline_small step ps e are =
+    omega (arith, area_small step e.start (inner ps e ++ e.end ∷ []) are.rises are.range)
+
+-- the ends are in range, and the points before the last
+pub start_in_range : (ps : List Point) (e : Ends) → AreEnds ps e → InRange e.start
+start_in_range ps e are = All-head (λ p. InRange p) e.start (inner ps e ++ e.end ∷ []) are.range
+
+pub end_in_range : (ps : List Point) (e : Ends) → AreEnds ps e → InRange e.end
+end_in_range ps e are =
+    rw (last_joined e.start (inner ps e) e.end []) at
+    (last_in_range e.start (inner ps e ++ e.end ∷ []) are.range)
+
+all_front : (P : Point → Type 0) (xs ys : List Point) → All P (xs ++ ys) → All P xs
+all_front P xs ys all =
+    λ k d within. subst P (get_or_append_left xs ys d k within) (all k d (omega (arith, length-append xs ys)))
+
+front_in_range : (ps : List Point) (e : Ends) → AreEnds ps e → All (λ p. InRange p) (e.start ∷ inner ps e)
+front_in_range ps e are = all_front (λ p. InRange p) (e.start ∷ inner ps e) (e.end ∷ []) are.range
+
+-- the sums of the area of a shape
+pub record AreSums (twice seam whole : ℤ) : Type 0 where
+  pub small : unsigned_abs twice ≤ last_time * (2 * largest_value)
+  pub small_seam : unsigned_abs seam ≤ last_time * (2 * largest_value)
+  pub whole_is : twice +ℤ seam ≡ whole
+  pub small_whole : unsigned_abs whole ≤ 10 ^ 30
+
+pub sums_of : (step : Bool) (ps : List Point) (e : Ends) (twice : ℤ) (last : Point) (seam : ℤ) → AreEnds ps e
+    → twice ≡ area step (e.start ∷ inner ps e) → last ≡ last_from e.start (inner ps e) → InRange last
+    → seam ≡ piece step last e.end
+    → AreSums twice seam (area step (outline ps e))
+sums_of step ps e twice last seam are twice_is last_is in_range seam_is =
+    let late = rises_seam e.start (inner ps e) e.end [] are.rises in
+    let order : last.t ≤ e.end.t = rw last_is (omega (arith, late)) in
+    record {
+      small = rw twice_is
+          (area_small step e.start (inner ps e) (rises_front e.start (inner ps e) (e.end ∷ []) are.rises)
+          (front_in_range ps e are));
+      small_seam = rw seam_is (piece_bounded step last e.end in_range (end_in_range ps e are) order);
+      whole_is = rw (twice_is, seam_is, last_is) (area_to_end step e.start (inner ps e) e.end);
+      small_whole = outline_small step ps e are;
+    }
+
+-- all points but the last
+but_last_push : (p : Point) (xs : List Point) (q : Point) → but_last ((p ∷ xs) ++ q ∷ []) ≡ p ∷ xs
+but_last_push p [] q = refl
+but_last_push p (x ∷ xs) q = ap (λ l. p ∷ l) (but_last_push x xs q)
+
+-- the least and the greatest value that a stair takes, and a line
+pub least_of_stair : (p : Point) (xs : List Point) (q : Point)
+    → of_first least_from (taken_values true ((p ∷ xs) ++ q ∷ [])) ≡ Some (least_from p xs)
+least_of_stair p xs q = ap (of_first least_from) (but_last_push p xs q)
+
+pub greatest_of_stair : (p : Point) (xs : List Point) (q : Point)
+    → of_first greatest_from (taken_values true ((p ∷ xs) ++ q ∷ [])) ≡ Some (greatest_from p xs)
+greatest_of_stair p xs q = ap (of_first greatest_from) (but_last_push p xs q)
+
+-- how many points are counted
+pub count_is : (l : List Rec) (from to a b : ℕ) → IsRising l → from ≤ to
+    → a ≡ count_by (λ r. nat_lt r.point.t from) l
+    → b ≡ count_by (λ r. nat_lt r.point.t to) l → (a ≤ b) × (b - a ≡ length (counted (points_of l) from to))
+count_is l from to a b rises order first second =
+    let ps = points_of l in
+    let rise = points_rise l rises in
+    let gap_a : IsGapAt ps from a = rw first (gap_at from l rise) in
+    let gap_b : IsGapAt ps to b = rw second (gap_at to l rise) in
+    let places = counted_places ps from to a b order gap_a gap_b in
+    (gaps_rise ps from to a b order gap_a gap_b, sym (ap length places ∙ length-between ps a b gap_b.within))
+
+-- the measures of a shape are those of its outline
+same_measure : (step : Bool) (m : Measure) (cs ps shape : List Point) (from to : ℕ)
+    → counted cs from to ≡ counted ps from to
+    → measured step m cs shape from to ≡ measured step m ps shape from to
+same_measure step Area cs ps shape from to count = refl
+same_measure step Avg cs ps shape from to count = refl
+same_measure step Total cs ps shape from to count = refl
+same_measure step Low cs ps shape from to count = refl
+same_measure step High cs ps shape from to count = refl
+same_measure step Count cs ps shape from to count = ap (λ l. Some (pos (length l))) count
+same_measure step First cs ps shape from to count = refl
+same_measure step Last cs ps shape from to count = refl
+
+pub value_of_shape : (step : Bool) (m : Measure) (cs ps : List Point) (from to : ℕ) (e : Ends) (v : ℤ)
+    → IsShape step cs ps from to e
+    → measured step m ps (outline ps e) from to ≡ Some v → Some v ≡ window_value step m cs from to
+value_of_shape step m cs ps from to e v is value =
+    rw (is.covered, is.whole) (sym (same_measure step m cs ps (outline ps e) from to is.count ∙ value))

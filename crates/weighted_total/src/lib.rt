@@ -1,0 +1,15 @@
+//! Measures of a window of a tag's content: area, mean, total, least, greatest, count, first and last.
+//!
+//! A window of the closed content has a shape: its start as it reads, the points strictly inside, its end as it reads.
+//! `Windows` of the model says what each measure is of a list of points, for lines and for the stairs of a step tag; each
+//! call here says that of the closed content. What is strictly inside is a part of one page, whole pages, and a part of
+//! another, so the totals of pages stand for their points. A window takes no memory.
+#![tactic(auto)]
+
+mod inside;
+mod measure;
+mod shape;
+#[cfg(test)]
+mod tests;
+
+pub use measure::{window, window_step};

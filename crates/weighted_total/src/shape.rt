@@ -1,0 +1,110 @@
+// The shape of a window.
+ghost use Rattle.std.specs.Prelude.{◌≡◌, ◌<◌, ◌≤◌, IfNone, IfSome, false};
+ghost use Rattle.trend_num.specs.Ranges.{InRange, largest_value, last_time};
+ghost use Rattle.trend_model.specs.Contents.{points_of};
+ghost use Rattle.trend_model.specs.Lists.{IfThere};
+ghost use Rattle.trend_model.specs.Reads.{read_at, value_read};
+ghost use Rattle.trend_model.specs.Windows.{is_covered};
+ghost use Rattle.interp_read.specs.Closing.{IsNotBefore, points_closed_by};
+ghost use Rattle.weighted_total.specs.Readable.{IsReadable};
+ghost use Rattle.weighted_total.specs.Shapes.{IsShape};
+
+use interp_read::{Reading, at, at_step};
+use late_insert::Content;
+use trend_num::{Point, round_half_up};
+
+/// The ends of a shape, and the places of the points inside.
+#[derive(Clone, Copy)]
+pub(crate) struct Ends {
+    /// The start, as it reads.
+    pub start: Point,
+    /// The place of the first point inside, and that behind the last.
+    pub first: u32,
+    pub behind: u32,
+    /// The end, as it reads.
+    pub end: Point,
+}
+
+/// The shape of a window, where it is covered.
+pub(crate) fn ends_of(
+    content: &Content,
+    held: Option<Point>,
+    step: bool,
+    from: u64,
+    to: u64,
+) -> Option<Ends>
+    requires range { IfThere InRange held }
+    requires last { IfThere (IsNotBefore content.now.records) held }
+    requires order { from < to }
+    requires reach { to ≤ last_time }
+    ensures shape { IfSome result (IsShape step (points_closed_by held content.now.records) (points_of content.now.records) from to) }
+    ensures uncovered { IfNone result (is_covered (points_closed_by held content.now.records) from to ≡ false) }
+{
+    let _len = content.len();
+    if !covers(content, held, from, to) {
+        return None;
+    }
+    let start = value_at(content, held, step, from)?;
+    let end = value_at(content, held, step, to)?;
+    Some(Ends {
+        start: Point { t: from, v: start },
+        first: content.below(from + 1),
+        behind: content.below(to),
+        end: Point { t: to, v: end },
+    })
+}
+
+/// Whether a window does not start before the first point of the closed content, nor end after the last.
+fn covers(content: &Content, held: Option<Point>, from: u64, to: u64) -> bool
+    requires range { IfThere InRange held }
+    requires last { IfThere (IsNotBefore content.now.records) held }
+    ensures { result ≡ is_covered (points_closed_by held content.now.records) from to }
+{
+    let n = content.len();
+    if n == 0 {
+        return match held {
+            Some(q) => q.t <= from && to <= q.t,
+            None => false,
+        };
+    }
+    let last = match held {
+        Some(q) => q.t,
+        None => content.point(n - 1).t,
+    };
+    content.point(0).t <= from && to <= last
+}
+
+/// The value of a line or a stair at t, rounded.
+fn value_at(content: &Content, held: Option<Point>, step: bool, t: u64) -> Option<i64>
+    requires range { IfThere InRange held }
+    requires last { IfThere (IsNotBefore content.now.records) held }
+    ensures { result ≡ value_read (read_at step (points_closed_by held content.now.records) t) }
+{
+    let _len = content.len();
+    value_of(read(content, held, step, t))
+}
+
+/// What a line or a stair reads at t.
+fn read(content: &Content, held: Option<Point>, step: bool, t: u64) -> Reading
+    requires range { IfThere InRange held }
+    requires last { IfThere (IsNotBefore content.now.records) held }
+    ensures { result ≡ read_at step (points_closed_by held content.now.records) t }
+{
+    if step {
+        at_step(content, held, t)
+    } else {
+        at(content, held, t)
+    }
+}
+
+/// The value of what is read, rounded.
+fn value_of(reading: Reading) -> Option<i64>
+    requires { IsReadable reading }
+    ensures { result ≡ value_read reading }
+{
+    match reading {
+        Reading::Exact(v) | Reading::Flat(v) => Some(v),
+        Reading::Line(f) => Some(round_half_up(f.num, f.den) as i64),
+        Reading::Nothing => None,
+    }
+}
