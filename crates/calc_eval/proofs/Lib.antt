@@ -1,0 +1,4 @@
+pub mod Quotient
+pub mod Name
+pub mod Growth
+pub mod Range

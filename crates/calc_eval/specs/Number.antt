@@ -1,0 +1,74 @@
+-- Values of the calculation language: whole numbers within a range, or Bad.
+use Rattle.std.specs.Prelude.{◌≤◌, ◌≡◌, ℤ, pos, neg_ℤ, ◌+ℤ◌, ◌-ℤ◌, ◌*ℤ◌, ◌≤ℤ◌, ◌<ℤ◌, Bool, cond, not, Option, None, Some, int_le, int_lt, nat_le, unsigned_abs}
+use Rattle.std.specs.Int.{int_div_euclid}
+use Rattle.std.specs.Ordering.{int_eq}
+use Rattle.calc_parser.specs.declared.tree.Op.{Op}
+use Rattle.calc_parser.specs.declared.tree.Op.TheVariants.{Add, Sub, Mul, Div, Rem, Min, Max}
+use Rattle.calc_parser.specs.declared.tree.Cmp.{Cmp}
+use Rattle.calc_parser.specs.declared.tree.Cmp.TheVariants.{Le, Ge, Ne, Lt, Gt, Eq}
+use Rattle.calc_parser.specs.Tokens.{largest_number}
+use Rattle.trend_model.specs.Windows.{lesser, greater}
+use Rattle.calc_eval.specs.declared.value.Bad.TheVariants.{NoData, DivZero, Range}
+use Rattle.calc_eval.specs.declared.value.CalcValue.{CalcValue}
+use Rattle.calc_eval.specs.declared.value.CalcValue.TheVariants.{Num, Bad}
+
+-- a number as a value: one outside the range is Bad
+abbrev pub bounded : ℤ → CalcValue
+bounded n = cond (nat_le (unsigned_abs n) largest_number) (Num n) (Bad Range)
+
+-- a number in the range, or Bad
+abbrev pub IsInRange : CalcValue → Type 0
+IsInRange (Num n) = unsigned_abs n ≤ largest_number
+IsInRange (Bad why) = Unit {0}
+
+-- what a number that may not be there gives
+abbrev pub measured_value : Option ℤ → CalcValue
+measured_value None = Bad NoData
+measured_value (Some n) = bounded n
+
+-- what an operation makes of its operand: a Bad one is the result
+abbrev pub after : CalcValue → (ℤ → CalcValue) → CalcValue
+after (Num n) f = f n
+after (Bad why) f = Bad why
+
+-- the floor of the quotient of a by b
+abbrev pub floor_div : ℤ → ℤ → ℤ
+floor_div a b = cond (int_lt (pos 0) b) (int_div_euclid a b) (int_div_euclid (neg_ℤ a) (neg_ℤ b))
+
+-- what the floor of the quotient leaves
+abbrev pub floor_rem : ℤ → ℤ → ℤ
+floor_rem a b = a -ℤ (b *ℤ floor_div a b)
+
+-- a division by 0 is Bad
+abbrev pub divided : ℤ → ℤ → CalcValue
+divided b n = cond (int_eq b (pos 0)) (Bad DivZero) (bounded n)
+
+-- the value of an operation
+abbrev pub operated : Op → ℤ → ℤ → CalcValue
+operated Add a b = bounded (a +ℤ b)
+operated Sub a b = bounded (a -ℤ b)
+operated Mul a b = bounded (a *ℤ b)
+operated Div a b = divided b (floor_div a b)
+operated Rem a b = divided b (floor_rem a b)
+operated Min a b = bounded (lesser a b)
+operated Max a b = bounded (greater a b)
+
+-- whether a comparison holds
+abbrev pub holds : Cmp → ℤ → ℤ → Bool
+holds Le a b = int_le a b
+holds Ge a b = int_le b a
+holds Ne a b = not (int_eq a b)
+holds Lt a b = int_lt a b
+holds Gt a b = int_lt b a
+holds Eq a b = int_eq a b
+
+-- the value of a comparison: 1 where it holds, else 0
+abbrev pub compared : Cmp → ℤ → ℤ → CalcValue
+compared cmp a b = cond (holds cmp a b) (Num (pos 1)) (Num (pos 0))
+
+-- q and r are the quotient and the remainder of a by b: the remainder is 0 or has the divisor's sign, and is
+-- nearer to 0
+pub record IsFloorDivision (a b q r : ℤ) : Type 0 where
+  pub whole : a ≡ (b *ℤ q) +ℤ r
+  pub above : pos 0 <ℤ b → (pos 0 ≤ℤ r) × (r <ℤ b)
+  pub below : b <ℤ pos 0 → (b <ℤ r) × (r ≤ℤ pos 0)

@@ -1,0 +1,15 @@
+// Why calculations are refused.
+
+use trend_num::Name;
+
+/// What is wrong with the first name that stands for nothing, left to right in the first calculation with such a
+/// name.
+#[derive(Clone, Copy, Debug, PartialEq, Eq)]
+pub enum CheckNo {
+    /// In this calculation: it is no input where it is measured, and no calculation of the group.
+    UnknownName { calc: u32, name: Name },
+    /// In this calculation: it is that of this or a later calculation.
+    Forward { calc: u32, name: Name },
+    /// No memory was found.
+    WantOfMemory,
+}
