@@ -1,7 +1,8 @@
 -- The value of a formula in a window, and the values of a group's calculations.
-use Rattle.std.specs.Prelude.{ℕ, pos, neg_ℤ, false, cond, List, [], ◌∷◌, ◌++◌, map, fold, position, slice_get, Option, unwrap_or, option_and_then, unsigned_abs}
+use Rattle.std.specs.Prelude.{ℕ, ℤ, pos, neg_ℤ, false, cond, List, [], ◌∷◌, ◌++◌, map, fold, position, slice_get, Option, unwrap_or, option_and_then, unsigned_abs}
 use Rattle.std.specs.Ordering.{int_eq}
 use Rattle.std.specs.Str.{bytes_eq}
+use Rattle.trend_num.specs.declared.measure.Measure.{Measure}
 use Rattle.trend_num.specs.declared.point.Point.{Point}
 use Rattle.trend_model.specs.Contents.{ContentState, points_of}
 use Rattle.trend_model.specs.Windows.{window_value}
@@ -51,3 +52,8 @@ points_in contents = map (λ c. points_of c.records) contents
 abbrev pub values : Group → List (List Point) → ℕ → ℕ → List CalcValue
 values g contents from to =
     fold (λ lower c. lower ++ value (scope g contents lower) from to c.tree ∷ []) [] g.calcs
+
+-- what an input of this name measures in a window
+abbrev pub measure_of : Group → List (List Point) → ℕ → ℕ → Measure → List ℕ → Option ℤ
+measure_of g contents from to m name =
+    option_and_then (λ ps. window_value false m ps from to) (at_name g.inputs contents name)

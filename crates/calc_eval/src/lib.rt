@@ -21,6 +21,6 @@ mod value;
 pub use checked::{Checked, check};
 pub use definition::CalcDef;
 pub use evaluation::eval;
-pub use law::{division, values_are_in_range};
+pub use law::{division, one_window_decides, printing_keeps_values, values_are_in_range};
 pub use refusal::CheckNo;
 pub use value::{Bad, CalcValue};

@@ -1,10 +1,12 @@
-// Small groups over the inputs A and B, checked and evaluated over contents without points.
-ghost use Rattle.std.specs.Prelude.{◌≡◌, ◌<◌, length, IfOk};
+// Small groups over the inputs A and B, checked and evaluated.
+ghost use Rattle.std.specs.Prelude.{◌≡◌, ◌<◌, ◌≤◌, length, IfOk};
+ghost use Rattle.trend_num.specs.declared.archive.Kind.TheVariants.{Kept};
+ghost use Rattle.trend_num.specs.Ranges.{last_time};
 
 use super::*;
-use calc_parser::{Cmp, Expr, Op};
-use late_insert::Content;
-use std::alloc::Global;
+use calc_parser::{Cmp, Expr, Op, parse};
+use late_insert::{Content, Kind, Point, Rec};
+use std::alloc::{AllocError, Global};
 use std::marker::Brand;
 use std::process::Abort;
 use std::sync::ledger::{Blank, Ledger};
@@ -14,6 +16,16 @@ use trend_num::{Measure, Name, Steps, name_from};
 /// The name that is spelled so.
 fn named(rt: &impl Abort, text: &str) -> Name {
     name_from(text.as_bytes()).expect(rt, "a name")
+}
+
+/// A kept record.
+fn kept(t: u64, v: i64) -> Rec
+    ensures { result ≡ record { kind = Kept; point = record { t = t; v = v } } }
+{
+    Rec {
+        kind: Kind::Kept,
+        point: Point { t, v },
+    }
 }
 
 /// An operation on two numbers.
@@ -50,27 +62,31 @@ fn group_of(
     Ok(check(alloc, &inputs, calcs))
 }
 
-/// The value of the last calculation in the window from 0 to 10.
+/// The value of the last calculation in a window.
 #[tactic(auto, using(crate::proofs::Growth::within_defs, crate::proofs::Growth::take_next))]
 fn last_value<L: Ledger>(
     rt: &impl Abort,
     alloc: Global,
     group: &Checked,
+    contents: &[Content],
+    from: u64,
+    to: u64,
     blank: Blank,
 ) -> Result<CalcValue, Fail>
     requires name { blank.name ≡ L.name }
     requires parts { blank.parts ≡ L.parts }
     requires some { 0 < L.parts }
-    requires inputs { length group.now.inputs ≡ 2 }
+    requires inputs { length contents.now ≡ length group.now.inputs }
+    requires rises { from < to }
+    requires times { to ≤ last_time }
 {
     let mut steps: Steps<L> = Steps::new(blank);
-    let contents = [Content::new(alloc, 1)?, Content::new(alloc, 1)?];
     let mut lower = Vec::new(alloc);
     let mut last = CalcValue::Num(0);
     let count = group.defs().len();
     assert!(rt; count < 100);
     for i in 0..count {
-        last = eval(group, i as u32, 0, 10, &contents, &lower, &mut steps);
+        last = eval(group, i as u32, from, to, contents, &lower, &mut steps);
         lower.push(last)?;
     }
     Ok(last)
@@ -83,12 +99,42 @@ fn refusal_of(rt: &impl Abort, alloc: Global, first: Expr, second: Expr) -> Resu
     Ok(refusal)
 }
 
-/// The value of a formula.
-fn value_of(rt: &impl Abort, alloc: Global, formula: Expr) -> Result<CalcValue, Fail> {
+/// The value of a formula in a window.
+fn value_in(
+    rt: &impl Abort,
+    alloc: Global,
+    formula: Expr,
+    contents: &[Content],
+    from: u64,
+    to: u64,
+) -> Result<CalcValue, Fail>
+    requires inputs { length contents.now ≡ 2 }
+    requires rises { from < to }
+    requires times { to ≤ last_time }
+{
     match group_of(rt, alloc, Expr::Num(0), formula)? {
-        Ok(group) => last_value::<Brand>(rt, alloc, &group, Blank::new(1)),
+        Ok(group) => last_value::<Brand>(rt, alloc, &group, contents, from, to, Blank::new(1)),
         Err(no) => Err(Fail::from(no)),
     }
+}
+
+/// The value of a formula in the window from 0 to 10, over contents without points.
+fn value_of(rt: &impl Abort, alloc: Global, formula: Expr) -> Result<CalcValue, Fail> {
+    let contents = [Content::new(alloc, 1)?, Content::new(alloc, 1)?];
+    value_in(rt, alloc, formula, &contents, 0, 10)
+}
+
+/// A text 32 times, another, and a third 32 times.
+fn nested(alloc: Global, open: &str, inner: &str, close: &str) -> Result<String, AllocError> {
+    let mut text = String::new(alloc);
+    for _ in 0..32 {
+        text.push_str(open)?;
+    }
+    text.push_str(inner)?;
+    for _ in 0..32 {
+        text.push_str(close)?;
+    }
+    Ok(text)
 }
 
 #[test]
@@ -132,6 +178,37 @@ fn the_branch_not_taken_counts_for_nothing(rt: HostRuntime) -> Result<(), Fail> 
     let earlier = Box::new(alloc, Expr::Calc(named(&rt, "m")))?;
     let formula = Expr::Compare(Cmp::Eq, earlier, Box::new(alloc, Expr::Num(0))?);
     assert_eq!(rt; value_of(&rt, alloc, formula)?, CalcValue::Num(1));
+    Ok(())
+}
+
+#[test]
+fn a_measure_is_that_of_the_window(rt: HostRuntime) -> Result<(), Fail> {
+    let alloc = rt.alloc();
+    let mut content = Content::new(alloc, 2)?;
+    content.put(kept(10, 7));
+    content.put(kept(20, 9));
+    let contents = [content, Content::new(alloc, 1)?];
+    for (from, to, want) in [
+        (10, 20, CalcValue::Num(9)),
+        (12, 15, CalcValue::Bad(Bad::DivZero)),
+        (9, 15, CalcValue::Bad(Bad::NoData)),
+    ] {
+        assert!(rt; from < to && to <= 20);
+        let formula = parse(alloc, "high('A') / count('A')")?;
+        let value = value_in(&rt, alloc, formula, &contents, from, to)?;
+        assert_eq!(rt; value, want);
+    }
+    Ok(())
+}
+
+#[test]
+fn the_longest_and_deepest_formula_is_evaluated(rt: HostRuntime) -> Result<(), Fail> {
+    let alloc = rt.alloc();
+    let inner = "1+1+1+1+1+1+1+1+1+1+1+1+1+1+1+11";
+    let text = nested(alloc, "(", inner, "+0000000000000000000000000010)")?;
+    assert_eq!(rt; text.len(), 1024);
+    let formula = parse(alloc, &text)?;
+    assert_eq!(rt; value_of(&rt, alloc, formula)?, CalcValue::Num(346));
     Ok(())
 }
 
