@@ -1,8 +1,9 @@
 #!/usr/bin/env python3
-"""run.py: times `historian pack` beside a plain packer in Rust, on 60 MB of lines.
+"""run.py: times `historian pack` beside two other packers, on 60 MB of lines.
 
-Builds the program (`rt run`) and the plain one (`rustc`, at its fastest), makes three series from a fixed seed, runs the two in turn, five
-times each, compares what they print, and tells medians, the ratio, and peak memory. It runs by hand, never as a test."""
+Builds the program (`rt run`), the plain packer (`rustc`, at its fastest) and the fast one (`cc`, at its fastest), makes series from a fixed
+seed, runs the three in turn, seven times each, compares what they print, and tells medians, ratios, and peak memory. It runs by hand, never
+as a test. The plain packer reads all of the input first, and its numerals with `str::parse`; the fast one tests nothing at all."""
 import os
 import random
 import statistics
@@ -15,15 +16,17 @@ HERE = os.path.dirname(os.path.abspath(__file__))
 ROOT = os.path.dirname(os.path.dirname(HERE))
 WORDS = ["pack", "2", "600000", "20", "0", "28800000"]
 SIZE = 60_000_000
-RUNS = 5
+RUNS = 7
 FAST = ["rustc", "--edition", "2021", "-C", "opt-level=3", "-C", "panic=abort", "-C", "lto=fat", "-C", "codegen-units=16"]
+CC = ["cc", "-O3", "-march=native", "-Wno-parentheses"]
 
 
-def write_lines(path, kind, size):
-    """Writes lines TIME,VALUE, one by one, so that this process stays small. walk: a random walk; flat: one long flat line; quarter: about a quarter of the values is kept."""
+def write_lines(path, kind, size, ending="\n"):
+    """Writes lines TIME,VALUE, one by one, so that this process stays small. walk: a random walk; flat: one long flat line; quarter: about a
+    quarter of the values is kept."""
     rng = random.Random(20261126)
     t, v, done, n = 1_700_000_000_000, 5000, 0, 0
-    with open(path, "w") as out:
+    with open(path, "w", newline="") as out:
         while True:
             t += rng.randrange(500, 1500)
             if kind == "walk":
@@ -31,7 +34,7 @@ def write_lines(path, kind, size):
             elif kind == "quarter":
                 v = 5000 + (4000 if (n // 8) % 2 else 0) + n % 3
             n += 1
-            line = "%d,%d\n" % (t, v)
+            line = "%d,%d%s" % (t, v, ending)
             done += len(line)
             if done > size:
                 return
@@ -51,18 +54,23 @@ def timed(program, path):
     return seconds, usage.ru_maxrss, printed
 
 
-def compared(name, proved, plain, path):
-    ours, theirs, memory = [], [], 0
+def compared(name, programs, path):
+    """Runs the programs in turn, and tells the medians of the first and its part of each other's."""
+    seconds, peak, printed = {p: [] for p in programs}, 0, set()
     for _ in range(RUNS):
-        a, peak, first = timed(proved, path)
-        b, _, second = timed(plain, path)
-        if first != second:
-            sys.exit("%s: the two programs print different bytes" % name)
-        ours.append(a)
-        theirs.append(b)
-        memory = max(memory, peak)
-    a, b = statistics.median(ours), statistics.median(theirs)
-    print("%-12s proved %.3f s  plain %.3f s  ratio %.2f  peak %d KB" % (name, a, b, a / b, memory))
+        for program in programs:
+            took, memory, text = timed(program, path)
+            seconds[program].append(took)
+            printed.add(hash(text))
+            if program == programs[0]:
+                peak, lines = max(peak, memory), text.count(b"\n")
+    if len(printed) != 1:
+        sys.exit("%s: the programs print different bytes" % name)
+    medians = [statistics.median(seconds[p]) for p in programs]
+    parts = "  ".join("%s %.3f s (%.2f)" % (os.path.basename(p), m, medians[0] / m) for p, m in zip(programs[1:], medians[1:]))
+    print("%-14s proved %.3f s  %s  peak %d KB, of it %d KB beside 24 bytes a record"
+          % (name, medians[0], parts, peak, peak - lines * 24 // 1024))
+    return medians[0]
 
 
 def main():
@@ -71,15 +79,18 @@ def main():
                    stdout=subprocess.DEVNULL, stderr=subprocess.DEVNULL, check=True)
     proved = os.path.join(ROOT, "crates", "historian", "out", "historian")
     with tempfile.TemporaryDirectory() as folder:
-        plain = os.path.join(folder, "plain")
+        plain, fast, path = (os.path.join(folder, name) for name in ("plain", "fast", "lines"))
         subprocess.run(FAST + ["-o", plain, os.path.join(HERE, "plain.rs")], check=True)
+        subprocess.run(CC + ["-o", fast, os.path.join(HERE, "fast.c")], check=True)
         for kind in ["walk", "flat", "quarter"]:
-            path = os.path.join(folder, kind)
             write_lines(path, kind, SIZE)
-            compared(kind, proved, plain, path)
-        half = os.path.join(folder, "half")
-        write_lines(half, "flat", SIZE // 2)
-        compared("half of flat", proved, plain, half)
+            whole = compared(kind, [proved, fast, plain], path)
+            write_lines(path, kind, SIZE // 2)
+            half = compared(kind + ", half", [proved, fast, plain], path)
+            print("%-14s takes %.2f times as long as its half" % (kind, whole / half))
+        write_lines(path, "walk", SIZE, "\r\n")
+        compared("walk, CR LF", [proved, fast], path)
 
 
-main()
+if __name__ == "__main__":
+    main()

@@ -1,4 +1,4 @@
 -- what the public call means
 pub mod Pack
 -- what private functions alone cite
-pub mod Reading
+pub mod Coming

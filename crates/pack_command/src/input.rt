@@ -1,70 +1,162 @@
-// The points of standard input, or the status of an input that is refused.
-ghost use Rattle.std.specs.Prelude.{◌≡◌, ◌≤◌, All, IfOk, IfErr, vec_len};
-ghost use Rattle.trend_num.specs.Ranges.{InRange};
+// All of the input, a piece at a time.
+ghost use Rattle.std.specs.Prelude.{◌≡◌, ◌+◌, ◌<◌, ◌≤◌, [], List, ℕ, true, length, take, slice_range, IfOk, IfErr, OnOk, OnErr, vec_len};
+ghost use Rattle.std.specs.Io.KnownBytes.{Keeps};
+ghost use Rattle.trend_num.specs.Ranges.{IsTuned};
 ghost use Rattle.trend_num.specs.declared.tuning.Tuning.{Tuning};
-ghost use Rattle.pack_command.specs.Pack.{IsPackRefusal, IsRead, most_rows, status_of_rows};
-ghost use Rattle.pack_command.specs.Reading.{status_of_reading};
+ghost use Rattle.trend_model.specs.History.{Origin};
+ghost use Rattle.byte_io.specs.Outside.{CountsOneFault};
+ghost use Rattle.point_text.specs.FirstPoint.{HasNoFeed, ReadSame};
+ghost use Rattle.pack_command.specs.Pack.{IsPackRefusal, origin_of};
+ghost use Rattle.pack_command.specs.Coming.{HasCome, IsAllRead, IsReadAfter, IsReady};
 
-use byte_io::{ReadNo, Source, read_all};
+use crate::intake::Intake;
+use byte_io::{Failed, Source};
 use plant_status::{FileId, Status, What};
-use point_text::{RowNo, read_points};
-use std::alloc::Global;
-use trend_num::Point;
+use point_text::short_line;
+use std::alloc::{AllocError, Global};
+use std::sync::ledger::{Blank, Ledger};
+use trend_num::{Steps, Tuning};
 
 /// The most bytes of standard input.
 const MAX_FILE_BYTES: u64 = 67_108_864;
 
-/// The most lines of standard input.
-const MAX_ROWS: u64 = 4_000_000;
+/// How many bytes are read at once at most.
+const PIECE: usize = 262_144;
 
-/// The points of the lines of the input, oldest (first line) first, or why `pack` refuses it, whatever the tuning.
-pub(crate) fn read_input<I: Source>(alloc: Global, input: &mut I) -> Result<Vec<Point>, Status>
-    ensures points { IfOk result (λ v. IsRead (I.meaning input.old) (I.meaning input.new) v.items) }
-    ensures few { IfOk result (λ v. vec_len v ≤ most_rows) }
-    ensures in_range { IfOk result (λ v. All InRange v.items) }
-    ensures refused { IfErr result (λ why. (tuning : Tuning) →
-        IsPackRefusal tuning (I.meaning input.old) (I.meaning input.new) why) }
+/// The most bytes of a line that has begun, which lie before the next piece.
+const BEGUN: usize = 64;
+
+/// Reads the input to its end, and takes the values of its rows, or tells why the input is not read.
+pub(crate) fn read_input<L: Ledger, I: Source>(
+    alloc: Global,
+    tuning: Tuning,
+    input: &mut I,
+    blank: Blank,
+) -> Result<Intake, Status>
+    requires tuned { IsTuned tuning }
+    requires name { blank.name ≡ L.name }
+    requires parts { blank.parts ≡ L.parts }
+    requires some { 0 < L.parts }
+    ensures read { IfOk result (λ i.
+        IsAllRead (origin_of tuning) (I.meaning input.old) (I.meaning input.new) i.core i.rows i.standing) }
+    ensures refused { IfErr result (IsPackRefusal tuning (I.meaning input.old) (I.meaning input.new)) }
 {
-    let bytes = match read_all(alloc, input, MAX_FILE_BYTES) {
-        Ok(bytes) => bytes,
-        Err(why) => return Err(of_reading(why)),
+    let Ok(mut intake) = Intake::new(alloc, tuning) else {
+        return Err(Status::WantOfMemory);
     };
-    match read_points(alloc, bytes.as_slice(), MAX_ROWS) {
-        Ok(points) => Ok(points),
-        Err(why) => Err(of_rows(why)),
+    let Ok(mut buffer) = new_buffer(alloc) else {
+        return Err(Status::WantOfMemory);
+    };
+    let mut steps = Steps::<L>::new(blank);
+    match read_pieces(&mut intake, buffer.as_mut_slice(), input, &mut steps) {
+        Ok(()) => Ok(intake),
+        Err(why) => Err(why),
     }
 }
 
-/// The status of an input that was not read.
-fn of_reading(why: ReadNo) -> Status
-    ensures { result ≡ status_of_reading why }
+/// The same, by pieces that lie in this buffer after the line that has begun.
+fn read_pieces<L: Ledger, I: Source>(
+    intake: &mut Intake,
+    buffer: &mut [u8],
+    input: &mut I,
+    steps: &mut Steps<L>,
+) -> Result<(), Status>
+    requires ready { IsReady intake.old.core intake.old.rows }
+    requires size { length buffer.old ≡ BEGUN + PIECE }
+    ensures read { OnOk result ((o : Origin)
+        → HasCome true o [] [] intake.old.core intake.old.rows intake.old.standing
+        → IsAllRead o (I.meaning input.old) (I.meaning input.new) intake.new.core intake.new.rows intake.new.standing) }
+    ensures refused { IfErr result (λ why. (tuning : Tuning)
+        → IsPackRefusal tuning (I.meaning input.old) (I.meaning input.new) why) }
 {
-    match why {
-        ReadNo::ReadFault => Status::ReadFault {
-            file: FileId::Input,
-        },
-        ReadNo::TooLong { .. } => Status::Limit {
-            what: What::FileBytes,
-            number: MAX_FILE_BYTES + 1,
-        },
-        ReadNo::WantOfMemory => Status::WantOfMemory,
+    let mut begun = 0;
+    let mut total = 0;
+    loop {
+        let room = MAX_FILE_BYTES - total;
+        let wanted = room.min(PIECE as u64 - 1) as usize + 1;
+        let Ok(count) = read_after(input, buffer, begun, wanted) else {
+            return Err(Status::ReadFault {
+                file: FileId::Input,
+            });
+        };
+        if count == 0 {
+            intake.take_last(&buffer[..begun], steps);
+            return Ok(());
+        }
+        if count as u64 > room {
+            return Err(Status::Limit {
+                what: What::FileBytes,
+                number: MAX_FILE_BYTES + 1,
+            });
+        }
+        total += count as u64;
+        begun = take_piece(intake, buffer, begun + count, steps);
     }
 }
 
-/// The status of an input whose rows are refused.
-fn of_rows(why: RowNo) -> Status
-    ensures { result ≡ status_of_rows why }
+/// Room for a line that has begun and a piece after it.
+fn new_buffer(alloc: Global) -> Result<Vec<u8>, AllocError>
+    ensures { IfOk result (λ v. vec_len v ≡ BEGUN + PIECE) }
 {
-    match why {
-        RowNo::BadRow { row, reason } => Status::BadRow {
-            file: FileId::Input,
-            row,
-            reason,
-        },
-        RowNo::TooMany { rows } => Status::Limit {
-            what: What::Rows,
-            number: rows,
-        },
-        RowNo::WantOfMemory => Status::WantOfMemory,
+    vec![in alloc; 0; BEGUN + PIECE]
+}
+
+/// Reads at most so many bytes into a buffer, after those that are there.
+fn read_after<I: Source>(
+    input: &mut I,
+    buffer: &mut [u8],
+    begun: usize,
+    wanted: usize,
+) -> Result<usize, Failed>
+    requires some { 0 < wanted }
+    requires room { begun + wanted ≤ length buffer.old }
+    ensures read { IfOk result (λ n. IsReadAfter (I.meaning input.old) (I.meaning input.new) begun n buffer.old buffer.new) }
+    ensures few { IfOk result (λ n. n ≤ wanted) }
+    ensures fault { OnErr result (CountsOneFault (I.meaning input.old) (I.meaning input.new)) }
+    ensures kept { OnErr result (Keeps (I.meaning input.old).content (I.meaning input.new).content) }
+{
+    match input.read(&mut buffer[begun..begun + wanted]) {
+        Ok(count) => Ok(count),
+        Err(Failed) => Err(Failed),
     }
+}
+
+/// Takes the rows of the front of a buffer, and brings the line that has begun to its front. Says how long that is.
+fn take_piece<L: Ledger>(
+    intake: &mut Intake,
+    buffer: &mut [u8],
+    filled: usize,
+    steps: &mut Steps<L>,
+) -> usize
+    requires ready { IsReady intake.old.core intake.old.rows }
+    requires within { filled ≤ length buffer.old }
+    requires room { BEGUN ≤ length buffer.old }
+    ensures ready { IsReady intake.new.core intake.new.rows }
+    ensures short { result ≤ BEGUN }
+    ensures begun { HasNoFeed (take result buffer.new) }
+    ensures come { (o : Origin) (bytes : List ℕ)
+        → HasCome true o bytes (take filled buffer.old) intake.old.core intake.old.rows intake.old.standing
+        → HasCome true o bytes (take result buffer.new) intake.new.core intake.new.rows intake.new.standing }
+{
+    let left = intake.take_lines(&buffer[..filled], steps);
+    bring_forward(buffer, filled - left, filled)
+}
+
+/// Brings the begin of a line to the front of a buffer, cut short where it is too long to have a point. Says how long it is.
+fn bring_forward(buffer: &mut [u8], from: usize, to: usize) -> usize
+    requires order { from ≤ to }
+    requires within { to ≤ length buffer.old }
+    requires room { BEGUN ≤ length buffer.old }
+    requires begun { HasNoFeed (slice_range buffer.old from to) }
+    ensures short { result ≤ BEGUN }
+    ensures begun { HasNoFeed (take result buffer.new) }
+    ensures same { ReadSame (slice_range buffer.old from to) (take result buffer.new) }
+{
+    if to - from > BEGUN {
+        let short = short_line(&buffer[from..to]);
+        buffer[..short.len()].copy_from_slice(short);
+        return short.len();
+    }
+    buffer.copy_within(from..to, 0);
+    to - from
 }

@@ -6,6 +6,7 @@
 #![tactic(auto)]
 
 mod input;
+mod intake;
 mod packer;
 
 pub use packer::pack;

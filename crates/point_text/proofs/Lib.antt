@@ -3,3 +3,4 @@ pub mod Split
 pub mod PointList
 pub mod DigitRun
 pub mod PlainLine
+pub mod LongLine

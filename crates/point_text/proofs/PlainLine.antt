@@ -1,19 +1,21 @@
 -- Lemmas on a plain line, which a text begins with.
-use Rattle.std.proofs.Common.{◌≡◌, ℕ, zero, suc, ◌+◌, ◌-◌, ◌<◌, ◌≤◌, ℤ, pos, neg_ℤ, true, false, List, [], ◌∷◌, ◌++◌, length, get_or, take, drop, nat_eq, unsigned_abs, Some, Ok, All, arith, refl, sym, ap, ◌∙◌, subst, append_assoc, add-one, length-append, length-drop, le-leb}
+use Rattle.std.proofs.Common.{◌≡◌, ◌⊎◌, inl, inr, cond, ℕ, zero, suc, ◌+◌, ◌-◌, ◌<◌, ◌≤◌, ℤ, pos, neg_ℤ, true, false, List, [], ◌∷◌, ◌++◌, length, get_or, take, drop, nat_eq, unsigned_abs, Some, Result, Ok, All, arith, refl, sym, ap, ◌∙◌, subst, append_assoc, add-one, length-append, length-drop, le-leb}
 use Rattle.std.proofs.lemmas.Bool.Decides.{nat_tests}
-use Rattle.std.proofs.lemmas.List.{take-append-drop, drop-drop, length-take-le}
-use Rattle.std.proofs.lemmas.List.Elements.{All-from_get_or, All-weaker, All-append, All-cons}
-use Rattle.std.proofs.lemmas.List.Splits.{slice_split_at, slice_split_none, length-slice_split}
+use Rattle.std.proofs.lemmas.List.{take-append-drop, drop-drop, length-take-le, take_at, get_or_at, drop_more}
+use Rattle.std.proofs.lemmas.List.Elements.{All-from_get_or, All-weaker, All-append, All-cons, All-nil}
+use Rattle.std.proofs.lemmas.List.Splits.{slice_split_at, slice_split_none}
 use Rattle.std.proofs.Math.Seq.{drop-cons}
 use Rattle.std.specs.Char.{is_ascii_digit}
 use Rattle.std.specs.List.{list_all, slice_split}
-use Rattle.std.specs.Str.Lines.{lines, lines_of_parts, strip_carriage_return}
+use Rattle.std.specs.Str.Lines.{strip_carriage_return}
+use Rattle.trend_num.specs.declared.point.Point.{Point}
+use Rattle.trend_num.specs.declared.refusal.Reason.{Reason}
 use Rattle.trend_num.proofs.Numbers.{digit_at, digit_code}
 use Rattle.trend_num.specs.Numerals.{numeral, unsigned_numeral, digits_value}
 use Rattle.trend_num.specs.Ranges.{last_time, largest_value}
 use Rattle.point_text.specs.Row.{point_read, point_of_fields, point_of_line}
-use Rattle.point_text.proofs.Split.{lines_of_parts-cons, rest_whole}
-use Rattle.point_text.specs.FirstPoint.{IsFirstPoint}
+use Rattle.point_text.proofs.Split.{rest_whole}
+use Rattle.point_text.specs.FirstPoint.{HasNoFeed, IsFirstPoint}
 
 -- from one index to another there are digits, which spell n, and then this byte
 pub record IsField (text : List ℕ) (at end byte n : ℕ) : Type 0 where
@@ -68,14 +70,34 @@ no_return line some high =
     let other : nat_eq (get_or line (length line - 1) 0) 13 ≡ false = grind (arith, nat_tests) in
     rw other
 
--- the line before a line feed
-line_cut : (line after : List ℕ) → 0 < length line → All (λ b. 44 ≤ b) line → lines (line ++ 10 ∷ after) ≡ line ∷ lines after
-line_cut line after some high =
-    let apart : All (λ b. nat_eq b 10 ≡ false) line = All-weaker (λ b. 44 ≤ b) (λ b. nat_eq b 10 ≡ false) (λ b h. grind (arith, nat_tests)) line high in
-    let parts = length-slice_split (λ b. nat_eq b 10) after in
-    ap lines_of_parts (slice_split_at (λ b. nat_eq b 10) line 10 after apart refl)
-    ∙ lines_of_parts-cons line (slice_split (λ b. nat_eq b 10) after) (omega arith)
-    ∙ ap (λ l. l ∷ lines after) (no_return line some high)
+-- nor is there a line feed
+no_feed : (line : List ℕ) → All (λ b. 44 ≤ b) line → HasNoFeed line
+no_feed line high = All-weaker (λ b. 44 ≤ b) (λ b. nat_eq b 10 ≡ false) (λ b h. grind (arith, nat_tests)) line high
+
+-- a carriage return is stripped where it is the last byte
+one_return : (line : List ℕ) → strip_carriage_return (line ++ 13 ∷ []) ≡ line
+one_return line =
+    let count : length (line ++ 13 ∷ []) - 1 ≡ length line = omega (arith, length-append line (13 ∷ [])) in
+    let last : get_or (line ++ 13 ∷ []) (length (line ++ 13 ∷ []) - 1) 0 ≡ 13 = ap (λ n. get_or (line ++ 13 ∷ []) n 0) count ∙ get_or_at line 13 [] 0 (length line) refl in
+    ap (λ b. cond (nat_eq b 13) (take (length (line ++ 13 ∷ []) - 1) (line ++ 13 ∷ [])) (line ++ 13 ∷ [])) last
+    ∙ take_at line (13 ∷ []) (length (line ++ 13 ∷ []) - 1) (sym count)
+
+-- a line of these bytes, and what ends it
+ended_point : (line after tail : List ℕ) (read : Result Point Reason) → 0 < length line → All (λ b. 44 ≤ b) line
+    → (tail ≡ 10 ∷ after) ⊎ (tail ≡ 13 ∷ 10 ∷ after) → read ≡ point_of_line line → IsFirstPoint (line ++ tail) after read
+ended_point line after tail read some high (inl feed) reads = record {
+  line = line;
+  cut = ap (λ l. line ++ l) feed;
+  one = no_feed line high;
+  reads = reads ∙ ap point_of_line (sym (no_return line some high));
+}
+ended_point line after tail read some high (inr feed) reads = record {
+  line = line ++ 13 ∷ [];
+  cut = ap (λ l. line ++ l) feed ∙ sym (append_assoc line (13 ∷ []) (10 ∷ after));
+  one = All-append (λ b. nat_eq b 10 ≡ false) line (13 ∷ []) (no_feed line high)
+      (All-cons (λ b. nat_eq b 10 ≡ false) 13 [] refl (All-nil (λ b. nat_eq b 10 ≡ false)));
+  reads = reads ∙ ap point_of_line (sym (one_return line));
+}
 
 point_is : (t : ℕ) (v : ℤ) → t ≤ last_time → unsigned_abs v ≤ largest_value → point_read (Some (pos t)) (Some v) ≡ Ok (record { t = t; v = v })
 point_is t v time value = rw (le-leb t last_time time, le-leb (unsigned_abs v) largest_value value)
@@ -91,57 +113,85 @@ fields_read time value t v T V read_t read_v in_time in_value =
     slice_split_at (λ b. nat_eq b 44) time 44 value apart refl ∙ ap (λ l. time ∷ l) (slice_split_none (λ b. nat_eq b 44) value whole) in
     ap point_of_fields two ∙ ap (λ r. point_read r (numeral value)) read_t ∙ ap (λ r. point_read (Some (pos t)) r) read_v ∙ point_is t v in_time in_value
 
-plain_point : (time value after : List ℕ) (t : ℕ) (v : ℤ) → All (λ b. 44 < b) time → All (λ b. 44 < b) value → numeral time ≡ Some (pos t) → numeral value ≡ Some v
-    → t ≤ last_time → unsigned_abs v ≤ largest_value → IsFirstPoint (time ++ 44 ∷ (value ++ 10 ∷ after)) after (Ok (record { t = t; v = v }))
-plain_point time value after t v T V read_t read_v in_time in_value =
+plain_point : (time value after tail : List ℕ) (t : ℕ) (v : ℤ) → All (λ b. 44 < b) time → All (λ b. 44 < b) value → numeral time ≡ Some (pos t)
+    → numeral value ≡ Some v → t ≤ last_time → unsigned_abs v ≤ largest_value → (tail ≡ 10 ∷ after) ⊎ (tail ≡ 13 ∷ 10 ∷ after)
+    → IsFirstPoint (time ++ 44 ∷ (value ++ tail)) after (Ok (record { t = t; v = v }))
+plain_point time value after tail t v T V read_t read_v in_time in_value ends =
     let line : List ℕ = time ++ 44 ∷ value in
     let low : (b : ℕ) → 44 < b → 44 ≤ b = λ b h. omega arith in
     let high : All (λ b. 44 ≤ b) line =
     All-append (λ b. 44 ≤ b) time (44 ∷ value) (All-weaker (λ b. 44 < b) (λ b. 44 ≤ b) low time T)
     (All-cons (λ b. 44 ≤ b) 44 value (omega arith) (All-weaker (λ b. 44 < b) (λ b. 44 ≤ b) low value V)) in
     let some : 0 < length line = omega (arith, length-append time (44 ∷ value)) in
-    record {
-      line = line;
-      cut = ap lines (sym (append_assoc time (44 ∷ value) (10 ∷ after))) ∙ line_cut line after some high;
-      reads = sym (fields_read time value t v T V read_t read_v in_time in_value);
-    }
+    subst (λ l. IsFirstPoint l after (Ok (record { t = t; v = v }))) (append_assoc time (44 ∷ value) tail)
+    (ended_point line after tail (Ok (record { t = t; v = v })) some high ends
+    (sym (fields_read time value t v T V read_t read_v in_time in_value)))
+
+-- at this index stands the byte that ends a value, and at that one the line feed after it
+pub record EndsAt (text : List ℕ) (end byte feed : ℕ) : Type 0 where
+  pub is : ((byte ≡ 10) × (feed ≡ end)) ⊎ ((byte ≡ 13) × (feed ≡ end + 1))
+  pub fed : get_or text feed 0 ≡ 10
+  pub within : feed < length text
+
+-- what is left after it
+abbrev pub after_feed : List ℕ → ℕ → List ℕ
+after_feed text feed = take (length text - (feed + 1)) (drop (feed + 1) text)
+
+-- so the line ends there
+ends_line : (text : List ℕ) (end byte feed : ℕ) → EndsAt text end byte feed
+    → (byte ∷ drop (end + 1) text ≡ 10 ∷ after_feed text feed) ⊎ (byte ∷ drop (end + 1) text ≡ 13 ∷ 10 ∷ after_feed text feed)
+ends_line text end byte feed ends =
+    let rest : drop (feed + 1) text ≡ after_feed text feed = sym (rest_whole text (feed + 1)) in
+    let fed : drop feed text ≡ 10 ∷ after_feed text feed =
+    drop_more text feed 0 ends.within ∙ ap (λ b. b ∷ drop (feed + 1) text) ends.fed ∙ ap (λ l. 10 ∷ l) rest in
+    elim ends.is [
+      | inl p ↦ inl (ap (λ b. b ∷ drop (end + 1) text) p.0 ∙ ap (λ k. 10 ∷ drop (k + 1) text) (sym p.1) ∙ ap (λ l. 10 ∷ l) rest)
+      | inr p ↦ inr (ap (λ b. b ∷ drop (end + 1) text) p.0 ∙ ap (λ k. 13 ∷ drop k text) (sym p.1) ∙ ap (λ l. 13 ∷ l) fed)
+    ]
 
 unsigned_abs-neg_ℤ : (n : ℕ) → unsigned_abs (neg_ℤ (pos n)) ≡ n
 unsigned_abs-neg_ℤ zero = refl
 unsigned_abs-neg_ℤ (suc n) = refl
 
 -- a line with no sign
-pub plain_positive : (text : List ℕ) (comma from end t size : ℕ) (v : ℤ) → from ≡ comma + 1 → v ≡ pos size → IsField text 0 comma 44 t → IsField text from end 10 size → t ≤ last_time → size ≤ largest_value
-    → IsFirstPoint text (take (length text - (end + 1)) (drop (end + 1) text)) (Ok (record { t = t; v = v }))
-plain_positive text comma from end t size v start spelt time given in_time in_value =
-    let value : IsField text (comma + 1) end 10 size = subst (λ k. IsField text k end 10 size) start given in
-    let after : List ℕ = take (length text - (end + 1)) (drop (end + 1) text) in
+pub plain_positive : (text : List ℕ) (comma from end byte feed t size : ℕ) (v : ℤ) → from ≡ comma + 1 → v ≡ pos size → IsField text 0 comma 44 t
+    → IsField text from end byte size → EndsAt text end byte feed → t ≤ last_time → size ≤ largest_value
+    → IsFirstPoint text (after_feed text feed) (Ok (record { t = t; v = v }))
+plain_positive text comma from end byte feed t size v start spelt time given ends in_time in_value =
+    let value : IsField text (comma + 1) end byte size = subst (λ k. IsField text k end byte size) start given in
+    let after : List ℕ = after_feed text feed in
+    let tail : List ℕ = byte ∷ drop (end + 1) text in
     let ts : List ℕ = take (comma - 0) (drop 0 text) in
     let vs : List ℕ = take (end - (comma + 1)) (drop (comma + 1) text) in
     let times = field_digits text 0 comma 44 t time in
-    let values = field_digits text (comma + 1) end 10 size value in
-    let cut : text ≡ ts ++ 44 ∷ (vs ++ 10 ∷ after) =
-    field_cut text 0 comma 44 t time ∙ ap (λ l. ts ++ 44 ∷ l) (field_cut text (comma + 1) end 10 size value) ∙ ap (λ l. ts ++ 44 ∷ (vs ++ 10 ∷ l)) (sym (rest_whole text (end + 1))) in
-    subst (λ l. IsFirstPoint l after (Ok (record { t = t; v = v }))) (sym cut) (subst (λ z. IsFirstPoint (ts ++ 44 ∷ (vs ++ 10 ∷ after)) after (Ok (record { t = t; v = z }))) (sym spelt)
-    (plain_point ts vs after t (pos size) (past_comma ts t times) (past_comma vs size values) (numeral_is ts t times) (numeral_is vs size values) in_time in_value))
+    let values = field_digits text (comma + 1) end byte size value in
+    let cut : text ≡ ts ++ 44 ∷ (vs ++ tail) =
+    field_cut text 0 comma 44 t time ∙ ap (λ l. ts ++ 44 ∷ l) (field_cut text (comma + 1) end byte size value) in
+    subst (λ l. IsFirstPoint l after (Ok (record { t = t; v = v }))) (sym cut)
+    (subst (λ z. IsFirstPoint (ts ++ 44 ∷ (vs ++ tail)) after (Ok (record { t = t; v = z }))) (sym spelt)
+    (plain_point ts vs after tail t (pos size) (past_comma ts t times) (past_comma vs size values) (numeral_is ts t times) (numeral_is vs size values)
+    in_time in_value (ends_line text end byte feed ends)))
 
 -- a line with a sign
-pub plain_negative : (text : List ℕ) (comma from end t size : ℕ) (v : ℤ) → from ≡ comma + 2 → v ≡ neg_ℤ (pos size) → IsField text 0 comma 44 t → get_or text (comma + 1) 0 ≡ 45 → IsField text from end 10 size → t ≤ last_time → size ≤ largest_value
-    → IsFirstPoint text (take (length text - (end + 1)) (drop (end + 1) text)) (Ok (record { t = t; v = v }))
-plain_negative text comma from end t size v start spelt time sign given in_time in_value =
-    let value : IsField text (comma + 2) end 10 size = subst (λ k. IsField text k end 10 size) start given in
-    let after : List ℕ = take (length text - (end + 1)) (drop (end + 1) text) in
+pub plain_negative : (text : List ℕ) (comma from end byte feed t size : ℕ) (v : ℤ) → from ≡ comma + 2 → v ≡ neg_ℤ (pos size)
+    → IsField text 0 comma 44 t → get_or text (comma + 1) 0 ≡ 45 → IsField text from end byte size → EndsAt text end byte feed → t ≤ last_time
+    → size ≤ largest_value → IsFirstPoint text (after_feed text feed) (Ok (record { t = t; v = v }))
+plain_negative text comma from end byte feed t size v start spelt time sign given ends in_time in_value =
+    let value : IsField text (comma + 2) end byte size = subst (λ k. IsField text k end byte size) start given in
+    let after : List ℕ = after_feed text feed in
+    let tail : List ℕ = byte ∷ drop (end + 1) text in
     let ts : List ℕ = take (comma - 0) (drop 0 text) in
     let vs : List ℕ = take (end - (comma + 2)) (drop (comma + 2) text) in
     let times = field_digits text 0 comma 44 t time in
-    let values = field_digits text (comma + 2) end 10 size value in
+    let values = field_digits text (comma + 2) end byte size value in
     let inside : comma + 1 < length text = omega (arith, value.some, value.within) in
     let signed : drop (comma + 1) text ≡ 45 ∷ drop (comma + 2) text =
     drop-cons text (comma + 1) 0 inside ∙ ap (λ b. b ∷ drop (suc (comma + 1)) text) sign ∙ ap (λ k. 45 ∷ drop k text) {x = suc (comma + 1)} {y = comma + 2} (omega arith) in
-    let cut : text ≡ ts ++ 44 ∷ ((45 ∷ vs) ++ 10 ∷ after) =
-    field_cut text 0 comma 44 t time ∙ ap (λ l. ts ++ 44 ∷ l) (signed ∙ ap (λ l. 45 ∷ l) (field_cut text (comma + 2) end 10 size value))
-    ∙ ap (λ l. ts ++ 44 ∷ ((45 ∷ vs) ++ 10 ∷ l)) (sym (rest_whole text (end + 1))) in
+    let cut : text ≡ ts ++ 44 ∷ ((45 ∷ vs) ++ tail) =
+    field_cut text 0 comma 44 t time ∙ ap (λ l. ts ++ 44 ∷ l) (signed ∙ ap (λ l. 45 ∷ l) (field_cut text (comma + 2) end byte size value)) in
     let past : All (λ b. 44 < b) (45 ∷ vs) = All-cons (λ b. 44 < b) 45 vs (omega arith) (past_comma vs size values) in
     let amount : unsigned_abs (neg_ℤ (pos size)) ≡ size = unsigned_abs-neg_ℤ size in
-    subst (λ l. IsFirstPoint l after (Ok (record { t = t; v = v }))) (sym cut) (subst (λ z. IsFirstPoint (ts ++ 44 ∷ ((45 ∷ vs) ++ 10 ∷ after)) after (Ok (record { t = t; v = z }))) (sym spelt)
-    (plain_point ts (45 ∷ vs) after t (neg_ℤ (pos size)) (past_comma ts t times) past (numeral_is ts t times) (negative_is vs size values) in_time (rw amount in_value)))
+    subst (λ l. IsFirstPoint l after (Ok (record { t = t; v = v }))) (sym cut)
+    (subst (λ z. IsFirstPoint (ts ++ 44 ∷ ((45 ∷ vs) ++ tail)) after (Ok (record { t = t; v = z }))) (sym spelt)
+    (plain_point ts (45 ∷ vs) after tail t (neg_ℤ (pos size)) (past_comma ts t times) past (numeral_is ts t times) (negative_is vs size values)
+    in_time (rw amount in_value) (ends_line text end byte feed ends)))

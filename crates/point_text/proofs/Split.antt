@@ -1,12 +1,16 @@
 -- Lemmas on the parts between separators, and on the lines of a text.
-use Rattle.std.proofs.Common.{◌≡◌, ◌≢◌, ℕ, ◌+◌, ◌-◌, ◌<◌, ◌≤◌, Bool, cond, List, [], ◌∷◌, length, take, drop, nat_eq, nat_lt, position, Some, None, arith, refl, sym, ap, ◌∙◌}
+use Rattle.std.proofs.Common.{◌≡◌, ◌≢◌, ℕ, ◌+◌, ◌-◌, ◌<◌, ◌≤◌, Bool, cond, List, [], ◌∷◌, length, take, drop, nat_eq, nat_lt, position, false, ◌++◌, get_or, All, Some, None, arith, refl, sym, ap, ◌∙◌, length-take, get_or-take}
 use Rattle.std.proofs.lemmas.Grind.{common_steps}
 use Rattle.std.proofs.lemmas.List.Quantifiers.{position-Some}
-use Rattle.std.proofs.lemmas.List.Splits.{slice_split_none, slice_split_first, length-slice_split}
+use Rattle.std.proofs.lemmas.List.Splits.{slice_split_at, slice_split_none, slice_split_first, length-slice_split}
+use Rattle.std.proofs.lemmas.Bool.{eqb-true}
+use Rattle.std.proofs.lemmas.List.{drop_more, take-append-drop}
+use Rattle.std.proofs.lemmas.List.Elements.{All-from_get_or}
 use Rattle.std.proofs.lemmas.List.Sums.{position_or_len_is, fails_before_first}
 use Rattle.std.proofs.lemmas.Bool.Decides.{nat_tests}
 use Rattle.std.specs.List.{slice_split, position_or_len}
 use Rattle.std.specs.Str.Lines.{lines, lines_of_parts, strip_carriage_return}
+use Rattle.point_text.specs.FirstPoint.{HasNoFeed}
 
 -- the end of a list, as it is cut out of it
 pub rest_whole : (xs : List ℕ) (i : ℕ) → take (length xs - i) (drop i xs) ≡ drop i xs
@@ -37,25 +41,40 @@ pub lines_of_parts-cons : (x : List ℕ) (parts : List (List ℕ)) → 0 < lengt
 lines_of_parts-cons x [] some = absurd (omega arith)
 lines_of_parts-cons x (y ∷ more) some = refl
 
--- the first line of a text that has a line feed
-pub lines_found : (bs : List ℕ) (i : ℕ) → position (λ b. nat_eq b 10) bs ≡ Some i
-    → lines bs ≡ strip_carriage_return (take i bs) ∷ lines (take (length bs - (i + 1)) (drop (i + 1) bs))
-lines_found bs i at =
-    let rest : List ℕ = take (length bs - (i + 1)) (drop (i + 1) bs) in
-    let some = length-slice_split (λ b. nat_eq b 10) rest in
-    ap lines_of_parts (split_found (λ b. nat_eq b 10) bs i at)
-    ∙ lines_of_parts-cons (take i bs) (slice_split (λ b. nat_eq b 10) rest) (omega arith)
+-- a line and its line feed come before the lines of the rest
+pub lines_fed : (line after : List ℕ) → HasNoFeed line → lines (line ++ 10 ∷ after) ≡ strip_carriage_return line ∷ lines after
+lines_fed line after one =
+    let some = length-slice_split (λ b. nat_eq b 10) after in
+    ap lines_of_parts (slice_split_at (λ b. nat_eq b 10) line 10 after one refl)
+    ∙ lines_of_parts-cons line (slice_split (λ b. nat_eq b 10) after) (omega arith)
 
 -- a last part that is not empty is a line
 one_line : (bs : List ℕ) → 0 < length bs → lines_of_parts (bs ∷ []) ≡ bs ∷ []
 one_line bs some = grind (arith, nat_tests)
 
 -- a text with no line feed is its one line
-pub lines_not_found : (bs : List ℕ) → position (λ b. nat_eq b 10) bs ≡ None → 0 < length bs
-    → lines bs ≡ bs ∷ lines (take (length bs - length bs) (drop (length bs) bs))
-lines_not_found bs none some =
-    let gone : take (length bs - length bs) (drop (length bs) bs) ≡ [] = grind (arith, common_steps) in
-    ap lines_of_parts (split_not_found (λ b. nat_eq b 10) bs none) ∙ one_line bs some ∙ ap (λ l. bs ∷ lines l) (sym gone)
+pub lines_begun : (line : List ℕ) → HasNoFeed line → 0 < length line → lines line ≡ line ∷ []
+lines_begun line one some = ap lines_of_parts (slice_split_none (λ b. nat_eq b 10) line one) ∙ one_line line some
+
+-- a text is cut at its first line feed
+pub feed_found : (text : List ℕ) (i : ℕ) → position (λ b. nat_eq b 10) text ≡ Some i
+    → (text ≡ take i text ++ 10 ∷ take (length text - (i + 1)) (drop (i + 1) text)) × HasNoFeed (take i text)
+feed_found text i at =
+    let found = position-Some (λ b. nat_eq b 10) text i 0 at in
+    let byte : get_or text i 0 ≡ 10 = eqb-true _ _ found.1 in (
+      sym (take-append-drop i text)
+          ∙ ap (λ l. take i text ++ l) (drop_more text i 0 found.0 ∙ ap (λ b. b ∷ drop (i + 1) text) byte
+          ∙ ap (λ l. 10 ∷ l) (sym (rest_whole text (i + 1)))),
+      All-from_get_or (λ b. nat_eq b 10 ≡ false) (take i text) 0 (λ k below.
+          let here : k < i = omega (arith, below, length-take i text) in
+          rw (get_or-take i text k 0 here) (found.2 k here)),
+    )
+
+-- and where none is found there is none
+pub feed_not_found : (text : List ℕ) → position (λ b. nat_eq b 10) text ≡ None → HasNoFeed text
+feed_not_found text none =
+    let past = past_all (position_or_len (λ b. nat_eq b 10) text) (length text) none in
+    λ k d below. fails_before_first (λ b. nat_eq b 10) text k d (omega arith)
 
 -- two separators make more parts than two
 pub split_thrice : (p : ℕ → Bool) (xs : List ℕ) (i j : ℕ) → position p xs ≡ Some i

@@ -1,12 +1,25 @@
--- The point of a text's first line. For private functions: no public call cites it.
-use Rattle.std.specs.Prelude.{◌≡◌, ℕ, List, ◌∷◌, Result}
-use Rattle.std.specs.Str.Lines.{lines}
+-- The first line of a text of which more may come.
+use Rattle.std.specs.Prelude.{◌≡◌, ℕ, List, ◌∷◌, ◌++◌, All, false, map, nat_eq, Result}
+use Rattle.std.specs.Str.Lines.{lines, strip_carriage_return}
 use Rattle.trend_num.specs.declared.point.Point.{Point}
 use Rattle.trend_num.specs.declared.refusal.Reason.{Reason}
 use Rattle.point_text.specs.Row.{point_of_line}
 
--- the first line of the text reads so, and the other lines are those of what follows it
+-- there is no line feed in these bytes
+abbrev pub HasNoFeed : List ℕ → Type 0
+HasNoFeed bytes = All (λ b. nat_eq b 10 ≡ false) bytes
+
+-- the text begins with a line that reads so, and then comes its line feed and the rest
 pub record IsFirstPoint (text after : List ℕ) (read : Result Point Reason) : Type 0 where
   pub line : List ℕ
-  pub cut : lines text ≡ line ∷ lines after
-  pub reads : read ≡ point_of_line line
+  pub cut : text ≡ line ++ 10 ∷ after
+  pub one : HasNoFeed line
+  pub reads : read ≡ point_of_line (strip_carriage_return line)
+
+-- what the lines of a text read as
+abbrev pub reads_of : List ℕ → List (Result Point Reason)
+reads_of text = map point_of_line (lines text)
+
+-- two texts read the same, whatever follows them
+pub record ReadSame (a b : List ℕ) : Type 0 where
+  pub same : (more : List ℕ) → reads_of (a ++ more) ≡ reads_of (b ++ more)

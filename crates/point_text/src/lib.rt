@@ -1,9 +1,10 @@
 //! The lines of `pack`: the points that a text spells, and the text of an archive.
 //!
-//! `read_points` reads lines `TIME,VALUE`; its model is `points_of`, which reads a whole text, or finds the first bad
-//! line with its first reason, or more lines than there may be. Most lines are read in one pass, eight digits at a time
-//! (`plain_line`); any other is found first, split at its comma, and its numerals read and tested (`line_reader`). Both
-//! are proved to read the same. `archive_text` prints records and the held point (`printer`). Only want of memory is
+//! The model of reading is `points_of`, which reads a whole text of lines `TIME,VALUE`, or finds the first bad line with
+//! its first reason, or more lines than there may be. `first_point` reads one line of a text of which more may come.
+//! Most lines are read in one pass, eight digits at a time (`plain_line`); any other is found first, split at its comma,
+//! and its numerals read and tested (`line_reader`). Both are proved to read the same. `short_line` stands for the
+//! begin of a line that is too long to have a point. `archive_text` prints records and the held point (`printer`). Only want of memory is
 //! refused beside what the model refuses.
 #![tactic(auto)]
 
@@ -13,6 +14,6 @@ mod plain_line;
 mod printer;
 
 pub use failure::RowNo;
-pub use line_reader::read_points;
+pub use line_reader::{first_point, point_of_line, short_line};
 pub use printer::archive_text;
 pub use trend_num::{Kind, Point, Reason, Rec, WantOfMemory};

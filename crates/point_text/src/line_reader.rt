@@ -1,55 +1,32 @@
-// The points of a text's lines.
-ghost use Rattle.std.specs.Prelude.{◌≡◌, ◌≢◌, ◌⊎◌, ◌+◌, ◌<◌, ◌≤◌, [], ◌∷◌, length, position, nat_eq, vec_len, All, IfOk, IfErr, IfSome, IfNone};
-ghost use Rattle.std.specs.List.{slice_split};
-ghost use Rattle.std.specs.Str.Lines.{lines, strip_carriage_return};
+// The point of a text's first line.
+ghost use Rattle.std.specs.Prelude.{◌≡◌, ◌≢◌, ◌+◌, ◌<◌, ◌≤◌, [], ◌∷◌, length, position, nat_eq, IfOk, IfSome, IfNone};
+ghost use Rattle.std.specs.List.{count_by, slice_split};
+ghost use Rattle.std.specs.Str.Lines.{strip_carriage_return};
 ghost use Rattle.trend_num.specs.Numerals.{natural_upto};
 ghost use Rattle.trend_num.specs.Ranges.{InRange, last_time};
-ghost use Rattle.point_text.specs.Row.{point_of, point_of_line, points_of};
-ghost use Rattle.point_text.specs.FirstPoint.{IsFirstPoint};
+ghost use Rattle.point_text.specs.Row.{point_of, point_of_line};
+ghost use Rattle.point_text.specs.FirstPoint.{HasNoFeed, IsFirstPoint, ReadSame};
 
-use crate::failure::RowNo;
 use crate::plain_line::plain_line;
-use std::alloc::Global;
 use trend_num::{MAX_T, MAX_V, Point, Reason, numeral};
 
 /// What stands between the fields of a line.
 const COMMA: u8 = b',';
 
-/// How long a line is taken to be, where room is made for the points before they are read.
-const BYTES_A_LINE: usize = 16;
+/// What ends a line.
+const FEED: u8 = b'\n';
 
-/// The points of a text's lines `TIME,VALUE`, oldest (first line) first.
-pub fn read_points(alloc: Global, bytes: &[u8], most: u64) -> Result<Vec<Point>, RowNo>
-    ensures points { IfOk result (λ v. points_of most bytes.now ≡ Ok v.items) }
-    ensures refused { IfErr result (λ why. (why ≡ RowNo.WantOfMemory) ⊎ (points_of most bytes.now ≡ Err why)) }
-    ensures few { IfOk result (λ v. vec_len v ≤ most) }
-    ensures in_range { IfOk result (λ v. All InRange v.items) }
-{
-    let room = (bytes.len() / BYTES_A_LINE + 1).min(most as usize);
-    let mut points = Vec::with_capacity(alloc, room).map_err(|_| RowNo::WantOfMemory)?;
-    let mut rest = bytes;
-    while let Some((read, after)) = first_point(rest) {
-        let rows = points.len() as u64;
-        if rows == most {
-            return Err(RowNo::TooMany { rows: rows + 1 });
-        }
-        let point = read.map_err(|reason| RowNo::BadRow {
-            row: rows + 1,
-            reason,
-        })?;
-        points.push(point).map_err(|_| RowNo::WantOfMemory)?;
-        rest = after;
-    }
-    Ok(points)
-}
+/// The most bytes of a line that has a point: two numerals of at most 20 digits and a sign, and a comma.
+const POINT_BYTES: usize = 43;
 
-/// The point of a text's first line, or the first reason why it has none, and what follows the line. None where no line is
-/// left.
+/// The point of the first line of a text, or the first reason why it has none, and what follows its line feed. None where
+/// no line feed is in the text.
 #[inline(always)]
-fn first_point(text: &[u8]) -> Option<(Result<Point, Reason>, &[u8])>
+pub fn first_point(text: &[u8]) -> Option<(Result<Point, Reason>, &[u8])>
     ensures point { IfSome result (λ p. IsFirstPoint text.now p.1.now p.0) }
+    ensures in_range { IfSome result (λ p. IfOk p.0 InRange) }
     ensures shorter { IfSome result (λ p. length p.1.now < length text.now) }
-    ensures none { IfNone result (lines text.now ≡ []) }
+    ensures none { IfNone result (HasNoFeed text.now) }
 {
     match plain_line(text) {
         Some((point, after)) => Some((Ok(point), after)),
@@ -62,25 +39,40 @@ fn first_point(text: &[u8]) -> Option<(Result<Point, Reason>, &[u8])>
 fn point_of_any_line(text: &[u8]) -> Option<(Result<Point, Reason>, &[u8])>
     ensures point { IfSome result (λ p. IsFirstPoint text.now p.1.now p.0) }
     ensures shorter { IfSome result (λ p. length p.1.now < length text.now) }
-    ensures none { IfNone result (lines text.now ≡ []) }
+    ensures none { IfNone result (HasNoFeed text.now) }
 {
-    let (line, after) = first_line(text)?;
-    Some((point_of_line(line), after))
+    match find_byte(text, FEED) {
+        Some(end) => {
+            let line = without_carriage_return(&text[..end]);
+            Some((point_of_line(line), &text[end + 1..]))
+        }
+        None => None,
+    }
 }
 
-/// The first line of a text and what follows it, or none where no line is left.
-fn first_line(text: &[u8]) -> Option<(&[u8], &[u8])>
-    ensures line { IfSome result (λ p. lines text.now ≡ p.0.now ∷ lines p.1.now) }
-    ensures shorter { IfSome result (λ p. length p.1.now < length text.now) }
-    ensures none { IfNone result (lines text.now ≡ []) }
+/// A short line that reads as this one does, whatever follows: as badly, since this one is too long to have a point.
+pub fn short_line(line: &[u8]) -> &'static [u8]
+    requires long { POINT_BYTES + 1 < length line.now }
+    requires begun { HasNoFeed line.now }
+    ensures same { ReadSame line.now result.now }
+    ensures begun { HasNoFeed result.now }
+    ensures short { length result.now ≤ 3 }
 {
-    if text.is_empty() {
-        return None;
+    let count = commas(line);
+    if count == 0 {
+        return b"x";
     }
-    match find_byte(text, b'\n') {
-        Some(end) => Some((without_carriage_return(&text[..end]), &text[end + 1..])),
-        None => Some((text, &text[text.len()..])),
+    if count == 1 {
+        return b"x,";
     }
+    b"x,,"
+}
+
+/// How many commas a line has.
+fn commas(line: &[u8]) -> usize
+    ensures { result ≡ count_by (λ b. nat_eq b COMMA) line.now }
+{
+    line.iter().filter(|b| **b == COMMA).count()
 }
 
 /// The first index at which the byte stands.
@@ -101,7 +93,7 @@ fn without_carriage_return(line: &[u8]) -> &[u8]
 }
 
 /// The point of a line, or the first reason why it has none.
-fn point_of_line(line: &[u8]) -> Result<Point, Reason>
+pub fn point_of_line(line: &[u8]) -> Result<Point, Reason>
     ensures { result ≡ point_of_line line.now }
 {
     let (time, value) = two_fields(line).ok_or(Reason::Fields)?;
@@ -147,69 +139,15 @@ mod tests {
         Point { t, v }
     }
 
-    #[test]
-    fn reads_points(rt: HostRuntime) -> Result<(), Fail> {
-        let last = at(253_402_300_799_999, 1_000_000_000_000_000);
-        let table: [(&[u8], &[Point]); 8] = [
-            (b"", &[]),
-            (b"1,2", &[at(1, 2)]),
-            (b"1,2\n", &[at(1, 2)]),
-            (b"1,2\r\n3,-4\r\n", &[at(1, 2), at(3, -4)]),
-            (b"-0,-0\n007,-0008", &[at(0, 0), at(7, -8)]),
-            (b"5,1\n5,1\n4,1\n", &[at(5, 1), at(5, 1), at(4, 1)]),
-            (b"253402300799999,1000000000000000\n", &[last]),
-            (
-                b"00000000000000000001,-1000000000000000",
-                &[at(1, -1_000_000_000_000_000)],
-            ),
-        ];
-        for (text, points) in table {
-            let read = read_points(rt.alloc(), text, 3)?;
-            assert_eq!(rt; read.as_slice(), points);
-        }
-        Ok(())
-    }
+    /// Bytes enough to follow a line that is read eight bytes at a time.
+    const TAIL: &str = "1700000000986,5005\n1700000001518,-4998\n";
 
-    #[test]
-    fn refuses_rows(rt: HostRuntime) {
-        let table: [(&[u8], u64, Reason); 21] = [
-            (b"12", 1, Reason::Fields),
-            (b"1,2,3", 1, Reason::Fields),
-            (b"x,y,z", 1, Reason::Fields),
-            (b"\n1,2", 1, Reason::Fields),
-            (b"1,2\n\n", 2, Reason::Fields),
-            (b"1,2\n\r\n", 2, Reason::Fields),
-            (b"1, 2", 1, Reason::Number),
-            (b" 1,2\n", 1, Reason::Number),
-            (b"1,2 \n", 1, Reason::Number),
-            (b"--1,2\n", 1, Reason::Number),
-            (b"1,+1\n", 1, Reason::Number),
-            (b"1,000000000000000000001\n", 1, Reason::Number),
-            (b",1\n", 1, Reason::Number),
-            (b"1,\n", 1, Reason::Number),
-            (b"1,-\n", 1, Reason::Number),
-            (b"1,2\n3,4\r", 2, Reason::Number),
-            (b"1,2\r\r\n", 1, Reason::Number),
-            (b"253402300800000,0\n", 1, Reason::Range),
-            (b"-1,0\n", 1, Reason::Range),
-            (b"0,1000000000000001\n", 1, Reason::Range),
-            (b"0,-1000000000000001\n", 1, Reason::Range),
-        ];
-        for (text, row, reason) in table {
-            let read = read_points(rt.alloc(), text, 9);
-            assert!(rt; read.is_err_and(|e| e == RowNo::BadRow { row, reason }));
-        }
-    }
-
-    /// Lines enough to follow one that is read eight bytes at a time.
-    const TAIL: &str = "8,8\n1700000000986,5005\n1700000001518,-4998\n";
-
-    fn after(rt: &HostRuntime, line: &str) -> Result<String, Fail> {
+    fn before_tail(rt: &HostRuntime, line: &str) -> Result<String, Fail> {
         Ok(format!(in rt.alloc(); "{line}\n{TAIL}")?)
     }
 
     #[test]
-    fn reads_long_texts(rt: HostRuntime) -> Result<(), Fail> {
+    fn reads_first_points(rt: HostRuntime) -> Result<(), Fail> {
         let table = [
             ("1700000000986,5005", at(1_700_000_000_986, 5005)),
             ("0,0", at(0, 0)),
@@ -221,64 +159,100 @@ mod tests {
             ),
             ("0000000000000007,0000000000000008", at(7, 8)),
             ("00000000000000000007,00000000000000000008", at(7, 8)),
+            (
+                "00000000000000000001,-1000000000000000",
+                at(1, -1_000_000_000_000_000),
+            ),
             ("-0,-0", at(0, 0)),
+            ("007,-0008", at(7, -8)),
             ("7,8\r", at(7, 8)),
+            ("1700000000986,-5005\r", at(1_700_000_000_986, -5005)),
         ];
         for (line, first) in table {
-            let text = after(&rt, line)?;
-            let read = read_points(rt.alloc(), text.as_bytes(), 4)?;
-            let points = [
-                first,
-                at(8, 8),
-                at(1_700_000_000_986, 5005),
-                at(1_700_000_001_518, -4998),
-            ];
-            assert_eq!(rt; read.as_slice(), points.as_slice());
+            let text = format!(in rt.alloc(); "{line}\n")?;
+            let long = before_tail(&rt, line)?;
+            assert_eq!(rt;
+                first_point(text.as_bytes()),
+                Some((Ok(first), b"".as_slice()))
+            );
+            assert_eq!(rt;
+                first_point(long.as_bytes()),
+                Some((Ok(first), TAIL.as_bytes()))
+            );
         }
         Ok(())
     }
 
     #[test]
-    fn refuses_rows_of_long_texts(rt: HostRuntime) -> Result<(), Fail> {
+    fn tells_why_first_lines_are_bad(rt: HostRuntime) -> Result<(), Fail> {
         let table = [
             ("", Reason::Fields),
+            ("\r", Reason::Fields),
             ("12345678", Reason::Fields),
             ("1,2,3", Reason::Fields),
+            ("x,y,z", Reason::Fields),
+            ("1, 2", Reason::Number),
+            (" 1,2", Reason::Number),
+            ("1,2 ", Reason::Number),
             (",1", Reason::Number),
             ("1,", Reason::Number),
             ("1,-", Reason::Number),
+            ("1,+1", Reason::Number),
             ("1,--2", Reason::Number),
+            ("--1,2", Reason::Number),
             ("1,2/", Reason::Number),
             ("1,2:", Reason::Number),
             ("1234567\u{80},2", Reason::Number),
+            ("1,000000000000000000001", Reason::Number),
             ("1,2\r\r", Reason::Number),
+            ("1,2\r3", Reason::Number),
             ("253402300800000,0", Reason::Range),
             ("-1,0", Reason::Range),
             ("0,1000000000000001", Reason::Range),
             ("0,-1000000000000001", Reason::Range),
         ];
         for (line, reason) in table {
-            let text = after(&rt, line)?;
-            let read = read_points(rt.alloc(), text.as_bytes(), 9);
-            assert!(rt; read.is_err_and(|e| e == RowNo::BadRow { row: 1, reason }));
+            let text = format!(in rt.alloc(); "{line}\n")?;
+            let long = before_tail(&rt, line)?;
+            assert_eq!(rt;
+                first_point(text.as_bytes()),
+                Some((Err(reason), b"".as_slice()))
+            );
+            assert_eq!(rt;
+                first_point(long.as_bytes()),
+                Some((Err(reason), TAIL.as_bytes()))
+            );
         }
         Ok(())
     }
 
     #[test]
-    fn counts_rows(rt: HostRuntime) -> Result<(), Fail> {
-        let table: [(&[u8], u64, u64); 4] = [
-            (b"1,2", 0, 1),
-            (b"x", 0, 1),
-            (b"1,2\n3,4\n5,6\n", 2, 3),
-            (b"1,2\n3,4\nbad", 2, 3),
+    fn a_line_without_a_line_feed_is_not_first(rt: HostRuntime) {
+        assert_eq!(rt; first_point(b""), None);
+        assert_eq!(rt; first_point(b"1,2"), None);
+        assert_eq!(rt;
+            first_point(b"1700000000986,5005,1700000001518,-4998,1700000000986"),
+            None
+        );
+        assert_eq!(rt; point_of_line(b"1,2"), Ok(at(1, 2)));
+        assert_eq!(rt; point_of_line(b"1,2\r"), Err(Reason::Number));
+    }
+
+    #[test]
+    fn a_short_line_stands_for_a_long_one(rt: HostRuntime) {
+        let table: [(&[u8], &[u8]); 4] = [
+            (b"000000000000000000000000000000000000000000001", b"x"),
+            (b"0000000000000000000000,0000000000000000000001", b"x,"),
+            (b"0000000000000000000000,000000000000000000000,", b"x,,"),
+            (b",,,,,,,,,,,,,,,,,,,,,,,,,,,,,,,,,,,,,,,,,,,,,", b"x,,"),
         ];
-        for (text, most, rows) in table {
-            let read = read_points(rt.alloc(), text, most);
-            assert!(rt; read.is_err_and(|e| e == RowNo::TooMany { rows }));
+        for (line, short) in table {
+            match first_point(line) {
+                None if line.len() > POINT_BYTES + 1 => {
+                    assert_eq!(rt; short_line(line), short);
+                }
+                _ => assert!(rt; false),
+            }
         }
-        let all = read_points(rt.alloc(), b"1,2\n3,4\n", 2)?;
-        assert_eq!(rt; all.len(), 2);
-        Ok(())
     }
 }

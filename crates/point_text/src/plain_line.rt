@@ -17,11 +17,12 @@ use trend_num::{MAX_T, MAX_V, Point};
 /// The most digits of a number in a plain line.
 const PLAIN_DIGITS: usize = 16;
 
-/// The most bytes of a plain line: two numbers, a comma, a sign and a line feed.
-const PLAIN_BYTES: usize = 2 * PLAIN_DIGITS + 3;
+/// The most bytes of a plain line: two numbers, a comma, a sign, a carriage return and a line feed.
+const PLAIN_BYTES: usize = 2 * PLAIN_DIGITS + 4;
 
 /// The point of a plain line that a text begins with, and what follows the line. Plain is a line whose numbers are in range
-/// and of 1 to 16 digits, with a `-` at most before the value, and a line feed after it. None says nothing of the text.
+/// and of 1 to 16 digits, with a `-` at most before the value, and after it a line feed or `\r` and a line feed. None says
+/// nothing of the text.
 #[inline(always)]
 pub(crate) fn plain_line(text: &[u8]) -> Option<(Point, &[u8])>
     ensures point { IfSome result (λ p. IsFirstPoint text.now p.1.now (Ok p.0)) }
@@ -38,12 +39,14 @@ pub(crate) fn plain_line(text: &[u8]) -> Option<(Point, &[u8])>
     let negative = text[sign] == b'-';
     let from = sign + usize::from(negative);
     let (size, end) = digits(text, from);
-    if end == from || text[end] != b'\n' || size > MAX_V as u64 {
+    let returned = text[end] == b'\r';
+    let feed = if returned { end + 1 } else { end };
+    if end == from || text[feed] != b'\n' || size > MAX_V as u64 {
         return None;
     }
     let amount = size as i64;
     let v = if negative { -amount } else { amount };
-    Some((Point { t, v }, &text[end + 1..]))
+    Some((Point { t, v }, &text[feed + 1..]))
 }
 
 /// The number that the digits from an index on spell, and the index after them. Digits past the sixteenth are left.

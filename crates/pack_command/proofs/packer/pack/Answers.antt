@@ -1,20 +1,36 @@
-use Rattle.std.proofs.Common.{◌≡◌, ◌⊎◌, subst, rules}
-use Rattle.plant_status.specs.declared.status.Status.TheVariants.{WantOfMemory}
-use Rattle.pack_command.specs.Pack.{Refuses, history_answer, history_of, origin_of}
-use Rattle.pack_command.proofs.Refusal.{history_refused}
+use Rattle.std.proofs.Common.{ℕ, string_bytes, sym, ap, ◌∙◌, subst}
+use Rattle.trend_num.specs.declared.refusal.What.TheVariants.{Records}
+use Rattle.point_text.specs.Text.{archive_text}
+use Rattle.plant_status.specs.declared.status.Status.TheVariants.{Limit}
+use Rattle.pack_command.specs.Pack.{IsPackRefusal, origin_of}
+use Rattle.pack_command.specs.Coming.{IsAllRead}
+use Rattle.pack_command.proofs.Ending.{ends_printed, ends_full, ends_refused}
 use Rattle.pack_command.proofs.packer.pack.Goals as goal
 
-pub returns-in_err-points-clause-refused : goal.returns-in_err-points-clause-refused
-returns-in_err-points-clause-refused g c =
-    let refused = c.in_err-points.ensures.refused c.args.tuning in
-    search rules
-
-pub returns-in_err-text-clause-refused : goal.returns-in_err-text-clause-refused
-returns-in_err-text-clause-refused g c =
+pub returns-in-Ok-archive_text-clause-printed : goal.returns-in-Ok-archive_text-clause-printed
+returns-in-Ok-archive_text-clause-printed g c =
     let before = g.I.Source.meaning c.args.input.now in
     let now = g.I.Source.meaning c.read_input.new.input in
-    let why = c.in_err-text.field-0.0 in
-    let refused = subst (λ l. (why ≡ WantOfMemory) ⊎ (history_answer (origin_of c.args.tuning) (history_of l) ≡ Refuses why))
-    c.as_slice.ensures.value c.in_err-text.ensures.refused in
-    let told = history_refused c.args.tuning before now c.in_ok-points.points.items why c.in_ok-points.ensures.points refused in
-    search rules
+    let intake = c.in-Ok.intake in
+    ends_printed c.args.tuning before now intake.core intake.rows (string_bytes c.in-Ok-archive_text.text)
+    (subst (IsAllRead (origin_of c.args.tuning) before now intake.core intake.rows) c.in-Taken.is c.in-Ok.ensures.read)
+    (c.in-Ok-archive_text.ensures ∙ ap (λ rs. archive_text rs c.held.result) c.recs.ensures
+    ∙ ap (archive_text intake.core.state.records) c.held.ensures)
+
+pub returns-in-Full-clause-refused : goal.returns-in-Full-clause-refused
+returns-in-Full-clause-refused g c =
+    let before = g.I.Source.meaning c.args.input.now in
+    let now = g.I.Source.meaning c.read_input.new.input in
+    let intake = c.in-Ok.intake in
+    subst (λ (n : ℕ). IsPackRefusal c.args.tuning before now (Limit Records n)) (sym c.from.ensures)
+    (ends_full c.args.tuning before now intake.core intake.rows c.in-Full.records
+    (subst (IsAllRead (origin_of c.args.tuning) before now intake.core intake.rows) c.in-Full.is c.in-Ok.ensures.read))
+
+pub returns-clause-refused : goal.returns-clause-refused
+returns-clause-refused g c =
+    let before = g.I.Source.meaning c.args.input.now in
+    let now = g.I.Source.meaning c.read_input.new.input in
+    let intake = c.in-Ok.intake in
+    subst (IsPackRefusal c.args.tuning before now) (sym c.status_of_rows.ensures)
+    (ends_refused c.args.tuning before now intake.core intake.rows c.in-Refused.why
+    (subst (IsAllRead (origin_of c.args.tuning) before now intake.core intake.rows) c.in-Refused.is c.in-Ok.ensures.read))
