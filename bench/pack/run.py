@@ -6,6 +6,7 @@ seed, runs the three in turn, seven times each, compares what they print, and te
 as a test. The plain packer reads all of the input first, and its numerals with `str::parse`; the fast one tests nothing at all."""
 import os
 import random
+import select
 import statistics
 import subprocess
 import sys
@@ -42,34 +43,57 @@ def write_lines(path, kind, size, ending="\n"):
 
 
 def timed(program, path):
-    """Seconds, peak memory in kilobytes, and what was printed."""
+    """Seconds, and what was printed."""
     with open(path, "rb") as source:
         began = time.perf_counter()
         child = subprocess.Popen([program] + WORDS, stdin=source, stdout=subprocess.PIPE)
         printed = child.stdout.read()
-        _, status, usage = os.wait4(child.pid, 0)
+        status = child.wait()
         seconds = time.perf_counter() - began
     if status != 0:
         sys.exit("%s: status %d" % (program, status))
-    return seconds, usage.ru_maxrss, printed
+    return seconds, printed
+
+
+def high_water(pid):
+    """The most kilobytes that a process has had so far; 0 where it has ended."""
+    with open("/proc/%d/status" % pid) as status:
+        for line in status:
+            if line.startswith("VmHWM:"):
+                return int(line.split()[1])
+    return 0
+
+
+def peak_memory(program, path):
+    """The most kilobytes that the program has had, seen every millisecond and after each piece of what it prints."""
+    peak = 0
+    with open(path, "rb") as source:
+        child = subprocess.Popen([program] + WORDS, stdin=source, stdout=subprocess.PIPE)
+        while True:
+            peak = max(peak, high_water(child.pid))
+            ready, _, _ = select.select([child.stdout], [], [], 0.001)
+            if ready and not os.read(child.stdout.fileno(), 65536):
+                break
+        child.wait()
+    return peak
 
 
 def compared(name, programs, path):
     """Runs the programs in turn, and tells the medians of the first and its part of each other's."""
-    seconds, peak, printed = {p: [] for p in programs}, 0, set()
+    seconds, printed = {p: [] for p in programs}, set()
     for _ in range(RUNS):
         for program in programs:
-            took, memory, text = timed(program, path)
+            took, text = timed(program, path)
             seconds[program].append(took)
-            printed.add(hash(text))
-            if program == programs[0]:
-                peak, lines = max(peak, memory), text.count(b"\n")
+            printed.add(text)
     if len(printed) != 1:
         sys.exit("%s: the programs print different bytes" % name)
+    records = printed.pop().count(b"\n")
+    peak = peak_memory(programs[0], path)
     medians = [statistics.median(seconds[p]) for p in programs]
     parts = "  ".join("%s %.3f s (%.2f)" % (os.path.basename(p), m, medians[0] / m) for p, m in zip(programs[1:], medians[1:]))
     print("%-14s proved %.3f s  %s  peak %d KB, of it %d KB beside 24 bytes a record"
-          % (name, medians[0], parts, peak, peak - lines * 24 // 1024))
+          % (name, medians[0], parts, peak, peak - records * 24 // 1024))
     return medians[0]
 
 
