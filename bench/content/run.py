@@ -1,0 +1,79 @@
+#!/usr/bin/env python3
+"""run.py: times contents of pages, and windows over them, beside a plain sorted vector of a million points.
+
+Lays main.rattle as a crate into a copy of the crates that it stands on, builds it (`rt run`), and runs each work in
+both ways, three times in turn. It tells medians, the ratio of the rates, what was aimed at, and bytes a point. It runs
+by hand, never as a test; with a word it builds in that folder, and keeps it."""
+import os
+import shutil
+import statistics
+import subprocess
+import sys
+import tempfile
+
+HERE = os.path.dirname(os.path.abspath(__file__))
+ROOT = os.path.dirname(os.path.dirname(HERE))
+BELOW = ["trend_num", "trend_model", "page_pool", "late_insert", "interp_read", "weighted_total"]
+RUNS = 3
+# The work, and how many times the plain rate the paged rate is to be at least.
+WORKS = [("in_order", 1 / 3), ("late", 50), ("whole_area", 5), ("whole_low", 5),
+         ("small_area", 1), ("small_low", 1)]
+
+
+def build(folder):
+    """The program, built in a repository of its own."""
+    crates = os.path.join(folder, "crates")
+    for name in BELOW:
+        shutil.copytree(os.path.join(ROOT, "crates", name), os.path.join(crates, name), dirs_exist_ok=True,
+                        ignore=shutil.ignore_patterns("out", "must-fail"))
+    source = os.path.join(crates, "content_bench", "src")
+    os.makedirs(source, exist_ok=True)
+    shutil.copyfile(os.path.join(HERE, "main.rattle"), os.path.join(source, "main.rt"))
+    with open(os.path.join(ROOT, "crates.txt")) as listed:
+        lines = [line for line in listed if line.split(":")[0] in BELOW]
+    with open(os.path.join(folder, "crates.txt"), "w") as out:
+        out.write("".join(lines) + "content_bench: anyhow trend_num late_insert weighted_total\n")
+    subprocess.run(["rt", "run", "--jobs", "2"], cwd=os.path.dirname(source), stdin=subprocess.DEVNULL,
+                   stdout=subprocess.DEVNULL, stderr=subprocess.DEVNULL, check=True)
+    return os.path.join(crates, "content_bench", "out", "content_bench")
+
+
+def run(program, work, how):
+    """What was printed, and the peak memory in kilobytes. A child's peak begins with its parent's, so the parent is small."""
+    words = ["/usr/bin/time", "-f", "%M", program, work, how]
+    child = subprocess.run(words, stdin=subprocess.DEVNULL, capture_output=True, check=True)
+    return [int(word) for word in child.stdout.split()], int(child.stderr)
+
+
+def measure(program, work, aim):
+    told = {"paged": [], "plain": []}
+    for _ in range(RUNS):
+        for how in told:
+            told[how].append(run(program, work, how))
+    each = {how: statistics.median(words[1] / words[2] for words, _ in told[how]) for how in told}
+    reserve = {how: statistics.median(words[0] for words, _ in told[how]) / 1e6 for how in told}
+    ratio = each["plain"] / each["paged"]
+    verdict = "met" if ratio >= aim else "MISSED"
+    print("%-10s paged %12.1f ns  plain %12.1f ns  rate %8.2f times  aim %5.2f %s"
+          % (work, each["paged"], each["plain"], ratio, aim, verdict))
+    print("%-10s memory before: paged %.3f ms  plain %.3f ms"
+          % ("", reserve["paged"], reserve["plain"]), flush=True)
+    if told["paged"][0][0][2] == told["plain"][0][0][2] and told["paged"][0][0][3] != told["plain"][0][0][3]:
+        sys.exit("%s: the two ways differ" % work)
+
+
+def main():
+    with tempfile.TemporaryDirectory() as scratch:
+        program = build(sys.argv[1] if len(sys.argv) > 1 else scratch)
+        print("load", os.getloadavg())
+        for work, aim in WORKS:
+            measure(program, work, aim)
+        for work, points in [("in_order", 1_000_000), ("late", 1_048_576)]:
+            for how in ["paged", "plain"]:
+                peak = max(run(program, work, how)[1] for _ in range(RUNS))
+                base = max(run(program, "nothing", how)[1] for _ in range(RUNS))
+                print("%-10s %s: %.1f bytes a point" % (work, how, (peak - base) * 1024 / points))
+        print("load", os.getloadavg())
+
+
+main()
