@@ -65,15 +65,10 @@ starts_from pool place (p ∷ ps) each some rises (suc i) (suc j) d below within
     starts_from pool (place + length (page_in pool p)) ps each.1 (All-tail (HasSome pool) p ps some) (rising_right (page_in pool p) (records_of pool ps) rises)
     i j d (omega arith) (omega arith)
 
--- of several pages each has records
-pub have_some : (pool : List (Option Frame)) (pages : List Page) → ArePages pool pages → 1 < length pages → All (HasSome pool) pages
-have_some pool pages paged several =
-    All-weaker (λ p. 64 ≤ length (page_in pool p)) (HasSome pool) (λ p h. omega arith) pages (paged.halves several)
-
 pub starts_rise : (pool : List (Option Frame)) (pages : List Page) → ArePages pool pages → AllPairs (λ p q. p.start ≤ q.start) pages
 starts_rise pool pages paged =
     elim (cases_lt 1 (length pages)) [
-      | inl several ↦ starts_from pool 0 pages paged.each (have_some pool pages paged several) paged.rising
+      | inl several ↦ starts_from pool 0 pages paged.each (paged.filled several) paged.rising
       | inr one ↦ λ i j d below within. absurd (omega arith)
     ]
 
@@ -118,7 +113,7 @@ module _ (pool : List (Option Frame)) (pages : List Page) (k t : ℕ) (paged : A
   before_found : (0 < k) → AllBefore (records_of pool (take k pages)) t
   before_found some i d inside =
       let p = get_or pages k no_page in
-      let has : HasSome pool p = have_some pool pages paged (omega arith) k no_page within in
+      let has : HasSome pool p = paged.filled (omega arith) k no_page within in
       let start = start_is pool _ p d (page_at pool pages k no_page within paged.each) has in
       let begins = early k no_page some (omega arith) in
       let rest = page_in pool p ++ records_of pool (drop (k + 1) pages) in
@@ -129,7 +124,7 @@ module _ (pool : List (Option Frame)) (pages : List Page) (k t : ℕ) (paged : A
   after_found : (k + 1 < length pages) → AllAfter t (records_of pool (drop (k + 1) pages))
   after_found more =
       let q = get_or pages (k + 1) no_page in
-      let has : HasSome pool q = have_some pool pages paged (omega arith) (k + 1) no_page more in
+      let has : HasSome pool q = paged.filled (omega arith) (k + 1) no_page more in
       let start = start_is pool _ q no_rec (page_at pool pages (k + 1) no_page more paged.each) has in
       let begins = late (k + 1) no_page (omega arith) more in
       let parts = drop_more pages (k + 1) no_page more in

@@ -1,5 +1,5 @@
 -- A search by halves.
-use Rattle.std.proofs.Common.{◌≡◌, ℕ, ◌<◌, ◌≤◌, inl, inr, List, length, get_or, AllPairs, sym, ap, ◌∙◌, arith}
+use Rattle.std.proofs.Common.{◌≡◌, ℕ, ◌-◌, ◌<◌, ◌≤◌, inl, inr, List, length, get_or, AllPairs, sym, ap, ◌∙◌, arith}
 use Rattle.std.proofs.lemmas.List.{get_or_default}
 use Rattle.std.proofs.lemmas.Bool.{cases_eq}
 use Rattle.late_insert.specs.declared.directory.Page.{Page}
@@ -17,6 +17,19 @@ pub record IsHalved (begin : Page → ℕ) (pages : List Page) (x low high : ℕ
   pub within : high ≤ length pages
   pub less : (k : ℕ) (d : Page) → 0 < k → k ≤ low → begin (get_or pages k d) ≤ x
   pub more : (k : ℕ) (d : Page) → high ≤ k → k < length pages → x < begin (get_or pages k d)
+
+-- where the last page begins at x or before it, so does each
+pub all_early : (begin : Page → ℕ) (pages : List Page) (x : ℕ) (e : Page) → AllPairs (λ p q. begin p ≤ begin q) pages → 0 < length pages
+    → begin (get_or pages (length pages - 1) e) ≤ x → (k : ℕ) (d : Page) → k ≤ length pages - 1 → begin (get_or pages k d) ≤ x
+all_early begin pages x e rising some early k d upto =
+    let same : begin (get_or pages (length pages - 1) d) ≡ begin (get_or pages (length pages - 1) e) =
+    ap begin (get_or_default pages (length pages - 1) d e (omega arith)) in
+    elim (cases_eq k (length pages - 1)) [
+      | inl last ↦ rw last (omega arith)
+      | inr other ↦
+          let rise : begin (get_or pages k d) ≤ begin (get_or pages (length pages - 1) d) = rising k (length pages - 1) d (omega arith) (omega arith) in
+          omega arith
+    ]
 
 module _ (begin : Page → ℕ) (pages : List Page) (x low high middle : ℕ) (e : Page) (rising : AllPairs (λ p q. begin p ≤ begin q) pages)
     (halved : IsHalved begin pages x low high) (up : low < middle) (down : middle < high) where

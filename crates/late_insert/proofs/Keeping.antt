@@ -7,26 +7,23 @@ use Rattle.trend_num.specs.Ranges.{InRange}
 use Rattle.page_pool.specs.declared.frame.Frame.{Frame}
 use Rattle.page_pool.specs.Pool.{spare_of}
 use Rattle.late_insert.specs.declared.directory.Page.{Page}
-use Rattle.late_insert.specs.Pages.{records_at, page_in, records_of, ArePagesFrom, IsKept}
+use Rattle.late_insert.specs.Pages.{records_at, page_in, records_of, AreHalves, ArePagesFrom, IsKept}
 use Rattle.trend_model.specs.Contents.{points_of}
-use Rattle.late_insert.proofs.Replacing.{IsHalf}
 
--- pages that are half full hold many records
-many_records : (pool : List (Option Frame)) (pages : List Page) → All (IsHalf pool) pages → 64 * length pages ≤ length (records_of pool pages)
+-- pages of which all but the last are half full hold many records
+many_records : (pool : List (Option Frame)) (pages : List Page) → AreHalves pool pages
+    → 64 * length pages ≤ length (records_of pool pages) + 64
 many_records pool [] halves = omega arith
-many_records pool (p ∷ ps) halves =
-    let here : 64 ≤ length (page_in pool p) = All-head (IsHalf pool) p ps halves in
-    let rest = many_records pool ps (All-tail (IsHalf pool) p ps halves) in
-    omega (arith, length-append (page_in pool p) (records_of pool ps))
+many_records pool (p ∷ []) halves = omega arith
+many_records pool (p ∷ q ∷ ps) halves =
+    let here : 64 ≤ length (page_in pool p) = halves.0 (omega arith) in
+    let rest = many_records pool (q ∷ ps) halves.1 in
+    omega (arith, length-append (page_in pool p) (records_of pool (q ∷ ps)))
 
 -- while there is room, a frame is spare
 pub frame_spare : (pool : List (Option Frame)) (pages : List Page) (places len room : ℕ) → IsKept pool pages places len room → 0 < spare_of pool
 frame_spare pool pages places len room kept =
-    elim (cases_lt 1 (length pages)) [
-      | inl several ↦
-          omega (arith, many_records pool pages (kept.paged.halves several), kept.counted, kept.within, kept.frames)
-      | inr one ↦ omega (arith, kept.frames)
-    ]
+    omega (arith, many_records pool pages kept.paged.halves, kept.counted, kept.within, kept.frames)
 
 -- each record of the pages is in range
 pub all_in_range : (pool : List (Option Frame)) (place : ℕ) (pages : List Page) → ArePagesFrom pool place pages

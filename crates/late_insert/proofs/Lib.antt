@@ -11,5 +11,6 @@ pub mod Finding
 pub mod Replacing
 pub mod Reading
 pub mod Shelving
+pub mod Opening
 pub mod Nearest
 pub mod Keeping

@@ -3,7 +3,7 @@ use Rattle.std.proofs.Common.{◌≡◌, ◌≢◌, ℕ, zero, suc, ◌+◌, ◌
 use Rattle.std.proofs.lemmas.List.{get_or_append_left, get_or-append-add, get_or-take, get_or-drop, get_or_default, take_at, drop_at, take_more, take_all, drop_all, length-map, length-take-le, length-drop, take-append-drop, map-append}
 use Rattle.std.proofs.lemmas.List.Sums.{sum_by-cons, sum_by-take-drop}
 use Rattle.std.proofs.lemmas.List.Elements.{All-head, All-tail}
-use Rattle.std.proofs.lemmas.Bool.{cases_lt, lt-ltb, le-ltb}
+use Rattle.std.proofs.lemmas.Bool.{cases_lt, cases_eq, lt-ltb, le-ltb}
 use Rattle.trend_num.specs.declared.point.Point.{Point}
 use Rattle.trend_num.specs.declared.archive.Rec.{Rec}
 use Rattle.page_pool.specs.declared.frame.Frame.{Frame}
@@ -63,6 +63,18 @@ module _ (pool : List (Option Frame)) (pages : List Page) (k : ℕ) (p : Page) (
   -- the page ends within the records
   pub end_within : p.first + f.len ≤ length (records_of pool pages)
   end_within = omega (arith, long)
+
+  -- where the page is the last one, and its last record is before t, all are
+  pub last_before : (t i : ℕ) → k + 1 ≡ length pages → i + 1 ≡ f.len → get_or f.times i 0 < t → AllBefore (records_of pool pages) t
+  last_before t i last end early j d inside =
+      let none : length behind ≡ 0 = ap (λ ps. length (records_of pool ps)) (drop_all (k + 1) pages (omega arith)) in
+      let there : time (get_or (records_of pool pages) (p.first + i) d) ≡ get_or f.times i 0 = ap time (on_page i d (omega arith)) in
+      elim (cases_eq j (p.first + i)) [
+        | inl same ↦ rw same (omega arith)
+        | inr other ↦
+            let rise = is.paged.rising j (p.first + i) d (omega (arith, long)) (omega (arith, long)) in
+            omega arith
+      ]
 
   -- ---- the gap for a time
 

@@ -11,20 +11,43 @@ use Rattle.page_pool.proofs.Stored.{held_within}
 use Rattle.late_insert.specs.declared.directory.Page.{Page}
 use Rattle.trend_model.specs.Contents.{IsRising, placed}
 use Rattle.late_insert.specs.Moves.{moved}
-use Rattle.late_insert.specs.Pages.{records_in, records_at, page_in, records_of, IsPage, IsPageAt, ArePagesFrom, ArePages, AreApart, IsFor, ids_of}
+use Rattle.late_insert.specs.Pages.{records_in, records_at, page_in, records_of, IsPage, IsPageAt, ArePagesFrom, ArePages, AreApart, AreHalves, IsFor, ids_of}
 use Rattle.late_insert.proofs.Summing.{length-records_in, get_or-records_in}
-use Rattle.late_insert.proofs.Finding.{no_rec}
+use Rattle.late_insert.proofs.Finding.{no_rec, HasSome}
 use Rattle.trend_model.proofs.Placing.{time, placed_middle, rising_placed, length-placed}
 use Rattle.late_insert.proofs.Joining.{all_left, all_right, apart_at, apart_insert, each_page, each_id, ids-moved, Agree, records-agree, pages_agree, agree_set, records-append, pages_split, pages_join, records-moved, pages_moved, pages_around}
 
--- a page of at least half a frame's records
-abbrev pub IsHalf : List (Option Frame) → Page → Type 0
-IsHalf pool p = 64 ≤ length (page_in pool p)
-
 -- pages whose frames stay keep their records
-pub halves_agree : (pool new : List (Option Frame)) (pages : List Page) → Agree pool new pages → All (IsHalf pool) pages → All (IsHalf new) pages
-halves_agree pool new pages agree halves k d within =
-    subst (λ o. 64 ≤ length (records_at o)) (sym (agree k d within)) (halves k d within)
+pub some_agree : (pool new : List (Option Frame)) (pages : List Page) → Agree pool new pages → All (HasSome pool) pages → All (HasSome new) pages
+some_agree pool new pages agree filled k d within =
+    subst (λ o. 0 < length (records_at o)) (sym (agree k d within)) (filled k d within)
+
+-- the pages at the end of these
+halves_right : (pool : List (Option Frame)) (A X : List Page) → AreHalves pool (A ++ X) → AreHalves pool X
+halves_right pool [] X halves = halves
+halves_right pool (a ∷ A) X halves = halves_right pool A X halves.1
+
+-- other pages behind some that stay
+pub halves_front : (pool new : List (Option Frame)) (A X Y : List Page) → Agree pool new A → AreHalves pool (A ++ X) → 0 < length X
+    → AreHalves new Y → AreHalves new (A ++ Y)
+halves_front pool new [] X Y agree halves some back = back
+halves_front pool new (a ∷ A) X Y agree halves some back =
+    let here = All-head (λ q. frame_at new q.id ≡ frame_at pool q.id) a A agree in
+    let rest = All-tail (λ q. frame_at new q.id ≡ frame_at pool q.id) a A agree in (
+      λ more. subst (λ o. 64 ≤ length (records_at o)) (sym here) (halves.0 (omega (arith, length-append A X))),
+      halves_front pool new A X Y rest halves.1 some back,
+    )
+
+-- pages that are moved on
+halves_moved : (pool new : List (Option Frame)) (by : ℕ) (B : List Page) → Agree pool new B → AreHalves pool B
+    → AreHalves new (map (moved by) B)
+halves_moved pool new by [] agree halves = tt
+halves_moved pool new by (b ∷ B) agree halves =
+    let here = All-head (λ q. frame_at new q.id ≡ frame_at pool q.id) b B agree in
+    let rest = All-tail (λ q. frame_at new q.id ≡ frame_at pool q.id) b B agree in (
+      λ more. subst (λ o. 64 ≤ length (records_at o)) (sym here) (halves.0 (omega (arith, length-map B (moved by)))),
+      halves_moved pool new by B rest halves.1,
+    )
 
 module _ (pool new : List (Option Frame)) (A B Q : List Page) (p : Page) (by : ℕ) (each : ArePagesFrom pool 0 (A ++ p ∷ B))
     (front : Agree pool new A) (back : Agree pool new B) (inner : ArePagesFrom new (length (records_of pool A)) Q)
@@ -47,11 +70,11 @@ module _ (pool new : List (Option Frame)) (A B Q : List Page) (p : Page) (by : �
       pages_join new 0 A (Q ++ map (moved by) B) (pages_agree pool new 0 A front parts.0)
       (subst (λ n. ArePagesFrom new n (Q ++ map (moved by) B)) place' rest)
 
-  pub halves_replaced : All (IsHalf pool) A → All (IsHalf new) Q → All (IsHalf pool) B → All (IsHalf new) (A ++ (Q ++ map (moved by) B))
-  halves_replaced a q b =
-      All-append (IsHalf new) A (Q ++ map (moved by) B) (halves_agree pool new A front a)
-      (All-append (IsHalf new) Q (map (moved by) B) q
-      (All-map (IsHalf new) (moved by) B (halves_agree pool new B back b)))
+  pub some_replaced : All (HasSome pool) A → All (HasSome new) Q → All (HasSome pool) B → All (HasSome new) (A ++ (Q ++ map (moved by) B))
+  some_replaced a q b =
+      All-append (HasSome new) A (Q ++ map (moved by) B) (some_agree pool new A front a)
+      (All-append (HasSome new) Q (map (moved by) B) q
+      (All-map (HasSome new) (moved by) B (some_agree pool new B back b)))
 
 -- the ids on both sides of a page
 pub ids_around : (A B : List Page) (p : Page) → AreApart (ids_of (A ++ p ∷ B)) → All (λ x. x.id ≢ p.id) A × All (λ x. x.id ≢ p.id) B
@@ -104,8 +127,9 @@ module _ (pool : List (Option Frame)) (A B : List Page) (p : Page) (g : Frame) (
       ∙ (sym (placed_middle r (records_of pool A) (page_in pool p) (records_of pool B) before after)
       ∙ ap (placed r) (sym (records-append pool A (p ∷ B)))))
 
-  put_half : IsHalf pool p → IsHalf put_pool put_page
-  put_half half =
+  -- the page has no fewer records than it had
+  put_more : length (page_in pool p) ≤ length (page_in put_pool put_page)
+  put_more =
       let long = (length-placed r (page_in pool p)).0 in
       omega (arith, ap length (ap records_at put_there), ap length records)
 
@@ -120,13 +144,19 @@ module _ (pool : List (Option Frame)) (A B : List Page) (p : Page) (g : Frame) (
         subst AreApart (sym same) paged.apart;
     rising = subst IsRising (sym records-put) (rising_placed r (records_of pool (A ++ p ∷ B)) paged.rising);
     some = omega (arith, length-append A (put_page ∷ map (moved by) B));
-    halves = λ several.
-        let halves = paged.halves (omega (arith, length-append A (put_page ∷ map (moved by) B), length-append A (p ∷ B), length-map B (moved by))) in
-        let rest = all_right (IsHalf pool) A (p ∷ B) halves in
-        halves_replaced pool put_pool A B (put_page ∷ []) p by paged.each (agree_set pool p.id (Some g) A put_sides.0)
-        (agree_set pool p.id (Some g) B put_sides.1) put_inner (ap length put_alone ∙ grown) (all_left (IsHalf pool) A (p ∷ B) halves)
-        (All-cons (IsHalf put_pool) put_page [] (put_half (All-head (IsHalf pool) p B rest)) (All-nil (IsHalf put_pool)))
-        (All-tail (IsHalf pool) p B rest);
+    halves =
+        let rest = halves_right pool A (p ∷ B) paged.halves in
+        let back = halves_moved pool put_pool by B (agree_set pool p.id (Some g) B put_sides.1) rest.1 in
+        halves_front pool put_pool A (p ∷ B) (put_page ∷ map (moved by) B) (agree_set pool p.id (Some g) A put_sides.0) paged.halves (omega arith)
+        (λ more. let half = rest.0 (omega (arith, length-map B (moved by))) in omega (arith, put_more), back);
+    filled = λ several.
+        let filled = paged.filled (omega (arith, length-append A (put_page ∷ map (moved by) B), length-append A (p ∷ B), length-map B (moved by))) in
+        let rest = all_right (HasSome pool) A (p ∷ B) filled in
+        let some : HasSome pool p = All-head (HasSome pool) p B rest in
+        some_replaced pool put_pool A B (put_page ∷ []) p by paged.each (agree_set pool p.id (Some g) A put_sides.0)
+        (agree_set pool p.id (Some g) B put_sides.1) put_inner (ap length put_alone ∙ grown) (all_left (HasSome pool) A (p ∷ B) filled)
+        (All-cons (HasSome put_pool) put_page [] (omega (arith, put_more)) (All-nil (HasSome put_pool)))
+        (All-tail (HasSome pool) p B rest);
   }
 
 -- ---- a page in two halves
@@ -138,7 +168,7 @@ moved_none (p ∷ ps) =
     ap₂ (λ x xs. x ∷ xs) (ap (λ n. record { id = p.id; first = n; start = p.start }) (add-zero p.first)) (moved_none ps)
 
 -- no page has an id that is spare
-spare_apart : (pool : List (Option Frame)) (place : ℕ) (pages : List Page) (id : ℕ) → ArePagesFrom pool place pages → frame_at pool id ≡ None
+pub spare_apart : (pool : List (Option Frame)) (place : ℕ) (pages : List Page) (id : ℕ) → ArePagesFrom pool place pages → frame_at pool id ≡ None
     → All (λ p. p.id ≢ id) pages
 spare_apart pool place [] id each spare = All-nil (λ p. p.id ≢ id)
 spare_apart pool place (p ∷ ps) id each spare =
@@ -263,20 +293,24 @@ module _ (pool : List (Option Frame)) (A B : List Page) (p : Page) (lo hi e : Fr
         (All-append (λ i. i ≢ id) (ids_of A) (p.id ∷ []) left (All-cons (λ i. i ≢ id) p.id [] p_apart (All-nil (λ i. i ≢ id)))) right);
     rising = subst IsRising (sym records-split) paged.rising;
     some = omega (arith, length-append A (p ∷ upper_page ∷ B));
-    halves = λ several. subst (All (IsHalf split_pool)) joined
-        (halves_replaced pool split_pool A B (p ∷ upper_page ∷ []) p 0 paged.each front_agrees back_agrees inner grown half_sides.0
-        (All-cons (IsHalf split_pool) p (upper_page ∷ []) (omega (arith, low_len))
-        (All-cons (IsHalf split_pool) upper_page [] (omega (arith, high_len)) (All-nil (IsHalf split_pool)))) half_sides.1);
+    halves = subst (AreHalves split_pool) joined
+        (halves_front pool split_pool A (p ∷ B) (p ∷ upper_page ∷ map (moved 0) B) front_agrees paged.halves (omega arith)
+        (λ more. omega (arith, low_len), (λ more. omega (arith, high_len),
+        halves_moved pool split_pool 0 B back_agrees (halves_right pool A (p ∷ B) paged.halves).1)));
+    filled = λ several. subst (All (HasSome split_pool)) joined
+        (some_replaced pool split_pool A B (p ∷ upper_page ∷ []) p 0 paged.each front_agrees back_agrees inner grown some_sides.0
+        (All-cons (HasSome split_pool) p (upper_page ∷ []) (omega (arith, low_len))
+        (All-cons (HasSome split_pool) upper_page [] (omega (arith, high_len)) (All-nil (HasSome split_pool)))) some_sides.1);
   }
     where
-      half_sides : All (IsHalf pool) A × All (IsHalf pool) B
-      half_sides = elim (cases_lt 1 (length (A ++ p ∷ B))) [
+      some_sides : All (HasSome pool) A × All (HasSome pool) B
+      some_sides = elim (cases_lt 1 (length (A ++ p ∷ B))) [
         | inl several ↦
-            let halves = paged.halves several in
-            (all_left (IsHalf pool) A (p ∷ B) halves, All-tail (IsHalf pool) p B (all_right (IsHalf pool) A (p ∷ B) halves))
+            let filled = paged.filled several in
+            (all_left (HasSome pool) A (p ∷ B) filled, All-tail (HasSome pool) p B (all_right (HasSome pool) A (p ∷ B) filled))
         | inr one ↦
             let long = length-append A (p ∷ B) in
             let no_front : A ≡ [] = nil_from_length A (omega arith) in
             let no_back : B ≡ [] = nil_from_length B (omega arith) in
-            (rw no_front (All-nil (IsHalf pool)), rw no_back (All-nil (IsHalf pool)))
+            (rw no_front (All-nil (HasSome pool)), rw no_back (All-nil (HasSome pool)))
       ]

@@ -13,7 +13,7 @@ use Rattle.trend_num.specs.Ranges.{InRange}
 use Rattle.late_insert.specs.declared.directory.Page.{Page}
 use Rattle.trend_model.specs.Contents.{IsRising, placed}
 use Rattle.late_insert.specs.Moves.{moved}
-use Rattle.late_insert.specs.Pages.{AreApart, ids_of, records_in, records_at, page_in, records_of, IsPage, IsPageAt, ArePagesFrom, ArePages, IsFor}
+use Rattle.late_insert.specs.Pages.{AreApart, ids_of, records_in, records_at, page_in, records_of, IsPage, IsPageAt, ArePagesFrom, ArePages, AreHalves, IsFor}
 use Rattle.trend_model.proofs.Placing.{time, placed_middle, rising_nil}
 use Rattle.late_insert.proofs.Summing.{length-records_in}
 use Rattle.late_insert.proofs.Joining.{pages_around, page_at, records-around}
@@ -208,50 +208,6 @@ first_small pool pages k p q f is full again few =
     let first = ap (λ (x : Page). x.first) same in
     let upto = end_within pool pages k p f is in
     omega arith
-
--- ---- the first page
-
--- an empty frame is a page of no records
-empty_page : IsPage empty_frame
-unfolding empty_frame
-empty_page = record {
-  recorded = record {
-    few = omega arith;
-    times = length-replicate {A = ℕ} 128 0;
-    values = length-replicate 128 (pos 0);
-    marks = omega arith;
-    range = All-nil (λ (r : Rec). InRange r.point);
-  };
-  area = refl;
-  low = refl;
-  high = refl;
-}
-
-empty_records : records_in empty_frame ≡ []
-unfolding empty_frame
-empty_records = refl
-
-empty_start : get_or empty_frame.times 0 0 ≡ 0
-unfolding empty_frame
-empty_start = refl
-
-module _ (pool new : List (Option Frame)) (pages : List Page) (id : ℕ) (takes : Takes pool id new)
-    (list : pages ≡ record { id = id; first = 0; start = 0 } ∷ []) where
-  empty_there : frame_at new id ≡ Some empty_frame
-  empty_there = ap (λ ps. frame_at ps id) takes.now_empty ∙ get_or-set_same pool id (Some empty_frame) None takes.within
-
-  pub no_records : records_of new pages ≡ []
-  no_records = ap (records_of new) list ∙ (append-nil (records_at (frame_at new id)) ∙ (ap records_at empty_there ∙ empty_records))
-
-  pub first_page_is : ArePages new pages
-  first_page_is = record {
-    each = subst (ArePagesFrom new 0) (sym list)
-        (record { frame = empty_frame; there = empty_there; page = empty_page; first = refl; start = sym empty_start }, tt);
-    apart = subst (λ ps. AreApart (ids_of ps)) (sym list) (All-nil (λ y. y ≢ id), tt);
-    rising = subst IsRising (sym no_records) rising_nil;
-    some = omega (arith, ap length list);
-    halves = λ several. absurd (omega (arith, ap length list));
-  }
 
 -- ---- the page for a time, of two halves
 

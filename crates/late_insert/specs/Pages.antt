@@ -81,14 +81,20 @@ AreApart (x ∷ xs) = All (λ y. y ≢ x) xs × AreApart xs
 abbrev pub ids_of : List Page → List ℕ
 ids_of pages = map (λ p. p.id) pages
 
+-- of several pages each but the last is at least half full
+abbrev pub AreHalves : List (Option Frame) → List Page → Type 0
+AreHalves pool [] = Unit {0}
+AreHalves pool (p ∷ ps) = (0 < length ps → 64 ≤ length (page_in pool p)) × AreHalves pool ps
+
 -- pages that hold a rising list
 pub record ArePages (pool : List (Option Frame)) (pages : List Page) : Type 0 where
   pub each : ArePagesFrom pool 0 pages
   pub apart : AreApart (ids_of pages)
   pub rising : IsRising (records_of pool pages)
   pub some : 0 < length pages
-  -- of several pages each is at least half full
-  pub halves : 1 < length pages → All (λ p. 64 ≤ length (page_in pool p)) pages
+  pub halves : AreHalves pool pages
+  -- and none of several is empty
+  pub filled : 1 < length pages → All (λ p. 0 < length (page_in pool p)) pages
 
 -- the page k is the one for the time t: no page before it has a record from t on, and none after it one up to t
 pub record IsFor (pool : List (Option Frame)) (pages : List Page) (k t : ℕ) : Type 0 where

@@ -12,7 +12,9 @@ pub(crate) fn insert_at<T: Copy>(xs: &mut [T], n: usize, i: usize, x: T)
     ensures after { (k : ℕ) (d : T) → i ≤ k → k < n → slice_index_or xs.new (k + 1) d ≡ slice_index_or xs.old k d }
 {
     xs[n] = x;
-    xs[i..n + 1].rotate_right(1);
+    if i < n {
+        xs[i..n + 1].rotate_right(1);
+    }
 }
 
 /// Moves all but the first n down to the front, and these behind them.

@@ -9,7 +9,7 @@ ghost use Rattle.late_insert.specs.PageTotals.{IsPageOf};
 
 use crate::directory::{Page, page_for, page_of};
 use crate::page::{below_in, rec_at};
-use crate::shelf::{first_page, make_room, put_at};
+use crate::shelf::{first_page, is_full_before, make_room, open_page, put_at};
 use page_pool::Pool;
 use std::alloc::Global;
 use std::marker::Model;
@@ -81,6 +81,11 @@ impl Content {
         ensures spare { self.old.spare ≤ self.new.spare + 1 }
         ensures room { length self.new.records + self.new.spare ≡ length self.old.records + self.old.spare }
     {
+        if is_full_before(&self.pool, self.pages.as_slice(), rec.point.t) {
+            open_page(&mut self.pool, &mut self.pages, self.len, rec);
+            self.len += 1;
+            return;
+        }
         let k = make_room(&mut self.pool, &mut self.pages, rec.point.t);
         self.len += put_at(&mut self.pool, &mut self.pages, k, rec);
     }

@@ -13,7 +13,8 @@ pub(crate) struct Page {
     pub(crate) start: u64,
 }
 
-/// The last page that starts at the time t or before it, or the first page.
+/// The last page that starts at the time t or before it, or the first page. Records mostly come in order, so the last page
+/// is tried first.
 pub(crate) fn page_for(pages: &[Page], t: u64) -> usize
     requires some { 0 < length pages.now }
     requires rising { AllPairs (λ p q. p.start ≤ q.start) pages.now }
@@ -21,6 +22,10 @@ pub(crate) fn page_for(pages: &[Page], t: u64) -> usize
     ensures before { (k : ℕ) (d : Page) → 0 < k → k ≤ result → (slice_index_or pages.now k d).start ≤ t }
     ensures after { (k : ℕ) (d : Page) → result < k → k < length pages.now → t < (slice_index_or pages.now k d).start }
 {
+    let last = pages.len() - 1;
+    if pages[last].start <= t {
+        return last;
+    }
     let mut low = 0;
     let mut high = pages.len();
     while low + 1 < high {

@@ -18,7 +18,11 @@ pub(crate) fn below_in(frame: &Frame, t: u64) -> usize
     ensures before { (k : ℕ) → k < result → slice_index frame.now.times k < t }
     ensures after { (k : ℕ) → result ≤ k → k < frame.now.len → t ≤ slice_index frame.now.times k }
 {
-    count_below(&frame.times[..frame.len as usize], t)
+    let n = frame.len as usize;
+    if n == 0 || frame.times[n - 1] < t {
+        return n;
+    }
+    count_below(&frame.times[..n], t)
 }
 
 /// The record at a place of a page.
@@ -101,7 +105,7 @@ fn replace(frame: &mut Frame, i: usize, rec: Rec)
 }
 
 /// Puts a record behind the others of a page, if it has others.
-fn push(frame: &mut Frame, rec: Rec)
+pub(crate) fn push(frame: &mut Frame, rec: Rec)
     requires page { IsPage frame.old }
     requires room { frame.old.len < 128 }
     requires range { InRange rec.point }

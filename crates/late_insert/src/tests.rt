@@ -68,6 +68,20 @@ fn points_in_falling_order_are_listed_rising(rt: HostRuntime) -> Result<(), Fail
 }
 
 #[test]
+fn pages_filled_in_order_are_full(rt: HostRuntime) -> Result<(), Fail> {
+    let mut content = Content::new(rt.alloc(), 300)?;
+    for i in 0..300u64 {
+        put(&rt, &mut content, rec(Kind::Kept, i, 1));
+    }
+    for (i, first, len) in [(0, 0, 128), (255, 128, 128), (256, 256, 44), (299, 256, 44)] {
+        assert!(rt; i < content.len());
+        let page = content.page(i);
+        assert_eq!(rt; (page.first, page.len), (first, len));
+    }
+    Ok(())
+}
+
+#[test]
 fn pages_have_the_totals_of_their_points(rt: HostRuntime) -> Result<(), Fail> {
     let mut content = Content::new(rt.alloc(), 300)?;
     for i in 0..300u64 {

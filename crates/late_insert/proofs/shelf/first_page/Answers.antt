@@ -1,7 +1,7 @@
 use Rattle.std.proofs.Common.{◌≡◌, ◌≢◌, ℕ, ◌<◌, List, [], ◌∷◌, ◌++◌, Option, Some, ap, ap₂, sym, refl, ◌∙◌, subst, arith, append-nil}
 use Rattle.page_pool.specs.Pool.{Takes}
 use Rattle.late_insert.specs.Pages.{ArePages, records_of}
-use Rattle.late_insert.proofs.Shelving.{first_page_is, no_records}
+use Rattle.late_insert.proofs.Opening.{first_page_is, no_records}
 use Rattle.late_insert.proofs.shelf.first_page.Goals as goal
 
 pub returns-clause-pages : goal.returns-clause-pages
