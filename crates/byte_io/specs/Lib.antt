@@ -1,3 +1,5 @@
 pub mod Outside
 pub mod Memory
 pub mod Standard
+pub mod Files
+pub mod Folders

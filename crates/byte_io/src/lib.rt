@@ -14,14 +14,22 @@
 #![tactic(auto)]
 
 mod failure;
+mod file_reading;
+mod files;
+mod folder_files;
 mod memory;
+mod memory_files;
 mod sink;
 mod source;
 mod standard;
 mod transfer;
 
 pub use failure::{Failed, ReadNo, WriteFault};
+pub use file_reading::read_file;
+pub use files::Files;
+pub use folder_files::DirFiles;
 pub use memory::{MemSink, MemSource};
+pub use memory_files::MemFiles;
 pub use sink::Sink;
 pub use source::Source;
 pub use standard::{StdSink, StdSource};

@@ -7,17 +7,17 @@ use crate::{Failed, Sink, Source};
 use std::alloc::Global;
 use std::marker::Model;
 
-// The calls of a source or a sink in memory: the numbers of those that are to fail, and how many
+// The calls of a source, a sink or files in memory: the numbers of those that are to fail, and how many
 // calls and faults there were. A count stays at the end of its type.
 #[derive(Debug, Drop)]
-struct Calls {
-    failing: Vec<u64>,
-    count: u64,
-    faults: u64,
+pub(crate) struct Calls {
+    pub(crate) failing: Vec<u64>,
+    pub(crate) count: u64,
+    pub(crate) faults: u64,
 }
 
 impl Calls {
-    fn new(failing: Vec<u64>) -> Calls
+    pub(crate) fn new(failing: Vec<u64>) -> Calls
         ensures { result ≡ record { failing = failing; count = 0; faults = 0 } }
     {
         Calls {
@@ -28,7 +28,7 @@ impl Calls {
     }
 
     // Counts a call, and says whether it is to fail.
-    fn begin(&mut self) -> bool
+    pub(crate) fn begin(&mut self) -> bool
         ensures told { IsTrue result ↔ Contains self.old.failing.items self.old.count }
         ensures counted { self.new ≡ record self.old { count = next_count self.old.count } }
     {
@@ -38,7 +38,7 @@ impl Calls {
     }
 
     // Counts a fault, and tells it.
-    fn fault(&mut self) -> Failed
+    pub(crate) fn fault(&mut self) -> Failed
         ensures { self.new ≡ record self.old { faults = next_count self.old.faults } }
     {
         self.faults = self.faults.saturating_add(1);

@@ -2,9 +2,9 @@
 // at a call.
 use super::*;
 use std::alloc::{AllocError, Global};
-use std::io;
 use std::io::{Read, Write};
 use std::test::Fail;
+use std::{fs, io};
 
 // A reader that gives a byte a call, and a writer that takes one, except that one call fails.
 #[derive(Drop)]
@@ -149,6 +149,68 @@ fn writes_large_pieces(rt: HostRuntime) -> Result<(), Fail> {
         );
         assert_eq!(rt; sink.bytes(), piece.as_slice(), "of {len} bytes");
     }
+    Ok(())
+}
+
+// Three files, the last of which has the name of the first, and the second more than one piece.
+fn three_files(alloc: Global, call: u64) -> Result<MemFiles, AllocError> {
+    let files = vec![in alloc;
+        (String::from_str(alloc, "a.csv")?, b"hello".to_vec(alloc)?),
+        (String::from_str(alloc, "long")?, vec![in alloc; 7; 70_000]?),
+        (String::from_str(alloc, "a.csv")?, b"again".to_vec(alloc)?),
+    ]?;
+    Ok(MemFiles::new(files, failing(alloc, call)?))
+}
+
+#[test]
+fn reads_a_file_or_says_why_not(rt: HostRuntime) -> Result<(), Fail> {
+    let alloc = rt.alloc();
+    // The name, the call that fails, the limit, the number of bytes or the refusal, the calls and the faults.
+    let cases: [(&str, u64, u64, Result<usize, ReadNo>, u64, u64); 10] = [
+        ("a.csv", 9, 6, Ok(5), 2, 0),
+        ("a.csv", 9, 5, Ok(5), 2, 0),
+        ("a.csv", 9, 4, Err(ReadNo::TooLong { limit: 4 }), 1, 0),
+        ("a.csv", 9, 0, Err(ReadNo::TooLong { limit: 0 }), 1, 0),
+        ("a.csv", 0, 5, Err(ReadNo::ReadFault), 1, 1),
+        ("a.csv", 1, 5, Err(ReadNo::ReadFault), 2, 1),
+        ("b.csv", 9, 5, Err(ReadNo::ReadFault), 1, 1),
+        ("long", 9, 70_000, Ok(70_000), 3, 0),
+        ("long", 2, 70_000, Err(ReadNo::ReadFault), 3, 1),
+        (
+            "long",
+            9,
+            69_999,
+            Err(ReadNo::TooLong { limit: 69_999 }),
+            2,
+            0,
+        ),
+    ];
+    for (name, call, limit, want, calls, faults) in cases {
+        let mut files = three_files(alloc, call)?;
+        let got = read_file(alloc, &mut files, name, limit).map(|all| all.len());
+        assert_eq!(rt; got, want, "{name} at limit {limit}");
+        assert_eq!(rt; files.calls(), calls, "{name} at limit {limit}");
+        assert_eq!(rt; files.faults(), faults, "{name} at limit {limit}");
+    }
+    let first = read_file(alloc, &mut three_files(alloc, 9)?, "a.csv", 5).map_err(|_| "refused")?;
+    assert_eq!(rt; first.as_slice(), b"hello".as_slice());
+    Ok(())
+}
+
+#[test]
+fn files_of_the_working_folder_are_read(rt: HostRuntime) -> Result<(), Fail> {
+    let alloc = rt.alloc();
+    fs::write(&rt, "kept.txt", b"hello")?;
+    let mut files = DirFiles::new(rt.clone()?);
+    let kept = read_file(alloc, &mut files, "kept.txt", 5).map_err(|_| "refused")?;
+    assert_eq!(rt; kept.as_slice(), b"hello".as_slice());
+    let long = read_file(alloc, &mut files, "kept.txt", 4).map(|all| all.len());
+    assert_eq!(rt; long, Err(ReadNo::TooLong { limit: 4 }));
+    assert_eq!(rt; files.faults(), 0);
+    let missing = read_file(alloc, &mut files, "missing.txt", 5).map(|all| all.len());
+    assert_eq!(rt; missing, Err(ReadNo::ReadFault));
+    assert_eq!(rt; files.faults(), 1);
+    fs::remove_file(&rt, "kept.txt")?;
     Ok(())
 }
 
