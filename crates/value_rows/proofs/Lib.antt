@@ -1,0 +1,5 @@
+pub mod FieldList
+pub mod NameMap
+pub mod Between
+pub mod Left
+pub mod SoFar

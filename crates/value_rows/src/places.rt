@@ -1,0 +1,50 @@
+// Names, looked up in a map.
+ghost use Rattle.std.specs.Prelude.{◌≡◌, ◌<◌, ◌^◌, length, IfOk};
+ghost use Rattle.value_rows.specs.Raw.{place_of};
+
+use std::alloc::Global;
+use std::collections::BTreeMap;
+use std::marker::Model;
+use trend_num::{Name, WantOfMemory};
+
+/// Names, with a map from each to its place among them. It is seen as the names in order.
+#[derive(Drop)]
+pub(crate) struct Places<'n> {
+    names: &'n [Name],
+    map: BTreeMap<&'n [u8], u32>,
+}
+
+impl<'n> Model for Places<'n> {
+    ghost use Rattle.std.specs.Prelude.{ℕ, List};
+    ghost use Rattle.value_rows.specs.Standing.{ArePlaces};
+
+    ghost Value = { List (List ℕ) };
+
+    ghost view = { λ p. p.names.now };
+
+    ghost invariant = { λ p. ArePlaces p.map p.names.now };
+}
+
+impl<'n> Places<'n> {
+    /// The places of these names.
+    pub(crate) fn new(alloc: Global, names: &'n [Name]) -> Result<Places<'n>, WantOfMemory>
+        requires few { length names.now < 2 ^ 32 }
+        ensures names { IfOk result (λ places. places ≡ names.now) }
+    {
+        let mut map: BTreeMap<&'n [u8], u32> = BTreeMap::new(alloc);
+        for i in 0..names.len() {
+            let name = names[i].bytes();
+            if !map.contains_key(name) {
+                map.insert(name, i as u32).map_err(|_| WantOfMemory)?;
+            }
+        }
+        Ok(Places { names, map })
+    }
+
+    /// The place of the first one of this name.
+    pub(crate) fn place(&self, name: &[u8]) -> Option<u32>
+        ensures { result ≡ place_of self.now name.now }
+    {
+        self.map.get(name).copied()
+    }
+}

@@ -1,0 +1,74 @@
+// The rows of a collector.
+ghost use Rattle.std.specs.Prelude.{◌≡◌, ◌<◌, ◌^◌, length, Ok, IfOk, IfErr};
+ghost use Rattle.csv.specs.Records.{fields_of};
+ghost use Rattle.trend_num.specs.Numerals.{numeral};
+ghost use Rattle.point_text.specs.Row.{point_read};
+ghost use Rattle.value_rows.specs.Raw.{raw_row, raw_rows};
+ghost use Rattle.value_rows.specs.Reading.{AreRefusedFor};
+
+use crate::fields::{Fields, fields_in};
+use crate::numbers::time_of;
+use crate::places::Places;
+use crate::reading::{Form, rows_of_text};
+use csv::ByteRecord;
+use point_text::RowNo;
+use std::alloc::Global;
+use trend_num::{MAX_V, Name, Point, Reason, numeral};
+
+/// A raw value of a tag, which is told by its place among the tags.
+#[derive(Clone, Copy, Debug, PartialEq, Eq)]
+pub struct RawRow {
+    pub tag: u32,
+    pub point: Point,
+}
+
+/// The raw values of a text of records `TAG,T,V`, of at most `most`. T is in milliseconds from 1970, V in value units. A tag is
+/// the first one of its name.
+pub fn raw_rows(alloc: Global, bytes: &[u8], tags: &[Name], most: u64) -> Result<Vec<RawRow>, RowNo>
+    requires { length tags.now < 2 ^ 32 }
+    ensures rows { IfOk result (λ rows. raw_rows tags.now most bytes.now ≡ Ok rows.items) }
+    ensures refused { IfErr result (AreRefusedFor (raw_rows tags.now most bytes.now)) }
+{
+    match Places::new(alloc, tags) {
+        Ok(tags) => rows_of_text(alloc, &RawForm { tags }, bytes, most),
+        Err(_) => Err(RowNo::WantOfMemory),
+    }
+}
+
+/// Records `TAG,T,V`.
+#[derive(Drop)]
+struct RawForm<'n> {
+    tags: Places<'n>,
+}
+
+impl<'n> Form for RawForm<'n> {
+    type Row = RawRow;
+
+    ghost row_of = { λ form. raw_row form.tags };
+
+    fn read(&self, row: &ByteRecord) -> Result<RawRow, Reason> {
+        match fields_in(row) {
+            Fields::Three(tag, t, v) => {
+                let tag = self.tags.place(tag).ok_or(Reason::Name)?;
+                let point = point_of(t, v)?;
+                Ok(RawRow { tag, point })
+            }
+            _ => Err(Reason::Fields),
+        }
+    }
+}
+
+/// The point of a time and a value.
+fn point_of(t: &[u8], v: &[u8]) -> Result<Point, Reason>
+    ensures { result ≡ point_read (numeral t.now) (numeral v.now) }
+{
+    let t = numeral(t).ok_or(Reason::Number)?;
+    let v = numeral(v).ok_or(Reason::Number)?;
+    let t = time_of(t).ok_or(Reason::Range)?;
+    let largest = i128::from(MAX_V);
+    if -largest <= v && v <= largest {
+        Ok(Point { t, v: v as i64 })
+    } else {
+        Err(Reason::Range)
+    }
+}

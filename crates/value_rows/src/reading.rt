@@ -1,0 +1,93 @@
+// The rows of a text of records, of any kind.
+ghost use Rattle.std.specs.Prelude.{◌≡◌, ◌∷◌, ◌++◌, [], ℕ, List, Result, Some, map, IfOk, IfErr};
+ghost use Rattle.csv.specs.Records.{fields_of};
+ghost use Rattle.point_text.specs.declared.failure.RowNo.TheVariants.{WantOfMemory};
+ghost use Rattle.trend_num.specs.declared.refusal.Reason.{Reason};
+ghost use Rattle.value_rows.specs.Reading.{AreRefusedFor, records_of, rows_of_text};
+ghost use Rattle.value_rows.specs.Standing.{HasLeft, IsNext};
+
+use csv::{ByteRecord, ErrorKind, Reader, ReaderBuilder};
+use point_text::RowNo;
+use std::alloc::Global;
+use trend_num::Reason;
+
+/// How each record of a file is read.
+pub(crate) trait Form {
+    /// What a good record gives.
+    type Row: Copy + Drop;
+
+    ghost row_of: { Self → List (List ℕ) → Result Self.Row Reason };
+
+    /// The row of a record, or the first reason why it has none.
+    fn read(&self, row: &ByteRecord) -> Result<Self::Row, Reason>
+        ensures { result ≡ row_of self.now (fields_of row.now) };
+}
+
+/// The rows of a text's records, of at most `most`.
+pub(crate) fn rows_of_text<F: Form>(
+    alloc: Global,
+    form: &F,
+    bytes: &[u8],
+    most: u64,
+) -> Result<Vec<F::Row>, RowNo>
+    ensures rows { IfOk result (λ rows. rows_of_text (F.row_of form.now) most bytes.now ≡ Ok rows.items) }
+    ensures refused { IfErr result (AreRefusedFor (rows_of_text (F.row_of form.now) most bytes.now)) }
+{
+    let mut reader = records(alloc, bytes);
+    let mut row = ByteRecord::new(alloc);
+    let mut rows = Vec::new(alloc);
+    for count in 0..u64::MAX {
+        if !read_next(&mut reader, &mut row)? {
+            return Ok(rows);
+        }
+        if count == most {
+            return Err(RowNo::TooMany { rows: count + 1 });
+        }
+        match form.read(&row) {
+            Ok(read) => push(&mut rows, read)?,
+            Err(reason) => {
+                return Err(RowNo::BadRow {
+                    row: count + 1,
+                    reason,
+                });
+            }
+        }
+    }
+    Err(RowNo::WantOfMemory)
+}
+
+/// A reader of the records of a text: no header row, and records of any length.
+fn records(alloc: Global, bytes: &[u8]) -> Reader<&[u8]>
+    ensures { HasLeft result (records_of bytes.now) }
+{
+    ReaderBuilder::new()
+        .has_headers(false)
+        .flexible(true)
+        .from_reader(alloc, bytes)
+}
+
+/// Reads the next record, and tells whether there was one.
+fn read_next(reader: &mut Reader<&[u8]>, row: &mut ByteRecord) -> Result<bool, RowNo>
+    requires { (left : List (List (List ℕ))) × HasLeft reader.old left }
+    ensures next { IfOk result (λ found. (left : List (List (List ℕ))) → HasLeft reader.old left
+        → IsNext reader.new (fields_of row.new) left found) }
+    ensures refused { IfErr result (λ why. why ≡ WantOfMemory) }
+{
+    match reader.read_byte_record(row) {
+        Ok(found) => Ok(found),
+        Err(e) => {
+            if let ErrorKind::UnequalLengths { .. } = e.kind() {
+                unreachable!();
+            }
+            Err(RowNo::WantOfMemory)
+        }
+    }
+}
+
+/// Adds a row to others.
+fn push<R: Copy + Drop>(rows: &mut Vec<R>, row: R) -> Result<(), RowNo>
+    ensures rows { IfOk result (λ _. rows.new.items ≡ rows.old.items ++ row ∷ []) }
+    ensures refused { IfErr result (λ why. why ≡ WantOfMemory) }
+{
+    rows.push(row).map_err(|_| RowNo::WantOfMemory)
+}
