@@ -26,6 +26,7 @@ record HasBits (n : ℕ) (held pending hinge doors tuning : Bool) : Type 0 where
   pending_le : bit pending ≤ 1
   hinge_le : bit hinge ≤ 1
   doors_le : bit doors ≤ 1
+  tuning_le : bit tuning ≤ 1
 
 module _ (s : Summary) where
   -- the flags are
@@ -43,6 +44,7 @@ module _ (s : Summary) where
     pending_le = bit_le (is_some s.pending);
     hinge_le = bit_le (is_some s.hinge);
     doors_le = bit_le (is_some s.upper);
+    tuning_le = bit_le (is_some s.tuning);
   }
 
   -- held
