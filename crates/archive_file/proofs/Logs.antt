@@ -17,15 +17,7 @@ use Rattle.archive_file.specs.Fields.{point_at}
 use Rattle.archive_file.specs.Records.{kind_byte, rec_image, recs_image}
 use Rattle.archive_file.specs.Places.{AreInRange, AreRecords, BreaksAt, IsBroken, IsDamage}
 use Rattle.archive_file.proofs.Points.{IsBytes, rec_spelled}
-
--- one record more
-pub recs_image-push : (rs : List Rec) (r : Rec) → recs_image (rs ++ r ∷ []) ≡ recs_image rs ++ rec_image r
-recs_image-push rs r = sym (flat_map_more rec_image [] rs r)
-
-pub recs_image-more : (rs : List Rec) (i : ℕ) (r : Rec) → i < length rs → r ≡ get_or rs i r
-    → recs_image (take (i + 1) rs) ≡ recs_image (take i rs) ++ rec_image r
-recs_image-more rs i r there is = ap recs_image
-    (take_more rs i r there ∙ ap (λ x. take i rs ++ x ∷ []) (sym is)) ∙ recs_image-push (take i rs) r
+use Rattle.archive_file.proofs.Joins.{images_push}
 
 in_range-push : (rs : List Rec) (r : Rec) → AreInRange rs → InRange r.point → AreInRange (rs ++ r ∷ [])
 in_range-push [] r each one = (one, tt)
@@ -39,7 +31,7 @@ records-push bytes b k rs r before here inside is =
     let longer : 17 * (k + 1) ≡ 17 * k + 17 = omega arith in
     record {
       in_range = in_range-push rs r before.in_range inside;
-      image = recs_image-push rs r ∙ ap (λ l. l ++ rec_image r) before.image
+      image = images_push rec_image rs r ∙ ap (λ l. l ++ rec_image r) before.image
           ∙ ap (λ l. take (17 * k) bytes ++ l) (sym is ∙ here)
           ∙ sym (take-add (17 * k) 17 bytes) ∙ ap (λ n. take n bytes) (sym longer);
     }
