@@ -43,11 +43,14 @@ room_guarded slots used bytes d c free has guarded = record {
 }
 
 -- so each image has room behind it
-pub room_behind : (o new : Option Trace) (slots used : ℕ) (bytes : List ℕ) → used < slots → Now o (HasRoom slots used)
-    → During o new (FromOld o (IsGuarded (place_of slots used) bytes (gate_of used))) → Now new (HasRoom slots (used + 1))
-room_behind o new slots used bytes free room during = record { each = λ c may.
-    let from = (during_now o new (FromOld o (IsGuarded (place_of slots used) bytes (gate_of used))) during).each c may in
-    room_guarded slots used bytes from.0 c free (room.each from.0 from.1) from.2 }
+pub room_behind : (o new : Option Trace) (slots used at gate : ℕ) (bytes : List ℕ) → used < slots
+    → Now o (HasRoom slots used) → at ≡ place_of slots used → gate ≡ gate_of used
+    → During o new (FromOld o (IsGuarded at bytes gate)) → Now new (HasRoom slots (used + 1))
+room_behind o new slots used at gate bytes free room is_at is_gate during = record { each = λ c may.
+    let from = (during_now o new (FromOld o (IsGuarded at bytes gate)) during).each c may in
+    let guarded = subst (λ a. IsGuarded a bytes gate from.0 c) is_at from.2 in
+    room_guarded slots used bytes from.0 c free (room.each from.0 from.1)
+    (subst (λ x. IsGuarded (place_of slots used) bytes x from.0 c) is_gate guarded) }
 
 -- gates were closed, and those of the used slots are
 pub room_anew : (o new : Option Trace) (slots used : ℕ) → Now o (HasRoom slots used)

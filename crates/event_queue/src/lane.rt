@@ -42,9 +42,11 @@ impl Lane {
         requires used { self.old.used ≤ self.old.slots }
         requires room { Now (D.trace dev.old) (HasRoom self.old.slots self.old.used) }
 
-        // A crash at any moment leaves an image from before with this batch whole behind its open gate, or that gate closed.
-        ensures any_moment { During (D.trace dev.old) (D.trace dev.new) (FromOld (D.trace dev.old) (IsGuarded
-            (place_of self.old.slots self.old.used) (batch_bytes self.old.next points.now) (gate_of self.old.used))) }
+        // A crash at any moment leaves an image from before with this batch whole behind its open gate, or that gate
+        // closed; all other gates and slots are as they were.
+        ensures any_moment { self.old.used < self.old.slots → During (D.trace dev.old) (D.trace dev.new)
+            (FromOld (D.trace dev.old) (IsGuarded (place_of self.old.slots self.old.used)
+            (batch_bytes self.old.next points.now) (gate_of self.old.used))) }
 
         ensures lane_full { IsErrOf result LaneFull ↔ (self.old.used ≡ self.old.slots) }
         ensures untouched { IsErrOf result LaneFull → dev.new ≡ dev.old }
