@@ -1,5 +1,5 @@
 -- The bits of the flags of a summary.
-use Rattle.std.proofs.Common.{◌≡◌, ℕ, ◌*◌, ◌/◌, ◌%◌, ◌≤◌, Bool, true, false, cond, eqb, is_some, ap, arith}
+use Rattle.std.proofs.Common.{◌≡◌, ℕ, ◌+◌, ◌*◌, ◌/◌, ◌%◌, ◌≤◌, Bool, true, false, cond, eqb, is_some, ap, arith}
 use Rattle.trend_num.specs.declared.archive.Summary.{Summary}
 use Rattle.archive_file.specs.Summaries.{flag, flags}
 
@@ -19,83 +19,50 @@ tests_bit : (n : ℕ) (b : Bool) → n ≡ bit b → eqb n 1 ≡ b
 tests_bit n true is = ap (λ k. eqb k 1) is
 tests_bit n false is = ap (λ k. eqb k 1) is
 
+-- a number made of five bits
+record HasBits (n : ℕ) (held pending hinge doors tuning : Bool) : Type 0 where
+  sum : n ≡ bit held + 2 * bit pending + 4 * bit hinge + 8 * bit doors + 16 * bit tuning
+  held_le : bit held ≤ 1
+  pending_le : bit pending ≤ 1
+  hinge_le : bit hinge ≤ 1
+  doors_le : bit doors ≤ 1
+  tuning_le : bit tuning ≤ 1
+
 module _ (s : Summary) where
+  -- the flags are
+  bits : HasBits (flags s) (is_some s.held) (is_some s.pending) (is_some s.hinge) (is_some s.upper) (is_some s.tuning)
+  bits = record {
+    sum = omega (
+      arith,
+      flag-bit (is_some s.held) 1,
+      flag-bit (is_some s.pending) 2,
+      flag-bit (is_some s.hinge) 4,
+      flag-bit (is_some s.upper) 8,
+      flag-bit (is_some s.tuning) 16,
+    );
+    held_le = bit_le (is_some s.held);
+    pending_le = bit_le (is_some s.pending);
+    hinge_le = bit_le (is_some s.hinge);
+    doors_le = bit_le (is_some s.upper);
+    tuning_le = bit_le (is_some s.tuning);
+  }
+
   -- held
   pub held_bit : eqb (flags s % 2) 1 ≡ is_some s.held
-  held_bit = tests_bit (flags s % 2) (is_some s.held) (omega (
-    arith,
-    flag-bit (is_some s.held) 1,
-    flag-bit (is_some s.pending) 2,
-    flag-bit (is_some s.hinge) 4,
-    flag-bit (is_some s.upper) 8,
-    flag-bit (is_some s.tuning) 16,
-    bit_le (is_some s.held),
-    bit_le (is_some s.pending),
-    bit_le (is_some s.hinge),
-    bit_le (is_some s.upper),
-    bit_le (is_some s.tuning),
-  ))
+  held_bit = let b = bits in tests_bit (flags s % 2) (is_some s.held) (omega (arith, b.sum))
 
   -- pending
   pub pending_bit : eqb (flags s / 2 % 2) 1 ≡ is_some s.pending
-  pending_bit = tests_bit (flags s / 2 % 2) (is_some s.pending) (omega (
-    arith,
-    flag-bit (is_some s.held) 1,
-    flag-bit (is_some s.pending) 2,
-    flag-bit (is_some s.hinge) 4,
-    flag-bit (is_some s.upper) 8,
-    flag-bit (is_some s.tuning) 16,
-    bit_le (is_some s.held),
-    bit_le (is_some s.pending),
-    bit_le (is_some s.hinge),
-    bit_le (is_some s.upper),
-    bit_le (is_some s.tuning),
-  ))
+  pending_bit = let b = bits in tests_bit (flags s / 2 % 2) (is_some s.pending) (omega (arith, b.sum))
 
   -- hinge
   pub hinge_bit : eqb (flags s / 4 % 2) 1 ≡ is_some s.hinge
-  hinge_bit = tests_bit (flags s / 4 % 2) (is_some s.hinge) (omega (
-    arith,
-    flag-bit (is_some s.held) 1,
-    flag-bit (is_some s.pending) 2,
-    flag-bit (is_some s.hinge) 4,
-    flag-bit (is_some s.upper) 8,
-    flag-bit (is_some s.tuning) 16,
-    bit_le (is_some s.held),
-    bit_le (is_some s.pending),
-    bit_le (is_some s.hinge),
-    bit_le (is_some s.upper),
-    bit_le (is_some s.tuning),
-  ))
+  hinge_bit = let b = bits in tests_bit (flags s / 4 % 2) (is_some s.hinge) (omega (arith, b.sum))
 
   -- the doors
   pub doors_bit : eqb (flags s / 8 % 2) 1 ≡ is_some s.upper
-  doors_bit = tests_bit (flags s / 8 % 2) (is_some s.upper) (omega (
-    arith,
-    flag-bit (is_some s.held) 1,
-    flag-bit (is_some s.pending) 2,
-    flag-bit (is_some s.hinge) 4,
-    flag-bit (is_some s.upper) 8,
-    flag-bit (is_some s.tuning) 16,
-    bit_le (is_some s.held),
-    bit_le (is_some s.pending),
-    bit_le (is_some s.hinge),
-    bit_le (is_some s.upper),
-    bit_le (is_some s.tuning),
-  ))
+  doors_bit = let b = bits in tests_bit (flags s / 8 % 2) (is_some s.upper) (omega (arith, b.sum))
 
   -- the tuning
   pub tuning_bit : eqb (flags s / 16 % 2) 1 ≡ is_some s.tuning
-  tuning_bit = tests_bit (flags s / 16 % 2) (is_some s.tuning) (omega (
-    arith,
-    flag-bit (is_some s.held) 1,
-    flag-bit (is_some s.pending) 2,
-    flag-bit (is_some s.hinge) 4,
-    flag-bit (is_some s.upper) 8,
-    flag-bit (is_some s.tuning) 16,
-    bit_le (is_some s.held),
-    bit_le (is_some s.pending),
-    bit_le (is_some s.hinge),
-    bit_le (is_some s.upper),
-    bit_le (is_some s.tuning),
-  ))
+  tuning_bit = let b = bits in tests_bit (flags s / 16 % 2) (is_some s.tuning) (omega (arith, b.sum))

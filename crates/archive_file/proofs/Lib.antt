@@ -1,5 +1,5 @@
 pub mod Points
 mod Flags
 mod Parts
-mod Joins
+pub mod Joins
 pub mod Logs

@@ -22,4 +22,8 @@ place_bytes (Some p) = point_bytes p
 
 -- the point that stands in the first 16 bytes
 abbrev pub point_at : List ℕ → Point
-point_at bytes = record { t = from_be_bytes w64 (take 8 bytes); v = cast_signed w64 (from_be_bytes w64 (take 8 (drop 8 bytes))) }
+point_at bytes = record {
+  t = from_be_bytes w64 (take 8 bytes);
+  v =
+      cast_signed w64 (from_be_bytes w64 (take 8 (drop 8 bytes)));
+}

@@ -1,5 +1,6 @@
 -- Records at a place of a device, and where they first break the layout.
-use Rattle.std.specs.Prelude.{◌≡◌, ◌≢◌, ◌⊎◌, ℕ, ◌+◌, ◌*◌, ◌<◌, ◌≤◌, List, [], ◌∷◌, length, take, drop, slice_index, Option, None, Some, unsigned_abs}
+use Rattle.std.specs.Prelude.{◌≡◌, ◌≢◌, ◌⊎◌, ℕ, ◌+◌, ◌*◌, ◌<◌, ◌≤◌, List, [], ◌∷◌, length, take, drop}
+use Rattle.std.specs.Prelude.{slice_index, Option, None, Some, unsigned_abs}
 use Rattle.trend_num.specs.declared.archive.Kind.{Kind}
 use Rattle.trend_num.specs.declared.archive.Rec.{Rec}
 use Rattle.trend_num.specs.Ranges.{InRange, last_time, largest_value}
@@ -21,12 +22,15 @@ pub record HasRecords (bytes : List ℕ) (at count : ℕ) (rs : List Rec) : Type
   pub counted : length rs ≡ count
   pub records : AreRecords rs (take (17 * count) (drop at bytes))
 
--- the k-th of 17 bytes is the first of the first field that breaks a record's layout: its kind, its time, or its value
+-- the k-th of 17 bytes is the first of the first field that breaks a record's layout: its kind, its time, or
+-- its value
 abbrev pub BreaksAt : List ℕ → ℕ → Type 0
 BreaksAt b k =
     ((k ≡ 0) × ((kind : Kind) → slice_index b 0 ≢ kind_byte kind))
-    ⊎ (((k ≡ 1) × ((kind : Kind) × (slice_index b 0 ≡ kind_byte kind)) × (last_time < (point_at (drop 1 b)).t))
-    ⊎ ((k ≡ 9) × ((kind : Kind) × (slice_index b 0 ≡ kind_byte kind)) × ((point_at (drop 1 b)).t ≤ last_time) × (largest_value < unsigned_abs (point_at (drop 1 b)).v)))
+    ⊎ (((k ≡ 1) × ((kind : Kind) × (slice_index b 0 ≡ kind_byte kind))
+    × (last_time < (point_at (drop 1 b)).t))
+    ⊎ ((k ≡ 9) × ((kind : Kind) × (slice_index b 0 ≡ kind_byte kind)) × ((point_at (drop 1 b)).t ≤ last_time)
+    × (largest_value < unsigned_abs (point_at (drop 1 b)).v)))
 
 -- the device ends before so many records do
 pub record IsTooShort (bytes : List ℕ) (at count a : ℕ) (byte : Option ℕ) : Type 0 where
@@ -45,4 +49,5 @@ pub record IsBroken (bytes : List ℕ) (at count a : ℕ) (byte : Option ℕ) (r
 
 -- the first damage of so many records at the place
 abbrev pub IsDamage : List ℕ → ℕ → ℕ → ℕ → Option ℕ → Type 0
-IsDamage bytes at count a byte = IsTooShort bytes at count a byte ⊎ ((rs : List Rec) × (k : ℕ) × IsBroken bytes at count a byte rs k)
+IsDamage bytes at count a byte = IsTooShort bytes at count a byte
+    ⊎ ((rs : List Rec) × (k : ℕ) × IsBroken bytes at count a byte rs k)

@@ -1,5 +1,6 @@
 -- The bytes of a summary.
-use Rattle.std.specs.Prelude.{◌≡◌, ℕ, ◌+◌, ◌^◌, ◌<◌, Bool, true, cond, List, [], ◌∷◌, ◌++◌, replicate, Option, None, Some, is_some, IfSome}
+use Rattle.std.specs.Prelude.{◌≡◌, ℕ, ◌+◌, ◌^◌, ◌<◌, Bool, true, cond, List, [], ◌∷◌, ◌++◌, replicate, Option}
+use Rattle.std.specs.Prelude.{None, Some, is_some, IfSome}
 use Rattle.trend_num.specs.declared.archive.Summary.{Summary}
 use Rattle.trend_num.specs.declared.tuning.Tuning.{Tuning}
 use Rattle.trend_num.specs.Ranges.{InRange, IsTuned}
@@ -8,7 +9,9 @@ use Rattle.archive_file.specs.Fields.{number_bytes, place_bytes}
 -- a tuning in 32 bytes; zeros where it is absent
 abbrev pub tuning_bytes : Option Tuning → List ℕ
 tuning_bytes None = replicate 32 0
-tuning_bytes (Some t) = number_bytes 7 t.exc_dev ++ (number_bytes 6 t.exc_max ++ (number_bytes 7 t.comp_dev ++ (number_bytes 6 t.comp_min ++ number_bytes 6 t.comp_max)))
+tuning_bytes (Some t) = number_bytes 7 t.exc_dev
+    ++ (number_bytes 6 t.exc_max ++ (number_bytes 7 t.comp_dev
+    ++ (number_bytes 6 t.comp_min ++ number_bytes 6 t.comp_max)))
 
 -- one bit of the flags
 abbrev pub flag : Bool → ℕ → ℕ
@@ -16,18 +19,22 @@ flag there bit = cond there bit 0
 
 -- which parts are there: held 1, pending 2, hinge 4, doors 8, tuning 16
 abbrev pub flags : Summary → ℕ
-flags s = flag (is_some s.held) 1 + flag (is_some s.pending) 2 + flag (is_some s.hinge) 4 + flag (is_some s.upper) 8 + flag (is_some s.tuning) 16
+flags s = flag (is_some s.held) 1 + flag (is_some s.pending) 2 + flag (is_some s.hinge) 4 + flag
+    (is_some s.upper) 8 + flag (is_some s.tuning) 16
 
 -- the five points of a summary
 abbrev pub places_image : Summary → List ℕ
-places_image s = place_bytes s.held ++ (place_bytes s.pending ++ (place_bytes s.hinge ++ (place_bytes s.upper ++ place_bytes s.lower)))
+places_image s = place_bytes s.held ++ (place_bytes s.pending
+    ++ (place_bytes s.hinge ++ (place_bytes s.upper ++ place_bytes s.lower)))
 
 -- a summary in 128 bytes
 abbrev pub summary_image : Summary → List ℕ
 summary_image s =
-    number_bytes 8 s.taken ++ (number_bytes 4 s.records ++ ((flags s ∷ 0 ∷ 0 ∷ 0 ∷ []) ++ (places_image s ++ tuning_bytes s.tuning)))
+    number_bytes 8 s.taken ++ (number_bytes 4 s.records
+    ++ ((flags s ∷ 0 ∷ 0 ∷ 0 ∷ []) ++ (places_image s ++ tuning_bytes s.tuning)))
 
--- a summary that has a spelling: held and hinge are there together, both doors are, these and a pending value only beside held,
+-- a summary that has a spelling: held and hinge are there together, both doors are, these and a pending value
+-- only beside held,
 -- and all is in range
 pub record IsSummary (s : Summary) : Type 0 where
   pub taken : s.taken < 2 ^ 64

@@ -7,8 +7,8 @@ ghost use Rattle.archive_file.specs.Fields.{number_bytes, point_bytes, place_byt
 use arrayvec::ArrayVec;
 use trend_num::Point;
 
-// Adds bytes at the end. There is room for them.
-pub(crate) fn put<const N: usize>(out: &mut ArrayVec<u8, N>, bytes: &[u8])
+/// Adds bytes at the end. There is room for them.
+pub fn put<const N: usize>(out: &mut ArrayVec<u8, N>, bytes: &[u8])
     requires { array_vec_len out.old + length bytes.now ≤ N }
     ensures items { out.new.items ≡ out.old.items ++ bytes.now }
     ensures len { array_vec_len out.new ≡ array_vec_len out.old + length bytes.now }
@@ -18,8 +18,8 @@ pub(crate) fn put<const N: usize>(out: &mut ArrayVec<u8, N>, bytes: &[u8])
     };
 }
 
-// Adds a point at the end. There is room for it.
-pub(crate) fn put_point<const N: usize>(out: &mut ArrayVec<u8, N>, p: Point)
+/// Adds a point at the end, its time and then its value. There is room for it.
+pub fn put_point<const N: usize>(out: &mut ArrayVec<u8, N>, p: Point)
     requires { array_vec_len out.old + 16 ≤ N }
     ensures items { out.new.items ≡ out.old.items ++ point_bytes p }
     ensures len { array_vec_len out.new ≡ array_vec_len out.old + 16 }
@@ -58,8 +58,8 @@ pub(crate) fn put_time<const N: usize>(out: &mut ArrayVec<u8, N>, n: u64)
     put(out, &n.to_be_bytes()[2..]);
 }
 
-// The point that stands at the front, and what is behind it.
-pub(crate) fn take_point(bytes: &[u8]) -> (Point, &[u8])
+/// The point that stands in the 16 bytes at the front, whether or not it is in range, and what is behind it.
+pub fn take_point(bytes: &[u8]) -> (Point, &[u8])
     requires { 16 ≤ length bytes.now }
     ensures point { result.0 ≡ point_at bytes.now }
     ensures rest { result.1.now ≡ drop 16 bytes.now }
@@ -76,8 +76,8 @@ pub(crate) fn take_point(bytes: &[u8]) -> (Point, &[u8])
     )
 }
 
-// The number that stands in the 8 bytes at the front, and what is behind them.
-pub(crate) fn take_number(bytes: &[u8]) -> (u64, &[u8])
+/// The number that stands in the 8 bytes at the front, and what is behind them.
+pub fn take_number(bytes: &[u8]) -> (u64, &[u8])
     requires { 8 ≤ length bytes.now }
     ensures number { result.0 ≡ from_be_bytes w64 (take 8 bytes.now) }
     ensures rest { result.1.now ≡ drop 8 bytes.now }

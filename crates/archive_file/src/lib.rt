@@ -4,7 +4,7 @@
 //! in range has exactly one spelling, and what is read of bytes is what they spell, or nothing.
 //!
 //! [`put_records`] writes records to a device, in one write, and [`read_records`] reads them, or names the first byte of the
-//! first field that breaks the layout.
+//! first field that breaks the layout. The pieces that other layouts share are [`put_point`], [`take_point`] and their kin.
 #![tactic(auto)]
 
 mod failure;
@@ -14,7 +14,8 @@ mod record;
 mod summary;
 
 pub use failure::{DeviceFault, PutNo, ScanNo};
-pub use log::{put_records, read_records};
+pub use field::{put, put_point, take_number, take_point};
+pub use log::{put_records, read_bytes, read_records};
 pub use record::{REC_LEN, rec_bytes, rec_of};
 pub use summary::{SUMMARY_LEN, summary_bytes, summary_of};
 pub use trend_num::{Kind, Point, Rec, Summary, Tuning};

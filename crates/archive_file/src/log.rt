@@ -77,8 +77,13 @@ pub fn read_records<D: Disk>(
     }
 }
 
-// So many bytes of a device.
-fn read_bytes<D: Disk>(alloc: Global, dev: &mut D, at: u64, size: usize) -> Result<Vec<u8>, ScanNo>
+/// So many bytes of a device, from `at` on.
+pub fn read_bytes<D: Disk>(
+    alloc: Global,
+    dev: &mut D,
+    at: u64,
+    size: usize,
+) -> Result<Vec<u8>, ScanNo>
     requires { Reaches (D.trace dev.old) (at + size) }
     ensures reads { IfOk result (λ v. Reads (D.trace dev.old) at v.items) }
     ensures len { IfOk result (λ v. length v.items ≡ size) }

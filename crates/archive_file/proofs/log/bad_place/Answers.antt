@@ -8,11 +8,14 @@ use Rattle.archive_file.proofs.log.bad_place.Goals as goal
 pub returns-else-point-gt-MAX_T-clause-breaks : goal.returns-else-point-gt-MAX_T-clause-breaks
 returns-else-point-gt-MAX_T-clause-breaks c =
     let b = c.args.b.now in
-    let p : c.take_point.result.0 ≡ point_at (drop 1 b) = c.take_point.ensures.point ∙ ap point_at (take_rest b 1) in
-    let time : (point_at (drop 1 b)).t ≤ last_time = omega (arith, c.if-point-gt-MAX_T.false, ap (λ q. q.t) p) in
+    let p : c.take_point.result.0 ≡ point_at (drop 1 b) = c.take_point.ensures.point
+    ∙ ap point_at (take_rest b 1) in
+    let time : (point_at (drop 1 b)).t ≤ last_time = omega (arith, c.if-point-gt-MAX_T.false, ap (λ q. q.t) p)
+    in
     inr (inr (
       refl,
       (c.in-Some.field-0, c.in-Some.ensures.some),
       time,
-      value_breaks b c.in-Some.field-0 c.requires.len (λ i. omega (arith, c.type_inv.b i)) c.in-Some.ensures.some time c.requires.none,
+      value_breaks b c.in-Some.field-0 c.requires.len (λ i. omega (arith, c.type_inv.b i))
+          c.in-Some.ensures.some time c.requires.none,
     ))

@@ -1,7 +1,7 @@
 use Rattle.std.proofs.Common.{◌++◌, sym, ap, ◌∙◌, take}
 use Rattle.std.proofs.lemmas.List.{get_or_default}
-use Rattle.archive_file.specs.Records.{recs_image}
-use Rattle.archive_file.proofs.Logs.{recs_image-more}
+use Rattle.archive_file.specs.Records.{rec_image, recs_image}
+use Rattle.archive_file.proofs.Joins.{images_more}
 use Rattle.archive_file.proofs.log.bytes_of.Goals as goal
 
 pub loop-r-preserved : goal.loop-r-preserved
@@ -11,4 +11,4 @@ loop-r-preserved c =
     c.in_ok-extend_from_slice.ensures.items
     ∙ ap (λ l. l ++ c.rec_bytes.result) c.loop-r.invariant
     ∙ ap (λ l. recs_image (take i rs) ++ l) c.rec_bytes.ensures
-    ∙ sym (recs_image-more rs i _ c.loop-r-test.true (get_or_default rs i _ _ c.loop-r-test.true))
+    ∙ sym (images_more rec_image rs i _ c.loop-r-test.true (get_or_default rs i _ _ c.loop-r-test.true))

@@ -11,5 +11,7 @@ returns c = λ t tuned is.
       comp_min = c.take_time-comp_min.ensures.number i;
       comp_max = c.take_time-comp_max.ensures.number i;
     })
-    ∙ tuning_read t c.args.bytes.now c.take_deviation-exc_dev.result.1.now c.take_time-exc_max.result.1.now c.take_deviation-comp_dev.result.1.now c.take_time-comp_min.result.1.now tuned is
-    c.take_deviation-exc_dev.ensures.rest c.take_time-exc_max.ensures.rest c.take_deviation-comp_dev.ensures.rest c.take_time-comp_min.ensures.rest
+    ∙ tuning_read t c.args.bytes.now c.take_deviation-exc_dev.result.1.now c.take_time-exc_max.result.1.now
+    c.take_deviation-comp_dev.result.1.now c.take_time-comp_min.result.1.now tuned is
+    c.take_deviation-exc_dev.ensures.rest c.take_time-exc_max.ensures.rest
+    c.take_deviation-comp_dev.ensures.rest c.take_time-comp_min.ensures.rest

@@ -1,0 +1,3 @@
+pub mod Rooms
+pub mod Batches
+pub mod SameLanes

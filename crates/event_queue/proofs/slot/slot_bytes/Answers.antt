@@ -1,0 +1,23 @@
+use Rattle.std.proofs.Common.{◌++◌, ap, ◌∙◌, arith, length}
+use Rattle.std.proofs.lemmas.List.{get_or_default, take_all}
+use Rattle.archive_file.specs.Fields.{number_bytes, point_bytes}
+use Rattle.archive_file.proofs.Joins.{joined}
+use Rattle.event_queue.specs.Slots.{batch_bytes}
+use Rattle.event_queue.proofs.Batches.{written_none, written_more, written_all}
+use Rattle.event_queue.proofs.slot.slot_bytes.Goals as goal
+
+pub loop-p-init : goal.loop-p-init
+loop-p-init c =
+    written_none c.args.first c.args.points.now _ _ _ _ _ c.new-bytes.ensures c.put.ensures.items c.put-2.ensures.items
+    c.to_be_bytes.ensures c.to_be_bytes-2.ensures
+
+pub loop-p-preserved : goal.loop-p-preserved
+loop-p-preserved c =
+    written_more c.args.first c.args.points.now c.loop-p.p-index _ _ _ c.loop-p.invariant c.loop-p-test.true
+    (get_or_default c.args.points.now c.loop-p.p-index _ _ c.loop-p-test.true) c.put_point.ensures.items
+
+pub put_point-requires : goal.put_point-requires
+put_point-requires c = (omega arith, omega (arith, c.loop-p.invariant.long))
+
+pub returns : goal.returns
+returns c = written_all c.args.first c.args.points.now c.loop-p.p-index _ c.loop-p-test.false c.loop-p.invariant

@@ -1,0 +1,47 @@
+-- Where a lane first breaks the layout.
+use Rattle.std.specs.Prelude.{◌≡◌, ◌⊎◌, ℕ, ◌+◌, ◌*◌, ◌<◌, List, take, drop, slice_index, Option, Some}
+use Rattle.std.specs.List.{All}
+use Rattle.trend_num.specs.Ranges.{InRange}
+use Rattle.disk_model.specs.Gates.{IsOpen}
+use Rattle.archive_file.specs.Fields.{point_at}
+use Rattle.event_queue.specs.Slots.{gate_of, place_of, slot_at, batch_at}
+use Rattle.event_queue.specs.Lanes.{FollowsOn, IsCounted, IsLane}
+
+-- the count of slot k is none, which stands 8 bytes behind its beginning
+pub record IsCountBroken (slots : ℕ) (bytes : List ℕ) (k o : ℕ) : Type 0 where
+  pub field : o ≡ 8
+  pub broken : IsCounted (batch_at slots bytes k) → ⊥
+
+-- the count is one, and the first number, which stands at its beginning, does not fit
+pub record IsFirstBroken (slots : ℕ) (bytes : List ℕ) (taken k o : ℕ) : Type 0 where
+  pub field : o ≡ 0
+  pub counted : IsCounted (batch_at slots bytes k)
+  pub broken : FollowsOn slots bytes taken k → ⊥
+
+-- both are good, and point i is out of range, after others in range
+pub record IsPointBroken (slots : ℕ) (bytes : List ℕ) (taken k o i : ℕ) : Type 0 where
+  pub field : o ≡ 10 + 16 * i
+  pub counted : IsCounted (batch_at slots bytes k)
+  pub follows : FollowsOn slots bytes taken k
+  pub there : i < (batch_at slots bytes k).count
+  pub before : All InRange (take i (batch_at slots bytes k).points)
+  pub broken : InRange (point_at (drop (10 + 16 * i) (slot_at slots bytes k))) → ⊥
+
+-- the first field of slot k that breaks the layout begins so many bytes behind the slot's beginning
+abbrev pub BreaksAt : ℕ → List ℕ → ℕ → ℕ → ℕ → Type 0
+BreaksAt slots bytes taken k o =
+    IsCountBroken slots bytes k o
+    ⊎ (IsFirstBroken slots bytes taken k o ⊎ ((i : ℕ) × IsPointBroken slots bytes taken k o i))
+
+-- slot k is open and breaks the layout, and no open one before it does
+pub record IsBroken (slots : ℕ) (bytes : List ℕ) (taken a : ℕ) (byte : Option ℕ) (k o : ℕ) : Type 0 where
+  pub within : k < slots
+  pub before : IsLane slots bytes taken k
+  pub opened : IsOpen (gate_of k) bytes
+  pub breaks : BreaksAt slots bytes taken k o
+  pub place : a ≡ place_of slots k + o
+  pub byte_there : byte ≡ Some (slice_index bytes a)
+
+-- the first damage of a lane
+abbrev pub IsLaneDamage : ℕ → List ℕ → ℕ → ℕ → Option ℕ → Type 0
+IsLaneDamage slots bytes taken a byte = (k : ℕ) × (o : ℕ) × IsBroken slots bytes taken a byte k o

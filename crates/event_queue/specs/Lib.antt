@@ -1,0 +1,5 @@
+pub mod Slots
+pub mod Lanes
+pub mod Damages
+pub mod Places
+pub mod Scans

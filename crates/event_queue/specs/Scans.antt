@@ -1,0 +1,26 @@
+-- What a scan answers of a lane.
+use Rattle.std.specs.Prelude.{◌≡◌, ◌≢◌, ◌↔◌, ℕ, ◌+◌, ◌*◌, ◌-◌, ◌<◌, ◌≤◌, true, IsTrue, List, [], length, slice_index}
+use Rattle.std.specs.List.{All}
+use Rattle.trend_num.specs.Ranges.{InRange}
+use Rattle.disk_model.specs.Gates.{open_byte, IsOpen}
+use Rattle.event_queue.specs.declared.reader.Scanned.{Scanned}
+use Rattle.event_queue.specs.Slots.{gate_of, batch_at}
+use Rattle.event_queue.specs.Lanes.{IsStale, points_before, IsLane}
+
+-- so much holds of what was read of the first n slots, whatever the device
+pub record IsWithin (slots taken n : ℕ) (s : Scanned) : Type 0 where
+  pub slots_same : s.lane.slots ≡ slots
+  pub used : s.lane.used ≤ n
+  pub number : s.lane.next ≡ taken + length s.points.items
+  pub few : length s.points.items ≤ 64 * s.lane.used
+  pub in_range : All InRange s.points.items
+  pub none_stale : s.stale ≡ true → s.points.items ≡ []
+
+-- this was read of the first n slots: each open one keeps the layout, these are the points, and `used` is one above the
+-- last open one, or 0
+pub record IsRead (slots taken : ℕ) (bytes : List ℕ) (n : ℕ) (s : Scanned) : Type 0 where
+  pub lane : IsLane slots bytes taken n
+  pub points : s.points.items ≡ points_before slots bytes taken n
+  pub last : 0 < s.lane.used → IsOpen (gate_of (s.lane.used - 1)) bytes
+  pub none_behind : (k : ℕ) → s.lane.used ≤ k → k < n → slice_index bytes (gate_of k) ≢ open_byte
+  pub stale : IsTrue s.stale ↔ ((k : ℕ) × (k < n) × IsOpen (gate_of k) bytes × IsStale taken (batch_at slots bytes k))

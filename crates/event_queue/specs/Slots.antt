@@ -1,0 +1,55 @@
+-- The bytes of a lane. Behind the first 400 bytes of a device stand the gates, one for each slot, and behind them the
+-- slots, 1,034 bytes each. A slot holds one batch: the number of its first raw value in 8 bytes, how many there are in
+-- 2, and their points.
+use Rattle.std.specs.Prelude.{ℕ, zero, suc, ◌+◌, ◌*◌, min, List, [], ◌∷◌, ◌++◌, length, take, drop, flat_map}
+use Rattle.std.specs.Int.{w16, w64, from_be_bytes}
+use Rattle.trend_num.specs.declared.point.Point.{Point}
+use Rattle.archive_file.specs.Fields.{number_bytes, point_bytes, point_at}
+
+-- where the gate of slot k is
+abbrev pub gate_of : ℕ → ℕ
+gate_of k = 400 + k
+
+-- where slot k begins, of so many
+abbrev pub place_of : ℕ → ℕ → ℕ
+place_of slots k = 400 + slots + 1034 * k
+
+-- where a lane of so many slots ends
+abbrev pub lane_end : ℕ → ℕ
+lane_end slots = 400 + 1035 * slots
+
+-- raw values that were put into the lane together: the number of the first, counted from 0 since the tag began, how
+-- many there are, and their points
+pub record Batch : Type 0 where
+  pub first : ℕ
+  pub count : ℕ
+  pub points : List Point
+
+-- the bytes of a batch
+abbrev pub batch_bytes : ℕ → List Point → List ℕ
+batch_bytes first points = number_bytes 8 first ++ (number_bytes 2 (length points) ++ flat_map point_bytes points)
+
+-- the n points that stand one after the other
+abbrev pub points_in : ℕ → List ℕ → List Point
+points_in zero bytes = []
+points_in (suc n) bytes = point_at bytes ∷ points_in n (drop 16 bytes)
+
+-- the count that stands in a slot
+abbrev pub count_in : List ℕ → ℕ
+count_in slot = from_be_bytes w16 (take 2 (drop 8 slot))
+
+-- the batch that stands in a slot, of which the points end with the slot
+abbrev pub batch_in : List ℕ → Batch
+batch_in slot = record {
+  first = from_be_bytes w64 (take 8 slot);
+  count = count_in slot;
+  points = points_in (min 64 (count_in slot)) (drop 10 slot);
+}
+
+-- the bytes of slot k
+abbrev pub slot_at : ℕ → List ℕ → ℕ → List ℕ
+slot_at slots bytes k = take 1034 (drop (place_of slots k) bytes)
+
+-- the batch in slot k
+abbrev pub batch_at : ℕ → List ℕ → ℕ → Batch
+batch_at slots bytes k = batch_in (slot_at slots bytes k)

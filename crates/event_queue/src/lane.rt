@@ -1,0 +1,115 @@
+// A place in a lane: batches are put there, and the lane begins anew.
+ghost use Rattle.std.specs.Prelude.{◌≡◌, ◌↔◌, ◌+◌, ◌*◌, ◌<◌, ◌≤◌, ◌^◌, [], ◌∷◌, length, OnOk, OnErr, IsErrOf};
+ghost use Rattle.std.specs.List.{All};
+ghost use Rattle.trend_num.specs.Ranges.{InRange};
+ghost use Rattle.disk_model.specs.Traces.{seen, written};
+ghost use Rattle.disk_model.specs.Images.{Now, FromOld, IsSettled};
+ghost use Rattle.disk_model.specs.Moments.{During};
+ghost use Rattle.disk_model.specs.Calls.{HasCause, Rose, Sees};
+ghost use Rattle.disk_model.specs.Gates.{IsGuarded, HasGatesOf, IsClosing, open_byte};
+ghost use Rattle.event_queue.specs.declared.failure.LaneNo.TheVariants.{LaneFull, DeviceFault as Fault};
+ghost use Rattle.event_queue.specs.Slots.{gate_of, place_of, batch_bytes};
+ghost use Rattle.event_queue.specs.Places.{HasRoom};
+
+use crate::slot::{SLOT_LEN, slot_bytes};
+use crate::{DeviceFault, LaneNo};
+use disk_model::{Disk, close_gates, write_guarded};
+use trend_num::Point;
+
+// Where the gates begin.
+const FIRST_GATE: u64 = 400;
+
+/// A place in the lane of a tag's device.
+#[derive(Debug, Clone, Copy, PartialEq, Eq)]
+pub struct Lane {
+    /// How many slots there are.
+    pub slots: u32,
+    /// How many of them, from the first on, are used.
+    pub used: u32,
+    /// The number of the next raw value, counted from 0 since the tag began.
+    pub next: u64,
+}
+
+impl Lane {
+    /// Puts a batch of 1 to 64 raw values, which number on from `next`, into the next slot: writes the slot, syncs, opens
+    /// its gate, and syncs. At Ok a crash leaves the batch. LaneFull where no slot is free; then nothing is called. After
+    /// DeviceFault the device is opened again before it is used.
+    pub fn append_batch<D: Disk>(&mut self, dev: &mut D, points: &[Point]) -> Result<(), LaneNo>
+        requires some { 1 ≤ length points.now }
+        requires few { length points.now ≤ 64 }
+        requires in_range { All InRange points.now }
+        requires number { self.old.next + length points.now < 2 ^ 64 }
+        requires used { self.old.used ≤ self.old.slots }
+        requires room { Now (D.trace dev.old) (HasRoom self.old.slots self.old.used) }
+
+        // A crash at any moment leaves an image from before with this batch whole behind its open gate, or that gate
+        // closed; all other gates and slots are as they were.
+        ensures any_moment { self.old.used < self.old.slots → During (D.trace dev.old) (D.trace dev.new)
+            (FromOld (D.trace dev.old) (IsGuarded (place_of self.old.slots self.old.used)
+            (batch_bytes self.old.next points.now) (gate_of self.old.used))) }
+
+        ensures lane_full { IsErrOf result LaneFull ↔ (self.old.used ≡ self.old.slots) }
+        ensures untouched { IsErrOf result LaneFull → dev.new ≡ dev.old }
+        ensures unmoved { OnErr result (self.new ≡ self.old) }
+        ensures moved { OnOk result (self.new ≡ record self.old {
+            used = self.old.used + 1; next = self.old.next + length points.now }) }
+        ensures reads { OnOk result (Sees (D.trace dev.new) (written (written (seen (D.trace dev.old))
+            (place_of self.old.slots self.old.used) (batch_bytes self.old.next points.now))
+            (gate_of self.old.used) (open_byte ∷ []))) }
+        ensures settled { OnOk result (IsSettled (D.trace dev.new)) }
+        ensures room_left { OnOk result (Now (D.trace dev.new) (HasRoom self.new.slots self.new.used)) }
+        ensures clock { OnOk result (D.ticks dev.new ≡ D.ticks dev.old + 4) }
+        ensures later { D.ticks dev.old ≤ D.ticks dev.new }
+        ensures faultless { OnOk result (D.fault_count dev.new ≡ D.fault_count dev.old) }
+        ensures faults { D.fault_count dev.old ≤ D.fault_count dev.new }
+        ensures device_fault { IsErrOf result Fault → Rose (D.fault_count dev.old) (D.fault_count dev.new) }
+    {
+        if self.used == self.slots {
+            return Err(LaneNo::LaneFull);
+        }
+        let bytes = slot_bytes(self.next, points);
+        let gate = FIRST_GATE + u64::from(self.used);
+        let Ok(()) = write_guarded(dev, self.place(), &bytes, gate) else {
+            return Err(LaneNo::DeviceFault);
+        };
+        self.used += 1;
+        self.next += points.len() as u64;
+        Ok(())
+    }
+
+    // Where the next slot begins.
+    fn place(&self) -> u64
+        ensures { result ≡ place_of self.now.slots self.now.used }
+    {
+        FIRST_GATE + u64::from(self.slots) + SLOT_LEN as u64 * u64::from(self.used)
+    }
+
+    /// Closes those gates of the used slots that read open, and syncs: the next batch is written into the first slot. What
+    /// reads closed is not written, since that might open it in a crash. After DeviceFault the device is opened again
+    /// before it is used.
+    pub fn restart<D: Disk>(&mut self, dev: &mut D) -> Result<(), DeviceFault>
+        requires used { self.old.used ≤ self.old.slots }
+        requires room { Now (D.trace dev.old) (HasRoom self.old.slots self.old.used) }
+        requires gates { Now (D.trace dev.old) (HasGatesOf (seen (D.trace dev.old)) (gate_of 0) self.old.used) }
+
+        // A crash at any moment leaves an image from before with some of the used slots' open gates closed or torn.
+        ensures any_moment { During (D.trace dev.old) (D.trace dev.new)
+            (FromOld (D.trace dev.old) (IsClosing (gate_of 0) self.old.used)) }
+
+        ensures unmoved { OnErr result (self.new ≡ self.old) }
+        ensures moved { OnOk result (self.new ≡ record self.old { used = 0 }) }
+        ensures reads { OnOk result
+            (IsClosing (gate_of 0) self.old.used (seen (D.trace dev.old)) (seen (D.trace dev.new))) }
+        ensures settled { OnOk result (IsSettled (D.trace dev.new)) }
+        ensures room_left { OnOk result (Now (D.trace dev.new) (HasRoom self.new.slots self.new.used)) }
+        ensures clock { D.ticks dev.new ≤ D.ticks dev.old + (self.old.used + 1) }
+        ensures later { D.ticks dev.old ≤ D.ticks dev.new }
+        ensures cause { HasCause (D.fault_count dev.old) (D.fault_count dev.new) result }
+    {
+        let Ok(()) = close_gates(dev, FIRST_GATE, self.used) else {
+            return Err(DeviceFault);
+        };
+        self.used = 0;
+        Ok(())
+    }
+}

@@ -1,0 +1,32 @@
+// What each image that a crash may leave of a lane holds, in the words of what is recovered of it.
+ghost use Rattle.std.specs.Prelude.{◌≡◌, ◌⊎◌, ℕ, ◌+◌, ◌<◌, ◌≤◌, ◌^◌, ◌++◌, List, [], length};
+ghost use Rattle.std.specs.List.{All};
+ghost use Rattle.trend_num.specs.declared.point.Point.{Point};
+ghost use Rattle.trend_num.specs.Ranges.{InRange};
+ghost use Rattle.disk_model.specs.Gates.{IsGuarded, IsClosing};
+ghost use Rattle.event_queue.specs.Slots.{gate_of, place_of, batch_bytes, lane_end};
+ghost use Rattle.event_queue.specs.Lanes.{lane_points, IsLane};
+ghost use Rattle.event_queue.specs.Places.{IsFilled, IsOvertaken};
+
+/// Each image of an append holds the points from before, or these and the whole batch behind them.
+pub fn an_append_is_whole_or_absent()
+    ensures { (slots taken used next : ℕ) (points batch : List Point) (old new : List ℕ) → used < slots
+        → 1 ≤ length batch → length batch ≤ 64 → All InRange batch → next + length batch < 2 ^ 64
+        → IsFilled slots taken used next old points
+        → IsGuarded (place_of slots used) (batch_bytes next batch) (gate_of used) old new
+        → IsFilled slots taken used next new points
+            ⊎ IsFilled slots taken (used + 1) (next + length batch) new (points ++ batch) }
+{}
+
+/// Each image of a restart of a lane that a summary has overtaken is overtaken, and such a lane holds no points.
+pub fn a_restart_leaves_an_overtaken_lane()
+    ensures { (slots taken used : ℕ) (old new : List ℕ) → used ≤ slots → IsOvertaken slots taken old
+        → IsClosing (gate_of 0) used old new → IsOvertaken slots taken new × (lane_points slots new taken ≡ []) }
+{}
+
+/// A lane that keeps the layout is in use or overtaken.
+pub fn a_lane_is_filled_or_overtaken()
+    ensures { (slots taken : ℕ) (bytes : List ℕ) → lane_end slots ≤ length bytes → IsLane slots bytes taken slots
+        → IsOvertaken slots taken bytes ⊎ ((used : ℕ) × (next : ℕ) × (points : List Point)
+            × IsFilled slots taken used next bytes points) }
+{}

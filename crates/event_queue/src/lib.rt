@@ -1,0 +1,30 @@
+//! The durable queue of a tag, which is called its lane: raw values that a crash does not lose, in batches.
+//!
+//! A lane stands at a fixed place of the tag's device: a gate for each slot, and the slots, each of which holds one batch of
+//! 1 to 64 raw values. [`Lane::append_batch`] writes the next slot and then opens its gate, so at every moment a crash
+//! leaves the earlier batches, and this one whole or not at all. Once a summary counts all of them, [`Lane::restart`]
+//! closes the gates, and the lane begins anew. [`scan`] reads a lane for a summary that counts the first `taken` raw
+//! values: its points beyond these, or the first byte of the first field that breaks the layout.
+//!
+//! What a lane holds is defined over bytes alone (`specs/Lanes.antt`), so it is said of each image that a crash may leave:
+//! the laws at the end tell what that is for an append and for a restart.
+#![tactic(auto)]
+
+mod failure;
+mod lane;
+mod law;
+mod reader;
+mod slot;
+
+pub use archive_file::{DeviceFault, ScanNo};
+pub use failure::LaneNo;
+pub use lane::Lane;
+pub use law::{
+    a_lane_is_filled_or_overtaken, a_restart_leaves_an_overtaken_lane, an_append_is_whole_or_absent,
+};
+pub use reader::{Scanned, scan};
+pub use slot::{BATCH_MOST, SLOT_LEN};
+pub use trend_num::Point;
+
+
+
