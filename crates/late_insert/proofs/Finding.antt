@@ -18,7 +18,7 @@ abbrev pub no_rec : Rec
 no_rec = record { kind = Kept; point = record { t = 0; v = pos 0 } }
 
 abbrev pub no_page : Page
-no_page = record { id = 0; first = 0; start = 0 }
+no_page = record { id = 0; first = 0; start = 0; stair = pos 0 }
 
 -- a page that has records
 abbrev pub HasSome : List (Option Frame) → Page → Type 0

@@ -77,6 +77,7 @@ page_agrees pool new place p same at = record {
   page = at.page;
   first = at.first;
   start = at.start;
+  stair = at.stair;
 }
 
 pub pages_agree : (pool new : List (Option Frame)) (place : ℕ) (pages : List Page) → Agree pool new pages → ArePagesFrom pool place pages
@@ -126,7 +127,7 @@ pub pages_moved : (pool : List (Option Frame)) (place by : ℕ) (pages : List Pa
 pages_moved pool place by [] each = tt
 pages_moved pool place by (p ∷ ps) each =
     let place' : place + length (page_in pool p) + by ≡ place + by + length (page_in pool p) = omega arith in (
-      record { frame = each.0.frame; there = each.0.there; page = each.0.page; first = ap (λ n. n + by) each.0.first; start = each.0.start },
+      record { frame = each.0.frame; there = each.0.there; page = each.0.page; first = ap (λ n. n + by) each.0.first; start = each.0.start; stair = each.0.stair },
       subst (λ n. ArePagesFrom pool n (map (moved by) ps)) place' (pages_moved pool (place + length (page_in pool p)) by ps each.1),
     )
 

@@ -12,5 +12,7 @@ pub mod Replacing
 pub mod Reading
 pub mod Shelving
 pub mod Opening
+pub mod Ranges
+pub mod Walking
 pub mod Nearest
 pub mod Keeping

@@ -1,8 +1,8 @@
 -- The points next to a time, from the place of the first one that is not before it.
 use Rattle.std.proofs.Common.{◌≡◌, ◌≢◌, ℕ, zero, suc, ◌+◌, ◌-◌, ◌<◌, ◌≤◌, ◌⊎◌, inl, inr, Bool, true, false, cond, List, [], ◌∷◌, length, map, get_or, take, drop, Option, Some, None, All, Contains, nat_eq, refl, sym, ap, ◌∙◌, subst, arith}
-use Rattle.std.specs.Prelude.{is_some, slice_get}
+use Rattle.std.specs.Prelude.{count_by, is_some, nat_lt, slice_get}
 use Rattle.std.proofs.lemmas.List.{get_or-take, get_or-drop, get_or_default, get_or-map, length-map, length-take-le, length-drop}
-use Rattle.std.proofs.lemmas.Option.{slice_get-get_or}
+use Rattle.std.proofs.lemmas.Option.{slice_get-get_or, slice_get_within, get_or_from_slice_get}
 use Rattle.std.proofs.lemmas.List.Elements.{All-head, All-tail}
 use Rattle.std.proofs.lemmas.Bool.{cases_lt, cases_eq, eq-eqb, ne_eqb}
 use Rattle.trend_num.specs.declared.point.Point.{Point}
@@ -11,6 +11,7 @@ use Rattle.trend_model.specs.Content.{late_at, is_late_record}
 use Rattle.trend_model.specs.Contents.{IsRising, IsFloor, IsCeil, points_of}
 use Rattle.late_insert.specs.Standing.{StandsAt}
 use Rattle.trend_model.proofs.Placing.{time, rising_head, rising_tail}
+use Rattle.late_insert.proofs.Reading.{count_gap}
 use Rattle.late_insert.proofs.Found.{found, late_found, late_is}
 
 -- a point of a list
@@ -58,6 +59,39 @@ module _ (l : List Rec) (t n : ℕ) (rises : IsRising l) (within : n ≤ length 
         | inl same ↦ rw (← same) (omega arith)
         | inr apart ↦ let rise = rises n j d (omega arith) inside in omega arith
       ]
+
+  -- how many records are before the next time
+  count_at : (m : ℕ) → m ≤ length l → ((j : ℕ) (d : Rec) → j < m → time (get_or l j d) < t + 1)
+      → ((j : ℕ) (d : Rec) → m ≤ j → j < length l → t + 1 ≤ time (get_or l j d)) → m ≡ count_by (λ r. nat_lt (time r) (t + 1)) l
+  count_at m upto low high =
+      count_gap (t + 1) m l upto
+      (λ j d inside.
+          let reach : j < m = omega (arith, length-take-le m l upto) in
+          subst (λ r. time r < t + 1) (sym (get_or-take m l j d reach)) (low j d reach))
+      (λ j d inside.
+          subst (λ r. t + 1 ≤ time r) (sym (get_or-drop m l j d)) (high (m + j) d (omega arith) (omega (arith, length-drop m l))))
+
+  -- where a point stands at the time
+  pub upto_there : (q : Point) → slice_get (points_of l) n ≡ Some q → q.t ≡ t → n + 1 ≡ count_by (λ r. nat_lt (time r) (t + 1)) l
+  upto_there q there same =
+      let inside : n < length l = omega (arith, slice_get_within (points_of l) n q there, length-map l (λ (r : Rec). r.point)) in
+      let here : (d : Rec) → time (get_or l n d) ≡ t =
+      λ d. ap (λ (p : Point). p.t) (sym (get_or-map (λ (r : Rec). r.point) l n d q inside) ∙ get_or_from_slice_get (points_of l) n q q there) ∙ same in
+      count_at (n + 1) (omega arith)
+      (λ j d less. elim (cases_lt j n) [
+        | inl early ↦ let first = before_at j d early in omega arith
+        | inr late ↦ let at : j ≡ n = omega arith in let there = here d in rw at (omega arith)
+      ])
+      (λ j d from reach. let rise = rises n j d (omega arith) reach in let first = here d in omega arith)
+
+  -- and where none does
+  pub upto_gap : ((q : Point) → slice_get (points_of l) n ≡ Some q → q.t ≢ t) → n ≡ count_by (λ r. nat_lt (time r) (t + 1)) l
+  upto_gap other =
+      count_at n within
+      (λ j d less. let early = before_at j d less in omega arith)
+      (λ j d from reach.
+          let late = beyond j d (λ r at. other r.point (point_get l n r at.within at.there) at.time) from reach in
+          omega arith)
 
   pub floor_there : (r : Rec) → StandsAt l n t r → IsFloor t l (Some r.point)
   floor_there r at = (point_there l n r at.within at.there, omega (arith, at.time), λ j d reach upto. omega (arith, at.time))

@@ -1,5 +1,5 @@
 -- A page in a frame that was taken: the first one, and one behind all others.
-use Rattle.std.proofs.Common.{◌≡◌, ◌≢◌, ℕ, pos, zero, suc, ◌+◌, ◌-◌, ◌<◌, ◌≤◌, inl, inr, List, [], ◌∷◌, ◌++◌, length, get_or, set}
+use Rattle.std.proofs.Common.{◌≡◌, ◌≢◌, true, ℕ, ℤ, pos, zero, suc, ◌+◌, ◌-◌, ◌<◌, ◌≤◌, inl, inr, List, [], ◌∷◌, ◌++◌, length, get_or, set}
 use Rattle.std.proofs.Common.{Option, Some, None, All, refl, sym, ap, ap₂, ◌∙◌, subst, arith, append-nil, length-append}
 use Rattle.std.proofs.lemmas.List.{get_or-set_same, get_or-set_other, length-replicate, length-set, map-append}
 use Rattle.std.proofs.lemmas.List.Elements.{All-nil, All-cons, All-head, All-tail, All-append}
@@ -9,7 +9,8 @@ use Rattle.trend_num.specs.Ranges.{InRange}
 use Rattle.page_pool.specs.declared.frame.Frame.{Frame}
 use Rattle.page_pool.specs.Pool.{frame_at, Takes, empty_frame}
 use Rattle.late_insert.specs.declared.directory.Page.{Page}
-use Rattle.trend_model.specs.Contents.{IsRising, placed}
+use Rattle.trend_model.specs.Contents.{IsRising, placed, points_of}
+use Rattle.trend_model.specs.Windows.{area}
 use Rattle.late_insert.specs.Pages.{AreApart, ids_of, records_in, records_at, page_in, records_of, IsPage, IsPageAt}
 use Rattle.late_insert.specs.Pages.{ArePagesFrom, ArePages, AreHalves}
 use Rattle.trend_model.proofs.Placing.{time, AllBefore, placed_behind, rising_nil, rising_placed}
@@ -45,8 +46,12 @@ empty_start : get_or empty_frame.times 0 0 ≡ 0
 unfolding empty_frame
 empty_start = refl
 
+-- with no stair
+pub empty_stair : area true (points_of (records_in empty_frame)) ≡ pos 0
+empty_stair = ap (λ l. area true (points_of l)) empty_records
+
 module _ (pool new : List (Option Frame)) (pages : List Page) (id : ℕ) (takes : Takes pool id new)
-    (list : pages ≡ record { id = id; first = 0; start = 0 } ∷ []) where
+    (list : pages ≡ record { id = id; first = 0; start = 0; stair = pos 0 } ∷ []) where
   -- the frame that was taken is empty
   empty_there : frame_at new id ≡ Some empty_frame
   empty_there = ap (λ ps. frame_at ps id) takes.now_empty ∙ get_or-set_same pool id (Some empty_frame) None takes.within
@@ -59,7 +64,7 @@ module _ (pool new : List (Option Frame)) (pages : List Page) (id : ℕ) (takes 
   pub first_page_is : ArePages new pages
   first_page_is = record {
     each = subst (ArePagesFrom new 0) (sym list)
-        (record { frame = empty_frame; there = empty_there; page = empty_page; first = refl; start = sym empty_start }, tt);
+        (record { frame = empty_frame; there = empty_there; page = empty_page; first = refl; start = sym empty_start; stair = sym empty_stair }, tt);
     apart = subst (λ ps. AreApart (ids_of ps)) (sym list) (All-nil (λ y. y ≢ id), tt);
     rising = subst IsRising (sym no_records) rising_nil;
     some = omega (arith, ap length list);
@@ -96,12 +101,13 @@ halves_end pool new (p ∷ o ∷ ps) q agree halves last =
 
 -- what is left where a frame was taken and written with one record, and its page put behind the others
 module _ (pool taken : List (Option Frame)) (pages : List Page) (id first : ℕ) (g : Frame) (r : Rec) (paged : ArePages pool pages)
-    (takes : Takes pool id taken) (page : IsPage g) (records : records_in g ≡ r ∷ []) (counted : first ≡ length (records_of pool pages))
+    (takes : Takes pool id taken) (page : IsPage g) (stair : ℤ) (stair_is : stair ≡ area true (points_of (records_in g)))
+    (records : records_in g ≡ r ∷ []) (counted : first ≡ length (records_of pool pages))
     (before : AllBefore (records_of pool pages) (time r))
     (full : (d : Page) → length (page_in pool (get_or pages (length pages - 1) d)) ≡ 128) where
   -- the page
   abbrev pub opened_page : Page
-  opened_page = record { id = id; first = first; start = get_or g.times 0 0 }
+  opened_page = record { id = id; first = first; start = get_or g.times 0 0; stair = stair }
 
   -- the pool
   abbrev pub opened_pool : List (Option Frame)
@@ -143,6 +149,7 @@ module _ (pool taken : List (Option Frame)) (pages : List Page) (id first : ℕ)
     page = page;
     first = omega (arith, counted, ap length (records-agree pool opened_pool pages agree));
     start = refl;
+    stair = stair_is;
   }
 
   apart_there : AreApart (ids_of (pages ++ opened_page ∷ []))

@@ -3,6 +3,10 @@ use Rattle.std.proofs.Common.{◌≡◌, ◌≢◌, ℕ, zero, suc, ◌+◌, ◌
 use Rattle.std.proofs.lemmas.List.{get_or_append_left, get_or-append-add, get_or-take, get_or-drop, get_or_default, take_at, drop_at, take_more, take_all, drop_all, length-map, length-take-le, length-drop, take-append-drop, map-append}
 use Rattle.std.proofs.lemmas.List.Sums.{sum_by-cons, sum_by-take-drop}
 use Rattle.std.proofs.lemmas.List.Elements.{All-head, All-tail}
+use Rattle.std.specs.Prelude.{FitsSigned}
+use Rattle.std.proofs.lemmas.Int.{to_z-of_z}
+use mir.Syntax.{w128}
+use mir.Val.{of_z, to_z}
 use Rattle.std.proofs.lemmas.Bool.{cases_lt, cases_eq, lt-ltb, le-ltb}
 use Rattle.trend_num.specs.declared.point.Point.{Point}
 use Rattle.trend_num.specs.declared.archive.Rec.{Rec}
@@ -10,9 +14,11 @@ use Rattle.page_pool.specs.declared.frame.Frame.{Frame}
 use Rattle.page_pool.specs.Pool.{frame_at}
 use Rattle.late_insert.specs.declared.directory.Page.{Page}
 use Rattle.trend_model.specs.Contents.{IsRising, points_of}
-use Rattle.late_insert.specs.Pages.{rec_in, records_in, records_at, page_in, records_of, IsPage, IsPageAt, ArePages, IsFor}
+use Rattle.trend_model.specs.Windows.{area}
+use Rattle.late_insert.specs.Pages.{rec_in, records_in, records_at, page_in, records_of, IsPage, IsPageAt, ArePages, IsFor, IsOn}
 use Rattle.trend_model.proofs.Placing.{time, AllBefore, AllAfter, rising_left, rising_right}
-use Rattle.late_insert.proofs.Summing.{length-records_in, get_or-records_in}
+use Rattle.late_insert.proofs.Summing.{length-records_in, get_or-records_in, length-points_in, points_range}
+use Rattle.late_insert.proofs.Areas.{area_fits}
 use Rattle.late_insert.proofs.Joining.{pages_around, records-around, records-append, page_at}
 use Rattle.late_insert.proofs.Finding.{no_rec, no_page}
 
@@ -24,6 +30,18 @@ pub record IsRead (pool : List (Option Frame)) (pages : List Page) (k : ℕ) (p 
   pub within : k < length pages
   pub read : p ≡ get_or pages k p
   pub there : frame_at pool p.id ≡ Some f
+
+-- it is read so by its place
+pub is_read : (pool : List (Option Frame)) (pages : List Page) (k : ℕ) (p : Page) (f : Frame) → ArePages pool pages → k < length pages
+    → p ≡ get_or pages k p → frame_at pool p.id ≡ Some f → IsRead pool pages k p f
+is_read pool pages k p f paged within read there = record { paged = paged; within = within; read = read; there = there }
+
+-- so is each page
+pub each_read : (pool : List (Option Frame)) (pages : List Page) (k : ℕ) (d : Page) (paged : ArePages pool pages) (within : k < length pages)
+    → IsRead pool pages k (get_or pages k d) (page_at pool pages k d within paged.each).frame
+each_read pool pages k d paged within =
+    is_read pool pages k (get_or pages k d) _ paged within (get_or_default pages k d (get_or pages k d) within)
+    (page_at pool pages k d within paged.each).there
 
 module _ (pool : List (Option Frame)) (pages : List Page) (k : ℕ) (p : Page) (f : Frame) (is : IsRead pool pages k p f) where
   abbrev front : List Rec
@@ -41,6 +59,19 @@ module _ (pool : List (Option Frame)) (pages : List Page) (k : ℕ) (p : Page) (
   pub frame_page : IsPage f
   frame_page = subst IsPage same_frame at_place.page
 
+  -- its stair
+  pub page_stair : p.stair ≡ area true (points_of (records_in f))
+  page_stair = at_place.stair ∙ ap (λ g. area true (points_of (records_in g))) same_frame
+
+  -- and that stair as it is read
+  pub stair_again : (q : Page) → q ≡ get_or pages k q → to_z w128 (of_z w128 q.stair) ≡ area true (points_of (records_in f))
+  stair_again q again =
+      let page = frame_page in
+      let same : q ≡ p = again ∙ (get_or_default pages k q p is.within ∙ sym is.read) in
+      let stair : q.stair ≡ area true (points_of (records_in f)) = ap (λ (x : Page). x.stair) same ∙ page_stair in
+      to_z-of_z w128 q.stair (subst (FitsSigned w128) (sym stair)
+      (area_fits true (points_of (records_in f)) (points_range f page.recorded) (omega (arith, length-points_in f, page.recorded.few)))) ∙ stair
+
   parts : records_of pool pages ≡ front ++ (records_in f ++ behind)
   parts =
       records-around pool pages k p is.within
@@ -50,19 +81,45 @@ module _ (pool : List (Option Frame)) (pages : List Page) (k : ℕ) (p : Page) (
   frame_rises = rising_left (records_in f) behind (rising_right front (records_in f ++ behind) (subst IsRising parts is.paged.rising))
 
   -- a record of the page, and one behind it
-  on_page : (j : ℕ) (d : Rec) → j < f.len → get_or (records_of pool pages) (p.first + j) d ≡ rec_in f j
+  pub on_page : (j : ℕ) (d : Rec) → j < f.len → get_or (records_of pool pages) (p.first + j) d ≡ rec_in f j
   on_page j d inside =
       ap (λ n. get_or (records_of pool pages) (n + j) d) at_place.first
       ∙ (ap (λ l. get_or l (length front + j) d) parts
       ∙ (get_or-append-add front (records_in f ++ behind) j d
       ∙ (get_or_append_left (records_in f) behind d j (omega (arith, length-records_in f)) ∙ get_or-records_in f j d inside)))
 
-  long : length (records_of pool pages) ≡ p.first + (f.len + length behind)
+  pub long : length (records_of pool pages) ≡ p.first + (f.len + length behind)
   long = omega (arith, ap length parts, length-append front (records_in f ++ behind), length-append (records_in f) behind, length-records_in f, at_place.first)
 
   -- the page ends within the records
   pub end_within : p.first + f.len ≤ length (records_of pool pages)
   end_within = omega (arith, long)
+
+  pub read_on : (i : ℕ) (d : Rec) → p.first ≤ i → i < p.first + f.len → get_or (records_of pool pages) i d ≡ rec_in f (i - p.first)
+  read_on i d from upto =
+      let place : p.first + (i - p.first) ≡ i = omega arith in
+      ap (λ n. get_or (records_of pool pages) n d) (sym place) ∙ on_page (i - p.first) d (omega arith)
+
+  -- the records up to the end of the page
+  pub records_upto : records_of pool (take (k + 1) pages) ≡ front ++ records_in f
+  records_upto =
+      ap (records_of pool) (take_more pages k p is.within) ∙ (records-append pool (take k pages) (get_or pages k p ∷ [])
+      ∙ ap (λ l. front ++ l) (append-nil (page_in pool (get_or pages k p)) ∙ (ap (page_in pool) (sym is.read) ∙ ap records_at is.there)))
+
+  -- a place on the page
+  pub place_on : (i : ℕ) → IsOn pool pages k i → (p.first ≤ i) × (i < p.first + f.len)
+  place_on i on =
+      let start = at_place.first in
+      (omega (arith, on.from), omega (arith, on.upto, ap length records_upto, length-append front (records_in f), length-records_in f))
+
+  pub is_on : (i : ℕ) → p.first ≤ i → i < p.first + f.len → IsOn pool pages k i
+  is_on i from upto =
+      let start = at_place.first in
+      record {
+        within = is.within;
+        from = omega arith;
+        upto = omega (arith, ap length records_upto, length-append front (records_in f), length-records_in f);
+      }
 
   -- where the page is the last one, and its last record is before t, all are
   pub last_before : (t i : ℕ) → k + 1 ≡ length pages → i + 1 ≡ f.len → get_or f.times i 0 < t → AllBefore (records_of pool pages) t
@@ -141,22 +198,15 @@ module _ (pool : List (Option Frame)) (pages : List Page) (k : ℕ) (p : Page) (
     page_upto = elim (cases_lt (k + 1) (length pages)) [
       | inl more ↦
           let next = (page_at pool pages (k + 1) no_page more is.paged.each).first in
-          let upto : records_of pool (take (k + 1) pages) ≡ front ++ records_in f =
-          ap (records_of pool) (take_more pages k p is.within) ∙ (records-append pool (take k pages) (get_or pages k p ∷ [])
-          ∙ ap (λ l. front ++ l) (append-nil (page_in pool (get_or pages k p)) ∙ (ap (page_in pool) (sym is.read) ∙ ap records_at is.there))) in
           let bound = late (k + 1) no_page (omega arith) more in
-          omega (arith, at_place.first, ap length upto, length-append front (records_in f), length-records_in f)
+          omega (arith, at_place.first, ap length records_upto, length-append front (records_in f), length-records_in f)
       | inr last ↦
           let none : length behind ≡ 0 = ap (λ ps. length (records_of pool ps)) (drop_all (k + 1) pages last) in
           omega (arith, long)
     ]
 
     pub read_at : (d : Rec) → get_or (records_of pool pages) i d ≡ rec_in f (i - p.first)
-    read_at d =
-        let upto = page_upto in
-        let from = page_from in
-        let place : p.first + (i - p.first) ≡ i = omega arith in
-        ap (λ n. get_or (records_of pool pages) n d) (sym place) ∙ on_page (i - p.first) d (omega arith)
+    read_at d = read_on i d page_from page_upto
 
     -- the points on the page are those of its frame
     pub points_read : take (p.first + f.len - p.first) (drop p.first (points_of (records_of pool pages))) ≡ points_of (records_in f)

@@ -1,5 +1,5 @@
 -- A page in the middle that is replaced by others.
-use Rattle.std.proofs.Common.{◌≡◌, ◌≢◌, inl, inr, ℕ, zero, suc, ◌+◌, ◌-◌, ◌<◌, ◌≤◌, List, [], ◌∷◌, ◌++◌, length, map, get_or, set, take, drop, Option, Some, None, All, refl, sym, ap, ap₂, ◌∙◌, subst, arith, append_assoc, append-nil, length-append, add-zero, zero-add}
+use Rattle.std.proofs.Common.{◌≡◌, ◌≢◌, inl, inr, true, ℕ, ℤ, zero, suc, ◌+◌, ◌-◌, ◌<◌, ◌≤◌, List, [], ◌∷◌, ◌++◌, length, map, get_or, set, take, drop, Option, Some, None, All, refl, sym, ap, ap₂, ◌∙◌, subst, arith, append_assoc, append-nil, length-append, add-zero, zero-add}
 use Rattle.std.specs.Prelude.{is_some, insert}
 use Rattle.std.proofs.lemmas.List.{get_or-set_same, get_or-set_other, map-append, length-map, take-append-drop, length-set, length-take-le, length-drop, get_or-take, nil_from_length}
 use Rattle.std.proofs.lemmas.Bool.{cases_lt}
@@ -9,7 +9,8 @@ use Rattle.page_pool.specs.declared.frame.Frame.{Frame}
 use Rattle.page_pool.specs.Pool.{frame_at, IsHeld}
 use Rattle.page_pool.proofs.Stored.{held_within}
 use Rattle.late_insert.specs.declared.directory.Page.{Page}
-use Rattle.trend_model.specs.Contents.{IsRising, placed}
+use Rattle.trend_model.specs.Contents.{IsRising, placed, points_of}
+use Rattle.trend_model.specs.Windows.{area}
 use Rattle.late_insert.specs.Moves.{moved}
 use Rattle.late_insert.specs.Pages.{records_in, records_at, page_in, records_of, IsPage, IsPageAt, ArePagesFrom, ArePages, AreApart, AreHalves, IsFor, ids_of}
 use Rattle.late_insert.proofs.Summing.{length-records_in, get_or-records_in}
@@ -90,12 +91,13 @@ write_there pool id f g there =
 
 -- ---- one record more
 
-module _ (pool : List (Option Frame)) (A B : List Page) (p : Page) (g : Frame) (r : Rec) (by : ℕ) (paged : ArePages pool (A ++ p ∷ B))
+module _ (pool : List (Option Frame)) (A B : List Page) (p : Page) (g : Frame) (r : Rec) (by : ℕ) (s : ℤ)
+    (stair : s ≡ area true (points_of (records_in g))) (paged : ArePages pool (A ++ p ∷ B))
     (page : IsPage g) (records : records_in g ≡ placed r (page_in pool p)) (grown : length (records_in g) ≡ length (page_in pool p) + by)
     (before : All (λ x. time x < time r) (records_of pool A)) (after : All (λ x. time r < time x) (records_of pool B)) where
   -- the page with the record
   abbrev pub put_page : Page
-  put_page = record { id = p.id; first = p.first; start = get_or g.times 0 0 }
+  put_page = record { id = p.id; first = p.first; start = get_or g.times 0 0; stair = s }
 
   abbrev pub put_pages : List Page
   put_pages = A ++ put_page ∷ map (moved by) B
@@ -111,7 +113,7 @@ module _ (pool : List (Option Frame)) (A B : List Page) (p : Page) (g : Frame) (
   put_inner : ArePagesFrom put_pool (length (records_of pool A)) (put_page ∷ [])
   put_inner =
       let at = (pages_split pool 0 A (p ∷ B) paged.each).1.0 in
-      (record { frame = g; there = put_there; page = page; first = at.first ∙ zero-add (length (records_of pool A)); start = refl }, tt)
+      (record { frame = g; there = put_there; page = page; first = at.first ∙ zero-add (length (records_of pool A)); start = refl; stair = stair }, tt)
 
   put_alone : records_of put_pool (put_page ∷ []) ≡ records_in g
   put_alone = append-nil (page_in put_pool put_page) ∙ ap records_at put_there
@@ -165,7 +167,7 @@ module _ (pool : List (Option Frame)) (A B : List Page) (p : Page) (g : Frame) (
 moved_none : (pages : List Page) → map (moved 0) pages ≡ pages
 moved_none [] = refl
 moved_none (p ∷ ps) =
-    ap₂ (λ x xs. x ∷ xs) (ap (λ n. record { id = p.id; first = n; start = p.start }) (add-zero p.first)) (moved_none ps)
+    ap₂ (λ x xs. x ∷ xs) (ap (λ n. record { id = p.id; first = n; start = p.start; stair = p.stair }) (add-zero p.first)) (moved_none ps)
 
 -- no page has an id that is spare
 pub spare_apart : (pool : List (Option Frame)) (place : ℕ) (pages : List Page) (id : ℕ) → ArePagesFrom pool place pages → frame_at pool id ≡ None
@@ -176,19 +178,23 @@ spare_apart pool place (p ∷ ps) id each spare =
     All-cons (λ q. q.id ≢ id) p ps (λ same. let none = subst (λ i. frame_at pool i ≡ None) (sym same) spare in absurd cc)
     (spare_apart pool (place + length (page_in pool p)) ps id each.1 spare)
 
-module _ (pool : List (Option Frame)) (A B : List Page) (p : Page) (lo hi e : Frame) (id : ℕ) (paged : ArePages pool (A ++ p ∷ B))
+module _ (pool : List (Option Frame)) (A B : List Page) (p : Page) (lo hi e : Frame) (id : ℕ) (s t : ℤ)
+    (lower_stair : s ≡ area true (points_of (records_in lo))) (upper_stair : t ≡ area true (points_of (records_in hi))) (paged : ArePages pool (A ++ p ∷ B))
     (lower : IsPage lo) (upper : IsPage hi) (lower_records : records_in lo ≡ take 64 (page_in pool p))
     (upper_records : records_in hi ≡ drop 64 (page_in pool p)) (full : length (page_in pool p) ≡ 128)
     (within : id < length (set pool p.id (Some lo))) (spare : frame_at (set pool p.id (Some lo)) id ≡ None) where
-  -- the upper half's page
+  -- the pages of both halves
+  abbrev pub lower_page : Page
+  lower_page = record { id = p.id; first = p.first; start = p.start; stair = s }
+
   abbrev pub upper_page : Page
-  upper_page = record { id = id; first = p.first + 64; start = get_or hi.times 0 0 }
+  upper_page = record { id = id; first = p.first + 64; start = get_or hi.times 0 0; stair = t }
 
   abbrev pub split_pool : List (Option Frame)
   split_pool = set (set (set pool p.id (Some lo)) id (Some e)) id (Some hi)
 
   abbrev pub split_pages : List Page
-  split_pages = A ++ p ∷ upper_page ∷ B
+  split_pages = A ++ lower_page ∷ upper_page ∷ B
 
   at_p : IsPageAt pool (0 + length (records_of pool A)) p
   at_p = (pages_split pool 0 A (p ∷ B) paged.each).1.0
@@ -230,14 +236,14 @@ module _ (pool : List (Option Frame)) (A B : List Page) (p : Page) (lo hi e : Fr
   id_there =
       get_or-set_same (set (set pool p.id (Some lo)) id (Some e)) id (Some hi) None (omega (arith, within, length-set (set pool p.id (Some lo)) id (Some e)))
 
-  pub low_len : length (page_in split_pool p) ≡ 64
+  pub low_len : length (page_in split_pool lower_page) ≡ 64
   low_len = ap length (ap records_at p_there ∙ lower_records) ∙ length-take-le 64 (page_in pool p) (omega (arith, full))
 
   pub high_len : length (page_in split_pool upper_page) ≡ 64
   high_len = ap length (ap records_at id_there ∙ upper_records) ∙ (length-drop 64 (page_in pool p) ∙ omega (arith, full))
 
   -- both halves hold what the page held
-  both_records : records_of split_pool (p ∷ upper_page ∷ []) ≡ page_in pool p
+  both_records : records_of split_pool (lower_page ∷ upper_page ∷ []) ≡ page_in pool p
   both_records =
       ap₂ (λ xs ys. xs ++ ys) (ap records_at p_there ∙ lower_records) (append-nil (page_in split_pool upper_page) ∙ (ap records_at id_there ∙ upper_records))
       ∙ take-append-drop 64 (page_in pool p)
@@ -250,10 +256,17 @@ module _ (pool : List (Option Frame)) (A B : List Page) (p : Page) (lo hi e : Fr
       ap time (sym (get_or-records_in lo 0 no_rec some) ∙ (ap (λ l. get_or l 0 no_rec) lower_records
       ∙ (get_or-take 64 (page_in pool p) 0 no_rec (omega arith) ∙ (ap (λ l. get_or l 0 no_rec) is ∙ get_or-records_in at_p.frame 0 no_rec long))))
 
-  inner : ArePagesFrom split_pool (length (records_of pool A)) (p ∷ upper_page ∷ [])
+  inner : ArePagesFrom split_pool (length (records_of pool A)) (lower_page ∷ upper_page ∷ [])
   inner =
       let place = zero-add (length (records_of pool A)) in (
-        record { frame = lo; there = p_there; page = lower; first = at_p.first ∙ place; start = at_p.start ∙ sym first_time },
+        record {
+          frame = lo;
+          there = p_there;
+          page = lower;
+          first = at_p.first ∙ place;
+          start = at_p.start ∙ sym first_time;
+          stair = lower_stair;
+        },
         (
           record {
             frame = hi;
@@ -261,26 +274,27 @@ module _ (pool : List (Option Frame)) (A B : List Page) (p : Page) (lo hi e : Fr
             page = upper;
             first = omega (arith, at_p.first, low_len);
             start = refl;
+            stair = upper_stair;
           },
           tt,
         ),
       )
 
-  grown : length (records_of split_pool (p ∷ upper_page ∷ [])) ≡ length (page_in pool p) + 0
+  grown : length (records_of split_pool (lower_page ∷ upper_page ∷ [])) ≡ length (page_in pool p) + 0
   grown = ap length both_records ∙ sym (add-zero (length (page_in pool p)))
 
-  joined : A ++ ((p ∷ upper_page ∷ []) ++ map (moved 0) B) ≡ split_pages
-  joined = ap (λ ps. A ++ p ∷ upper_page ∷ ps) (moved_none B)
+  joined : A ++ ((lower_page ∷ upper_page ∷ []) ++ map (moved 0) B) ≡ split_pages
+  joined = ap (λ ps. A ++ lower_page ∷ upper_page ∷ ps) (moved_none B)
 
   pub records-split : records_of split_pool split_pages ≡ records_of pool (A ++ p ∷ B)
   records-split =
       ap (records_of split_pool) (sym joined)
-      ∙ (records-replaced pool split_pool A B (p ∷ upper_page ∷ []) p 0 paged.each front_agrees back_agrees inner grown
+      ∙ (records-replaced pool split_pool A B (lower_page ∷ upper_page ∷ []) p 0 paged.each front_agrees back_agrees inner grown
       ∙ (ap (λ l. records_of pool A ++ (l ++ records_of pool B)) both_records ∙ sym (records-append pool A (p ∷ B))))
 
   pub pages_in_halves : ArePages split_pool split_pages
   pages_in_halves = record {
-    each = subst (ArePagesFrom split_pool 0) joined (pages_replaced pool split_pool A B (p ∷ upper_page ∷ []) p 0 paged.each front_agrees back_agrees inner grown);
+    each = subst (ArePagesFrom split_pool 0) joined (pages_replaced pool split_pool A B (lower_page ∷ upper_page ∷ []) p 0 paged.each front_agrees back_agrees inner grown);
     apart =
         let parts = pages_split pool 0 A (p ∷ B) paged.each in
         let left = each_id (λ i. i ≢ id) A (id_apart 0 A parts.0 sides.0) in
@@ -288,18 +302,18 @@ module _ (pool : List (Option Frame)) (A B : List Page) (p : Page) (lo hi e : Fr
         let before : ids_of (A ++ p ∷ B) ≡ (ids_of A ++ p.id ∷ []) ++ ids_of B =
         map-append (λ (x : Page). x.id) A (p ∷ B) ∙ sym (append_assoc (ids_of A) (p.id ∷ []) (ids_of B)) in
         let after : (ids_of A ++ p.id ∷ []) ++ id ∷ ids_of B ≡ ids_of split_pages =
-        append_assoc (ids_of A) (p.id ∷ []) (id ∷ ids_of B) ∙ sym (map-append (λ (x : Page). x.id) A (p ∷ upper_page ∷ B)) in
+        append_assoc (ids_of A) (p.id ∷ []) (id ∷ ids_of B) ∙ sym (map-append (λ (x : Page). x.id) A (lower_page ∷ upper_page ∷ B)) in
         subst AreApart after (apart_insert (ids_of A ++ p.id ∷ []) (ids_of B) id (subst AreApart before paged.apart)
         (All-append (λ i. i ≢ id) (ids_of A) (p.id ∷ []) left (All-cons (λ i. i ≢ id) p.id [] p_apart (All-nil (λ i. i ≢ id)))) right);
     rising = subst IsRising (sym records-split) paged.rising;
-    some = omega (arith, length-append A (p ∷ upper_page ∷ B));
+    some = omega (arith, length-append A (lower_page ∷ upper_page ∷ B));
     halves = subst (AreHalves split_pool) joined
-        (halves_front pool split_pool A (p ∷ B) (p ∷ upper_page ∷ map (moved 0) B) front_agrees paged.halves (omega arith)
+        (halves_front pool split_pool A (p ∷ B) (lower_page ∷ upper_page ∷ map (moved 0) B) front_agrees paged.halves (omega arith)
         (λ more. omega (arith, low_len), (λ more. omega (arith, high_len),
         halves_moved pool split_pool 0 B back_agrees (halves_right pool A (p ∷ B) paged.halves).1)));
     filled = λ several. subst (All (HasSome split_pool)) joined
-        (some_replaced pool split_pool A B (p ∷ upper_page ∷ []) p 0 paged.each front_agrees back_agrees inner grown some_sides.0
-        (All-cons (HasSome split_pool) p (upper_page ∷ []) (omega (arith, low_len))
+        (some_replaced pool split_pool A B (lower_page ∷ upper_page ∷ []) p 0 paged.each front_agrees back_agrees inner grown some_sides.0
+        (All-cons (HasSome split_pool) lower_page (upper_page ∷ []) (omega (arith, low_len))
         (All-cons (HasSome split_pool) upper_page [] (omega (arith, high_len)) (All-nil (HasSome split_pool)))) some_sides.1);
   }
     where

@@ -1,8 +1,8 @@
 -- What the code makes of a list of pages.
-use Rattle.std.proofs.Common.{◌≡◌, ◌≢◌, ℕ, pos, zero, suc, ◌+◌, ◌-◌, ◌*◌, ◌^◌, ◌<◌, ◌≤◌, List, [], ◌∷◌, ◌++◌, length, map, get_or, set, take, drop, Option, Some, None, All, Vec, Global, refl, sym, ap, ap₂, ◌∙◌, subst, arith, append_assoc, length-append, append-nil, add-one, inl, inr}
-use Rattle.std.proofs.lemmas.List.{take_at, take_more_set, drop-set-lt, get_or_default, length-map, length-set, length-take-le, length-drop, take-append-drop, take_more, get_or_at, get_or-set_same, length-replicate}
+use Rattle.std.proofs.Common.{◌≡◌, ◌≢◌, true, ℕ, ℤ, pos, zero, suc, ◌+◌, ◌-◌, ◌*◌, ◌^◌, ◌<◌, ◌≤◌, List, [], ◌∷◌, ◌++◌, length, map, get_or, set, take, drop, Option, Some, None, All, Vec, Global, refl, sym, ap, ap₂, ◌∙◌, subst, arith, append_assoc, length-append, append-nil, add-one, inl, inr}
+use Rattle.std.proofs.lemmas.List.{take_at, take_more_set, drop-set-lt, get_or_default, length-map, length-set, length-take-le, length-drop, take-append-drop, take_more, get_or_at, get_or-set_same, get_or-set_other}
 use Rattle.std.proofs.lemmas.List.Edits.{get_or-insert_at, get_or-insert_below, get_or-insert_above, length-insert}
-use Rattle.std.proofs.lemmas.Bool.{cases_lt}
+use Rattle.std.proofs.lemmas.Bool.{cases_eq, cases_lt}
 use Rattle.late_insert.proofs.Finding.{found_for}
 use Rattle.std.specs.Prelude.{insert}
 use Rattle.std.proofs.lemmas.List.Elements.{All-nil, All-cons, All-set}
@@ -11,25 +11,26 @@ use Rattle.page_pool.specs.declared.frame.Frame.{Frame}
 use Rattle.page_pool.specs.Pool.{frame_at, Takes, empty_frame}
 use Rattle.trend_num.specs.Ranges.{InRange}
 use Rattle.late_insert.specs.declared.directory.Page.{Page}
-use Rattle.trend_model.specs.Contents.{IsRising, placed}
+use Rattle.trend_model.specs.Contents.{IsRising, placed, points_of}
+use Rattle.trend_model.specs.Windows.{area}
 use Rattle.late_insert.specs.Moves.{moved}
-use Rattle.late_insert.specs.Pages.{AreApart, ids_of, records_in, records_at, page_in, records_of, IsPage, IsPageAt, ArePagesFrom, ArePages, AreHalves, IsFor}
+use Rattle.late_insert.specs.Pages.{AreApart, ids_of, records_in, records_at, page_in, records_of, IsPage, IsPageAt, ArePagesFrom, ArePages, AreHalves, IsFor, IsSplit}
 use Rattle.trend_model.proofs.Placing.{time, placed_middle, rising_nil}
 use Rattle.late_insert.proofs.Summing.{length-records_in}
 use Rattle.late_insert.proofs.Joining.{pages_around, page_at, records-around}
 use Rattle.late_insert.proofs.Replacing.{pages_put, records-put, put_pages, pages_in_halves, records-split, low_len, high_len}
 use Rattle.late_insert.proofs.Reading.{IsRead, end_within}
 
--- the pages after a record was put into the page at k: its start is written, and the others are moved on
-pub record IsShelved (pages M S : List Page) (k n by : ℕ) (q : Page) (g : Frame) : Type 0 where
+-- the pages after a record was put into the page at k: its start and stair are written, and the others are moved on
+pub record IsShelved (pages M S : List Page) (k n by : ℕ) (q : Page) (g : Frame) (s : ℤ) : Type 0 where
   pub again : q ≡ get_or pages k q
-  pub wrote : S ≡ set pages k (record { id = q.id; first = q.first; start = get_or g.times 0 0 })
+  pub wrote : S ≡ set pages k (record { id = q.id; first = q.first; start = get_or g.times 0 0; stair = s })
   pub moves : M ≡ take (k + 1) S ++ map (moved by) (drop (k + 1) S)
   pub long : n ≡ length pages
 
-module _ (pool : List (Option Frame)) (pages M S rest : List Page) (k n by : ℕ) (p q : Page) (f g : Frame) (r : Rec) (is : IsRead pool pages k p f)
-    (found : IsFor pool pages k (time r)) (page : IsPage g) (records : records_in g ≡ placed r (records_in f)) (grown : g.len ≡ f.len + by)
-    (shelved : IsShelved pages M S k n by q g) where
+module _ (pool : List (Option Frame)) (pages M S rest : List Page) (k n by : ℕ) (p q : Page) (f g : Frame) (r : Rec) (s : ℤ) (stair : s ≡ area true (points_of (records_in g)))
+    (is : IsRead pool pages k p f) (found : IsFor pool pages k (time r)) (page : IsPage g) (records : records_in g ≡ placed r (records_in f)) (grown : g.len ≡ f.len + by)
+    (shelved : IsShelved pages M S k n by q g s) where
   same_page : q ≡ p
   same_page = shelved.again ∙ (get_or_default pages k q p is.within ∙ sym is.read)
 
@@ -49,9 +50,9 @@ module _ (pool : List (Option Frame)) (pages M S rest : List Page) (k n by : ℕ
   in_len = omega (arith, length-records_in g, length-records_in f, ap length held)
 
   -- the pages as the code leaves them
-  final : take n (M ++ rest) ≡ take k pages ++ record { id = p.id; first = p.first; start = get_or g.times 0 0 } ∷ map (moved by) (drop (k + 1) pages)
+  final : take n (M ++ rest) ≡ take k pages ++ record { id = p.id; first = p.first; start = get_or g.times 0 0; stair = s } ∷ map (moved by) (drop (k + 1) pages)
   final =
-      let now : Page = record { id = q.id; first = q.first; start = get_or g.times 0 0 } in
+      let now : Page = record { id = q.id; first = q.first; start = get_or g.times 0 0; stair = s } in
       let front : take (k + 1) S ≡ take k pages ++ now ∷ [] = ap (take (k + 1)) shelved.wrote ∙ take_more_set pages k now is.within in
       let back : drop (k + 1) S ≡ drop (k + 1) pages = ap (drop (k + 1)) shelved.wrote ∙ drop-set-lt (k + 1) pages k now (omega arith) in
       let whole : M ≡ take k pages ++ now ∷ map (moved by) (drop (k + 1) pages) =
@@ -69,17 +70,17 @@ module _ (pool : List (Option Frame)) (pages M S rest : List Page) (k n by : ℕ
         shelved.long,
       ) in
       take_at M rest n long ∙ (whole
-      ∙ ap (λ (x : Page). take k pages ++ record { id = x.id; first = x.first; start = get_or g.times 0 0 } ∷ map (moved by) (drop (k + 1) pages)) same_page)
+      ∙ ap (λ (x : Page). take k pages ++ record { id = x.id; first = x.first; start = get_or g.times 0 0; stair = s } ∷ map (moved by) (drop (k + 1) pages)) same_page)
 
   pub pages_shelved : ArePages (set pool p.id (Some g)) (take n (M ++ rest))
   pages_shelved =
       subst (ArePages (set pool p.id (Some g))) (sym final)
-      (pages_put pool (take k pages) (drop (k + 1) pages) p g r by as_pages page in_page in_len found.before found.after)
+      (pages_put pool (take k pages) (drop (k + 1) pages) p g r by s stair as_pages page in_page in_len found.before found.after)
 
   pub records-shelved : records_of (set pool p.id (Some g)) (take n (M ++ rest)) ≡ placed r (records_of pool pages)
   records-shelved =
       ap (records_of (set pool p.id (Some g))) final
-      ∙ (records-put pool (take k pages) (drop (k + 1) pages) p g r by as_pages page in_page in_len found.before found.after
+      ∙ (records-put pool (take k pages) (drop (k + 1) pages) p g r by s stair as_pages page in_page in_len found.before found.after
       ∙ ap (λ ps. placed r (records_of pool ps)) (sym around))
 
   pub len-shelved : length (records_of (set pool p.id (Some g)) (take n (M ++ rest))) ≡ length (records_of pool pages) + by
@@ -111,20 +112,21 @@ first_fits pool place (p ∷ ps) each =
     (λ k d inside. let rest = first_fits pool (place + length (page_in pool p)) ps each.1 k d inside in omega arith)
 
 -- nor does one whose start is written
-pub small_places : (pool : List (Option Frame)) (pages S : List Page) (k by : ℕ) (q : Page) (s : ℕ) → ArePages pool pages → k < length pages
-    → q ≡ get_or pages k q → S ≡ set pages k (record { id = q.id; first = q.first; start = s }) → length (records_of pool pages) + 1 < 2 ^ 32 → by ≤ 1
+pub small_places : (pool : List (Option Frame)) (pages S : List Page) (k by : ℕ) (q : Page) (s : ℕ) (z : ℤ) → ArePages pool pages → k < length pages
+    → q ≡ get_or pages k q → S ≡ set pages k (record { id = q.id; first = q.first; start = s; stair = z }) → length (records_of pool pages) + 1 < 2 ^ 32 → by ≤ 1
     → All (λ p. p.first + by < 2 ^ 32) S
-small_places pool pages S k by q s paged within again wrote few one =
+small_places pool pages S k by q s z paged within again wrote few one =
     let firsts = first_fits pool 0 pages paged.each in
     let Small : Page → Type 0 = λ p. p.first + by < 2 ^ 32 in
     let all : All Small pages = λ i d inside. let first = firsts i d inside in omega arith in
     let here : q.first + by < 2 ^ 32 = subst Small (sym again) (all k q within) in
-    subst (All Small) (sym wrote) (All-set Small pages k (record { id = q.id; first = q.first; start = s }) here all)
+    subst (All Small) (sym wrote) (All-set Small pages k (record { id = q.id; first = q.first; start = s; stair = z }) here all)
 
 -- ---- a page that was split
 
 -- what a split leaves: the lower half, a frame that was taken for the upper half, and the upper half there
-module _ (pool taken : List (Option Frame)) (pages : List Page) (k id : ℕ) (p q : Page) (f lo hi : Frame) (is : IsRead pool pages k p f)
+module _ (pool taken : List (Option Frame)) (pages : List Page) (k id : ℕ) (p q : Page) (f lo hi : Frame) (s t : ℤ)
+    (lower_stair : s ≡ area true (points_of (records_in lo))) (upper_stair : t ≡ area true (points_of (records_in hi))) (is : IsRead pool pages k p f)
     (full : f.len ≡ 128) (lower : IsPage lo) (upper : IsPage hi) (low : records_in lo ≡ take 64 (records_in f))
     (high : records_in hi ≡ drop 64 (records_in f)) (takes : Takes (set pool p.id (Some lo)) id taken) (again : q ≡ get_or pages k q) where
   split_around : pages ≡ take k pages ++ p ∷ drop (k + 1) pages
@@ -141,17 +143,26 @@ module _ (pool taken : List (Option Frame)) (pages : List Page) (k id : ℕ) (p 
 
   -- the new page
   abbrev pub new_page : Page
-  new_page = record { id = id; first = q.first + 64; start = get_or hi.times 0 0 }
+  new_page = record { id = id; first = q.first + 64; start = get_or hi.times 0 0; stair = t }
+
+  -- the page that was split, with the stair of its lower half
+  abbrev pub old_page : Page
+  old_page = record { id = q.id; first = q.first; start = q.start; stair = s }
 
   split_same : q ≡ p
   split_same = again ∙ (get_or_default pages k q p is.within ∙ sym is.read)
 
-  pub split_list : insert pages (k + 1) new_page ≡ take k pages ++ p ∷ record { id = id; first = p.first + 64; start = get_or hi.times 0 0 } ∷ drop (k + 1) pages
-  split_list =
-      ap (λ ps. ps ++ new_page ∷ drop (k + 1) pages) (take_more pages k p is.within)
-      ∙ (append_assoc (take k pages) (get_or pages k p ∷ []) (new_page ∷ drop (k + 1) pages)
-      ∙ (ap (λ x. take k pages ++ x ∷ new_page ∷ drop (k + 1) pages) (sym is.read)
-      ∙ ap (λ (x : Page). take k pages ++ p ∷ record { id = id; first = x.first + 64; start = get_or hi.times 0 0 } ∷ drop (k + 1) pages) split_same))
+  -- the pages after the split
+  abbrev pub split_list : List Page
+  split_list = insert (set pages k old_page) (k + 1) new_page
+
+  split_is : split_list ≡ take k pages ++ record { id = p.id; first = p.first; start = p.start; stair = s }
+      ∷ record { id = id; first = p.first + 64; start = get_or hi.times 0 0; stair = t } ∷ drop (k + 1) pages
+  split_is =
+      ap₂ (λ xs ys. xs ++ new_page ∷ ys) (take_more_set pages k old_page is.within) (drop-set-lt (k + 1) pages k old_page (omega arith))
+      ∙ (append_assoc (take k pages) (old_page ∷ []) (new_page ∷ drop (k + 1) pages)
+      ∙ ap (λ (x : Page). take k pages ++ record { id = x.id; first = x.first; start = x.start; stair = s }
+      ∷ record { id = id; first = x.first + 64; start = get_or hi.times 0 0; stair = t } ∷ drop (k + 1) pages) split_same)
 
   split_pool_is : set taken id (Some hi) ≡ set (set (set pool p.id (Some lo)) id (Some empty_frame)) id (Some hi)
   split_pool_is = ap (λ ps. set ps id (Some hi)) takes.now_empty
@@ -162,31 +173,32 @@ module _ (pool taken : List (Option Frame)) (pages : List Page) (k id : ℕ) (p 
   high_part : records_in hi ≡ drop 64 (page_in pool p)
   high_part = high ∙ ap (drop 64) (sym split_held)
 
-  pub pages_cut : ArePages (set taken id (Some hi)) (insert pages (k + 1) new_page)
+  pub pages_cut : ArePages (set taken id (Some hi)) split_list
   pages_cut =
-      subst (λ ps. ArePages ps (insert pages (k + 1) new_page)) (sym split_pool_is)
-      (subst (ArePages (set (set (set pool p.id (Some lo)) id (Some empty_frame)) id (Some hi))) (sym split_list)
-      (pages_in_halves pool (take k pages) (drop (k + 1) pages) p lo hi empty_frame id split_paged lower upper low_part high_part split_full takes.within takes.was_spare))
+      subst (λ ps. ArePages ps split_list) (sym split_pool_is)
+      (subst (ArePages (set (set (set pool p.id (Some lo)) id (Some empty_frame)) id (Some hi))) (sym split_is)
+      (pages_in_halves pool (take k pages) (drop (k + 1) pages) p lo hi empty_frame id s t lower_stair upper_stair split_paged lower upper low_part high_part split_full takes.within takes.was_spare))
 
-  pub records-cut : records_of (set taken id (Some hi)) (insert pages (k + 1) new_page) ≡ records_of pool pages
+  pub records-cut : records_of (set taken id (Some hi)) split_list ≡ records_of pool pages
   records-cut =
-      ap₂ records_of split_pool_is split_list
-      ∙ (records-split pool (take k pages) (drop (k + 1) pages) p lo hi empty_frame id split_paged lower upper low_part high_part split_full takes.within takes.was_spare
+      ap₂ records_of split_pool_is split_is
+      ∙ (records-split pool (take k pages) (drop (k + 1) pages) p lo hi empty_frame id s t lower_stair upper_stair split_paged lower upper low_part high_part split_full takes.within takes.was_spare
       ∙ ap (records_of pool) (sym split_around))
 
   -- how many records the halves have
-  pub lower_len : (d : Page) → length (page_in (set taken id (Some hi)) (get_or (insert pages (k + 1) new_page) k d)) ≡ 64
+  pub lower_len : (d : Page) → length (page_in (set taken id (Some hi)) (get_or split_list k d)) ≡ 64
   lower_len d =
-      let here : get_or (insert pages (k + 1) new_page) k d ≡ p =
-      ap (λ ps. get_or ps k d) split_list ∙ get_or_at (take k pages) p _ d k (length-take-le k pages (omega (arith, is.within))) in
+      let here : get_or split_list k d ≡ record { id = p.id; first = p.first; start = p.start; stair = s } =
+      ap (λ ps. get_or ps k d) split_is ∙ get_or_at (take k pages) _ _ d k (length-take-le k pages (omega (arith, is.within))) in
       ap₂ (λ ps x. length (page_in ps x)) split_pool_is here
-      ∙ low_len pool (take k pages) (drop (k + 1) pages) p lo hi empty_frame id split_paged lower upper low_part high_part split_full takes.within takes.was_spare
+      ∙ low_len pool (take k pages) (drop (k + 1) pages) p lo hi empty_frame id s t lower_stair upper_stair split_paged lower upper low_part high_part split_full takes.within takes.was_spare
 
-  pub upper_len : (d : Page) → length (page_in (set taken id (Some hi)) (get_or (insert pages (k + 1) new_page) (k + 1) d)) ≡ 64
+  pub upper_len : (d : Page) → length (page_in (set taken id (Some hi)) (get_or split_list (k + 1) d)) ≡ 64
   upper_len d =
-      let here : get_or (insert pages (k + 1) new_page) (k + 1) d ≡ new_page = get_or-insert_at pages (k + 1) new_page d (omega (arith, is.within)) in
+      let here : get_or split_list (k + 1) d ≡ new_page =
+      get_or-insert_at (set pages k old_page) (k + 1) new_page d (omega (arith, is.within, length-set pages k old_page)) in
       ap₂ (λ ps x. length (page_in ps x)) split_pool_is here
-      ∙ high_len pool (take k pages) (drop (k + 1) pages) p lo hi empty_frame id split_paged lower upper low_part high_part split_full takes.within takes.was_spare
+      ∙ high_len pool (take k pages) (drop (k + 1) pages) p lo hi empty_frame id s t lower_stair upper_stair split_paged lower upper low_part high_part split_full takes.within takes.was_spare
 
 -- the frame of a full page is full
 pub full_frame : (pool : List (Option Frame)) (pages : List Page) (k : ℕ) (p : Page) (f : Frame) → IsRead pool pages k p f
@@ -211,17 +223,42 @@ first_small pool pages k p q f is full again few =
 
 -- ---- the page for a time, of two halves
 
-module _ (pool : List (Option Frame)) (now pages : List Page) (k t : ℕ) (q e : Page) (paged : ArePages pool now) (list : now ≡ insert pages (k + 1) q)
-    (within : k < length pages) (early : (j : ℕ) (d : Page) → 0 < j → j ≤ k → (get_or pages j d).start ≤ t)
-    (late : (j : ℕ) (d : Page) → k < j → j < length pages → t < (get_or pages j d).start) where
+module _ (pool : List (Option Frame)) (now old : List Page) (k t : ℕ) (e : Page) (paged : ArePages pool now) (split : IsSplit old now k)
+    (within_old : k < length old) (early_old : (j : ℕ) (d : Page) → 0 < j → j ≤ k → (get_or old j d).start ≤ t)
+    (late_old : (j : ℕ) (d : Page) → k < j → j < length old → t < (get_or old j d).start) where
+  -- the pages with the lower half, and the upper half's page
+  abbrev pages : List Page
+  pages = set old k split.lower
+
+  abbrev q : Page
+  q = split.upper
+
+  within : k < length pages
+  within = omega (arith, within_old, length-set old k split.lower)
+
+  -- they start where they did
+  same_start : (j : ℕ) (d : Page) → (get_or pages j d).start ≡ (get_or old j d).start
+  same_start j d = elim (cases_eq j k) [
+    | inl same ↦
+        rw same (ap (λ (x : Page). x.start) (get_or-set_same old k split.lower d within_old)
+        ∙ (split.start ∙ ap (λ (x : Page). x.start) (get_or_default old k split.lower d within_old)))
+    | inr other ↦ ap (λ (x : Page). x.start) (get_or-set_other old k j split.lower d other)
+  ]
+
+  early : (j : ℕ) (d : Page) → 0 < j → j ≤ k → (get_or pages j d).start ≤ t
+  early j d some upto = rw (same_start j d) (early_old j d some upto)
+
+  late : (j : ℕ) (d : Page) → k < j → j < length pages → t < (get_or pages j d).start
+  late j d past inside = rw (same_start j d) (late_old j d past (omega (arith, length-set old k split.lower)))
+
   now_len : length now ≡ length pages + 1
-  now_len = ap length list ∙ length-insert pages (k + 1) q (omega (arith, within))
+  now_len = ap length split.list ∙ length-insert pages (k + 1) q (omega (arith, within))
 
   -- the pages up to the lower half are as they were
   kept_early : (j : ℕ) (d : Page) → 0 < j → j ≤ k → (get_or now j d).start ≤ t
   kept_early j d some upto =
       let here : get_or now j d ≡ get_or pages j d =
-      ap (λ ps. get_or ps j d) list ∙ get_or-insert_below pages (k + 1) q d j (omega arith) (omega (arith, within)) in
+      ap (λ ps. get_or ps j d) split.list ∙ get_or-insert_below pages (k + 1) q d j (omega arith) (omega (arith, within)) in
       subst (λ (x : Page). x.start ≤ t) (sym here) (early j d some upto)
 
   -- and those behind the upper half have moved up by one
@@ -229,31 +266,31 @@ module _ (pool : List (Option Frame)) (now pages : List Page) (k t : ℕ) (q e :
   kept_late zero d past inside = absurd (omega arith)
   kept_late (suc j) d past inside =
       let here : get_or now (j + 1) d ≡ get_or pages j d =
-      ap (λ ps. get_or ps (j + 1) d) list ∙ get_or-insert_above pages (k + 1) q d j (omega arith) (omega (arith, within)) in
+      ap (λ ps. get_or ps (j + 1) d) split.list ∙ get_or-insert_above pages (k + 1) q d j (omega arith) (omega (arith, within)) in
       let long = now_len in
       subst (λ n. t < (get_or now n d).start) (add-one j) (subst (λ (x : Page). t < x.start) (sym here) (late j d (omega arith) (omega arith)))
 
   pub upper_found : (get_or now (k + 1) e).start ≤ t → IsFor pool now (k + 1) t
   upper_found starts =
       let long = now_len in
-      found_for pool now (k + 1) t paged (omega arith)
+      found_for pool now (k + 1) t paged (omega (arith, within))
       (λ j d some upto. elim (cases_lt j (k + 1)) [
         | inl less ↦ kept_early j d some (omega arith)
         | inr not_less ↦
             let same : j ≡ k + 1 = omega arith in
-            rw same (subst (λ (x : Page). x.start ≤ t) (get_or_default now (k + 1) e d (omega arith)) starts)
+            rw same (subst (λ (x : Page). x.start ≤ t) (get_or_default now (k + 1) e d (omega (arith, within))) starts)
       ])
       kept_late
 
   pub lower_found : t < (get_or now (k + 1) e).start → IsFor pool now k t
   lower_found starts =
       let long = now_len in
-      found_for pool now k t paged (omega arith) kept_early
+      found_for pool now k t paged (omega (arith, within)) kept_early
       (λ j d past inside. elim (cases_lt (k + 1) j) [
         | inl more ↦ kept_late j d more inside
         | inr not_more ↦
             let same : j ≡ k + 1 = omega arith in
-            rw same (subst (λ (x : Page). t < x.start) (get_or_default now (k + 1) e d (omega arith)) starts)
+            rw same (subst (λ (x : Page). t < x.start) (get_or_default now (k + 1) e d (omega (arith, within))) starts)
       ])
 
 -- how many records the page that is read has
@@ -264,7 +301,7 @@ page_len pool pages k p f is d =
     ∙ (ap (λ o. length (records_at o)) is.there ∙ length-records_in f)
 
 -- the upper half is one of the pages
-pub within_split : (now : Vec Page Global) (pages : List Page) (k : ℕ) (q : Page) → now.items ≡ insert pages (k + 1) q → k < length pages
-    → k + 1 < now.len
-within_split now pages k q list within =
-    omega (arith, now.ok.0, ap length list, length-insert pages (k + 1) q (omega arith))
+pub within_split : (now : Vec Page Global) (old : List Page) (k : ℕ) → IsSplit old now.items k → k < length old → k + 1 < now.len
+within_split now old k split within =
+    let long = length-set old k split.lower in
+    omega (arith, now.ok.0, ap length split.list, length-insert (set old k split.lower) (k + 1) split.upper (omega arith))

@@ -1,21 +1,23 @@
--- Totals of a page, counted record by record.
-use Rattle.std.proofs.Common.{◌≡◌, ℕ, zero, suc, ◌+◌, ◌-◌, ◌<◌, ◌≤◌, ℤ, pos, ◌+ℤ◌, List, [], ◌∷◌, ◌++◌, length, get_or, take, All, map, refl, sym, ap, ap₂, ◌∙◌, subst, arith}
+-- Totals of a page, counted point by point.
+use Rattle.std.proofs.Common.{◌≡◌, Bool, true, false, ℕ, ◌+◌, ◌-◌, ◌<◌, ◌≤◌, ℤ, pos, ◌+ℤ◌, List, [], ◌∷◌, ◌++◌, length, get_or, take, drop}
+use Rattle.std.proofs.Common.{All, map, refl, sym, ap, ap₂, ◌∙◌, subst, arith}
 use Rattle.std.specs.Prelude.{FitsSigned, insert}
 use Rattle.std.specs.Int.{int_min, int_max, w128, w64}
 use Rattle.std.specs.List.{range_with_len}
 use Rattle.std.proofs.lemmas.Int.{ints, fits_signed_from_abs}
-use Rattle.std.proofs.lemmas.List.{take_all, take_more, length-take, length-map, get_or-map, map_push, take_at, get_or_append_left}
+use Rattle.std.proofs.lemmas.List.{take_all, take_more, drop_more, get_or-drop, length-take, length-drop, length-map, get_or-map, map_push}
 use Rattle.std.proofs.lemmas.List.Edits.{length-insert, insert_end, get_or-insert_at}
 use Rattle.std.proofs.lemmas.List.FromFn.{length-map-range_with_len, get_or-map-range_with_len}
-use Rattle.std.proofs.lemmas.List.Elements.{All-take, All-map}
+use Rattle.std.proofs.lemmas.List.Elements.{All-take, All-drop, All-map}
 use Rattle.trend_num.specs.declared.point.Point.{Point}
 use Rattle.trend_num.specs.declared.archive.Rec.{Rec}
 use Rattle.trend_num.specs.Ranges.{InRange}
 use Rattle.page_pool.specs.declared.frame.Frame.{Frame}
 use Rattle.late_insert.specs.Pages.{rec_in, records_in, IsRecorded, IsPage}
 use Rattle.trend_model.specs.Contents.{points_of}
-use Rattle.late_insert.specs.Totals.{trapezoid, area_of, least_of, greatest_of}
-use Rattle.late_insert.proofs.Areas.{area_more, least_more, greatest_more, area_fits}
+use Rattle.trend_model.specs.Windows.{area, piece}
+use Rattle.late_insert.specs.Totals.{least_of, greatest_of}
+use Rattle.late_insert.proofs.Areas.{area_put, area_more, area_one, least_more, greatest_more, least_push, greatest_push, area_fits}
 
 -- ---- the records of a frame
 
@@ -42,108 +44,107 @@ points_in f = points_of (records_in f)
 pub length-points_in : (f : Frame) → length (points_in f) ≡ f.len
 length-points_in f = length-map (records_in f) (λ r. r.point) ∙ length-records_in f
 
-get_or-points_in : (f : Frame) (i : ℕ) (d : Point) → i < f.len → get_or (points_in f) i d ≡ (rec_in f i).point
+pub get_or-points_in : (f : Frame) (i : ℕ) (d : Point) → i < f.len → get_or (points_in f) i d ≡ (rec_in f i).point
 get_or-points_in f i d within =
     let inside : i < length (records_in f) = omega (arith, length-records_in f) in
     get_or-map (λ (r : Rec). r.point) (records_in f) i (rec_in f i) d inside ∙ ap (λ (r : Rec). r.point) (get_or-records_in f i (rec_in f i) within)
 
-points_range : (f : Frame) → IsRecorded f → All InRange (points_in f)
+pub points_range : (f : Frame) → IsRecorded f → All InRange (points_in f)
 points_range f recorded = All-map InRange (λ (r : Rec). r.point) (records_in f) recorded.range
 
 -- ---- counting
 
--- the totals a, b and c of the first i points, of which p is the last
-pub record IsSummed (f : Frame) (i : ℕ) (p : Point) (a b c : ℤ) : Type 0 where
-  pub some : 0 < i
+-- a total of the points of a frame from one place on, before another
+pub record IsTotal (total : List Point → ℤ) (f : Frame) (start i : ℕ) (a : ℤ) : Type 0 where
+  pub below : start < i
   pub within : i ≤ f.len
-  pub last : p ≡ (rec_in f (i - 1)).point
-  pub area : a ≡ area_of (take i (points_in f))
-  pub low : b ≡ least_of (take i (points_in f))
-  pub high : c ≡ greatest_of (take i (points_in f))
+  pub is : a ≡ total (take (i - start) (drop start (points_in f)))
 
--- the first one alone
-pub summed_first : (f : Frame) (p : Point) → 0 < f.len → p ≡ (rec_in f 0).point → IsSummed f 1 p (pos 0) p.v p.v
-summed_first f p some first =
-    let within : 0 < length (points_in f) = omega (arith, length-points_in f) in
-    let one : take 1 (points_in f) ≡ p ∷ [] = take_more (points_in f) 0 p within ∙ ap (λ q. q ∷ []) (get_or-points_in f 0 p some ∙ sym first) in
-    record {
-      some = omega arith;
-      within = omega arith;
-      last = first;
-      area = sym (ap area_of one);
-      low = sym (ap least_of one);
-      high = sym (ap greatest_of one);
-    }
+-- the points from a place on, by their places
+on_range : (f : Frame) (start i : ℕ) (d : Point) → start ≤ i → i < f.len
+    → get_or (drop start (points_in f)) (i - start) d ≡ (rec_in f i).point
+on_range f start i d from within =
+    let place : start + (i - start) ≡ i = omega arith in
+    get_or-drop start (points_in f) (i - start) d ∙ (ap (λ n. get_or (points_in f) n d) place ∙ get_or-points_in f i d within)
 
--- one more
-summed_more : (f : Frame) (i : ℕ) (p q : Point) (a b c : ℤ) → IsSummed f i p a b c → i < f.len → q ≡ (rec_in f i).point
-    → IsSummed f (i + 1) q (a +ℤ trapezoid p q) (int_min b q.v) (int_max c q.v)
-summed_more f i p q a b c summed more next =
-    let points = points_in f in
-    let within : i < length points = omega (arith, length-points_in f) in
-    let some : 0 < i = summed.some in
-    let here : get_or points i p ≡ q = get_or-points_in f i p more ∙ sym next in
-    let behind : get_or points (i - 1) p ≡ p = get_or-points_in f (i - 1) p (omega arith) ∙ sym summed.last in
-    let back : i + 1 - 1 ≡ i = omega arith in
-    record {
-      some = omega arith;
-      within = omega arith;
-      last = rw back next;
-      area = ap₂ (λ x y. x +ℤ y) summed.area (sym (ap₂ trapezoid behind here)) ∙ sym (area_more points i p some within);
-      low = ap₂ int_min summed.low (sym (ap (λ (x : Point). x.v) here)) ∙ sym (least_more points i p some within);
-      high = ap₂ int_max summed.high (sym (ap (λ (x : Point). x.v) here)) ∙ sym (greatest_more points i p some within);
-    }
+-- the first of them alone
+first_alone : (f : Frame) (start : ℕ) (p : Point) → start < f.len → p ≡ (rec_in f start).point
+    → take (start + 1 - start) (drop start (points_in f)) ≡ p ∷ []
+first_alone f start p within first =
+    let one : start + 1 - start ≡ 1 = omega arith in
+    let here : get_or (points_in f) start p ≡ p = get_or-points_in f start p within ∙ sym first in
+    let split : drop start (points_in f) ≡ p ∷ drop (start + 1) (points_in f) =
+    drop_more (points_in f) start p (omega (arith, length-points_in f)) ∙ ap (λ x. x ∷ drop (start + 1) (points_in f)) here in
+    rw (one, split) refl
 
--- the area of the first ones fits its type
-pub summed_fits : (f : Frame) (i : ℕ) (p : Point) (a b c : ℤ) → IsRecorded f → IsSummed f i p a b c → FitsSigned w128 a
-summed_fits f i p a b c recorded summed =
-    let few : length (take i (points_in f)) ≤ 128 =
-    omega (arith, length-take i (points_in f), length-points_in f, recorded.few) in
-    subst (FitsSigned w128) (sym summed.area) (area_fits (take i (points_in f)) (All-take InRange i (points_in f) (points_range f recorded)) few)
+pub total_first : (total : List Point → ℤ) (f : Frame) (start : ℕ) (p : Point) (a : ℤ) → start < f.len → p ≡ (rec_in f start).point
+    → a ≡ total (p ∷ []) → IsTotal total f start (start + 1) a
+total_first total f start p a within first is =
+    record { below = omega arith; within = omega arith; is = is ∙ sym (ap total (first_alone f start p within first)) }
 
--- all of them
-pub summed_all : (f : Frame) → take f.len (points_in f) ≡ points_in f
-summed_all f = take_all f.len (points_in f) (omega (arith, length-points_in f))
+-- one point more
+module _ (f : Frame) (start i : ℕ) (from : start < i) (within : i < f.len) where
+  -- the points up to it, as a list
+  abbrev upto : List Point
+  upto = drop start (points_in f)
 
--- one more, by what the code computes
-pub summed_step : (f : Frame) (i : ℕ) (p q : Point) (a b c line low high : ℤ) → IsSummed f i p a b c → i < f.len → q ≡ (rec_in f i).point
-    → line ≡ trapezoid p q → low ≡ int_min b q.v → high ≡ int_max c q.v → IsSummed f (i + 1) q (a +ℤ line) low high
-summed_step f i p q a b c line low high summed more next is_line is_low is_high =
-    rw (is_line, is_low, is_high) (summed_more f i p q a b c summed more next)
+  places : (i + 1 - start ≡ i - start + 1) × ((i - start < length upto) × (i - 1 - start ≡ i - start - 1))
+  places = (omega arith, (omega (arith, length-drop start (points_in f), length-points_in f), omega arith))
 
--- the totals of a page before one more record is put behind the others
-pub summed_before : (f g : Frame) (r : Rec) (last : Point) → IsPage f → 0 < f.len → records_in g ≡ insert (records_in f) f.len r
-    → last ≡ (rec_in f (f.len - 1)).point → IsSummed g f.len last f.area f.low f.high
-summed_before f g r last page some is end =
-    let recs = length-records_in f in
-    let fits : f.len ≤ length (records_in f) = omega arith in
-    let long : g.len ≡ f.len + 1 = omega (arith, length-records_in g, ap length is, length-insert (records_in f) f.len r fits) in
-    let pushed : points_in g ≡ points_in f ++ r.point ∷ [] =
-    ap points_of (is ∙ (ap (λ n. insert (records_in f) n r) (sym recs) ∙ insert_end (records_in f) r)) ∙ map_push (λ (x : Rec). x.point) (records_in f) r in
-    let front : take f.len (points_in g) ≡ points_in f = ap (take f.len) pushed ∙ take_at (points_in f) (r.point ∷ []) f.len (length-points_in f) in
-    let inside : f.len - 1 < f.len = omega arith in
-    let behind : (rec_in f (f.len - 1)).point ≡ (rec_in g (f.len - 1)).point =
-    sym (get_or-points_in f (f.len - 1) last inside)
-    ∙ (sym (ap (λ ps. get_or ps (f.len - 1) last) pushed ∙ get_or_append_left (points_in f) (r.point ∷ []) last (f.len - 1) (omega (arith, length-points_in f)))
-    ∙ get_or-points_in g (f.len - 1) last (omega arith)) in
-    record {
-      some = some;
-      within = omega arith;
-      last = end ∙ behind;
-      area = page.area ∙ sym (ap area_of front);
-      low = page.low ∙ sym (ap least_of front);
-      high = page.high ∙ sym (ap greatest_of front);
-    }
+  more_by : (total : List Point → ℤ) (a : ℤ) → a ≡ total (take (i - start + 1) upto) → IsTotal total f start (i + 1) a
+  more_by total a is = record {
+    below = omega arith;
+    within = omega arith;
+    is = is ∙ sym (ap (λ n. total (take n upto)) places.0);
+  }
 
--- the record put behind the others is the last
-pub last_of_more : (f g : Frame) (r : Rec) → records_in g ≡ insert (records_in f) f.len r → (g.len ≡ f.len + 1) × (r.point ≡ (rec_in g f.len).point)
-last_of_more f g r is =
-    let fits : f.len ≤ length (records_in f) = omega (arith, length-records_in f) in
-    let long : g.len ≡ f.len + 1 = omega (arith, length-records_in g, length-records_in f, ap length is, length-insert (records_in f) f.len r fits) in (
-      long,
-      sym (ap (λ (x : Rec). x.point) (sym (get_or-records_in g f.len r (omega arith))
-          ∙ (ap (λ l. get_or l f.len r) is ∙ get_or-insert_at (records_in f) f.len r r fits))),
-    )
+  pub area_total : (step : Bool) (p q : Point) (a : ℤ) → IsTotal (area step) f start i a → p ≡ (rec_in f (i - 1)).point
+      → q ≡ (rec_in f i).point → IsTotal (area step) f start (i + 1) (a +ℤ piece step p q)
+  area_total step p q a was last next =
+      let here : get_or upto (i - start) p ≡ q = on_range f start i p (omega arith) within ∙ sym next in
+      let behind : get_or upto (i - start - 1) p ≡ p =
+      ap (λ n. get_or upto n p) (sym places.1.1) ∙ (on_range f start (i - 1) p (omega arith) (omega arith) ∙ sym last) in
+      more_by (area step) (a +ℤ piece step p q)
+      (ap₂ (λ x y. x +ℤ y) was.is (sym (ap₂ (piece step) behind here))
+      ∙ sym (area_more step upto (i - start) p (omega arith) places.1.0))
+
+  pub least_total : (q : Point) (a : ℤ) → IsTotal least_of f start i a → q ≡ (rec_in f i).point
+      → IsTotal least_of f start (i + 1) (int_min a q.v)
+  least_total q a was next =
+      let here : get_or upto (i - start) q ≡ q = on_range f start i q (omega arith) within ∙ sym next in
+      more_by least_of (int_min a q.v)
+      (ap₂ int_min was.is (sym (ap (λ (x : Point). x.v) here)) ∙ sym (least_more upto (i - start) q (omega arith) places.1.0))
+
+  pub greatest_total : (q : Point) (a : ℤ) → IsTotal greatest_of f start i a → q ≡ (rec_in f i).point
+      → IsTotal greatest_of f start (i + 1) (int_max a q.v)
+  greatest_total q a was next =
+      let here : get_or upto (i - start) q ≡ q = on_range f start i q (omega arith) within ∙ sym next in
+      more_by greatest_of (int_max a q.v)
+      (ap₂ int_max was.is (sym (ap (λ (x : Point). x.v) here)) ∙ sym (greatest_more upto (i - start) q (omega arith) places.1.0))
+
+-- an area fits its type
+pub total_fits : (step : Bool) (f : Frame) (start i : ℕ) (a : ℤ) → IsRecorded f → IsTotal (area step) f start i a → FitsSigned w128 a
+total_fits step f start i a recorded total =
+    let l = take (i - start) (drop start (points_in f)) in
+    let few : length l ≤ 128 =
+    omega (arith, length-take (i - start) (drop start (points_in f)), length-drop start (points_in f), length-points_in f, recorded.few) in
+    subst (FitsSigned w128) (sym total.is)
+    (area_fits step l (All-take InRange (i - start) (drop start (points_in f)) (All-drop InRange start (points_in f) (points_range f recorded))) few)
+
+-- the totals of all points
+pub whole_range : (f : Frame) → take (f.len - 0) (drop 0 (points_in f)) ≡ points_in f
+whole_range f =
+    let long : length (points_in f) ≤ f.len - 0 = omega (arith, length-points_in f) in
+    take_all (f.len - 0) (points_in f) long
+
+-- points from a place on, before another, that are as many as all, are all
+pub all_range : (f : Frame) (start end : ℕ) → start < end → end ≤ f.len → f.len ≤ end - start → take (end - start) (drop start (points_in f)) ≡ points_in f
+all_range f start end some within whole =
+    let none : start ≡ 0 = omega arith in
+    let all : end ≡ f.len = omega arith in
+    rw (none, all) (whole_range f)
+
+-- ---- one record more
 
 -- g is f with the record r behind its others, and the totals of f
 pub record IsPushed (f g : Frame) (r : Rec) (last : Point) : Type 0 where
@@ -157,42 +158,44 @@ pub record IsPushed (f g : Frame) (r : Rec) (last : Point) : Type 0 where
   pub high : g.high ≡ f.high
 
 module _ (f g : Frame) (r : Rec) (last : Point) (push : IsPushed f g r last) where
-  summed_pushed : IsSummed g f.len last g.area g.low g.high
-  summed_pushed =
-      let was = summed_before f g r last push.page push.some push.records push.end in
-      record {
-        some = was.some;
-        within = was.within;
-        last = was.last;
-        area = push.area ∙ was.area;
-        low = push.low ∙ was.low;
-        high = push.high ∙ was.high;
-      }
+  -- its points
+  points_pushed : points_in g ≡ points_in f ++ r.point ∷ []
+  points_pushed =
+      let recs = length-records_in f in
+      ap points_of (push.records ∙ (ap (λ n. insert (records_in f) n r) (sym recs) ∙ insert_end (records_in f) r))
+      ∙ map_push (λ (x : Rec). x.point) (records_in f) r
 
-  pub area_pushed_fits : FitsSigned w128 g.area
-  area_pushed_fits = summed_fits g f.len last g.area g.low g.high push.recorded summed_pushed
+  -- an area with one piece more
+  pub area_pushed : (step : Bool) (a line : ℤ) → a ≡ area step (points_in f) → line ≡ piece step last r.point
+      → a +ℤ line ≡ area step (points_in g)
+  area_pushed step a line was is_line =
+      let there : get_or (points_in f) (f.len - 1) last ≡ last =
+      get_or-points_in f (f.len - 1) last (omega (arith, push.some)) ∙ sym push.end in
+      let i : f.len - 1 + 1 ≡ length (points_in f) = omega (arith, push.some, length-points_in f) in
+      ap₂ (λ x y. x +ℤ y) was (is_line ∙ ap (λ x. piece step x r.point) (sym there))
+      ∙ (sym (area_put step (points_in f) (f.len - 1) last r.point i) ∙ ap (area step) (sym points_pushed))
 
-  -- the totals with one line more
-  all_pushed : (line low high : ℤ) → line ≡ trapezoid last r.point → low ≡ int_min g.low r.point.v → high ≡ int_max g.high r.point.v
-      → IsSummed g (f.len + 1) r.point (g.area +ℤ line) low high
-  all_pushed line low high is_line is_low is_high =
-      let end = last_of_more f g r push.records in
-      summed_step g f.len last r.point g.area g.low g.high line low high summed_pushed (omega (arith, end.0)) end.1 is_line is_low is_high
+  pub area_of_fits : (step : Bool) (a : ℤ) → a ≡ area step (points_in f) → FitsSigned w128 a
+  area_of_fits step a was =
+      subst (FitsSigned w128) (sym was)
+      (area_fits step (points_in f) (points_range f push.page.recorded) (omega (arith, length-points_in f, push.page.recorded.few)))
 
-  pub line_pushed_fits : (line : ℤ) → line ≡ trapezoid last r.point → FitsSigned w128 (g.area +ℤ line)
-  line_pushed_fits line is_line =
-      summed_fits g (f.len + 1) r.point (g.area +ℤ line) (int_min g.low r.point.v) (int_max g.high r.point.v) push.recorded
-      (all_pushed line (int_min g.low r.point.v) (int_max g.high r.point.v) is_line refl refl)
+  pub area_pushed_fits : (step : Bool) (a line : ℤ) → a ≡ area step (points_in f) → line ≡ piece step last r.point
+      → FitsSigned w128 (a +ℤ line)
+  area_pushed_fits step a line was is_line =
+      subst (FitsSigned w128) (sym (area_pushed step a line was is_line))
+      (area_fits step (points_in g) (points_range g push.recorded) (omega (arith, length-points_in g, push.recorded.few)))
 
-  pub page_pushed : (line low high : ℤ) → line ≡ trapezoid last r.point → low ≡ int_min g.low r.point.v → high ≡ int_max g.high r.point.v
+  pub page_pushed : (line low high : ℤ) → line ≡ piece false last r.point → low ≡ int_min g.low r.point.v → high ≡ int_max g.high r.point.v
       → IsPage (record { len = g.len; times = g.times; values = g.values; late = g.late; area = g.area +ℤ line; low = low; high = high })
   page_pushed line low high is_line is_low is_high =
-      let summed = all_pushed line low high is_line is_low is_high in
-      let all : take (f.len + 1) (points_in g) ≡ points_in g = ap (λ n. take n (points_in g)) (sym (last_of_more f g r push.records).0) ∙ summed_all g in
       let kept = push.recorded in
+      let some : 0 < length (points_in f) = omega (arith, push.some, length-points_in f) in
       record {
         recorded = record { few = kept.few; times = kept.times; values = kept.values; marks = kept.marks; range = kept.range };
-        area = summed.area ∙ ap area_of all;
-        low = summed.low ∙ ap least_of all;
-        high = summed.high ∙ ap greatest_of all;
+        area = area_pushed false g.area line (push.area ∙ push.page.area) is_line;
+        low = is_low ∙ (ap (λ m. int_min m r.point.v) (push.low ∙ push.page.low)
+            ∙ (sym (least_push (points_in f) r.point some) ∙ ap least_of (sym points_pushed)));
+        high = is_high ∙ (ap (λ m. int_max m r.point.v) (push.high ∙ push.page.high)
+            ∙ (sym (greatest_push (points_in f) r.point some) ∙ ap greatest_of (sym points_pushed)));
       }

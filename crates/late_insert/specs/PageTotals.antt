@@ -1,10 +1,11 @@
 -- What is told of a page.
-use Rattle.std.specs.Prelude.{◌≡◌, ℕ, ◌+◌, ◌<◌, ◌≤◌, List, length, slice_range}
+use Rattle.std.specs.Prelude.{◌≡◌, ℕ, ◌+◌, ◌<◌, ◌≤◌, List, length, slice_range, false}
 use Rattle.trend_num.specs.declared.point.Point.{Point}
 use Rattle.trend_num.specs.declared.archive.Rec.{Rec}
 use Rattle.late_insert.specs.declared.content.PageTotals.{PageTotals}
 use Rattle.trend_model.specs.Contents.{points_of}
-use Rattle.late_insert.specs.Totals.{area_of, least_of, greatest_of}
+use Rattle.trend_model.specs.Windows.{area}
+use Rattle.late_insert.specs.Totals.{least_of, greatest_of}
 
 -- the points of l that are on a page
 abbrev pub points_on : List Rec → PageTotals → List Point
@@ -15,6 +16,6 @@ pub record IsPageOf (l : List Rec) (i : ℕ) (p : PageTotals) : Type 0 where
   pub from : p.first ≤ i
   pub upto : i < p.first + p.len
   pub within : p.first + p.len ≤ length l
-  pub area : p.area ≡ area_of (points_on l p)
+  pub area : p.area ≡ area false (points_on l p)
   pub low : p.low ≡ least_of (points_on l p)
   pub high : p.high ≡ greatest_of (points_on l p)

@@ -1,5 +1,5 @@
 -- How a content is kept in pages, each in a frame.
-use Rattle.std.specs.Prelude.{◌≡◌, ◌≢◌, ℕ, zero, suc, pos, ◌+◌, ◌*◌, ◌^◌, ◌<◌, ◌≤◌, List, [], ◌∷◌, Option, None, Some, length, map, slice_index, slice_index_or, take, drop, All}
+use Rattle.std.specs.Prelude.{◌≡◌, ◌≢◌, true, false, ℕ, ℤ, zero, suc, pos, ◌+◌, ◌*◌, ◌^◌, ◌<◌, ◌≤◌, List, [], ◌∷◌, Option, None, Some, length, map, slice_index, slice_index_or, take, drop, insert, slice_set, All}
 use Rattle.std.specs.Int.{bit_at}
 use Rattle.std.specs.List.{flat_map, range_with_len}
 use Rattle.trend_num.specs.declared.archive.Rec.{Rec}
@@ -10,7 +10,8 @@ use Rattle.page_pool.specs.declared.frame.Frame.{Frame}
 use Rattle.page_pool.specs.Pool.{frame_at, spare_of}
 use Rattle.late_insert.specs.declared.directory.Page.{Page}
 use Rattle.trend_model.specs.Contents.{IsRising, points_of}
-use Rattle.late_insert.specs.Totals.{area_of, least_of, greatest_of}
+use Rattle.trend_model.specs.Windows.{area}
+use Rattle.late_insert.specs.Totals.{least_of, greatest_of}
 
 -- ---- a page in a frame
 
@@ -41,7 +42,7 @@ pub record IsRecorded (f : Frame) : Type 0 where
 -- a frame that holds records and their totals
 pub record IsPage (f : Frame) : Type 0 where
   pub recorded : IsRecorded f
-  pub area : f.area ≡ area_of (points_of (records_in f))
+  pub area : f.area ≡ area false (points_of (records_in f))
   pub low : f.low ≡ least_of (points_of (records_in f))
   pub high : f.high ≡ greatest_of (points_of (records_in f))
 
@@ -67,6 +68,7 @@ pub record IsPageAt (pool : List (Option Frame)) (place : ℕ) (p : Page) : Type
   pub page : IsPage frame
   pub first : p.first ≡ place
   pub start : p.start ≡ slice_index frame.times 0
+  pub stair : p.stair ≡ area true (points_of (records_in frame))
 
 -- pages one after another, from this place on
 abbrev pub ArePagesFrom : List (Option Frame) → ℕ → List Page → Type 0
@@ -101,6 +103,34 @@ pub record IsFor (pool : List (Option Frame)) (pages : List Page) (k t : ℕ) : 
   pub within : k < length pages
   pub before : All (λ r. r.point.t < t) (records_of pool (take k pages))
   pub after : All (λ r. t < r.point.t) (records_of pool (drop (k + 1) pages))
+
+-- the page k was split: the lower half starts where it did, and the upper half stands behind it
+pub record IsSplit (old new : List Page) (k : ℕ) : Type 0 where
+  pub lower : Page
+  pub upper : Page
+  pub list : new ≡ insert (slice_set old k lower) (k + 1) upper
+  pub start : lower.start ≡ (slice_index_or old k lower).start
+
+-- the place is on the page k
+pub record IsOn (pool : List (Option Frame)) (pages : List Page) (k place : ℕ) : Type 0 where
+  pub within : k < length pages
+  pub from : length (records_of pool (take k pages)) ≤ place
+  pub upto : place < length (records_of pool (take (k + 1) pages))
+
+-- a walk over the records of pages that has come to a place, and ends before another
+pub record IsWalk (pool : List (Option Frame)) (pages : List Page) (k place end : ℕ) : Type 0 where
+  pub paged : ArePages pool pages
+  pub ordered : place ≤ end
+  pub within : end ≤ length (records_of pool pages)
+  pub few : end < 2 ^ 32
+  pub at : place < end → IsOn pool pages k place
+
+-- some records of a frame, and twice the area under the stair of all of them
+pub record IsRun (f : Frame) (stair : ℤ) (start end : ℕ) : Type 0 where
+  pub page : IsPage f
+  pub stair_is : stair ≡ area true (points_of (records_in f))
+  pub some : start < end
+  pub within : end ≤ f.len
 
 -- a content of so many records, in pages, with room for so many in all
 pub record IsKept (pool : List (Option Frame)) (pages : List Page) (places len room : ℕ) : Type 0 where

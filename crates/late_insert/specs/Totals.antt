@@ -1,17 +1,7 @@
--- Totals over points in order of time.
-use Rattle.std.specs.Prelude.{ℕ, pos, ◌-◌, ℤ, ◌+ℤ◌, ◌*ℤ◌, List, [], ◌∷◌, fold}
+-- Totals over points in order of time. Areas are those of windows.
+use Rattle.std.specs.Prelude.{ℤ, pos, List, [], ◌∷◌, fold}
 use Rattle.std.specs.Int.{int_min, int_max}
 use Rattle.trend_num.specs.declared.point.Point.{Point}
-
--- twice the area under the line from p to q
-abbrev pub trapezoid : Point → Point → ℤ
-trapezoid p q = pos (q.t - p.t) *ℤ (p.v +ℤ q.v)
-
--- twice the area under the line through these points
-abbrev pub area_of : List Point → ℤ
-area_of [] = pos 0
-area_of (p ∷ []) = pos 0
-area_of (p ∷ q ∷ points) = trapezoid p q +ℤ area_of (q ∷ points)
 
 -- the least value of these points, and the greatest
 abbrev pub least_of : List Point → ℤ

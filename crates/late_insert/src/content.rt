@@ -1,15 +1,17 @@
 // A content, in pages.
-ghost use Rattle.std.specs.Prelude.{◌≡◌, ◌↔◌, ℕ, ◌+◌, ◌-◌, ◌^◌, ◌<◌, ◌≤◌, List, [], ◌∷◌, ◌++◌, IfNone, IfOk, IfSome, IsTrue, IsSome, length, count_by, nat_lt, take, drop, slice_index_or, slice_get, map, All};
+ghost use Rattle.std.specs.Prelude.{◌≡◌, ◌↔◌, ℕ, ◌+◌, ◌-◌, ◌^◌, ◌<◌, ◌≤◌, List, [], ◌∷◌, ◌++◌, IfNone, IfOk, IfSome, IsTrue, IsSome, length, count_by, nat_lt, take, drop, slice_index_or, slice_get, slice_range, map, All};
 ghost use Rattle.trend_num.specs.declared.archive.Rec.{Rec};
 ghost use Rattle.trend_num.specs.Ranges.{InRange};
 ghost use Rattle.trend_model.specs.Content.{is_late_record, late_at};
+ghost use Rattle.trend_model.specs.Parts.{last_point};
 ghost use Rattle.trend_model.specs.Contents.{IsCeil, IsContentOf, IsFloor, IsRising, placed, points_of};
 ghost use Rattle.late_insert.specs.Standing.{StandsAt};
 ghost use Rattle.late_insert.specs.PageTotals.{IsPageOf};
 
-use crate::directory::{Page, page_for, page_of};
-use crate::page::{below_in, rec_at};
+use crate::directory::{Page, page_of};
+use crate::gap::{Around, around_in, gap_in, rec_in};
 use crate::shelf::{first_page, is_full_before, make_room, open_page, put_at};
+use crate::walk::{Runs, runs_in};
 use page_pool::Pool;
 use std::alloc::Global;
 use std::marker::Model;
@@ -154,6 +156,27 @@ impl Content {
         Some(self.rec(i).point)
     }
 
+    /// What stands next to the time t, by one search.
+    pub fn around(&self, t: u64) -> Around
+        ensures below { result.below ≡ count_by (λ r. nat_lt r.point.t t) self.now.records }
+        ensures upto { result.upto ≡ count_by (λ r. nat_lt r.point.t (t + 1)) self.now.records }
+        ensures before { result.before ≡ last_point (take result.below (points_of self.now.records)) }
+        ensures after { result.after ≡ slice_get (points_of self.now.records) result.below }
+        ensures before_range { IfSome result.before InRange }
+        ensures after_range { IfSome result.after InRange }
+    {
+        around_in(&self.pool, self.pages.as_slice(), self.len, t)
+    }
+
+    /// A walk over the points at the places from one on, before another.
+    pub fn runs(&self, first: u32, behind: u32) -> Runs<'_>
+        requires order { first ≤ behind }
+        requires within { behind ≤ length self.now.records }
+        ensures { result ≡ slice_range (points_of self.now.records) first behind }
+    {
+        runs_in(&self.pool, self.pages.as_slice(), first, behind)
+    }
+
     /// Whether a Late record stands at the time t.
     pub fn late_at(&self, t: u64) -> bool
         ensures { IsTrue result ↔ IsSome (late_at self.now.records t) }
@@ -186,8 +209,7 @@ impl Content {
         ensures value { (d : Rec) → slice_index_or self.now.records i d ≡ result }
         ensures range { InRange result.point }
     {
-        let page = &self.pages[page_of(self.pages.as_slice(), i)];
-        rec_at(self.pool.frame(&page.id), (i - page.first) as usize)
+        rec_in(&self.pool, self.pages.as_slice(), i)
     }
 
     // The record at a place, where its time is t.
@@ -210,8 +232,7 @@ impl Content {
         ensures after { All (λ r. t ≤ r.point.t) (drop result self.now.records) }
         ensures rising { IsRising self.now.records }
     {
-        let page = &self.pages[page_for(self.pages.as_slice(), t)];
-        page.first + below_in(self.pool.frame(&page.id), t) as u32
+        gap_in(&self.pool, self.pages.as_slice(), t).place
     }
 }
 

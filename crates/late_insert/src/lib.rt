@@ -11,12 +11,17 @@
 mod array;
 mod content;
 mod directory;
+mod gap;
 mod mark;
 mod page;
 mod shelf;
 #[cfg(test)]
 mod tests;
 mod total;
+mod walk;
 
 pub use content::{Content, PageTotals};
+pub use gap::Around;
+pub use total::piece;
+pub use walk::{Run, Runs};
 pub use trend_num::{Kind, Point, Rec, WantOfMemory};

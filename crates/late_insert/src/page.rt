@@ -1,12 +1,13 @@
 // The records of a page, in its frame.
-ghost use Rattle.std.specs.Prelude.{◌≡◌, ℕ, ◌+◌, ◌<◌, ◌≤◌, pos, slice_index, slice_index_or, length, ◌++◌, ◌∷◌, [], insert, slice_set, take, drop};
+ghost use Rattle.std.specs.Prelude.{◌≡◌, ℕ, ◌+◌, ◌<◌, ◌≤◌, pos, true, slice_index, slice_index_or, length, ◌++◌, ◌∷◌, [], insert, slice_set, take, drop};
 ghost use Rattle.trend_num.specs.Ranges.{InRange};
-ghost use Rattle.trend_model.specs.Contents.{IsRising, over, placed};
+ghost use Rattle.trend_model.specs.Contents.{IsRising, over, placed, points_of};
+ghost use Rattle.trend_model.specs.Windows.{area};
 ghost use Rattle.late_insert.specs.Pages.{IsPage, IsRecorded, rec_in, records_in};
 
 use crate::array::{count_below, insert_at, rotate};
 use crate::mark::{kind_at, mark_inserted, mark_put};
-use crate::total::{point_at, refresh, trapezoid};
+use crate::total::{piece, point_at, refresh};
 use page_pool::Frame;
 use trend_num::{Kind, Rec};
 
@@ -38,21 +39,24 @@ pub(crate) fn rec_at(frame: &Frame, i: usize) -> Rec
     }
 }
 
-/// Puts a record behind the others of a page, and adds it to the totals.
-fn append(frame: &mut Frame, rec: Rec)
+/// Puts a record behind the others of a page, and adds it to the totals. Takes and returns twice the area under the stair.
+fn append(frame: &mut Frame, stair: i128, rec: Rec) -> i128
     requires page { IsPage frame.old }
     requires some { 0 < frame.old.len }
     requires room { frame.old.len < 128 }
+    requires stair { stair ≡ area true (points_of (records_in frame.old)) }
     requires range { InRange rec.point }
     ensures page { IsPage frame.new }
     ensures records { records_in frame.new ≡ records_in frame.old ++ rec ∷ [] }
+    ensures stair { result ≡ area true (points_of (records_in frame.new)) }
 {
     let n = frame.len as usize;
     let last = point_at(frame, n - 1);
     store(frame, n, rec);
-    frame.area += trapezoid(last, rec.point);
+    frame.area += piece(false, last, rec.point);
     frame.low = frame.low.min(rec.point.v);
     frame.high = frame.high.max(rec.point.v);
+    stair + piece(true, last, rec.point)
 }
 
 /// Stores a record at the place i among the others of a page, and leaves the totals.
@@ -89,79 +93,106 @@ fn over(rec: Rec, old: Rec) -> Rec
     }
 }
 
-/// Puts a record over the one that is at its time.
-fn replace(frame: &mut Frame, i: usize, rec: Rec)
+/// Puts a record over the one that is at its time. Returns twice the area under the stair.
+fn replace(frame: &mut Frame, i: usize, rec: Rec) -> i128
     requires page { IsPage frame.old }
     requires within { i < frame.old.len }
     requires same { rec.point.t ≡ slice_index frame.old.times i }
     requires range { InRange rec.point }
     ensures page { IsPage frame.new }
     ensures records { records_in frame.new ≡ slice_set (records_in frame.old) i (over rec (rec_in frame.old i)) }
+    ensures stair { result ≡ area true (points_of (records_in frame.new)) }
 {
     let now = over(rec, rec_at(frame, i));
     frame.values[i] = now.point.v;
     frame.late = mark_put(frame.late, frame.len as usize, i, now.kind);
-    refresh(frame);
+    refresh(frame)
 }
 
-/// Puts a record behind the others of a page, if it has others.
-pub(crate) fn push(frame: &mut Frame, rec: Rec)
+/// Puts a record behind the others of a page, if it has others. Takes and returns twice the area under the stair.
+pub(crate) fn push(frame: &mut Frame, stair: i128, rec: Rec) -> i128
     requires page { IsPage frame.old }
     requires room { frame.old.len < 128 }
+    requires stair { stair ≡ area true (points_of (records_in frame.old)) }
     requires range { InRange rec.point }
     ensures page { IsPage frame.new }
     ensures records { records_in frame.new ≡ records_in frame.old ++ rec ∷ [] }
+    ensures stair { result ≡ area true (points_of (records_in frame.new)) }
 {
     if frame.len > 0 {
-        append(frame, rec);
-        return;
+        return append(frame, stair, rec);
     }
     store(frame, 0, rec);
-    refresh(frame);
+    refresh(frame)
 }
 
-/// Puts a record into a page that is not full. Returns by how many records the page grew.
-pub(crate) fn put_rec(frame: &mut Frame, rec: Rec) -> u32
+/// What a put makes of a page.
+#[derive(Clone, Copy)]
+pub(crate) struct Grown {
+    /// By how many records it grew.
+    pub by: u32,
+    /// Twice the area under its stair.
+    pub stair: i128,
+}
+
+/// Puts a record into a page that is not full.
+pub(crate) fn put_rec(frame: &mut Frame, stair: i128, rec: Rec) -> Grown
     requires page { IsPage frame.old }
     requires rising { IsRising (records_in frame.old) }
     requires room { frame.old.len < 128 }
+    requires stair { stair ≡ area true (points_of (records_in frame.old)) }
     requires range { InRange rec.point }
     ensures page { IsPage frame.new }
     ensures records { records_in frame.new ≡ placed rec (records_in frame.old) }
-    ensures grown { frame.new.len ≡ frame.old.len + result }
-    ensures by_one { result ≤ 1 }
+    ensures grown { frame.new.len ≡ frame.old.len + result.by }
+    ensures by_one { result.by ≤ 1 }
+    ensures stair { result.stair ≡ area true (points_of (records_in frame.new)) }
 {
     let i = below_in(frame, rec.point.t);
     if i == frame.len as usize {
-        push(frame, rec);
-        return 1;
+        let stair = push(frame, stair, rec);
+        return Grown { by: 1, stair };
     }
     if frame.times[i] == rec.point.t {
-        replace(frame, i, rec);
-        return 0;
+        let stair = replace(frame, i, rec);
+        return Grown { by: 0, stair };
     }
     store(frame, i, rec);
-    refresh(frame);
-    1
+    let stair = refresh(frame);
+    Grown { by: 1, stair }
+}
+
+/// The upper half of a page that was cut, with twice the areas under the stairs of both halves.
+#[derive(Drop)]
+pub(crate) struct Halves {
+    pub upper: Frame,
+    pub upper_stair: i128,
+    pub lower_stair: i128,
 }
 
 /// Takes the upper half of a full page out of it.
-pub(crate) fn cut(frame: &mut Frame) -> Frame
+pub(crate) fn cut(frame: &mut Frame) -> Halves
     requires page { IsPage frame.old }
     requires full { frame.old.len ≡ 128 }
     ensures lower { IsPage frame.new }
-    ensures upper { IsPage result }
+    ensures upper { IsPage result.upper }
     ensures lower_records { records_in frame.new ≡ take 64 (records_in frame.old) }
-    ensures upper_records { records_in result ≡ drop 64 (records_in frame.old) }
+    ensures upper_records { records_in result.upper ≡ drop 64 (records_in frame.old) }
+    ensures lower_stair { result.lower_stair ≡ area true (points_of (records_in frame.new)) }
+    ensures upper_stair { result.upper_stair ≡ area true (points_of (records_in result.upper)) }
 {
     let mut upper = *frame;
     rotate(&mut upper.times, 64);
     rotate(&mut upper.values, 64);
     upper.late = frame.late >> 64;
     upper.len = 64;
-    refresh(&mut upper);
+    let upper_stair = refresh(&mut upper);
     frame.late &= 0xffff_ffff_ffff_ffff;
     frame.len = 64;
-    refresh(frame);
-    upper
+    let lower_stair = refresh(frame);
+    Halves {
+        upper,
+        upper_stair,
+        lower_stair,
+    }
 }

@@ -4,7 +4,7 @@ ghost use Rattle.trend_num.specs.Ranges.{InRange};
 ghost use Rattle.page_pool.specs.Pool.{spare_of};
 ghost use Rattle.late_insert.specs.declared.directory.Page.{Page};
 ghost use Rattle.trend_model.specs.Contents.{placed};
-ghost use Rattle.late_insert.specs.Pages.{ArePages, IsFor, page_in, records_of};
+ghost use Rattle.late_insert.specs.Pages.{ArePages, IsFor, IsSplit, page_in, records_of};
 
 use crate::directory::{Page, move_on, page_for};
 use crate::page::{cut, push, put_rec};
@@ -27,6 +27,7 @@ pub(crate) fn first_page(pool: &mut Pool, pages: &mut Vec<Page>)
         id,
         first: 0,
         start: 0,
+        stair: 0,
     });
 }
 
@@ -57,12 +58,13 @@ pub(crate) fn open_page(pool: &mut Pool, pages: &mut Vec<Page>, len: u32, rec: R
 {
     let id = pool.take_frame().unwrap();
     let frame = pool.frame_mut(&id);
-    push(frame, rec);
+    let stair = push(frame, 0, rec);
     let start = frame.times[0];
     pages.push_reserved(Page {
         id,
         first: len,
         start,
+        stair,
     });
 }
 
@@ -97,19 +99,23 @@ fn split(pool: &mut Pool, pages: &mut Vec<Page>, k: usize)
     requires few { length (records_of pool.old pages.old.items) < 2 ^ 32 }
     ensures pages { ArePages pool.new pages.new.items }
     ensures records { records_of pool.new pages.new.items ≡ records_of pool.old pages.old.items }
-    ensures list { (q : Page) × (pages.new.items ≡ insert pages.old.items (k + 1) q) }
+    ensures list { IsSplit pages.old.items pages.new.items k }
     ensures lower { (d : Page) → length (page_in pool.new (slice_index_or pages.new.items k d)) ≡ 64 }
     ensures upper { (d : Page) → length (page_in pool.new (slice_index_or pages.new.items (k + 1) d)) ≡ 64 }
     ensures frames { spare_of pool.new + 1 ≡ spare_of pool.old }
     ensures capacity { vec_capacity pages.old ≤ vec_capacity pages.new }
 {
-    let upper = cut(pool.frame_mut(&pages[k].id));
+    let halves = cut(pool.frame_mut(&pages[k].id));
+    let page = &mut pages[k];
+    page.stair = halves.lower_stair;
+    let first = page.first + 64;
     let id = pool.take_frame().unwrap();
-    *pool.frame_mut(&id) = upper;
+    *pool.frame_mut(&id) = halves.upper;
     let page = Page {
         id,
-        first: pages[k].first + 64,
-        start: upper.times[0],
+        first,
+        start: halves.upper.times[0],
+        stair: halves.upper_stair,
     };
     insert_page(pages, k + 1, page);
 }
@@ -140,8 +146,10 @@ pub(crate) fn put_at(pool: &mut Pool, pages: &mut Vec<Page>, k: usize, rec: Rec)
     ensures capacity { vec_capacity pages.new ≡ vec_capacity pages.old }
 {
     let frame = pool.frame_mut(&pages[k].id);
-    let grown = put_rec(frame, rec);
-    pages[k].start = frame.times[0];
-    move_on(pages, k, grown);
-    grown
+    let grown = put_rec(frame, pages[k].stair, rec);
+    let page = &mut pages[k];
+    page.start = frame.times[0];
+    page.stair = grown.stair;
+    move_on(pages, k, grown.by);
+    grown.by
 }

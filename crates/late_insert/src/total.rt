@@ -1,9 +1,10 @@
 // Totals over the records of a page.
-ghost use Rattle.std.specs.Prelude.{◌≡◌, ℕ, ◌<◌, ◌≤◌, pos, slice_index_or, length};
+ghost use Rattle.std.specs.Prelude.{◌≡◌, ℕ, ◌<◌, ◌≤◌, pos, true, slice_index_or, slice_range, length};
 ghost use Rattle.trend_num.specs.Ranges.{InRange};
 ghost use Rattle.trend_model.specs.Contents.{points_of};
 ghost use Rattle.late_insert.specs.Pages.{IsPage, IsRecorded, rec_in, records_in};
-ghost use Rattle.late_insert.specs.Totals.{area_of, greatest_of, least_of, trapezoid};
+ghost use Rattle.trend_model.specs.Windows.{area, piece};
+ghost use Rattle.late_insert.specs.Totals.{greatest_of, least_of};
 
 use page_pool::Frame;
 use trend_num::Point;
@@ -21,53 +22,75 @@ pub(crate) fn point_at(frame: &Frame, i: usize) -> Point
     }
 }
 
-/// Twice the area under the line from p to q.
-pub(crate) fn trapezoid(p: Point, q: Point) -> i128
+/// Twice the area between two neighbours: a line goes from the one value to the other, a stair keeps the first.
+pub fn piece(step: bool, p: Point, q: Point) -> i128
     requires first { InRange p }
     requires second { InRange q }
-    ensures { result ≡ trapezoid p q }
+    ensures { result ≡ piece step p q }
 {
-    i128::from(q.t.saturating_sub(p.t)) * (i128::from(p.v) + i128::from(q.v))
+    let width = i128::from(q.t.saturating_sub(p.t));
+    if step {
+        return width * (i128::from(p.v) + i128::from(p.v));
+    }
+    width * (i128::from(p.v) + i128::from(q.v))
 }
 
-/// Twice the area under the line through a page's points, their least value and their greatest.
-#[derive(Clone, Copy)]
-struct Totals {
-    area: i128,
-    low: i64,
-    high: i64,
-}
-
-fn totals_of(frame: &Frame) -> Totals
+/// Twice the area under the line or the stair through the points from a place on, before another.
+pub(crate) fn area_between(frame: &Frame, step: bool, start: usize, end: usize) -> i128
     requires recorded { IsRecorded frame.now }
-    requires some { 0 < frame.now.len }
-    ensures area { result.area ≡ area_of (points_of (records_in frame.now)) }
-    ensures low { result.low ≡ least_of (points_of (records_in frame.now)) }
-    ensures high { result.high ≡ greatest_of (points_of (records_in frame.now)) }
+    requires some { start < end }
+    requires within { end ≤ frame.now.len }
+    ensures { result ≡ area step (slice_range (points_of (records_in frame.now)) start end) }
 {
-    let mut before = point_at(frame, 0);
+    let mut before = point_at(frame, start);
     let mut area = 0i128;
-    let mut low = before.v;
-    let mut high = before.v;
-    for i in 1..frame.len as usize {
+    for i in start + 1..end {
         let p = point_at(frame, i);
-        area += trapezoid(before, p);
-        low = low.min(p.v);
-        high = high.max(p.v);
+        area += piece(step, before, p);
         before = p;
     }
-    Totals { area, low, high }
+    area
 }
 
-/// Counts the totals of a page again.
-pub(crate) fn refresh(frame: &mut Frame)
+/// The least value of the points from a place on, before another.
+pub(crate) fn low_between(frame: &Frame, start: usize, end: usize) -> i64
+    requires recorded { IsRecorded frame.now }
+    requires some { start < end }
+    requires within { end ≤ frame.now.len }
+    ensures { result ≡ least_of (slice_range (points_of (records_in frame.now)) start end) }
+{
+    let mut low = point_at(frame, start).v;
+    for i in start + 1..end {
+        low = low.min(point_at(frame, i).v);
+    }
+    low
+}
+
+/// The greatest value of the points from a place on, before another.
+pub(crate) fn high_between(frame: &Frame, start: usize, end: usize) -> i64
+    requires recorded { IsRecorded frame.now }
+    requires some { start < end }
+    requires within { end ≤ frame.now.len }
+    ensures { result ≡ greatest_of (slice_range (points_of (records_in frame.now)) start end) }
+{
+    let mut high = point_at(frame, start).v;
+    for i in start + 1..end {
+        high = high.max(point_at(frame, i).v);
+    }
+    high
+}
+
+/// Counts the totals of a page again. Returns twice the area under its stair.
+pub(crate) fn refresh(frame: &mut Frame) -> i128
     requires recorded { IsRecorded frame.old }
     requires some { 0 < frame.old.len }
     ensures records { records_in frame.new ≡ records_in frame.old }
     ensures page { IsPage frame.new }
+    ensures stair { result ≡ area true (points_of (records_in frame.old)) }
 {
-    let totals = totals_of(frame);
-    frame.area = totals.area;
-    frame.low = totals.low;
-    frame.high = totals.high;
+    let n = frame.len as usize;
+    frame.area = area_between(frame, false, 0, n);
+    frame.low = low_between(frame, 0, n);
+    frame.high = high_between(frame, 0, n);
+    area_between(frame, true, 0, n)
 }

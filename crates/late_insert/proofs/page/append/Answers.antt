@@ -1,10 +1,10 @@
-use Rattle.std.proofs.Common.{sym, ap, ap₂, ◌∙◌, rules}
+use Rattle.std.proofs.Common.{true, false, sym, ap, ap₂, ◌∙◌, rules}
 use Rattle.std.specs.Prelude.{FitsSigned, insert}
 use Rattle.std.specs.Int.{w64, w128, int_min, int_max}
 use Rattle.std.proofs.lemmas.Int.{to_z-of_z}
 use Rattle.std.proofs.lemmas.List.Edits.{insert_end}
 use Rattle.late_insert.specs.Pages.{records_in}
-use Rattle.late_insert.proofs.Summing.{IsPushed, length-records_in, area_pushed_fits, line_pushed_fits, page_pushed, value_fits}
+use Rattle.late_insert.proofs.Summing.{IsPushed, length-records_in, area_of_fits, area_pushed, area_pushed_fits, page_pushed, value_fits}
 use Rattle.late_insert.proofs.page.append.Goals as goal
 
 pub overflow_add-frame : goal.overflow_add-frame
@@ -19,9 +19,9 @@ overflow_add-frame c =
       low = c.store.ensures.low;
       high = c.store.ensures.high;
     } in
-    let line : FitsSigned w128 c.trapezoid.result = search rules in
-    rw (to_z-of_z w128 c.trapezoid.result line, to_z-of_z w128 c.store.new.frame.area (area_pushed_fits _ _ _ _ push))
-    (line_pushed_fits _ _ _ _ push c.trapezoid.result c.trapezoid.ensures)
+    let line : FitsSigned w128 c.piece.result = search rules in
+    rw (to_z-of_z w128 c.piece.result line, to_z-of_z w128 c.store.new.frame.area (area_of_fits _ _ _ _ push false _ (push.area ∙ push.page.area)))
+    (area_pushed_fits _ _ _ _ push false c.store.new.frame.area c.piece.result (push.area ∙ push.page.area) c.piece.ensures)
 
 pub returns-clause-page : goal.returns-clause-page
 returns-clause-page c =
@@ -35,20 +35,20 @@ returns-clause-page c =
       low = c.store.ensures.low;
       high = c.store.ensures.high;
     } in
-    let line : FitsSigned w128 c.trapezoid.result = search rules in
+    let line : FitsSigned w128 c.piece.result = search rules in
     let least : FitsSigned w64 c.min-frame.result = search rules in
     let greatest : FitsSigned w64 c.max-frame.result = search rules in
     let low : FitsSigned w64 c.store.new.frame.low = search rules in
     let high : FitsSigned w64 c.store.new.frame.high = search rules in
     let value = to_z-of_z w64 c.args.rec.point.v (value_fits c.args.rec.point c.requires.range) in
     rw (
-      to_z-of_z w128 c.trapezoid.result line,
-      to_z-of_z w128 c.store.new.frame.area (area_pushed_fits _ _ _ _ push),
-      to_z-of_z w128 _ (line_pushed_fits _ _ _ _ push c.trapezoid.result c.trapezoid.ensures),
+      to_z-of_z w128 c.piece.result line,
+      to_z-of_z w128 c.store.new.frame.area (area_of_fits _ _ _ _ push false _ (push.area ∙ push.page.area)),
+      to_z-of_z w128 _ (area_pushed_fits _ _ _ _ push false c.store.new.frame.area c.piece.result (push.area ∙ push.page.area) c.piece.ensures),
       to_z-of_z w64 c.min-frame.result least,
       to_z-of_z w64 c.max-frame.result greatest,
     )
-    (page_pushed _ _ _ _ push c.trapezoid.result c.min-frame.result c.max-frame.result c.trapezoid.ensures
+    (page_pushed _ _ _ _ push c.piece.result c.min-frame.result c.max-frame.result c.piece.ensures
     (c.min-frame.ensures.value ∙ ap₂ int_min (to_z-of_z w64 c.store.new.frame.low low) value)
     (c.max-frame.ensures.value ∙ ap₂ int_max (to_z-of_z w64 c.store.new.frame.high high) value))
 
@@ -56,3 +56,39 @@ pub returns-clause-records : goal.returns-clause-records
 returns-clause-records c =
     c.store.ensures.records ∙ (ap (λ n. insert (records_in c.args.frame.now) n c.args.rec) (sym (length-records_in c.args.frame.now))
     ∙ insert_end (records_in c.args.frame.now) c.args.rec)
+
+pub overflow_add-result : goal.overflow_add-result
+overflow_add-result c =
+    let push : IsPushed c.args.frame.now c.store.new.frame c.args.rec c.point_at-last.result = record {
+      page = c.requires.page;
+      some = c.requires.some;
+      recorded = c.store.ensures.recorded;
+      records = c.store.ensures.records;
+      end = c.point_at-last.ensures.value;
+      area = c.store.ensures.area;
+      low = c.store.ensures.low;
+      high = c.store.ensures.high;
+    } in
+    let line : FitsSigned w128 c.piece-2.result = search rules in
+    rw (to_z-of_z w128 c.piece-2.result line, to_z-of_z w128 c.args.stair (area_of_fits _ _ _ _ push true _ c.requires.stair))
+    (area_pushed_fits _ _ _ _ push true c.args.stair c.piece-2.result c.requires.stair c.piece-2.ensures)
+
+pub returns-clause-stair : goal.returns-clause-stair
+returns-clause-stair c =
+    let push : IsPushed c.args.frame.now c.store.new.frame c.args.rec c.point_at-last.result = record {
+      page = c.requires.page;
+      some = c.requires.some;
+      recorded = c.store.ensures.recorded;
+      records = c.store.ensures.records;
+      end = c.point_at-last.ensures.value;
+      area = c.store.ensures.area;
+      low = c.store.ensures.low;
+      high = c.store.ensures.high;
+    } in
+    let line : FitsSigned w128 c.piece-2.result = search rules in
+    rw (
+      to_z-of_z w128 c.piece-2.result line,
+      to_z-of_z w128 c.args.stair (area_of_fits _ _ _ _ push true _ c.requires.stair),
+      to_z-of_z w128 _ (area_pushed_fits _ _ _ _ push true c.args.stair c.piece-2.result c.requires.stair c.piece-2.ensures),
+    )
+    (area_pushed _ _ _ _ push true c.args.stair c.piece-2.result c.requires.stair c.piece-2.ensures)

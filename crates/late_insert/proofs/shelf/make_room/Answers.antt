@@ -44,15 +44,15 @@ index-requires-2 c =
     let within = subst (λ ps. c.page_for-k.result < length ps) c.as_slice.ensures.value c.page_for-k.ensures.within in
     let early = subst (λ ps. (j : ℕ) (d : Page) → 0 < j → j ≤ c.page_for-k.result → (get_or ps j d).start ≤ c.args.t) c.as_slice.ensures.value c.page_for-k.ensures.before in
     let late = subst (λ ps. (j : ℕ) (d : Page) → c.page_for-k.result < j → j < length ps → c.args.t < (get_or ps j d).start) c.as_slice.ensures.value c.page_for-k.ensures.after in
-    within_split c.split.new.pages c.args.pages.now.items c.page_for-k.result c.split.ensures.list.0 c.split.ensures.list.1 within
+    within_split c.split.new.pages c.args.pages.now.items c.page_for-k.result c.split.ensures.list within
 
 pub returns-then-index-t-clause-found : goal.returns-then-index-t-clause-found
 returns-then-index-t-clause-found c =
     let within = subst (λ ps. c.page_for-k.result < length ps) c.as_slice.ensures.value c.page_for-k.ensures.within in
     let early = subst (λ ps. (j : ℕ) (d : Page) → 0 < j → j ≤ c.page_for-k.result → (get_or ps j d).start ≤ c.args.t) c.as_slice.ensures.value c.page_for-k.ensures.before in
     let late = subst (λ ps. (j : ℕ) (d : Page) → c.page_for-k.result < j → j < length ps → c.args.t < (get_or ps j d).start) c.as_slice.ensures.value c.page_for-k.ensures.after in
-    upper_found c.split.new.pool c.split.new.pages.items c.args.pages.now.items c.page_for-k.result c.args.t c.split.ensures.list.0 c.index-2.result.now
-    c.split.ensures.pages c.split.ensures.list.1 within early late (subst (λ (p : Page). p.start ≤ c.args.t) c.index-2.ensures c.if-index-t.true)
+    upper_found c.split.new.pool c.split.new.pages.items c.args.pages.now.items c.page_for-k.result c.args.t c.index-2.result.now
+    c.split.ensures.pages c.split.ensures.list within early late (subst (λ (p : Page). p.start ≤ c.args.t) c.index-2.ensures c.if-index-t.true)
 
 pub returns-then-index-t-clause-not_full : goal.returns-then-index-t-clause-not_full
 returns-then-index-t-clause-not_full c = λ d. let half = c.split.ensures.upper d in omega arith
@@ -62,8 +62,8 @@ returns-else-index-t-clause-found c =
     let within = subst (λ ps. c.page_for-k.result < length ps) c.as_slice.ensures.value c.page_for-k.ensures.within in
     let early = subst (λ ps. (j : ℕ) (d : Page) → 0 < j → j ≤ c.page_for-k.result → (get_or ps j d).start ≤ c.args.t) c.as_slice.ensures.value c.page_for-k.ensures.before in
     let late = subst (λ ps. (j : ℕ) (d : Page) → c.page_for-k.result < j → j < length ps → c.args.t < (get_or ps j d).start) c.as_slice.ensures.value c.page_for-k.ensures.after in
-    lower_found c.split.new.pool c.split.new.pages.items c.args.pages.now.items c.page_for-k.result c.args.t c.split.ensures.list.0 c.index-2.result.now
-    c.split.ensures.pages c.split.ensures.list.1 within early late (subst (λ (p : Page). c.args.t < p.start) c.index-2.ensures c.if-index-t.false)
+    lower_found c.split.new.pool c.split.new.pages.items c.args.pages.now.items c.page_for-k.result c.args.t c.index-2.result.now
+    c.split.ensures.pages c.split.ensures.list within early late (subst (λ (p : Page). c.args.t < p.start) c.index-2.ensures c.if-index-t.false)
 
 pub returns-else-index-t-clause-not_full : goal.returns-else-index-t-clause-not_full
 returns-else-index-t-clause-not_full c = λ d. let half = c.split.ensures.lower d in omega arith

@@ -1,11 +1,12 @@
-use Rattle.std.proofs.Common.{◌≡◌, ℕ, ◌+◌, ◌-◌, ◌<◌, ◌≤◌, List, All, AllPairs, take, drop, ap, sym, ◌∙◌, get_or, length, subst, arith, rules}
+use Rattle.std.proofs.Common.{◌≡◌, false, ℕ, ◌+◌, ◌-◌, ◌<◌, ◌≤◌, List, All, AllPairs, take, drop, ap, sym, ◌∙◌, get_or, length, subst, arith, rules}
 use Rattle.trend_num.specs.declared.archive.Rec.{Rec}
 use Rattle.late_insert.specs.declared.directory.Page.{Page}
 use Rattle.std.specs.Prelude.{FitsSigned}
 use Rattle.std.specs.Int.{w64, w128}
 use Rattle.std.proofs.lemmas.Int.{to_z-of_z}
 use Rattle.trend_model.specs.Contents.{points_of}
-use Rattle.late_insert.specs.Totals.{area_of, least_of, greatest_of}
+use Rattle.trend_model.specs.Windows.{area}
+use Rattle.late_insert.specs.Totals.{least_of, greatest_of}
 use Rattle.late_insert.proofs.Finding.{firsts_rise}
 use Rattle.late_insert.proofs.Reading.{IsRead, frame_page, page_from, page_upto, end_within, points_read}
 use Rattle.late_insert.proofs.content.Content.page.Goals as goal
@@ -31,14 +32,14 @@ returns c =
     let first = c.index-page.result.now.first in
     let page = frame_page _ _ _ _ _ is in
     let points = ap (λ l. take (first + f.len - first) (drop first (points_of l))) (sym seen) ∙ points_read _ _ _ _ _ is c.args.i inside early late in
-    let area : FitsSigned w128 f.area = search rules in
+    let fits : FitsSigned w128 f.area = search rules in
     let low : FitsSigned w64 f.low = search rules in
     let high : FitsSigned w64 f.high = search rules in
     record {
       from = page_from _ _ _ _ _ is c.args.i inside early late;
       upto = page_upto _ _ _ _ _ is c.args.i inside early late;
       within = subst (λ l. first + f.len ≤ length l) seen (end_within _ _ _ _ _ is);
-      area = to_z-of_z w128 f.area area ∙ (page.area ∙ ap area_of (sym points));
+      area = to_z-of_z w128 f.area fits ∙ (page.area ∙ ap (area false) (sym points));
       low = to_z-of_z w64 f.low low ∙ (page.low ∙ ap least_of (sym points));
       high = to_z-of_z w64 f.high high ∙ (page.high ∙ ap greatest_of (sym points));
     }

@@ -1,0 +1,16 @@
+use Rattle.std.proofs.Common.{◌≡◌, ◌+◌, ◌-◌, take, sym, arith}
+use Rattle.trend_model.specs.Contents.{points_of}
+use Rattle.trend_model.specs.Parts.{last_point}
+use Rattle.late_insert.specs.Pages.{records_of}
+use Rattle.late_insert.proofs.Nearest.{point_get}
+use Rattle.late_insert.proofs.Ranges.{last_take}
+use Rattle.late_insert.proofs.gap.last_before.Goals as goal
+
+pub returns-clause-value : goal.returns-clause-value
+returns-clause-value c =
+    let l = records_of c.args.pool.now c.args.pages.now in
+    let n = c.args.gap.place in
+    let r = c.rec_near.result in
+    let whole : n ≡ n - 1 + 1 = omega arith in
+    let there = point_get l (n - 1) r (omega (arith, c.requires.bound)) (c.rec_near.ensures.value r) in
+    sym (rw whole (last_take (points_of l) (n - 1) r.point there))

@@ -1,0 +1,148 @@
+// A walk over the points of a content, in runs of points that stand in one page.
+ghost use Rattle.std.specs.Prelude.{◌≡◌, ◌^◌, ◌<◌, ◌≤◌, [], ◌++◌, IfNone, IfSome, Some, length, slice_get, slice_range};
+ghost use Rattle.trend_num.specs.Ranges.{InRange};
+ghost use Rattle.trend_model.specs.Contents.{points_of};
+ghost use Rattle.trend_model.specs.Parts.{last_point};
+ghost use Rattle.trend_model.specs.Windows.{area};
+ghost use Rattle.late_insert.specs.Pages.{ArePages, records_of};
+ghost use Rattle.late_insert.specs.Totals.{greatest_of, least_of};
+
+use crate::directory::{Page, page_of};
+use crate::total::{area_between, high_between, low_between, point_at};
+use page_pool::{Frame, Pool};
+use std::marker::Model;
+use trend_num::Point;
+
+/// Points of a content that stand one after another in one page. Those of a whole page are measured by its totals.
+pub struct Run<'a> {
+    frame: &'a Frame,
+    // Twice the area under the stair of the whole page.
+    stair: i128,
+    // The place of the first point in the page, and that behind the last.
+    start: u32,
+    end: u32,
+}
+
+impl<'a> Model for Run<'a> {
+    ghost use Rattle.std.specs.Prelude.{List, slice_range};
+    ghost use Rattle.trend_num.specs.declared.point.Point.{Point};
+    ghost use Rattle.trend_model.specs.Contents.{points_of};
+    ghost use Rattle.late_insert.specs.Pages.{IsRun, records_in};
+
+    ghost Value = { List Point };
+
+    ghost view = { λ r. slice_range (points_of (records_in r.frame.now)) r.start r.end };
+
+    ghost invariant = { λ r. IsRun r.frame.now r.stair r.start r.end };
+}
+
+impl<'a> Run<'a> {
+    /// The first point.
+    pub fn first(&self) -> Point
+        ensures value { slice_get self.now 0 ≡ Some result }
+        ensures range { InRange result }
+    {
+        point_at(self.frame, self.start as usize)
+    }
+
+    /// The last point.
+    pub fn last(&self) -> Point
+        ensures value { last_point self.now ≡ Some result }
+        ensures range { InRange result }
+    {
+        point_at(self.frame, self.end as usize - 1)
+    }
+
+    /// Twice the area under the line or the stair through the points.
+    pub fn area(&self, step: bool) -> i128
+        ensures { result ≡ area step self.now }
+    {
+        if self.end - self.start < self.frame.len {
+            return area_between(self.frame, step, self.start as usize, self.end as usize);
+        }
+        if step { self.stair } else { self.frame.area }
+    }
+
+    /// Their least value.
+    pub fn low(&self) -> i64
+        ensures { result ≡ least_of self.now }
+    {
+        if self.end - self.start < self.frame.len {
+            return low_between(self.frame, self.start as usize, self.end as usize);
+        }
+        self.frame.low
+    }
+
+    /// Their greatest value.
+    pub fn high(&self) -> i64
+        ensures { result ≡ greatest_of self.now }
+    {
+        if self.end - self.start < self.frame.len {
+            return high_between(self.frame, self.start as usize, self.end as usize);
+        }
+        self.frame.high
+    }
+}
+
+/// A walk over points of a content. It is seen as the list of the points that are still to come.
+pub struct Runs<'a> {
+    pool: &'a Pool,
+    pages: &'a [Page],
+    // The page of the next point, its place in the content, and the place behind the last point.
+    page: usize,
+    place: u32,
+    end: u32,
+}
+
+impl<'a> Model for Runs<'a> {
+    ghost use Rattle.std.specs.Prelude.{List, slice_range};
+    ghost use Rattle.trend_num.specs.declared.point.Point.{Point};
+    ghost use Rattle.trend_model.specs.Contents.{points_of};
+    ghost use Rattle.late_insert.specs.Pages.{IsWalk, records_of};
+
+    ghost Value = { List Point };
+
+    ghost view = { λ w. slice_range (points_of (records_of w.pool.now w.pages.now)) w.place w.end };
+
+    ghost invariant = { λ w. IsWalk w.pool.now w.pages.now w.page w.place w.end };
+}
+
+/// A walk over the points of pages from a place on, before another.
+pub(crate) fn runs_in<'a>(pool: &'a Pool, pages: &'a [Page], first: u32, behind: u32) -> Runs<'a>
+    requires pages { ArePages pool.now pages.now }
+    requires order { first ≤ behind }
+    requires within { behind ≤ length (records_of pool.now pages.now) }
+    ensures { result ≡ slice_range (points_of (records_of pool.now pages.now)) first behind }
+{
+    Runs {
+        pool,
+        pages,
+        page: page_of(pages, first),
+        place: first,
+        end: behind,
+    }
+}
+
+impl<'a> Runs<'a> {
+    /// The next points that stand in one page; none exactly where no point is left.
+    pub fn next(&mut self) -> Option<Run<'a>>
+        ensures run { IfSome result (λ run. self.old ≡ run ++ self.new) }
+        ensures some { IfSome result (λ run. 0 < length run) }
+        ensures none { IfNone result (self.old ≡ []) }
+    {
+        if self.place == self.end {
+            return None;
+        }
+        let page = &self.pages[self.page];
+        let frame = self.pool.frame(&page.id);
+        let run = Run {
+            frame,
+            stair: page.stair,
+            start: self.place - page.first,
+            end: frame.len.min(self.end - page.first),
+        };
+        self.place = page.first + run.end;
+        self.page += 1;
+        Some(run)
+    }
+}
