@@ -1,3 +1,5 @@
 pub mod Rooms
 pub mod Batches
 pub mod SameLanes
+pub mod Rules
+pub mod Steps
