@@ -3,3 +3,4 @@ pub mod Batches
 pub mod SameLanes
 pub mod Rules
 pub mod Steps
+pub mod Taken

@@ -125,6 +125,7 @@ impl Scanned {
         requires number { taken < 10 ^ 18 }
         requires all_gates { length gates.now ≡ self.old.lane.slots }
         requires there { from + count ≤ self.old.lane.slots }
+        requires end { from + count < 2 ^ 32 }
         requires len { length piece.now ≡ 1034 * count }
         requires within { IsWithin self.old.lane.slots taken from self.old }
         ensures within { OnOk result (IsWithin self.old.lane.slots taken (from + count) self.new) }
@@ -162,17 +163,18 @@ impl Scanned {
             → IsLaneDamage self.old.lane.slots bytes taken a byte }
         ensures device_fault { IsErrOf result DeviceFault → ⊥ }
     {
+        let at = slot_place(self.lane.slots, k);
         let (first, rest) = take_number(slot);
         let (count, points) = take_count(rest);
         if count == 0 || count > BATCH_MOST {
-            return Err(self.damage(k, slot, COUNT));
+            return Err(damage(at, slot, COUNT));
         }
         let stale = is_stale(first, count, taken);
         if !self.follows(k, first, stale) {
-            return Err(self.damage(k, slot, FIRST));
+            return Err(damage(at, slot, FIRST));
         }
         if let Some(i) = first_out_of_range(points, count as usize) {
-            return Err(self.damage(k, slot, POINTS + POINT_LEN * i));
+            return Err(damage(at, slot, POINTS + POINT_LEN * i));
         }
         let beyond = if stale { 0 } else { count };
         let Ok(()) = add_points(&mut self.points, points, beyond as usize) else {
@@ -194,17 +196,18 @@ impl Scanned {
             !self.stale && self.lane.used == k && self.lane.next == first
         }
     }
+}
 
-    // The damage of slot k, so many bytes behind its beginning.
-    fn damage(&self, k: u32, slot: &[u8], field: usize) -> ScanNo
-        requires len { length slot.now ≡ 1034 }
-        requires within { field < 1034 }
-        ensures { result ≡ Damaged (place_of self.now.lane.slots k + field) (Some (slice_index slot.now field)) }
-    {
-        ScanNo::Damaged {
-            at: slot_place(self.lane.slots, k) + field as u64,
-            byte: Some(slot[field]),
-        }
+// The damage of the slot that stands at a place, so many bytes behind it.
+fn damage(at: u64, slot: &[u8], field: usize) -> ScanNo
+    requires len { length slot.now ≡ 1034 }
+    requires within { field < 1034 }
+    requires end { at + 1034 < 2 ^ 64 }
+    ensures { result ≡ Damaged (at + field) (Some (slice_index slot.now field)) }
+{
+    ScanNo::Damaged {
+        at: at + field as u64,
+        byte: Some(slot[field]),
     }
 }
 

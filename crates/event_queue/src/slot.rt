@@ -86,7 +86,7 @@ pub(crate) fn add_points(
     ensures { OnOk result (points.new.items ≡ points.old.items ++ points_in count bytes.now) }
 {
     let mut rest = bytes;
-    for _ in 0..count {
+    for _i in 0..count {
         let (p, behind) = take_point(rest);
         points.push(p)?;
         rest = behind;
