@@ -1,11 +1,11 @@
 -- The bytes of a batch, written and read.
-use Rattle.std.proofs.Common.{◌≡◌, ℕ, ◌+◌, ◌*◌, ◌<◌, ◌≤◌, List, [], ◌∷◌, ◌++◌, length, get_or, take, drop, flat_map}
-use Rattle.std.proofs.Common.{refl, sym, ◌∙◌, ap, arith, append_assoc, length-append}
-use Rattle.std.proofs.lemmas.List.{take_all}
+use Rattle.std.proofs.Common.{◌≡◌, ℕ, zero, suc, ◌+◌, ◌*◌, ◌<◌, ◌≤◌, List, [], ◌∷◌, ◌++◌, length, get_or, take, drop, flat_map}
+use Rattle.std.proofs.Common.{refl, sym, ◌∙◌, ap, arith, append_assoc, add-one, length-append}
+use Rattle.std.proofs.lemmas.List.{take_all, drop-drop}
 use Rattle.trend_num.specs.declared.point.Point.{Point}
-use Rattle.archive_file.specs.Fields.{number_bytes, point_bytes}
+use Rattle.archive_file.specs.Fields.{number_bytes, point_bytes, point_at}
 use Rattle.archive_file.proofs.Joins.{joined, images_more}
-use Rattle.event_queue.specs.Slots.{batch_bytes}
+use Rattle.event_queue.specs.Slots.{batch_bytes, points_in}
 
 -- so many points of a batch are written behind its two numbers
 pub record IsWritten (first : ℕ) (points : List Point) (i : ℕ) (bytes : List ℕ) : Type 0 where
@@ -40,3 +40,29 @@ pub written_all : (first : ℕ) (points : List Point) (i : ℕ) (bytes : List �
 written_all first points i bytes all so_far =
     so_far.items
     ∙ ap (λ ps. number_bytes 8 first ++ (number_bytes 2 (length points) ++ flat_map point_bytes ps)) (take_all i points all)
+
+-- one point more read
+pub points_in_more : (i : ℕ) (bytes : List ℕ) → points_in (i + 1) bytes ≡ points_in i bytes ++ point_at (drop (16 * i) bytes) ∷ []
+points_in_more zero bytes = refl
+points_in_more (suc i) bytes =
+    ap (λ n. points_in n bytes) (add-one (suc i))
+    ∙ ap (λ ps. point_at bytes ∷ ps) (ap (λ n. points_in n (drop 16 bytes)) (sym (add-one i)) ∙ points_in_more i (drop 16 bytes))
+    ∙ ap (λ l. point_at bytes ∷ (points_in i (drop 16 bytes) ++ point_at l ∷ []))
+    (drop-drop (16 * i) 16 bytes ∙ ap (λ n. drop n bytes) (omega arith))
+
+-- so many points begin where the others end
+pub points_behind : (i : ℕ) (bytes rest behind : List ℕ) → rest ≡ drop (16 * i) bytes → behind ≡ drop 16 rest
+    → behind ≡ drop (16 * (i + 1)) bytes
+points_behind i bytes rest behind is next =
+    next ∙ ap (drop 16) is ∙ drop-drop 16 (16 * i) bytes ∙ ap (λ n. drop n bytes) (omega arith)
+
+-- so many points are so many
+pub length-points_in : (n : ℕ) (bytes : List ℕ) → length (points_in n bytes) ≡ n
+length-points_in zero bytes = refl
+length-points_in (suc n) bytes = omega (arith, length-points_in n (drop 16 bytes))
+
+-- the first of more points
+pub take-points_in : (i n : ℕ) (bytes : List ℕ) → i ≤ n → take i (points_in n bytes) ≡ points_in i bytes
+take-points_in zero n bytes le = refl
+take-points_in (suc i) zero bytes le = absurd (omega (arith, le))
+take-points_in (suc i) (suc n) bytes le = ap (λ ps. point_at bytes ∷ ps) (take-points_in i n (drop 16 bytes) (omega (arith, le)))

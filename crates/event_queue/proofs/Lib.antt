@@ -1,3 +1,6 @@
 pub mod Rooms
 pub mod Batches
 pub mod SameLanes
+pub mod Rules
+pub mod Steps
+pub mod Taken

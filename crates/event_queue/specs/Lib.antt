@@ -3,3 +3,4 @@ pub mod Lanes
 pub mod Damages
 pub mod Places
 pub mod Scans
+pub mod Pieces

@@ -1,5 +1,6 @@
 -- What a scan answers of a lane.
-use Rattle.std.specs.Prelude.{◌≡◌, ◌≢◌, ◌↔◌, ℕ, ◌+◌, ◌*◌, ◌-◌, ◌<◌, ◌≤◌, true, IsTrue, List, [], length, slice_index}
+use Rattle.std.specs.Prelude.{◌≡◌, ◌≢◌, ◌⊎◌, ◌↔◌, ℕ, ◌+◌, ◌*◌, ◌-◌, ◌<◌, ◌≤◌, Bool, true, false, IsTrue, List}
+use Rattle.std.specs.Prelude.{[], length, slice_index}
 use Rattle.std.specs.List.{All}
 use Rattle.trend_num.specs.Ranges.{InRange}
 use Rattle.disk_model.specs.Gates.{open_byte, IsOpen}
@@ -24,3 +25,8 @@ pub record IsRead (slots taken : ℕ) (bytes : List ℕ) (n : ℕ) (s : Scanned)
   pub last : 0 < s.lane.used → IsOpen (gate_of (s.lane.used - 1)) bytes
   pub none_behind : (k : ℕ) → s.lane.used ≤ k → k < n → slice_index bytes (gate_of k) ≢ open_byte
   pub stale : IsTrue s.stale ↔ ((k : ℕ) × (k < n) × IsOpen (gate_of k) bytes × IsStale taken (batch_at slots bytes k))
+
+-- a batch with this first number may stand in slot k, behind what was read
+abbrev pub Fits : Scanned → ℕ → ℕ → Bool → Type 0
+Fits s k first true = (s.stale ≡ true) ⊎ (s.lane.used ≡ 0)
+Fits s k first false = (s.stale ≡ false) × (s.lane.used ≡ k) × (s.lane.next ≡ first)

@@ -11,13 +11,10 @@ ghost use Rattle.event_queue.specs.declared.failure.LaneNo.TheVariants.{LaneFull
 ghost use Rattle.event_queue.specs.Slots.{gate_of, place_of, batch_bytes};
 ghost use Rattle.event_queue.specs.Places.{HasRoom};
 
-use crate::slot::{SLOT_LEN, slot_bytes};
+use crate::slot::{FIRST_GATE, slot_bytes, slot_place};
 use crate::{DeviceFault, LaneNo};
 use disk_model::{Disk, close_gates, write_guarded};
 use trend_num::Point;
-
-// Where the gates begin.
-const FIRST_GATE: u64 = 400;
 
 /// A place in the lane of a tag's device.
 #[derive(Debug, Clone, Copy, PartialEq, Eq)]
@@ -68,20 +65,14 @@ impl Lane {
             return Err(LaneNo::LaneFull);
         }
         let bytes = slot_bytes(self.next, points);
+        let at = slot_place(self.slots, self.used);
         let gate = FIRST_GATE + u64::from(self.used);
-        let Ok(()) = write_guarded(dev, self.place(), &bytes, gate) else {
+        let Ok(()) = write_guarded(dev, at, &bytes, gate) else {
             return Err(LaneNo::DeviceFault);
         };
         self.used += 1;
         self.next += points.len() as u64;
         Ok(())
-    }
-
-    // Where the next slot begins.
-    fn place(&self) -> u64
-        ensures { result ≡ place_of self.now.slots self.now.used }
-    {
-        FIRST_GATE + u64::from(self.slots) + SLOT_LEN as u64 * u64::from(self.used)
     }
 
     /// Closes those gates of the used slots that read open, and syncs: the next batch is written into the first slot. What

@@ -1,17 +1,34 @@
-// The bytes of a slot.
-ghost use Rattle.std.specs.Prelude.{◌≡◌, ◌+◌, ◌≤◌, ◌++◌, length, take, drop};
+// The bytes of a slot, and where it stands.
+ghost use Rattle.std.specs.Prelude.{◌≡◌, ◌↔◌, ◌⊎◌, ◌+◌, ◌*◌, ◌<◌, ◌≤◌, ℕ, length, take, drop, min, IsTrue, IfSome, IfNone, OnOk, ◌++◌};
 ghost use Rattle.std.specs.Int.{w16, from_be_bytes};
-ghost use Rattle.event_queue.specs.Slots.{batch_bytes};
+ghost use Rattle.std.specs.List.{All};
+ghost use Rattle.trend_num.specs.Ranges.{InRange};
+ghost use Rattle.archive_file.specs.Fields.{point_at};
+ghost use Rattle.event_queue.specs.Slots.{gate_of, place_of, batch_bytes, points_in};
 
-use archive_file::{put, put_point};
+use archive_file::{put, put_point, take_point};
 use arrayvec::ArrayVec;
-use trend_num::Point;
+use std::alloc::AllocError;
+use trend_num::{Point, in_range};
 
 /// How many bytes a slot has.
 pub const SLOT_LEN: usize = 1034;
 
 /// How many raw values a batch has at most.
-pub const BATCH_MOST: usize = 64;
+pub const BATCH_MOST: u16 = 64;
+
+// Where the gates begin.
+pub(crate) const FIRST_GATE: u64 = 400;
+
+// How many bytes a point has.
+pub(crate) const POINT_LEN: usize = 16;
+
+// Where slot k begins, of so many.
+pub(crate) fn slot_place(slots: u32, k: u32) -> u64
+    ensures { result ≡ place_of slots k }
+{
+    FIRST_GATE + u64::from(slots) + SLOT_LEN as u64 * u64::from(k)
+}
 
 // The bytes of a batch: the number of its first raw value, how many there are, and their points.
 pub(crate) fn slot_bytes(first: u64, points: &[Point]) -> ArrayVec<u8, SLOT_LEN>
@@ -38,4 +55,41 @@ pub(crate) fn take_count(bytes: &[u8]) -> (u16, &[u8])
         unreachable!();
     };
     (u16::from_be_bytes(*count), rest)
+}
+
+// Which of so many points that stand one after the other is the first out of range.
+pub(crate) fn first_out_of_range(bytes: &[u8], count: usize) -> Option<usize>
+    requires { 16 * count ≤ length bytes.now }
+    ensures there { IfSome result (λ i. i < count) }
+    ensures before { IfSome result (λ i. All InRange (points_in i bytes.now)) }
+    ensures broken { IfSome result (λ i. InRange (point_at (drop (16 * i) bytes.now)) → ⊥) }
+    ensures none { IfNone result (All InRange (points_in count bytes.now)) }
+{
+    let mut rest = bytes;
+    for i in 0..count {
+        let (p, behind) = take_point(rest);
+        if !in_range(p) {
+            return Some(i);
+        }
+        rest = behind;
+    }
+    None
+}
+
+// Adds so many points that stand one after the other.
+pub(crate) fn add_points(
+    points: &mut Vec<Point>,
+    bytes: &[u8],
+    count: usize,
+) -> Result<(), AllocError>
+    requires { 16 * count ≤ length bytes.now }
+    ensures { OnOk result (points.new.items ≡ points.old.items ++ points_in count bytes.now) }
+{
+    let mut rest = bytes;
+    for _i in 0..count {
+        let (p, behind) = take_point(rest);
+        points.push(p)?;
+        rest = behind;
+    }
+    Ok(())
 }
