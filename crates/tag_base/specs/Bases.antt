@@ -1,5 +1,5 @@
 -- What the bytes of a base say.
-use Rattle.std.specs.Prelude.{◌≡◌, ◌≢◌, ◌×◌, ℕ, Bool, cond, List, [], ◌∷◌, length, map, nat_le, codes, Option, None, Some, option_and_then, option_map, Result, Ok, Err}
+use Rattle.std.specs.Prelude.{◌≡◌, ◌≢◌, ℕ, Bool, cond, List, [], ◌∷◌, length, map, nat_le, codes, Option, None, Some, option_and_then, option_map, Result, Ok, Err}
 use Rattle.toml.specs.Data.{Members}
 use Rattle.toml.specs.View.{table_view}
 use Rattle.trend_num.specs.declared.refusal.What.TheVariants.{Tags, Groups}

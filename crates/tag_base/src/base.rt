@@ -1,5 +1,5 @@
 // From bytes to a base.
-ghost use Rattle.std.specs.Prelude.{◌≡◌, ◌≢◌, ◌≤◌, ◌<◌, ◌×◌, map, length, vec_len, All, IfOk, option_map};
+ghost use Rattle.std.specs.Prelude.{◌≡◌, ◌≢◌, ◌≤◌, ◌<◌, map, length, vec_len, All, IfOk, option_map};
 ghost use Rattle.toml.specs.View.{table_view};
 ghost use Rattle.trend_num.specs.Ranges.{IsTuned};
 ghost use Rattle.tag_base.specs.Answers.{Answers};

@@ -1,5 +1,5 @@
 // The calculations of a group.
-ghost use Rattle.std.specs.Prelude.{◌≡◌, ◌≢◌, ◌^◌, ◌<◌, ◌≤◌, ◌×◌, ◌⊎◌, ℕ, [], map, length, vec_len, IfOk, IfErr, Err, option_map, bytes_eq};
+ghost use Rattle.std.specs.Prelude.{◌≡◌, ◌≢◌, ◌^◌, ◌<◌, ◌≤◌, ◌⊎◌, ℕ, [], map, length, vec_len, IfOk, IfErr, Err, option_map, bytes_eq};
 ghost use Rattle.std.specs.List.{list_any};
 ghost use Rattle.toml.specs.View.{table_view};
 ghost use Rattle.calc_eval.specs.Group.{calculation};

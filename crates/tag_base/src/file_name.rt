@@ -10,7 +10,7 @@ pub struct FileName {
 }
 
 impl Model for FileName {
-    ghost use Rattle.std.specs.Prelude.{ℕ, List, ◌<◌, ◌≤◌, ◌×◌, length, string_bytes};
+    ghost use Rattle.std.specs.Prelude.{ℕ, List, ◌<◌, ◌≤◌, length, string_bytes};
 
     ghost Value = { List ℕ };
 
