@@ -1,0 +1,33 @@
+-- What a text of a plant is answered: steps one after another, of which the first that fails decides.
+use Rattle.std.specs.Prelude.{◌≡◌, ◌≢◌, ℕ, ◌-◌, ◌^◌, min, Bool, true, false, Option, None, Some, Result, Ok, Err}
+use Rattle.tag_base.specs.declared.refusal.TextNo.{TextNo}
+use Rattle.tag_base.specs.declared.refusal.TextNo.TheVariants.{BadText, WantOfMemory}
+
+-- the table at a place breaks a rule. The place stays at the end of its type
+abbrev pub broken : ℕ → ℕ → TextNo
+broken rule place = BadText rule (min place (2 ^ 32 - 1)) 0
+
+-- on where a test holds
+abbrev pub when : {A : Type 0} → Bool → TextNo → Result A TextNo → Result A TextNo
+when false why answer = Err why
+when true why answer = answer
+
+-- on with a value, where there is one
+abbrev pub given : {A B : Type 0} → Option A → TextNo → (A → Result B TextNo) → Result B TextNo
+given None why answer = Err why
+given (Some a) why answer = answer a
+
+-- on with what came before
+abbrev pub after : {A B : Type 0} → Result A TextNo → (A → Result B TextNo) → Result B TextNo
+after (Err why) answer = Err why
+after (Ok a) answer = answer a
+
+-- the value that is answered, seen so, is the one that is due, or the refusal is; no memory may be found at any time
+abbrev pub Answers : {A B : Type 0} → (A → B) → Result A TextNo → Result B TextNo → Type 0
+Answers see (Ok a) due = due ≡ Ok (see a)
+Answers see (Err why) due = why ≢ WantOfMemory → due ≡ Err why
+
+-- what follows a step that may be refused
+abbrev pub Follows : {A B : Type 0} → Result A TextNo → (A → Result B TextNo → Type 0) → Result B TextNo → Type 0
+Follows (Err why) next answer = answer ≡ Err why
+Follows (Ok a) next answer = next a answer

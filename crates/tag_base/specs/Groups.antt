@@ -1,0 +1,198 @@
+-- What the tables of groups say.
+use Rattle.std.specs.Prelude.{◌≡◌, ◌≢◌, ◌⊎◌, ℕ, ◌+◌, Bool, true, cond, ◌&&◌, ◌||◌, List, [], ◌∷◌, ◌++◌, length, map, position, slice_get, codes, bytes_eq, string_bytes, nat_eq, nat_le, Option, None, Some, is_none, option_and_then, Result, Ok, Err, ⊤}
+use Rattle.std.specs.List.{list_any}
+use Rattle.toml.specs.Data.{Data, Items, Members, no_items, item, as_str}
+use Rattle.trend_num.specs.Ranges.{last_time}
+use Rattle.trend_num.specs.declared.refusal.What.TheVariants.{Calcs}
+use Rattle.trend_num.specs.declared.tag_def.TagDef.{TagDef}
+use Rattle.calc_parser.specs.declared.refusal.ParseNo.{ParseNo}
+use Rattle.calc_parser.specs.declared.refusal.ParseNo.TheVariants as parse_no
+use Rattle.calc_parser.specs.Formulas.{IsFormula, HasCause, most_bytes}
+use Rattle.calc_eval.specs.Group.{Calculation, Group, fault_of}
+use Rattle.tag_base.specs.declared.calculation.CalcText.{CalcText}
+use Rattle.tag_base.specs.declared.definition.GroupDef.{GroupDef}
+use Rattle.tag_base.specs.declared.group.GroupText.{GroupText}
+use Rattle.tag_base.specs.declared.input.Input.{Input}
+use Rattle.tag_base.specs.declared.refusal.TextNo.{TextNo}
+use Rattle.tag_base.specs.declared.refusal.TextNo.TheVariants.{BadText, Limit, WantOfMemory}
+use Rattle.tag_base.specs.Answers.{broken, when, given, Follows}
+use Rattle.tag_base.specs.Tables.{has_keys, name_at, number_at, string_at, array_at, tables_at}
+use Rattle.tag_base.specs.Tags.{tag_place}
+
+-- the most inputs, and the most calculations, of a group; the longest period in milliseconds
+abbrev pub most_inputs : ℕ
+most_inputs = 64
+
+abbrev pub most_calcs : ℕ
+most_calcs = 64
+
+abbrev pub longest_period : ℕ
+longest_period = 1000000000000
+
+-- ---- the text of a group
+
+-- a calculation: its name, and the text of its formula
+pub record CalcForm : Type 0 where
+  pub name : List ℕ
+  pub formula : List ℕ
+
+abbrev pub text_of : CalcText → CalcForm
+text_of text = record { name = text.name; formula = string_bytes text.formula }
+
+-- a group, of whose formulas only the texts are known
+pub record GroupForm : Type 0 where
+  pub name : List ℕ
+  pub inputs : List Input
+  pub start : ℕ
+  pub period : ℕ
+  pub calcs : List CalcForm
+
+abbrev pub form_of : GroupText → GroupForm
+form_of g = record { name = g.name; inputs = g.inputs.items; start = g.start; period = g.period; calcs = map text_of g.calcs.items }
+
+-- the place of the first group of a name
+abbrev pub group_place : List GroupDef → List ℕ → Option ℕ
+group_place groups name = position (λ g. bytes_eq g.name name) groups
+
+-- the name of a table, where it is one and no earlier group has it
+abbrev pub new_group_name : List GroupDef → Members → Option (List ℕ)
+new_group_name earlier ms =
+    option_and_then (λ name. cond (is_none (group_place earlier name)) (Some name) None) (name_at (codes "name") ms)
+
+-- the tag at a place as an input, where it is no step tag and no earlier input
+abbrev pub new_input : List TagDef → List Input → ℕ → Option Input
+new_input tags earlier place =
+    option_and_then (λ tag. cond (tag.step || list_any (λ i. nat_eq i.place place) earlier) None (Some (record { place = place; name = tag.name })))
+    (slice_get tags place)
+
+-- the input that a text names
+abbrev pub named_input : List TagDef → List Input → List ℕ → Option Input
+named_input tags earlier name = option_and_then (new_input tags earlier) (tag_place tags name)
+
+-- the inputs that items name, each a text, after some inputs
+abbrev pub inputs_after : List TagDef → List Input → Items → Option (List Input)
+inputs_after tags earlier no_items = Some earlier
+inputs_after tags earlier (item d ds) =
+    option_and_then (λ input. inputs_after tags (earlier ++ input ∷ []) ds) (option_and_then (named_input tags earlier) (as_str d))
+
+abbrev pub item_count : Items → ℕ
+item_count no_items = 0
+item_count (item d ds) = item_count ds + 1
+
+-- 1 to 64 inputs
+abbrev pub inputs_of : List TagDef → Items → Option (List Input)
+inputs_of tags items = cond (nat_le 1 (item_count items) && nat_le (item_count items) most_inputs) (inputs_after tags [] items) None
+
+abbrev pub inputs_at : List TagDef → Members → Option (List Input)
+inputs_at tags ms = option_and_then (inputs_of tags) (array_at (codes "tags") ms)
+
+-- a calculation of two texts, whose name no earlier one has
+abbrev pub calc_text : List CalcForm → Members → Option CalcForm
+calc_text earlier ms = cond (has_keys (codes "name" ∷ codes "formula" ∷ []) [] ms)
+    (option_and_then (λ name. option_and_then (λ formula.
+    cond (list_any (λ c. bytes_eq c.name name) earlier) None (Some (record { name = name; formula = formula })))
+    (string_at (codes "formula") ms)) (name_at (codes "name") ms))
+    None
+
+-- the calculations of tables, in order, after some calculations
+abbrev pub calcs_after : List CalcForm → List Members → Option (List CalcForm)
+calcs_after earlier [] = Some earlier
+calcs_after earlier (ms ∷ mss) = option_and_then (λ calc. calcs_after (earlier ++ calc ∷ []) mss) (calc_text earlier ms)
+
+-- one calculation or more
+abbrev pub calcs_of : List Members → Option (List CalcForm)
+calcs_of [] = None
+calcs_of (ms ∷ mss) = calcs_after [] (ms ∷ mss)
+
+abbrev pub calcs_at : Members → Option (List CalcForm)
+calcs_at ms = option_and_then calcs_of (tables_at (codes "calc") ms)
+
+abbrev pub group_keys : List (List ℕ)
+group_keys = codes "name" ∷ codes "tags" ∷ codes "start" ∷ codes "period" ∷ codes "calc" ∷ []
+
+-- the text of a group after some groups, by the rules of a group in their order: 6 its keys, 7 its name, 8 its inputs, 9
+-- its start and period, 10 its calculations; and then how many these are
+abbrev pub group_text : List TagDef → List GroupDef → Members → Result GroupForm TextNo
+group_text tags earlier ms =
+    when (has_keys group_keys [] ms) (broken 6 (length earlier))
+    (given (new_group_name earlier ms) (broken 7 (length earlier)) (λ name.
+    given (inputs_at tags ms) (broken 8 (length earlier)) (λ inputs.
+    given (number_at (codes "start") 0 last_time ms) (broken 9 (length earlier)) (λ start.
+    given (number_at (codes "period") 1 longest_period ms) (broken 9 (length earlier)) (λ period.
+    given (calcs_at ms) (broken 10 (length earlier)) (λ calcs.
+    when (nat_le (length calcs) most_calcs) (Limit Calcs (length calcs))
+    (Ok (record { name = name; inputs = inputs; start = start; period = period; calcs = calcs }))))))))
+
+-- ---- its calculations
+
+-- the calculations have the names of the texts, and the trees of their formulas
+abbrev pub Define : List CalcForm → List Calculation → Type 0
+Define [] [] = ⊤
+Define (text ∷ texts) (calc ∷ calcs) = (calc.name ≡ text.name) × IsFormula text.formula calc.tree × Define texts calcs
+Define texts calcs = ⊥
+
+-- what is told of a text that is refused as a formula
+abbrev pub told_of : ℕ → ParseNo → TextNo
+told_of place (parse_no.Long count) = BadText 11 place most_bytes
+told_of place (parse_no.Deep at) = BadText 11 place at
+told_of place (parse_no.Syntax at kind) = BadText 11 place at
+told_of place parse_no.WantOfMemory = WantOfMemory
+
+-- the first of the texts that is no formula is refused, and this is told of it
+pub record IsFirstRefused (place : ℕ) (texts : List CalcForm) (why : TextNo) : Type 0 where
+  pub front : List CalcForm
+  pub text : CalcForm
+  pub rest : List CalcForm
+  pub cut : texts ≡ front ++ text ∷ rest
+  pub calcs : List Calculation
+  pub good : Define front calcs
+  pub reason : ParseNo
+  pub cause : HasCause text.formula reason
+  pub told : why ≡ told_of place reason
+
+-- the texts are formulas, in which a name stands for nothing
+pub record IsFaulty (inputs : List (List ℕ)) (texts : List CalcForm) : Type 0 where
+  pub calcs : List Calculation
+  pub defined : Define texts calcs
+  pub fault : fault_of (record { inputs = inputs; calcs = calcs }) ≢ None
+
+-- the calculations of texts, in which each name stands for something
+pub record AreCalcs (inputs : List (List ℕ)) (texts : List CalcForm) (g : Group) : Type 0 where
+  pub inputs_are : g.inputs ≡ inputs
+  pub defined : Define texts g.calcs
+  pub known : fault_of g ≡ None
+
+-- what the calculations of the group at a place come to: rule 11 asks for formulas, and rule 12 for names
+abbrev pub CalcsRead : ℕ → List (List ℕ) → List CalcForm → Result Group TextNo → Type 0
+CalcsRead place inputs texts (Ok g) = AreCalcs inputs texts g
+CalcsRead place inputs texts (Err why) =
+    IsFirstRefused place texts why ⊎ ((why ≡ BadText 12 place 0) × IsFaulty inputs texts)
+
+-- ---- groups
+
+-- the group of a text with these calculations
+pub record IsGroup (text : GroupForm) (calcs : Group) (g : GroupDef) : Type 0 where
+  pub name : g.name ≡ text.name
+  pub inputs : g.inputs.items ≡ map (λ i. i.place) text.inputs
+  pub start : g.start ≡ text.start
+  pub period : g.period ≡ text.period
+  pub calcs_are : g.calcs ≡ calcs
+
+abbrev pub IsGroupAnswer : GroupForm → Group → Result GroupDef TextNo → Type 0
+IsGroupAnswer text calcs (Ok g) = IsGroup text calcs g
+IsGroupAnswer text calcs (Err why) = ⊥
+
+-- what the text of a group comes to, after so many groups
+abbrev pub TextRead : ℕ → GroupForm → Result GroupDef TextNo → Type 0
+TextRead place text answer = (calcs : Result Group TextNo)
+    × CalcsRead place (map (λ i. i.name) text.inputs) text.calcs calcs × Follows calcs (IsGroupAnswer text) answer
+
+-- what the table of a group comes to, after some groups
+abbrev pub GroupRead : List TagDef → List GroupDef → Members → Result GroupDef TextNo → Type 0
+GroupRead tags earlier ms answer = Follows (group_text tags earlier ms) (TextRead (length earlier)) answer
+
+-- what the tables of groups come to, in order, after some groups
+abbrev pub GroupsRead : List TagDef → List GroupDef → List Members → Result (List GroupDef) TextNo → Type 0
+GroupsRead tags earlier [] answer = answer ≡ Ok earlier
+GroupsRead tags earlier (ms ∷ mss) answer = (first : Result GroupDef TextNo)
+    × GroupRead tags earlier ms first × Follows first (λ g. GroupsRead tags (earlier ++ g ∷ []) mss) answer

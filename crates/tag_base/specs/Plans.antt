@@ -1,0 +1,108 @@
+-- What the bytes of a plan say.
+use Rattle.std.specs.Prelude.{ℕ, Bool, cond, ◌&&◌, List, [], ◌∷◌, ◌++◌, length, map, nat_eq, nat_le, codes, Option, None, Some, option_and_then, option_map, Result, Ok, Err}
+use Rattle.std.specs.List.{list_any}
+use Rattle.toml.specs.Data.{Members}
+use Rattle.toml.specs.View.{table_view}
+use Rattle.trend_num.specs.declared.refusal.What.{What}
+use Rattle.trend_num.specs.declared.refusal.What.TheVariants.{Collectors, Readers}
+use Rattle.tag_base.specs.declared.definition.GroupDef.{GroupDef}
+use Rattle.tag_base.specs.declared.plan.PlanTables.{PlanTables}
+use Rattle.tag_base.specs.declared.schedule.Refresher.{Refresher}
+use Rattle.tag_base.specs.declared.schedule.Plan.{Plan}
+use Rattle.tag_base.specs.declared.refusal.TextNo.{TextNo}
+use Rattle.tag_base.specs.declared.refusal.TextNo.TheVariants.{Limit}
+use Rattle.tag_base.specs.Answers.{broken, when, given, after}
+use Rattle.tag_base.specs.Tables.{document, has_keys, string_at, number_at, tables_if_there}
+use Rattle.tag_base.specs.Groups.{group_place}
+
+-- the most collectors, and the most readers, of a plan; the most turns of a refresher
+abbrev pub most_files : ℕ
+most_files = 16
+
+abbrev pub most_turns : ℕ
+most_turns = 1000
+
+-- a plan: the names of the files of its collectors and of its readers, and its refreshers
+pub record PlanParts : Type 0 where
+  pub collectors : List (List ℕ)
+  pub readers : List (List ℕ)
+  pub refreshers : List Refresher
+
+abbrev pub plan_parts : Plan → PlanParts
+plan_parts plan = record { collectors = plan.collectors.items; readers = plan.readers.items; refreshers = plan.refreshers.items }
+
+-- the tables of collectors, of readers and of refreshers
+pub record PlanForm : Type 0 where
+  pub collectors : List Members
+  pub readers : List Members
+  pub refreshers : List Members
+
+abbrev pub tables_of : PlanTables → PlanForm
+tables_of tables = record {
+  collectors = map (λ t. table_view t.now) tables.collectors.items;
+  readers = map (λ t. table_view t.now) tables.readers.items;
+  refreshers = map (λ t. table_view t.now) tables.refreshers.items;
+}
+
+abbrev pub plan_keys : List (List ℕ)
+plan_keys = codes "collector" ∷ codes "reader" ∷ codes "refresher" ∷ []
+
+-- the tables of a document whose keys are among these three
+abbrev pub plan_arrays : Members → Option PlanForm
+plan_arrays ms = cond (has_keys [] plan_keys ms)
+    (option_and_then (λ collectors. option_and_then (λ readers.
+    option_map (λ refreshers. record { collectors = collectors; readers = readers; refreshers = refreshers })
+    (tables_if_there (codes "refresher") ms)) (tables_if_there (codes "reader") ms)) (tables_if_there (codes "collector") ms))
+    None
+
+-- 1 to 255 bytes
+abbrev pub is_file_name : List ℕ → Bool
+is_file_name bytes = nat_le 1 (length bytes) && nat_le (length bytes) 255
+
+-- the name of the file of a table that has nothing else
+abbrev pub file_of : Members → Option (List ℕ)
+file_of ms = cond (has_keys (codes "file" ∷ []) [] ms)
+    (option_and_then (λ text. cond (is_file_name text) (Some text) None) (string_at (codes "file") ms)) None
+
+-- the files of tables, in order, after some files; each table is to keep this rule
+abbrev pub files_after : ℕ → List (List ℕ) → List Members → Result (List (List ℕ)) TextNo
+files_after rule earlier [] = Ok earlier
+files_after rule earlier (ms ∷ mss) =
+    given (file_of ms) (broken rule (length earlier)) (λ file. files_after rule (earlier ++ file ∷ []) mss)
+
+-- the group that a table names, where no earlier refresher has it
+abbrev pub new_group : List GroupDef → List Refresher → Members → Option ℕ
+new_group groups earlier ms =
+    option_and_then (λ place. cond (list_any (λ r. nat_eq r.group place) earlier) None (Some place))
+    (option_and_then (group_place groups) (string_at (codes "group") ms))
+
+-- the refresher of a table, after some refreshers
+abbrev pub refresher_of : List GroupDef → List Refresher → Members → Option Refresher
+refresher_of groups earlier ms = cond (has_keys (codes "group" ∷ codes "turns" ∷ []) [] ms)
+    (option_and_then (λ group. option_map (λ turns. record { group = group; turns = turns }) (number_at (codes "turns") 0 most_turns ms))
+    (new_group groups earlier ms))
+    None
+
+abbrev pub refreshers_after : List GroupDef → List Refresher → List Members → Result (List Refresher) TextNo
+refreshers_after groups earlier [] = Ok earlier
+refreshers_after groups earlier (ms ∷ mss) =
+    given (refresher_of groups earlier ms) (broken 5 (length earlier)) (λ r. refreshers_after groups (earlier ++ r ∷ []) mss)
+
+-- the tables of what was found in bytes: rule 1 asks for a document, rule 2 for its arrays; then how many collectors there are, and how many
+-- readers
+abbrev pub plan_tables : Option Members → Result PlanForm TextNo
+plan_tables found =
+    given found (broken 1 0) (λ ms.
+    given (plan_arrays ms) (broken 2 0) (λ tables.
+    when (nat_le (length tables.collectors) most_files) (Limit Collectors (length tables.collectors))
+    (when (nat_le (length tables.readers) most_files) (Limit Readers (length tables.readers))
+    (Ok tables))))
+
+-- the plan of bytes over the groups of a base: rule 3 is that of a collector, 4 that of a reader, 5 that of a refresher
+abbrev pub plan : List GroupDef → List ℕ → Result PlanParts TextNo
+plan groups bytes =
+    after (plan_tables (document bytes)) (λ tables.
+    after (files_after 3 [] tables.collectors) (λ collectors.
+    after (files_after 4 [] tables.readers) (λ readers.
+    after (refreshers_after groups [] tables.refreshers) (λ refreshers.
+    Ok (record { collectors = collectors; readers = readers; refreshers = refreshers })))))

@@ -1,0 +1,88 @@
+// From bytes to a base.
+ghost use Rattle.std.specs.Prelude.{◌≡◌, ◌≢◌, ◌≤◌, ◌<◌, map, length, vec_len, All, IfOk, option_map};
+ghost use Rattle.toml.specs.View.{table_view};
+ghost use Rattle.trend_num.specs.Ranges.{IsTuned};
+ghost use Rattle.tag_base.specs.Answers.{Answers};
+ghost use Rattle.tag_base.specs.Bases.{tables_of, base_arrays, base_tables, IsBaseAnswer};
+
+use crate::access::{has_keys, tables_at, tables_if_there};
+use crate::definition::Base;
+use crate::document::document;
+use crate::group::groups_of;
+use crate::refusal::{TextNo, broken};
+use crate::tag::tags_of;
+use std::alloc::Global;
+use toml::Table;
+use trend_num::{WantOfMemory, What};
+
+/// The most tags of a base.
+const MAX_TAGS: usize = 1024;
+
+/// The most groups of a base.
+const MAX_GROUPS: usize = 16;
+
+/// The tables of the tags and of the groups of a base.
+#[derive(Drop)]
+struct BaseTables<'t> {
+    tags: Vec<&'t Table>,
+    groups: Vec<&'t Table>,
+}
+
+/// The tables of a document with the keys `tag` and, at will, `group`, each an array of tables, the first not empty.
+fn base_arrays<'t>(alloc: Global, table: &'t Table) -> Result<Option<BaseTables<'t>>, WantOfMemory>
+    ensures { IfOk result (λ found. option_map tables_of found ≡ base_arrays (table_view table.now)) }
+{
+    if !has_keys(table, &["tag"], &["group"]) {
+        return Ok(None);
+    }
+    let Some(tags) = tables_at(alloc, table, "tag")? else {
+        return Ok(None);
+    };
+    if tags.is_empty() {
+        return Ok(None);
+    }
+    let Some(groups) = tables_if_there(alloc, table, "group")? else {
+        return Ok(None);
+    };
+    Ok(Some(BaseTables { tags, groups }))
+}
+
+/// The tables of the tags and of the groups, of which there are not too many.
+fn base_tables<'t>(alloc: Global, document: &'t Option<Table>) -> Result<BaseTables<'t>, TextNo>
+    ensures tables { Answers tables_of result (base_tables (option_map table_view document.now)) }
+    ensures few_tags { IfOk result (λ tables. vec_len tables.tags ≤ 1024) }
+    ensures few_groups { IfOk result (λ tables. vec_len tables.groups ≤ 16) }
+{
+    let Some(table) = document else {
+        return Err(broken(1, 0));
+    };
+    let Some(tables) = base_arrays(alloc, table)? else {
+        return Err(broken(2, 0));
+    };
+    if tables.tags.len() > MAX_TAGS {
+        return Err(TextNo::Limit {
+            what: What::Tags,
+            number: tables.tags.len() as u64,
+        });
+    }
+    if tables.groups.len() > MAX_GROUPS {
+        return Err(TextNo::Limit {
+            what: What::Groups,
+            number: tables.groups.len() as u64,
+        });
+    }
+    Ok(tables)
+}
+
+/// The base that bytes spell, or the first rule that they break, or the first count that is above its limit. The order is: that
+/// of the whole text, the counts of tags and of groups, each tag in turn, each group in turn.
+pub fn read_base(alloc: Global, bytes: &[u8]) -> Result<Base, TextNo>
+    ensures base { IsBaseAnswer bytes.now result }
+    ensures tuned { IfOk result (λ base. All (λ tag. IsTuned tag.tuning) base.tags.items) }
+{
+    let document = document(alloc, bytes)?;
+    let tables = base_tables(alloc, &document)?;
+    let tags = tags_of(alloc, &tables.tags)?;
+    let groups = groups_of(alloc, &tags, &tables.groups)?;
+    Ok(Base { tags, groups })
+}

@@ -1,0 +1,123 @@
+// The calculations of a group.
+ghost use Rattle.std.specs.Prelude.{◌≡◌, ◌≢◌, ◌^◌, ◌<◌, ◌≤◌, ◌⊎◌, ℕ, [], map, length, vec_len, IfOk, IfErr, Err, option_map, bytes_eq};
+ghost use Rattle.std.specs.List.{list_any};
+ghost use Rattle.toml.specs.View.{table_view};
+ghost use Rattle.calc_eval.specs.Group.{calculation};
+ghost use Rattle.tag_base.specs.Answers.{Answers};
+ghost use Rattle.tag_base.specs.Groups.{text_of, told_of, calc_text, calcs_after, calcs_at, Define, IsFirstRefused, CalcsRead};
+ghost use Rattle.tag_base.specs.declared.refusal.TextNo.TheVariants.{BadText, WantOfMemory};
+
+use crate::access::{has_keys, name_at, string_at, tables_at};
+use crate::refusal::TextNo;
+use calc_eval::{CalcDef, CheckNo, Checked, check};
+use calc_parser::{ParseNo, parse};
+use std::alloc::Global;
+use toml::Table;
+use trend_num::{Name, WantOfMemory, same_name};
+
+/// The most bytes of a formula.
+const MAX_FORMULA: u32 = 1024;
+
+/// A calculation of a group: its name, and the text of its formula.
+#[derive(Debug, Drop)]
+pub(crate) struct CalcText {
+    pub(crate) name: Name,
+    pub(crate) formula: String,
+}
+
+/// The calculation of a table, where it is two texts of which the first is a name that no earlier one has.
+fn calc_text(alloc: Global, earlier: &[CalcText], table: &Table) -> Result<Option<CalcText>, WantOfMemory>
+    ensures { IfOk result (λ found. option_map text_of found ≡ calc_text (map text_of earlier.now) (table_view table.now)) }
+{
+    if !has_keys(table, &["name", "formula"], &[]) {
+        return Ok(None);
+    }
+    let Some(name) = name_at(table, "name") else {
+        return Ok(None);
+    };
+    let Some(formula) = string_at(table, "formula") else {
+        return Ok(None);
+    };
+    if is_taken(earlier, &name) {
+        return Ok(None);
+    }
+    let formula = String::from_str(alloc, formula).map_err(|_| WantOfMemory)?;
+    Ok(Some(CalcText { name, formula }))
+}
+
+/// Whether a calculation has a name.
+fn is_taken(calcs: &[CalcText], name: &Name) -> bool
+    ensures { result ≡ list_any (λ c. bytes_eq c.name name.now) (map text_of calcs.now) }
+{
+    calcs.iter().any(|calc| calc.name.bytes() == name.bytes())
+}
+
+/// The calculations of tables.
+fn calcs_of(alloc: Global, tables: &[&Table]) -> Result<Option<Vec<CalcText>>, WantOfMemory>
+    ensures { IfOk result (λ found.
+        option_map (λ calcs. map text_of calcs.items) found ≡ calcs_after [] (map (λ t. table_view t.now) tables.now)) }
+{
+    let mut calcs = Vec::new(alloc);
+    for table in tables {
+        let Some(calc) = calc_text(alloc, &calcs, table)? else {
+            return Ok(None);
+        };
+        calcs.push(calc).map_err(|_| WantOfMemory)?;
+    }
+    Ok(Some(calcs))
+}
+
+/// The calculations of the table of a group, where there is one or more.
+pub(crate) fn calcs_at(alloc: Global, table: &Table) -> Result<Option<Vec<CalcText>>, WantOfMemory>
+    ensures { IfOk result (λ found. option_map (λ calcs. map text_of calcs.items) found ≡ calcs_at (table_view table.now)) }
+{
+    let Some(tables) = tables_at(alloc, table, "calc")? else {
+        return Ok(None);
+    };
+    if tables.is_empty() {
+        return Ok(None);
+    }
+    calcs_of(alloc, &tables)
+}
+
+/// The calculations that texts define, or where the first text that is no formula is refused.
+fn defs_of(alloc: Global, place: u32, texts: &[CalcText]) -> Result<Vec<CalcDef>, TextNo>
+    ensures defined { IfOk result (λ defs. Define (map text_of texts.now) (map calculation defs.items)) }
+    ensures as_many { IfOk result (λ defs. vec_len defs ≡ length texts.now) }
+    ensures refused { IfErr result (λ why. why ≢ WantOfMemory → IsFirstRefused place (map text_of texts.now) why) }
+{
+    let mut defs = Vec::new(alloc);
+    for text in texts {
+        let expr = match parse(alloc, text.formula.as_str()) {
+            Ok(expr) => expr,
+            Err(why) => return Err(refusal(place, why)),
+        };
+        let name = text.name;
+        defs.push(CalcDef { name, expr }).map_err(|_| TextNo::WantOfMemory)?;
+    }
+    Ok(defs)
+}
+
+/// What is told of a formula that is refused.
+fn refusal(place: u32, why: ParseNo) -> TextNo
+    ensures { result ≡ told_of place why }
+{
+    match why {
+        ParseNo::Long { .. } => TextNo::BadText { rule: 11, place, at: MAX_FORMULA },
+        ParseNo::Deep { at } | ParseNo::Syntax { at, .. } => TextNo::BadText { rule: 11, place, at },
+        ParseNo::WantOfMemory => TextNo::WantOfMemory,
+    }
+}
+
+/// The checked calculations of the group at a place, or why they are refused.
+pub(crate) fn checked(alloc: Global, place: u32, inputs: &[Name], texts: &[CalcText]) -> Result<Checked, TextNo>
+    requires { length texts.now ≤ 64 }
+    ensures { result ≢ Err WantOfMemory → CalcsRead place inputs.now (map text_of texts.now) result }
+{
+    let defs = defs_of(alloc, place, texts)?;
+    match check(alloc, inputs, defs) {
+        Ok(checked) => Ok(checked),
+        Err(CheckNo::WantOfMemory) => Err(TextNo::WantOfMemory),
+        Err(_) => Err(TextNo::BadText { rule: 12, place, at: 0 }),
+    }
+}

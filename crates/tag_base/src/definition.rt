@@ -1,0 +1,29 @@
+// What a base is.
+ghost use Rattle.std.specs.Prelude.{◌≤◌, vec_len};
+
+use calc_eval::Checked;
+use trend_num::{Name, TagDef};
+
+/// A group of calculations over tags, whose windows follow one another from a start on.
+#[derive(Drop)]
+pub struct GroupDef {
+    /// The name that no other group has.
+    pub name: Name,
+    /// The places of its tags in the base.
+    pub inputs: Vec<u32>,
+    /// When its first window begins, in milliseconds from 1970.
+    pub start: u64,
+    /// How long each window is, in milliseconds.
+    pub period: u64,
+    /// Its calculations, over the names of its tags.
+    pub calcs: Checked,
+}
+
+/// The tags of a plant, and the groups of its calculations.
+#[derive(Drop)]
+pub struct Base {
+    pub tags: Vec<TagDef>,
+    pub groups: Vec<GroupDef>,
+    ghost few_tags: { vec_len tags ≤ 1024 },
+    ghost few_groups: { vec_len groups ≤ 16 },
+}

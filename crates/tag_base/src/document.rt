@@ -1,0 +1,22 @@
+// The document that bytes are.
+ghost use Rattle.std.specs.Prelude.{◌≡◌, IfOk, option_map};
+ghost use Rattle.toml.specs.View.{table_view};
+ghost use Rattle.tag_base.specs.Tables.{document};
+
+use std::alloc::Global;
+use toml::Table;
+use trend_num::WantOfMemory;
+
+/// The document that bytes are, where they are one: UTF-8, and TOML as `toml` reads it, with its limit on nesting.
+pub(crate) fn document(alloc: Global, bytes: &[u8]) -> Result<Option<Table>, WantOfMemory>
+    ensures { IfOk result (λ found. option_map table_view found ≡ document bytes.now) }
+{
+    let Ok(text) = str::from_utf8(bytes) else {
+        return Ok(None);
+    };
+    match toml::table_from_str(alloc, text) {
+        Ok(table) => Ok(Some(table)),
+        Err(e) if e.is_memory() => Err(WantOfMemory),
+        Err(_) => Ok(None),
+    }
+}

@@ -1,0 +1,147 @@
+// The groups of a base.
+ghost use Rattle.std.specs.Prelude.{◌≡◌, ◌≢◌, ◌≤◌, ◌<◌, [], map, length, vec_len, Ok, Err, IfOk, IfErr, option_map};
+ghost use Rattle.toml.specs.View.{table_view};
+ghost use Rattle.tag_base.specs.Answers.{Answers};
+ghost use Rattle.tag_base.specs.Groups.{group_place, new_group_name, text_of, form_of, group_text, GroupRead, GroupsRead};
+ghost use Rattle.tag_base.specs.declared.refusal.TextNo.TheVariants.{WantOfMemory};
+
+use crate::access::{has_keys, name_at, number_at};
+use crate::calculation::{CalcText, calcs_at, checked};
+use crate::definition::GroupDef;
+use crate::input::{Input, inputs_at};
+use crate::refusal::{TextNo, broken};
+use std::alloc::Global;
+use toml::Table;
+use trend_num::{MAX_T, Name, TagDef, WantOfMemory, What};
+
+/// The most calculations of a group.
+const MAX_CALCS: usize = 64;
+
+/// The longest period, in milliseconds.
+const MAX_PERIOD: u64 = 1_000_000_000_000;
+
+/// A group, of whose formulas only the texts are known.
+#[derive(Debug, Drop)]
+struct GroupText {
+    name: Name,
+    inputs: Vec<Input>,
+    start: u64,
+    period: u64,
+    calcs: Vec<CalcText>,
+}
+
+/// The place of the first group of a name.
+pub(crate) fn group_place(groups: &[GroupDef], name: &[u8]) -> Option<usize>
+    ensures { result ≡ group_place groups.now name.now }
+{
+    groups.iter().position(|group| group.name.bytes() == name)
+}
+
+/// The name of a table, where it is one and no earlier group has it.
+fn new_group_name(earlier: &[GroupDef], table: &Table) -> Option<Name>
+    ensures { result ≡ new_group_name earlier.now (table_view table.now) }
+{
+    let name = name_at(table, "name")?;
+    if group_place(earlier, name.bytes()).is_some() {
+        return None;
+    }
+    Some(name)
+}
+
+/// The text of a group after some groups, or the first rule that its table breaks before its formulas are read.
+fn group_text(alloc: Global, tags: &[TagDef], earlier: &[GroupDef], table: &Table) -> Result<GroupText, TextNo>
+    requires { length tags.now ≤ 1024 }
+    ensures text { Answers form_of result (group_text tags.now earlier.now (table_view table.now)) }
+    ensures few { IfOk result (λ text. vec_len text.calcs ≤ 64) }
+{
+    if !has_keys(table, &["name", "tags", "start", "period", "calc"], &[]) {
+        return Err(broken(6, earlier.len()));
+    }
+    let Some(name) = new_group_name(earlier, table) else {
+        return Err(broken(7, earlier.len()));
+    };
+    let Some(inputs) = inputs_at(alloc, tags, table)? else {
+        return Err(broken(8, earlier.len()));
+    };
+    let Some(start) = number_at(table, "start", 0, MAX_T) else {
+        return Err(broken(9, earlier.len()));
+    };
+    let Some(period) = number_at(table, "period", 1, MAX_PERIOD) else {
+        return Err(broken(9, earlier.len()));
+    };
+    let Some(calcs) = calcs_at(alloc, table)? else {
+        return Err(broken(10, earlier.len()));
+    };
+    if calcs.len() > MAX_CALCS {
+        return Err(TextNo::Limit {
+            what: What::Calcs,
+            number: calcs.len() as u64,
+        });
+    }
+    Ok(GroupText {
+        name,
+        inputs,
+        start,
+        period,
+        calcs,
+    })
+}
+
+/// The places of inputs.
+fn places_of(alloc: Global, inputs: &[Input]) -> Result<Vec<u32>, WantOfMemory>
+    ensures { IfOk result (λ places. places.items ≡ map (λ i. i.place) inputs.now) }
+{
+    inputs
+        .iter()
+        .map(|input| input.place)
+        .collect(alloc)
+        .map_err(|_| WantOfMemory)
+}
+
+/// The names of inputs.
+fn names_of(alloc: Global, inputs: &[Input]) -> Result<Vec<Name>, WantOfMemory>
+    ensures { IfOk result (λ names. names.items ≡ map (λ i. i.name) inputs.now) }
+{
+    inputs
+        .iter()
+        .map(|input| input.name)
+        .collect(alloc)
+        .map_err(|_| WantOfMemory)
+}
+
+/// The group of a table after some groups, or the first rule that the table breaks.
+fn group_of(alloc: Global, tags: &[TagDef], earlier: &[GroupDef], table: &Table) -> Result<GroupDef, TextNo>
+    requires few_tags { length tags.now ≤ 1024 }
+    requires few_groups { length earlier.now ≤ 16 }
+    ensures { result ≢ Err WantOfMemory → GroupRead tags.now earlier.now (table_view table.now) result }
+{
+    let text = group_text(alloc, tags, earlier, table)?;
+    let inputs = places_of(alloc, &text.inputs)?;
+    let names = names_of(alloc, &text.inputs)?;
+    let calcs = checked(alloc, earlier.len() as u32, &names, &text.calcs)?;
+    Ok(GroupDef {
+        name: text.name,
+        inputs,
+        start: text.start,
+        period: text.period,
+        calcs,
+    })
+}
+
+/// The groups of tables, or the first rule that one breaks.
+pub(crate) fn groups_of(alloc: Global, tags: &[TagDef], tables: &[&Table]) -> Result<Vec<GroupDef>, TextNo>
+    requires few_tags { length tags.now ≤ 1024 }
+    requires few_groups { length tables.now ≤ 16 }
+    ensures groups { IfOk result (λ groups. GroupsRead tags.now [] (map (λ t. table_view t.now) tables.now) (Ok groups.items)) }
+    ensures refused { IfErr result (λ why. why ≢ WantOfMemory → GroupsRead tags.now [] (map (λ t. table_view t.now) tables.now) (Err why)) }
+    ensures as_many { IfOk result (λ groups. vec_len groups ≡ length tables.now) }
+{
+    let mut groups = Vec::new(alloc);
+    for table in tables {
+        match group_of(alloc, tags, &groups, table) {
+            Ok(group) => groups.push(group).map_err(|_| TextNo::WantOfMemory)?,
+            Err(why) => return Err(why),
+        }
+    }
+    Ok(groups)
+}

@@ -1,0 +1,170 @@
+// From bytes to a plan.
+ghost use Rattle.std.specs.Prelude.{◌≡◌, ◌≤◌, ◌<◌, [], map, length, IfOk, option_map};
+ghost use Rattle.toml.specs.View.{table_view};
+ghost use Rattle.tag_base.specs.Answers.{Answers};
+ghost use Rattle.tag_base.specs.Plans.{tables_of, plan_arrays, plan_tables, file_of, files_after, new_group, refresher_of, refreshers_after, plan_parts, plan};
+
+use crate::access::{has_keys, number_at, string_at, tables_if_there};
+use crate::definition::{Base, GroupDef};
+use crate::document::document;
+use crate::file_name::FileName;
+use crate::group::group_place;
+use crate::refusal::{TextNo, broken};
+use crate::schedule::{Plan, Refresher};
+use std::alloc::Global;
+use toml::Table;
+use trend_num::{WantOfMemory, What};
+
+/// The most collectors of a plan, and the most readers.
+const MAX_FILES: usize = 16;
+
+/// The most bytes of the name of a file.
+const MAX_NAME: usize = 255;
+
+/// The most turns of a refresher.
+const MAX_TURNS: u64 = 1000;
+
+/// The tables of the collectors, the readers and the refreshers of a plan.
+#[derive(Drop)]
+struct PlanTables<'t> {
+    collectors: Vec<&'t Table>,
+    readers: Vec<&'t Table>,
+    refreshers: Vec<&'t Table>,
+}
+
+/// The tables of a document whose keys are among these three, each an array of tables.
+fn plan_arrays<'t>(alloc: Global, table: &'t Table) -> Result<Option<PlanTables<'t>>, WantOfMemory>
+    ensures { IfOk result (λ found. option_map tables_of found ≡ plan_arrays (table_view table.now)) }
+{
+    if !has_keys(table, &[], &["collector", "reader", "refresher"]) {
+        return Ok(None);
+    }
+    let Some(collectors) = tables_if_there(alloc, table, "collector")? else {
+        return Ok(None);
+    };
+    let Some(readers) = tables_if_there(alloc, table, "reader")? else {
+        return Ok(None);
+    };
+    let Some(refreshers) = tables_if_there(alloc, table, "refresher")? else {
+        return Ok(None);
+    };
+    Ok(Some(PlanTables {
+        collectors,
+        readers,
+        refreshers,
+    }))
+}
+
+/// The tables of the collectors, the readers and the refreshers, of which the first two are not too many.
+fn plan_tables<'t>(alloc: Global, document: &'t Option<Table>) -> Result<PlanTables<'t>, TextNo>
+    ensures { Answers tables_of result (plan_tables (option_map table_view document.now)) }
+{
+    let Some(table) = document else {
+        return Err(broken(1, 0));
+    };
+    let Some(tables) = plan_arrays(alloc, table)? else {
+        return Err(broken(2, 0));
+    };
+    if tables.collectors.len() > MAX_FILES {
+        return Err(TextNo::Limit {
+            what: What::Collectors,
+            number: tables.collectors.len() as u64,
+        });
+    }
+    if tables.readers.len() > MAX_FILES {
+        return Err(TextNo::Limit {
+            what: What::Readers,
+            number: tables.readers.len() as u64,
+        });
+    }
+    Ok(tables)
+}
+
+/// The file of a table that names one and has nothing else.
+fn file_of(alloc: Global, table: &Table) -> Result<Option<FileName>, WantOfMemory>
+    ensures { IfOk result (λ found. found ≡ file_of (table_view table.now)) }
+{
+    if !has_keys(table, &["file"], &[]) {
+        return Ok(None);
+    }
+    let Some(text) = string_at(table, "file") else {
+        return Ok(None);
+    };
+    if text.is_empty() || text.len() > MAX_NAME {
+        return Ok(None);
+    }
+    let text = String::from_str(alloc, text).map_err(|_| WantOfMemory)?;
+    Ok(Some(FileName::new(text)))
+}
+
+/// The files of tables, or the first table that breaks the rule.
+fn files_of(alloc: Global, rule: u8, tables: &[&Table]) -> Result<Vec<FileName>, TextNo>
+    ensures { Answers (λ files. files.items) result (files_after rule [] (map (λ t. table_view t.now) tables.now)) }
+{
+    let mut files = Vec::new(alloc);
+    for table in tables {
+        let Some(file) = file_of(alloc, table)? else {
+            return Err(broken(rule, files.len()));
+        };
+        files.push(file).map_err(|_| TextNo::WantOfMemory)?;
+    }
+    Ok(files)
+}
+
+/// The place of the group that a table names, where no earlier refresher has it.
+fn new_group(groups: &[GroupDef], earlier: &[Refresher], table: &Table) -> Option<u32>
+    requires { length groups.now ≤ 16 }
+    ensures { result ≡ new_group groups.now earlier.now (table_view table.now) }
+{
+    let place = group_place(groups, string_at(table, "group")?.as_bytes())?;
+    if earlier.iter().any(|refresher| refresher.group == place as u32) {
+        return None;
+    }
+    Some(place as u32)
+}
+
+/// The refresher of a table, where the table names a group that no earlier refresher has, and 0 to 1,000 turns.
+fn refresher_of(groups: &[GroupDef], earlier: &[Refresher], table: &Table) -> Option<Refresher>
+    requires { length groups.now ≤ 16 }
+    ensures { result ≡ refresher_of groups.now earlier.now (table_view table.now) }
+{
+    if !has_keys(table, &["group", "turns"], &[]) {
+        return None;
+    }
+    let group = new_group(groups, earlier, table)?;
+    let turns = number_at(table, "turns", 0, MAX_TURNS)? as u32;
+    Some(Refresher { group, turns })
+}
+
+/// The refreshers of tables, or the first table that breaks the rule.
+fn refreshers_of(alloc: Global, groups: &[GroupDef], tables: &[&Table]) -> Result<Vec<Refresher>, TextNo>
+    requires { length groups.now ≤ 16 }
+    ensures { Answers (λ rs. rs.items) result (refreshers_after groups.now [] (map (λ t. table_view t.now) tables.now)) }
+{
+    let mut refreshers = Vec::new(alloc);
+    for table in tables {
+        let Some(refresher) = refresher_of(groups, &refreshers, table) else {
+            return Err(broken(5, refreshers.len()));
+        };
+        refreshers.push(refresher).map_err(|_| TextNo::WantOfMemory)?;
+    }
+    Ok(refreshers)
+}
+
+/// The plan that bytes spell over the groups of a base, or the first rule that they break, or the first count that is above its
+/// limit. The order is: that of the whole text, the counts of collectors and of readers, each collector in turn, each
+/// reader in turn, each refresher in turn.
+pub fn read_plan(alloc: Global, bytes: &[u8], base: &Base) -> Result<Plan, TextNo>
+    ensures { Answers plan_parts result (plan base.now.groups.items bytes.now) }
+{
+    let document = document(alloc, bytes)?;
+    let tables = plan_tables(alloc, &document)?;
+    let collectors = files_of(alloc, 3, &tables.collectors)?;
+    let readers = files_of(alloc, 4, &tables.readers)?;
+    let refreshers = refreshers_of(alloc, &base.groups, &tables.refreshers)?;
+    Ok(Plan {
+        collectors,
+        readers,
+        refreshers,
+    })
+}

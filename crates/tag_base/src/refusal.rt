@@ -1,0 +1,43 @@
+// Why a base or a plan is refused.
+ghost use Rattle.std.specs.Prelude.{◌≡◌};
+ghost use Rattle.tag_base.specs.Answers.{broken};
+
+use thiserror::Error;
+use trend_num::{WantOfMemory, What};
+
+/// Why a text is no base or no plan.
+#[derive(Debug, Clone, Copy, PartialEq, Eq, Error)]
+pub enum TextNo {
+    /// The table at `place`, counted from 0 in its own array, is the first that breaks a rule, and `rule` the first rule that it
+    /// breaks. Where the text as a whole breaks one, `place` is 0. `at` is the byte of a formula at which it is refused, else 0.
+    #[error("rule {rule} is broken at table {place}, byte {at}")]
+    BadText { rule: u8, place: u32, at: u32 },
+    /// There are more of these than there may be: so many.
+    #[error("too many of {what:?}: {number}")]
+    Limit { what: What, number: u64 },
+    /// There was no memory.
+    #[error("out of memory")]
+    WantOfMemory,
+}
+
+impl From<WantOfMemory> for TextNo {
+    ghost use Rattle.std.specs.Prelude.{◌≡◌};
+    ghost use Rattle.tag_base.specs.declared.refusal.TextNo.TheVariants.{WantOfMemory};
+
+    ghost from_gives = { λ _ why. why ≡ WantOfMemory };
+
+    fn from(_: WantOfMemory) -> TextNo {
+        TextNo::WantOfMemory
+    }
+}
+
+/// The refusal of the table at a place, which breaks a rule.
+pub(crate) fn broken(rule: u8, place: usize) -> TextNo
+    ensures { result ≡ broken rule place }
+{
+    TextNo::BadText {
+        rule,
+        place: u32::try_from(place).unwrap_or(u32::MAX),
+        at: 0,
+    }
+}

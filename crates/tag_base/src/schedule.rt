@@ -1,0 +1,19 @@
+// What a plan is.
+use crate::file_name::FileName;
+
+/// How often the calculations of a group are brought up to date.
+#[derive(Clone, Copy, Debug, PartialEq, Eq)]
+pub struct Refresher {
+    /// The place of the group in the base.
+    pub group: u32,
+    /// How many turns it takes.
+    pub turns: u32,
+}
+
+/// The files of the collectors and of the readers of a run, and the refreshers of its groups.
+#[derive(Debug, Drop)]
+pub struct Plan {
+    pub collectors: Vec<FileName>,
+    pub readers: Vec<FileName>,
+    pub refreshers: Vec<Refresher>,
+}
