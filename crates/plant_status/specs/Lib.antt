@@ -1,3 +1,4 @@
 pub mod Word
 pub mod Line
 pub mod Status
+pub mod Pass

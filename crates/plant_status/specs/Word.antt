@@ -1,10 +1,12 @@
--- The words that a line calls files, reasons and quantities by.
-use Rattle.std.specs.Prelude.{ℕ, ◌+◌, List, ◌++◌, codes}
+-- The words that a line calls files, units, reasons, quantities and bytes by.
+use Rattle.std.specs.Prelude.{ℕ, ◌+◌, ◌/◌, ◌%◌, cond, List, [], ◌∷◌, ◌++◌, codes, nat_lt, Option, None, Some}
 use Rattle.std.specs.Fmt.{decimal}
 use Rattle.trend_num.specs.declared.refusal.Reason.{Reason}
 use Rattle.trend_num.specs.declared.refusal.Reason.TheVariants.{Fields, Verb, Name, Number, Range}
 use Rattle.trend_num.specs.declared.refusal.What.{What}
 use Rattle.trend_num.specs.declared.refusal.What.TheVariants.{FileBytes, TextBytes, Rows, Tags, Collectors, Readers, Queries, Groups, Calcs, Records, StoreRecords, Copies, Cells}
+use Rattle.plant_status.specs.declared.unit.Unit.{Unit}
+use Rattle.plant_status.specs.declared.unit.Unit.TheVariants.{Tag, Group}
 use Rattle.plant_status.specs.declared.file.FileId.{FileId}
 use Rattle.plant_status.specs.declared.file.FileId.TheVariants.{Input, Base, Plan, Collector, Reader}
 
@@ -15,6 +17,20 @@ file_text Base = codes "base"
 file_text Plan = codes "plan"
 file_text (Collector n) = codes "collector " ++ decimal (n + 1)
 file_text (Reader n) = codes "reader " ++ decimal (n + 1)
+
+-- units are numbered from 0 in a base, and from 1 in a line
+abbrev pub unit_text : Unit → List ℕ
+unit_text (Tag n) = codes "tag " ++ decimal (n + 1)
+unit_text (Group n) = codes "group " ++ decimal (n + 1)
+
+-- the digit of a number below 16: `0` to `9`, `a` to `f`
+abbrev pub hex_digit : ℕ → ℕ
+hex_digit d = cond (nat_lt d 10) (48 + d) (87 + d)
+
+-- a byte as two digits, or the end where there is none
+abbrev pub byte_word : Option ℕ → List ℕ
+byte_word None = codes "end"
+byte_word (Some b) = hex_digit (b / 16) ∷ hex_digit (b % 16) ∷ []
 
 abbrev pub reason_word : Reason → List ℕ
 reason_word Fields = codes "fields"

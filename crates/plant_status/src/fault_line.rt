@@ -2,9 +2,11 @@
 ghost use Rattle.std.specs.Prelude.{◌≡◌, ◌+◌, ◌<◌, ◌≤◌, [], ◌++◌, length, codes};
 ghost use Rattle.std.specs.Fmt.{decimal};
 ghost use Rattle.plant_status.specs.Line.{IsPrintable, IsLine};
-ghost use Rattle.plant_status.specs.Word.{file_text};
+ghost use Rattle.plant_status.specs.Word.{byte_word, file_text, unit_text};
 
 use crate::file::FileId;
+use crate::unit::Unit;
+use crate::word::hex_digit;
 use arrayvec::ArrayString;
 use itoa::Buffer;
 use std::marker::Model;
@@ -78,6 +80,47 @@ impl Line {
     {
         let mut digits = Buffer::new();
         self.word(digits.format(number))
+    }
+
+    /// The same of a number of ten digits at most.
+    pub(crate) fn small(self, number: u32) -> Self
+        requires { length self + 10 < 120 }
+        ensures text { result ≡ self ++ codes " " ++ decimal number }
+        ensures short { length result ≤ length self + 11 }
+        ensures printable { IsPrintable self → IsPrintable result }
+    {
+        let mut digits = Buffer::new();
+        self.word(digits.format(number))
+    }
+
+    /// The line with a space and a tag or a group after it.
+    pub(crate) fn unit(self, unit: Unit) -> Self
+        requires { length self + 27 < 120 }
+        ensures text { result ≡ self ++ codes " " ++ unit_text unit }
+        ensures short { length result ≤ length self + 27 }
+        ensures printable { IsPrintable self → IsPrintable result }
+    {
+        match unit {
+            Unit::Tag(number) => self.word("tag").number(u64::from(number) + 1),
+            Unit::Group(number) => self.word("group").number(u64::from(number) + 1),
+        }
+    }
+
+    /// The line with a space and a byte after it, or `end` where there is none.
+    pub(crate) fn byte(self, byte: Option<u8>) -> Self
+        requires { length self + 3 < 120 }
+        ensures text { result ≡ self ++ codes " " ++ byte_word byte }
+        ensures short { length result ≤ length self + 4 }
+        ensures printable { IsPrintable self → IsPrintable result }
+    {
+        match byte {
+            None => self.word("end"),
+            Some(b) => {
+                let mut line = self.word(hex_digit(b / 16));
+                line.push(hex_digit(b % 16));
+                line
+            }
+        }
     }
 
     /// The line with a space and the name of a file after it.

@@ -4,16 +4,26 @@
 //! which row of which file, which file could not be read, or which limit was passed. A run that ended well prints
 //! no line, and neither does one that could not write. A line lies in an array of its own, so that it can be
 //! printed when there is no memory. Nothing here takes memory, and every status has its code and its line.
+//!
+//! A run whose two accounts of a session differ carries both values, with the `Place` at which they stand. `Pass` and `Passes`
+//! are what workers ask whether to go on; `OpenPasses` never stop one.
 #![tactic(auto)]
 
 mod fault_line;
 mod file;
+mod mismatch;
+mod pass;
 mod status;
 #[cfg(test)]
 mod tests;
+mod unit;
 mod word;
 
 pub use fault_line::Line;
 pub use file::FileId;
+pub use interp_read::TagQuery;
+pub use mismatch::{Place, Seen};
+pub use pass::{OpenPass, OpenPasses, Pass, Passes};
 pub use status::{Status, code, line};
-pub use trend_num::{Reason, What};
+pub use trend_num::{Point, Reason, Summary, TagDef, What};
+pub use unit::Unit;

@@ -5,8 +5,10 @@ ghost use Rattle.plant_status.specs.Status.{code_of, line_of, IsSilent};
 
 use crate::fault_line::Line;
 use crate::file::FileId;
+use crate::mismatch::{Place, Seen};
+use crate::unit::Unit;
 use crate::word::{reason_word, what_word};
-use trend_num::{Reason, What};
+use trend_num::{Reason, TagDef, What};
 
 /// The answer of the top call.
 #[derive(Clone, Copy, Debug, PartialEq, Eq)]
@@ -15,6 +17,14 @@ pub enum Status {
     Done,
     /// The words of the command line are not understood.
     BadWords,
+    /// The base or the plan breaks a rule first at this place: the number of a table from 0, and a place in a formula's text.
+    /// Both are 0 where the rule is of the whole text. The line prints all three as they are.
+    BadText {
+        file: FileId,
+        rule: u8,
+        place: u32,
+        at: u32,
+    },
     /// A row of a file is refused. The line prints `row` as it is.
     BadRow {
         file: FileId,
@@ -27,13 +37,41 @@ pub enum Status {
     },
     /// The output cannot be written.
     WriteFault,
+    /// A device failed.
+    DeviceFault {
+        unit: Unit,
+    },
+    /// A device's bytes break its layout first at this place; the byte there, or none where the device ends there.
+    Damaged {
+        unit: Unit,
+        at: u64,
+        byte: Option<u8>,
+    },
+    /// The device of a tag is that of another one, or of one of another kind.
+    OtherTag {
+        tag: u32,
+        found: TagDef,
+        wanted: TagDef,
+    },
     /// A quantity is over its limit. The line names both `what` and `number`.
     Limit {
         what: What,
         number: u64,
     },
+    /// What is kept of a session, or of a device's bytes, differs from what was told.
+    Mismatch {
+        place: Place,
+        kept: Seen,
+        told: Seen,
+    },
+    /// A worker was stopped by its pass. The line prints its number from 0.
+    Halted {
+        worker: u32,
+    },
     /// No memory was found.
     WantOfMemory,
+    /// The input has a form that is not built yet.
+    NotYet,
 }
 
 /// The exit code of a status.
@@ -43,11 +81,18 @@ pub fn code(status: &Status) -> u8
     match status {
         Status::Done => 0,
         Status::BadWords => 2,
+        Status::BadText { .. } => 3,
         Status::BadRow { .. } => 4,
         Status::ReadFault { .. } => 5,
         Status::WriteFault => 6,
+        Status::DeviceFault { .. } => 7,
+        Status::Damaged { .. } => 8,
+        Status::OtherTag { .. } => 9,
         Status::Limit { .. } => 10,
+        Status::Mismatch { .. } => 11,
+        Status::Halted { .. } => 12,
         Status::WantOfMemory => 13,
+        Status::NotYet => 14,
     }
 }
 
@@ -60,6 +105,12 @@ pub fn line(status: &Status) -> Line
     match *status {
         Status::Done | Status::WriteFault => Line::empty(),
         Status::BadWords => Line::fault("words").end(),
+        Status::BadText {
+            file,
+            rule,
+            place,
+            at,
+        } => bad_text(file, rule, place, at),
         Status::BadRow { file, row, reason } => {
             Line::fault("row")
                 .file(file)
@@ -72,6 +123,34 @@ pub fn line(status: &Status) -> Line
             .word(what_word(what))
             .number(number)
             .end(),
+        Status::DeviceFault { unit } => Line::fault("device").unit(unit).end(),
+        Status::Damaged { unit, at, byte } => {
+            Line::fault("damaged")
+                .unit(unit)
+                .number(at)
+                .byte(byte)
+                .end()
+        }
+        Status::OtherTag { tag, .. } => Line::fault("other").unit(Unit::Tag(tag)).end(),
+        Status::Mismatch { .. } => Line::fault("mismatch").end(),
+        Status::Halted { worker } => Line::fault("halted").number(u64::from(worker)).end(),
         Status::WantOfMemory => Line::fault("memory").end(),
+        Status::NotYet => Line::fault("notyet").end(),
     }
+}
+
+/// The line of a text that breaks a rule.
+fn bad_text(file: FileId, rule: u8, place: u32, at: u32) -> Line
+    ensures text { result ≡ line_of (Status.BadText file rule place at) }
+    ensures one_line { IsLine result }
+{
+    Line::fault("text")
+        .file(file)
+        .word("rule")
+        .small(u32::from(rule))
+        .word("place")
+        .small(place)
+        .word("at")
+        .small(at)
+        .end()
 }

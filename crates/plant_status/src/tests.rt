@@ -1,9 +1,28 @@
 // Each status with its code and line.
 use super::*;
+use std::process::Abort;
+use trend_num::{Tuning, name_from};
+
+/// A tag of the name `T1`.
+fn tag_def(rt: &impl Abort) -> TagDef {
+    let tuning = Tuning {
+        exc_dev: 0,
+        exc_max: 1,
+        comp_dev: 0,
+        comp_min: 0,
+        comp_max: 1,
+    };
+    TagDef {
+        name: name_from(b"T1").expect(rt, "T1 is a name"),
+        tuning,
+        step: false,
+    }
+}
 
 /// Each status with its exit code and its line, written out by hand.
 #[test]
 fn each_status_has_its_code_and_line(rt: HostRuntime) {
+    let tag = tag_def(&rt);
     for (status, want_code, want_line) in [
         (Status::Done, 0, ""),
         (Status::BadWords, 2, "fault: words\n"),
@@ -75,6 +94,81 @@ fn each_status_has_its_code_and_line(rt: HostRuntime) {
         ),
         (Status::WriteFault, 6, ""),
         (
+            Status::BadText {
+                file: FileId::Base,
+                rule: 5,
+                place: 1,
+                at: 0,
+            },
+            3,
+            "fault: text base rule 5 place 1 at 0\n",
+        ),
+        (
+            Status::BadText {
+                file: FileId::Collector(u32::MAX),
+                rule: u8::MAX,
+                place: u32::MAX,
+                at: u32::MAX,
+            },
+            3,
+            "fault: text collector 4294967296 rule 255 place 4294967295 at 4294967295\n",
+        ),
+        (
+            Status::DeviceFault { unit: Unit::Tag(0) },
+            7,
+            "fault: device tag 1\n",
+        ),
+        (
+            Status::DeviceFault {
+                unit: Unit::Group(u32::MAX),
+            },
+            7,
+            "fault: device group 4294967296\n",
+        ),
+        (
+            Status::Damaged {
+                unit: Unit::Tag(3),
+                at: 66639,
+                byte: None,
+            },
+            8,
+            "fault: damaged tag 4 66639 end\n",
+        ),
+        (
+            Status::Damaged {
+                unit: Unit::Group(0),
+                at: u64::MAX,
+                byte: Some(0x0a),
+            },
+            8,
+            "fault: damaged group 1 18446744073709551615 0a\n",
+        ),
+        (
+            Status::OtherTag {
+                tag: 1,
+                found: tag,
+                wanted: TagDef { step: true, ..tag },
+            },
+            9,
+            "fault: other tag 2\n",
+        ),
+        (
+            Status::Mismatch {
+                place: Place::Version { group: 0, input: 0 },
+                kept: Seen::Number(2),
+                told: Seen::Number(3),
+            },
+            11,
+            "fault: mismatch\n",
+        ),
+        (Status::Halted { worker: 0 }, 12, "fault: halted 0\n"),
+        (
+            Status::Halted { worker: u32::MAX },
+            12,
+            "fault: halted 4294967295\n",
+        ),
+        (Status::NotYet, 14, "fault: notyet\n"),
+        (
             Status::Limit {
                 what: What::FileBytes,
                 number: 16777216,
@@ -132,4 +226,39 @@ fn each_quantity_has_its_word(rt: HostRuntime) {
             want.as_bytes()
         );
     }
+}
+
+/// Each digit of a damaged byte, in both places.
+#[test]
+fn a_byte_has_two_digits(rt: HostRuntime) {
+    for (byte, want) in [
+        (0x00, "fault: damaged tag 1 0 00\n"),
+        (0x19, "fault: damaged tag 1 0 19\n"),
+        (0x82, "fault: damaged tag 1 0 82\n"),
+        (0x37, "fault: damaged tag 1 0 37\n"),
+        (0x64, "fault: damaged tag 1 0 64\n"),
+        (0x5a, "fault: damaged tag 1 0 5a\n"),
+        (0xab, "fault: damaged tag 1 0 ab\n"),
+        (0xcd, "fault: damaged tag 1 0 cd\n"),
+        (0xef, "fault: damaged tag 1 0 ef\n"),
+        (0xff, "fault: damaged tag 1 0 ff\n"),
+    ] {
+        let status = Status::Damaged {
+            unit: Unit::Tag(0),
+            at: 0,
+            byte: Some(byte),
+        };
+        assert_eq!(rt; line(&status).bytes(), want.as_bytes());
+    }
+}
+
+/// Open passes never stop a worker, and nothing is counted.
+#[test]
+fn open_passes_stay_open(rt: HostRuntime) {
+    let mut passes = OpenPasses;
+    let mut one = passes.hand(7);
+    for step in [0, 1, u64::MAX] {
+        assert!(rt; one.pass(step));
+    }
+    passes.give_back(one);
 }

@@ -1,9 +1,35 @@
-//! The words that a line calls reasons and quantities by.
-ghost use Rattle.std.specs.Prelude.{◌≡◌, ◌≤◌, length};
+// The words that a line calls reasons, quantities and digits by.
+ghost use Rattle.std.specs.Prelude.{◌≡◌, ◌<◌, ◌≤◌, [], ◌∷◌, length};
 ghost use Rattle.plant_status.specs.Line.{IsPrintable};
-ghost use Rattle.plant_status.specs.Word.{reason_word, what_word};
+ghost use Rattle.plant_status.specs.Word.{hex_digit, reason_word, what_word};
 
 use trend_num::{Reason, What};
+
+/// The digit of a number below 16.
+pub(crate) fn hex_digit(digit: u8) -> &'static str
+    requires { digit < 16 }
+    ensures digit { result.now ≡ hex_digit digit ∷ [] }
+    ensures printable { IsPrintable result.now }
+{
+    match digit {
+        0 => "0",
+        1 => "1",
+        2 => "2",
+        3 => "3",
+        4 => "4",
+        5 => "5",
+        6 => "6",
+        7 => "7",
+        8 => "8",
+        9 => "9",
+        10 => "a",
+        11 => "b",
+        12 => "c",
+        13 => "d",
+        14 => "e",
+        _ => "f",
+    }
+}
 
 /// The word of a reason.
 pub(crate) fn reason_word(reason: Reason) -> &'static str

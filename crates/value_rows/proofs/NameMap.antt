@@ -1,7 +1,8 @@
 -- Places of names in a map: each name more is put where it is not there.
-use Rattle.std.proofs.Common.{◌≡◌, ℕ, ◌+◌, ◌<◌, Bool, true, false, cond, List, [], ◌∷◌, ◌++◌, Option, Some, None, length, take, get_or, refl, sym, ap, ◌∙◌, add-zero, arith, Bor}
+use Rattle.std.proofs.Common.{IfSome, ◌≡◌, ℕ, ◌+◌, ◌<◌, Bool, true, false, cond, List, [], ◌∷◌, ◌++◌, Option, Some, None, length, take, get_or, refl, sym, ap, ◌∙◌, add-zero, arith, Bor}
 use Rattle.std.proofs.lemmas.List.{take_more, length-take-le}
 use Rattle.std.proofs.lemmas.Iterator.Adapters.{position_from-zero}
+use Rattle.std.proofs.lemmas.List.Quantifiers.{position-Some}
 use Rattle.std.proofs.lemmas.Map.Text.{btree_map_updates_str}
 use Rattle.std.proofs.lemmas.Slice.Eq.{bytes_eq-Decides}
 use Rattle.std.specs.BTreeMap.{BTreeMap, UpdatesBy, get_by}
@@ -86,3 +87,8 @@ put_next m n names i name below here are gone updates q =
         let again : bytes_eq q name ≡ true = (bytes_eq-Decides q name).1 (sym one) in
         absurd (cc)
     same false false differs back = option_or-None (place_of (take i names) q) ∙ sym (are q)
+
+-- a place is one of the names'
+pub place_within : (names : List (List ℕ)) (name : List ℕ) (o : Option ℕ) → o ≡ place_of names name → IfSome o (λ i. i < length names)
+place_within names name None is = tt
+place_within names name (Some i) is = (position-Some (bytes_eq name) names i [] (sym is)).0

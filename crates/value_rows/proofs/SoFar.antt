@@ -1,6 +1,7 @@
 -- The rows that were read so far, and what the rows of the whole text then are.
-use Rattle.std.proofs.Common.{◌≡◌, ℕ, ◌+◌, ◌<◌, ◌≤◌, Bool, true, false, List, [], ◌∷◌, ◌++◌, Result, Ok, Err, length, map, refl, sym, ap, ◌∙◌, append_assoc, length-append, arith, Bor}
+use Rattle.std.proofs.Common.{All, ◌≡◌, ℕ, ◌+◌, ◌<◌, ◌≤◌, Bool, true, false, List, [], ◌∷◌, ◌++◌, Result, Ok, Err, length, map, refl, sym, ap, ◌∙◌, append_assoc, length-append, arith, Bor}
 use Rattle.std.proofs.lemmas.List.{append-nil, map-append}
+use Rattle.std.proofs.lemmas.List.Elements.{All-push}
 use Rattle.csv.specs.declared.reader.Reader.{Reader}
 use Rattle.trend_num.specs.declared.refusal.Reason.{Reason}
 use Rattle.point_text.specs.declared.failure.RowNo.TheVariants.{BadRow, TooMany}
@@ -13,22 +14,24 @@ abbrev pub Reads : Type 0 → Type 0
 Reads R = List (List ℕ) → Result R Reason
 
 -- of records that read so, these rows were read, as many as told and no more than there may be; the reader has the others left
-pub record AreSoFar {R : Type 0} (row_of : Reads R) (all : List (Result R Reason)) (most : ℕ) (r : Reader (Bor (List ℕ))) (rows : List R) (count : ℕ) : Type 0 where
+pub record AreSoFar {R : Type 0} (P : R → Type 0) (row_of : Reads R) (all : List (Result R Reason)) (most : ℕ) (r : Reader (Bor (List ℕ))) (rows : List R) (count : ℕ) : Type 0 where
   pub left : List (List (List ℕ))
   pub stands : HasLeft r left
   pub split : all ≡ all_read rows ++ map row_of left
   pub counted : length rows ≡ count
   pub few : count ≤ most
+  pub each : All P rows
 
 -- before the first read
-pub none_so_far : {R : Type 0} (row_of : Reads R) (records : List (List (List ℕ))) (most : ℕ) (r : Reader (Bor (List ℕ))) (rows : List R)
-    → HasLeft r records → rows ≡ [] → AreSoFar row_of (map row_of records) most r rows 0
-none_so_far row_of records most r rows has none = record {
+pub none_so_far : {R : Type 0} (P : R → Type 0) (row_of : Reads R) (records : List (List (List ℕ))) (most : ℕ) (r : Reader (Bor (List ℕ))) (rows : List R)
+    → HasLeft r records → rows ≡ [] → AreSoFar P row_of (map row_of records) most r rows 0
+none_so_far P row_of records most r rows has none = record {
   left = records;
   stands = has;
   split = rw none refl;
   counted = ap length none;
   few = omega arith;
+  each = rw none (λ k d below. absurd (omega arith));
 }
 
 -- the end of the text
@@ -57,10 +60,10 @@ bad_so_far row_of all most count left rest fields rows reason split counted room
     ∙ ap (λ n. Err (BadRow (n + 1) reason)) counted
 
 -- a good record
-pub one_more : {R : Type 0} (row_of : Reads R) (all : List (Result R Reason)) (most count : ℕ) (r : Reader (Bor (List ℕ))) (left rest : List (List (List ℕ)))
+pub one_more : {R : Type 0} (P : R → Type 0) (row_of : Reads R) (all : List (Result R Reason)) (most count : ℕ) (r : Reader (Bor (List ℕ))) (left rest : List (List (List ℕ)))
     (fields : List (List ℕ)) (rows after : List R) (row : R) → all ≡ all_read rows ++ map row_of left → length rows ≡ count → count < most
-    → left ≡ fields ∷ rest → row_of fields ≡ Ok row → after ≡ rows ++ row ∷ [] → HasLeft r rest → AreSoFar row_of all most r after (count + 1)
-one_more row_of all most count r left rest fields rows after row split counted room next good more has = record {
+    → left ≡ fields ∷ rest → row_of fields ≡ Ok row → after ≡ rows ++ row ∷ [] → HasLeft r rest → All P rows → P row → AreSoFar P row_of all most r after (count + 1)
+one_more P row_of all most count r left rest fields rows after row split counted room next good more has each is_row = record {
   left = rest;
   stands = has;
   split = split ∙ ap (λ l. all_read rows ++ map row_of l) next ∙ ap (λ r. all_read rows ++ r ∷ map row_of rest) good
@@ -68,6 +71,7 @@ one_more row_of all most count r left rest fields rows after row split counted r
       ∙ ap (λ l. l ++ map row_of rest) (sym (map-append (λ r. Ok r) rows (row ∷ [])) ∙ ap all_read (sym more));
   counted = ap length more ∙ omega (arith, length-append rows (row ∷ []));
   few = omega arith;
+  each = rw more (All-push P rows row each is_row);
 }
 
 -- a read that found no record, and one that found one

@@ -1,5 +1,5 @@
 -- The rows of a reader: a verb, and what it asks of a tag or of a group.
-use Rattle.std.specs.Prelude.{ℕ, cond, List, [], ◌∷◌, Option, None, Some, nat_le, nat_lt, codes, position, slice_get, Result, Ok, Err}
+use Rattle.std.specs.Prelude.{ℕ, ◌<◌, ◌≤◌, cond, List, [], ◌∷◌, Option, None, Some, nat_le, nat_lt, codes, length, position, slice_get, Result, Ok, Err}
 use Rattle.std.specs.Map.{lookup}
 use Rattle.std.specs.Option.{ok_or, option_map_or}
 use Rattle.std.specs.Str.{bytes_eq}
@@ -9,6 +9,7 @@ use Rattle.trend_num.specs.declared.refusal.Reason.{Reason}
 use Rattle.trend_num.specs.declared.refusal.Reason.TheVariants.{Fields, Verb, Name, Number, Range}
 use Rattle.trend_num.specs.Numerals.{numeral, natural_upto}
 use Rattle.trend_num.specs.Ranges.{last_time}
+use Rattle.interp_read.specs.declared.query.TagQuery.{TagQuery}
 use Rattle.interp_read.specs.declared.query.TagQuery.TheVariants.{At, Points, Window}
 use Rattle.point_text.specs.declared.failure.RowNo.{RowNo}
 use Rattle.value_rows.specs.declared.asked.GroupNames.{GroupNames}
@@ -124,6 +125,18 @@ query_row tags groups (verb ∷ a ∷ []) = one_field tags (verb_of verb) a
 query_row tags groups (verb ∷ a ∷ b ∷ []) = two_fields tags (verb_of verb) a b
 query_row tags groups (verb ∷ a ∷ b ∷ c ∷ []) = three_fields tags groups (verb_of verb) a b c
 query_row tags groups fields = Err Fields
+
+-- a question of times in range, of which the second is not before the first, or is after it
+abbrev pub IsTagQuery : TagQuery → Type 0
+IsTagQuery (At t) = t ≤ last_time
+IsTagQuery (Points start end) = (start ≤ end) × (end ≤ last_time)
+IsTagQuery (Window m start end) = (start < end) × (end ≤ last_time)
+
+-- a query of a tag, or of a group and a calculation, that are there
+abbrev pub IsQuery : List (List ℕ) → List GroupNames → Query → Type 0
+IsQuery tags groups (Tag tag query) = (tag < length tags) × IsTagQuery query
+IsQuery tags groups (Snap tag) = tag < length tags
+IsQuery tags groups (Row group calc k) = (group < length groups) × (calc < length (calcs_at groups group)) × (k ≤ last_window)
 
 -- the queries of a text, of at most `most` records
 abbrev pub query_rows : List (List ℕ) → List GroupNames → ℕ → List ℕ → Result (List Query) RowNo

@@ -1,10 +1,11 @@
 -- The rows of a collector: a tag, a time and a value.
-use Rattle.std.specs.Prelude.{ℕ, List, [], ◌∷◌, Option, None, Some, position, Result, Ok, Err}
+use Rattle.std.specs.Prelude.{ℕ, ◌<◌, List, [], ◌∷◌, Option, None, Some, length, position, Result, Ok, Err}
 use Rattle.std.specs.Str.{bytes_eq}
 use Rattle.trend_num.specs.declared.point.Point.{Point}
 use Rattle.trend_num.specs.declared.refusal.Reason.{Reason}
 use Rattle.trend_num.specs.declared.refusal.Reason.TheVariants.{Fields, Name}
 use Rattle.trend_num.specs.Numerals.{numeral}
+use Rattle.trend_num.specs.Ranges.{InRange}
 use Rattle.point_text.specs.Row.{point_read}
 use Rattle.point_text.specs.declared.failure.RowNo.{RowNo}
 use Rattle.value_rows.specs.declared.raw.RawRow.{RawRow}
@@ -27,6 +28,11 @@ row_of_tag (Some tag) read = row_at tag read
 abbrev pub raw_row : List (List ℕ) → List (List ℕ) → Result RawRow Reason
 raw_row tags (tag ∷ t ∷ v ∷ []) = row_of_tag (place_of tags tag) (point_read (numeral t) (numeral v))
 raw_row tags fields = Err Fields
+
+-- a row of a tag that is there, with a point in range
+pub record IsRawRow (tags : List (List ℕ)) (row : RawRow) : Type 0 where
+  pub tag : row.tag < length tags
+  pub point : InRange row.point
 
 -- the rows of a text, of at most `most` records
 abbrev pub raw_rows : List (List ℕ) → ℕ → List ℕ → Result (List RawRow) RowNo

@@ -1,7 +1,8 @@
 // The rows of a reader.
-ghost use Rattle.std.specs.Prelude.{◌≡◌, ◌<◌, ◌^◌, All, length, vec_len, Ok, IfOk, IfErr, IfSome};
+ghost use Rattle.std.specs.Prelude.{◌≡◌, ◌<◌, ◌^◌, ◌≤◌, All, length, vec_len, Ok, IfOk, IfErr, IfSome};
 ghost use Rattle.csv.specs.Records.{fields_of};
-ghost use Rattle.value_rows.specs.Asked.{query_row, query_rows, group_place, calcs_at, snap_row, at_row, span_of, points_row, window_row, calc_row, one_field, two_fields, three_fields};
+ghost use Rattle.trend_num.specs.Ranges.{last_time};
+ghost use Rattle.value_rows.specs.Asked.{IsQuery, query_row, query_rows, group_place, calcs_at, snap_row, at_row, span_of, points_row, window_row, calc_row, one_field, two_fields, three_fields};
 ghost use Rattle.value_rows.specs.Raw.{place_of};
 ghost use Rattle.value_rows.specs.Reading.{AreRefusedFor};
 
@@ -51,6 +52,7 @@ pub fn query_rows(
     requires few_groups { length groups.now < 2 ^ 32 }
     requires few_calcs { All (λ g. vec_len g.calcs < 2 ^ 32) groups.now }
     ensures rows { IfOk result (λ rows. query_rows tags.now groups.now most bytes.now ≡ Ok rows.items) }
+    ensures in_range { IfOk result (λ rows. All (IsQuery tags.now groups.now) rows.items) }
     ensures refused { IfErr result (AreRefusedFor (query_rows tags.now groups.now most bytes.now)) }
 {
     match Places::new(alloc, tags) {
@@ -73,6 +75,8 @@ impl<'n> Form for QueryForm<'n> {
 
     ghost row_of = { λ form. query_row form.tags form.groups.now };
 
+    ghost is_row = { λ form. IsQuery form.tags form.groups.now };
+
     fn read(&self, row: &ByteRecord) -> Result<Query, Reason> {
         match fields_in(row) {
             Fields::Two(verb, a) => self.one_field(verb_of(verb), a),
@@ -86,7 +90,8 @@ impl<'n> Form for QueryForm<'n> {
 impl<'n> QueryForm<'n> {
     /// What a verb asks of one further field.
     fn one_field(&self, verb: Option<Verb>, a: &[u8]) -> Result<Query, Reason>
-        ensures { result ≡ one_field self.now.tags verb a.now }
+        ensures query { result ≡ one_field self.now.tags verb a.now }
+        ensures is_query { IfOk result (IsQuery self.now.tags self.now.groups.now) }
     {
         match verb {
             Some(Verb::Snap) => self.snap(a),
@@ -97,7 +102,8 @@ impl<'n> QueryForm<'n> {
 
     /// What it asks of two.
     fn two_fields(&self, verb: Option<Verb>, a: &[u8], b: &[u8]) -> Result<Query, Reason>
-        ensures { result ≡ two_fields self.now.tags verb a.now b.now }
+        ensures query { result ≡ two_fields self.now.tags verb a.now b.now }
+        ensures is_query { IfOk result (IsQuery self.now.tags self.now.groups.now) }
     {
         match verb {
             Some(Verb::At) => self.at(a, b),
@@ -114,7 +120,8 @@ impl<'n> QueryForm<'n> {
         b: &[u8],
         c: &[u8],
     ) -> Result<Query, Reason>
-        ensures { result ≡ three_fields self.now.tags self.now.groups.now verb a.now b.now c.now }
+        ensures query { result ≡ three_fields self.now.tags self.now.groups.now verb a.now b.now c.now }
+        ensures is_query { IfOk result (IsQuery self.now.tags self.now.groups.now) }
     {
         match verb {
             Some(Verb::Points) => self.points(a, b, c),
@@ -128,7 +135,8 @@ impl<'n> QueryForm<'n> {
     /// `snap,TAG`.
     #[tactic(auto, unfolding(crate::specs::Asked::snap_row))]
     fn snap(&self, tag: &[u8]) -> Result<Query, Reason>
-        ensures { result ≡ snap_row self.now.tags tag.now }
+        ensures query { result ≡ snap_row self.now.tags tag.now }
+        ensures is_query { IfOk result (IsQuery self.now.tags self.now.groups.now) }
     {
         let tag = self.tags.place(tag).ok_or(Reason::Name)?;
         Ok(Query::Snap { tag })
@@ -137,7 +145,8 @@ impl<'n> QueryForm<'n> {
     /// `at,TAG,T`.
     #[tactic(auto, unfolding(crate::specs::Asked::at_row))]
     fn at(&self, tag: &[u8], t: &[u8]) -> Result<Query, Reason>
-        ensures { result ≡ at_row self.now.tags tag.now t.now }
+        ensures query { result ≡ at_row self.now.tags tag.now t.now }
+        ensures is_query { IfOk result (IsQuery self.now.tags self.now.groups.now) }
     {
         let tag = self.tags.place(tag).ok_or(Reason::Name)?;
         let t = numeral(t).ok_or(Reason::Number)?;
@@ -150,7 +159,8 @@ impl<'n> QueryForm<'n> {
 
     /// `points,TAG,FROM,TO`.
     fn points(&self, tag: &[u8], from: &[u8], to: &[u8]) -> Result<Query, Reason>
-        ensures { result ≡ points_row self.now.tags tag.now from.now to.now }
+        ensures query { result ≡ points_row self.now.tags tag.now from.now to.now }
+        ensures is_query { IfOk result (IsQuery self.now.tags self.now.groups.now) }
     {
         let (tag, from, to) = self.span(tag, from, to)?;
         if from <= to {
@@ -165,7 +175,8 @@ impl<'n> QueryForm<'n> {
 
     /// `MEASURE,TAG,FROM,TO`.
     fn window(&self, measure: Measure, tag: &[u8], from: &[u8], to: &[u8]) -> Result<Query, Reason>
-        ensures { result ≡ window_row self.now.tags measure tag.now from.now to.now }
+        ensures query { result ≡ window_row self.now.tags measure tag.now from.now to.now }
+        ensures is_query { IfOk result (IsQuery self.now.tags self.now.groups.now) }
     {
         let (tag, from, to) = self.span(tag, from, to)?;
         if from < to {
@@ -181,7 +192,9 @@ impl<'n> QueryForm<'n> {
     /// `TAG,FROM,TO`: a tag and two times.
     #[tactic(auto, unfolding(crate::specs::Asked::span_of))]
     fn span(&self, tag: &[u8], from: &[u8], to: &[u8]) -> Result<(u32, u64, u64), Reason>
-        ensures { result ≡ span_of self.now.tags tag.now from.now to.now }
+        ensures span { result ≡ span_of self.now.tags tag.now from.now to.now }
+        ensures tag { IfOk result (λ s. s.0 < length self.now.tags) }
+        ensures times { IfOk result (λ s. (s.1 ≤ last_time) × (s.2 ≤ last_time)) }
     {
         let tag = self.tags.place(tag).ok_or(Reason::Name)?;
         let from = numeral(from).ok_or(Reason::Number)?;
@@ -194,7 +207,8 @@ impl<'n> QueryForm<'n> {
     /// `row,GROUP,CALC,K`.
     #[tactic(auto, unfolding(crate::specs::Asked::calc_row))]
     fn calc_row(&self, group: &[u8], calc: &[u8], k: &[u8]) -> Result<Query, Reason>
-        ensures { result ≡ calc_row self.now.groups.now group.now calc.now k.now }
+        ensures query { result ≡ calc_row self.now.groups.now group.now calc.now k.now }
+        ensures is_query { IfOk result (IsQuery self.now.tags self.now.groups.now) }
     {
         let group = self.group_place(group).ok_or(Reason::Name)?;
         let calc = place_among(self.calcs_at(group), calc).ok_or(Reason::Name)?;

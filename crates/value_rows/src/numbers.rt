@@ -1,5 +1,5 @@
 // Numbers within a range.
-ghost use Rattle.std.specs.Prelude.{◌≡◌};
+ghost use Rattle.std.specs.Prelude.{◌≡◌, ◌≤◌, IfSome};
 ghost use Rattle.trend_num.specs.Numerals.{natural_upto};
 ghost use Rattle.trend_num.specs.Ranges.{last_time};
 
@@ -7,7 +7,8 @@ use trend_num::MAX_T;
 
 /// A number from 0 up to `most`.
 pub(crate) fn natural_upto(most: u64, n: i128) -> Option<u64>
-    ensures { result ≡ natural_upto most n }
+    ensures value { result ≡ natural_upto most n }
+    ensures small { IfSome result (λ n. n ≤ most) }
 {
     if 0 <= n && n <= i128::from(most) {
         Some(n as u64)
@@ -18,7 +19,8 @@ pub(crate) fn natural_upto(most: u64, n: i128) -> Option<u64>
 
 /// A time, in milliseconds.
 pub(crate) fn time_of(n: i128) -> Option<u64>
-    ensures { result ≡ natural_upto last_time n }
+    ensures value { result ≡ natural_upto last_time n }
+    ensures time { IfSome result (λ t. t ≤ last_time) }
 {
     natural_upto(MAX_T, n)
 }

@@ -1,5 +1,5 @@
 // Names, looked up in a map.
-ghost use Rattle.std.specs.Prelude.{◌≡◌, ◌<◌, ◌^◌, length, IfOk};
+ghost use Rattle.std.specs.Prelude.{◌≡◌, ◌<◌, ◌^◌, length, IfOk, IfSome};
 ghost use Rattle.value_rows.specs.Raw.{place_of};
 
 use std::alloc::Global;
@@ -43,7 +43,8 @@ impl<'n> Places<'n> {
 
     /// The place of the first one of this name.
     pub(crate) fn place(&self, name: &[u8]) -> Option<u32>
-        ensures { result ≡ place_of self.now name.now }
+        ensures place { result ≡ place_of self.now name.now }
+        ensures within { IfSome result (λ i. i < length self.now) }
     {
         self.map.get(name).copied()
     }

@@ -1,9 +1,10 @@
 // The rows of a collector.
-ghost use Rattle.std.specs.Prelude.{◌≡◌, ◌<◌, ◌^◌, length, Ok, IfOk, IfErr};
+ghost use Rattle.std.specs.Prelude.{◌≡◌, ◌<◌, ◌^◌, All, length, Ok, IfOk, IfErr};
 ghost use Rattle.csv.specs.Records.{fields_of};
 ghost use Rattle.trend_num.specs.Numerals.{numeral};
+ghost use Rattle.trend_num.specs.Ranges.{InRange};
 ghost use Rattle.point_text.specs.Row.{point_read};
-ghost use Rattle.value_rows.specs.Raw.{raw_row, raw_rows};
+ghost use Rattle.value_rows.specs.Raw.{IsRawRow, raw_row, raw_rows};
 ghost use Rattle.value_rows.specs.Reading.{AreRefusedFor};
 
 use crate::fields::{Fields, fields_in};
@@ -27,6 +28,7 @@ pub struct RawRow {
 pub fn raw_rows(alloc: Global, bytes: &[u8], tags: &[Name], most: u64) -> Result<Vec<RawRow>, RowNo>
     requires { length tags.now < 2 ^ 32 }
     ensures rows { IfOk result (λ rows. raw_rows tags.now most bytes.now ≡ Ok rows.items) }
+    ensures in_range { IfOk result (λ rows. All (IsRawRow tags.now) rows.items) }
     ensures refused { IfErr result (AreRefusedFor (raw_rows tags.now most bytes.now)) }
 {
     match Places::new(alloc, tags) {
@@ -46,6 +48,8 @@ impl<'n> Form for RawForm<'n> {
 
     ghost row_of = { λ form. raw_row form.tags };
 
+    ghost is_row = { λ form. IsRawRow form.tags };
+
     fn read(&self, row: &ByteRecord) -> Result<RawRow, Reason> {
         match fields_in(row) {
             Fields::Three(tag, t, v) => {
@@ -60,7 +64,8 @@ impl<'n> Form for RawForm<'n> {
 
 /// The point of a time and a value.
 fn point_of(t: &[u8], v: &[u8]) -> Result<Point, Reason>
-    ensures { result ≡ point_read (numeral t.now) (numeral v.now) }
+    ensures point { result ≡ point_read (numeral t.now) (numeral v.now) }
+    ensures in_range { IfOk result InRange }
 {
     let t = numeral(t).ok_or(Reason::Number)?;
     let v = numeral(v).ok_or(Reason::Number)?;

@@ -1,5 +1,5 @@
 // The rows of a text of records, of any kind.
-ghost use Rattle.std.specs.Prelude.{◌≡◌, ◌∷◌, ◌++◌, [], ℕ, List, Result, Some, map, IfOk, IfErr};
+ghost use Rattle.std.specs.Prelude.{◌≡◌, ◌∷◌, ◌++◌, [], ℕ, All, List, Result, Some, map, IfOk, IfErr};
 ghost use Rattle.csv.specs.Records.{fields_of};
 ghost use Rattle.point_text.specs.declared.failure.RowNo.TheVariants.{WantOfMemory};
 ghost use Rattle.trend_num.specs.declared.refusal.Reason.{Reason};
@@ -18,9 +18,12 @@ pub(crate) trait Form {
 
     ghost row_of: { Self → List (List ℕ) → Result Self.Row Reason };
 
+    ghost is_row: { Self → Self.Row → Type 0 };
+
     /// The row of a record, or the first reason why it has none.
     fn read(&self, row: &ByteRecord) -> Result<Self::Row, Reason>
-        ensures { result ≡ row_of self.now (fields_of row.now) };
+        ensures row { result ≡ row_of self.now (fields_of row.now) }
+        ensures is_row { IfOk result (is_row self.now) };
 }
 
 /// The rows of a text's records, of at most `most`.
@@ -31,6 +34,7 @@ pub(crate) fn rows_of_text<F: Form>(
     most: u64,
 ) -> Result<Vec<F::Row>, RowNo>
     ensures rows { IfOk result (λ rows. rows_of_text (F.row_of form.now) most bytes.now ≡ Ok rows.items) }
+    ensures are_rows { IfOk result (λ rows. All (F.is_row form.now) rows.items) }
     ensures refused { IfErr result (AreRefusedFor (rows_of_text (F.row_of form.now) most bytes.now)) }
 {
     let mut reader = records(alloc, bytes);

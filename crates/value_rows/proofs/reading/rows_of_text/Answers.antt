@@ -37,7 +37,7 @@ returns-in-Err-clause-refused g c =
     let (rest, first, has) = went_on c.read_next.new.reader fields here.left c.in_ok-read_next.field-0 found next in
     let room : c.loop-count.count < c.args.most = omega (arith, here.few, c.if-count-most.false) in
     bad_so_far row_of (map row_of (records_of c.args.bytes.now)) c.args.most c.loop-count.count here.left rest fields
-    c.loop-count.rows.items c.in-Err.reason here.split here.counted room first (sym c.read.ensures ∙ c.in-Err.is)
+    c.loop-count.rows.items c.in-Err.reason here.split here.counted room first (sym c.read.ensures.row ∙ c.in-Err.is)
 
 pub loop-count-preserved : goal.loop-count-preserved
 loop-count-preserved g c =
@@ -48,6 +48,6 @@ loop-count-preserved g c =
     let found : c.in_ok-read_next.field-0 ≡ true = search rules in
     let (rest, first, has) = went_on c.read_next.new.reader fields here.left c.in_ok-read_next.field-0 found next in
     let room : c.loop-count.count < c.args.most = omega (arith, here.few, c.if-count-most.false) in
-    one_more row_of (map row_of (records_of c.args.bytes.now)) c.args.most c.loop-count.count c.read_next.new.reader here.left rest fields
+    one_more (g.F.Form.is_row c.args.form.now) row_of (map row_of (records_of c.args.bytes.now)) c.args.most c.loop-count.count c.read_next.new.reader here.left rest fields
     c.loop-count.rows.items c.push.new.rows.items c.in-Ok.read here.split here.counted room first
-    (sym c.read.ensures ∙ c.in-Ok.is) c.in_ok-push-in-Ok.ensures.rows has
+    (sym c.read.ensures.row ∙ c.in-Ok.is) c.in_ok-push-in-Ok.ensures.rows has here.each c.in-Ok.ensures.is_row

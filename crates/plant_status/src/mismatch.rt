@@ -1,0 +1,56 @@
+// Where two accounts of a session differ, and what each has there.
+use crate::unit::Unit;
+use interp_read::TagQuery;
+use trend_num::{Point, Summary, TagDef};
+
+/// A place at which what a session keeps is compared with what its work tells. Tags, groups and inputs are numbered from 0; so
+/// are the entries of a tape.
+#[derive(Clone, Copy, Debug, PartialEq, Eq)]
+pub enum Place {
+    /// The number of takes of a tag.
+    Takes { tag: u32 },
+    /// A take on a tag's tape, and the row that it is of.
+    Take { tag: u32, place: u64 },
+    /// A question on a tag's tape, and the query that it is of.
+    Ask { tag: u32, place: u64 },
+    /// A question on a group's tape, and the query that it is of.
+    RowAsk { group: u32, place: u64 },
+    /// How many records of an input a group has taken into account.
+    Version { group: u32, input: u32 },
+    /// How many windows of a group have rows.
+    Windows { group: u32 },
+    /// What a tag or a group was when it was opened.
+    Opening { unit: Unit },
+    /// The records that a group pulled of an input in a refresh of this number.
+    Pull { group: u32, input: u32, turn: u32 },
+    /// How often a group was refreshed.
+    Turns { group: u32 },
+}
+
+/// What stands at a place in one of two accounts.
+#[derive(Clone, Copy, Debug, PartialEq, Eq)]
+pub enum Seen {
+    Nothing,
+    Number(u64),
+    Def(TagDef),
+    Summary(Summary),
+    /// A value of a collector's row. Rows are counted from 0.
+    Take {
+        collector: u32,
+        row: u64,
+        point: Point,
+    },
+    /// A question of a reader about a tag. Rows are counted from 0.
+    Ask {
+        reader: u32,
+        row: u64,
+        query: TagQuery,
+    },
+    /// A question of a reader for the value of a calculation in a window.
+    Row {
+        reader: u32,
+        row: u64,
+        calc: u32,
+        k: u64,
+    },
+}

@@ -1,0 +1,9 @@
+use Rattle.std.proofs.Common.{◌≡◌, rules}
+use Rattle.value_rows.specs.Raw.{place_of}
+use Rattle.value_rows.proofs.NameMap.{place_within}
+use Rattle.value_rows.proofs.places.Places.place.Goals as goal
+
+pub returns-clause-within : goal.returns-clause-within
+returns-clause-within c =
+    let is : c.copied.result ≡ place_of c.args.self.now c.args.name.now = search rules in
+    place_within c.args.self.now c.args.name.now c.copied.result is
