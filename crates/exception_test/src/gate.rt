@@ -43,6 +43,7 @@ impl Gate {
     /// The first value is sent. A value that is not after the newest one is late: the pending value is sent in order,
     /// and the late one as it comes. A value in order that is far from the last one sent is sent after the pending
     /// one, and any other becomes the pending value.
+    #[inline(always)]
     pub fn offer(&mut self, tuning: &Tuning, p: Point) -> Sent
         // By the rules, whatever the gate holds.
         ensures last { self.new.last ≡ (offered tuning.now self.old.last self.old.pending p).last }
@@ -56,56 +57,49 @@ impl Gate {
         ensures sends { (o : Origin) (h : List Event) → in_force o h ≡ tuning.now
             → GateStands o self.old h → sent o (Raw p ∷ h) ≡ gained result.first result.second ++ sent o h }
     {
-        let (gate, sent) = self.after(tuning, p);
-        *self = gate;
-        sent
+        self.advance(tuning, p)
     }
 
-    /// The gate after one more value, and what it hands on.
-    fn after(self, tuning: &Tuning, p: Point) -> (Gate, Sent)
-        ensures last { result.0.last ≡ (offered tuning.now self.last self.pending p).last }
-        ensures pending { result.0.pending ≡ (offered tuning.now self.last self.pending p).pending }
-        ensures first { result.1.first ≡ (offered tuning.now self.last self.pending p).first }
-        ensures second { result.1.second ≡ (offered tuning.now self.last self.pending p).second }
+    /// Goes on to the gate after one more value, in place, and hands on what is sent.
+    #[inline(always)]
+    fn advance(&mut self, tuning: &Tuning, p: Point) -> Sent
+        ensures last { self.new.last ≡ (offered tuning.now self.old.last self.old.pending p).last }
+        ensures pending { self.new.pending ≡ (offered tuning.now self.old.last self.old.pending p).pending }
+        ensures first { result.first ≡ (offered tuning.now self.old.last self.old.pending p).first }
+        ensures second { result.second ≡ (offered tuning.now self.old.last self.old.pending p).second }
     {
         match (self.last, self.pending) {
-            (None, pending) => (
-                Gate {
-                    last: Some(p),
-                    pending,
-                },
-                in_order(None, p),
-            ),
-            (Some(last), None) if p.t <= last.t => (self, late(None, p)),
-            (Some(_), Some(waiting)) if p.t <= waiting.t => (
-                sent_last(waiting),
-                late(Some(waiting), p),
-            ),
-            (Some(last), _) => self.after_in_order(tuning, last, p),
+            (None, _) => {
+                self.last = Some(p);
+                in_order(None, p)
+            }
+            (Some(last), None) if p.t <= last.t => late(None, p),
+            (Some(_), Some(waiting)) if p.t <= waiting.t => {
+                *self = sent_last(waiting);
+                late(Some(waiting), p)
+            }
+            (Some(last), _) => self.advance_in_order(tuning, last, p),
         }
     }
 
-    /// The gate after one more value in order, and what it hands on.
-    fn after_in_order(self, tuning: &Tuning, last: Point, p: Point) -> (Gate, Sent)
-        requires { self.last ≡ Some last }
-        ensures last { result.0.last ≡ (offered_in_order tuning.now last self.pending p).last }
-        ensures pending { result.0.pending ≡ (offered_in_order tuning.now last self.pending p).pending }
-        ensures first { result.1.first ≡ (offered_in_order tuning.now last self.pending p).first }
-        ensures second { result.1.second ≡ (offered_in_order tuning.now last self.pending p).second }
+    /// The same, with a value in order.
+    #[inline(always)]
+    fn advance_in_order(&mut self, tuning: &Tuning, last: Point, p: Point) -> Sent
+        requires { self.old.last ≡ Some last }
+        ensures last { self.new.last ≡ (offered_in_order tuning.now last self.old.pending p).last }
+        ensures pending { self.new.pending ≡ (offered_in_order tuning.now last self.old.pending p).pending }
+        ensures first { result.first ≡ (offered_in_order tuning.now last self.old.pending p).first }
+        ensures second { result.second ≡ (offered_in_order tuning.now last self.old.pending p).second }
     {
         if is_far(tuning, last, p) {
-            (sent_last(p), in_order(self.pending, p))
-        } else {
-            (
-                Gate {
-                    last: self.last,
-                    pending: Some(p),
-                },
-                Sent {
-                    first: None,
-                    second: None,
-                },
-            )
+            let first = self.pending;
+            *self = sent_last(p);
+            return in_order(first, p);
+        }
+        self.pending = Some(p);
+        Sent {
+            first: None,
+            second: None,
         }
     }
 }
@@ -125,6 +119,7 @@ pub fn same_sent(a: &Sent, b: &Sent) -> bool
 }
 
 /// A gate whose last value is this one, with nothing pending.
+#[inline(always)]
 fn sent_last(p: Point) -> Gate
     ensures { result ≡ record { last = Some p; pending = None } }
 {
@@ -135,6 +130,7 @@ fn sent_last(p: Point) -> Gate
 }
 
 /// The value is sent in order, after the one that was pending.
+#[inline(always)]
 fn in_order(first: Option<Point>, p: Point) -> Sent
     ensures { result ≡ record { first = first; second = Some (Sending.InOrder p) } }
 {
@@ -145,6 +141,7 @@ fn in_order(first: Option<Point>, p: Point) -> Sent
 }
 
 /// The value is sent late, after the one that was pending.
+#[inline(always)]
 fn late(first: Option<Point>, p: Point) -> Sent
     ensures { result ≡ record { first = first; second = Some (Sending.Late p) } }
 {
@@ -155,6 +152,7 @@ fn late(first: Option<Point>, p: Point) -> Sent
 }
 
 /// Whether the value differs from the last one sent by more than ExcDev, or comes ExcMax after it or later.
+#[inline(always)]
 fn is_far(tuning: &Tuning, last: Point, p: Point) -> bool
     ensures { result ≡ is_far tuning.now last p }
 {

@@ -102,6 +102,14 @@ row_read rows read p is =
 below_most : (n : ℕ) → n ≤ most_rows → (n ≡ most_rows → ⊥) → n < most_rows
 below_most n few other = omega arith
 
+-- a line that has a point gives it, where it is not one too many
+pub row_here : (rows : ℕ) (p : Point) → (rows ≡ most_rows → ⊥) → point_of_row rows (Ok p) ≡ Ok p
+row_here rows p other =
+    elim (nat_eq rows most_rows) as (λ b. nat_eq rows most_rows ≡ b → cond b (Err (TooMany (most_rows + 1))) (numbered rows (Ok p)) ≡ Ok p) [
+      | true ↦ λ full. absurd (other (eqb-true _ _ full))
+      | false ↦ λ room. refl
+    ] refl
+
 -- the row is refused
 number_refused : (found : List Point) (read : Result Point Reason) (tail : List (Result Point Reason)) (why : RowNo) → length found < most_rows
     → numbered (length found) read ≡ Err why → rows_from most_rows (all_read found ++ read ∷ tail) ≡ Err why
@@ -232,6 +240,13 @@ ready_same core rows ready = record {
 }
 
 -- ---- what is left of a text
+
+-- an end of an end of the text is one of the text
+pub end_further : (text rest end : List ℕ) → rest ≡ drop (length text - length rest) text → length rest ≤ length text
+    → end ≡ drop (length rest - length end) rest → length end ≤ length rest → end ≡ drop (length text - length end) text
+end_further text rest end tail within last few =
+    last ∙ ap (drop (length rest - length end)) tail ∙ drop-drop (length rest - length end) (length text - length rest) text
+    ∙ ap (λ n. drop n text) (omega arith)
 
 -- what follows the first line is still an end of the text
 pub end_more : (text rest line after : List ℕ) → rest ≡ drop (length text - length rest) text → length rest ≤ length text → rest ≡ line ++ 10 ∷ after

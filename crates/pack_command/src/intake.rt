@@ -6,7 +6,7 @@ ghost use Rattle.point_text.specs.FirstPoint.{HasNoFeed};
 ghost use Rattle.pack_command.specs.Pack.{most_rows, origin_of};
 ghost use Rattle.pack_command.specs.Coming.{HasCome, IsNextRow, IsReady, point_of_row};
 
-use point_text::{RowNo, first_point, point_of_line};
+use point_text::{RowNo, first_point, plain_point, point_of_line};
 use std::alloc::Global;
 use std::sync::ledger::Ledger;
 use tag_core::TagCore;
@@ -63,11 +63,45 @@ impl Intake {
             → HasCome true o bytes (drop (length text.now - result) text.now) self.new.core self.new.rows self.new.standing }
     {
         let mut rest = text;
-        while let Some((read, after)) = first_point(rest) {
+        loop {
+            rest = self.take_plain_lines(rest, steps);
+            let Some((read, after)) = first_point(rest) else {
+                return rest.len();
+            };
             self.take_row(read, steps);
             rest = after;
         }
-        rest.len()
+    }
+
+    /// Takes the rows of the plain lines that a text begins with, as long as each value is taken. Says what is left.
+    #[inline(never)]
+    fn take_plain_lines<'t, L: Ledger>(&mut self, text: &'t [u8], steps: &mut Steps<L>) -> &'t [u8]
+        requires { IsReady self.old.core self.old.rows }
+        ensures ready { IsReady self.new.core self.new.rows }
+        ensures within { length result.now ≤ length text.now }
+        ensures end { result.now ≡ drop (length text.now - length result.now) text.now }
+        ensures come { (o : Origin) (bytes : List ℕ)
+            → HasCome true o bytes text.now self.old.core self.old.rows self.old.standing
+            → HasCome true o bytes result.now self.new.core self.new.rows self.new.standing }
+    {
+        let mut rest = text;
+        let Standing::Taken = self.standing else {
+            return rest;
+        };
+        let mut rows = self.rows;
+        while rows < MAX_ROWS
+            && let Some((point, after)) = plain_point(rest)
+        {
+            match self.core.take(point, steps) {
+                Ok(_) => {
+                    rest = after;
+                    rows += 1;
+                }
+                Err(_) => break,
+            }
+        }
+        self.rows = rows;
+        rest
     }
 
     /// Takes the last row, which has no line feed, where there is one: the input is at its end.

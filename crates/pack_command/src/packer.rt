@@ -1,23 +1,24 @@
-// What the archive of the input's points is, as a text.
-ghost use Rattle.std.specs.Prelude.{◌≡◌, IfOk, IfErr, string_bytes};
+// The command: the input's points, taken into an archive.
+ghost use Rattle.std.specs.Prelude.{◌≡◌, IfOk, IfErr};
 ghost use Rattle.trend_num.specs.Ranges.{IsTuned};
 ghost use Rattle.pack_command.specs.Pack.{IsPackRefusal, IsPrinted, status_of_rows};
 
+use crate::archive::ArchiveText;
 use crate::input::read_input;
 use crate::intake::Standing;
 use byte_io::Source;
 use plant_status::{FileId, Status, What};
-use point_text::{RowNo, archive_text};
+use point_text::RowNo;
 use std::alloc::Global;
 use std::marker::Brand;
 use std::sync::ledger::Blank;
 use trend_num::Tuning;
 
 /// What `pack` prints for its standard input, or why it prints nothing.
-pub fn pack<I: Source>(alloc: Global, tuning: Tuning, input: &mut I) -> Result<String, Status>
+pub fn pack<I: Source>(alloc: Global, tuning: Tuning, input: &mut I) -> Result<ArchiveText, Status>
     requires { IsTuned tuning }
     ensures printed { IfOk result (λ text.
-        IsPrinted tuning (I.meaning input.old) (I.meaning input.new) (string_bytes text)) }
+        IsPrinted tuning (I.meaning input.old) (I.meaning input.new) text) }
     ensures refused { IfErr result (IsPackRefusal tuning (I.meaning input.old) (I.meaning input.new)) }
 {
     let intake = match read_input::<Brand, I>(alloc, tuning, input, Blank::new(1)) {
@@ -25,10 +26,7 @@ pub fn pack<I: Source>(alloc: Global, tuning: Tuning, input: &mut I) -> Result<S
         Err(why) => return Err(why),
     };
     match intake.standing {
-        Standing::Taken => match archive_text(alloc, intake.core.recs(), intake.core.held()) {
-            Ok(text) => Ok(text),
-            Err(_) => Err(Status::WantOfMemory),
-        },
+        Standing::Taken => Ok(ArchiveText::of(intake.core)),
         Standing::Full { records } => Err(Status::Limit {
             what: What::Records,
             number: u64::from(records),

@@ -6,7 +6,7 @@ ghost use Rattle.plant_run.specs.Run.{EndsIn, IsTold};
 
 use crate::command_line::pack_tuning;
 use byte_io::{Sink, Source, write_all};
-use pack_command::pack;
+use pack_command::{ArchiveText, pack};
 use plant_status::{Status, line};
 use std::alloc::Global;
 use std::sync::Wait;
@@ -35,18 +35,18 @@ pub fn run<R: Threads + Wait + Sync, I: Source, O: Sink>(
         return refuse(Status::BadWords, out);
     };
     match pack(alloc, tuning, input) {
-        Ok(text) => print(text.as_str(), out),
+        Ok(text) => print(&text, out),
         Err(status) => refuse(status, out),
     }
 }
 
 /// Prints a text: the status is Done where all of it went out.
-fn print<O: Sink>(text: &str, out: &mut O) -> Status
+fn print<O: Sink>(text: &ArchiveText, out: &mut O) -> Status
     ensures whole { result ≡ Status.Done → IsWritten (O.meaning out.old) (O.meaning out.new) text.now }
     ensures cut_short { result ≡ Status.WriteFault → IsCutShort (O.meaning out.old) (O.meaning out.new) text.now }
     ensures known { (result ≡ Status.Done) ⊎ (result ≡ Status.WriteFault) }
 {
-    match write_all(out, text.as_bytes()) {
+    match text.print(out) {
         Ok(()) => Status::Done,
         Err(_) => Status::WriteFault,
     }

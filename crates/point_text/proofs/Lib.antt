@@ -4,3 +4,4 @@ pub mod PointList
 pub mod DigitRun
 pub mod PlainLine
 pub mod LongLine
+pub mod Printing

@@ -15,7 +15,7 @@ use Rattle.trend_num.specs.Numerals.{numeral, unsigned_numeral, digits_value}
 use Rattle.trend_num.specs.Ranges.{last_time, largest_value}
 use Rattle.point_text.specs.Row.{point_read, point_of_fields, point_of_line}
 use Rattle.point_text.proofs.Split.{rest_whole}
-use Rattle.point_text.specs.FirstPoint.{HasNoFeed, IsFirstPoint}
+use Rattle.point_text.specs.FirstPoint.{EndsAt, HasNoFeed, IsFirstPoint}
 
 -- from one index to another there are digits, which spell n, and then this byte
 pub record IsField (text : List ℕ) (at end byte n : ℕ) : Type 0 where
@@ -127,26 +127,20 @@ plain_point time value after tail t v T V read_t read_v in_time in_value ends =
     (ended_point line after tail (Ok (record { t = t; v = v })) some high ends
     (sym (fields_read time value t v T V read_t read_v in_time in_value)))
 
--- at this index stands the byte that ends a value, and at that one the line feed after it
-pub record EndsAt (text : List ℕ) (end byte feed : ℕ) : Type 0 where
-  pub is : ((byte ≡ 10) × (feed ≡ end)) ⊎ ((byte ≡ 13) × (feed ≡ end + 1))
-  pub fed : get_or text feed 0 ≡ 10
-  pub within : feed < length text
-
 -- what is left after it
 abbrev pub after_feed : List ℕ → ℕ → List ℕ
 after_feed text feed = take (length text - (feed + 1)) (drop (feed + 1) text)
 
 -- so the line ends there
-ends_line : (text : List ℕ) (end byte feed : ℕ) → EndsAt text end byte feed
+ends_line : (text : List ℕ) (end byte feed : ℕ) → byte ≡ get_or text end 0 → EndsAt text end feed
     → (byte ∷ drop (end + 1) text ≡ 10 ∷ after_feed text feed) ⊎ (byte ∷ drop (end + 1) text ≡ 13 ∷ 10 ∷ after_feed text feed)
-ends_line text end byte feed ends =
+ends_line text end byte feed here ends =
     let rest : drop (feed + 1) text ≡ after_feed text feed = sym (rest_whole text (feed + 1)) in
     let fed : drop feed text ≡ 10 ∷ after_feed text feed =
     drop_more text feed 0 ends.within ∙ ap (λ b. b ∷ drop (feed + 1) text) ends.fed ∙ ap (λ l. 10 ∷ l) rest in
     elim ends.is [
-      | inl p ↦ inl (ap (λ b. b ∷ drop (end + 1) text) p.0 ∙ ap (λ k. 10 ∷ drop (k + 1) text) (sym p.1) ∙ ap (λ l. 10 ∷ l) rest)
-      | inr p ↦ inr (ap (λ b. b ∷ drop (end + 1) text) p.0 ∙ ap (λ k. 13 ∷ drop k text) (sym p.1) ∙ ap (λ l. 13 ∷ l) fed)
+      | inl p ↦ inl (ap (λ b. b ∷ drop (end + 1) text) (here ∙ p.0) ∙ ap (λ k. 10 ∷ drop (k + 1) text) (sym p.1) ∙ ap (λ l. 10 ∷ l) rest)
+      | inr p ↦ inr (ap (λ b. b ∷ drop (end + 1) text) (here ∙ p.0) ∙ ap (λ k. 13 ∷ drop k text) (sym p.1) ∙ ap (λ l. 13 ∷ l) fed)
     ]
 
 unsigned_abs-neg_ℤ : (n : ℕ) → unsigned_abs (neg_ℤ (pos n)) ≡ n
@@ -155,7 +149,7 @@ unsigned_abs-neg_ℤ (suc n) = refl
 
 -- a line with no sign
 pub plain_positive : (text : List ℕ) (comma from end byte feed t size : ℕ) (v : ℤ) → from ≡ comma + 1 → v ≡ pos size → IsField text 0 comma 44 t
-    → IsField text from end byte size → EndsAt text end byte feed → t ≤ last_time → size ≤ largest_value
+    → IsField text from end byte size → EndsAt text end feed → t ≤ last_time → size ≤ largest_value
     → IsFirstPoint text (after_feed text feed) (Ok (record { t = t; v = v }))
 plain_positive text comma from end byte feed t size v start spelt time given ends in_time in_value =
     let value : IsField text (comma + 1) end byte size = subst (λ k. IsField text k end byte size) start given in
@@ -170,11 +164,11 @@ plain_positive text comma from end byte feed t size v start spelt time given end
     subst (λ l. IsFirstPoint l after (Ok (record { t = t; v = v }))) (sym cut)
     (subst (λ z. IsFirstPoint (ts ++ 44 ∷ (vs ++ tail)) after (Ok (record { t = t; v = z }))) (sym spelt)
     (plain_point ts vs after tail t (pos size) (past_comma ts t times) (past_comma vs size values) (numeral_is ts t times) (numeral_is vs size values)
-    in_time in_value (ends_line text end byte feed ends)))
+    in_time in_value (ends_line text end byte feed (sym value.after) ends)))
 
 -- a line with a sign
 pub plain_negative : (text : List ℕ) (comma from end byte feed t size : ℕ) (v : ℤ) → from ≡ comma + 2 → v ≡ neg_ℤ (pos size)
-    → IsField text 0 comma 44 t → get_or text (comma + 1) 0 ≡ 45 → IsField text from end byte size → EndsAt text end byte feed → t ≤ last_time
+    → IsField text 0 comma 44 t → get_or text (comma + 1) 0 ≡ 45 → IsField text from end byte size → EndsAt text end feed → t ≤ last_time
     → size ≤ largest_value → IsFirstPoint text (after_feed text feed) (Ok (record { t = t; v = v }))
 plain_negative text comma from end byte feed t size v start spelt time sign given ends in_time in_value =
     let value : IsField text (comma + 2) end byte size = subst (λ k. IsField text k end byte size) start given in
@@ -194,4 +188,4 @@ plain_negative text comma from end byte feed t size v start spelt time sign give
     subst (λ l. IsFirstPoint l after (Ok (record { t = t; v = v }))) (sym cut)
     (subst (λ z. IsFirstPoint (ts ++ 44 ∷ ((45 ∷ vs) ++ tail)) after (Ok (record { t = t; v = z }))) (sym spelt)
     (plain_point ts (45 ∷ vs) after tail t (neg_ℤ (pos size)) (past_comma ts t times) past (numeral_is ts t times) (negative_is vs size values)
-    in_time (rw amount in_value) (ends_line text end byte feed ends)))
+    in_time (rw amount in_value) (ends_line text end byte feed (sym value.after) ends)))

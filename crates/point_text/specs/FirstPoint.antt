@@ -1,5 +1,5 @@
 -- The first line of a text of which more may come.
-use Rattle.std.specs.Prelude.{◌≡◌, ℕ, List, ◌∷◌, ◌++◌, All, false, map, nat_eq, Result}
+use Rattle.std.specs.Prelude.{◌≡◌, ℕ, ◌+◌, ◌<◌, ◌⊎◌, List, ◌∷◌, ◌++◌, All, false, length, get_or, map, nat_eq, Result}
 use Rattle.std.specs.Str.Lines.{lines, strip_carriage_return}
 use Rattle.trend_num.specs.declared.point.Point.{Point}
 use Rattle.trend_num.specs.declared.refusal.Reason.{Reason}
@@ -23,3 +23,9 @@ reads_of text = map point_of_line (lines text)
 -- two texts read the same, whatever follows them
 pub record ReadSame (a b : List ℕ) : Type 0 where
   pub same : (more : List ℕ) → reads_of (a ++ more) ≡ reads_of (b ++ more)
+
+-- at this index stands what ends a line, a line feed or a carriage return and a line feed, and at that one its line feed
+pub record EndsAt (text : List ℕ) (end feed : ℕ) : Type 0 where
+  pub is : ((get_or text end 0 ≡ 10) × (feed ≡ end)) ⊎ ((get_or text end 0 ≡ 13) × (feed ≡ end + 1))
+  pub fed : get_or text feed 0 ≡ 10
+  pub within : feed < length text

@@ -4,7 +4,7 @@
 //! its first reason, or more lines than there may be. `first_point` reads one line of a text of which more may come.
 //! Most lines are read in one pass, eight digits at a time (`plain_line`); any other is found first, split at its comma,
 //! and its numerals read and tested (`line_reader`). Both are proved to read the same. `short_line` stands for the
-//! begin of a line that is too long to have a point. `archive_text` prints records and the held point (`printer`). Only want of memory is
+//! begin of a line that is too long to have a point. `write_archive` prints records and the held point (`printer`).
 //! refused beside what the model refuses.
 #![tactic(auto)]
 
@@ -15,5 +15,6 @@ mod printer;
 
 pub use failure::RowNo;
 pub use line_reader::{first_point, point_of_line, short_line};
-pub use printer::archive_text;
+pub use plain_line::plain_point;
+pub use printer::write_archive;
 pub use trend_num::{Kind, Point, Reason, Rec, WantOfMemory};

@@ -9,7 +9,8 @@ ghost use Rattle.core.specs.Slice.Scan.{digits_from, flag_word, little_endian};
 ghost use Rattle.core.specs.Str.Parse.{digits_value as ascii_value};
 ghost use lib.Lanes.{number_l};
 ghost use Rattle.trend_num.specs.Numerals.{digits_value};
-ghost use Rattle.point_text.specs.FirstPoint.{IsFirstPoint};
+ghost use Rattle.trend_num.specs.Ranges.{InRange};
+ghost use Rattle.point_text.specs.FirstPoint.{EndsAt, IsFirstPoint};
 
 use core::dec2flt::ten_to;
 use trend_num::{MAX_T, MAX_V, Point};
@@ -24,8 +25,9 @@ const PLAIN_BYTES: usize = 2 * PLAIN_DIGITS + 4;
 /// and of 1 to 16 digits, with a `-` at most before the value, and after it a line feed or `\r` and a line feed. None says
 /// nothing of the text.
 #[inline(always)]
-pub(crate) fn plain_line(text: &[u8]) -> Option<(Point, &[u8])>
+pub fn plain_point(text: &[u8]) -> Option<(Point, &[u8])>
     ensures point { IfSome result (λ p. IsFirstPoint text.now p.1.now (Ok p.0)) }
+    ensures in_range { IfSome result (λ p. InRange p.0) }
     ensures shorter { IfSome result (λ p. length p.1.now < length text.now) }
 {
     if text.len() < PLAIN_BYTES {
@@ -39,14 +41,29 @@ pub(crate) fn plain_line(text: &[u8]) -> Option<(Point, &[u8])>
     let negative = text[sign] == b'-';
     let from = sign + usize::from(negative);
     let (size, end) = digits(text, from);
-    let returned = text[end] == b'\r';
-    let feed = if returned { end + 1 } else { end };
-    if end == from || text[feed] != b'\n' || size > MAX_V as u64 {
+    if end == from || size > MAX_V as u64 {
         return None;
     }
+    let feed = feed_at(text, end)?;
     let amount = size as i64;
     let v = if negative { -amount } else { amount };
     Some((Point { t, v }, &text[feed + 1..]))
+}
+
+/// The index of the line feed that ends a line whose digits end here, after `\r` or not.
+#[inline(always)]
+fn feed_at(text: &[u8], end: usize) -> Option<usize>
+    requires { end + 1 < length text.now }
+    ensures { IfSome result (EndsAt text.now end) }
+{
+    if text[end] == b'\n' {
+        return Some(end);
+    }
+    let feed = end + 1;
+    if text[end] == b'\r' && text[feed] == b'\n' {
+        return Some(feed);
+    }
+    None
 }
 
 /// The number that the digits from an index on spell, and the index after them. Digits past the sixteenth are left.
@@ -62,7 +79,10 @@ fn digits(bytes: &[u8], at: usize) -> (u64, usize)
     if count < 8 {
         return (high, at + count);
     }
-    let (more, low) = digits_of_word(word_at(bytes, at + 8));
+    let (more, low) = more_digits(word_at(bytes, at + 8));
+    if more == 5 {
+        return (high.wrapping_mul(100_000).wrapping_add(low), at + 13);
+    }
     (
         high.wrapping_mul(ten_to(more as u64)).wrapping_add(low),
         at + 8 + more,
@@ -83,6 +103,21 @@ fn digits_of_word(word: u64) -> (usize, u64)
     }
     let count = others.trailing_zeros() / 8;
     (count as usize, value_of_eight(keep_first(lanes, count)))
+}
+
+/// The same of a word that follows eight digits: most times have five more.
+#[inline(always)]
+fn more_digits(word: u64) -> (usize, u64)
+    ensures most { result.0 ≤ 8 }
+    ensures read { (bytes : List ℕ) → IsEightBytes bytes → word ≡ number_l 256 bytes
+        → (result.0 ≡ digits_len bytes) × (result.1 ≡ ascii_value 10 (take result.0 bytes)) }
+{
+    let lanes = word ^ 0x3030_3030_3030_3030;
+    let others = flags_from_ten(lanes);
+    if others != 0 && others.trailing_zeros() / 8 == 5 {
+        return (5, value_of_eight(keep_first(lanes, 5)));
+    }
+    digits_of_word(word)
 }
 
 /// The eight bytes from an index on, the first of them the lowest.

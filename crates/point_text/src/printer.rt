@@ -1,71 +1,197 @@
-// The text of an archive.
-ghost use Rattle.std.specs.Prelude.{◌≡◌, IfOk, string_bytes};
-ghost use Rattle.point_text.specs.Text.{archive_text};
+// The text of an archive, printed a piece at a time.
+ghost use Rattle.std.specs.Prelude.{◌≡◌, ◌+◌, ◌*◌, ◌≤◌, ◌++◌, List, ℕ, length, drop, OnOk, OnErr};
+ghost use Rattle.std.specs.Fmt.{signed_decimal};
+ghost use Rattle.std.specs.List.{flat_map};
+ghost use Rattle.byte_io.specs.Outside.{IsWritten, IsCutShort};
+ghost use Rattle.point_text.specs.Text.{archive_text, held_line, kind_word, point_line, record_line};
 
-use std::alloc::{AllocError, Global};
-use trend_num::{Kind, Point, Rec, WantOfMemory};
+use byte_io::{Sink, WriteFault, write_all};
+use itoa::write_digits;
+use trend_num::{Kind, Point, Rec};
 
-/// The lines of the records, then that of the held point.
-pub fn archive_text(
-    alloc: Global,
+/// The most bytes of a line: a word and a comma, a time of at most 20 digits and a comma, a value of at most 20 bytes,
+/// and a line feed.
+const LINE_BYTES: usize = 48;
+
+/// The most lines of a piece.
+const LINES: usize = 1024;
+
+/// Writes the lines of the records, then that of the held point, a piece of fixed size at a time. It takes no memory.
+/// After an error some of the bytes, from the first on, are written, and never all.
+pub fn write_archive<O: Sink>(
+    out: &mut O,
     recs: &[Rec],
     held: Option<Point>,
-) -> Result<String, WantOfMemory>
-    ensures { IfOk result (λ text. string_bytes text ≡ archive_text recs.now held) }
+) -> Result<(), WriteFault>
+    ensures whole { OnOk result
+        (IsWritten (O.meaning out.old) (O.meaning out.new) (archive_text recs.now held)) }
+    ensures cut_short { OnErr result
+        (IsCutShort (O.meaning out.old) (O.meaning out.new) (archive_text recs.now held)) }
 {
-    lines_of(alloc, recs, held).map_err(|_| WantOfMemory)
-}
-
-/// The same, with the allocator's own error.
-fn lines_of(alloc: Global, recs: &[Rec], held: Option<Point>) -> Result<String, AllocError>
-    ensures { IfOk result (λ text. string_bytes text ≡ archive_text recs.now held) }
-{
-    let mut text = String::new(alloc);
-    for rec in recs {
-        let t = rec.point.t;
-        let v = rec.point.v;
-        match rec.kind {
-            Kind::Kept => write!(text, "kept,{t},{v}\n")?,
-            Kind::Late => write!(text, "late,{t},{v}\n")?,
+    let mut piece = [0; LINES * LINE_BYTES];
+    let mut done = 0;
+    while done < recs.len() {
+        let next = recs.len().min(done + LINES);
+        match write_records(out, &mut piece, &recs[done..next]) {
+            Ok(()) => done = next,
+            Err(fault) => return Err(fault),
         }
     }
-    if let Some(Point { t, v }) = held {
-        write!(text, "held,{t},{v}\n")?;
+    write_held(out, &mut piece, held)
+}
+
+/// Writes the lines of records, by a piece that has room for them.
+fn write_records<O: Sink>(out: &mut O, piece: &mut [u8], recs: &[Rec]) -> Result<(), WriteFault>
+    requires { LINE_BYTES * length recs.now ≤ length piece.old }
+    ensures whole { OnOk result
+        (IsWritten (O.meaning out.old) (O.meaning out.new) (flat_map record_line recs.now)) }
+    ensures cut_short { OnErr result
+        (IsCutShort (O.meaning out.old) (O.meaning out.new) (flat_map record_line recs.now)) }
+{
+    let start = print_records(piece, recs);
+    write_all(out, &piece[start..])
+}
+
+/// Writes the line of the held point, where there is one, by a piece that has room for it.
+fn write_held<O: Sink>(out: &mut O, piece: &mut [u8], held: Option<Point>) -> Result<(), WriteFault>
+    requires { LINE_BYTES ≤ length piece.old }
+    ensures whole { OnOk result (IsWritten (O.meaning out.old) (O.meaning out.new) (held_line held)) }
+    ensures cut_short { OnErr result (IsCutShort (O.meaning out.old) (O.meaning out.new) (held_line held)) }
+{
+    let start = print_held(piece, held);
+    write_all(out, &piece[start..])
+}
+
+/// Prints the lines of records to the end of a piece. Says where they start.
+fn print_records(piece: &mut [u8], recs: &[Rec]) -> usize
+    requires { LINE_BYTES * length recs.now ≤ length piece.old }
+    ensures within { result ≤ length piece.old }
+    ensures lines { drop result piece.new ≡ flat_map record_line recs.now }
+{
+    let mut start = piece.len();
+    for rec in recs.iter().rev() {
+        start = print_record(piece, start, *rec);
     }
-    Ok(text)
+    start
+}
+
+/// Prints the line of the held point, where there is one, to the end of a piece. Says where it starts.
+fn print_held(piece: &mut [u8], held: Option<Point>) -> usize
+    requires { LINE_BYTES ≤ length piece.old }
+    ensures within { result ≤ length piece.old }
+    ensures line { drop result piece.new ≡ held_line held }
+{
+    let end = piece.len();
+    match held {
+        Some(point) => {
+            let start = print_point(piece, end, point);
+            print_bytes(piece, start, b"held,")
+        }
+        None => end,
+    }
+}
+
+/// Prints the line of a record right before an index of a piece. Says where it starts.
+fn print_record(piece: &mut [u8], end: usize, rec: Rec) -> usize
+    requires room { LINE_BYTES ≤ end }
+    requires within { end ≤ length piece.old }
+    ensures few { end ≤ result + LINE_BYTES }
+    ensures start { result + length (record_line rec) ≡ end }
+    ensures line { drop result piece.new ≡ record_line rec ++ drop end piece.old }
+{
+    let start = print_point(piece, end, rec.point);
+    match rec.kind {
+        Kind::Kept => print_bytes(piece, start, b"kept,"),
+        Kind::Late => print_bytes(piece, start, b"late,"),
+    }
+}
+
+/// Prints `T,V` and a line feed right before an index of a piece. Says where they start.
+fn print_point(piece: &mut [u8], end: usize, p: Point) -> usize
+    requires room { LINE_BYTES ≤ end }
+    requires within { end ≤ length piece.old }
+    ensures few { end ≤ result + 42 }
+    ensures start { result + length (point_line p) ≡ end }
+    ensures line { drop result piece.new ≡ point_line p ++ drop end piece.old }
+{
+    let feed = print_bytes(piece, end, b"\n");
+    let value = print_value(piece, feed, p.v);
+    let comma = print_bytes(piece, value, b",");
+    write_digits(p.t, piece, comma)
+}
+
+/// Prints a value right before an index of a piece. Says where it starts.
+fn print_value(piece: &mut [u8], end: usize, v: i64) -> usize
+    requires room { 20 ≤ end }
+    requires within { end ≤ length piece.old }
+    ensures few { end ≤ result + 20 }
+    ensures start { result + length (signed_decimal v) ≡ end }
+    ensures text { drop result piece.new ≡ signed_decimal v ++ drop end piece.old }
+{
+    let start = write_digits(v.unsigned_abs(), piece, end);
+    if v < 0 {
+        return print_bytes(piece, start, b"-");
+    }
+    start
+}
+
+/// Prints bytes right before an index of a piece. Says where they start.
+fn print_bytes(piece: &mut [u8], end: usize, bytes: &[u8]) -> usize
+    requires room { length bytes.now ≤ end }
+    requires within { end ≤ length piece.old }
+    ensures start { result + length bytes.now ≡ end }
+    ensures text { drop result piece.new ≡ bytes.now ++ drop end piece.old }
+{
+    let start = end - bytes.len();
+    piece[start..end].copy_from_slice(bytes);
+    start
 }
 
 #[cfg(test)]
 mod tests {
     use super::*;
+    use byte_io::MemSink;
     use std::test::Fail;
+
+    const KEPT: Rec = Rec {
+        kind: Kind::Kept,
+        point: Point { t: 1, v: -2 },
+    };
+
+    const LATE: Rec = Rec {
+        kind: Kind::Late,
+        point: Point { t: 0, v: 30 },
+    };
 
     #[test]
     fn prints_archives(rt: HostRuntime) -> Result<(), Fail> {
-        let kept = Rec {
-            kind: Kind::Kept,
-            point: Point { t: 1, v: -2 },
+        let last = Point {
+            t: 253_402_300_799_999,
+            v: -1_000_000_000_000_000,
         };
-        let late = Rec {
-            kind: Kind::Late,
-            point: Point { t: 0, v: 30 },
+        let widest = Point {
+            t: u64::MAX,
+            v: i64::MIN,
         };
-        let table: [(&[Rec], Option<Point>, &str); 4] = [
+        let table: [(&[Rec], Option<Point>, &str); 5] = [
             (&[], None, ""),
-            (&[kept], None, "kept,1,-2\n"),
+            (&[KEPT], None, "kept,1,-2\n"),
             (
-                &[late, kept],
-                Some(Point {
-                    t: 253_402_300_799_999,
-                    v: 0,
-                }),
-                "late,0,30\nkept,1,-2\nheld,253402300799999,0\n",
+                &[LATE, KEPT],
+                Some(last),
+                "late,0,30\nkept,1,-2\nheld,253402300799999,-1000000000000000\n",
             ),
             (&[], Some(Point { t: 7, v: 8 }), "held,7,8\n"),
+            (
+                &[],
+                Some(widest),
+                "held,18446744073709551615,-9223372036854775808\n",
+            ),
         ];
         for (recs, held, text) in table {
-            let printed = archive_text(rt.alloc(), recs, held)?;
-            assert_eq!(rt; printed.as_str(), text);
+            let mut out = MemSink::new(rt.alloc(), Vec::new(rt.alloc()));
+            assert_eq!(rt; write_archive(&mut out, recs, held), Ok(()));
+            assert_eq!(rt; out.bytes(), text.as_bytes());
         }
         Ok(())
     }

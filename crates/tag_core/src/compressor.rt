@@ -175,7 +175,7 @@ impl Compressor {
     }
 
     /// Takes what an exception test hands on, at this held point.
-    #[inline]
+    #[inline(always)]
     pub(crate) fn take_sent<L: Ledger>(
         &mut self,
         held: Option<Point>,
@@ -234,6 +234,7 @@ impl Compressor {
     }
 
     /// Takes a value that was pending, where there is one.
+    #[inline(always)]
     fn take_pushed_out<L: Ledger>(
         &mut self,
         held: Option<Point>,
@@ -266,6 +267,7 @@ impl Compressor {
     }
 
     /// Takes a value that is sent in order.
+    #[inline(always)]
     fn take_in_order<L: Ledger>(&mut self, held: Option<Point>, p: Point, steps: &mut Steps<L>)
         requires placed { ArePlaced self.old.hinge held }
         requires next { IsNext held p }
@@ -283,7 +285,7 @@ impl Compressor {
     }
 
     /// Takes a value of a tag of lines that is sent in order.
-    #[inline]
+    #[inline(always)]
     fn take_line<L: Ledger>(&mut self, held: Option<Point>, p: Point, steps: &mut Steps<L>)
         requires placed { ArePlaced self.old.hinge held }
         requires next { IsNext held p }

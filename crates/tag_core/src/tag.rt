@@ -122,6 +122,7 @@ impl TagCore {
     }
 
     /// Takes one raw value: what the exception test sends of it goes on to the compression. It takes no memory.
+    #[inline(always)]
     pub fn take<L: Ledger>(&mut self, p: Point, steps: &mut Steps<L>) -> Result<Took, Full>
         requires range { InRange p }
         requires room { 2 ≤ self.old.spare }
@@ -206,7 +207,7 @@ impl TagCore {
     }
 
     /// How many records there are, or that two more would be too many.
-    #[inline]
+    #[inline(always)]
     fn records_unless_full(&self) -> Result<u32, Full>
         ensures value { IfOk result (λ n. n ≡ length self.now.state.records) }
         ensures room { OnOk result (length self.now.state.records + 2 ≤ MAX_RECORDS) }

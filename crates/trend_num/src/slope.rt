@@ -66,7 +66,8 @@ pub(crate) fn product(rise: i64, length: u64) -> i128
     ensures value { result ≡ rise *ℤ pos length }
     ensures bound { unsigned_abs result ≤ 3 * largest_value * last_time }
 {
-    i128::from(rise) * i128::from(length)
+    // A signed length, since one multiplication of signed words then does.
+    i128::from(rise) * i128::from(length as i64)
 }
 
 /// How far x, raised by `raise`, is above `a`, times a length of time.

@@ -7,15 +7,13 @@ use Rattle.pack_command.specs.Coming.{IsAllRead}
 use Rattle.pack_command.proofs.Ending.{ends_printed, ends_full, ends_refused}
 use Rattle.pack_command.proofs.packer.pack.Goals as goal
 
-pub returns-in-Ok-archive_text-clause-printed : goal.returns-in-Ok-archive_text-clause-printed
-returns-in-Ok-archive_text-clause-printed g c =
+pub returns-in-Taken-clause-printed : goal.returns-in-Taken-clause-printed
+returns-in-Taken-clause-printed g c =
     let before = g.I.Source.meaning c.args.input.now in
     let now = g.I.Source.meaning c.read_input.new.input in
     let intake = c.in-Ok.intake in
-    ends_printed c.args.tuning before now intake.core intake.rows (string_bytes c.in-Ok-archive_text.text)
-    (subst (IsAllRead (origin_of c.args.tuning) before now intake.core intake.rows) c.in-Taken.is c.in-Ok.ensures.read)
-    (c.in-Ok-archive_text.ensures ∙ ap (λ rs. archive_text rs c.held.result) c.recs.ensures
-    ∙ ap (archive_text intake.core.state.records) c.held.ensures)
+    ends_printed c.args.tuning before now intake.core intake.rows c.of.result
+    (subst (IsAllRead (origin_of c.args.tuning) before now intake.core intake.rows) c.in-Taken.is c.in-Ok.ensures.read) c.of.ensures
 
 pub returns-in-Full-clause-refused : goal.returns-in-Full-clause-refused
 returns-in-Full-clause-refused g c =
@@ -26,8 +24,8 @@ returns-in-Full-clause-refused g c =
     (ends_full c.args.tuning before now intake.core intake.rows c.in-Full.records
     (subst (IsAllRead (origin_of c.args.tuning) before now intake.core intake.rows) c.in-Full.is c.in-Ok.ensures.read))
 
-pub returns-clause-refused : goal.returns-clause-refused
-returns-clause-refused g c =
+pub returns-in-Refused-clause-refused : goal.returns-in-Refused-clause-refused
+returns-in-Refused-clause-refused g c =
     let before = g.I.Source.meaning c.args.input.now in
     let now = g.I.Source.meaning c.read_input.new.input in
     let intake = c.in-Ok.intake in

@@ -19,7 +19,7 @@ packed_ends words before now text status packed (inr fault) whole cut_short =
 pub returns-in-Ok-clause-ends : goal.returns-in-Ok-clause-ends
 returns-in-Ok-clause-ends g c =
     let answer = c.in-Ok.ensures.printed in
-    let text = string_bytes c.in-Ok.text in
+    let text = c.in-Ok.text in
     let before : Streams = record { input = g.I.Source.meaning c.args.input.now; output = g.O.Sink.meaning c.args.out.now } in
     let now : Streams = record { input = g.I.Source.meaning c.pack.new.input; output = g.O.Sink.meaning c.print.new.out } in
     let packed : IsPacked (map string_bytes c.args.words.now) before.input now.input text = record {
@@ -32,5 +32,4 @@ returns-in-Ok-clause-ends g c =
       bounded = bounded (origin_of c.in-Some.tuning) (history_of answer.points);
     } in
     packed_ends (map string_bytes c.args.words.now) before now text c.print.result packed c.print.ensures.known
-    (λ done. subst (IsWritten before.output now.output) c.as_str.ensures.value (c.print.ensures.whole done))
-    (λ fault. subst (IsCutShort before.output now.output) c.as_str.ensures.value (c.print.ensures.cut_short fault))
+    c.print.ensures.whole c.print.ensures.cut_short

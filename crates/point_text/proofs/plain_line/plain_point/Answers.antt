@@ -2,9 +2,9 @@ use Rattle.std.proofs.Common.{◌≡◌, ◌∙◌, inl, inr, refl, sym, ap, ℕ
 use mir.Val.{bool_byte}
 use Rattle.std.proofs.lemmas.Int.{ints}
 use Rattle.std.proofs.lemmas.Bool.{ne_eqb}
-use Rattle.point_text.proofs.PlainLine.{EndsAt, IsField, plain_positive, plain_negative}
-use Rattle.point_text.proofs.plain_line.plain_line.Goals as goal
-use Rattle.point_text.proofs.plain_line.plain_line.Goals.{then-negative, else-negative, then-returned, else-returned}
+use Rattle.point_text.proofs.PlainLine.{IsField, plain_positive, plain_negative}
+use Rattle.point_text.proofs.plain_line.plain_point.Goals as goal
+use Rattle.point_text.proofs.plain_line.plain_point.Goals.{then-negative, else-negative}
 
 -- a size as a signed number, and its negation
 size_is : (size : ℕ) (v : ℤ) → size ≤ 1000000000000000 → v ≡ to_z w64 size → v ≡ pos size
@@ -45,36 +45,11 @@ value_field c = record {
   after = refl;
 }
 
--- what the branches on a carriage return come to
-line_end : (c : goal.After-result-1) → EndsAt c.args.text.now c.digits-size.result.1 (get_or c.args.text.now c.digits-size.result.1 0) c.if-returned.feed
-line_end c =
-    elim c.if-returned.branch [
-      | then-returned w ↦ record {
-        is = inr (w.if-returned.true, w.feed-is);
-        fed = c.if-text-feed-ne10.false;
-        within = omega (
-          arith,
-          w.feed-is,
-          (value_field c).within,
-          c.digits-size.ensures.within,
-          c.digits-t.ensures.within,
-          c.from.ensures,
-          bool_byte-le (nat_eq (get_or c.args.text.now (c.digits-t.result.1 + 1) 0) 45),
-          c.if-text-lt-PLAIN_BYTES.false,
-        );
-      }
-      | else-returned w ↦ record {
-        is = inl (ap (λ k. get_or c.args.text.now k 0) (sym w.feed-is) ∙ c.if-text-feed-ne10.false, w.feed-is);
-        fed = c.if-text-feed-ne10.false;
-        within = omega (arith, w.feed-is, (value_field c).within);
-      }
-    ]
-
 pub returns-clause-point : goal.returns-clause-point
 returns-clause-point c =
     let time = time_field c in
     let value = value_field c in
-    let ends = line_end c in
+    let ends = c.in_ok-feed.ensures in
     elim c.if-negative.branch [
       | then-negative w ↦
           let one : c.from.result ≡ 1 = rw (eq-eqb _ 45 w.if-negative.true) at c.from.ensures in

@@ -1,0 +1,57 @@
+use Rattle.std.proofs.Common.{◌≡◌, ◌++◌, ◌-◌, [], length, take, drop, sym, ap, ◌∙◌, subst, arith, append-nil}
+use Rattle.std.proofs.lemmas.List.{take_all}
+use Rattle.std.proofs.lemmas.Result.{on_err_weaker, on_ok_weaker}
+use Rattle.std.specs.List.{flat_map}
+use Rattle.byte_io.specs.Outside.{IsWritten, IsCutShort}
+use Rattle.point_text.specs.Text.{archive_text, held_line, record_line}
+use Rattle.point_text.proofs.Printing.{cut_more, lines_more, text_from, written_more}
+use Rattle.point_text.proofs.printer.write_archive.Goals as goal
+
+pub loop-done-preserved : goal.loop-done-preserved
+loop-done-preserved g c =
+    let meaning = g.O.Sink.meaning in
+    let recs = c.args.recs.now in
+    let done = c.loop-done.done in
+    let next = c.min-next.result in
+    record {
+      within = omega arith;
+      written = subst (IsWritten (meaning c.args.out.now) (meaning c.write_records.new.out)) (lines_more recs done next (omega arith))
+          (written_more (meaning c.args.out.now) (meaning c.loop-done.out) (meaning c.write_records.new.out)
+          (flat_map record_line (take done recs)) (flat_map record_line (take (next - done) (drop done recs))) c.loop-done.invariant.written
+          c.in-Ok.ensures.whole);
+    }
+
+pub returns-in-Err-clause-cut_short : goal.returns-in-Err-clause-cut_short
+returns-in-Err-clause-cut_short g c =
+    let meaning = g.O.Sink.meaning in
+    let recs = c.args.recs.now in
+    let done = c.loop-done.done in
+    let n = c.min-next.result - done in
+    let rest = drop done recs in
+    let text = text_from done recs c.args.held ∙ ap (λ l. flat_map record_line (take done recs) ++ l) (text_from n rest c.args.held) in
+    subst (IsCutShort (meaning c.args.out.now) (meaning c.write_records.new.out)) (sym text)
+    (cut_more (meaning c.args.out.now) (meaning c.loop-done.out) (meaning c.write_records.new.out) (flat_map record_line (take done recs))
+    (flat_map record_line (take n rest)) (archive_text (drop n rest) c.args.held) c.loop-done.invariant.written c.in-Err.ensures.cut_short)
+
+pub returns-clause-whole : goal.returns-clause-whole
+returns-clause-whole g c =
+    let meaning = g.O.Sink.meaning in
+    let recs = c.args.recs.now in
+    let done = c.loop-done.done in
+    let text = ap (λ l. flat_map record_line l ++ held_line c.args.held) (take_all done recs (omega arith)) in
+    on_ok_weaker c.write_held.result
+    (λ written. subst (IsWritten (meaning c.args.out.now) (meaning c.write_held.new.out)) text
+    (written_more (meaning c.args.out.now) (meaning c.loop-done.out) (meaning c.write_held.new.out) (flat_map record_line (take done recs))
+    (held_line c.args.held) c.loop-done.invariant.written written)) c.write_held.ensures.whole
+
+pub returns-clause-cut_short : goal.returns-clause-cut_short
+returns-clause-cut_short g c =
+    let meaning = g.O.Sink.meaning in
+    let recs = c.args.recs.now in
+    let done = c.loop-done.done in
+    let text = ap (λ l. flat_map record_line (take done recs) ++ l) (append-nil (held_line c.args.held))
+    ∙ ap (λ l. flat_map record_line l ++ held_line c.args.held) (take_all done recs (omega arith)) in
+    on_err_weaker c.write_held.result
+    (λ cut. subst (IsCutShort (meaning c.args.out.now) (meaning c.write_held.new.out)) text
+    (cut_more (meaning c.args.out.now) (meaning c.loop-done.out) (meaning c.write_held.new.out) (flat_map record_line (take done recs))
+    (held_line c.args.held) [] c.loop-done.invariant.written cut)) c.write_held.ensures.cut_short
