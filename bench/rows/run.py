@@ -1,0 +1,84 @@
+#!/usr/bin/env python3
+"""run.py: times the reading of collector rows beside a plain reader that nobody verified.
+
+Lays main.rattle as a crate into a copy of the crates that it stands on, builds it (`rt run`), and runs both in turn, seven
+times each, on 60 MB of rows over 200 tags. It tells medians, their ratio, what was aimed at, and bytes a row beside the
+input. It runs by hand, never as a test; with a word it builds in that folder, and keeps it."""
+import os
+import random
+import shutil
+import statistics
+import subprocess
+import sys
+import tempfile
+
+HERE = os.path.dirname(os.path.abspath(__file__))
+ROOT = os.path.dirname(os.path.dirname(HERE))
+BELOW = ["trend_num", "byte_io", "trend_model", "page_pool", "late_insert", "interp_read", "point_text", "value_rows"]
+RUNS = 7
+SIZE = 60_000_000
+
+
+def build(folder):
+    """The program, built in a repository of its own."""
+    crates = os.path.join(folder, "crates")
+    for name in BELOW:
+        shutil.copytree(os.path.join(ROOT, "crates", name), os.path.join(crates, name), dirs_exist_ok=True,
+                        ignore=shutil.ignore_patterns("out", "must-fail"))
+    source = os.path.join(crates, "rows_bench", "src")
+    os.makedirs(source, exist_ok=True)
+    shutil.copyfile(os.path.join(HERE, "main.rattle"), os.path.join(source, "main.rt"))
+    with open(os.path.join(ROOT, "crates.txt")) as listed:
+        lines = [line for line in listed if line.split(":")[0] in BELOW]
+    with open(os.path.join(folder, "crates.txt"), "w") as out:
+        out.write("".join(lines) + "rows_bench: anyhow trend_num byte_io value_rows\n")
+    subprocess.run(["rt", "run", "--jobs", "2"], cwd=os.path.dirname(source), stdin=subprocess.DEVNULL,
+                   stdout=subprocess.DEVNULL, stderr=subprocess.DEVNULL, check=True)
+    plain = os.path.join(folder, "plain")
+    subprocess.run(["rustc", "-C", "opt-level=3", "-C", "target-cpu=native", "-o", plain, os.path.join(HERE, "plain.rs")],
+                   check=True)
+    return os.path.join(crates, "rows_bench", "out", "rows_bench"), plain
+
+
+def write_rows(path):
+    """Rows of 200 tags in turn, whose values walk, line by line, so that this process stays small."""
+    rng = random.Random(20261127)
+    t, size, values = 1_700_000_000_000, 0, [0] * 200
+    with open(path, "w") as out:
+        while size < SIZE:
+            tag = rng.randrange(200)
+            t += rng.randrange(1, 20)
+            values[tag] += rng.randrange(-40, 41)
+            size += out.write("T%03d,%d,%d\n" % (tag, t, values[tag]))
+
+
+def run(program, path):
+    """What was printed, and the peak memory in kilobytes. A child's peak begins with its parent's, so the parent is small."""
+    with open(path, "rb") as rows:
+        child = subprocess.run(["/usr/bin/time", "-f", "%M", program], stdin=rows, capture_output=True, check=True)
+    return [int(word) for word in child.stdout.split()], int(child.stderr)
+
+
+def main():
+    with tempfile.TemporaryDirectory() as scratch:
+        programs = build(sys.argv[1] if len(sys.argv) > 1 else scratch)
+        path = os.path.join(scratch, "rows.csv")
+        write_rows(path)
+        told = {program: [] for program in programs}
+        print("load", os.getloadavg())
+        for _ in range(RUNS):
+            for program in programs:
+                told[program].append(run(program, path))
+        proved, plain = (told[program] for program in programs)
+        if proved[0][0][2:] != plain[0][0][2:]:
+            sys.exit("the two readers differ")
+        whole = [statistics.median((w[0] + w[1]) / 1e9 for w, _ in runs) for runs in (proved, plain)]
+        rows = [statistics.median(w[1] / 1e9 for w, _ in runs) for runs in (proved, plain)]
+        count, peak = proved[0][0][2], max(memory for _, memory in proved)
+        print("reading and rows: proved %.3f s, plain %.3f s, %.2f times its time, aim 0.80" % (*whole, whole[0] / whole[1]))
+        print("rows alone:       proved %.3f s, plain %.3f s, %.2f" % (*rows, rows[0] / rows[1]))
+        print("peak memory beside the input: %.1f bytes a row, aim 32" % ((peak * 1024 - os.path.getsize(path)) / count))
+        print("load", os.getloadavg())
+
+
+main()
