@@ -1,9 +1,10 @@
 -- The points of a content that a held point closes, and those next to a time.
-use Rattle.std.proofs.Common.{◌≡◌, ◌≢◌, ℕ, ◌<◌, ◌≤◌, inl, inr, ℤ, Bool, true, false, cond, nat_eq, nat_lt, List, [], ◌∷◌, ◌++◌, Option, None, Some, All, length, take, drop, refl, sym, ap, ◌∙◌, subst, arith, append_assoc, append-nil}
+use Rattle.std.proofs.Common.{◌≡◌, ◌≢◌, ℕ, ◌<◌, ◌≤◌, inl, inr, ℤ, pos, Bool, true, false, cond, nat_eq, nat_lt, List, [], ◌∷◌, ◌++◌, Option, None, Some, All, length, take, drop, refl, sym, ap, ◌∙◌, subst, arith, append_assoc, append-nil}
 use Rattle.std.specs.Prelude.{count_by, slice_get, IfSome}
 use Rattle.std.specs.Option.{option_to_list}
-use Rattle.std.proofs.lemmas.Bool.{cases_eq, ne_eqb, lt-ltb, le-ltb}
+use Rattle.std.proofs.lemmas.Bool.{cases_eq, cases_lt, ne_eqb, lt-ltb, le-ltb}
 use Rattle.std.proofs.lemmas.List.{map-append, take-append-drop, take_all, length-map}
+use Rattle.std.proofs.lemmas.Option.{slice_get-get_or}
 use Rattle.std.proofs.lemmas.List.Elements.{All-nil, All-cons, All-head, All-tail, All-append, All-map}
 use Rattle.trend_num.specs.declared.archive.Rec.{Rec}
 use Rattle.trend_num.specs.declared.point.Point.{Point}
@@ -265,3 +266,14 @@ pub found_last : (held : Option Point) (l : List Rec) (t n : ℕ) (before o : Op
 found_last held l t n before o rises count all last whole after from =
     rw last (neighbours_last (points_closed_by held l) (points_of l) t n o (points_rise l rises) whole after from
     (gap_of l t n rises count) (omega (arith, length-map l (λ r. r.point))))
+
+-- where no point stands at a place, all are before it
+pub past_all : (l : List Rec) (n : ℕ) → slice_get (points_of l) n ≡ None → length l ≤ n
+past_all l n none =
+    elim (cases_lt n (length l)) [
+      | inl inside ↦
+          let d : Point = record { t = 0; v = pos 0 } in
+          let there = slice_get-get_or (points_of l) n d (omega (arith, length-map l (λ r. r.point))) in
+          cc
+      | inr past ↦ past
+    ]

@@ -49,16 +49,6 @@ last_push [] q = refl
 last_push (x ∷ []) q = refl
 last_push (x ∷ y ∷ ps) q = last_push (y ∷ ps) q
 
--- the last of the first points
-pub last_take : (ps : List Point) (n : ℕ) (p : Point) → slice_get ps n ≡ Some p → last_point (take (n + 1) ps) ≡ Some p
-last_take ps n p there = rw add-one (of_suc ps n there)
-  where
-    of_suc : (xs : List Point) (k : ℕ) → slice_get xs k ≡ Some p → last_point (take (suc k) xs) ≡ Some p
-    of_suc [] k h = cc
-    of_suc (x ∷ xs) zero h = h
-    of_suc (x ∷ []) (suc k) h = cc
-    of_suc (x ∷ y ∷ xs) (suc k) h = of_suc (y ∷ xs) k h
-
 -- the first point of a list
 pub first_parts : (ps : List Point) (p : Point) → slice_get ps 0 ≡ Some p → (xs : List Point) × (ps ≡ p ∷ xs)
 first_parts [] p first = cc

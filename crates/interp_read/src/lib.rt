@@ -12,7 +12,8 @@ mod read;
 #[cfg(test)]
 mod tests;
 
+pub use closing::{Neighbours, neighbours_at};
 pub use list::{MOST_LISTED, PointList, points};
 pub use query::{Reply, TagQuery};
-pub use read::{at, at_step};
+pub use read::{at, at_step, reading_of};
 pub use trend_num::Reading;

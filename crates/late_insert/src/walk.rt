@@ -14,6 +14,7 @@ use std::marker::Model;
 use trend_num::Point;
 
 /// Points of a content that stand one after another in one page. Those of a whole page are measured by its totals.
+#[derive(Drop)]
 pub struct Run<'a> {
     frame: &'a Frame,
     // Twice the area under the stair of the whole page.
@@ -85,6 +86,7 @@ impl<'a> Run<'a> {
 }
 
 /// A walk over points of a content. It is seen as the list of the points that are still to come.
+#[derive(Drop)]
 pub struct Runs<'a> {
     pool: &'a Pool,
     pages: &'a [Page],
@@ -126,7 +128,7 @@ pub(crate) fn runs_in<'a>(pool: &'a Pool, pages: &'a [Page], first: u32, behind:
 impl<'a> Runs<'a> {
     /// The next points that stand in one page; none exactly where no point is left.
     pub fn next(&mut self) -> Option<Run<'a>>
-        ensures run { IfSome result (λ run. self.old ≡ run ++ self.new) }
+        ensures front { IfSome result (λ run. self.old ≡ run ++ self.new) }
         ensures some { IfSome result (λ run. 0 < length run) }
         ensures none { IfNone result (self.old ≡ []) }
     {

@@ -7,9 +7,9 @@ ghost use Rattle.trend_model.specs.Windows.{area, greatest_from, least_from, mea
 ghost use Rattle.interp_read.specs.Closing.{IsNotBefore, points_closed_by};
 ghost use Rattle.weighted_total.specs.Shapes.{AreEnds, counted, outline};
 
-use crate::inside::{Extremes, area_inside, extremes_inside, piece, sum, widened};
+use crate::inside::{Extremes, area_inside, extremes_inside, sum, widened};
 use crate::shape::{Ends, ends_of};
-use late_insert::Content;
+use late_insert::{Content, piece};
 use trend_num::{Measure, Point, round_half_up};
 
 /// A measure of the window of a line from one time to a later one: none exactly where the window starts before the first

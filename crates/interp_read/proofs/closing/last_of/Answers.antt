@@ -1,6 +1,6 @@
 use Rattle.std.proofs.Common.{◌≡◌, ◌+◌, ◌-◌, sym, arith}
 use Rattle.trend_model.specs.Contents.{points_of}
-use Rattle.interp_read.proofs.RisingPoints.{last_take}
+use Rattle.late_insert.proofs.Ranges.{last_take}
 use Rattle.interp_read.proofs.closing.last_of.Goals as goal
 
 pub returns-else-n-eq0-clause-value : goal.returns-else-n-eq0-clause-value

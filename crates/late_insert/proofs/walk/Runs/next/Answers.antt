@@ -58,8 +58,8 @@ invariant_of-self c =
     is_read c.self.inside.pool.now pages k p c.frame-frame.result.now walk.paged within again c.frame-frame.ensures in
     walk_on _ _ _ _ _ c.min.result _ _ walk more is c.min.ensures
 
-pub returns-clause-run : goal.returns-clause-run
-returns-clause-run c =
+pub returns-clause-front : goal.returns-clause-front
+returns-clause-front c =
     let walk = c.self.invariant in
     let more : c.self.inside.place < c.self.inside.end = omega (arith, walk.ordered) in
     let within = (walk.at more).within in
