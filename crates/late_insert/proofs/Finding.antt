@@ -1,6 +1,6 @@
 -- The page for a time, and the page of a place.
-use Rattle.std.proofs.Common.{◌≡◌, ◌≢◌, ℕ, zero, suc, ◌+◌, ◌-◌, ◌*◌, ◌<◌, ◌≤◌, ◌⊎◌, inl, inr, List, [], ◌∷◌, ◌++◌, length, map, get_or, take, drop, Option, Some, None, All, AllPairs, pos, refl, sym, ap, ◌∙◌, subst, arith, length-append}
-use Rattle.std.proofs.lemmas.List.{get_or_append_left, get_or_default, drop_all, drop_more, length-take-le}
+use Rattle.std.proofs.Common.{◌≡◌, ℕ, zero, suc, ◌+◌, ◌<◌, ◌≤◌, inl, inr, List, [], ◌∷◌, ◌++◌, length, get_or, take, drop, Option, All, AllPairs, pos, sym, ap, ◌∙◌, subst, arith, length-append}
+use Rattle.std.proofs.lemmas.List.{get_or_append_left, get_or_default, drop_all, drop_more}
 use Rattle.std.proofs.lemmas.List.Elements.{All-nil, All-cons, All-head, All-tail, All-weaker}
 use Rattle.std.proofs.lemmas.Bool.{cases_lt}
 use Rattle.trend_num.specs.declared.archive.Rec.{Rec}
@@ -8,10 +8,10 @@ use Rattle.trend_num.specs.declared.archive.Kind.TheVariants.{Kept}
 use Rattle.page_pool.specs.declared.frame.Frame.{Frame}
 use Rattle.late_insert.specs.declared.directory.Page.{Page}
 use Rattle.trend_model.specs.Contents.{IsRising}
-use Rattle.late_insert.specs.Pages.{rec_in, records_in, records_at, page_in, records_of, IsPageAt, ArePagesFrom, ArePages, IsFor}
-use Rattle.trend_model.proofs.Placing.{time, AllBefore, AllAfter, rising_left, rising_right, rising_across}
+use Rattle.late_insert.specs.Pages.{records_in, records_at, page_in, records_of, IsPageAt, ArePagesFrom, ArePages, IsFor}
+use Rattle.trend_model.proofs.Placing.{time, AllBefore, AllAfter, rising_right, rising_across}
 use Rattle.late_insert.proofs.Summing.{length-records_in, get_or-records_in}
-use Rattle.late_insert.proofs.Joining.{all_left, all_right, pages_around, records-around, page_at}
+use Rattle.late_insert.proofs.Joining.{all_left, all_right, records-around, page_at}
 
 -- a record and a page to read past the end of a list
 abbrev pub no_rec : Rec

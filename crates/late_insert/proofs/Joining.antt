@@ -1,18 +1,13 @@
 -- Pages one after another.
-use Rattle.std.proofs.Common.{◌≡◌, ◌≢◌, ℕ, zero, suc, ◌+◌, ◌-◌, ◌*◌, ◌<◌, ◌≤◌, ◌⊎◌, inl, inr, List, [], ◌∷◌, ◌++◌, length, map, get_or, set, take, drop, Option, Some, None, All, AllPairs, refl, sym, ap, ap₂, ◌∙◌, subst, arith, append_assoc, append-nil, length-append, add-zero, zero-add}
-use Rattle.std.specs.List.{flat_map}
-use Rattle.std.proofs.lemmas.List.{get_or_append_left, get_or-append-add, get_or-set_same, get_or-set_other, take-append-drop, drop_more, map-append}
+use Rattle.std.proofs.Common.{◌≡◌, ◌≢◌, ℕ, ◌+◌, ◌<◌, List, [], ◌∷◌, ◌++◌, length, map, get_or, set, take, drop, Option, None, All, refl, sym, ap, ap₂, ◌∙◌, subst, arith, length-append, add-zero, zero-add}
+use Rattle.std.proofs.lemmas.List.{get_or_append_left, get_or-append-add, get_or-set_other, take-append-drop, drop_more}
 use Rattle.std.proofs.lemmas.List.Concat.{flat_map-append}
-use Rattle.std.proofs.lemmas.List.Elements.{All-nil, All-cons, All-head, All-tail, All-append, All-weaker}
-use Rattle.trend_num.specs.declared.archive.Rec.{Rec}
+use Rattle.std.proofs.lemmas.List.Elements.{All-nil, All-cons, All-head, All-tail, All-append}
 use Rattle.page_pool.specs.declared.frame.Frame.{Frame}
 use Rattle.page_pool.specs.Pool.{frame_at}
 use Rattle.late_insert.specs.declared.directory.Page.{Page}
-use Rattle.trend_model.specs.Contents.{IsRising}
 use Rattle.late_insert.specs.Moves.{moved}
-use Rattle.late_insert.specs.Pages.{records_in, records_at, page_in, records_of, IsPage, IsPageAt, ArePagesFrom, AreApart, ids_of}
-use Rattle.trend_model.proofs.Placing.{time, AllBefore, AllAfter}
-use Rattle.late_insert.proofs.Summing.{length-records_in, get_or-records_in}
+use Rattle.late_insert.specs.Pages.{records_at, page_in, records_of, IsPageAt, ArePagesFrom, AreApart, ids_of}
 
 -- ---- facts of each of two lists
 

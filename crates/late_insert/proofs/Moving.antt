@@ -1,6 +1,6 @@
 -- Pages that are moved on.
-use Rattle.std.proofs.Common.{◌≡◌, ℕ, zero, suc, ◌+◌, ◌-◌, ◌^◌, ◌<◌, ◌≤◌, List, [], ◌∷◌, ◌++◌, length, map, get_or, set, take, drop, All, refl, sym, ap, ◌∙◌, subst, arith, length-append}
-use Rattle.std.proofs.lemmas.List.{take_rest, get_or-drop, take_all, drop_all, length-map, length-drop, length-take, get_or_default}
+use Rattle.std.proofs.Common.{◌≡◌, ℕ, ◌+◌, ◌<◌, List, ◌++◌, length, map, get_or, set, take, drop, ap, arith, length-append}
+use Rattle.std.proofs.lemmas.List.{length-map, length-drop, length-take, get_or_default}
 use Rattle.std.proofs.lemmas.List.Edits.{map_over_more}
 use Rattle.late_insert.specs.declared.directory.Page.{Page}
 use Rattle.late_insert.specs.Moves.{moved}

@@ -1,6 +1,6 @@
 -- What is read of the records of pages.
-use Rattle.std.proofs.Common.{◌≡◌, ◌≢◌, ℕ, zero, suc, ◌+◌, ◌-◌, ◌<◌, ◌≤◌, ◌⊎◌, inl, inr, Bool, true, false, cond, List, [], ◌∷◌, ◌++◌, length, map, get_or, take, drop, Option, Some, None, All, nat_lt, count_by, sum_by, refl, sym, ap, ap₂, ◌∙◌, subst, arith, append-nil, length-append}
-use Rattle.std.proofs.lemmas.List.{get_or_append_left, get_or-append-add, get_or-take, get_or-drop, get_or_default, take_at, drop_at, take_more, take_all, drop_all, length-map, length-take-le, length-drop, take-append-drop, map-append}
+use Rattle.std.proofs.Common.{◌≡◌, ℕ, ◌+◌, ◌-◌, ◌<◌, ◌≤◌, ◌⊎◌, inl, inr, true, cond, List, [], ◌∷◌, ◌++◌, length, get_or, take, drop, Option, Some, All, nat_lt, count_by, refl, sym, ap, ap₂, ◌∙◌, subst, arith, append-nil, length-append}
+use Rattle.std.proofs.lemmas.List.{get_or_append_left, get_or-append-add, get_or-take, get_or-drop, get_or_default, take_at, drop_at, take_more, drop_all, length-map, length-take-le, length-drop, map-append}
 use Rattle.std.proofs.lemmas.List.Sums.{sum_by-cons, sum_by-take-drop}
 use Rattle.std.proofs.lemmas.List.Elements.{All-head, All-tail}
 use Rattle.std.specs.Prelude.{FitsSigned}
@@ -8,7 +8,6 @@ use Rattle.std.proofs.lemmas.Int.{to_z-of_z}
 use mir.Syntax.{w128}
 use mir.Val.{of_z, to_z}
 use Rattle.std.proofs.lemmas.Bool.{cases_lt, cases_eq, lt-ltb, le-ltb}
-use Rattle.trend_num.specs.declared.point.Point.{Point}
 use Rattle.trend_num.specs.declared.archive.Rec.{Rec}
 use Rattle.page_pool.specs.declared.frame.Frame.{Frame}
 use Rattle.page_pool.specs.Pool.{frame_at}
@@ -16,11 +15,11 @@ use Rattle.late_insert.specs.declared.directory.Page.{Page}
 use Rattle.trend_model.specs.Contents.{IsRising, points_of}
 use Rattle.trend_model.specs.Windows.{area}
 use Rattle.late_insert.specs.Pages.{rec_in, records_in, records_at, page_in, records_of, IsPage, IsPageAt, ArePages, IsFor, IsOn}
-use Rattle.trend_model.proofs.Placing.{time, AllBefore, AllAfter, rising_left, rising_right}
+use Rattle.trend_model.proofs.Placing.{time, AllBefore, rising_left, rising_right}
 use Rattle.late_insert.proofs.Summing.{length-records_in, get_or-records_in, length-points_in, points_range}
 use Rattle.late_insert.proofs.Areas.{area_fits}
-use Rattle.late_insert.proofs.Joining.{pages_around, records-around, records-append, page_at}
-use Rattle.late_insert.proofs.Finding.{no_rec, no_page}
+use Rattle.late_insert.proofs.Joining.{records-around, records-append, page_at}
+use Rattle.late_insert.proofs.Finding.{no_page}
 
 -- ---- a page among the others
 

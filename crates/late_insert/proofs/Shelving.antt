@@ -1,6 +1,6 @@
 -- What the code makes of a list of pages.
-use Rattle.std.proofs.Common.{◌≡◌, ◌≢◌, true, ℕ, ℤ, pos, zero, suc, ◌+◌, ◌-◌, ◌*◌, ◌^◌, ◌<◌, ◌≤◌, List, [], ◌∷◌, ◌++◌, length, map, get_or, set, take, drop, Option, Some, None, All, Vec, Global, refl, sym, ap, ap₂, ◌∙◌, subst, arith, append_assoc, length-append, append-nil, add-one, inl, inr}
-use Rattle.std.proofs.lemmas.List.{take_at, take_more_set, drop-set-lt, get_or_default, length-map, length-set, length-take-le, length-drop, take-append-drop, take_more, get_or_at, get_or-set_same, get_or-set_other}
+use Rattle.std.proofs.Common.{◌≡◌, true, ℕ, ℤ, zero, suc, ◌+◌, ◌^◌, ◌<◌, ◌≤◌, List, [], ◌∷◌, ◌++◌, length, map, get_or, set, take, drop, Option, Some, All, Vec, Global, sym, ap, ap₂, ◌∙◌, subst, arith, append_assoc, length-append, add-one, inl, inr}
+use Rattle.std.proofs.lemmas.List.{take_at, take_more_set, drop-set-lt, get_or_default, length-map, length-set, length-take-le, length-drop, get_or_at, get_or-set_same, get_or-set_other}
 use Rattle.std.proofs.lemmas.List.Edits.{get_or-insert_at, get_or-insert_below, get_or-insert_above, length-insert}
 use Rattle.std.proofs.lemmas.Bool.{cases_eq, cases_lt}
 use Rattle.late_insert.proofs.Finding.{found_for}
@@ -8,17 +8,16 @@ use Rattle.std.specs.Prelude.{insert}
 use Rattle.std.proofs.lemmas.List.Elements.{All-nil, All-cons, All-set}
 use Rattle.trend_num.specs.declared.archive.Rec.{Rec}
 use Rattle.page_pool.specs.declared.frame.Frame.{Frame}
-use Rattle.page_pool.specs.Pool.{frame_at, Takes, empty_frame}
-use Rattle.trend_num.specs.Ranges.{InRange}
+use Rattle.page_pool.specs.Pool.{Takes, empty_frame}
 use Rattle.late_insert.specs.declared.directory.Page.{Page}
-use Rattle.trend_model.specs.Contents.{IsRising, placed, points_of}
+use Rattle.trend_model.specs.Contents.{placed, points_of}
 use Rattle.trend_model.specs.Windows.{area}
 use Rattle.late_insert.specs.Moves.{moved}
-use Rattle.late_insert.specs.Pages.{AreApart, ids_of, records_in, records_at, page_in, records_of, IsPage, IsPageAt, ArePagesFrom, ArePages, AreHalves, IsFor, IsSplit}
-use Rattle.trend_model.proofs.Placing.{time, placed_middle, rising_nil}
+use Rattle.late_insert.specs.Pages.{records_in, records_at, page_in, records_of, IsPage, ArePagesFrom, ArePages, IsFor, IsSplit}
+use Rattle.trend_model.proofs.Placing.{time, placed_middle}
 use Rattle.late_insert.proofs.Summing.{length-records_in}
-use Rattle.late_insert.proofs.Joining.{pages_around, page_at, records-around}
-use Rattle.late_insert.proofs.Replacing.{pages_put, records-put, put_pages, pages_in_halves, records-split, low_len, high_len}
+use Rattle.late_insert.proofs.Joining.{pages_around, records-around}
+use Rattle.late_insert.proofs.Replacing.{pages_put, records-put, pages_in_halves, records-split, low_len, high_len}
 use Rattle.late_insert.proofs.Reading.{IsRead, end_within}
 
 -- the pages after a record was put into the page at k: its start and stair are written, and the others are moved on

@@ -1,12 +1,11 @@
 -- Totals of a page, counted point by point.
-use Rattle.std.proofs.Common.{◌≡◌, Bool, true, false, ℕ, ◌+◌, ◌-◌, ◌<◌, ◌≤◌, ℤ, pos, ◌+ℤ◌, List, [], ◌∷◌, ◌++◌, length, get_or, take, drop}
-use Rattle.std.proofs.Common.{All, map, refl, sym, ap, ap₂, ◌∙◌, subst, arith}
+use Rattle.std.proofs.Common.{◌≡◌, Bool, false, ℕ, ◌+◌, ◌-◌, ◌<◌, ◌≤◌, ℤ, ◌+ℤ◌, List, [], ◌∷◌, ◌++◌, length, get_or, take, drop}
+use Rattle.std.proofs.Common.{All, refl, sym, ap, ap₂, ◌∙◌, subst, arith}
 use Rattle.std.specs.Prelude.{FitsSigned, insert}
 use Rattle.std.specs.Int.{int_min, int_max, w128, w64}
-use Rattle.std.specs.List.{range_with_len}
-use Rattle.std.proofs.lemmas.Int.{ints, fits_signed_from_abs}
-use Rattle.std.proofs.lemmas.List.{take_all, take_more, drop_more, get_or-drop, length-take, length-drop, length-map, get_or-map, map_push}
-use Rattle.std.proofs.lemmas.List.Edits.{length-insert, insert_end, get_or-insert_at}
+use Rattle.std.proofs.lemmas.Int.{fits_signed_from_abs}
+use Rattle.std.proofs.lemmas.List.{take_all, drop_more, get_or-drop, length-take, length-drop, length-map, get_or-map, map_push}
+use Rattle.std.proofs.lemmas.List.Edits.{insert_end}
 use Rattle.std.proofs.lemmas.List.FromFn.{length-map-range_with_len, get_or-map-range_with_len}
 use Rattle.std.proofs.lemmas.List.Elements.{All-take, All-drop, All-map}
 use Rattle.trend_num.specs.declared.point.Point.{Point}
@@ -17,7 +16,7 @@ use Rattle.late_insert.specs.Pages.{rec_in, records_in, IsRecorded, IsPage}
 use Rattle.trend_model.specs.Contents.{points_of}
 use Rattle.trend_model.specs.Windows.{area, piece}
 use Rattle.late_insert.specs.Totals.{least_of, greatest_of}
-use Rattle.late_insert.proofs.Areas.{area_put, area_more, area_one, least_more, greatest_more, least_push, greatest_push, area_fits}
+use Rattle.late_insert.proofs.Areas.{area_put, area_more, least_more, greatest_more, least_push, greatest_push, area_fits}
 
 -- ---- the records of a frame
 

@@ -1,10 +1,9 @@
 -- A walk over the records of pages.
-use Rattle.std.proofs.Common.{◌≡◌, ℕ, ◌+◌, ◌-◌, ◌^◌, ◌<◌, ◌≤◌, inl, inr, true, ℤ, List, [], ◌∷◌, ◌++◌, length, get_or, take, drop}
-use Rattle.std.proofs.Common.{Option, Some, refl, sym, ap, ◌∙◌, subst, arith, length-append}
+use Rattle.std.proofs.Common.{◌≡◌, ℕ, ◌+◌, ◌-◌, ◌^◌, ◌<◌, ◌≤◌, inl, inr, true, ℤ, List, ◌++◌, length, get_or, take}
+use Rattle.std.proofs.Common.{Option, sym, ap, ◌∙◌, arith, length-append}
 use Rattle.std.specs.Prelude.{min, slice_range}
 use Rattle.std.proofs.lemmas.List.{same_lists, take_all, length-map, get_or-map}
 use Rattle.std.proofs.lemmas.Bool.{cases_lt}
-use Rattle.trend_num.specs.declared.point.Point.{Point}
 use Rattle.trend_num.specs.declared.archive.Rec.{Rec}
 use Rattle.page_pool.specs.declared.frame.Frame.{Frame}
 use Rattle.late_insert.specs.declared.directory.Page.{Page}
@@ -15,7 +14,7 @@ use Rattle.late_insert.proofs.Summing.{length-records_in, points_in, length-poin
 use Rattle.late_insert.proofs.Joining.{page_at}
 use Rattle.late_insert.proofs.Finding.{no_rec, no_page}
 use Rattle.late_insert.proofs.Ranges.{range_joined, get_or-range, length-range}
-use Rattle.late_insert.proofs.Reading.{IsRead, each_read, at_place, frame_page, read_on, records_upto, place_on, is_on, end_within, page_from, page_upto}
+use Rattle.late_insert.proofs.Reading.{IsRead, each_read, at_place, frame_page, read_on, records_upto, place_on, is_on, page_from, page_upto}
 
 -- a walk from a place, on the page that was found for it
 pub walk_first : (pool : List (Option Frame)) (pages : List Page) (k first behind : ℕ) → ArePages pool pages → k < length pages → first ≤ behind

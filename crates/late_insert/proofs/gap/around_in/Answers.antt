@@ -1,4 +1,4 @@
-use Rattle.std.proofs.Common.{◌≡◌, ◌≢◌, Some, sym, ◌∙◌, arith}
+use Rattle.std.proofs.Common.{◌≡◌, ◌≢◌, Some, sym, ◌∙◌}
 use Rattle.std.specs.Prelude.{slice_get}
 use Rattle.trend_num.specs.declared.point.Point.{Point}
 use Rattle.trend_model.specs.Contents.{points_of}

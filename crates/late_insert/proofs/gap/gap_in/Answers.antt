@@ -1,7 +1,4 @@
-use Rattle.std.proofs.Common.{◌≡◌, ℕ, ◌+◌, ◌-◌, ◌<◌, ◌≤◌, List, All, AllPairs, take, drop, ap, sym, ◌∙◌, get_or, length, subst, arith}
-use Rattle.trend_num.specs.declared.archive.Rec.{Rec}
-use Rattle.late_insert.specs.declared.directory.Page.{Page}
-use Rattle.trend_model.specs.Contents.{IsRising}
+use Rattle.std.proofs.Common.{arith}
 use Rattle.late_insert.proofs.Finding.{starts_rise, found_for}
 use Rattle.late_insert.proofs.Reading.{is_read, frame_page, frame_rises, gap_within, gap_before, gap_after}
 use Rattle.late_insert.proofs.gap.gap_in.Goals as goal

@@ -1,4 +1,4 @@
-use Rattle.std.proofs.Common.{◌≡◌, ◌+◌, ◌-◌, ◌<◌, ◌≤◌, sym, ◌∙◌, arith}
+use Rattle.std.proofs.Common.{sym, ◌∙◌, arith}
 use Rattle.late_insert.proofs.Finding.{firsts_rise}
 use Rattle.late_insert.proofs.Reading.{is_read, frame_page, page_from, page_upto, read_at}
 use Rattle.late_insert.proofs.gap.rec_in.Goals as goal

@@ -1,4 +1,4 @@
-use Rattle.std.proofs.Common.{◌≡◌, ◌+◌, ◌-◌, ◌<◌, ◌≤◌, sym, ◌∙◌, arith}
+use Rattle.std.proofs.Common.{sym, ◌∙◌, arith}
 use Rattle.late_insert.proofs.Reading.{is_read, frame_page, read_on}
 use Rattle.late_insert.proofs.gap.rec_near.Goals as goal
 

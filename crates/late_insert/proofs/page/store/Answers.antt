@@ -1,8 +1,6 @@
-use Rattle.std.proofs.Common.{ℕ, ◌+◌, ◌<◌, pos, refl, ap, ◌∙◌, arith}
+use Rattle.std.proofs.Common.{pos, refl, ap, ◌∙◌, arith}
 use Rattle.std.specs.Int.{w64}
 use Rattle.std.proofs.lemmas.Int.{to_z-of_z}
-use Rattle.page_pool.specs.declared.frame.Frame.{Frame}
-use Rattle.trend_num.specs.declared.archive.Rec.{Rec}
 use Rattle.late_insert.specs.Pages.{kind_of}
 use Rattle.late_insert.proofs.Summing.{value_fits}
 use Rattle.late_insert.proofs.Storing.{one_more, IsInserted, same_rec, records-inserted, range-inserted}

@@ -1,6 +1,5 @@
-use Rattle.std.proofs.Common.{◌≡◌, ◌≢◌, ℕ, pos, ◌<◌, List, [], ◌∷◌, ◌++◌, Option, Some, ap, ap₂, sym, refl, ◌∙◌, subst, arith, append-nil}
+use Rattle.std.proofs.Common.{pos, [], ◌∷◌, ◌++◌, ap, ◌∙◌}
 use Rattle.page_pool.specs.Pool.{Takes}
-use Rattle.late_insert.specs.Pages.{ArePages, records_of}
 use Rattle.late_insert.proofs.Opening.{first_page_is, no_records}
 use Rattle.late_insert.proofs.shelf.first_page.Goals as goal
 

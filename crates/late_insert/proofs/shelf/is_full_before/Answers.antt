@@ -1,4 +1,4 @@
-use Rattle.std.proofs.Common.{◌≡◌, ◌<◌, ◌-◌, length, ap, ◌∙◌, arith}
+use Rattle.std.proofs.Common.{◌-◌, length, ap, ◌∙◌, arith}
 use Rattle.page_pool.specs.Pool.{frame_at}
 use Rattle.late_insert.specs.declared.directory.Page.{Page}
 use Rattle.std.proofs.lemmas.Bool.{ltb-true}

@@ -1,7 +1,5 @@
-use Rattle.std.proofs.Common.{◌≡◌, ℕ, ◌+◌, ◌<◌, ◌≤◌, List, AllPairs, Some, ap, sym, ◌∙◌, get_or, length, subst, arith}
+use Rattle.std.proofs.Common.{ℕ, ◌<◌, ◌≤◌, AllPairs, sym, get_or, length, subst, arith}
 use Rattle.late_insert.specs.declared.directory.Page.{Page}
-use Rattle.late_insert.specs.Pages.{records_at, page_in}
-use Rattle.late_insert.proofs.Summing.{length-records_in}
 use Rattle.late_insert.proofs.Finding.{starts_rise, found_for}
 use Rattle.late_insert.proofs.Reading.{IsRead, frame_page}
 use Rattle.late_insert.proofs.Shelving.{page_len, upper_found, lower_found, within_split}

@@ -1,11 +1,11 @@
-use Rattle.std.proofs.Common.{◌≡◌, ◌<◌, true, ap, sym, ◌∙◌, subst, rules, arith}
+use Rattle.std.proofs.Common.{true, ap, sym, ◌∙◌, subst, rules, arith}
 use Rattle.std.specs.Prelude.{FitsSigned}
 use Rattle.std.specs.Int.{w128}
 use Rattle.std.proofs.lemmas.Int.{to_z-of_z}
 use Rattle.page_pool.specs.Pool.{Takes, empty_frame}
 use Rattle.trend_model.specs.Contents.{points_of}
 use Rattle.trend_model.specs.Windows.{area}
-use Rattle.late_insert.specs.Pages.{ArePages, IsPage, records_in, records_of}
+use Rattle.late_insert.specs.Pages.{IsPage, records_in}
 use Rattle.late_insert.proofs.Opening.{empty_page, empty_stair, taken_empty, only_record, pages_opened, records-opened, len-opened}
 use Rattle.late_insert.proofs.shelf.open_page.Goals as goal
 

@@ -1,4 +1,4 @@
-use Rattle.std.proofs.Common.{Some, ap, sym, ◌∙◌, get_or, length, rules, arith}
+use Rattle.std.proofs.Common.{ap, sym, ◌∙◌, length, rules, arith}
 use Rattle.late_insert.specs.Pages.{records_at, page_in}
 use Rattle.late_insert.proofs.Summing.{length-records_in}
 use Rattle.std.specs.Prelude.{FitsSigned, is_some}

@@ -1,4 +1,4 @@
-use Rattle.std.proofs.Common.{◌≡◌, ℕ, ◌<◌, Vec, Option, Some, Result, Ok, Err, true, ap, sym, ◌∙◌, get_or, set, length, refl, rules, arith, subst}
+use Rattle.std.proofs.Common.{◌≡◌, Some, Result, Ok, Err, true, ap, ◌∙◌, set, refl, rules, arith}
 use Rattle.std.specs.Prelude.{FitsSigned, IsOk, is_err, is_some}
 use Rattle.std.specs.Int.{w128}
 use Rattle.std.proofs.lemmas.Int.{to_z-of_z}

@@ -1,9 +1,9 @@
-use Rattle.std.proofs.Common.{◌≡◌, ◌<◌, ◌+◌, ◌-◌, pos, take, drop, refl, subst, sym, ap, ◌∙◌, arith, rules}
+use Rattle.std.proofs.Common.{◌≡◌, ◌+◌, ◌-◌, pos, take, drop, refl, subst, sym, ap, ◌∙◌, arith, rules}
 use Rattle.std.specs.Prelude.{FitsSigned}
 use Rattle.std.specs.Int.{w128}
 use Rattle.std.proofs.lemmas.Int.{to_z-of_z}
 use Rattle.trend_num.specs.Ranges.{InRange}
-use Rattle.trend_model.specs.Windows.{area, piece}
+use Rattle.trend_model.specs.Windows.{area}
 use Rattle.late_insert.proofs.Summing.{points_in, rec_in_range, total_first, area_total, total_fits}
 use Rattle.late_insert.proofs.total.area_between.Goals as goal
 

@@ -1,9 +1,9 @@
-use Rattle.std.proofs.Common.{◌≡◌, ◌+◌, ◌-◌, take, drop, refl, ap, ◌∙◌, arith, rules}
+use Rattle.std.proofs.Common.{◌≡◌, ◌-◌, take, drop, refl, ap, ◌∙◌, arith, rules}
 use Rattle.std.specs.Prelude.{FitsSigned}
-use Rattle.std.specs.Int.{w64, int_max}
+use Rattle.std.specs.Int.{w64}
 use Rattle.std.proofs.lemmas.Int.{to_z-of_z}
 use Rattle.late_insert.specs.Totals.{greatest_of}
-use Rattle.late_insert.proofs.Summing.{points_in, value_fits, IsTotal, total_first, greatest_total}
+use Rattle.late_insert.proofs.Summing.{points_in, value_fits, total_first, greatest_total}
 use Rattle.late_insert.proofs.total.high_between.Goals as goal
 
 pub loop-i-init : goal.loop-i-init

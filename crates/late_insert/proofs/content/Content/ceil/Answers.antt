@@ -1,4 +1,4 @@
-use Rattle.std.proofs.Common.{ap, ◌∙◌, length, arith}
+use Rattle.std.proofs.Common.{ap, length, arith}
 use Rattle.late_insert.proofs.Nearest.{ceil_there}
 use Rattle.late_insert.proofs.content.Content.ceil.Goals as goal
 

@@ -1,5 +1,4 @@
-use Rattle.std.proofs.Common.{◌≡◌, false, ℕ, ◌+◌, ◌-◌, ◌<◌, ◌≤◌, List, All, AllPairs, take, drop, ap, sym, ◌∙◌, get_or, length, subst, arith, rules}
-use Rattle.trend_num.specs.declared.archive.Rec.{Rec}
+use Rattle.std.proofs.Common.{false, ℕ, ◌+◌, ◌-◌, ◌<◌, ◌≤◌, AllPairs, take, drop, ap, sym, ◌∙◌, get_or, length, subst, rules}
 use Rattle.late_insert.specs.declared.directory.Page.{Page}
 use Rattle.std.specs.Prelude.{FitsSigned}
 use Rattle.std.specs.Int.{w64, w128}

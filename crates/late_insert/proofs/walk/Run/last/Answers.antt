@@ -1,4 +1,4 @@
-use Rattle.std.proofs.Common.{◌≡◌, ◌≤◌, ◌-◌, Some, sym, ap, ◌∙◌, arith}
+use Rattle.std.proofs.Common.{◌≤◌, ◌-◌, Some, sym, ap, ◌∙◌, arith}
 use Rattle.trend_model.specs.Parts.{last_point}
 use Rattle.late_insert.proofs.Summing.{points_in, length-points_in, get_or-points_in}
 use Rattle.late_insert.proofs.Ranges.{range_last}

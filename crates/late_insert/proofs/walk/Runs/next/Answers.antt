@@ -1,6 +1,5 @@
-use Rattle.std.proofs.Common.{◌≡◌, ◌+◌, ◌<◌, ◌≤◌, sym, ◌∙◌, get_or, arith}
+use Rattle.std.proofs.Common.{◌<◌, sym, ◌∙◌, get_or, arith}
 use Rattle.std.proofs.lemmas.List.{get_or_default}
-use Rattle.late_insert.specs.declared.directory.Page.{Page}
 use Rattle.late_insert.proofs.Reading.{IsRead, is_read, place_on, stair_again}
 use Rattle.late_insert.proofs.Walking.{run_is, run_some, walk_on, walk_split}
 use Rattle.late_insert.proofs.walk.Runs.next.Goals as goal
