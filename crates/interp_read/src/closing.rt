@@ -52,7 +52,8 @@ pub struct Neighbours {
     pub after: Option<Point>,
 }
 
-/// The points of the closed content next to t, by one search. The held point is not before a point of the content.
+/// The points of the closed content next to t, by one search. The held point is not before a point of the
+/// content.
 pub fn neighbours_at(content: &Content, held: Option<Point>, t: u64) -> Neighbours
     requires range { IfThere InRange held }
     requires last { IfThere (IsNotBefore content.now.records) held }

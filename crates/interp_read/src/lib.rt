@@ -1,8 +1,8 @@
 //! Reads of a tag's content: what stands at a time, and the points from one time to another.
 //!
-//! A content is closed by the tag's held point, where the caller gives one: the point counts as one more, unless something
-//! stands at its time. `Reads` of the model says what a list of points reads as, for lines and for the stairs of a step tag;
-//! each call here says that of the closed content. Reads take no memory.
+//! A content is closed by the tag's held point, where the caller gives one: the point counts as one more,
+//! unless something stands at its time. `Reads` of the model says what a list of points reads as, for lines
+//! and for the stairs of a step tag; each call here says that of the closed content. Reads take no memory.
 #![tactic(auto)]
 
 mod closing;

@@ -11,8 +11,9 @@ use crate::closing::{Neighbours, neighbours_at};
 use late_insert::Content;
 use trend_num::{Point, Reading, line_at};
 
-/// What the line of a tag reads at t: the value of a point there, between two points that of the line between them, after
-/// the last point its value, and nothing before the first. The held point is not before a point of the content.
+/// What the line of a tag reads at t: the value of a point there, between two points that of the line between
+/// them, after the last point its value, and nothing before the first. The held point is not before a point
+/// of the content.
 pub fn at(content: &Content, held: Option<Point>, t: u64) -> Reading
     requires range { IfThere InRange held }
     requires last { IfThere (IsNotBefore content.now.records) held }
@@ -21,8 +22,8 @@ pub fn at(content: &Content, held: Option<Point>, t: u64) -> Reading
     read(content, held, false, t)
 }
 
-/// What the stair of a step tag reads at t: the value of a point there, else that of the last point before it, and nothing
-/// before the first. The held point is not before a point of the content.
+/// What the stair of a step tag reads at t: the value of a point there, else that of the last point before
+/// it, and nothing before the first. The held point is not before a point of the content.
 pub fn at_step(content: &Content, held: Option<Point>, t: u64) -> Reading
     requires range { IfThere InRange held }
     requires last { IfThere (IsNotBefore content.now.records) held }

@@ -1,5 +1,6 @@
 // A walk over the points of a content, in runs of points that stand in one page.
-ghost use Rattle.std.specs.Prelude.{◌≡◌, ◌^◌, ◌<◌, ◌≤◌, [], ◌++◌, IfNone, IfSome, Some, length, slice_get, slice_range};
+ghost use Rattle.std.specs.Prelude.{◌≡◌, ◌^◌, ◌<◌, ◌≤◌, [], ◌++◌, IfNone, IfSome, Some, length, slice_get};
+ghost use Rattle.std.specs.Prelude.{slice_range};
 ghost use Rattle.trend_num.specs.Ranges.{InRange};
 ghost use Rattle.trend_model.specs.Contents.{points_of};
 ghost use Rattle.trend_model.specs.Parts.{last_point};
@@ -13,7 +14,8 @@ use page_pool::{Frame, Pool};
 use std::marker::Model;
 use trend_num::Point;
 
-/// Points of a content that stand one after another in one page. Those of a whole page are measured by its totals.
+/// Points of a content that stand one after another in one page. Those of a whole page are measured by its
+/// totals.
 #[derive(Drop)]
 pub struct Run<'a> {
     frame: &'a Frame,

@@ -1,11 +1,15 @@
 -- The ends of a window's shape, and the points inside.
-use Rattle.std.proofs.Common.{◌≡◌, ℕ, zero, suc, ◌+◌, ◌-◌, ◌<◌, ◌≤◌, inl, inr, ℤ, pos, Bool, true, false, nat_lt, nat_le, List, [], ◌∷◌, ◌++◌, Option, None, Some, All, length, get_or, take, drop, refl, sym, ap, ap₂, ◌∙◌, subst, arith, append-nil}
+use Rattle.std.proofs.Common.{◌≡◌, ℕ, zero, suc, ◌+◌, ◌-◌, ◌<◌, ◌≤◌, inl, inr, ℤ, pos, Bool, true, false}
+use Rattle.std.proofs.Common.{nat_lt, nat_le, List, [], ◌∷◌, ◌++◌, Option, None, Some, All, length, get_or}
+use Rattle.std.proofs.Common.{take, drop, refl, sym, ap, ap₂, ◌∙◌, subst, arith, append-nil}
 use Rattle.std.specs.Prelude.{◌&&◌, count_by, slice_get, slice_range}
 use Rattle.std.specs.List.{filter}
 use Rattle.std.specs.Option.{option_to_list}
-use Rattle.std.proofs.lemmas.Bool.{and_left, and_parts, and_right, cases_lt, false≢true, le-leb, le-ltb, leb-true, lt-leb, lt-ltb}
+use Rattle.std.proofs.lemmas.Bool.{and_left, and_parts, and_right, cases_lt, false≢true, le-leb, le-ltb}
+use Rattle.std.proofs.lemmas.Bool.{leb-true, lt-leb, lt-ltb}
 use Rattle.std.proofs.lemmas.List.{get_or-drop, get_or-take, length-drop, length-map, length-take, take_all}
-use Rattle.std.proofs.lemmas.List.Elements.{All-append, All-cons, All-drop, All-head, All-nil, All-take, All-weaker, filter-append}
+use Rattle.std.proofs.lemmas.List.Elements.{All-append, All-cons, All-drop, All-head, All-nil, All-take}
+use Rattle.std.proofs.lemmas.List.Elements.{All-weaker, filter-append}
 use Rattle.std.proofs.lemmas.Slice.{between_is}
 use Rattle.trend_num.specs.declared.archive.Rec.{Rec}
 use Rattle.trend_num.specs.declared.point.Point.{Point}
@@ -21,7 +25,8 @@ use Rattle.trend_model.proofs.WindowLaw.{inside, rises_rest}
 use Rattle.interp_read.specs.Closing.{IsNotBefore, points_closed_by}
 use Rattle.interp_read.proofs.ClosedPoints.{IsClosed, closed, closed_in_range, closed_rise}
 use Rattle.interp_read.proofs.Listing.{kept_middle}
-use Rattle.interp_read.proofs.RisingPoints.{Before, From, IsGapAt, first_parts, gap_at, no_first, no_last, rises_push}
+use Rattle.interp_read.proofs.RisingPoints.{Before, From, IsGapAt, first_parts, gap_at, no_first, no_last}
+use Rattle.interp_read.proofs.RisingPoints.{rises_push}
 use Rattle.interp_read.specs.NextTo.{AreNeighbours}
 use Rattle.interp_read.proofs.ReadsNextTo.{before_is}
 use Rattle.weighted_total.proofs.Walking.{last_is}
@@ -53,7 +58,8 @@ not_true true never = absurd (never refl)
 not_true false never = refl
 
 -- where no point stands from the end on, the window is not covered
-pub uncovered_end : (cs : List Point) (from to : ℕ) (before after : Option Point) → AreNeighbours cs to before after → after ≡ None
+pub uncovered_end : (cs : List Point) (from to : ℕ) (before after : Option Point)
+    → AreNeighbours cs to before after → after ≡ None
     → is_covered cs from to ≡ false
 uncovered_end cs from to None after near none =
     let front = no_last near.earlier near.last in
@@ -61,13 +67,16 @@ uncovered_end cs from to None after near none =
     rw (near.whole ∙ ap₂ (λ a b. a ++ b) front back) refl
 uncovered_end cs from to (Some z) after near none =
     let back = no_first near.later (near.first ∙ none) in
-    let whole : cs ≡ near.earlier = near.whole ∙ (ap (λ l. near.earlier ++ l) back ∙ append-nil near.earlier) in
+    let whole : cs ≡ near.earlier = near.whole
+    ∙ (ap (λ l. near.earlier ++ l) back ∙ append-nil near.earlier) in
     let last : last_point cs ≡ Some z = ap last_point whole ∙ near.last in
     let early = before_is cs to z after near in
-    not_true (is_covered cs from to) (λ covered. let reach = ends_before cs z from to last covered in absurd (omega arith))
+    not_true (is_covered cs from to) (λ covered. let reach = ends_before cs z from to last covered in absurd
+    (omega arith))
 
 -- points from a time on end at it or after it
-ends_from : (p : Point) (ps earlier : List Point) (q : Point) (more : List Point) (to : ℕ) → p ∷ ps ≡ earlier ++ q ∷ more
+ends_from : (p : Point) (ps earlier : List Point) (q : Point) (more : List Point) (to : ℕ)
+    → p ∷ ps ≡ earlier ++ q ∷ more
     → All (From to) (q ∷ more) → to ≤ last_time_from p ps
 ends_from p ps [] q more to is from =
     let same : p ≡ q = cc in
@@ -84,12 +93,14 @@ ends_from p ps (e ∷ es) q more to is from =
 
 -- a window with a value at its start and a point from its end on is covered
 pub covered_by : (step : Bool) (cs : List Point) (from to : ℕ) (v : ℤ) (before : Option Point) (q : Point)
-    → value_read (read_at step cs from) ≡ Some v → AreNeighbours cs to before (Some q) → is_covered cs from to ≡ true
+    → value_read (read_at step cs from) ≡ Some v → AreNeighbours cs to before (Some q)
+    → is_covered cs from to ≡ true
 covered_by step [] from to v before q value near = cc
 covered_by step (p ∷ ps) from to v before q value near =
     let parts = first_parts near.later q near.first in
     let whole : p ∷ ps ≡ near.earlier ++ q ∷ parts.0 = near.whole ∙ ap (λ l. near.earlier ++ l) parts.1 in
-    let reach = ends_from p ps near.earlier q parts.0 to whole (subst (All (From to)) parts.1 near.later_are) in
+    let reach = ends_from p ps near.earlier q parts.0 to whole
+    (subst (All (From to)) parts.1 near.later_are) in
     elim (cases_lt from p.t) [
       | inl early ↦ let none = rw (lt-ltb from p.t early) at value in cc
       | inr starts ↦ rw (le-leb p.t from starts, le-leb to (last_time_from p ps) reach) refl
@@ -165,7 +176,8 @@ counted_places ps from to a b order first second =
     ) refl in
     kept_middle f ps a b early late middle
 
--- a held point that is added is not before the end of a covered window, so a test that fails from there on passes it
+-- a held point that is added is not before the end of a covered window, so a test that fails from there on
+-- passes it
 -- over
 passed_over : (f : Point → Bool) (held : Option Point) (cs ps : List Point) (from to : ℕ)
     → IsClosed held cs ps
@@ -215,7 +227,8 @@ pub found_shape : (step : Bool) (held : Option Point) (l : List Rec) (from to : 
     → e.first ≡ count_by (λ r. nat_lt r.point.t (from + 1)) l
     → e.behind ≡ count_by (λ r. nat_lt r.point.t to) l
     → IsShape step (points_closed_by held l) (points_of l) from to e
-found_shape step held l from to e rises range held_range not_before order reach covered starts ends start end first
+found_shape step held l from to e rises range held_range not_before order reach covered starts ends start end
+first
     behind =
     let In : Point → Type 0 = λ p. InRange p in
     let ps = points_of l in

@@ -1,5 +1,6 @@
 -- Totals of lists of points.
-use Rattle.std.proofs.Common.{◌≡◌, ℕ, ◌+◌, ◌-◌, ◌*◌, ◌≤◌, ℤ, pos, ◌+ℤ◌, Bool, true, false, List, [], ◌∷◌, ◌++◌, All, refl, sym, ap, ◌∙◌, fold, arith}
+use Rattle.std.proofs.Common.{◌≡◌, ℕ, ◌+◌, ◌-◌, ◌*◌, ◌≤◌, ℤ, pos, ◌+ℤ◌, Bool, true, false, List, [], ◌∷◌}
+use Rattle.std.proofs.Common.{◌++◌, All, refl, sym, ap, ◌∙◌, fold, arith}
 use Rattle.std.specs.Prelude.{unsigned_abs}
 use Rattle.std.specs.Int.{int_min, int_max}
 use Rattle.std.proofs.lemmas.Int.{ints, unsigned_abs-mul}
@@ -84,7 +85,8 @@ area_of_span step p (x ∷ xs) rises range =
     omega (arith, sum, times)
 
 -- the last of points from a time on is from it on
-pub last_from_all : (t : ℕ) (p : Point) (xs : List Point) → All (λ q. t ≤ q.t) (p ∷ xs) → t ≤ (last_from p xs).t
+pub last_from_all : (t : ℕ) (p : Point) (xs : List Point) → All (λ q. t ≤ q.t) (p ∷ xs)
+    → t ≤ (last_from p xs).t
 last_from_all t p [] from = All-head (λ q. t ≤ q.t) p [] from
 last_from_all t p (x ∷ xs) from = last_from_all t x xs (All-tail (λ q. t ≤ q.t) p (x ∷ xs) from)
 

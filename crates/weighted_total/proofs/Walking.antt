@@ -1,5 +1,6 @@
 -- A walk over the points of a window, in runs.
-use Rattle.std.proofs.Common.{◌≡◌, ℕ, ◌+◌, ◌-◌, ◌*◌, ◌<◌, ◌≤◌, ℤ, ◌+ℤ◌, Bool, true, false, List, [], ◌∷◌, ◌++◌, Some, All, length}
+use Rattle.std.proofs.Common.{◌≡◌, ℕ, ◌+◌, ◌-◌, ◌*◌, ◌<◌, ◌≤◌, ℤ, ◌+ℤ◌, Bool, true, false, List, [], ◌∷◌}
+use Rattle.std.proofs.Common.{◌++◌, Some, All, length}
 use Rattle.std.proofs.Common.{refl, sym, ap, ap₂, ◌∙◌, subst, arith, append_assoc, append-nil}
 use Rattle.std.specs.Prelude.{drop, slice_get, slice_range, unsigned_abs}
 use Rattle.std.proofs.lemmas.List.Elements.{All-cons, All-drop, All-take}
@@ -12,7 +13,8 @@ use Rattle.trend_model.specs.Windows.{area, greater, greatest_from, last_from, l
 use Rattle.late_insert.specs.Totals.{greatest_of, least_of}
 use Rattle.late_insert.proofs.Joining.{all_left, all_right}
 use Rattle.interp_read.proofs.RisingPoints.{first_parts}
-use Rattle.weighted_total.proofs.Sums.{area_joined, area_small, greatest_joined, greatest_of_is, last_joined, least_joined, least_of_is}
+use Rattle.weighted_total.proofs.Sums.{area_joined, area_small, greatest_joined, greatest_of_is, last_joined}
+use Rattle.weighted_total.proofs.Sums.{least_joined, least_of_is}
 
 -- the last of some points
 pub last_is : (p : Point) (rest : List Point) → last_point (p ∷ rest) ≡ Some (last_from p rest)
@@ -50,18 +52,21 @@ pub taken_all : (inner taken rest : List Point) → IsTaken inner taken rest →
 taken_all inner taken rest is none = sym (append-nil taken) ∙ (ap (λ l. taken ++ l) (sym none) ∙ sym is.parts)
 
 -- a run more
-pub taken_more : (inner taken old run new : List Point) → IsTaken inner taken old → old ≡ run ++ new → IsTaken inner (taken ++ run) new
+pub taken_more : (inner taken old run new : List Point) → IsTaken inner taken old → old ≡ run ++ new
+    → IsTaken inner (taken ++ run) new
 taken_more inner taken old run new is split =
     record { parts = is.parts ∙ (ap (λ l. taken ++ l) split ∙ sym (append_assoc taken run new)) }
 
 -- the points of a range are in range
-pub inner_range : (l : List Rec) (first behind : ℕ) → All InRange (points_of l) → All (λ p. InRange p) (slice_range (points_of l) first behind)
+pub inner_range : (l : List Rec) (first behind : ℕ) → All InRange (points_of l)
+    → All (λ p. InRange p) (slice_range (points_of l) first behind)
 inner_range l first behind range =
     let In : Point → Type 0 = λ p. InRange p in
     All-take In (behind - first) (drop first (points_of l)) (All-drop In first (points_of l) range)
 
 -- the sums over the start and what was taken
-pub record IsWalked (step : Bool) (start : Point) (inner rest : List Point) (twice : ℤ) (last : Point) : Type 0 where
+pub record IsWalked (step : Bool) (start : Point) (inner rest : List Point) (twice : ℤ) (last : Point) : Type
+    0 where
   pub taken : List Point
   pub is : IsTaken inner taken rest
   pub twice_is : twice ≡ area step (start ∷ taken)
@@ -88,39 +93,49 @@ module _ (step : Bool) (start : Point) (inner old run new : List Point) (twice :
   after : IsTaken inner (walk.taken ++ run) new
   after = taken_more inner walk.taken old run new walk.is next.split
 
-  pub walk_step : InRange start → All (λ p. InRange p) inner → RisesAfter start inner → IsStep step last q twice (area step run)
+  pub walk_step : InRange start → All (λ p. InRange p) inner → RisesAfter start inner
+      → IsStep step last q twice (area step run)
   walk_step in_range range rises =
       let In : Point → Type 0 = λ p. InRange p in
       let more = run_parts.0 in
       let xs = walk.taken in
       let whole : inner ≡ (xs ++ q ∷ more) ++ new = after.parts ∙ ap (λ l. (xs ++ l) ++ new) run_parts.1 in
-      let upto : RisesAfter start (xs ++ q ∷ more) = rises_front start (xs ++ q ∷ more) new (subst (RisesAfter start) whole rises) in
+      let upto : RisesAfter start (xs ++ q ∷ more) = rises_front start (xs ++ q ∷ more) new
+      (subst (RisesAfter start) whole rises) in
       let all : All In (xs ++ q ∷ more) = all_left In (xs ++ q ∷ more) new (subst (All In) whole range) in
       let seam = rises_seam start xs q more upto in
       record {
         order = rw walk.last_is (omega arith);
         small = rw walk.twice_is
-            (area_small step start xs (rises_front start xs (q ∷ more) upto) (All-cons In start xs in_range (all_left In xs (q ∷ more) all)));
-        small_part = rw run_parts.1 (area_small step q more (rises_back start xs q more upto) (all_right In xs (q ∷ more) all));
+            (area_small step start xs (rises_front start xs (q ∷ more) upto)
+            (All-cons In start xs in_range (all_left In xs (q ∷ more) all)));
+        small_part = rw run_parts.1 (area_small step q more (rises_back start xs q more upto)
+            (all_right In xs (q ∷ more) all));
       }
 
-  pub walk_more : (sum : ℤ) → sum ≡ (twice +ℤ piece step last q) +ℤ area step run → IsWalked step start inner new sum z
+  pub walk_more : (sum : ℤ) → sum ≡ (twice +ℤ piece step last q) +ℤ area step run
+      → IsWalked step start inner new sum z
   walk_more sum is =
       let more = run_parts.0 in
       let xs = walk.taken in
-      let ends : Some z ≡ Some (last_from q more) = sym next.last ∙ (ap last_point run_parts.1 ∙ last_is q more) in
+      let ends : Some z ≡ Some (last_from q more) = sym next.last
+      ∙ (ap last_point run_parts.1 ∙ last_is q more) in
       let end : z ≡ last_from q more = cc in
       record {
         taken = xs ++ run;
         is = after;
         twice_is = is
-            ∙ (ap₂ (λ a b. a +ℤ b) (ap₂ (λ a x. a +ℤ piece step x q) walk.twice_is walk.last_is) (ap (area step) run_parts.1)
-            ∙ (sym (area_joined step start xs q more) ∙ ap (λ l. area step (start ∷ (xs ++ l))) (sym run_parts.1)));
-        last_is = end ∙ (sym (last_joined start xs q more) ∙ ap (λ l. last_from start (xs ++ l)) (sym run_parts.1));
+            ∙ (ap₂ (λ a b. a +ℤ b) (ap₂ (λ a x. a +ℤ piece step x q) walk.twice_is walk.last_is)
+            (ap (area step) run_parts.1)
+            ∙ (sym (area_joined step start xs q more) ∙ ap (λ l. area step (start ∷ (xs ++ l)))
+            (sym run_parts.1)));
+        last_is = end ∙ (sym (last_joined start xs q more) ∙ ap (λ l. last_from start (xs ++ l))
+            (sym run_parts.1));
       }
 
 -- the sums of all
-pub walk_all : (step : Bool) (start : Point) (inner rest : List Point) (twice : ℤ) (last : Point) → IsWalked step start inner rest twice last
+pub walk_all : (step : Bool) (start : Point) (inner rest : List Point) (twice : ℤ) (last : Point)
+    → IsWalked step start inner rest twice last
     → rest ≡ [] → (twice ≡ area step (start ∷ inner)) × (last ≡ last_from start inner)
 walk_all step start inner rest twice last walk none =
     let all = taken_all inner walk.taken rest walk.is none in
@@ -133,17 +148,22 @@ pub record IsSpread (start : Point) (inner rest : List Point) (low high : ℤ) :
   pub low_is : low ≡ least_from start taken
   pub high_is : high ≡ greatest_from start taken
 
-pub spread_more : (start : Point) (inner old run new : List Point) (low high a b : ℤ) → IsSpread start inner old low high → old ≡ run ++ new
-    → 0 < length run → a ≡ lesser low (least_of run) → b ≡ greater high (greatest_of run) → IsSpread start inner new a b
+pub spread_more : (start : Point) (inner old run new : List Point) (low high a b : ℤ)
+    → IsSpread start inner old low high → old ≡ run ++ new
+    → 0 < length run → a ≡ lesser low (least_of run) → b ≡ greater high (greatest_of run)
+    → IsSpread start inner new a b
 spread_more start inner old [] new low high a b spread split some lows highs = absurd (omega arith)
 spread_more start inner old (q ∷ more) new low high a b spread split some lows highs = record {
   taken = spread.taken ++ q ∷ more;
   is = taken_more inner spread.taken old (q ∷ more) new spread.is split;
-  low_is = lows ∙ (ap₂ lesser spread.low_is (least_of_is q more) ∙ sym (least_joined start spread.taken q more));
-  high_is = highs ∙ (ap₂ greater spread.high_is (greatest_of_is q more) ∙ sym (greatest_joined start spread.taken q more));
+  low_is = lows ∙ (ap₂ lesser spread.low_is (least_of_is q more)
+      ∙ sym (least_joined start spread.taken q more));
+  high_is = highs ∙ (ap₂ greater spread.high_is (greatest_of_is q more)
+      ∙ sym (greatest_joined start spread.taken q more));
 }
 
-pub spread_all : (start : Point) (inner rest : List Point) (low high : ℤ) → IsSpread start inner rest low high → rest ≡ []
+pub spread_all : (start : Point) (inner rest : List Point) (low high : ℤ) → IsSpread start inner rest low high
+    → rest ≡ []
     → (low ≡ least_from start inner) × (high ≡ greatest_from start inner)
 spread_all start inner rest low high spread none =
     let all = taken_all inner spread.taken rest spread.is none in

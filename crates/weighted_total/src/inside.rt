@@ -1,9 +1,11 @@
 // Totals over points of a content that stand one after another.
-ghost use Rattle.std.specs.Prelude.{◌≡◌, ◌+◌, ◌*◌, ◌^◌, ◌<◌, ◌≤◌, ◌+ℤ◌, ◌∷◌, false, length, slice_range, unsigned_abs};
+ghost use Rattle.std.specs.Prelude.{◌≡◌, ◌+◌, ◌*◌, ◌^◌, ◌<◌, ◌≤◌, ◌+ℤ◌, ◌∷◌, false, length, slice_range};
+ghost use Rattle.std.specs.Prelude.{unsigned_abs};
 ghost use Rattle.trend_num.specs.Ranges.{InRange, largest_value, last_time};
 ghost use Rattle.trend_model.specs.Contents.{points_of};
 ghost use Rattle.trend_model.specs.Parts.{PointsRise};
-ghost use Rattle.trend_model.specs.Windows.{area, greater, greatest_from, last_from, least_from, lesser, piece};
+ghost use Rattle.trend_model.specs.Windows.{area, greater, greatest_from, last_from, least_from, lesser};
+ghost use Rattle.trend_model.specs.Windows.{piece};
 
 use late_insert::{Content, piece};
 use trend_num::Point;
@@ -91,7 +93,8 @@ pub(crate) struct Extremes {
     pub high: i64,
 }
 
-/// The least value and the greatest of a start and of the points at the places from `first` on, before `behind`.
+/// The least value and the greatest of a start and of the points at the places from `first` on, before
+/// `behind`.
 pub(crate) fn extremes_inside(content: &Content, start: Point, first: u32, behind: u32) -> Extremes
     requires order { first ≤ behind }
     requires within { behind ≤ length content.now.records }

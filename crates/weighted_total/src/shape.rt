@@ -38,7 +38,8 @@ pub(crate) fn ends_of(
     requires last { IfThere (IsNotBefore content.now.records) held }
     requires order { from < to }
     requires reach { to ≤ last_time }
-    ensures shape { IfSome result (IsShape step (points_closed_by held content.now.records) (points_of content.now.records) from to) }
+    ensures shape { IfSome result
+        (IsShape step (points_closed_by held content.now.records) (points_of content.now.records) from to) }
     ensures uncovered { IfNone result (is_covered (points_closed_by held content.now.records) from to ≡ false) }
 {
     let _len = content.len();

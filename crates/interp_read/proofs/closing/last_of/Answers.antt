@@ -7,4 +7,5 @@ pub returns-else-n-eq0-clause-value : goal.returns-else-n-eq0-clause-value
 returns-else-n-eq0-clause-value c =
     let n = c.args.n in
     let whole : n ≡ n - 1 + 1 = omega arith in
-    sym (rw whole (last_take (points_of c.args.content.now.records) (n - 1) c.point.result c.point.ensures.value))
+    sym (rw whole (last_take (points_of c.args.content.now.records) (n - 1) c.point.result
+    c.point.ensures.value))

@@ -20,7 +20,8 @@ joined-area-requires-clause-order c =
     record { split = c.in-Some.ensures.front; first = c.first.ensures.value; last = c.last.ensures.value } in
     let range = inner_range c.args.content.now.records c.args.first c.args.behind c.len-len.ensures.range in
     let fits : FitsSigned w128 c.area.result = search rules in
-    let step = walk_step c.args.step c.args.start inner _ _ _ _ _ _ _ walk next c.requires.start range c.requires.rises in
+    let step = walk_step c.args.step c.args.start inner _ _ _ _ _ _ _ walk next c.requires.start range
+    c.requires.rises in
     step.order
 
 pub joined-area-requires-clause-small : goal.joined-area-requires-clause-small
@@ -31,7 +32,8 @@ joined-area-requires-clause-small c =
     record { split = c.in-Some.ensures.front; first = c.first.ensures.value; last = c.last.ensures.value } in
     let range = inner_range c.args.content.now.records c.args.first c.args.behind c.len-len.ensures.range in
     let fits : FitsSigned w128 c.area.result = search rules in
-    let step = walk_step c.args.step c.args.start inner _ _ _ _ _ _ _ walk next c.requires.start range c.requires.rises in
+    let step = walk_step c.args.step c.args.start inner _ _ _ _ _ _ _ walk next c.requires.start range
+    c.requires.rises in
     step.small
 
 pub joined-area-requires-clause-small_part : goal.joined-area-requires-clause-small_part
@@ -42,7 +44,8 @@ joined-area-requires-clause-small_part c =
     record { split = c.in-Some.ensures.front; first = c.first.ensures.value; last = c.last.ensures.value } in
     let range = inner_range c.args.content.now.records c.args.first c.args.behind c.len-len.ensures.range in
     let fits : FitsSigned w128 c.area.result = search rules in
-    let step = walk_step c.args.step c.args.start inner _ _ _ _ _ _ _ walk next c.requires.start range c.requires.rises in
+    let step = walk_step c.args.step c.args.start inner _ _ _ _ _ _ _ walk next c.requires.start range
+    c.requires.rises in
     rw (to_z-of_z w128 c.area.result fits, c.area.ensures) step.small_part
 
 pub loop-run-preserved : goal.loop-run-preserved
@@ -61,5 +64,6 @@ loop-run-preserved c =
 
 pub returns : goal.returns
 returns c =
-    let all = walk_all c.args.step c.args.start _ _ _ _ c.loop-run.invariant.walked c.in_default.ensures.none in
+    let all = walk_all c.args.step c.args.start _ _ _ _ c.loop-run.invariant.walked
+    c.in_default.ensures.none in
     record { area = all.0; last = all.1; range = c.loop-run.invariant.range }

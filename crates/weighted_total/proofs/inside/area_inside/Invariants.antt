@@ -7,7 +7,8 @@ use Rattle.weighted_total.proofs.inside.area_inside.Given as goal
 
 abbrev pub invariant-loop-run : goal.invariant-loop-run
 invariant-loop-run l = record {
-  walked : IsWalked l.step l.fn.start (slice_range (points_of l.content.records) l.first l.behind) l.runs l.area.twice l.area.last;
+  walked : IsWalked l.step l.fn.start (slice_range (points_of l.content.records) l.first l.behind) l.runs
+      l.area.twice l.area.last;
   range : InRange l.area.last;
 }
 

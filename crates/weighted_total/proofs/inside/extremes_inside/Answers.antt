@@ -20,8 +20,10 @@ loop-run-preserved c =
     let low_fits : FitsSigned w64 c.low.result = search rules in
     let high_fits : FitsSigned w64 c.high.result = search rules in
     let low = rw (to_z-of_z w64 c.low.result low_fits, c.low.ensures) at c.widened-extremes.ensures.low in
-    let high = rw (to_z-of_z w64 c.high.result high_fits, c.high.ensures) at c.widened-extremes.ensures.high in
-    spread_more c.args.start inner _ _ _ _ _ _ _ c.loop-run.invariant c.in-Some.ensures.front c.in-Some.ensures.some low high
+    let high = rw (to_z-of_z w64 c.high.result high_fits, c.high.ensures) at
+    c.widened-extremes.ensures.high in
+    spread_more c.args.start inner _ _ _ _ _ _ _ c.loop-run.invariant c.in-Some.ensures.front
+    c.in-Some.ensures.some low high
 
 pub returns : goal.returns
 returns c =

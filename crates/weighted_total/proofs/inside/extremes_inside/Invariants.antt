@@ -6,7 +6,8 @@ use Rattle.weighted_total.proofs.inside.extremes_inside.Given as goal
 
 abbrev pub invariant-loop-run : goal.invariant-loop-run
 invariant-loop-run l =
-    IsSpread l.fn.start (slice_range (points_of l.content.records) l.first l.behind) l.runs l.extremes.low l.extremes.high
+    IsSpread l.fn.start (slice_range (points_of l.content.records) l.first l.behind) l.runs l.extremes.low
+    l.extremes.high
 
 abbrev pub decreases-loop-run : goal.decreases-loop-run
 decreases-loop-run l = length l.runs

@@ -17,19 +17,22 @@ if_none P (Some e) p = tt
 pub returns-in_err-_later-clause-uncovered : goal.returns-in_err-_later-clause-uncovered
 returns-in_err-_later-clause-uncovered c =
     let cs = points_closed_by c.args.held c.args.content.now.records in
-    if_none _ _ (uncovered_end cs c.args.from c.args.to _ _ c.neighbours_at-stop.ensures.neighbours c.in_err-_later.was)
+    if_none _ _ (uncovered_end cs c.args.from c.args.to _ _ c.neighbours_at-stop.ensures.neighbours
+    c.in_err-_later.was)
 
 pub returns-in_err-start-clause-uncovered : goal.returns-in_err-start-clause-uncovered
 returns-in_err-start-clause-uncovered c =
     let cs = points_closed_by c.args.held c.args.content.now.records in
     if_none _ _ (not_true (is_covered cs c.args.from c.args.to)
-    (λ covered. value_there c.args.step cs c.args.from c.args.to c.args.from c.value_at.result covered (omega arith) c.value_at.ensures c.in_err-start.was))
+    (λ covered. value_there c.args.step cs c.args.from c.args.to c.args.from c.value_at.result covered
+    (omega arith) c.value_at.ensures c.in_err-start.was))
 
 pub returns-in_err-end-clause-uncovered : goal.returns-in_err-end-clause-uncovered
 returns-in_err-end-clause-uncovered c =
     let cs = points_closed_by c.args.held c.args.content.now.records in
     if_none _ _ (not_true (is_covered cs c.args.from c.args.to)
-    (λ covered. value_there c.args.step cs c.args.from c.args.to c.args.to c.value_at-2.result covered (omega arith) c.value_at-2.ensures c.in_err-end.was))
+    (λ covered. value_there c.args.step cs c.args.from c.args.to c.args.to c.value_at-2.result covered
+    (omega arith) c.value_at-2.ensures c.in_err-end.was))
 
 pub returns-clause-shape : goal.returns-clause-shape
 returns-clause-shape c =

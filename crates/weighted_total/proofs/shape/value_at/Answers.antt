@@ -24,4 +24,5 @@ reading_of-requires-clause-near c = (points_closed_by c.args.held c.args.content
 
 pub returns : goal.returns
 returns c =
-    c.value_of.ensures ∙ ap value_read (c.reading_of.ensures (points_closed_by c.args.held c.args.content.now.records) c.requires.near)
+    c.value_of.ensures ∙ ap value_read (c.reading_of.ensures
+    (points_closed_by c.args.held c.args.content.now.records) c.requires.near)

@@ -14,7 +14,8 @@ overflow_sub-run c =
     let p = get_or pages k c.index-self-self.result in
     let again = get_or_default pages k c.index-self-self.result p within in
     let is : IsRead c.self.inside.pool.now pages k p c.frame-frame.result.now =
-    is_read c.self.inside.pool.now pages k p c.frame-frame.result.now walk.paged within again c.frame-frame.ensures in
+    is_read c.self.inside.pool.now pages k p c.frame-frame.result.now walk.paged within again
+    c.frame-frame.ensures in
     (place_on _ _ _ _ _ is c.self.inside.place (walk.at more)).0
 
 pub overflow_sub-self-inside : goal.overflow_sub-self-inside
@@ -27,7 +28,8 @@ overflow_sub-self-inside c =
     let p = get_or pages k c.index-self-self.result in
     let again = get_or_default pages k c.index-self-self.result p within in
     let is : IsRead c.self.inside.pool.now pages k p c.frame-frame.result.now =
-    is_read c.self.inside.pool.now pages k p c.frame-frame.result.now walk.paged within again c.frame-frame.ensures in
+    is_read c.self.inside.pool.now pages k p c.frame-frame.result.now walk.paged within again
+    c.frame-frame.ensures in
     let place = place_on _ _ _ _ _ is c.self.inside.place (walk.at more) in
     omega (arith, place.0)
 
@@ -41,7 +43,8 @@ invariant_of-run c =
     let p = get_or pages k c.index-self-self.result in
     let again = get_or_default pages k c.index-self-self.result p within in
     let is : IsRead c.self.inside.pool.now pages k p c.frame-frame.result.now =
-    is_read c.self.inside.pool.now pages k p c.frame-frame.result.now walk.paged within again c.frame-frame.ensures in
+    is_read c.self.inside.pool.now pages k p c.frame-frame.result.now walk.paged within again
+    c.frame-frame.ensures in
     run_is _ _ _ _ _ c.min.result _ _ walk more is c.min.ensures _ (stair_again _ _ _ _ _ is p again)
 
 pub invariant_of-self : goal.invariant_of-self
@@ -54,7 +57,8 @@ invariant_of-self c =
     let p = get_or pages k c.index-self-self.result in
     let again = get_or_default pages k c.index-self-self.result p within in
     let is : IsRead c.self.inside.pool.now pages k p c.frame-frame.result.now =
-    is_read c.self.inside.pool.now pages k p c.frame-frame.result.now walk.paged within again c.frame-frame.ensures in
+    is_read c.self.inside.pool.now pages k p c.frame-frame.result.now walk.paged within again
+    c.frame-frame.ensures in
     walk_on _ _ _ _ _ c.min.result _ _ walk more is c.min.ensures
 
 pub returns-clause-front : goal.returns-clause-front
@@ -67,7 +71,8 @@ returns-clause-front c =
     let p = get_or pages k c.index-self-self.result in
     let again = get_or_default pages k c.index-self-self.result p within in
     let is : IsRead c.self.inside.pool.now pages k p c.frame-frame.result.now =
-    is_read c.self.inside.pool.now pages k p c.frame-frame.result.now walk.paged within again c.frame-frame.ensures in
+    is_read c.self.inside.pool.now pages k p c.frame-frame.result.now walk.paged within again
+    c.frame-frame.ensures in
     sym c.self.view_is ∙ walk_split _ _ _ _ _ c.min.result _ _ walk more is c.min.ensures
 
 pub returns-clause-some : goal.returns-clause-some
@@ -80,5 +85,6 @@ returns-clause-some c =
     let p = get_or pages k c.index-self-self.result in
     let again = get_or_default pages k c.index-self-self.result p within in
     let is : IsRead c.self.inside.pool.now pages k p c.frame-frame.result.now =
-    is_read c.self.inside.pool.now pages k p c.frame-frame.result.now walk.paged within again c.frame-frame.ensures in
+    is_read c.self.inside.pool.now pages k p c.frame-frame.result.now walk.paged within again
+    c.frame-frame.ensures in
     run_some _ _ _ _ _ c.min.result _ _ walk more is c.min.ensures
