@@ -1,9 +1,12 @@
 -- The points of a content that a held point closes, and those next to a time.
-use Rattle.std.proofs.Common.{◌≡◌, ◌≢◌, ℕ, ◌<◌, ◌≤◌, inl, inr, ℤ, Bool, true, false, cond, nat_eq, nat_lt, List, [], ◌∷◌, ◌++◌, Option, None, Some, All, length, take, drop, refl, sym, ap, ◌∙◌, subst, arith, append_assoc, append-nil}
+use Rattle.std.proofs.Common.{◌≡◌, ◌≢◌, ℕ, ◌<◌, ◌≤◌, inl, inr, ℤ, pos, Bool, true, false, cond, nat_eq}
+use Rattle.std.proofs.Common.{nat_lt, List, [], ◌∷◌, ◌++◌, Option, None, Some, All, length, take, drop, refl}
+use Rattle.std.proofs.Common.{sym, ap, ◌∙◌, subst, arith, append_assoc, append-nil}
 use Rattle.std.specs.Prelude.{count_by, slice_get, IfSome}
 use Rattle.std.specs.Option.{option_to_list}
-use Rattle.std.proofs.lemmas.Bool.{cases_eq, ne_eqb, lt-ltb, le-ltb}
+use Rattle.std.proofs.lemmas.Bool.{cases_eq, cases_lt, ne_eqb, lt-ltb, le-ltb}
 use Rattle.std.proofs.lemmas.List.{map-append, take-append-drop, take_all, length-map}
+use Rattle.std.proofs.lemmas.Option.{slice_get-get_or}
 use Rattle.std.proofs.lemmas.List.Elements.{All-nil, All-cons, All-head, All-tail, All-append, All-map}
 use Rattle.trend_num.specs.declared.archive.Rec.{Rec}
 use Rattle.trend_num.specs.declared.point.Point.{Point}
@@ -17,7 +20,8 @@ use Rattle.trend_model.proofs.ReadLaw.{among_middle, points_rise, read_at_point,
 use Rattle.trend_model.proofs.WindowLaw.{before_middle}
 use Rattle.interp_read.specs.Closing.{IsAfterAll, IsNotBefore, points_closed_by}
 use Rattle.interp_read.specs.NextTo.{AreNeighbours}
-use Rattle.interp_read.proofs.RisingPoints.{Before, From, IsGapAt, among_all, all_among, first_drop, first_parts, gap_at, last_parts, last_push, no_last, rises_push}
+use Rattle.interp_read.proofs.RisingPoints.{Before, From, IsGapAt, among_all, all_among, first_drop}
+use Rattle.interp_read.proofs.RisingPoints.{first_parts, gap_at, last_parts, last_push, no_last, rises_push}
 
 -- ---- closing
 
@@ -31,7 +35,8 @@ placed_last r (x ∷ l) before =
     (ap (λ m. x ∷ m) (placed_last r l (All-tail Earlier x l before)))
 
 -- no record stands after all
-none_after : (l : List Rec) (t : ℕ) → All (Before t) (points_of l) → (late_at l t ≡ None) × (kept_at l t ≡ None)
+none_after : (l : List Rec) (t : ℕ) → All (Before t) (points_of l)
+    → (late_at l t ≡ None) × (kept_at l t ≡ None)
 none_after [] t before = (refl, refl)
 none_after (r ∷ l) t before =
     let rest = none_after l t (All-tail (Before t) r.point (points_of l) before) in
@@ -49,7 +54,8 @@ none_after (r ∷ l) t before =
 records_all : (P : Point → Type 0) (l : List Rec) → All P (points_of l) → All (λ r. P r.point) l
 records_all P [] all = All-nil (λ r. P r.point)
 records_all P (r ∷ l) all =
-    All-cons (λ x. P x.point) r l (All-head P r.point (points_of l) all) (records_all P l (All-tail P r.point (points_of l) all))
+    All-cons (λ x. P x.point) r l (All-head P r.point (points_of l) all)
+    (records_all P l (All-tail P r.point (points_of l) all))
 
 -- a held point that is after all others is added
 pub closed_more : (q : Point) (l : List Rec) → IsRising l → IsAfterAll (points_of l) q
@@ -57,7 +63,8 @@ pub closed_more : (q : Point) (l : List Rec) → IsRising l → IsAfterAll (poin
 closed_more q l rises after =
     let apart = none_after l q.t after in
     let none : content_at l q.t ≡ None = rw (apart.0, apart.1) refl in
-    let last : placed (kept q) l ≡ l ++ kept q ∷ [] = placed_last (kept q) l (records_all (Before q.t) l after) in
+    let last : placed (kept q) l ≡ l ++ kept q ∷ [] = placed_last (kept q) l
+    (records_all (Before q.t) l after) in
     rw (none, last) (map-append (λ r. r.point) l (kept q ∷ []))
 
 -- a held point at the time of the last one is not
@@ -72,7 +79,8 @@ closed_same q p l rises last same =
     rw there_is (sym (append-nil (points_of l)))
 
 -- a held point that is not before any, and not at the time of the last, is after all
-pub after_all : (q : Point) (l : List Rec) (o : Option Point) → IsRising l → IsNotBefore l q → last_point (points_of l) ≡ o
+pub after_all : (q : Point) (l : List Rec) (o : Option Point) → IsRising l → IsNotBefore l q
+    → last_point (points_of l) ≡ o
     → ((p : Point) → o ≡ Some p → p.t ≢ q.t) → IsAfterAll (points_of l) q
 after_all q l None rises not_before last other = rw (no_last (points_of l) last) (All-nil (Before q.t))
 after_all q l (Some p) rises not_before last other =
@@ -82,10 +90,13 @@ after_all q l (Some p) rises not_before last other =
     let in_it : IsAmong p (points_of l) = subst (IsAmong p) (sym parts.1) (among_middle parts.0 p []) in
     let at_most : p.t ≤ q.t = among_all (λ x. x.t ≤ q.t) (points_of l) each p in_it in
     let differs : p.t ≢ q.t = other p refl in
-    let before = all_among (Before q.t) parts.0 (λ x among. let h = before_middle parts.0 p [] rise x among in omega arith) in
-    rw parts.1 (All-append (Before q.t) parts.0 (p ∷ []) before (All-cons (Before q.t) p [] (omega arith) (All-nil (Before q.t))))
+    let before = all_among (Before q.t) parts.0
+    (λ x among. let h = before_middle parts.0 p [] rise x among in omega arith) in
+    rw parts.1 (All-append (Before q.t) parts.0 (p ∷ []) before
+    (All-cons (Before q.t) p [] (omega arith) (All-nil (Before q.t))))
 
--- the points of a content that held closes: its own, and maybe the held one, which is after all; it ends at the held point's
+-- the points of a content that held closes: its own, and maybe the held one, which is after all; it ends at
+-- the held point's
 -- time
 pub record IsClosed (held : Option Point) (cs ps : List Point) : Type 0 where
   pub more : Option Point
@@ -97,7 +108,8 @@ pub record IsClosed (held : Option Point) (cs ps : List Point) : Type 0 where
 pub closed : (held : Option Point) (l : List Rec) → IsRising l → IfThere (IsNotBefore l) held
     → IsClosed held (points_closed_by held l) (points_of l)
 closed None l rises not_before =
-    record { more = None; whole = sym (append-nil (points_of l)); later = tt; of_held = λ q h. h; ends = λ q h. cc }
+    record { more = None; whole = sym (append-nil (points_of l)); later = tt; of_held = λ q h. h; ends =
+    λ q h. cc }
 closed (Some q) l rises not_before = by_last (last_point (points_of l)) refl
   where
     added_one : IsAfterAll (points_of l) q → IsClosed (Some q) (points_closed_by (Some q) l) (points_of l)
@@ -108,10 +120,12 @@ closed (Some q) l rises not_before = by_last (last_point (points_of l)) refl
           whole = whole;
           later = after;
           of_held = λ z h. h;
-          ends = λ z h. let same : q ≡ z = cc in (q, (ap last_point whole ∙ last_push (points_of l) q, ap (λ p. p.t) same));
+          ends = λ z h. let same : q ≡ z = cc in
+              (q, (ap last_point whole ∙ last_push (points_of l) q, ap (λ p. p.t) same));
         }
 
-    by_last : (o : Option Point) → last_point (points_of l) ≡ o → IsClosed (Some q) (points_closed_by (Some q) l) (points_of l)
+    by_last : (o : Option Point) → last_point (points_of l) ≡ o
+    → IsClosed (Some q) (points_closed_by (Some q) l) (points_of l)
     by_last None last = added_one (after_all q l None rises not_before last (λ p h. cc))
     by_last (Some p) last =
         elim (cases_eq p.t q.t) [
@@ -125,7 +139,8 @@ closed (Some q) l rises not_before = by_last (last_point (points_of l)) refl
                 ends = λ z h. let is : q ≡ z = cc in
                     (p, (ap last_point (whole ∙ append-nil (points_of l)) ∙ last, same ∙ ap (λ x. x.t) is));
               }
-          | inr other ↦ added_one (after_all q l (Some p) rises not_before last (λ x h. let is : p ≡ x = cc in rw (← is) other))
+          | inr other ↦ added_one (after_all q l (Some p) rises not_before last
+              (λ x h. let is : p ≡ x = cc in rw (← is) other))
         ]
 
 -- they rise
@@ -138,26 +153,31 @@ closed_rise cs ps more rises whole later = rw whole (with_more more later)
     with_more (Some q) after = rises_push ps q rises after
 
 -- and are in range
-pub closed_in_range : (held : Option Point) (cs ps : List Point) → IsClosed held cs ps → IfThere InRange held → All (λ p. InRange p) ps
+pub closed_in_range : (held : Option Point) (cs ps : List Point) → IsClosed held cs ps → IfThere InRange held
+    → All (λ p. InRange p) ps
     → All (λ p. InRange p) cs
 closed_in_range held cs ps closing range all = rw closing.whole (with_more closing.more closing.of_held)
   where
-    with_more : (o : Option Point) → ((q : Point) → o ≡ Some q → held ≡ Some q) → All (λ p. InRange p) (ps ++ option_to_list o)
+    with_more : (o : Option Point) → ((q : Point) → o ≡ Some q → held ≡ Some q)
+    → All (λ p. InRange p) (ps ++ option_to_list o)
     with_more None of_held = rw (append-nil ps) all
     with_more (Some q) of_held =
         let held_is : held ≡ Some q = of_held q refl in
         let in_range : InRange q = rw held_is at range in
-        All-append (λ p. InRange p) ps (q ∷ []) all (All-cons (λ p. InRange p) q [] in_range (All-nil (λ p. InRange p)))
+        All-append (λ p. InRange p) ps (q ∷ []) all
+        (All-cons (λ p. InRange p) q [] in_range (All-nil (λ p. InRange p)))
 
 -- ---- the points next to a time
 
 -- where not all points of the content are before t
-pub neighbours_inside : (held : Option Point) (cs ps : List Point) (t n : ℕ) (p : Point) → PointsRise ps → IsClosed held cs ps
+pub neighbours_inside : (held : Option Point) (cs ps : List Point) (t n : ℕ) (p : Point) → PointsRise ps
+    → IsClosed held cs ps
     → IsGapAt ps t n → slice_get ps n ≡ Some p → AreNeighbours cs t (last_point (take n ps)) (Some p)
 neighbours_inside held cs ps t n p rises closing gap found =
     let parts = first_parts (drop n ps) p (first_drop ps n ∙ found) in
     let split = take-append-drop n ps in
-    let in_it : IsAmong p ps = subst (IsAmong p) (ap (λ l. take n ps ++ l) (sym parts.1) ∙ split) (among_middle (take n ps) p parts.0) in
+    let in_it : IsAmong p ps = subst (IsAmong p) (ap (λ l. take n ps ++ l) (sym parts.1) ∙ split)
+    (among_middle (take n ps) p parts.0) in
     let from : t ≤ p.t = All-head (From t) p parts.0 (subst (All (From t)) parts.1 gap.from) in
     record {
       rises = closed_rise cs ps closing.more rises closing.whole closing.later;
@@ -166,19 +186,22 @@ neighbours_inside held cs ps t n p rises closing gap found =
       whole = closing.whole ∙ (ap (λ l. l ++ option_to_list closing.more) (sym split)
           ∙ append_assoc (take n ps) (drop n ps) (option_to_list closing.more));
       earlier_are = gap.before;
-      later_are = All-append (From t) (drop n ps) (option_to_list closing.more) gap.from (more_from closing.more closing.later in_it from);
+      later_are = All-append (From t) (drop n ps) (option_to_list closing.more) gap.from
+          (more_from closing.more closing.later in_it from);
       last = refl;
       first = rw parts.1 refl;
     }
   where
-    more_from : (o : Option Point) → IfSome o (IsAfterAll ps) → IsAmong p ps → t ≤ p.t → All (From t) (option_to_list o)
+    more_from : (o : Option Point) → IfSome o (IsAfterAll ps) → IsAmong p ps → t ≤ p.t
+    → All (From t) (option_to_list o)
     more_from None later in_it from = All-nil (From t)
     more_from (Some q) later in_it from =
         let after : p.t < q.t = among_all (Before q.t) ps later p in_it in
         All-cons (From t) q [] (omega arith) (All-nil (From t))
 
 -- where all are, and the held point too
-pub neighbours_behind : (cs ps : List Point) (t n : ℕ) (q : Point) → PointsRise ps → cs ≡ ps ++ q ∷ [] → IsAfterAll ps q → IsGapAt ps t n
+pub neighbours_behind : (cs ps : List Point) (t n : ℕ) (q : Point) → PointsRise ps → cs ≡ ps ++ q ∷ []
+    → IsAfterAll ps q → IsGapAt ps t n
     → length ps ≤ n → q.t < t → AreNeighbours cs t (Some q) None
 neighbours_behind cs ps t n q rises whole after gap all early =
     let before : All (Before t) ps = rw (take_all n ps all) at gap.before in
@@ -187,15 +210,18 @@ neighbours_behind cs ps t n q rises whole after gap all early =
       earlier = ps ++ q ∷ [];
       later = [];
       whole = whole ∙ sym (append-nil (ps ++ q ∷ []));
-      earlier_are = All-append (Before t) ps (q ∷ []) before (All-cons (Before t) q [] early (All-nil (Before t)));
+      earlier_are = All-append (Before t) ps (q ∷ []) before
+          (All-cons (Before t) q [] early (All-nil (Before t)));
       later_are = All-nil (From t);
       last = last_push ps q;
       first = refl;
     }
 
 -- where all are, and no held point is
-pub neighbours_last : (cs ps : List Point) (t n : ℕ) (o : Option Point) → PointsRise ps → cs ≡ ps ++ option_to_list o
-    → IfSome o (IsAfterAll ps) → IfSome o (From t) → IsGapAt ps t n → length ps ≤ n → AreNeighbours cs t (last_point (take n ps)) o
+pub neighbours_last : (cs ps : List Point) (t n : ℕ) (o : Option Point) → PointsRise ps
+    → cs ≡ ps ++ option_to_list o
+    → IfSome o (IsAfterAll ps) → IfSome o (From t) → IsGapAt ps t n → length ps ≤ n
+    → AreNeighbours cs t (last_point (take n ps)) o
 neighbours_last cs ps t n o rises whole after from gap all =
     record {
       rises = closed_rise cs ps o rises whole after;
@@ -219,14 +245,16 @@ neighbours_last cs ps t n o rises whole after from gap all =
 -- ---- what the code finds
 
 -- the last of as many points as there are
-pub last_of_all : (l : List Rec) (n : ℕ) (o : Option Point) → n ≡ length l → o ≡ last_point (take n (points_of l))
+pub last_of_all : (l : List Rec) (n : ℕ) (o : Option Point) → n ≡ length l
+    → o ≡ last_point (take n (points_of l))
     → last_point (points_of l) ≡ o
 last_of_all l n o whole last =
     let all = take_all n (points_of l) (omega (arith, length-map l (λ r. r.point))) in
     sym (last ∙ ap last_point all)
 
 -- a held point that is not at the time of the last point is added
-pub added_held : (held : Option Point) (q : Point) (l : List Rec) (o : Option Point) → held ≡ Some q → IsRising l
+pub added_held : (held : Option Point) (q : Point) (l : List Rec) (o : Option Point) → held ≡ Some q
+    → IsRising l
     → IfThere (IsNotBefore l) held → last_point (points_of l) ≡ o → ((p : Point) → o ≡ Some p → p.t ≢ q.t)
     → (points_closed_by held l ≡ points_of l ++ q ∷ []) × IsAfterAll (points_of l) q
 added_held held q l o is rises not_before last other =
@@ -235,33 +263,53 @@ added_held held q l o is rises not_before last other =
     (rw is (closed_more q l rises after), after)
 
 -- one at its time is not
-pub same_held : (held : Option Point) (q p : Point) (l : List Rec) → held ≡ Some q → IsRising l → last_point (points_of l) ≡ Some p
+pub same_held : (held : Option Point) (q p : Point) (l : List Rec) → held ≡ Some q → IsRising l
+    → last_point (points_of l) ≡ Some p
     → p.t ≡ q.t → points_closed_by held l ≡ points_of l ++ []
 same_held held q p l is rises last same = rw is (closed_same q p l rises last same)
 
 -- a place that the content counts for a time is a gap there
-gap_of : (l : List Rec) (t n : ℕ) → IsRising l → n ≡ count_by (λ r. nat_lt r.point.t t) l → IsGapAt (points_of l) t n
+gap_of : (l : List Rec) (t n : ℕ) → IsRising l → n ≡ count_by (λ r. nat_lt r.point.t t) l
+    → IsGapAt (points_of l) t n
 gap_of l t n rises count = rw count (gap_at t l (points_rise l rises))
 
 -- the points next to a time, by the place of the gap and the points that were found
-pub found_inside : (held : Option Point) (l : List Rec) (t n : ℕ) (before : Option Point) (p : Point) → IsRising l
-    → IfThere (IsNotBefore l) held → n ≡ count_by (λ r. nat_lt r.point.t t) l → before ≡ last_point (take n (points_of l))
+pub found_inside : (held : Option Point) (l : List Rec) (t n : ℕ) (before : Option Point) (p : Point)
+    → IsRising l
+    → IfThere (IsNotBefore l) held → n ≡ count_by (λ r. nat_lt r.point.t t) l
+    → before ≡ last_point (take n (points_of l))
     → slice_get (points_of l) n ≡ Some p → AreNeighbours (points_closed_by held l) t before (Some p)
 found_inside held l t n before p rises not_before count last found =
-    rw last (neighbours_inside held (points_closed_by held l) (points_of l) t n p (points_rise l rises) (closed held l rises not_before)
+    rw last (neighbours_inside held (points_closed_by held l) (points_of l) t n p (points_rise l rises)
+    (closed held l rises not_before)
     (gap_of l t n rises count) found)
 
 pub found_behind : (held : Option Point) (l : List Rec) (t n : ℕ) (q : Point) → IsRising l
-    → n ≡ count_by (λ r. nat_lt r.point.t t) l → length l ≤ n → points_closed_by held l ≡ points_of l ++ q ∷ []
+    → n ≡ count_by (λ r. nat_lt r.point.t t) l → length l ≤ n
+    → points_closed_by held l ≡ points_of l ++ q ∷ []
     → IsAfterAll (points_of l) q → q.t < t → AreNeighbours (points_closed_by held l) t (Some q) None
 found_behind held l t n q rises count all whole after early =
-    neighbours_behind (points_closed_by held l) (points_of l) t n q (points_rise l rises) whole after (gap_of l t n rises count)
+    neighbours_behind (points_closed_by held l) (points_of l) t n q (points_rise l rises) whole after
+    (gap_of l t n rises count)
     (omega (arith, length-map l (λ r. r.point))) early
 
 pub found_last : (held : Option Point) (l : List Rec) (t n : ℕ) (before o : Option Point) → IsRising l
     → n ≡ count_by (λ r. nat_lt r.point.t t) l → length l ≤ n → before ≡ last_point (take n (points_of l))
-    → points_closed_by held l ≡ points_of l ++ option_to_list o → IfSome o (IsAfterAll (points_of l)) → IfSome o (From t)
+    → points_closed_by held l ≡ points_of l ++ option_to_list o → IfSome o (IsAfterAll (points_of l))
+    → IfSome o (From t)
     → AreNeighbours (points_closed_by held l) t before o
 found_last held l t n before o rises count all last whole after from =
-    rw last (neighbours_last (points_closed_by held l) (points_of l) t n o (points_rise l rises) whole after from
+    rw last (neighbours_last (points_closed_by held l) (points_of l) t n o (points_rise l rises) whole after
+    from
     (gap_of l t n rises count) (omega (arith, length-map l (λ r. r.point))))
+
+-- where no point stands at a place, all are before it
+pub past_all : (l : List Rec) (n : ℕ) → slice_get (points_of l) n ≡ None → length l ≤ n
+past_all l n none =
+    elim (cases_lt n (length l)) [
+      | inl inside ↦
+          let d : Point = record { t = 0; v = pos 0 } in
+          let there = slice_get-get_or (points_of l) n d (omega (arith, length-map l (λ r. r.point))) in
+          cc
+      | inr past ↦ past
+    ]

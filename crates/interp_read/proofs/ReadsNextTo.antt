@@ -1,5 +1,6 @@
 -- A read, by the points next to its time.
-use Rattle.std.proofs.Common.{◌≡◌, ◌≢◌, ℕ, ◌<◌, ◌≤◌, Bool, List, [], ◌∷◌, ◌++◌, Option, None, Some, All, refl, sym, ap, ◌∙◌, subst, arith, append_assoc, append-nil}
+use Rattle.std.proofs.Common.{◌≡◌, ◌≢◌, ℕ, ◌<◌, ◌≤◌, Bool, List, [], ◌∷◌, ◌++◌, Option, None, Some, All, refl}
+use Rattle.std.proofs.Common.{sym, ap, ◌∙◌, subst, arith, append_assoc, append-nil}
 use Rattle.std.specs.Prelude.{slice_get}
 use Rattle.std.proofs.lemmas.Bool.{ne_eqb, le-ltb, lt-ltb}
 use Rattle.std.proofs.lemmas.Int.{fits_signed_from_abs, to_z-of_z}
@@ -14,22 +15,28 @@ use Rattle.trend_model.specs.Parts.{PointsRise}
 use Rattle.trend_model.specs.Reads.{between, read_at}
 use Rattle.trend_model.proofs.ReadLaw.{among_middle, read_at-append, read_at_point, read_between}
 use Rattle.interp_read.specs.NextTo.{AreNeighbours}
-use Rattle.interp_read.proofs.RisingPoints.{Before, From, among_all, first_parts, last_parts, no_first, no_last}
+use Rattle.interp_read.proofs.RisingPoints.{Before, From, among_all, first_parts, last_parts, no_first}
+use Rattle.interp_read.proofs.RisingPoints.{no_last}
 
 -- the last point before t is before it
-pub before_is : (cs : List Point) (t : ℕ) (p : Point) (after : Option Point) → AreNeighbours cs t (Some p) after → p.t < t
+pub before_is : (cs : List Point) (t : ℕ) (p : Point) (after : Option Point)
+    → AreNeighbours cs t (Some p) after → p.t < t
 before_is cs t p after near =
     let parts = last_parts near.earlier p near.last in
-    among_all (Before t) near.earlier near.earlier_are p (subst (IsAmong p) (sym parts.1) (among_middle parts.0 p []))
+    among_all (Before t) near.earlier near.earlier_are p
+    (subst (IsAmong p) (sym parts.1) (among_middle parts.0 p []))
 
 -- and the first of the others is not
-pub after_is : (cs : List Point) (t : ℕ) (before : Option Point) (q : Point) → AreNeighbours cs t before (Some q) → t ≤ q.t
+pub after_is : (cs : List Point) (t : ℕ) (before : Option Point) (q : Point)
+    → AreNeighbours cs t before (Some q) → t ≤ q.t
 after_is cs t before q near =
     let parts = first_parts near.later q near.first in
-    among_all (From t) near.later near.later_are q (subst (IsAmong q) (sym parts.1) (among_middle [] q parts.0))
+    among_all (From t) near.later near.later_are q
+    (subst (IsAmong q) (sym parts.1) (among_middle [] q parts.0))
 
 -- where a point stands
-pub read_exact : (step : Bool) (cs : List Point) (t : ℕ) (before : Option Point) (q : Point) → AreNeighbours cs t before (Some q)
+pub read_exact : (step : Bool) (cs : List Point) (t : ℕ) (before : Option Point) (q : Point)
+    → AreNeighbours cs t before (Some q)
     → q.t ≡ t → read_at step cs t ≡ Exact q.v
 read_exact step cs t before q near at_t =
     let parts = first_parts near.later q near.first in
@@ -38,7 +45,8 @@ read_exact step cs t before q near at_t =
     subst (λ u. read_at step cs u ≡ Exact q.v) at_t (read_at_point step cs q near.rises in_it)
 
 -- before the first point
-pub read_nothing : (step : Bool) (cs : List Point) (t : ℕ) (after : Option Point) → AreNeighbours cs t None after
+pub read_nothing : (step : Bool) (cs : List Point) (t : ℕ) (after : Option Point)
+    → AreNeighbours cs t None after
     → ((q : Point) → after ≡ Some q → q.t ≢ t) → read_at step cs t ≡ Nothing
 read_nothing step cs t after near other =
     let whole : cs ≡ near.later = near.whole ∙ ap (λ l. l ++ near.later) (no_last near.earlier near.last) in
@@ -52,17 +60,21 @@ read_nothing step cs t after near other =
         rw (lt-ltb t q.t (omega arith)) refl
 
 -- after the last point
-pub read_flat : (step : Bool) (cs : List Point) (t : ℕ) (p : Point) → AreNeighbours cs t (Some p) None → read_at step cs t ≡ Flat p.v
+pub read_flat : (step : Bool) (cs : List Point) (t : ℕ) (p : Point) → AreNeighbours cs t (Some p) None
+    → read_at step cs t ≡ Flat p.v
 read_flat step cs t p near =
     let early = before_is cs t p None near in
     let parts = last_parts near.earlier p near.last in
-    let whole : cs ≡ near.earlier = near.whole ∙ (ap (λ l. near.earlier ++ l) (no_first near.later near.first) ∙ append-nil near.earlier) in
+    let whole : cs ≡ near.earlier = near.whole
+    ∙ (ap (λ l. near.earlier ++ l) (no_first near.later near.first) ∙ append-nil near.earlier) in
     let split : cs ≡ parts.0 ++ p ∷ [] = whole ∙ parts.1 in
     let rises : PointsRise (parts.0 ++ p ∷ []) = subst PointsRise split near.rises in
-    rw split (read_at-append step parts.0 p [] t rises (omega arith) ∙ rw (le-ltb t p.t (omega arith), ne_eqb p.t t (omega arith)) refl)
+    rw split (read_at-append step parts.0 p [] t rises (omega arith)
+    ∙ rw (le-ltb t p.t (omega arith), ne_eqb p.t t (omega arith)) refl)
 
 -- between two points
-pub read_inside : (step : Bool) (cs : List Point) (t : ℕ) (p q : Point) → AreNeighbours cs t (Some p) (Some q) → q.t ≢ t
+pub read_inside : (step : Bool) (cs : List Point) (t : ℕ) (p q : Point) → AreNeighbours cs t (Some p) (Some q)
+    → q.t ≢ t
     → read_at step cs t ≡ between step p q t
 read_inside step cs t p q near differs =
     let early = before_is cs t p (Some q) near in
@@ -70,7 +82,8 @@ read_inside step cs t p q near differs =
     let last = last_parts near.earlier p near.last in
     let first = first_parts near.later q near.first in
     let split : cs ≡ last.0 ++ p ∷ q ∷ first.0 =
-    near.whole ∙ (ap (λ l. l ++ near.later) last.1 ∙ (ap (λ l. last.0 ++ p ∷ [] ++ l) first.1 ∙ append_assoc last.0 (p ∷ []) (q ∷ first.0))) in
+    near.whole ∙ (ap (λ l. l ++ near.later) last.1
+    ∙ (ap (λ l. last.0 ++ p ∷ [] ++ l) first.1 ∙ append_assoc last.0 (p ∷ []) (q ∷ first.0))) in
     let rises : PointsRise (last.0 ++ p ∷ q ∷ first.0) = subst PointsRise split near.rises in
     rw split (read_between step last.0 first.0 p q t rises early (omega arith))
 

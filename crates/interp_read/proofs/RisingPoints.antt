@@ -1,5 +1,6 @@
 -- Rising lists of points.
-use Rattle.std.proofs.Common.{◌≡◌, ℕ, zero, suc, ◌+◌, ◌<◌, ◌≤◌, inl, inr, cond, nat_lt, List, [], ◌∷◌, ◌++◌, None, Some, All, length, take, drop, refl, sym, ap, ◌∙◌, subst, arith, add-one}
+use Rattle.std.proofs.Common.{◌≡◌, ℕ, zero, suc, ◌+◌, ◌<◌, ◌≤◌, inl, inr, cond, nat_lt, List, [], ◌∷◌, ◌++◌}
+use Rattle.std.proofs.Common.{None, Some, All, length, take, drop, refl, sym, ap, ◌∙◌, subst, arith, add-one}
 use Rattle.std.specs.Prelude.{count_by, slice_get}
 use Rattle.std.proofs.lemmas.Bool.{cases_lt, lt-ltb, le-ltb}
 use Rattle.std.proofs.lemmas.List.Elements.{All-nil, All-cons, All-head, All-tail}
@@ -29,12 +30,14 @@ among_all P (p ∷ ps) all x in_it =
 
 pub all_among : (P : Point → Type 0) (ps : List Point) → ((x : Point) → IsAmong x ps → P x) → All P ps
 all_among P [] each = All-nil P
-all_among P (p ∷ ps) each = All-cons P p ps (each p (inl refl)) (all_among P ps (λ x in_it. each x (inr in_it)))
+all_among P (p ∷ ps) each = All-cons P p ps (each p (inl refl))
+    (all_among P ps (λ x in_it. each x (inr in_it)))
 
 -- ---- ends of a list
 
 -- the last point of a list, with the others before it
-pub last_parts : (ps : List Point) (p : Point) → last_point ps ≡ Some p → (xs : List Point) × (ps ≡ xs ++ p ∷ [])
+pub last_parts : (ps : List Point) (p : Point) → last_point ps ≡ Some p
+    → (xs : List Point) × (ps ≡ xs ++ p ∷ [])
 last_parts [] p last = cc
 last_parts (x ∷ []) p last = let same : x ≡ p = cc in ([], ap (λ y. y ∷ []) same)
 last_parts (x ∷ y ∷ ps) p last = let rest = last_parts (y ∷ ps) p last in (x ∷ rest.0, ap (λ l. x ∷ l) rest.1)
@@ -48,16 +51,6 @@ pub last_push : (ps : List Point) (q : Point) → last_point (ps ++ q ∷ []) �
 last_push [] q = refl
 last_push (x ∷ []) q = refl
 last_push (x ∷ y ∷ ps) q = last_push (y ∷ ps) q
-
--- the last of the first points
-pub last_take : (ps : List Point) (n : ℕ) (p : Point) → slice_get ps n ≡ Some p → last_point (take (n + 1) ps) ≡ Some p
-last_take ps n p there = rw add-one (of_suc ps n there)
-  where
-    of_suc : (xs : List Point) (k : ℕ) → slice_get xs k ≡ Some p → last_point (take (suc k) xs) ≡ Some p
-    of_suc [] k h = cc
-    of_suc (x ∷ xs) zero h = h
-    of_suc (x ∷ []) (suc k) h = cc
-    of_suc (x ∷ y ∷ xs) (suc k) h = of_suc (y ∷ xs) k h
 
 -- the first point of a list
 pub first_parts : (ps : List Point) (p : Point) → slice_get ps 0 ≡ Some p → (xs : List Point) × (ps ≡ p ∷ xs)
@@ -78,11 +71,13 @@ first_drop (x ∷ xs) (suc n) = first_drop xs n
 -- ---- rising lists
 
 -- a point after all the others goes to the end
-pub rises_push : (ps : List Point) (q : Point) → PointsRise ps → All (Before q.t) ps → PointsRise (ps ++ q ∷ [])
+pub rises_push : (ps : List Point) (q : Point) → PointsRise ps → All (Before q.t) ps
+    → PointsRise (ps ++ q ∷ [])
 rises_push [] q rises before = tt
 rises_push (p ∷ ps) q rises before = after p ps rises before
   where
-    after : (x : Point) (xs : List Point) → RisesAfter x xs → All (Before q.t) (x ∷ xs) → RisesAfter x (xs ++ q ∷ [])
+    after : (x : Point) (xs : List Point) → RisesAfter x xs → All (Before q.t) (x ∷ xs)
+    → RisesAfter x (xs ++ q ∷ [])
     after x [] r h = (All-head (Before q.t) x [] h, tt)
     after x (y ∷ xs) r h = (r.0, after y xs r.1 (All-tail (Before q.t) x (y ∷ xs) h))
 
@@ -109,7 +104,8 @@ pub record IsGapAt (ps : List Point) (t n : ℕ) : Type 0 where
   pub within : n ≤ length ps
 
 -- of a rising list the points before a time are the first ones
-pub gap_at : (t : ℕ) (l : List Rec) → PointsRise (points_of l) → IsGapAt (points_of l) t (count_by (λ r. nat_lt r.point.t t) l)
+pub gap_at : (t : ℕ) (l : List Rec) → PointsRise (points_of l)
+    → IsGapAt (points_of l) t (count_by (λ r. nat_lt r.point.t t) l)
 gap_at t [] rises = record { before = All-nil (Before t); from = All-nil (From t); within = omega arith }
 gap_at t (r ∷ l) rises =
     let ps = points_of l in
@@ -118,7 +114,8 @@ gap_at t (r ∷ l) rises =
     elim (cases_lt r.point.t t) [
       | inl before ↦
           let rest = gap_at t l (rises_rest r.point ps rises) in
-          let more : count_by (λ x. nat_lt x.point.t t) (r ∷ l) ≡ suc n = count ∙ rw (lt-ltb r.point.t t before) (omega arith) in
+          let more : count_by (λ x. nat_lt x.point.t t) (r ∷ l) ≡ suc n = count
+          ∙ rw (lt-ltb r.point.t t before) (omega arith) in
           rw more (record {
             before = All-cons (Before t) r.point (take n ps) before rest.before;
             from = rest.from;
@@ -126,5 +123,6 @@ gap_at t (r ∷ l) rises =
           })
       | inr from ↦
           let all = All-cons (From t) r.point ps from (from_after t r.point ps rises from) in
-          rw (none_before t (r ∷ l) all) (record { before = All-nil (Before t); from = all; within = omega arith })
+          rw (none_before t (r ∷ l) all) (record
+          { before = All-nil (Before t); from = all; within = omega arith })
     ]

@@ -1,5 +1,5 @@
 // The points of a content that a held point closes.
-ghost use Rattle.std.specs.Prelude.{◌≡◌, ◌++◌, ◌≤◌, IfSome, length, take};
+ghost use Rattle.std.specs.Prelude.{◌≡◌, ◌++◌, ◌+◌, ◌≤◌, IfSome, count_by, nat_lt, length, take};
 ghost use Rattle.std.specs.Option.{option_to_list};
 ghost use Rattle.trend_num.specs.Ranges.{InRange};
 ghost use Rattle.trend_model.specs.Contents.{points_of};
@@ -39,43 +39,50 @@ pub(crate) fn added(content: &Content, held: Option<Point>) -> Option<Point>
     }
 }
 
-/// The points next to a time.
-#[derive(Clone, Copy)]
-pub(crate) struct Neighbours {
-    /// The last one before it.
+/// The points of a closed content next to a time.
+#[derive(Clone, Copy, Debug, PartialEq, Eq)]
+pub struct Neighbours {
+    /// How many points of the content are before the time.
+    pub below: u32,
+    /// How many points of the content are not after it.
+    pub upto: u32,
+    /// The last point before it.
     pub before: Option<Point>,
-    /// The first one that is not.
+    /// The first one that is not before it.
     pub after: Option<Point>,
 }
 
-/// The points of the closed content next to t.
-pub(crate) fn neighbours_at(content: &Content, held: Option<Point>, t: u64) -> Neighbours
+/// The points of the closed content next to t, by one search. The held point is not before a point of the
+/// content.
+pub fn neighbours_at(content: &Content, held: Option<Point>, t: u64) -> Neighbours
     requires range { IfThere InRange held }
     requires last { IfThere (IsNotBefore content.now.records) held }
+    ensures below { result.below ≡ count_by (λ r. nat_lt r.point.t t) content.now.records }
+    ensures upto { result.upto ≡ count_by (λ r. nat_lt r.point.t (t + 1)) content.now.records }
     ensures neighbours { AreNeighbours (points_closed_by held content.now.records) t result.before result.after }
     ensures before_range { IfSome result.before InRange }
     ensures after_range { IfSome result.after InRange }
 {
-    let n = content.below(t);
-    let before = last_of(content, n);
-    if n < content.len() {
-        return Neighbours {
-            before,
-            after: Some(content.point(n)),
-        };
+    let _len = content.len();
+    let around = content.around(t);
+    let next = Neighbours {
+        below: around.below,
+        upto: around.upto,
+        before: around.before,
+        after: around.after,
+    };
+    if let Some(_) = around.after {
+        return next;
     }
     match added(content, held) {
         Some(q) if q.t < t => Neighbours {
             before: Some(q),
-            after: None,
+            ..next
         },
         Some(q) => Neighbours {
-            before,
             after: Some(q),
+            ..next
         },
-        None => Neighbours {
-            before,
-            after: None,
-        },
+        None => next,
     }
 }

@@ -1,5 +1,6 @@
 // The points from one time to another.
-ghost use Rattle.std.specs.Prelude.{◌≡◌, ◌↔◌, ◌<◌, ◌≤◌, ◌++◌, [], ◌∷◌, IfOk, IsTrue, OnOk, List, length, slice_range, take};
+ghost use Rattle.std.specs.Prelude.{◌≡◌, ◌↔◌, ◌<◌, ◌≤◌, ◌++◌, [], ◌∷◌, IfOk, IsTrue, OnOk, List, length};
+ghost use Rattle.std.specs.Prelude.{slice_range, take};
 ghost use Rattle.std.specs.Option.{option_to_list};
 ghost use Rattle.trend_num.specs.declared.point.Point.{Point};
 ghost use Rattle.trend_num.specs.Ranges.{InRange};
@@ -24,8 +25,8 @@ pub struct PointList {
     pub more: bool,
 }
 
-/// The first points of the closed content from one time to another, both included. The held point is not before a point of
-/// the content. The one error is want of memory.
+/// The first points of the closed content from one time to another, both included. The held point is not
+/// before a point of the content. The one error is want of memory.
 pub fn points(
     alloc: Global,
     content: &Content,
@@ -35,8 +36,10 @@ pub fn points(
 ) -> Result<PointList, WantOfMemory>
     requires range { IfThere InRange held }
     requires last { IfThere (IsNotBefore content.now.records) held }
-    ensures list { IfOk result (λ p. p.list.items ≡ take MOST_LISTED (points_from_to (points_closed_by held content.now.records) from to)) }
-    ensures more { IfOk result (λ p. IsTrue p.more ↔ (MOST_LISTED < length (points_from_to (points_closed_by held content.now.records) from to))) }
+    ensures list { IfOk result (λ p. p.list.items
+        ≡ take MOST_LISTED (points_from_to (points_closed_by held content.now.records) from to)) }
+    ensures more { IfOk result (λ p. IsTrue p.more
+        ↔ (MOST_LISTED < length (points_from_to (points_closed_by held content.now.records) from to))) }
 {
     let places = places_from_to(content, from, to);
     let stop = places.end.min(places.start.saturating_add(MOST_LISTED));
@@ -57,7 +60,8 @@ struct Places {
 
 /// The places of the points of a content from one time to another.
 fn places_from_to(content: &Content, from: u64, to: u64) -> Places
-    ensures points { points_from_to (points_of content.now.records) from to ≡ slice_range (points_of content.now.records) result.start result.end }
+    ensures points { points_from_to (points_of content.now.records) from to
+        ≡ slice_range (points_of content.now.records) result.start result.end }
     ensures within { result.end ≤ length content.now.records }
 {
     let _len = content.len();

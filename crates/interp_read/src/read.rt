@@ -1,16 +1,19 @@
 // What stands at a time.
-ghost use Rattle.std.specs.Prelude.{◌≡◌, ◌<◌, ◌≤◌, true, false};
+ghost use Rattle.std.specs.Prelude.{◌≡◌, ◌<◌, ◌≤◌, true, false, IfSome, List};
+ghost use Rattle.trend_num.specs.declared.point.Point.{Point};
 ghost use Rattle.trend_num.specs.Ranges.{InRange};
 ghost use Rattle.trend_model.specs.Lists.{IfThere};
 ghost use Rattle.trend_model.specs.Reads.{between, read_at};
 ghost use Rattle.interp_read.specs.Closing.{IsNotBefore, points_closed_by};
+ghost use Rattle.interp_read.specs.NextTo.{AreNeighbours};
 
-use crate::closing::neighbours_at;
+use crate::closing::{Neighbours, neighbours_at};
 use late_insert::Content;
 use trend_num::{Point, Reading, line_at};
 
-/// What the line of a tag reads at t: the value of a point there, between two points that of the line between them, after
-/// the last point its value, and nothing before the first. The held point is not before a point of the content.
+/// What the line of a tag reads at t: the value of a point there, between two points that of the line between
+/// them, after the last point its value, and nothing before the first. The held point is not before a point
+/// of the content.
 pub fn at(content: &Content, held: Option<Point>, t: u64) -> Reading
     requires range { IfThere InRange held }
     requires last { IfThere (IsNotBefore content.now.records) held }
@@ -19,8 +22,8 @@ pub fn at(content: &Content, held: Option<Point>, t: u64) -> Reading
     read(content, held, false, t)
 }
 
-/// What the stair of a step tag reads at t: the value of a point there, else that of the last point before it, and nothing
-/// before the first. The held point is not before a point of the content.
+/// What the stair of a step tag reads at t: the value of a point there, else that of the last point before
+/// it, and nothing before the first. The held point is not before a point of the content.
 pub fn at_step(content: &Content, held: Option<Point>, t: u64) -> Reading
     requires range { IfThere InRange held }
     requires last { IfThere (IsNotBefore content.now.records) held }
@@ -35,7 +38,16 @@ fn read(content: &Content, held: Option<Point>, step: bool, t: u64) -> Reading
     requires last { IfThere (IsNotBefore content.now.records) held }
     ensures { result ≡ read_at step (points_closed_by held content.now.records) t }
 {
-    let next = neighbours_at(content, held, t);
+    reading_of(neighbours_at(content, held, t), step, t)
+}
+
+/// What a line or a stair reads at t, by the points next to t.
+pub fn reading_of(next: Neighbours, step: bool, t: u64) -> Reading
+    requires near { (points : List Point) × AreNeighbours points t next.before next.after }
+    requires before_range { IfSome next.before InRange }
+    requires after_range { IfSome next.after InRange }
+    ensures { (points : List Point) → AreNeighbours points t next.before next.after → result ≡ read_at step points t }
+{
     match (next.before, next.after) {
         (_, Some(q)) if q.t == t => Reading::Exact(q.v),
         (None, _) => Reading::Nothing,

@@ -1,6 +1,7 @@
 -- Totals of a list of points, and of one point more.
-use Rattle.std.proofs.Common.{◌≡◌, Bool, true, false, ℕ, zero, suc, ◌+◌, ◌-◌, ◌*◌, ◌^◌, ◌<◌, ◌≤◌, ℤ, pos, ◌+ℤ◌, ◌*ℤ◌}
-use Rattle.std.proofs.Common.{List, [], ◌∷◌, ◌++◌, length, get_or, take, All, fold, refl, sym, ap, ap₂, ◌∙◌, subst, arith}
+use Rattle.std.proofs.Common.{◌≡◌, Bool, true, false, ℕ, zero, suc, ◌+◌, ◌-◌, ◌*◌, ◌<◌, ◌≤◌, ℤ, pos, ◌+ℤ◌}
+use Rattle.std.proofs.Common.{◌*ℤ◌}
+use Rattle.std.proofs.Common.{List, [], ◌∷◌, ◌++◌, length, get_or, take, All, refl, ap, ◌∙◌, arith}
 use Rattle.std.specs.Prelude.{unsigned_abs, FitsSigned}
 use Rattle.std.specs.Int.{int_min, int_max, w128}
 use Rattle.std.proofs.lemmas.Int.{ints, unsigned_abs-mul, fits_signed_from_abs}
@@ -48,11 +49,13 @@ area_one step [] one = refl
 area_one step (x ∷ []) one = refl
 area_one step (x ∷ y ∷ l) one = absurd (omega arith)
 
-pub least_push : (l : List Point) (y : Point) → 0 < length l → least_of (l ++ y ∷ []) ≡ int_min (least_of l) y.v
+pub least_push : (l : List Point) (y : Point) → 0 < length l → least_of (l ++ y ∷ []) ≡ int_min
+    (least_of l) y.v
 least_push [] y some = absurd (omega arith)
 least_push (x ∷ l) y some = fold_push (λ (m : ℤ) (z : Point). int_min m z.v) x.v l y
 
-pub greatest_push : (l : List Point) (y : Point) → 0 < length l → greatest_of (l ++ y ∷ []) ≡ int_max (greatest_of l) y.v
+pub greatest_push : (l : List Point) (y : Point) → 0 < length l → greatest_of (l ++ y ∷ []) ≡ int_max
+    (greatest_of l) y.v
 greatest_push [] y some = absurd (omega arith)
 greatest_push (x ∷ l) y some = fold_push (λ (m : ℤ) (z : Point). int_max m z.v) x.v l y
 
@@ -75,15 +78,18 @@ abbrev most : ℕ
 most = last_time * (2 * largest_value)
 
 -- a length of time times two values
-product_small : (t : ℕ) (a b : ℤ) → t ≤ last_time → unsigned_abs a ≤ largest_value → unsigned_abs b ≤ largest_value
+product_small : (t : ℕ) (a b : ℤ) → t ≤ last_time → unsigned_abs a ≤ largest_value
+    → unsigned_abs b ≤ largest_value
     → unsigned_abs (pos t *ℤ (a +ℤ b)) ≤ most
 product_small t a b long first second =
     let high : unsigned_abs (a +ℤ b) ≤ 2 * largest_value = omega (arith, ints) in
     rw unsigned_abs-mul (mul-le t (unsigned_abs (a +ℤ b)) last_time (2 * largest_value) long high)
 
 piece_small : (step : Bool) (p q : Point) → InRange p → InRange q → unsigned_abs (piece step p q) ≤ most
-piece_small false p q first second = product_small (q.t - p.t) p.v q.v (omega (arith, second.time)) first.value second.value
-piece_small true p q first second = product_small (q.t - p.t) p.v p.v (omega (arith, second.time)) first.value first.value
+piece_small false p q first second = product_small (q.t - p.t) p.v q.v (omega (arith, second.time))
+    first.value second.value
+piece_small true p q first second = product_small (q.t - p.t) p.v p.v (omega (arith, second.time)) first.value
+    first.value
 
 abs_sum : (a b : ℤ) (m n : ℕ) → unsigned_abs a ≤ m → unsigned_abs b ≤ n → unsigned_abs (a +ℤ b) ≤ m + n
 abs_sum a b m n first second = omega (arith, ints)
@@ -94,9 +100,11 @@ area_small step (x ∷ []) range = omega arith
 area_small step (x ∷ y ∷ l) range =
     let rest = All-tail InRange x (y ∷ l) range in
     let line = piece_small step x y (All-head InRange x (y ∷ l) range) (All-head InRange y l rest) in
-    let sum = abs_sum (piece step x y) (area step (y ∷ l)) most (suc (length l) * most) line (area_small step (y ∷ l) rest) in
+    let sum = abs_sum (piece step x y) (area step (y ∷ l)) most (suc (length l) * most) line
+    (area_small step (y ∷ l) rest) in
     omega (arith, sum)
 
 -- the area of a page fits its type
-pub area_fits : (step : Bool) (l : List Point) → All InRange l → length l ≤ 128 → FitsSigned w128 (area step l)
+pub area_fits : (step : Bool) (l : List Point) → All InRange l → length l ≤ 128
+    → FitsSigned w128 (area step l)
 area_fits step l range few = fits_signed_from_abs w128 (area step l) (omega (arith, area_small step l range))

@@ -1,5 +1,6 @@
 -- The record that stands at a time in a rising list, and what the list reads late there.
-use Rattle.std.proofs.Common.{◌≡◌, ℕ, ◌<◌, inl, inr, ℤ, Bool, true, false, cond, List, [], ◌∷◌, Option, None, Some, nat_eq, refl, subst, ◌∙◌, arith}
+use Rattle.std.proofs.Common.{◌≡◌, ℕ, ◌<◌, inl, inr, ℤ, Bool, true, false, cond, List, [], ◌∷◌, Option, None}
+use Rattle.std.proofs.Common.{Some, nat_eq, refl, subst, ◌∙◌, arith}
 use Rattle.std.specs.Option.{option_or}
 use Rattle.std.proofs.lemmas.List.Elements.{All-head, All-tail}
 use Rattle.std.proofs.lemmas.Bool.{cases_eq, ne_eqb, eq-eqb}
@@ -39,7 +40,8 @@ late_is (x ∷ xs) rises t =
           let rest = none_late xs t (subst (λ u. AllAfter u xs) same (rising_head x xs rises)) in
           rw (rest, eq-eqb (time x) t same) refl
       | inr other ↦
-          rw (ne_eqb (time x) t other) (last_none (is_late_record x.kind) (late_at xs t) ∙ late_is xs (rising_tail x xs rises) t)
+          rw (ne_eqb (time x) t other) (last_none (is_late_record x.kind) (late_at xs t)
+          ∙ late_is xs (rising_tail x xs rises) t)
     ]
   where
     last_none : (b : Bool) (a : Option ℤ) → option_or a (cond b None None) ≡ a

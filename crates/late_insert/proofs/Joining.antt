@@ -1,31 +1,32 @@
 -- Pages one after another.
-use Rattle.std.proofs.Common.{◌≡◌, ◌≢◌, ℕ, zero, suc, ◌+◌, ◌-◌, ◌*◌, ◌<◌, ◌≤◌, ◌⊎◌, inl, inr, List, [], ◌∷◌, ◌++◌, length, map, get_or, set, take, drop, Option, Some, None, All, AllPairs, refl, sym, ap, ap₂, ◌∙◌, subst, arith, append_assoc, append-nil, length-append, add-zero, zero-add}
-use Rattle.std.specs.List.{flat_map}
-use Rattle.std.proofs.lemmas.List.{get_or_append_left, get_or-append-add, get_or-set_same, get_or-set_other, take-append-drop, drop_more, map-append}
+use Rattle.std.proofs.Common.{◌≡◌, ◌≢◌, ℕ, ◌+◌, ◌<◌, List, [], ◌∷◌, ◌++◌, length, map, get_or, set, take}
+use Rattle.std.proofs.Common.{drop, Option, None, All, refl, sym, ap, ap₂, ◌∙◌, subst, arith, length-append}
+use Rattle.std.proofs.Common.{add-zero, zero-add}
+use Rattle.std.proofs.lemmas.List.{get_or_append_left, get_or-append-add, get_or-set_other, take-append-drop}
+use Rattle.std.proofs.lemmas.List.{drop_more}
 use Rattle.std.proofs.lemmas.List.Concat.{flat_map-append}
-use Rattle.std.proofs.lemmas.List.Elements.{All-nil, All-cons, All-head, All-tail, All-append, All-weaker}
-use Rattle.trend_num.specs.declared.archive.Rec.{Rec}
+use Rattle.std.proofs.lemmas.List.Elements.{All-nil, All-cons, All-head, All-tail, All-append}
 use Rattle.page_pool.specs.declared.frame.Frame.{Frame}
 use Rattle.page_pool.specs.Pool.{frame_at}
 use Rattle.late_insert.specs.declared.directory.Page.{Page}
-use Rattle.trend_model.specs.Contents.{IsRising}
 use Rattle.late_insert.specs.Moves.{moved}
-use Rattle.late_insert.specs.Pages.{records_in, records_at, page_in, records_of, IsPage, IsPageAt, ArePagesFrom, AreApart, ids_of}
-use Rattle.trend_model.proofs.Placing.{time, AllBefore, AllAfter}
-use Rattle.late_insert.proofs.Summing.{length-records_in, get_or-records_in}
+use Rattle.late_insert.specs.Pages.{records_at, page_in, records_of, IsPageAt, ArePagesFrom, AreApart, ids_of}
 
 -- ---- facts of each of two lists
 
 pub all_left : {X : Type 0} (P : X → Type 0) (xs ys : List X) → All P (xs ++ ys) → All P xs
-all_left P xs ys all k d within = subst P (get_or_append_left xs ys d k within) (all k d (omega (arith, length-append xs ys)))
+all_left P xs ys all k d within = subst P (get_or_append_left xs ys d k within)
+    (all k d (omega (arith, length-append xs ys)))
 
 pub all_right : {X : Type 0} (P : X → Type 0) (xs ys : List X) → All P (xs ++ ys) → All P ys
-all_right P xs ys all k d within = subst P (get_or-append-add xs ys k d) (all (length xs + k) d (omega (arith, length-append xs ys)))
+all_right P xs ys all k d within = subst P (get_or-append-add xs ys k d)
+    (all (length xs + k) d (omega (arith, length-append xs ys)))
 
 -- ---- ids
 
 -- an id is none of those on both sides of it
-pub apart_at : (xs : List ℕ) (y : ℕ) (ys : List ℕ) → AreApart (xs ++ y ∷ ys) → All (λ x. x ≢ y) xs × All (λ x. x ≢ y) ys
+pub apart_at : (xs : List ℕ) (y : ℕ) (ys : List ℕ) → AreApart (xs ++ y ∷ ys)
+    → All (λ x. x ≢ y) xs × All (λ x. x ≢ y) ys
 apart_at [] y ys apart = (All-nil (λ x. x ≢ y), apart.0)
 apart_at (x ∷ xs) y ys apart =
     let rest = apart_at xs y ys apart.1 in
@@ -33,7 +34,8 @@ apart_at (x ∷ xs) y ys apart =
     (All-cons (λ z. z ≢ y) x xs (λ same. other (sym same)) rest.0, rest.1)
 
 -- one more id among others
-pub apart_insert : (xs ys : List ℕ) (z : ℕ) → AreApart (xs ++ ys) → All (λ x. x ≢ z) xs → All (λ x. x ≢ z) ys → AreApart (xs ++ z ∷ ys)
+pub apart_insert : (xs ys : List ℕ) (z : ℕ) → AreApart (xs ++ ys) → All (λ x. x ≢ z) xs → All (λ x. x ≢ z) ys
+    → AreApart (xs ++ z ∷ ys)
 apart_insert [] ys z apart left right = (right, apart)
 apart_insert (x ∷ xs) ys z apart left right =
     let here : x ≢ z = All-head (λ y. y ≢ z) x xs left in (
@@ -46,12 +48,14 @@ apart_insert (x ∷ xs) ys z apart left right =
 pub each_page : (P : ℕ → Type 0) (pages : List Page) → All P (ids_of pages) → All (λ p. P p.id) pages
 each_page P [] all = All-nil (λ p. P p.id)
 each_page P (p ∷ ps) all =
-    All-cons (λ q. P q.id) p ps (All-head P p.id (ids_of ps) all) (each_page P ps (All-tail P p.id (ids_of ps) all))
+    All-cons (λ q. P q.id) p ps (All-head P p.id (ids_of ps) all)
+    (each_page P ps (All-tail P p.id (ids_of ps) all))
 
 pub each_id : (P : ℕ → Type 0) (pages : List Page) → All (λ p. P p.id) pages → All P (ids_of pages)
 each_id P [] all = All-nil P
 each_id P (p ∷ ps) all =
-    All-cons P p.id (ids_of ps) (All-head (λ q. P q.id) p ps all) (each_id P ps (All-tail (λ q. P q.id) p ps all))
+    All-cons P p.id (ids_of ps) (All-head (λ q. P q.id) p ps all)
+    (each_id P ps (All-tail (λ q. P q.id) p ps all))
 
 -- pages that are moved keep their ids
 pub ids-moved : (by : ℕ) (pages : List Page) → ids_of (map (moved by) pages) ≡ ids_of pages
@@ -64,13 +68,16 @@ ids-moved by (p ∷ ps) = ap (λ ids. p.id ∷ ids) (ids-moved by ps)
 abbrev pub Agree : List (Option Frame) → List (Option Frame) → List Page → Type 0
 Agree pool new pages = All (λ p. frame_at new p.id ≡ frame_at pool p.id) pages
 
-pub records-agree : (pool new : List (Option Frame)) (pages : List Page) → Agree pool new pages → records_of new pages ≡ records_of pool pages
+pub records-agree : (pool new : List (Option Frame)) (pages : List Page) → Agree pool new pages
+    → records_of new pages ≡ records_of pool pages
 records-agree pool new [] agree = refl
 records-agree pool new (p ∷ ps) agree =
-    ap₂ (λ xs ys. xs ++ ys) (ap records_at (All-head (λ q. frame_at new q.id ≡ frame_at pool q.id) p ps agree))
+    ap₂ (λ xs ys. xs ++ ys) (ap records_at
+    (All-head (λ q. frame_at new q.id ≡ frame_at pool q.id) p ps agree))
     (records-agree pool new ps (All-tail (λ q. frame_at new q.id ≡ frame_at pool q.id) p ps agree))
 
-page_agrees : (pool new : List (Option Frame)) (place : ℕ) (p : Page) → frame_at new p.id ≡ frame_at pool p.id → IsPageAt pool place p → IsPageAt new place p
+page_agrees : (pool new : List (Option Frame)) (place : ℕ) (p : Page) → frame_at new p.id ≡ frame_at pool p.id
+    → IsPageAt pool place p → IsPageAt new place p
 page_agrees pool new place p same at = record {
   frame = at.frame;
   there = same ∙ at.there;
@@ -80,32 +87,39 @@ page_agrees pool new place p same at = record {
   stair = at.stair;
 }
 
-pub pages_agree : (pool new : List (Option Frame)) (place : ℕ) (pages : List Page) → Agree pool new pages → ArePagesFrom pool place pages
+pub pages_agree : (pool new : List (Option Frame)) (place : ℕ) (pages : List Page) → Agree pool new pages
+    → ArePagesFrom pool place pages
     → ArePagesFrom new place pages
 pages_agree pool new place [] agree each = tt
 pages_agree pool new place (p ∷ ps) agree each =
     let here = All-head (λ q. frame_at new q.id ≡ frame_at pool q.id) p ps agree in
-    let rest = pages_agree pool new (place + length (page_in pool p)) ps (All-tail (λ q. frame_at new q.id ≡ frame_at pool q.id) p ps agree) each.1 in (
+    let rest = pages_agree pool new (place + length (page_in pool p)) ps
+    (All-tail (λ q. frame_at new q.id ≡ frame_at pool q.id) p ps agree) each.1 in (
       page_agrees pool new place p here each.0,
       subst (λ rs. ArePagesFrom new (place + length (records_at rs)) ps) (sym here) rest,
     )
 
 -- another frame is written
-pub agree_set : (pool : List (Option Frame)) (id : ℕ) (o : Option Frame) (pages : List Page) → All (λ p. p.id ≢ id) pages
+pub agree_set : (pool : List (Option Frame)) (id : ℕ) (o : Option Frame) (pages : List Page)
+    → All (λ p. p.id ≢ id) pages
     → Agree pool (set pool id o) pages
-agree_set pool id o pages other k d within = get_or-set_other pool id (get_or pages k d).id o None (other k d within)
+agree_set pool id o pages other k d within = get_or-set_other pool id (get_or pages k d).id o None
+    (other k d within)
 
 -- ---- parts of the pages
 
-pub records-append : (pool : List (Option Frame)) (xs ys : List Page) → records_of pool (xs ++ ys) ≡ records_of pool xs ++ records_of pool ys
+pub records-append : (pool : List (Option Frame)) (xs ys : List Page)
+    → records_of pool (xs ++ ys) ≡ records_of pool xs ++ records_of pool ys
 records-append pool xs ys = flat_map-append (page_in pool) xs ys
 
-pub pages_split : (pool : List (Option Frame)) (place : ℕ) (xs ys : List Page) → ArePagesFrom pool place (xs ++ ys)
+pub pages_split : (pool : List (Option Frame)) (place : ℕ) (xs ys : List Page)
+    → ArePagesFrom pool place (xs ++ ys)
     → ArePagesFrom pool place xs × ArePagesFrom pool (place + length (records_of pool xs)) ys
 pages_split pool place [] ys each = (tt, rw add-zero each)
 pages_split pool place (x ∷ xs) ys each =
     let rest = pages_split pool (place + length (page_in pool x)) xs ys each.1 in
-    let place' : place + length (page_in pool x) + length (records_of pool xs) ≡ place + length (records_of pool (x ∷ xs)) =
+    let place' : place + length (page_in pool x) + length (records_of pool xs) ≡ place + length
+    (records_of pool (x ∷ xs)) =
     omega (arith, length-append (page_in pool x) (records_of pool xs)) in
     ((each.0, rest.0), subst (λ n. ArePagesFrom pool n ys) place' rest.1)
 
@@ -113,35 +127,56 @@ pub pages_join : (pool : List (Option Frame)) (place : ℕ) (xs ys : List Page) 
     → ArePagesFrom pool (place + length (records_of pool xs)) ys → ArePagesFrom pool place (xs ++ ys)
 pages_join pool place [] ys front back = rw add-zero at back
 pages_join pool place (x ∷ xs) ys front back =
-    let place' : place + length (records_of pool (x ∷ xs)) ≡ place + length (page_in pool x) + length (records_of pool xs) =
-    omega (arith, length-append (page_in pool x) (records_of pool xs)) in
-    (front.0, pages_join pool (place + length (page_in pool x)) xs ys front.1 (subst (λ n. ArePagesFrom pool n ys) place' back))
+    let place' : place + length (records_of pool (x ∷ xs)) ≡ place + length (page_in pool x) + length
+    (records_of pool xs) =
+    omega (arith, length-append (page_in pool x) (records_of pool xs)) in (
+      front.0,
+      pages_join pool (place + length (page_in pool x)) xs ys front.1
+          (subst (λ n. ArePagesFrom pool n ys) place' back),
+    )
 
 -- pages that are moved on
-pub records-moved : (pool : List (Option Frame)) (by : ℕ) (pages : List Page) → records_of pool (map (moved by) pages) ≡ records_of pool pages
+pub records-moved : (pool : List (Option Frame)) (by : ℕ) (pages : List Page)
+    → records_of pool (map (moved by) pages) ≡ records_of pool pages
 records-moved pool by [] = refl
 records-moved pool by (p ∷ ps) = ap (λ rs. page_in pool p ++ rs) (records-moved pool by ps)
 
-pub pages_moved : (pool : List (Option Frame)) (place by : ℕ) (pages : List Page) → ArePagesFrom pool place pages
+pub pages_moved : (pool : List (Option Frame)) (place by : ℕ) (pages : List Page)
+    → ArePagesFrom pool place pages
     → ArePagesFrom pool (place + by) (map (moved by) pages)
 pages_moved pool place by [] each = tt
 pages_moved pool place by (p ∷ ps) each =
     let place' : place + length (page_in pool p) + by ≡ place + by + length (page_in pool p) = omega arith in (
-      record { frame = each.0.frame; there = each.0.there; page = each.0.page; first = ap (λ n. n + by) each.0.first; start = each.0.start; stair = each.0.stair },
-      subst (λ n. ArePagesFrom pool n (map (moved by) ps)) place' (pages_moved pool (place + length (page_in pool p)) by ps each.1),
+      record {
+        frame = each.0.frame;
+        there = each.0.there;
+        page = each.0.page;
+        first = ap
+            (λ n. n + by) each.0.first;
+        start = each.0.start;
+        stair = each.0.stair;
+      },
+      subst (λ n. ArePagesFrom pool n (map (moved by) ps)) place'
+          (pages_moved pool (place + length (page_in pool p)) by ps each.1),
     )
 
 -- the page at a place of the list, and those on both sides of it
-pub pages_around : (pages : List Page) (k : ℕ) (d : Page) → k < length pages → pages ≡ take k pages ++ (get_or pages k d ∷ drop (k + 1) pages)
-pages_around pages k d within = sym (take-append-drop k pages) ∙ ap (λ ps. take k pages ++ ps) (drop_more pages k d within)
+pub pages_around : (pages : List Page) (k : ℕ) (d : Page) → k < length pages
+    → pages ≡ take k pages ++ (get_or pages k d ∷ drop (k + 1) pages)
+pages_around pages k d within = sym (take-append-drop k pages)
+    ∙ ap (λ ps. take k pages ++ ps) (drop_more pages k d within)
 
 pub records-around : (pool : List (Option Frame)) (pages : List Page) (k : ℕ) (d : Page) → k < length pages
-    → records_of pool pages ≡ records_of pool (take k pages) ++ (page_in pool (get_or pages k d) ++ records_of pool (drop (k + 1) pages))
+    → records_of pool pages ≡ records_of pool (take k pages) ++
+    (page_in pool (get_or pages k d) ++ records_of pool (drop (k + 1) pages))
 records-around pool pages k d within =
-    ap (records_of pool) (pages_around pages k d within) ∙ records-append pool (take k pages) (get_or pages k d ∷ drop (k + 1) pages)
+    ap (records_of pool) (pages_around pages k d within) ∙ records-append pool (take k pages)
+    (get_or pages k d ∷ drop (k + 1) pages)
 
-pub page_at : (pool : List (Option Frame)) (pages : List Page) (k : ℕ) (d : Page) → k < length pages → ArePagesFrom pool 0 pages
+pub page_at : (pool : List (Option Frame)) (pages : List Page) (k : ℕ) (d : Page) → k < length pages
+    → ArePagesFrom pool 0 pages
     → IsPageAt pool (length (records_of pool (take k pages))) (get_or pages k d)
 page_at pool pages k d within each =
-    let parts = pages_split pool 0 (take k pages) (get_or pages k d ∷ drop (k + 1) pages) (subst (ArePagesFrom pool 0) (pages_around pages k d within) each) in
+    let parts = pages_split pool 0 (take k pages) (get_or pages k d ∷ drop (k + 1) pages)
+    (subst (ArePagesFrom pool 0) (pages_around pages k d within) each) in
     rw zero-add at parts.1.0

@@ -1,7 +1,7 @@
 -- What holds of the pages of every content.
-use Rattle.std.proofs.Common.{◌≡◌, ℕ, ◌+◌, ◌*◌, ◌<◌, ◌≤◌, inl, inr, List, [], ◌∷◌, ◌++◌, length, Option, All, ap, sym, subst, arith, length-append}
-use Rattle.std.proofs.lemmas.List.Elements.{All-nil, All-head, All-tail, All-append, All-map}
-use Rattle.std.proofs.lemmas.Bool.{cases_lt}
+use Rattle.std.proofs.Common.{ℕ, ◌+◌, ◌*◌, ◌<◌, ◌≤◌, List, [], ◌∷◌, length, Option, All, ap, sym, subst}
+use Rattle.std.proofs.Common.{arith, length-append}
+use Rattle.std.proofs.lemmas.List.Elements.{All-nil, All-append, All-map}
 use Rattle.trend_num.specs.declared.archive.Rec.{Rec}
 use Rattle.trend_num.specs.Ranges.{InRange}
 use Rattle.page_pool.specs.declared.frame.Frame.{Frame}
@@ -21,12 +21,14 @@ many_records pool (p ∷ q ∷ ps) halves =
     omega (arith, length-append (page_in pool p) (records_of pool (q ∷ ps)))
 
 -- while there is room, a frame is spare
-pub frame_spare : (pool : List (Option Frame)) (pages : List Page) (places len room : ℕ) → IsKept pool pages places len room → 0 < spare_of pool
+pub frame_spare : (pool : List (Option Frame)) (pages : List Page) (places len room : ℕ)
+    → IsKept pool pages places len room → 0 < spare_of pool
 frame_spare pool pages places len room kept =
     omega (arith, many_records pool pages kept.paged.halves, kept.counted, kept.within, kept.frames)
 
 -- each record of the pages is in range
-pub all_in_range : (pool : List (Option Frame)) (place : ℕ) (pages : List Page) → ArePagesFrom pool place pages
+pub all_in_range : (pool : List (Option Frame)) (place : ℕ) (pages : List Page)
+    → ArePagesFrom pool place pages
     → All (λ r. InRange r.point) (records_of pool pages)
 all_in_range pool place [] each = All-nil (λ r. InRange r.point)
 all_in_range pool place (p ∷ ps) each =
@@ -36,7 +38,8 @@ all_in_range pool place (p ∷ ps) each =
     (all_in_range pool (place + length (page_in pool p)) ps each.1)
 
 -- and so is each point
-pub points_in_range : (pool : List (Option Frame)) (place : ℕ) (pages : List Page) → ArePagesFrom pool place pages
+pub points_in_range : (pool : List (Option Frame)) (place : ℕ) (pages : List Page)
+    → ArePagesFrom pool place pages
     → All InRange (points_of (records_of pool pages))
 points_in_range pool place pages each =
     All-map InRange (λ (r : Rec). r.point) (records_of pool pages) (all_in_range pool place pages each)

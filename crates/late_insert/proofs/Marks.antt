@@ -1,12 +1,14 @@
 -- The bits of a number, with one put in between.
-use Rattle.std.proofs.Common.{◌≡◌, ℕ, zero, suc, ◌+◌, ◌-◌, ◌*◌, ◌/◌, ◌%◌, ◌^◌, ◌<◌, ◌≤◌, refl, sym, ap, ◌∙◌, subst, arith, add-one}
+use Rattle.std.proofs.Common.{◌≡◌, ℕ, zero, suc, ◌+◌, ◌-◌, ◌*◌, ◌/◌, ◌%◌, ◌^◌, ◌<◌, ◌≤◌, refl, sym, ap, ◌∙◌}
+use Rattle.std.proofs.Common.{subst, arith}
 use Rattle.std.proofs.Math.Pow.{pow_pos, pow_mono}
 use Rattle.std.proofs.Math.Nat.{pow-suc, le-mul_of_pos_right}
 use Rattle.std.specs.Int.{bit_at}
 use Rattle.std.specs.Prelude.{bit_and}
 use Rattle.trend_num.specs.declared.archive.Kind.TheVariants.{Late}
 use Rattle.late_insert.specs.Pages.{kind_of}
-use Rattle.std.proofs.lemmas.Nat.{div-add-mod', mod_below, mul-add-lt, div-mul-add, mod-mul-add, shr_below, pow-add, one_shl, and_mask}
+use Rattle.std.proofs.lemmas.Nat.{div-add-mod', mod_below, mul-add-lt, div-mul-add, mod-mul-add, shr_below}
+use Rattle.std.proofs.lemmas.Nat.{pow-add, one_shl, and_mask}
 use Rattle.std.proofs.lemmas.Nat.Bits.{bit_at_cat_low, bit_at_cat_high, bit_at_lowest, bit_at-suc}
 
 -- m with the bit b put in at the place i
@@ -31,7 +33,8 @@ module _ (m i : ℕ) where
   bit_there b small =
       let none : i - i ≡ 0 = omega arith in
       bit_at_cat_high (m / 2 ^ i * 2 + b) i (m % 2 ^ i) i low (omega arith)
-      ∙ (ap (bit_at (m / 2 ^ i * 2 + b)) none ∙ (bit_at_lowest (m / 2 ^ i * 2 + b) ∙ mod-mul-add (m / 2 ^ i) 2 b small))
+      ∙ (ap (bit_at (m / 2 ^ i * 2 + b)) none
+      ∙ (bit_at_lowest (m / 2 ^ i * 2 + b) ∙ mod-mul-add (m / 2 ^ i) 2 b small))
 
   -- the bits from there on move up
   pub bit_above : (b k : ℕ) → b < 2 → i ≤ k → bit_at (with_bit m i b) (k + 1) ≡ bit_at m k
@@ -68,7 +71,8 @@ pub with_bit_small : (m i b n : ℕ) → b < 2 → i ≤ n → n < 128 → m < 2
 with_bit_small m i b n small within few fits =
     let whole = with_bit_fits m i b n small within fits in
     let most = pow_within (n + 1) (omega arith) in
-    let up : m / 2 ^ i * 2 + b ≤ (m / 2 ^ i * 2 + b) * 2 ^ i = le-mul_of_pos_right (m / 2 ^ i * 2 + b) (pow_pos i) in
+    let up : m / 2 ^ i * 2 + b ≤ (m / 2 ^ i * 2 + b) * 2 ^ i = le-mul_of_pos_right (m / 2 ^ i * 2 + b)
+    (pow_pos i) in
     (omega arith, omega arith, omega arith)
 
 -- a mark that is set is a bit that is 1

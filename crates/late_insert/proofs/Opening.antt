@@ -1,7 +1,10 @@
 -- A page in a frame that was taken: the first one, and one behind all others.
-use Rattle.std.proofs.Common.{◌≡◌, ◌≢◌, true, ℕ, ℤ, pos, zero, suc, ◌+◌, ◌-◌, ◌<◌, ◌≤◌, inl, inr, List, [], ◌∷◌, ◌++◌, length, get_or, set}
-use Rattle.std.proofs.Common.{Option, Some, None, All, refl, sym, ap, ap₂, ◌∙◌, subst, arith, append-nil, length-append}
-use Rattle.std.proofs.lemmas.List.{get_or-set_same, get_or-set_other, length-replicate, length-set, map-append}
+use Rattle.std.proofs.Common.{◌≡◌, ◌≢◌, true, ℕ, ℤ, pos, suc, ◌+◌, ◌-◌, ◌≤◌, inl, inr, List, [], ◌∷◌, ◌++◌}
+use Rattle.std.proofs.Common.{length, get_or, set}
+use Rattle.std.proofs.Common.{Option, Some, None, All, refl, sym, ap, ap₂, ◌∙◌, subst, arith, append-nil}
+use Rattle.std.proofs.Common.{length-append}
+use Rattle.std.proofs.lemmas.List.{get_or-set_same, get_or-set_other, length-replicate, length-set}
+use Rattle.std.proofs.lemmas.List.{map-append}
 use Rattle.std.proofs.lemmas.List.Elements.{All-nil, All-cons, All-head, All-tail, All-append}
 use Rattle.std.proofs.lemmas.Bool.{cases_lt}
 use Rattle.trend_num.specs.declared.archive.Rec.{Rec}
@@ -11,11 +14,13 @@ use Rattle.page_pool.specs.Pool.{frame_at, Takes, empty_frame}
 use Rattle.late_insert.specs.declared.directory.Page.{Page}
 use Rattle.trend_model.specs.Contents.{IsRising, placed, points_of}
 use Rattle.trend_model.specs.Windows.{area}
-use Rattle.late_insert.specs.Pages.{AreApart, ids_of, records_in, records_at, page_in, records_of, IsPage, IsPageAt}
+use Rattle.late_insert.specs.Pages.{AreApart, ids_of, records_in, records_at, page_in, records_of, IsPage}
+use Rattle.late_insert.specs.Pages.{IsPageAt}
 use Rattle.late_insert.specs.Pages.{ArePagesFrom, ArePages, AreHalves}
 use Rattle.trend_model.proofs.Placing.{time, AllBefore, placed_behind, rising_nil, rising_placed}
 use Rattle.late_insert.proofs.Finding.{HasSome}
-use Rattle.late_insert.proofs.Joining.{Agree, records-agree, pages_agree, records-append, pages_join, apart_insert, each_id}
+use Rattle.late_insert.proofs.Joining.{Agree, records-agree, pages_agree, records-append, pages_join}
+use Rattle.late_insert.proofs.Joining.{apart_insert, each_id}
 use Rattle.late_insert.proofs.Replacing.{some_agree, spare_apart}
 
 -- ---- the first page
@@ -54,17 +59,29 @@ module _ (pool new : List (Option Frame)) (pages : List Page) (id : ℕ) (takes 
     (list : pages ≡ record { id = id; first = 0; start = 0; stair = pos 0 } ∷ []) where
   -- the frame that was taken is empty
   empty_there : frame_at new id ≡ Some empty_frame
-  empty_there = ap (λ ps. frame_at ps id) takes.now_empty ∙ get_or-set_same pool id (Some empty_frame) None takes.within
+  empty_there = ap (λ ps. frame_at ps id) takes.now_empty
+      ∙ get_or-set_same pool id (Some empty_frame) None takes.within
 
   -- the first page has no records
   pub no_records : records_of new pages ≡ []
-  no_records = ap (records_of new) list ∙ (append-nil (records_at (frame_at new id)) ∙ (ap records_at empty_there ∙ empty_records))
+  no_records = ap (records_of new) list
+      ∙ (append-nil (records_at (frame_at new id)) ∙ (ap records_at empty_there ∙ empty_records))
 
   -- and is a page
   pub first_page_is : ArePages new pages
   first_page_is = record {
-    each = subst (ArePagesFrom new 0) (sym list)
-        (record { frame = empty_frame; there = empty_there; page = empty_page; first = refl; start = sym empty_start; stair = sym empty_stair }, tt);
+    each = subst (ArePagesFrom new 0) (sym list) (
+      record {
+        frame = empty_frame;
+        there = empty_there;
+        page = empty_page;
+        first = refl;
+        start =
+            sym empty_start;
+        stair = sym empty_stair;
+      },
+      tt,
+    );
     apart = subst (λ ps. AreApart (ids_of ps)) (sym list) (All-nil (λ y. y ≢ id), tt);
     rising = subst IsRising (sym no_records) rising_nil;
     some = omega (arith, ap length list);
@@ -75,23 +92,30 @@ module _ (pool new : List (Option Frame)) (pages : List Page) (id : ℕ) (takes 
 -- ---- a page behind all others
 
 -- what is found in a frame that was taken is empty
-pub taken_empty : (pool new : List (Option Frame)) (id : ℕ) (f : Frame) → Takes pool id new → frame_at new id ≡ Some f → f ≡ empty_frame
+pub taken_empty : (pool new : List (Option Frame)) (id : ℕ) (f : Frame) → Takes pool id new
+    → frame_at new id ≡ Some f → f ≡ empty_frame
 taken_empty pool new id f takes there =
     let empty : frame_at new id ≡ Some empty_frame =
-    ap (λ ps. frame_at ps id) takes.now_empty ∙ get_or-set_same pool id (Some empty_frame) None takes.within in
+    ap (λ ps. frame_at ps id) takes.now_empty ∙ get_or-set_same pool id (Some empty_frame) None
+    takes.within in
     cc
 
 -- with one record it has that one
-pub only_record : (f g : Frame) (r : Rec) → f ≡ empty_frame → records_in g ≡ records_in f ++ r ∷ [] → records_in g ≡ r ∷ []
+pub only_record : (f g : Frame) (r : Rec) → f ≡ empty_frame → records_in g ≡ records_in f ++ r ∷ []
+    → records_in g ≡ r ∷ []
 only_record f g r is records = records ∙ ap (λ l. l ++ r ∷ []) (ap records_in is ∙ empty_records)
 
 -- behind pages of which the last is half full another one may come
-halves_end : (pool new : List (Option Frame)) (pages : List Page) (q : Page) → Agree pool new pages → AreHalves pool pages
-    → ((k : ℕ) (d : Page) → k + 1 ≡ length pages → 64 ≤ length (page_in pool (get_or pages k d))) → AreHalves new (pages ++ q ∷ [])
+halves_end : (pool new : List (Option Frame)) (pages : List Page) (q : Page) → Agree pool new pages
+    → AreHalves pool pages
+    → ((k : ℕ) (d : Page) → k + 1 ≡ length pages → 64 ≤ length (page_in pool (get_or pages k d)))
+    → AreHalves new (pages ++ q ∷ [])
 halves_end pool new [] q agree halves last = (λ more. absurd (omega arith), tt)
 halves_end pool new (p ∷ []) q agree halves last =
-    let here = All-head (λ o. frame_at new o.id ≡ frame_at pool o.id) p [] agree in
-    (λ more. subst (λ o. 64 ≤ length (records_at o)) (sym here) (last 0 p (omega arith)), (λ more. absurd (omega arith), tt))
+    let here = All-head (λ o. frame_at new o.id ≡ frame_at pool o.id) p [] agree in (
+      λ more. subst (λ o. 64 ≤ length (records_at o)) (sym here) (last 0 p (omega arith)),
+      (λ more. absurd (omega arith), tt),
+    )
 halves_end pool new (p ∷ o ∷ ps) q agree halves last =
     let here = All-head (λ x. frame_at new x.id ≡ frame_at pool x.id) p (o ∷ ps) agree in
     let rest = All-tail (λ x. frame_at new x.id ≡ frame_at pool x.id) p (o ∷ ps) agree in (
@@ -100,8 +124,10 @@ halves_end pool new (p ∷ o ∷ ps) q agree halves last =
     )
 
 -- what is left where a frame was taken and written with one record, and its page put behind the others
-module _ (pool taken : List (Option Frame)) (pages : List Page) (id first : ℕ) (g : Frame) (r : Rec) (paged : ArePages pool pages)
-    (takes : Takes pool id taken) (page : IsPage g) (stair : ℤ) (stair_is : stair ≡ area true (points_of (records_in g)))
+module _ (pool taken : List (Option Frame)) (pages : List Page) (id first : ℕ) (g : Frame) (r : Rec)
+    (paged : ArePages pool pages)
+    (takes : Takes pool id taken) (page : IsPage g) (stair : ℤ)
+    (stair_is : stair ≡ area true (points_of (records_in g)))
     (records : records_in g ≡ r ∷ []) (counted : first ≡ length (records_of pool pages))
     (before : AllBefore (records_of pool pages) (time r))
     (full : (d : Page) → length (page_in pool (get_or pages (length pages - 1) d)) ≡ 128) where
@@ -121,7 +147,8 @@ module _ (pool taken : List (Option Frame)) (pages : List Page) (id first : ℕ)
 
   agree : Agree pool opened_pool pages
   agree k d inside =
-      get_or-set_other (set pool id (Some empty_frame)) id (get_or pages k d).id (Some g) None (others k d inside)
+      get_or-set_other (set pool id (Some empty_frame)) id (get_or pages k d).id (Some g) None
+      (others k d inside)
       ∙ get_or-set_other pool id (get_or pages k d).id (Some empty_frame) None (others k d inside)
 
   there : frame_at opened_pool id ≡ Some g
@@ -134,12 +161,14 @@ module _ (pool taken : List (Option Frame)) (pages : List Page) (id first : ℕ)
       records-append opened_pool pages (opened_page ∷ [])
       ∙ (ap₂ (λ xs ys. xs ++ ys) (records-agree pool opened_pool pages agree)
       (append-nil (page_in opened_pool opened_page) ∙ (ap records_at there ∙ records))
-      ∙ sym (ap (placed r) (sym (append-nil (records_of pool pages))) ∙ placed_behind r (records_of pool pages) [] before))
+      ∙ sym (ap (placed r) (sym (append-nil (records_of pool pages)))
+      ∙ placed_behind r (records_of pool pages) [] before))
 
   all_some : All (HasSome pool) pages
   all_some = elim (cases_lt 1 (length pages)) [
     | inl several ↦ paged.filled several
-    | inr one ↦ λ k d inside. let last : k ≡ length pages - 1 = omega arith in let long = full d in rw last (omega arith)
+    | inr one ↦ λ k d inside. let last : k ≡ length pages - 1 = omega arith in let long = full d in rw last
+        (omega arith)
   ]
 
   at_end : IsPageAt opened_pool (0 + length (records_of opened_pool pages)) opened_page
@@ -154,8 +183,10 @@ module _ (pool taken : List (Option Frame)) (pages : List Page) (id first : ℕ)
 
   apart_there : AreApart (ids_of (pages ++ opened_page ∷ []))
   apart_there =
-      let same : ids_of pages ++ id ∷ [] ≡ ids_of (pages ++ opened_page ∷ []) = sym (map-append (λ (x : Page). x.id) pages (opened_page ∷ [])) in
-      subst AreApart same (apart_insert (ids_of pages) [] id (subst AreApart (sym (append-nil (ids_of pages))) paged.apart)
+      let same : ids_of pages ++ id ∷ [] ≡ ids_of (pages ++ opened_page ∷ []) = sym
+      (map-append (λ (x : Page). x.id) pages (opened_page ∷ [])) in
+      subst AreApart same (apart_insert (ids_of pages) [] id
+      (subst AreApart (sym (append-nil (ids_of pages))) paged.apart)
       (each_id (λ i. i ≢ id) pages others) (All-nil (λ i. i ≢ id)))
 
   some_there : HasSome opened_pool opened_page
@@ -163,24 +194,30 @@ module _ (pool taken : List (Option Frame)) (pages : List Page) (id first : ℕ)
 
   pages_there : ArePages opened_pool (pages ++ opened_page ∷ [])
   pages_there = record {
-    each = pages_join opened_pool 0 pages (opened_page ∷ []) (pages_agree pool opened_pool 0 pages agree paged.each) (at_end, tt);
+    each = pages_join opened_pool 0 pages (opened_page ∷ [])
+        (pages_agree pool opened_pool 0 pages agree paged.each) (at_end, tt);
     apart = apart_there;
     rising = subst IsRising (sym records_there) (rising_placed r (records_of pool pages) paged.rising);
     some = omega (arith, length-append pages (opened_page ∷ []));
     halves = halves_end pool opened_pool pages opened_page agree paged.halves
-        (λ k d is. let same : k ≡ length pages - 1 = omega arith in let long = full d in rw same (omega arith));
-    filled = λ several. All-append (HasSome opened_pool) pages (opened_page ∷ []) (some_agree pool opened_pool pages agree all_some)
+        (λ k d is. let same : k ≡ length pages - 1 = omega arith in let long = full d in rw same
+        (omega arith));
+    filled = λ several. All-append (HasSome opened_pool) pages (opened_page ∷ [])
+        (some_agree pool opened_pool pages agree all_some)
         (All-cons (HasSome opened_pool) opened_page [] some_there (All-nil (HasSome opened_pool)));
   }
 
   pub pages_opened : ArePages (set taken id (Some g)) (pages ++ opened_page ∷ [])
   pages_opened = subst (λ ps. ArePages ps (pages ++ opened_page ∷ [])) (sym pool_is) pages_there
 
-  pub records-opened : records_of (set taken id (Some g)) (pages ++ opened_page ∷ []) ≡ placed r (records_of pool pages)
+  pub records-opened : records_of (set taken id (Some g)) (pages ++ opened_page ∷ []) ≡ placed r
+      (records_of pool pages)
   records-opened = ap (λ ps. records_of ps (pages ++ opened_page ∷ [])) pool_is ∙ records_there
 
-  pub len-opened : length (records_of (set taken id (Some g)) (pages ++ opened_page ∷ [])) ≡ length (records_of pool pages) + 1
+  pub len-opened : length (records_of (set taken id (Some g)) (pages ++ opened_page ∷ [])) ≡ length
+      (records_of pool pages) + 1
   len-opened =
       let is : placed r (records_of pool pages) ≡ records_of pool pages ++ r ∷ [] =
-      ap (placed r) (sym (append-nil (records_of pool pages))) ∙ placed_behind r (records_of pool pages) [] before in
+      ap (placed r) (sym (append-nil (records_of pool pages)))
+      ∙ placed_behind r (records_of pool pages) [] before in
       omega (arith, ap length records-opened, ap length is, length-append (records_of pool pages) (r ∷ []))

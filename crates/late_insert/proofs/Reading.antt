@@ -1,6 +1,10 @@
 -- What is read of the records of pages.
-use Rattle.std.proofs.Common.{◌≡◌, ◌≢◌, ℕ, zero, suc, ◌+◌, ◌-◌, ◌<◌, ◌≤◌, ◌⊎◌, inl, inr, Bool, true, false, cond, List, [], ◌∷◌, ◌++◌, length, map, get_or, take, drop, Option, Some, None, All, nat_lt, count_by, sum_by, refl, sym, ap, ap₂, ◌∙◌, subst, arith, append-nil, length-append}
-use Rattle.std.proofs.lemmas.List.{get_or_append_left, get_or-append-add, get_or-take, get_or-drop, get_or_default, take_at, drop_at, take_more, take_all, drop_all, length-map, length-take-le, length-drop, take-append-drop, map-append}
+use Rattle.std.proofs.Common.{◌≡◌, ℕ, ◌+◌, ◌-◌, ◌<◌, ◌≤◌, ◌⊎◌, inl, inr, true, cond, List, [], ◌∷◌, ◌++◌}
+use Rattle.std.proofs.Common.{length, get_or, take, drop, Option, Some, All, nat_lt, count_by, refl, sym, ap}
+use Rattle.std.proofs.Common.{ap₂, ◌∙◌, subst, arith, append-nil, length-append}
+use Rattle.std.proofs.lemmas.List.{get_or_append_left, get_or-append-add, get_or-take, get_or-drop}
+use Rattle.std.proofs.lemmas.List.{get_or_default, take_at, drop_at, take_more, drop_all, length-map}
+use Rattle.std.proofs.lemmas.List.{length-take-le, length-drop, map-append}
 use Rattle.std.proofs.lemmas.List.Sums.{sum_by-cons, sum_by-take-drop}
 use Rattle.std.proofs.lemmas.List.Elements.{All-head, All-tail}
 use Rattle.std.specs.Prelude.{FitsSigned}
@@ -8,42 +12,48 @@ use Rattle.std.proofs.lemmas.Int.{to_z-of_z}
 use mir.Syntax.{w128}
 use mir.Val.{of_z, to_z}
 use Rattle.std.proofs.lemmas.Bool.{cases_lt, cases_eq, lt-ltb, le-ltb}
-use Rattle.trend_num.specs.declared.point.Point.{Point}
 use Rattle.trend_num.specs.declared.archive.Rec.{Rec}
 use Rattle.page_pool.specs.declared.frame.Frame.{Frame}
 use Rattle.page_pool.specs.Pool.{frame_at}
 use Rattle.late_insert.specs.declared.directory.Page.{Page}
 use Rattle.trend_model.specs.Contents.{IsRising, points_of}
 use Rattle.trend_model.specs.Windows.{area}
-use Rattle.late_insert.specs.Pages.{rec_in, records_in, records_at, page_in, records_of, IsPage, IsPageAt, ArePages, IsFor, IsOn}
-use Rattle.trend_model.proofs.Placing.{time, AllBefore, AllAfter, rising_left, rising_right}
+use Rattle.late_insert.specs.Pages.{rec_in, records_in, records_at, page_in, records_of, IsPage, IsPageAt}
+use Rattle.late_insert.specs.Pages.{ArePages, IsFor, IsOn}
+use Rattle.trend_model.proofs.Placing.{time, AllBefore, rising_left, rising_right}
 use Rattle.late_insert.proofs.Summing.{length-records_in, get_or-records_in, length-points_in, points_range}
 use Rattle.late_insert.proofs.Areas.{area_fits}
-use Rattle.late_insert.proofs.Joining.{pages_around, records-around, records-append, page_at}
-use Rattle.late_insert.proofs.Finding.{no_rec, no_page}
+use Rattle.late_insert.proofs.Joining.{records-around, records-append, page_at}
+use Rattle.late_insert.proofs.Finding.{no_page}
 
 -- ---- a page among the others
 
 -- p is the page at k, and f its frame
-pub record IsRead (pool : List (Option Frame)) (pages : List Page) (k : ℕ) (p : Page) (f : Frame) : Type 0 where
-  pub paged : ArePages pool pages
-  pub within : k < length pages
-  pub read : p ≡ get_or pages k p
-  pub there : frame_at pool p.id ≡ Some f
+pub record IsRead (pool : List (Option Frame)) (pages : List Page) (k : ℕ) (p : Page) (f : Frame) : Type 0
+  where
+    pub paged : ArePages pool pages
+    pub within : k < length pages
+    pub read : p ≡ get_or pages k p
+    pub there : frame_at pool p.id ≡ Some f
 
 -- it is read so by its place
-pub is_read : (pool : List (Option Frame)) (pages : List Page) (k : ℕ) (p : Page) (f : Frame) → ArePages pool pages → k < length pages
+pub is_read : (pool : List (Option Frame)) (pages : List Page) (k : ℕ) (p : Page) (f : Frame)
+    → ArePages pool pages → k < length pages
     → p ≡ get_or pages k p → frame_at pool p.id ≡ Some f → IsRead pool pages k p f
-is_read pool pages k p f paged within read there = record { paged = paged; within = within; read = read; there = there }
+is_read pool pages k p f paged within read there =
+    record { paged = paged; within = within; read = read; there = there }
 
 -- so is each page
-pub each_read : (pool : List (Option Frame)) (pages : List Page) (k : ℕ) (d : Page) (paged : ArePages pool pages) (within : k < length pages)
+pub each_read : (pool : List (Option Frame)) (pages : List Page) (k : ℕ) (d : Page)
+    (paged : ArePages pool pages) (within : k < length pages)
     → IsRead pool pages k (get_or pages k d) (page_at pool pages k d within paged.each).frame
 each_read pool pages k d paged within =
-    is_read pool pages k (get_or pages k d) _ paged within (get_or_default pages k d (get_or pages k d) within)
+    is_read pool pages k (get_or pages k d) _ paged within
+    (get_or_default pages k d (get_or pages k d) within)
     (page_at pool pages k d within paged.each).there
 
-module _ (pool : List (Option Frame)) (pages : List Page) (k : ℕ) (p : Page) (f : Frame) (is : IsRead pool pages k p f) where
+module _ (pool : List (Option Frame)) (pages : List Page) (k : ℕ) (p : Page) (f : Frame)
+    (is : IsRead pool pages k p f) where
   abbrev front : List Rec
   front = records_of pool (take k pages)
 
@@ -51,7 +61,8 @@ module _ (pool : List (Option Frame)) (pages : List Page) (k : ℕ) (p : Page) (
   behind = records_of pool (drop (k + 1) pages)
 
   pub at_place : IsPageAt pool (length front) p
-  at_place = subst (IsPageAt pool (length front)) (sym is.read) (page_at pool pages k p is.within is.paged.each)
+  at_place = subst (IsPageAt pool (length front)) (sym is.read)
+      (page_at pool pages k p is.within is.paged.each)
 
   same_frame : at_place.frame ≡ f
   same_frame = let one : Some at_place.frame ≡ Some f = sym at_place.there ∙ is.there in cc
@@ -64,13 +75,16 @@ module _ (pool : List (Option Frame)) (pages : List Page) (k : ℕ) (p : Page) (
   page_stair = at_place.stair ∙ ap (λ g. area true (points_of (records_in g))) same_frame
 
   -- and that stair as it is read
-  pub stair_again : (q : Page) → q ≡ get_or pages k q → to_z w128 (of_z w128 q.stair) ≡ area true (points_of (records_in f))
+  pub stair_again : (q : Page) → q ≡ get_or pages k q → to_z w128 (of_z w128 q.stair) ≡ area true
+      (points_of (records_in f))
   stair_again q again =
       let page = frame_page in
       let same : q ≡ p = again ∙ (get_or_default pages k q p is.within ∙ sym is.read) in
-      let stair : q.stair ≡ area true (points_of (records_in f)) = ap (λ (x : Page). x.stair) same ∙ page_stair in
+      let stair : q.stair ≡ area true (points_of (records_in f)) = ap (λ (x : Page). x.stair) same
+      ∙ page_stair in
       to_z-of_z w128 q.stair (subst (FitsSigned w128) (sym stair)
-      (area_fits true (points_of (records_in f)) (points_range f page.recorded) (omega (arith, length-points_in f, page.recorded.few)))) ∙ stair
+      (area_fits true (points_of (records_in f)) (points_range f page.recorded)
+      (omega (arith, length-points_in f, page.recorded.few)))) ∙ stair
 
   parts : records_of pool pages ≡ front ++ (records_in f ++ behind)
   parts =
@@ -78,7 +92,8 @@ module _ (pool : List (Option Frame)) (pages : List Page) (k : ℕ) (p : Page) (
       ∙ ap (λ l. front ++ (l ++ behind)) (ap (page_in pool) (sym is.read) ∙ ap records_at is.there)
 
   pub frame_rises : IsRising (records_in f)
-  frame_rises = rising_left (records_in f) behind (rising_right front (records_in f ++ behind) (subst IsRising parts is.paged.rising))
+  frame_rises = rising_left (records_in f) behind
+      (rising_right front (records_in f ++ behind) (subst IsRising parts is.paged.rising))
 
   -- a record of the page, and one behind it
   pub on_page : (j : ℕ) (d : Rec) → j < f.len → get_or (records_of pool pages) (p.first + j) d ≡ rec_in f j
@@ -86,16 +101,26 @@ module _ (pool : List (Option Frame)) (pages : List Page) (k : ℕ) (p : Page) (
       ap (λ n. get_or (records_of pool pages) (n + j) d) at_place.first
       ∙ (ap (λ l. get_or l (length front + j) d) parts
       ∙ (get_or-append-add front (records_in f ++ behind) j d
-      ∙ (get_or_append_left (records_in f) behind d j (omega (arith, length-records_in f)) ∙ get_or-records_in f j d inside)))
+      ∙ (get_or_append_left (records_in f) behind d j (omega (arith, length-records_in f))
+      ∙ get_or-records_in f j d inside)))
 
   pub long : length (records_of pool pages) ≡ p.first + (f.len + length behind)
-  long = omega (arith, ap length parts, length-append front (records_in f ++ behind), length-append (records_in f) behind, length-records_in f, at_place.first)
+  long = omega (
+    arith,
+    ap length parts,
+    length-append front (records_in f ++ behind),
+    length-append
+        (records_in f) behind,
+    length-records_in f,
+    at_place.first,
+  )
 
   -- the page ends within the records
   pub end_within : p.first + f.len ≤ length (records_of pool pages)
   end_within = omega (arith, long)
 
-  pub read_on : (i : ℕ) (d : Rec) → p.first ≤ i → i < p.first + f.len → get_or (records_of pool pages) i d ≡ rec_in f (i - p.first)
+  pub read_on : (i : ℕ) (d : Rec) → p.first ≤ i → i < p.first + f.len
+      → get_or (records_of pool pages) i d ≡ rec_in f (i - p.first)
   read_on i d from upto =
       let place : p.first + (i - p.first) ≡ i = omega arith in
       ap (λ n. get_or (records_of pool pages) n d) (sym place) ∙ on_page (i - p.first) d (omega arith)
@@ -103,14 +128,25 @@ module _ (pool : List (Option Frame)) (pages : List Page) (k : ℕ) (p : Page) (
   -- the records up to the end of the page
   pub records_upto : records_of pool (take (k + 1) pages) ≡ front ++ records_in f
   records_upto =
-      ap (records_of pool) (take_more pages k p is.within) ∙ (records-append pool (take k pages) (get_or pages k p ∷ [])
-      ∙ ap (λ l. front ++ l) (append-nil (page_in pool (get_or pages k p)) ∙ (ap (page_in pool) (sym is.read) ∙ ap records_at is.there)))
+      ap (records_of pool) (take_more pages k p is.within)
+      ∙ (records-append pool (take k pages) (get_or pages k p ∷ [])
+      ∙ ap (λ l. front ++ l) (append-nil (page_in pool (get_or pages k p))
+      ∙ (ap (page_in pool) (sym is.read) ∙ ap records_at is.there)))
 
   -- a place on the page
   pub place_on : (i : ℕ) → IsOn pool pages k i → (p.first ≤ i) × (i < p.first + f.len)
   place_on i on =
-      let start = at_place.first in
-      (omega (arith, on.from), omega (arith, on.upto, ap length records_upto, length-append front (records_in f), length-records_in f))
+      let start = at_place.first in (
+        omega (arith, on.from),
+        omega (
+          arith,
+          on.upto,
+          ap length records_upto,
+          length-append front
+              (records_in f),
+          length-records_in f,
+        ),
+      )
 
   pub is_on : (i : ℕ) → p.first ≤ i → i < p.first + f.len → IsOn pool pages k i
   is_on i from upto =
@@ -122,10 +158,13 @@ module _ (pool : List (Option Frame)) (pages : List Page) (k : ℕ) (p : Page) (
       }
 
   -- where the page is the last one, and its last record is before t, all are
-  pub last_before : (t i : ℕ) → k + 1 ≡ length pages → i + 1 ≡ f.len → get_or f.times i 0 < t → AllBefore (records_of pool pages) t
+  pub last_before : (t i : ℕ) → k + 1 ≡ length pages → i + 1 ≡ f.len → get_or f.times i 0 < t
+      → AllBefore (records_of pool pages) t
   last_before t i last end early j d inside =
-      let none : length behind ≡ 0 = ap (λ ps. length (records_of pool ps)) (drop_all (k + 1) pages (omega arith)) in
-      let there : time (get_or (records_of pool pages) (p.first + i) d) ≡ get_or f.times i 0 = ap time (on_page i d (omega arith)) in
+      let none : length behind ≡ 0 = ap (λ ps. length (records_of pool ps))
+      (drop_all (k + 1) pages (omega arith)) in
+      let there : time (get_or (records_of pool pages) (p.first + i) d) ≡ get_or f.times i 0 = ap time
+      (on_page i d (omega arith)) in
       elim (cases_eq j (p.first + i)) [
         | inl same ↦ rw same (omega arith)
         | inr other ↦
@@ -135,15 +174,18 @@ module _ (pool : List (Option Frame)) (pages : List Page) (k : ℕ) (p : Page) (
 
   -- ---- the gap for a time
 
-  module _ (t i : ℕ) (found : IsFor pool pages k t) (upto : i ≤ f.len) (less : (j : ℕ) → j < i → get_or f.times j 0 < t)
+  module _ (t i : ℕ) (found : IsFor pool pages k t) (upto : i ≤ f.len)
+      (less : (j : ℕ) → j < i → get_or f.times j 0 < t)
       (more : (j : ℕ) → i ≤ j → j < f.len → t ≤ get_or f.times j 0) where
     pub gap_within : p.first + i ≤ length (records_of pool pages)
     gap_within = omega (arith, long)
 
     pub gap_before : All (λ r. time r < t) (take (p.first + i) (records_of pool pages))
     gap_before j d inside =
-        let reach : j < p.first + i = omega (arith, length-take-le (p.first + i) (records_of pool pages) gap_within) in
-        subst (λ r. time r < t) (sym (get_or-take (p.first + i) (records_of pool pages) j d reach)) (by_place (cases_lt j (length front)))
+        let reach : j < p.first + i = omega
+        (arith, length-take-le (p.first + i) (records_of pool pages) gap_within) in
+        subst (λ r. time r < t) (sym (get_or-take (p.first + i) (records_of pool pages) j d reach))
+        (by_place (cases_lt j (length front)))
       where
         by_place : (j < length front) ⊎ (length front ≤ j) → time (get_or (records_of pool pages) j d) < t
         by_place (inl left) =
@@ -151,18 +193,22 @@ module _ (pool : List (Option Frame)) (pages : List Page) (k : ℕ) (p : Page) (
             ap (λ l. get_or l j d) parts ∙ get_or_append_left front (records_in f ++ behind) d j left in
             subst (λ r. time r < t) (sym here) (found.before j d left)
         by_place (inr right) =
-            let reach : j < p.first + i = omega (arith, length-take-le (p.first + i) (records_of pool pages) gap_within) in
+            let reach : j < p.first + i = omega
+            (arith, length-take-le (p.first + i) (records_of pool pages) gap_within) in
             let start = at_place.first in
             let place : p.first + (j - p.first) ≡ j = omega arith in
             let here : get_or (records_of pool pages) j d ≡ rec_in f (j - p.first) =
-            ap (λ n. get_or (records_of pool pages) n d) (sym place) ∙ on_page (j - p.first) d (omega arith) in
+            ap (λ n. get_or (records_of pool pages) n d) (sym place)
+            ∙ on_page (j - p.first) d (omega arith) in
             subst (λ r. time r < t) (sym here) (less (j - p.first) (omega arith))
 
     pub gap_after : All (λ r. t ≤ time r) (drop (p.first + i) (records_of pool pages))
     gap_after j d inside =
-        subst (λ r. t ≤ time r) (sym (get_or-drop (p.first + i) (records_of pool pages) j d)) (by_place (cases_lt (i + j) f.len))
+        subst (λ r. t ≤ time r) (sym (get_or-drop (p.first + i) (records_of pool pages) j d))
+        (by_place (cases_lt (i + j) f.len))
       where
-        by_place : (i + j < f.len) ⊎ (f.len ≤ i + j) → t ≤ time (get_or (records_of pool pages) (p.first + i + j) d)
+        by_place : (i + j < f.len) ⊎ (f.len ≤ i + j)
+            → t ≤ time (get_or (records_of pool pages) (p.first + i + j) d)
         by_place (inl on) =
             let place : p.first + (i + j) ≡ p.first + i + j = omega arith in
             let here : get_or (records_of pool pages) (p.first + i + j) d ≡ rec_in f (i + j) =
@@ -172,7 +218,8 @@ module _ (pool : List (Option Frame)) (pages : List Page) (k : ℕ) (p : Page) (
             let start = at_place.first in
             let reach : i + j - f.len < length behind =
             omega (arith, long, length-drop (p.first + i) (records_of pool pages)) in
-            let place : length front + (length (records_in f) + (i + j - f.len)) ≡ p.first + i + j = omega (arith, length-records_in f) in
+            let place : length front + (length (records_in f) + (i + j - f.len)) ≡ p.first + i + j = omega
+            (arith, length-records_in f) in
             let here : get_or (records_of pool pages) (p.first + i + j) d ≡ get_or behind (i + j - f.len) d =
             ap (λ n. get_or (records_of pool pages) n d) (sym place)
             ∙ (ap (λ l. get_or l (length front + (length (records_in f) + (i + j - f.len))) d) parts
@@ -183,7 +230,8 @@ module _ (pool : List (Option Frame)) (pages : List Page) (k : ℕ) (p : Page) (
 
   -- ---- the page of a place
 
-  module _ (i : ℕ) (inside : i < length (records_of pool pages)) (early : (j : ℕ) (d : Page) → 0 < j → j ≤ k → (get_or pages j d).first ≤ i)
+  module _ (i : ℕ) (inside : i < length (records_of pool pages))
+      (early : (j : ℕ) (d : Page) → 0 < j → j ≤ k → (get_or pages j d).first ≤ i)
       (late : (j : ℕ) (d : Page) → k < j → j < length pages → i < (get_or pages j d).first) where
     pub page_from : p.first ≤ i
     page_from = elim (cases_lt 0 k) [
@@ -199,9 +247,16 @@ module _ (pool : List (Option Frame)) (pages : List Page) (k : ℕ) (p : Page) (
       | inl more ↦
           let next = (page_at pool pages (k + 1) no_page more is.paged.each).first in
           let bound = late (k + 1) no_page (omega arith) more in
-          omega (arith, at_place.first, ap length records_upto, length-append front (records_in f), length-records_in f)
+          omega (
+            arith,
+            at_place.first,
+            ap length records_upto,
+            length-append front (records_in f),
+            length-records_in f,
+          )
       | inr last ↦
-          let none : length behind ≡ 0 = ap (λ ps. length (records_of pool ps)) (drop_all (k + 1) pages last) in
+          let none : length behind ≡ 0 = ap (λ ps. length (records_of pool ps))
+          (drop_all (k + 1) pages last) in
           omega (arith, long)
     ]
 
@@ -209,16 +264,20 @@ module _ (pool : List (Option Frame)) (pages : List Page) (k : ℕ) (p : Page) (
     read_at d = read_on i d page_from page_upto
 
     -- the points on the page are those of its frame
-    pub points_read : take (p.first + f.len - p.first) (drop p.first (points_of (records_of pool pages))) ≡ points_of (records_in f)
+    pub points_read : take (p.first + f.len - p.first) (drop p.first (points_of (records_of pool pages))) ≡
+        points_of (records_in f)
     points_read =
-        let all : points_of (records_of pool pages) ≡ points_of front ++ (points_of (records_in f) ++ points_of behind) =
+        let all : points_of (records_of pool pages) ≡ points_of front ++
+        (points_of (records_in f) ++ points_of behind) =
         ap points_of parts ∙ (map-append (λ (r : Rec). r.point) front (records_in f ++ behind)
         ∙ ap (λ l. points_of front ++ l) (map-append (λ (r : Rec). r.point) (records_in f) behind)) in
-        let start : length (points_of front) ≡ p.first = length-map front (λ r. r.point) ∙ sym at_place.first in
+        let start : length (points_of front) ≡ p.first = length-map front (λ r. r.point)
+        ∙ sym at_place.first in
         let many : length (points_of (records_in f)) ≡ p.first + f.len - p.first =
         length-map (records_in f) (λ r. r.point) ∙ (length-records_in f ∙ omega arith) in
         ap (λ l. take (p.first + f.len - p.first) (drop p.first l)) all
-        ∙ (ap (take (p.first + f.len - p.first)) (drop_at (points_of front) (points_of (records_in f) ++ points_of behind) p.first start)
+        ∙ (ap (take (p.first + f.len - p.first))
+        (drop_at (points_of front) (points_of (records_in f) ++ points_of behind) p.first start)
         ∙ take_at (points_of (records_in f)) (points_of behind) (p.first + f.len - p.first) many)
 
 -- ---- how many records are before a time
@@ -228,17 +287,26 @@ count_all t [] all = refl
 count_all t (x ∷ xs) all =
     let here = All-head (λ r. time r < t) x xs all in
     sum_by-cons (λ r. cond (nat_lt (time r) t) 1 0) x xs
-    ∙ (ap₂ (λ b n. cond b 1 0 + n) (lt-ltb (time x) t here) (count_all t xs (All-tail (λ r. time r < t) x xs all)) ∙ omega arith)
+    ∙ (ap₂ (λ b n. cond b 1 0 + n) (lt-ltb (time x) t here)
+    (count_all t xs (All-tail (λ r. time r < t) x xs all)) ∙ omega arith)
 
 count_none : (t : ℕ) (l : List Rec) → All (λ r. t ≤ time r) l → count_by (λ r. nat_lt (time r) t) l ≡ 0
 count_none t [] all = refl
 count_none t (x ∷ xs) all =
     let here = All-head (λ r. t ≤ time r) x xs all in
     sum_by-cons (λ r. cond (nat_lt (time r) t) 1 0) x xs
-    ∙ (ap₂ (λ b n. cond b 1 0 + n) (le-ltb (time x) t here) (count_none t xs (All-tail (λ r. t ≤ time r) x xs all)) ∙ omega arith)
+    ∙ (ap₂ (λ b n. cond b 1 0 + n) (le-ltb (time x) t here)
+    (count_none t xs (All-tail (λ r. t ≤ time r) x xs all)) ∙ omega arith)
 
-pub count_gap : (t n : ℕ) (l : List Rec) → n ≤ length l → All (λ r. time r < t) (take n l) → All (λ r. t ≤ time r) (drop n l)
+pub count_gap : (t n : ℕ) (l : List Rec) → n ≤ length l → All (λ r. time r < t) (take n l)
+    → All (λ r. t ≤ time r) (drop n l)
     → n ≡ count_by (λ r. nat_lt (time r) t) l
 count_gap t n l within before after =
     let weight : Rec → ℕ = λ r. cond (nat_lt (time r) t) 1 0 in
-    omega (arith, sum_by-take-drop weight l n, count_all t (take n l) before, count_none t (drop n l) after, length-take-le n l within)
+    omega (
+      arith,
+      sum_by-take-drop weight l n,
+      count_all t (take n l) before,
+      count_none t (drop n l) after,
+      length-take-le n l within,
+    )

@@ -1,35 +1,44 @@
 -- What the code makes of a list of pages.
-use Rattle.std.proofs.Common.{◌≡◌, ◌≢◌, true, ℕ, ℤ, pos, zero, suc, ◌+◌, ◌-◌, ◌*◌, ◌^◌, ◌<◌, ◌≤◌, List, [], ◌∷◌, ◌++◌, length, map, get_or, set, take, drop, Option, Some, None, All, Vec, Global, refl, sym, ap, ap₂, ◌∙◌, subst, arith, append_assoc, length-append, append-nil, add-one, inl, inr}
-use Rattle.std.proofs.lemmas.List.{take_at, take_more_set, drop-set-lt, get_or_default, length-map, length-set, length-take-le, length-drop, take-append-drop, take_more, get_or_at, get_or-set_same, get_or-set_other}
-use Rattle.std.proofs.lemmas.List.Edits.{get_or-insert_at, get_or-insert_below, get_or-insert_above, length-insert}
+use Rattle.std.proofs.Common.{◌≡◌, true, ℕ, ℤ, zero, suc, ◌+◌, ◌^◌, ◌<◌, ◌≤◌, List, [], ◌∷◌, ◌++◌, length}
+use Rattle.std.proofs.Common.{map, get_or, set, take, drop, Option, Some, All, Vec, Global, sym, ap, ap₂, ◌∙◌}
+use Rattle.std.proofs.Common.{subst, arith, append_assoc, length-append, add-one, inl, inr}
+use Rattle.std.proofs.lemmas.List.{take_at, take_more_set, drop-set-lt, get_or_default, length-map}
+use Rattle.std.proofs.lemmas.List.{length-set, length-take-le, length-drop, get_or_at, get_or-set_same}
+use Rattle.std.proofs.lemmas.List.{get_or-set_other}
+use Rattle.std.proofs.lemmas.List.Edits.{get_or-insert_at, get_or-insert_below, get_or-insert_above}
+use Rattle.std.proofs.lemmas.List.Edits.{length-insert}
 use Rattle.std.proofs.lemmas.Bool.{cases_eq, cases_lt}
 use Rattle.late_insert.proofs.Finding.{found_for}
 use Rattle.std.specs.Prelude.{insert}
 use Rattle.std.proofs.lemmas.List.Elements.{All-nil, All-cons, All-set}
 use Rattle.trend_num.specs.declared.archive.Rec.{Rec}
 use Rattle.page_pool.specs.declared.frame.Frame.{Frame}
-use Rattle.page_pool.specs.Pool.{frame_at, Takes, empty_frame}
-use Rattle.trend_num.specs.Ranges.{InRange}
+use Rattle.page_pool.specs.Pool.{Takes, empty_frame}
 use Rattle.late_insert.specs.declared.directory.Page.{Page}
-use Rattle.trend_model.specs.Contents.{IsRising, placed, points_of}
+use Rattle.trend_model.specs.Contents.{placed, points_of}
 use Rattle.trend_model.specs.Windows.{area}
 use Rattle.late_insert.specs.Moves.{moved}
-use Rattle.late_insert.specs.Pages.{AreApart, ids_of, records_in, records_at, page_in, records_of, IsPage, IsPageAt, ArePagesFrom, ArePages, AreHalves, IsFor, IsSplit}
-use Rattle.trend_model.proofs.Placing.{time, placed_middle, rising_nil}
+use Rattle.late_insert.specs.Pages.{records_in, records_at, page_in, records_of, IsPage, ArePagesFrom}
+use Rattle.late_insert.specs.Pages.{ArePages, IsFor, IsSplit}
+use Rattle.trend_model.proofs.Placing.{time, placed_middle}
 use Rattle.late_insert.proofs.Summing.{length-records_in}
-use Rattle.late_insert.proofs.Joining.{pages_around, page_at, records-around}
-use Rattle.late_insert.proofs.Replacing.{pages_put, records-put, put_pages, pages_in_halves, records-split, low_len, high_len}
+use Rattle.late_insert.proofs.Joining.{pages_around, records-around}
+use Rattle.late_insert.proofs.Replacing.{pages_put, records-put, pages_in_halves, records-split, low_len}
+use Rattle.late_insert.proofs.Replacing.{high_len}
 use Rattle.late_insert.proofs.Reading.{IsRead, end_within}
 
--- the pages after a record was put into the page at k: its start and stair are written, and the others are moved on
+-- the pages after a record was put into the page at k: its start and stair are written, and the others are
+-- moved on
 pub record IsShelved (pages M S : List Page) (k n by : ℕ) (q : Page) (g : Frame) (s : ℤ) : Type 0 where
   pub again : q ≡ get_or pages k q
   pub wrote : S ≡ set pages k (record { id = q.id; first = q.first; start = get_or g.times 0 0; stair = s })
   pub moves : M ≡ take (k + 1) S ++ map (moved by) (drop (k + 1) S)
   pub long : n ≡ length pages
 
-module _ (pool : List (Option Frame)) (pages M S rest : List Page) (k n by : ℕ) (p q : Page) (f g : Frame) (r : Rec) (s : ℤ) (stair : s ≡ area true (points_of (records_in g)))
-    (is : IsRead pool pages k p f) (found : IsFor pool pages k (time r)) (page : IsPage g) (records : records_in g ≡ placed r (records_in f)) (grown : g.len ≡ f.len + by)
+module _ (pool : List (Option Frame)) (pages M S rest : List Page) (k n by : ℕ) (p q : Page) (f g : Frame)
+    (r : Rec) (s : ℤ) (stair : s ≡ area true (points_of (records_in g)))
+    (is : IsRead pool pages k p f) (found : IsFor pool pages k (time r)) (page : IsPage g)
+    (records : records_in g ≡ placed r (records_in f)) (grown : g.len ≡ f.len + by)
     (shelved : IsShelved pages M S k n by q g s) where
   same_page : q ≡ p
   same_page = shelved.again ∙ (get_or_default pages k q p is.within ∙ sym is.read)
@@ -50,13 +59,18 @@ module _ (pool : List (Option Frame)) (pages M S rest : List Page) (k n by : ℕ
   in_len = omega (arith, length-records_in g, length-records_in f, ap length held)
 
   -- the pages as the code leaves them
-  final : take n (M ++ rest) ≡ take k pages ++ record { id = p.id; first = p.first; start = get_or g.times 0 0; stair = s } ∷ map (moved by) (drop (k + 1) pages)
+  final : take n (M ++ rest) ≡ take k pages ++ record
+      { id = p.id; first = p.first; start = get_or g.times 0 0; stair = s } ∷ map (moved by)
+      (drop (k + 1) pages)
   final =
       let now : Page = record { id = q.id; first = q.first; start = get_or g.times 0 0; stair = s } in
-      let front : take (k + 1) S ≡ take k pages ++ now ∷ [] = ap (take (k + 1)) shelved.wrote ∙ take_more_set pages k now is.within in
-      let back : drop (k + 1) S ≡ drop (k + 1) pages = ap (drop (k + 1)) shelved.wrote ∙ drop-set-lt (k + 1) pages k now (omega arith) in
+      let front : take (k + 1) S ≡ take k pages ++ now ∷ [] = ap (take (k + 1)) shelved.wrote
+      ∙ take_more_set pages k now is.within in
+      let back : drop (k + 1) S ≡ drop (k + 1) pages = ap (drop (k + 1)) shelved.wrote
+      ∙ drop-set-lt (k + 1) pages k now (omega arith) in
       let whole : M ≡ take k pages ++ now ∷ map (moved by) (drop (k + 1) pages) =
-      shelved.moves ∙ (ap₂ (λ xs ys. xs ++ map (moved by) ys) front back ∙ append_assoc (take k pages) (now ∷ []) (map (moved by) (drop (k + 1) pages))) in
+      shelved.moves ∙ (ap₂ (λ xs ys. xs ++ map (moved by) ys) front back
+      ∙ append_assoc (take k pages) (now ∷ []) (map (moved by) (drop (k + 1) pages))) in
       let parts = length-append (take k pages) (now ∷ map (moved by) (drop (k + 1) pages)) in
       let long : length M ≡ n =
       omega (
@@ -70,27 +84,34 @@ module _ (pool : List (Option Frame)) (pages M S rest : List Page) (k n by : ℕ
         shelved.long,
       ) in
       take_at M rest n long ∙ (whole
-      ∙ ap (λ (x : Page). take k pages ++ record { id = x.id; first = x.first; start = get_or g.times 0 0; stair = s } ∷ map (moved by) (drop (k + 1) pages)) same_page)
+      ∙ ap (λ (x : Page). take k pages ++ record
+      { id = x.id; first = x.first; start = get_or g.times 0 0; stair = s } ∷ map (moved by)
+      (drop (k + 1) pages)) same_page)
 
   pub pages_shelved : ArePages (set pool p.id (Some g)) (take n (M ++ rest))
   pages_shelved =
       subst (ArePages (set pool p.id (Some g))) (sym final)
-      (pages_put pool (take k pages) (drop (k + 1) pages) p g r by s stair as_pages page in_page in_len found.before found.after)
+      (pages_put pool (take k pages) (drop (k + 1) pages) p g r by s stair as_pages page in_page in_len
+      found.before found.after)
 
-  pub records-shelved : records_of (set pool p.id (Some g)) (take n (M ++ rest)) ≡ placed r (records_of pool pages)
+  pub records-shelved : records_of (set pool p.id (Some g)) (take n (M ++ rest)) ≡ placed r
+      (records_of pool pages)
   records-shelved =
       ap (records_of (set pool p.id (Some g))) final
-      ∙ (records-put pool (take k pages) (drop (k + 1) pages) p g r by s stair as_pages page in_page in_len found.before found.after
+      ∙ (records-put pool (take k pages) (drop (k + 1) pages) p g r by s stair as_pages page in_page in_len
+      found.before found.after
       ∙ ap (λ ps. placed r (records_of pool ps)) (sym around))
 
-  pub len-shelved : length (records_of (set pool p.id (Some g)) (take n (M ++ rest))) ≡ length (records_of pool pages) + by
+  pub len-shelved : length (records_of (set pool p.id (Some g)) (take n (M ++ rest))) ≡ length
+      (records_of pool pages) + by
   len-shelved =
       let A = records_of pool (take k pages) in
       let B = records_of pool (drop (k + 1) pages) in
       let was : records_of pool pages ≡ A ++ (page_in pool p ++ B) =
       records-around pool pages k p is.within ∙ ap (λ x. A ++ (page_in pool x ++ B)) (sym is.read) in
       let now : placed r (records_of pool pages) ≡ A ++ (records_in g ++ B) =
-      ap (placed r) was ∙ (placed_middle r A (page_in pool p) B found.before found.after ∙ ap (λ l. A ++ (l ++ B)) (sym in_page)) in
+      ap (placed r) was ∙ (placed_middle r A (page_in pool p) B found.before found.after
+      ∙ ap (λ l. A ++ (l ++ B)) (sym in_page)) in
       let new_len : length (A ++ (records_in g ++ B)) ≡ length A + (length (records_in g) + length B) =
       length-append A (records_in g ++ B) ∙ ap (λ n. length A + n) (length-append (records_in g) B) in
       let old_len : length (A ++ (page_in pool p ++ B)) ≡ length A + (length (page_in pool p) + length B) =
@@ -109,28 +130,37 @@ first_fits pool place (p ∷ ps) each =
     let here = each.0.first in
     let long = length-append (page_in pool p) (records_of pool ps) in
     All-cons (λ q. q.first ≤ place + length (records_of pool (p ∷ ps))) p ps (omega arith)
-    (λ k d inside. let rest = first_fits pool (place + length (page_in pool p)) ps each.1 k d inside in omega arith)
+    (λ k d inside. let rest = first_fits pool (place + length (page_in pool p)) ps each.1 k d inside in omega
+    arith)
 
 -- nor does one whose start is written
-pub small_places : (pool : List (Option Frame)) (pages S : List Page) (k by : ℕ) (q : Page) (s : ℕ) (z : ℤ) → ArePages pool pages → k < length pages
-    → q ≡ get_or pages k q → S ≡ set pages k (record { id = q.id; first = q.first; start = s; stair = z }) → length (records_of pool pages) + 1 < 2 ^ 32 → by ≤ 1
+pub small_places : (pool : List (Option Frame)) (pages S : List Page) (k by : ℕ) (q : Page) (s : ℕ) (z : ℤ)
+    → ArePages pool pages → k < length pages
+    → q ≡ get_or pages k q → S ≡ set pages k (record { id = q.id; first = q.first; start = s; stair = z })
+    → length (records_of pool pages) + 1 < 2 ^ 32 → by ≤ 1
     → All (λ p. p.first + by < 2 ^ 32) S
 small_places pool pages S k by q s z paged within again wrote few one =
     let firsts = first_fits pool 0 pages paged.each in
     let Small : Page → Type 0 = λ p. p.first + by < 2 ^ 32 in
     let all : All Small pages = λ i d inside. let first = firsts i d inside in omega arith in
     let here : q.first + by < 2 ^ 32 = subst Small (sym again) (all k q within) in
-    subst (All Small) (sym wrote) (All-set Small pages k (record { id = q.id; first = q.first; start = s; stair = z }) here all)
+    subst (All Small) (sym wrote) (All-set Small pages k
+    (record { id = q.id; first = q.first; start = s; stair = z }) here all)
 
 -- ---- a page that was split
 
 -- what a split leaves: the lower half, a frame that was taken for the upper half, and the upper half there
-module _ (pool taken : List (Option Frame)) (pages : List Page) (k id : ℕ) (p q : Page) (f lo hi : Frame) (s t : ℤ)
-    (lower_stair : s ≡ area true (points_of (records_in lo))) (upper_stair : t ≡ area true (points_of (records_in hi))) (is : IsRead pool pages k p f)
-    (full : f.len ≡ 128) (lower : IsPage lo) (upper : IsPage hi) (low : records_in lo ≡ take 64 (records_in f))
-    (high : records_in hi ≡ drop 64 (records_in f)) (takes : Takes (set pool p.id (Some lo)) id taken) (again : q ≡ get_or pages k q) where
+module _ (pool taken : List (Option Frame)) (pages : List Page) (k id : ℕ) (p q : Page) (f lo hi : Frame)
+    (s t : ℤ)
+    (lower_stair : s ≡ area true (points_of (records_in lo)))
+    (upper_stair : t ≡ area true (points_of (records_in hi))) (is : IsRead pool pages k p f)
+    (full : f.len ≡ 128) (lower : IsPage lo) (upper : IsPage hi)
+    (low : records_in lo ≡ take 64 (records_in f))
+    (high : records_in hi ≡ drop 64 (records_in f)) (takes : Takes (set pool p.id (Some lo)) id taken)
+    (again : q ≡ get_or pages k q) where
   split_around : pages ≡ take k pages ++ p ∷ drop (k + 1) pages
-  split_around = pages_around pages k p is.within ∙ ap (λ x. take k pages ++ x ∷ drop (k + 1) pages) (sym is.read)
+  split_around = pages_around pages k p is.within ∙ ap (λ x. take k pages ++ x ∷ drop (k + 1) pages)
+      (sym is.read)
 
   split_paged : ArePages pool (take k pages ++ p ∷ drop (k + 1) pages)
   split_paged = subst (ArePages pool) split_around is.paged
@@ -159,12 +189,15 @@ module _ (pool taken : List (Option Frame)) (pages : List Page) (k id : ℕ) (p 
   split_is : split_list ≡ take k pages ++ record { id = p.id; first = p.first; start = p.start; stair = s }
       ∷ record { id = id; first = p.first + 64; start = get_or hi.times 0 0; stair = t } ∷ drop (k + 1) pages
   split_is =
-      ap₂ (λ xs ys. xs ++ new_page ∷ ys) (take_more_set pages k old_page is.within) (drop-set-lt (k + 1) pages k old_page (omega arith))
+      ap₂ (λ xs ys. xs ++ new_page ∷ ys) (take_more_set pages k old_page is.within)
+      (drop-set-lt (k + 1) pages k old_page (omega arith))
       ∙ (append_assoc (take k pages) (old_page ∷ []) (new_page ∷ drop (k + 1) pages)
       ∙ ap (λ (x : Page). take k pages ++ record { id = x.id; first = x.first; start = x.start; stair = s }
-      ∷ record { id = id; first = x.first + 64; start = get_or hi.times 0 0; stair = t } ∷ drop (k + 1) pages) split_same)
+      ∷ record { id = id; first = x.first + 64; start = get_or hi.times 0 0; stair = t } ∷ drop (k + 1) pages)
+      split_same)
 
-  split_pool_is : set taken id (Some hi) ≡ set (set (set pool p.id (Some lo)) id (Some empty_frame)) id (Some hi)
+  split_pool_is : set taken id (Some hi) ≡ set (set (set pool p.id (Some lo)) id (Some empty_frame)) id
+      (Some hi)
   split_pool_is = ap (λ ps. set ps id (Some hi)) takes.now_empty
 
   low_part : records_in lo ≡ take 64 (page_in pool p)
@@ -176,32 +209,40 @@ module _ (pool taken : List (Option Frame)) (pages : List Page) (k id : ℕ) (p 
   pub pages_cut : ArePages (set taken id (Some hi)) split_list
   pages_cut =
       subst (λ ps. ArePages ps split_list) (sym split_pool_is)
-      (subst (ArePages (set (set (set pool p.id (Some lo)) id (Some empty_frame)) id (Some hi))) (sym split_is)
-      (pages_in_halves pool (take k pages) (drop (k + 1) pages) p lo hi empty_frame id s t lower_stair upper_stair split_paged lower upper low_part high_part split_full takes.within takes.was_spare))
+      (subst (ArePages (set (set (set pool p.id (Some lo)) id (Some empty_frame)) id (Some hi)))
+      (sym split_is)
+      (pages_in_halves pool (take k pages) (drop (k + 1) pages) p lo hi empty_frame id s t lower_stair
+      upper_stair split_paged lower upper low_part high_part split_full takes.within takes.was_spare))
 
   pub records-cut : records_of (set taken id (Some hi)) split_list ≡ records_of pool pages
   records-cut =
       ap₂ records_of split_pool_is split_is
-      ∙ (records-split pool (take k pages) (drop (k + 1) pages) p lo hi empty_frame id s t lower_stair upper_stair split_paged lower upper low_part high_part split_full takes.within takes.was_spare
+      ∙ (records-split pool (take k pages) (drop (k + 1) pages) p lo hi empty_frame id s t lower_stair
+      upper_stair split_paged lower upper low_part high_part split_full takes.within takes.was_spare
       ∙ ap (records_of pool) (sym split_around))
 
   -- how many records the halves have
   pub lower_len : (d : Page) → length (page_in (set taken id (Some hi)) (get_or split_list k d)) ≡ 64
   lower_len d =
       let here : get_or split_list k d ≡ record { id = p.id; first = p.first; start = p.start; stair = s } =
-      ap (λ ps. get_or ps k d) split_is ∙ get_or_at (take k pages) _ _ d k (length-take-le k pages (omega (arith, is.within))) in
+      ap (λ ps. get_or ps k d) split_is ∙ get_or_at (take k pages) _ _ d k
+      (length-take-le k pages (omega (arith, is.within))) in
       ap₂ (λ ps x. length (page_in ps x)) split_pool_is here
-      ∙ low_len pool (take k pages) (drop (k + 1) pages) p lo hi empty_frame id s t lower_stair upper_stair split_paged lower upper low_part high_part split_full takes.within takes.was_spare
+      ∙ low_len pool (take k pages) (drop (k + 1) pages) p lo hi empty_frame id s t lower_stair upper_stair
+      split_paged lower upper low_part high_part split_full takes.within takes.was_spare
 
   pub upper_len : (d : Page) → length (page_in (set taken id (Some hi)) (get_or split_list (k + 1) d)) ≡ 64
   upper_len d =
       let here : get_or split_list (k + 1) d ≡ new_page =
-      get_or-insert_at (set pages k old_page) (k + 1) new_page d (omega (arith, is.within, length-set pages k old_page)) in
+      get_or-insert_at (set pages k old_page) (k + 1) new_page d
+      (omega (arith, is.within, length-set pages k old_page)) in
       ap₂ (λ ps x. length (page_in ps x)) split_pool_is here
-      ∙ high_len pool (take k pages) (drop (k + 1) pages) p lo hi empty_frame id s t lower_stair upper_stair split_paged lower upper low_part high_part split_full takes.within takes.was_spare
+      ∙ high_len pool (take k pages) (drop (k + 1) pages) p lo hi empty_frame id s t lower_stair upper_stair
+      split_paged lower upper low_part high_part split_full takes.within takes.was_spare
 
 -- the frame of a full page is full
-pub full_frame : (pool : List (Option Frame)) (pages : List Page) (k : ℕ) (p : Page) (f : Frame) → IsRead pool pages k p f
+pub full_frame : (pool : List (Option Frame)) (pages : List Page) (k : ℕ) (p : Page) (f : Frame)
+    → IsRead pool pages k p f
     → length (page_in pool (get_or pages k p)) ≡ 128 → f.len ≡ 128
 full_frame pool pages k p f is full =
     let same = ap (λ x. length (page_in pool x)) is.read in
@@ -213,7 +254,8 @@ pub within_from : (v : Vec Page Global) (k : ℕ) → k < v.len → k < length v
 within_from v k within = omega (arith, v.ok.0)
 
 -- a page's place and half a page fit
-pub first_small : (pool : List (Option Frame)) (pages : List Page) (k : ℕ) (p q : Page) (f : Frame) → IsRead pool pages k p f → f.len ≡ 128
+pub first_small : (pool : List (Option Frame)) (pages : List Page) (k : ℕ) (p q : Page) (f : Frame)
+    → IsRead pool pages k p f → f.len ≡ 128
     → q ≡ get_or pages k q → length (records_of pool pages) < 2 ^ 32 → q.first + 64 < 2 ^ 32
 first_small pool pages k p q f is full again few =
     let same : q ≡ p = again ∙ (get_or_default pages k q p is.within ∙ sym is.read) in
@@ -223,8 +265,10 @@ first_small pool pages k p q f is full again few =
 
 -- ---- the page for a time, of two halves
 
-module _ (pool : List (Option Frame)) (now old : List Page) (k t : ℕ) (e : Page) (paged : ArePages pool now) (split : IsSplit old now k)
-    (within_old : k < length old) (early_old : (j : ℕ) (d : Page) → 0 < j → j ≤ k → (get_or old j d).start ≤ t)
+module _ (pool : List (Option Frame)) (now old : List Page) (k t : ℕ) (e : Page) (paged : ArePages pool now)
+    (split : IsSplit old now k)
+    (within_old : k < length old) (early_old : (j : ℕ) (d : Page) → 0 < j → j ≤ k
+    → (get_or old j d).start ≤ t)
     (late_old : (j : ℕ) (d : Page) → k < j → j < length old → t < (get_or old j d).start) where
   -- the pages with the lower half, and the upper half's page
   abbrev pages : List Page
@@ -258,7 +302,8 @@ module _ (pool : List (Option Frame)) (now old : List Page) (k t : ℕ) (e : Pag
   kept_early : (j : ℕ) (d : Page) → 0 < j → j ≤ k → (get_or now j d).start ≤ t
   kept_early j d some upto =
       let here : get_or now j d ≡ get_or pages j d =
-      ap (λ ps. get_or ps j d) split.list ∙ get_or-insert_below pages (k + 1) q d j (omega arith) (omega (arith, within)) in
+      ap (λ ps. get_or ps j d) split.list ∙ get_or-insert_below pages (k + 1) q d j (omega arith)
+      (omega (arith, within)) in
       subst (λ (x : Page). x.start ≤ t) (sym here) (early j d some upto)
 
   -- and those behind the upper half have moved up by one
@@ -266,9 +311,11 @@ module _ (pool : List (Option Frame)) (now old : List Page) (k t : ℕ) (e : Pag
   kept_late zero d past inside = absurd (omega arith)
   kept_late (suc j) d past inside =
       let here : get_or now (j + 1) d ≡ get_or pages j d =
-      ap (λ ps. get_or ps (j + 1) d) split.list ∙ get_or-insert_above pages (k + 1) q d j (omega arith) (omega (arith, within)) in
+      ap (λ ps. get_or ps (j + 1) d) split.list ∙ get_or-insert_above pages (k + 1) q d j (omega arith)
+      (omega (arith, within)) in
       let long = now_len in
-      subst (λ n. t < (get_or now n d).start) (add-one j) (subst (λ (x : Page). t < x.start) (sym here) (late j d (omega arith) (omega arith)))
+      subst (λ n. t < (get_or now n d).start) (add-one j)
+      (subst (λ (x : Page). t < x.start) (sym here) (late j d (omega arith) (omega arith)))
 
   pub upper_found : (get_or now (k + 1) e).start ≤ t → IsFor pool now (k + 1) t
   upper_found starts =
@@ -278,7 +325,8 @@ module _ (pool : List (Option Frame)) (now old : List Page) (k t : ℕ) (e : Pag
         | inl less ↦ kept_early j d some (omega arith)
         | inr not_less ↦
             let same : j ≡ k + 1 = omega arith in
-            rw same (subst (λ (x : Page). x.start ≤ t) (get_or_default now (k + 1) e d (omega (arith, within))) starts)
+            rw same (subst (λ (x : Page). x.start ≤ t)
+            (get_or_default now (k + 1) e d (omega (arith, within))) starts)
       ])
       kept_late
 
@@ -290,18 +338,27 @@ module _ (pool : List (Option Frame)) (now old : List Page) (k t : ℕ) (e : Pag
         | inl more ↦ kept_late j d more inside
         | inr not_more ↦
             let same : j ≡ k + 1 = omega arith in
-            rw same (subst (λ (x : Page). t < x.start) (get_or_default now (k + 1) e d (omega (arith, within))) starts)
+            rw same (subst (λ (x : Page). t < x.start)
+            (get_or_default now (k + 1) e d (omega (arith, within))) starts)
       ])
 
 -- how many records the page that is read has
-pub page_len : (pool : List (Option Frame)) (pages : List Page) (k : ℕ) (p : Page) (f : Frame) → IsRead pool pages k p f → (d : Page)
+pub page_len : (pool : List (Option Frame)) (pages : List Page) (k : ℕ) (p : Page) (f : Frame)
+    → IsRead pool pages k p f → (d : Page)
     → length (page_in pool (get_or pages k d)) ≡ f.len
 page_len pool pages k p f is d =
     ap (λ x. length (page_in pool x)) (get_or_default pages k d p is.within ∙ sym is.read)
     ∙ (ap (λ o. length (records_at o)) is.there ∙ length-records_in f)
 
 -- the upper half is one of the pages
-pub within_split : (now : Vec Page Global) (old : List Page) (k : ℕ) → IsSplit old now.items k → k < length old → k + 1 < now.len
+pub within_split : (now : Vec Page Global) (old : List Page) (k : ℕ) → IsSplit old now.items k
+    → k < length old → k + 1 < now.len
 within_split now old k split within =
     let long = length-set old k split.lower in
-    omega (arith, now.ok.0, ap length split.list, length-insert (set old k split.lower) (k + 1) split.upper (omega arith))
+    omega (
+      arith,
+      now.ok.0,
+      ap length split.list,
+      length-insert (set old k split.lower) (k + 1) split.upper
+          (omega arith),
+    )

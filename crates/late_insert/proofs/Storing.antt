@@ -1,11 +1,14 @@
 -- A frame with one record more, and one with a record changed.
-use Rattle.std.proofs.Common.{◌≡◌, ◌≢◌, ℕ, zero, suc, ◌+◌, ◌-◌, ◌^◌, ◌<◌, ◌≤◌, ◌⊎◌, inl, inr, ℤ, List, [], ◌∷◌, ◌++◌, length, get_or, set, take, drop, All, refl, sym, ap, ◌∙◌, subst, arith, add-one}
+use Rattle.std.proofs.Common.{◌≡◌, ◌≢◌, ℕ, zero, suc, ◌+◌, ◌-◌, ◌^◌, ◌<◌, ◌≤◌, ◌⊎◌, inl, inr, ℤ, List, ◌∷◌}
+use Rattle.std.proofs.Common.{length, get_or, set, take, drop, All, refl, sym, ap, ◌∙◌, subst, arith, add-one}
 use Rattle.std.specs.Prelude.{insert, pos, bit_and, min, ◌/◌, ◌%◌}
 use Rattle.std.proofs.lemmas.Nat.{and_mask, mod_below, div-add-mod', shr_below}
 use Rattle.std.proofs.lemmas.Nat.Bits.{bit_at_and, bit_at_ones, bit_at-lt, bit_at_cat_high}
 use Rattle.std.specs.Int.{bit_at}
-use Rattle.std.proofs.lemmas.List.{same_lists, get_or-set_same, get_or-set_other, length-set, get_or-take, get_or-drop, length-take-le, length-drop, get_or_default}
-use Rattle.std.proofs.lemmas.List.Edits.{length-insert, get_or-insert_below, get_or-insert_at, get_or-insert_above}
+use Rattle.std.proofs.lemmas.List.{same_lists, get_or-set_same, get_or-set_other, length-set, get_or-take}
+use Rattle.std.proofs.lemmas.List.{get_or-drop, length-take-le, length-drop}
+use Rattle.std.proofs.lemmas.List.Edits.{length-insert, get_or-insert_below, get_or-insert_at}
+use Rattle.std.proofs.lemmas.List.Edits.{get_or-insert_above}
 use Rattle.std.proofs.lemmas.List.Elements.{All-append, All-cons, All-take, All-drop, All-set}
 use Rattle.std.proofs.lemmas.Bool.{cases_order, cases_eq}
 use Rattle.trend_num.specs.declared.archive.Kind.{Kind}
@@ -24,7 +27,16 @@ same_rec j k t u v w kinds times values = rw (kinds, times, values) refl
 
 -- f with one record more, in these arrays
 abbrev pub one_more : Frame → List ℕ → List ℤ → ℕ → Frame
-one_more f times values late = record { len = f.len + 1; times = times; values = values; late = late; area = f.area; low = f.low; high = f.high }
+one_more f times values late = record {
+  len = f.len + 1;
+  times = times;
+  values = values;
+  late = late;
+  area = f.area;
+  low = f.low;
+  high =
+      f.high;
+}
 
 -- g is f with a record put in at the place i
 pub record IsInserted (f g : Frame) (i : ℕ) (r : Rec) : Type 0 where
@@ -34,42 +46,59 @@ pub record IsInserted (f g : Frame) (i : ℕ) (r : Rec) : Type 0 where
   pub there : rec_in g i ≡ r
   pub after : (k : ℕ) → i ≤ k → k < f.len → rec_in g (k + 1) ≡ rec_in f k
 
-pub records-inserted : (f g : Frame) (i : ℕ) (r : Rec) → IsInserted f g i r → records_in g ≡ insert (records_in f) i r
+pub records-inserted : (f g : Frame) (i : ℕ) (r : Rec) → IsInserted f g i r
+    → records_in g ≡ insert (records_in f) i r
 records-inserted f g i r put =
     let fits : i ≤ length (records_in f) = omega (arith, length-records_in f, put.within) in
     let long = length-insert (records_in f) i r fits in
-    same_lists (records_in g) (insert (records_in f) i r) (omega (arith, length-records_in f, length-records_in g, put.len))
+    same_lists (records_in g) (insert (records_in f) i r)
+    (omega (arith, length-records_in f, length-records_in g, put.len))
     (λ k d inside. by_place k d (omega (arith, length-records_in g, put.len)) (cases_order k i))
   where
     fits : i ≤ length (records_in f)
     fits = omega (arith, length-records_in f, put.within)
 
-    by_place : (k : ℕ) (d : Rec) → k < f.len + 1 → (k ≡ i) ⊎ ((k < i) ⊎ (i < k)) → get_or (records_in g) k d ≡ get_or (insert (records_in f) i r) k d
+    by_place : (k : ℕ) (d : Rec) → k < f.len + 1 → (k ≡ i) ⊎ ((k < i) ⊎ (i < k))
+        → get_or (records_in g) k d ≡ get_or (insert (records_in f) i r) k d
     by_place k d inside (inl same) =
-        get_or-records_in g k d (omega (arith, put.len)) ∙ (ap (rec_in g) same ∙ (put.there ∙ (sym (get_or-insert_at (records_in f) i r d fits)
+        get_or-records_in g k d (omega (arith, put.len))
+        ∙ (ap (rec_in g) same ∙ (put.there ∙ (sym (get_or-insert_at (records_in f) i r d fits)
         ∙ ap (λ n. get_or (insert (records_in f) i r) n d) (sym same))))
     by_place k d inside (inr (inl less)) =
         get_or-records_in g k d (omega (arith, put.len)) ∙ (put.before k less
-        ∙ (sym (get_or-records_in f k d (omega (arith, put.within))) ∙ sym (get_or-insert_below (records_in f) i r d k less fits)))
+        ∙ (sym (get_or-records_in f k d (omega (arith, put.within)))
+        ∙ sym (get_or-insert_below (records_in f) i r d k less fits)))
     by_place zero d inside (inr (inr more)) = absurd (omega arith)
     by_place (suc k) d inside (inr (inr more)) =
         subst (λ n. get_or (records_in g) n d ≡ get_or (insert (records_in f) i r) n d) (add-one k)
         (get_or-records_in g (k + 1) d (omega (arith, put.len)) ∙ (put.after k (omega arith) (omega arith)
-        ∙ (sym (get_or-records_in f k d (omega arith)) ∙ sym (get_or-insert_above (records_in f) i r d k (omega arith) fits))))
+        ∙ (sym (get_or-records_in f k d (omega arith))
+        ∙ sym (get_or-insert_above (records_in f) i r d k (omega arith) fits))))
 
 -- the records of f, and one more, are in range
-pub range-inserted : (f g : Frame) (i : ℕ) (r : Rec) → records_in g ≡ insert (records_in f) i r → IsRecorded f → InRange r.point
+pub range-inserted : (f g : Frame) (i : ℕ) (r : Rec) → records_in g ≡ insert (records_in f) i r → IsRecorded f
+    → InRange r.point
     → All (λ x. InRange x.point) (records_in g)
 range-inserted f g i r is recorded range =
     let Each : Rec → Type 0 = λ x. InRange x.point in
     let l = records_in f in
     subst (All Each) (sym is)
-    (All-append Each (take i l) (r ∷ drop i l) (All-take Each i l recorded.range) (All-cons Each r (drop i l) range (All-drop Each i l recorded.range)))
+    (All-append Each (take i l) (r ∷ drop i l) (All-take Each i l recorded.range)
+    (All-cons Each r (drop i l) range (All-drop Each i l recorded.range)))
 
 -- f with a value and a mark changed
 abbrev pub rewritten : Frame → ℕ → ℤ → ℕ → Frame
 rewritten f i v late =
-    record { len = f.len; times = f.times; values = set f.values i v; late = late; area = f.area; low = f.low; high = f.high }
+    record {
+      len = f.len;
+      times = f.times;
+      values = set f.values i v;
+      late = late;
+      area = f.area;
+      low =
+          f.low;
+      high = f.high;
+    }
 
 -- g is f with another record at the place i
 pub record IsReplaced (f g : Frame) (i : ℕ) (r : Rec) : Type 0 where
@@ -78,22 +107,28 @@ pub record IsReplaced (f g : Frame) (i : ℕ) (r : Rec) : Type 0 where
   pub there : rec_in g i ≡ r
   pub others : (k : ℕ) → k ≢ i → k < f.len → rec_in g k ≡ rec_in f k
 
-pub records-replaced : (f g : Frame) (i : ℕ) (r : Rec) → IsReplaced f g i r → records_in g ≡ set (records_in f) i r
+pub records-replaced : (f g : Frame) (i : ℕ) (r : Rec) → IsReplaced f g i r
+    → records_in g ≡ set (records_in f) i r
 records-replaced f g i r put =
-    same_lists (records_in g) (set (records_in f) i r) (omega (arith, length-records_in f, length-records_in g, length-set (records_in f) i r, put.len))
+    same_lists (records_in g) (set (records_in f) i r)
+    (omega (arith, length-records_in f, length-records_in g, length-set (records_in f) i r, put.len))
     (λ k d inside. by_place k d (omega (arith, length-records_in g, put.len)) (cases_eq k i))
   where
-    by_place : (k : ℕ) (d : Rec) → k < f.len → (k ≡ i) ⊎ (k ≢ i) → get_or (records_in g) k d ≡ get_or (set (records_in f) i r) k d
+    by_place : (k : ℕ) (d : Rec) → k < f.len → (k ≡ i) ⊎ (k ≢ i) → get_or (records_in g) k d ≡ get_or
+        (set (records_in f) i r) k d
     by_place k d inside (inl same) =
         get_or-records_in g k d (omega (arith, put.len)) ∙ (ap (rec_in g) same ∙ (put.there
-        ∙ (sym (get_or-set_same (records_in f) i r d (omega (arith, length-records_in f, put.within))) ∙ ap (λ n. get_or (set (records_in f) i r) n d) (sym same))))
+        ∙ (sym (get_or-set_same (records_in f) i r d (omega (arith, length-records_in f, put.within)))
+        ∙ ap (λ n. get_or (set (records_in f) i r) n d) (sym same))))
     by_place k d inside (inr other) =
         get_or-records_in g k d (omega (arith, put.len)) ∙ (put.others k other inside
         ∙ (sym (get_or-records_in f k d inside) ∙ sym (get_or-set_other (records_in f) i k r d other)))
 
 -- the record `now` is written over the one at the place i
-module _ (f : Frame) (i : ℕ) (now : Rec) (v : ℤ) (late : ℕ) (recorded : IsRecorded f) (within : i < f.len) (range : InRange now.point)
-    (same : now.point.t ≡ get_or f.times i 0) (value : v ≡ now.point.v) (marks : late < 2 ^ f.len) (there : kind_of (bit_at late i) ≡ now.kind)
+module _ (f : Frame) (i : ℕ) (now : Rec) (v : ℤ) (late : ℕ) (recorded : IsRecorded f) (within : i < f.len)
+    (range : InRange now.point)
+    (same : now.point.t ≡ get_or f.times i 0) (value : v ≡ now.point.v) (marks : late < 2 ^ f.len)
+    (there : kind_of (bit_at late i) ≡ now.kind)
     (others : (k : ℕ) → k ≢ i → bit_at late k ≡ bit_at f.late k) where
   pub replaced : IsReplaced f (rewritten f i v late) i now
   replaced =
@@ -102,7 +137,8 @@ module _ (f : Frame) (i : ℕ) (now : Rec) (v : ℤ) (late : ℕ) (recorded : Is
         len = refl;
         within = within;
         there = same_rec _ _ _ _ _ _ there (sym same) (get_or-set_same f.values i v (pos 0) inside ∙ value);
-        others = λ k other reach. same_rec _ _ _ _ _ _ (ap kind_of (others k other)) refl (get_or-set_other f.values i k v (pos 0) other);
+        others = λ k other reach. same_rec _ _ _ _ _ _ (ap kind_of (others k other)) refl
+            (get_or-set_other f.values i k v (pos 0) other);
       }
 
   pub records-rewritten : records_in (rewritten f i v late) ≡ set (records_in f) i now
@@ -114,13 +150,15 @@ module _ (f : Frame) (i : ℕ) (now : Rec) (v : ℤ) (late : ℕ) (recorded : Is
     times = recorded.times;
     values = length-set f.values i v ∙ recorded.values;
     marks = marks;
-    range = subst (All (λ x. InRange x.point)) (sym records-rewritten) (All-set (λ x. InRange x.point) (records_in f) i now range recorded.range);
+    range = subst (All (λ x. InRange x.point)) (sym records-rewritten)
+        (All-set (λ x. InRange x.point) (records_in f) i now range recorded.range);
   }
 
 -- ---- halves
 
 -- g is the first n records of f
-pub records-front : (f g : Frame) (n : ℕ) → g.len ≡ n → n ≤ f.len → ((k : ℕ) → k < n → rec_in g k ≡ rec_in f k)
+pub records-front : (f g : Frame) (n : ℕ) → g.len ≡ n → n ≤ f.len
+    → ((k : ℕ) → k < n → rec_in g k ≡ rec_in f k)
     → records_in g ≡ take n (records_in f)
 records-front f g n len within each =
     let long = length-take-le n (records_in f) (omega (arith, length-records_in f)) in
@@ -130,11 +168,13 @@ records-front f g n len within each =
     ∙ (sym (get_or-records_in f k d (omega arith)) ∙ sym (get_or-take n (records_in f) k d below))))
 
 -- g is the records of f behind the first n
-pub records-back : (f g : Frame) (n : ℕ) → n + g.len ≡ f.len → ((k : ℕ) → k < g.len → rec_in g k ≡ rec_in f (n + k))
+pub records-back : (f g : Frame) (n : ℕ) → n + g.len ≡ f.len
+    → ((k : ℕ) → k < g.len → rec_in g k ≡ rec_in f (n + k))
     → records_in g ≡ drop n (records_in f)
 records-back f g n len each =
     let long = length-drop n (records_in f) in
-    same_lists (records_in g) (drop n (records_in f)) (omega (arith, length-records_in g, length-records_in f)) (λ k d inside.
+    same_lists (records_in g) (drop n (records_in f))
+    (omega (arith, length-records_in g, length-records_in f)) (λ k d inside.
     let below : k < g.len = omega (arith, length-records_in g) in
     get_or-records_in g k d below ∙ (each k below
     ∙ (sym (get_or-records_in f (n + k) d (omega arith)) ∙ sym (get_or-drop n (records_in f) k d))))
@@ -142,22 +182,34 @@ records-back f g n len each =
 -- the marks of the first 64 records, and of those behind them
 bit_front : (m k : ℕ) → k < 64 → bit_at (bit_and m (2 ^ 64 - 1)) k ≡ bit_at m k
 bit_front m k below =
-    bit_at_and m (2 ^ 64 - 1) k ∙ (ap (min (bit_at m k)) (bit_at_ones 64 k below) ∙ omega (arith, bit_at-lt m k))
+    bit_at_and m (2 ^ 64 - 1) k ∙ (ap (min (bit_at m k)) (bit_at_ones 64 k below)
+    ∙ omega (arith, bit_at-lt m k))
 
 bit_back : (m k : ℕ) → bit_at (m / 2 ^ 64) k ≡ bit_at m (64 + k)
 bit_back m k =
     let low = mod_below m (2 ^ 64) (omega arith) in
     let back : 64 + k - 64 ≡ k = omega arith in
-    ap (bit_at (m / 2 ^ 64)) (sym back) ∙ (sym (bit_at_cat_high (m / 2 ^ 64) 64 (m % 2 ^ 64) (64 + k) low (omega arith))
+    ap (bit_at (m / 2 ^ 64)) (sym back)
+    ∙ (sym (bit_at_cat_high (m / 2 ^ 64) 64 (m % 2 ^ 64) (64 + k) low (omega arith))
     ∙ ap (λ n. bit_at n (64 + k)) (div-add-mod' m (2 ^ 64)))
 
 module _ (f : Frame) (recorded : IsRecorded f) (full : f.len ≡ 128) where
   -- the lower half of a full page
   abbrev pub lower_half : Frame
-  lower_half = record { len = 64; times = f.times; values = f.values; late = bit_and f.late (2 ^ 64 - 1); area = f.area; low = f.low; high = f.high }
+  lower_half = record {
+    len = 64;
+    times = f.times;
+    values = f.values;
+    late = bit_and f.late
+        (2 ^ 64 - 1);
+    area = f.area;
+    low = f.low;
+    high = f.high;
+  }
 
   pub records-lower : records_in lower_half ≡ take 64 (records_in f)
-  records-lower = records-front f lower_half 64 refl (omega arith) (λ k below. same_rec _ _ _ _ _ _ (ap kind_of (bit_front f.late k below)) refl refl)
+  records-lower = records-front f lower_half 64 refl (omega arith)
+      (λ k below. same_rec _ _ _ _ _ _ (ap kind_of (bit_front f.late k below)) refl refl)
 
   pub recorded-lower : IsRecorded lower_half
   recorded-lower = record {
@@ -165,19 +217,33 @@ module _ (f : Frame) (recorded : IsRecorded f) (full : f.len ≡ 128) where
     times = recorded.times;
     values = recorded.values;
     marks = rw (and_mask f.late 64) (mod_below f.late (2 ^ 64) (omega arith));
-    range = subst (All (λ x. InRange x.point)) (sym records-lower) (All-take (λ x. InRange x.point) 64 (records_in f) recorded.range);
+    range = subst (All (λ x. InRange x.point)) (sym records-lower)
+        (All-take (λ x. InRange x.point) 64 (records_in f) recorded.range);
   }
 
   -- the upper half, in arrays that begin with it
-  module _ (times : List ℕ) (values : List ℤ) (long_times : length times ≡ length f.times) (long_values : length values ≡ length f.values)
+  module _ (times : List ℕ) (values : List ℤ) (long_times : length times ≡ length f.times)
+      (long_values : length values ≡ length f.values)
       (each_time : (k d : ℕ) → k + 64 < length f.times → get_or times k d ≡ get_or f.times (64 + k) d)
-      (each_value : (k : ℕ) (d : ℤ) → k + 64 < length f.values → get_or values k d ≡ get_or f.values (64 + k) d) where
+      (each_value : (k : ℕ) (d : ℤ) → k + 64 < length f.values → get_or values k d ≡ get_or f.values
+      (64 + k) d) where
     abbrev pub upper_half : Frame
-    upper_half = record { len = 64; times = times; values = values; late = f.late / 2 ^ 64; area = f.area; low = f.low; high = f.high }
+    upper_half = record {
+      len = 64;
+      times = times;
+      values = values;
+      late = f.late / 2 ^ 64;
+      area =
+          f.area;
+      low = f.low;
+      high = f.high;
+    }
 
     pub records-upper : records_in upper_half ≡ drop 64 (records_in f)
-    records-upper = records-back f upper_half 64 (omega arith) (λ k below. same_rec _ _ _ _ _ _ (ap kind_of (bit_back f.late k))
-        (each_time k 0 (omega (arith, recorded.times))) (each_value k (pos 0) (omega (arith, recorded.values))))
+    records-upper = records-back f upper_half 64 (omega arith)
+        (λ k below. same_rec _ _ _ _ _ _ (ap kind_of (bit_back f.late k))
+        (each_time k 0 (omega (arith, recorded.times)))
+        (each_value k (pos 0) (omega (arith, recorded.values))))
 
     pub recorded-upper : IsRecorded upper_half
     recorded-upper = record {
@@ -185,5 +251,6 @@ module _ (f : Frame) (recorded : IsRecorded f) (full : f.len ≡ 128) where
       times = long_times ∙ recorded.times;
       values = long_values ∙ recorded.values;
       marks = shr_below f.late 64 64 (subst (λ n. f.late < 2 ^ n) full recorded.marks);
-      range = subst (All (λ x. InRange x.point)) (sym records-upper) (All-drop (λ x. InRange x.point) 64 (records_in f) recorded.range);
+      range = subst (All (λ x. InRange x.point)) (sym records-upper)
+          (All-drop (λ x. InRange x.point) 64 (records_in f) recorded.range);
     }

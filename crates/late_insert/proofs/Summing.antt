@@ -1,12 +1,13 @@
 -- Totals of a page, counted point by point.
-use Rattle.std.proofs.Common.{◌≡◌, Bool, true, false, ℕ, ◌+◌, ◌-◌, ◌<◌, ◌≤◌, ℤ, pos, ◌+ℤ◌, List, [], ◌∷◌, ◌++◌, length, get_or, take, drop}
-use Rattle.std.proofs.Common.{All, map, refl, sym, ap, ap₂, ◌∙◌, subst, arith}
+use Rattle.std.proofs.Common.{◌≡◌, Bool, false, ℕ, ◌+◌, ◌-◌, ◌<◌, ◌≤◌, ℤ, ◌+ℤ◌, List, [], ◌∷◌, ◌++◌, length}
+use Rattle.std.proofs.Common.{get_or, take, drop}
+use Rattle.std.proofs.Common.{All, refl, sym, ap, ap₂, ◌∙◌, subst, arith}
 use Rattle.std.specs.Prelude.{FitsSigned, insert}
 use Rattle.std.specs.Int.{int_min, int_max, w128, w64}
-use Rattle.std.specs.List.{range_with_len}
-use Rattle.std.proofs.lemmas.Int.{ints, fits_signed_from_abs}
-use Rattle.std.proofs.lemmas.List.{take_all, take_more, drop_more, get_or-drop, length-take, length-drop, length-map, get_or-map, map_push}
-use Rattle.std.proofs.lemmas.List.Edits.{length-insert, insert_end, get_or-insert_at}
+use Rattle.std.proofs.lemmas.Int.{fits_signed_from_abs}
+use Rattle.std.proofs.lemmas.List.{take_all, drop_more, get_or-drop, length-take, length-drop, length-map}
+use Rattle.std.proofs.lemmas.List.{get_or-map, map_push}
+use Rattle.std.proofs.lemmas.List.Edits.{insert_end}
 use Rattle.std.proofs.lemmas.List.FromFn.{length-map-range_with_len, get_or-map-range_with_len}
 use Rattle.std.proofs.lemmas.List.Elements.{All-take, All-drop, All-map}
 use Rattle.trend_num.specs.declared.point.Point.{Point}
@@ -17,7 +18,8 @@ use Rattle.late_insert.specs.Pages.{rec_in, records_in, IsRecorded, IsPage}
 use Rattle.trend_model.specs.Contents.{points_of}
 use Rattle.trend_model.specs.Windows.{area, piece}
 use Rattle.late_insert.specs.Totals.{least_of, greatest_of}
-use Rattle.late_insert.proofs.Areas.{area_put, area_more, area_one, least_more, greatest_more, least_push, greatest_push, area_fits}
+use Rattle.late_insert.proofs.Areas.{area_put, area_more, least_more, greatest_more, least_push}
+use Rattle.late_insert.proofs.Areas.{greatest_push, area_fits}
 
 -- ---- the records of a frame
 
@@ -44,10 +46,12 @@ points_in f = points_of (records_in f)
 pub length-points_in : (f : Frame) → length (points_in f) ≡ f.len
 length-points_in f = length-map (records_in f) (λ r. r.point) ∙ length-records_in f
 
-pub get_or-points_in : (f : Frame) (i : ℕ) (d : Point) → i < f.len → get_or (points_in f) i d ≡ (rec_in f i).point
+pub get_or-points_in : (f : Frame) (i : ℕ) (d : Point) → i < f.len
+    → get_or (points_in f) i d ≡ (rec_in f i).point
 get_or-points_in f i d within =
     let inside : i < length (records_in f) = omega (arith, length-records_in f) in
-    get_or-map (λ (r : Rec). r.point) (records_in f) i (rec_in f i) d inside ∙ ap (λ (r : Rec). r.point) (get_or-records_in f i (rec_in f i) within)
+    get_or-map (λ (r : Rec). r.point) (records_in f) i (rec_in f i) d inside
+    ∙ ap (λ (r : Rec). r.point) (get_or-records_in f i (rec_in f i) within)
 
 pub points_range : (f : Frame) → IsRecorded f → All InRange (points_in f)
 points_range f recorded = All-map InRange (λ (r : Rec). r.point) (records_in f) recorded.range
@@ -65,7 +69,8 @@ on_range : (f : Frame) (start i : ℕ) (d : Point) → start ≤ i → i < f.len
     → get_or (drop start (points_in f)) (i - start) d ≡ (rec_in f i).point
 on_range f start i d from within =
     let place : start + (i - start) ≡ i = omega arith in
-    get_or-drop start (points_in f) (i - start) d ∙ (ap (λ n. get_or (points_in f) n d) place ∙ get_or-points_in f i d within)
+    get_or-drop start (points_in f) (i - start) d
+    ∙ (ap (λ n. get_or (points_in f) n d) place ∙ get_or-points_in f i d within)
 
 -- the first of them alone
 first_alone : (f : Frame) (start : ℕ) (p : Point) → start < f.len → p ≡ (rec_in f start).point
@@ -74,13 +79,20 @@ first_alone f start p within first =
     let one : start + 1 - start ≡ 1 = omega arith in
     let here : get_or (points_in f) start p ≡ p = get_or-points_in f start p within ∙ sym first in
     let split : drop start (points_in f) ≡ p ∷ drop (start + 1) (points_in f) =
-    drop_more (points_in f) start p (omega (arith, length-points_in f)) ∙ ap (λ x. x ∷ drop (start + 1) (points_in f)) here in
+    drop_more (points_in f) start p (omega (arith, length-points_in f))
+    ∙ ap (λ x. x ∷ drop (start + 1) (points_in f)) here in
     rw (one, split) refl
 
-pub total_first : (total : List Point → ℤ) (f : Frame) (start : ℕ) (p : Point) (a : ℤ) → start < f.len → p ≡ (rec_in f start).point
+pub total_first : (total : List Point → ℤ) (f : Frame) (start : ℕ) (p : Point) (a : ℤ) → start < f.len
+    → p ≡ (rec_in f start).point
     → a ≡ total (p ∷ []) → IsTotal total f start (start + 1) a
 total_first total f start p a within first is =
-    record { below = omega arith; within = omega arith; is = is ∙ sym (ap total (first_alone f start p within first)) }
+    record {
+      below = omega arith;
+      within = omega arith;
+      is = is
+          ∙ sym (ap total (first_alone f start p within first));
+    }
 
 -- one point more
 module _ (f : Frame) (start i : ℕ) (from : start < i) (within : i < f.len) where
@@ -91,19 +103,22 @@ module _ (f : Frame) (start i : ℕ) (from : start < i) (within : i < f.len) whe
   places : (i + 1 - start ≡ i - start + 1) × ((i - start < length upto) × (i - 1 - start ≡ i - start - 1))
   places = (omega arith, (omega (arith, length-drop start (points_in f), length-points_in f), omega arith))
 
-  more_by : (total : List Point → ℤ) (a : ℤ) → a ≡ total (take (i - start + 1) upto) → IsTotal total f start (i + 1) a
+  more_by : (total : List Point → ℤ) (a : ℤ) → a ≡ total (take (i - start + 1) upto)
+      → IsTotal total f start (i + 1) a
   more_by total a is = record {
     below = omega arith;
     within = omega arith;
     is = is ∙ sym (ap (λ n. total (take n upto)) places.0);
   }
 
-  pub area_total : (step : Bool) (p q : Point) (a : ℤ) → IsTotal (area step) f start i a → p ≡ (rec_in f (i - 1)).point
+  pub area_total : (step : Bool) (p q : Point) (a : ℤ) → IsTotal (area step) f start i a
+      → p ≡ (rec_in f (i - 1)).point
       → q ≡ (rec_in f i).point → IsTotal (area step) f start (i + 1) (a +ℤ piece step p q)
   area_total step p q a was last next =
       let here : get_or upto (i - start) p ≡ q = on_range f start i p (omega arith) within ∙ sym next in
       let behind : get_or upto (i - start - 1) p ≡ p =
-      ap (λ n. get_or upto n p) (sym places.1.1) ∙ (on_range f start (i - 1) p (omega arith) (omega arith) ∙ sym last) in
+      ap (λ n. get_or upto n p) (sym places.1.1)
+      ∙ (on_range f start (i - 1) p (omega arith) (omega arith) ∙ sym last) in
       more_by (area step) (a +ℤ piece step p q)
       (ap₂ (λ x y. x +ℤ y) was.is (sym (ap₂ (piece step) behind here))
       ∙ sym (area_more step upto (i - start) p (omega arith) places.1.0))
@@ -113,23 +128,33 @@ module _ (f : Frame) (start i : ℕ) (from : start < i) (within : i < f.len) whe
   least_total q a was next =
       let here : get_or upto (i - start) q ≡ q = on_range f start i q (omega arith) within ∙ sym next in
       more_by least_of (int_min a q.v)
-      (ap₂ int_min was.is (sym (ap (λ (x : Point). x.v) here)) ∙ sym (least_more upto (i - start) q (omega arith) places.1.0))
+      (ap₂ int_min was.is (sym (ap (λ (x : Point). x.v) here))
+      ∙ sym (least_more upto (i - start) q (omega arith) places.1.0))
 
   pub greatest_total : (q : Point) (a : ℤ) → IsTotal greatest_of f start i a → q ≡ (rec_in f i).point
       → IsTotal greatest_of f start (i + 1) (int_max a q.v)
   greatest_total q a was next =
       let here : get_or upto (i - start) q ≡ q = on_range f start i q (omega arith) within ∙ sym next in
       more_by greatest_of (int_max a q.v)
-      (ap₂ int_max was.is (sym (ap (λ (x : Point). x.v) here)) ∙ sym (greatest_more upto (i - start) q (omega arith) places.1.0))
+      (ap₂ int_max was.is (sym (ap (λ (x : Point). x.v) here))
+      ∙ sym (greatest_more upto (i - start) q (omega arith) places.1.0))
 
 -- an area fits its type
-pub total_fits : (step : Bool) (f : Frame) (start i : ℕ) (a : ℤ) → IsRecorded f → IsTotal (area step) f start i a → FitsSigned w128 a
+pub total_fits : (step : Bool) (f : Frame) (start i : ℕ) (a : ℤ) → IsRecorded f
+    → IsTotal (area step) f start i a → FitsSigned w128 a
 total_fits step f start i a recorded total =
     let l = take (i - start) (drop start (points_in f)) in
     let few : length l ≤ 128 =
-    omega (arith, length-take (i - start) (drop start (points_in f)), length-drop start (points_in f), length-points_in f, recorded.few) in
+    omega (
+      arith,
+      length-take (i - start) (drop start (points_in f)),
+      length-drop start (points_in f),
+      length-points_in f,
+      recorded.few,
+    ) in
     subst (FitsSigned w128) (sym total.is)
-    (area_fits step l (All-take InRange (i - start) (drop start (points_in f)) (All-drop InRange start (points_in f) (points_range f recorded))) few)
+    (area_fits step l (All-take InRange (i - start) (drop start (points_in f))
+    (All-drop InRange start (points_in f) (points_range f recorded))) few)
 
 -- the totals of all points
 pub whole_range : (f : Frame) → take (f.len - 0) (drop 0 (points_in f)) ≡ points_in f
@@ -138,7 +163,8 @@ whole_range f =
     take_all (f.len - 0) (points_in f) long
 
 -- points from a place on, before another, that are as many as all, are all
-pub all_range : (f : Frame) (start end : ℕ) → start < end → end ≤ f.len → f.len ≤ end - start → take (end - start) (drop start (points_in f)) ≡ points_in f
+pub all_range : (f : Frame) (start end : ℕ) → start < end → end ≤ f.len → f.len ≤ end - start
+    → take (end - start) (drop start (points_in f)) ≡ points_in f
 all_range f start end some within whole =
     let none : start ≡ 0 = omega arith in
     let all : end ≡ f.len = omega arith in
@@ -162,7 +188,8 @@ module _ (f g : Frame) (r : Rec) (last : Point) (push : IsPushed f g r last) whe
   points_pushed : points_in g ≡ points_in f ++ r.point ∷ []
   points_pushed =
       let recs = length-records_in f in
-      ap points_of (push.records ∙ (ap (λ n. insert (records_in f) n r) (sym recs) ∙ insert_end (records_in f) r))
+      ap points_of (push.records ∙ (ap (λ n. insert (records_in f) n r) (sym recs)
+      ∙ insert_end (records_in f) r))
       ∙ map_push (λ (x : Rec). x.point) (records_in f) r
 
   -- an area with one piece more
@@ -178,21 +205,40 @@ module _ (f g : Frame) (r : Rec) (last : Point) (push : IsPushed f g r last) whe
   pub area_of_fits : (step : Bool) (a : ℤ) → a ≡ area step (points_in f) → FitsSigned w128 a
   area_of_fits step a was =
       subst (FitsSigned w128) (sym was)
-      (area_fits step (points_in f) (points_range f push.page.recorded) (omega (arith, length-points_in f, push.page.recorded.few)))
+      (area_fits step (points_in f) (points_range f push.page.recorded)
+      (omega (arith, length-points_in f, push.page.recorded.few)))
 
-  pub area_pushed_fits : (step : Bool) (a line : ℤ) → a ≡ area step (points_in f) → line ≡ piece step last r.point
+  pub area_pushed_fits : (step : Bool) (a line : ℤ) → a ≡ area step (points_in f)
+      → line ≡ piece step last r.point
       → FitsSigned w128 (a +ℤ line)
   area_pushed_fits step a line was is_line =
       subst (FitsSigned w128) (sym (area_pushed step a line was is_line))
-      (area_fits step (points_in g) (points_range g push.recorded) (omega (arith, length-points_in g, push.recorded.few)))
+      (area_fits step (points_in g) (points_range g push.recorded)
+      (omega (arith, length-points_in g, push.recorded.few)))
 
-  pub page_pushed : (line low high : ℤ) → line ≡ piece false last r.point → low ≡ int_min g.low r.point.v → high ≡ int_max g.high r.point.v
-      → IsPage (record { len = g.len; times = g.times; values = g.values; late = g.late; area = g.area +ℤ line; low = low; high = high })
+  pub page_pushed : (line low high : ℤ) → line ≡ piece false last r.point → low ≡ int_min g.low r.point.v
+      → high ≡ int_max g.high r.point.v
+      → IsPage (record {
+        len = g.len;
+        times = g.times;
+        values = g.values;
+        late = g.late;
+        area = g.area +ℤ
+            line;
+        low = low;
+        high = high;
+      })
   page_pushed line low high is_line is_low is_high =
       let kept = push.recorded in
       let some : 0 < length (points_in f) = omega (arith, push.some, length-points_in f) in
       record {
-        recorded = record { few = kept.few; times = kept.times; values = kept.values; marks = kept.marks; range = kept.range };
+        recorded = record {
+          few = kept.few;
+          times = kept.times;
+          values = kept.values;
+          marks = kept.marks;
+          range = kept.range;
+        };
         area = area_pushed false g.area line (push.area ∙ push.page.area) is_line;
         low = is_low ∙ (ap (λ m. int_min m r.point.v) (push.low ∙ push.page.low)
             ∙ (sym (least_push (points_in f) r.point some) ∙ ap least_of (sym points_pushed)));

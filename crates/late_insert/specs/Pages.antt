@@ -1,5 +1,7 @@
 -- How a content is kept in pages, each in a frame.
-use Rattle.std.specs.Prelude.{◌≡◌, ◌≢◌, true, false, ℕ, ℤ, zero, suc, pos, ◌+◌, ◌*◌, ◌^◌, ◌<◌, ◌≤◌, List, [], ◌∷◌, Option, None, Some, length, map, slice_index, slice_index_or, take, drop, insert, slice_set, All}
+use Rattle.std.specs.Prelude.{◌≡◌, ◌≢◌, true, false, ℕ, ℤ, zero, suc, pos, ◌+◌, ◌*◌, ◌^◌, ◌<◌, ◌≤◌, List, []}
+use Rattle.std.specs.Prelude.{◌∷◌, Option, None, Some, length, map, slice_index, slice_index_or, take, drop}
+use Rattle.std.specs.Prelude.{insert, slice_set, All}
 use Rattle.std.specs.Int.{bit_at}
 use Rattle.std.specs.List.{flat_map, range_with_len}
 use Rattle.trend_num.specs.declared.archive.Rec.{Rec}
@@ -73,7 +75,8 @@ pub record IsPageAt (pool : List (Option Frame)) (place : ℕ) (p : Page) : Type
 -- pages one after another, from this place on
 abbrev pub ArePagesFrom : List (Option Frame) → ℕ → List Page → Type 0
 ArePagesFrom pool place [] = Unit {0}
-ArePagesFrom pool place (p ∷ ps) = IsPageAt pool place p × ArePagesFrom pool (place + length (page_in pool p)) ps
+ArePagesFrom pool place (p ∷ ps) = IsPageAt pool place p × ArePagesFrom pool (place + length (page_in pool p))
+    ps
 
 -- no two of these ids are one
 abbrev pub AreApart : List ℕ → Type 0
@@ -98,7 +101,8 @@ pub record ArePages (pool : List (Option Frame)) (pages : List Page) : Type 0 wh
   -- and none of several is empty
   pub filled : 1 < length pages → All (λ p. 0 < length (page_in pool p)) pages
 
--- the page k is the one for the time t: no page before it has a record from t on, and none after it one up to t
+-- the page k is the one for the time t: no page before it has a record from t on, and none after it one up to
+-- t
 pub record IsFor (pool : List (Option Frame)) (pages : List Page) (k t : ℕ) : Type 0 where
   pub within : k < length pages
   pub before : All (λ r. r.point.t < t) (records_of pool (take k pages))

@@ -1,5 +1,7 @@
 // A content, in pages.
-ghost use Rattle.std.specs.Prelude.{◌≡◌, ◌↔◌, ℕ, ◌+◌, ◌-◌, ◌^◌, ◌<◌, ◌≤◌, List, [], ◌∷◌, ◌++◌, IfNone, IfOk, IfSome, IsTrue, IsSome, length, count_by, nat_lt, take, drop, slice_index_or, slice_get, slice_range, map, All};
+ghost use Rattle.std.specs.Prelude.{◌≡◌, ◌↔◌, ℕ, ◌+◌, ◌-◌, ◌^◌, ◌<◌, ◌≤◌, List, [], ◌∷◌, ◌++◌, IfNone, IfOk};
+ghost use Rattle.std.specs.Prelude.{IfSome, IsTrue, IsSome, length, count_by, nat_lt, take, drop};
+ghost use Rattle.std.specs.Prelude.{slice_index_or, slice_get, slice_range, map, All};
 ghost use Rattle.trend_num.specs.declared.archive.Rec.{Rec};
 ghost use Rattle.trend_num.specs.Ranges.{InRange};
 ghost use Rattle.trend_model.specs.Content.{is_late_record, late_at};
@@ -72,7 +74,8 @@ impl Content {
         })
     }
 
-    /// Puts one more record in. A Late one takes the place of what is at its time, a Kept one that of a Kept one.
+    /// Puts one more record in. A Late one takes the place of what is at its time, a Kept one that of a Kept
+    /// one.
     pub fn put(&mut self, rec: Rec)
         requires spare { 1 ≤ self.old.spare }
         requires range { InRange rec.point }

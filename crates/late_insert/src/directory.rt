@@ -1,13 +1,14 @@
 // The list of a content's pages, in order of time.
-ghost use Rattle.std.specs.Prelude.{◌≡◌, ℕ, ◌+◌, ◌^◌, ◌<◌, ◌≤◌, length, map, take, drop, ◌++◌, All, slice_index_or, AllPairs};
+ghost use Rattle.std.specs.Prelude.{◌≡◌, ℕ, ◌+◌, ◌^◌, ◌<◌, ◌≤◌, length, map, take, drop, ◌++◌, All};
+ghost use Rattle.std.specs.Prelude.{slice_index_or, AllPairs};
 ghost use Rattle.late_insert.specs.declared.directory.Page.{Page};
 ghost use Rattle.late_insert.specs.declared.directory.Key.{Key};
 ghost use Rattle.late_insert.specs.Moves.{begin_of, moved};
 
 use page_pool::FrameId;
 
-/// A page of a content: its frame, the place of its first record, and that record's time. The frame has the totals of the
-/// line through its points; twice the area under their stair stands here.
+/// A page of a content: its frame, the place of its first record, and that record's time. The frame has the
+/// totals of the line through its points; twice the area under their stair stands here.
 #[derive(Drop)]
 pub(crate) struct Page {
     pub(crate) id: FrameId,
@@ -33,8 +34,8 @@ fn begin(page: &Page, key: Key) -> u64
     }
 }
 
-/// The last page that begins at x or before it, or the first page. The last one is tried first, since records mostly come in
-/// order.
+/// The last page that begins at x or before it, or the first page. The last one is tried first, since records
+/// mostly come in order.
 fn page_by(pages: &[Page], key: Key, x: u64) -> usize
     requires some { 0 < length pages.now }
     requires rising { AllPairs (λ p q. begin_of key p ≤ begin_of key q) pages.now }

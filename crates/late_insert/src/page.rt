@@ -1,5 +1,6 @@
 // The records of a page, in its frame.
-ghost use Rattle.std.specs.Prelude.{◌≡◌, ℕ, ◌+◌, ◌<◌, ◌≤◌, pos, true, slice_index, slice_index_or, length, ◌++◌, ◌∷◌, [], insert, slice_set, take, drop};
+ghost use Rattle.std.specs.Prelude.{◌≡◌, ℕ, ◌+◌, ◌<◌, ◌≤◌, pos, true, slice_index, slice_index_or, length};
+ghost use Rattle.std.specs.Prelude.{◌++◌, ◌∷◌, [], insert, slice_set, take, drop};
 ghost use Rattle.trend_num.specs.Ranges.{InRange};
 ghost use Rattle.trend_model.specs.Contents.{IsRising, over, placed, points_of};
 ghost use Rattle.trend_model.specs.Windows.{area};
@@ -39,7 +40,8 @@ pub(crate) fn rec_at(frame: &Frame, i: usize) -> Rec
     }
 }
 
-/// Puts a record behind the others of a page, and adds it to the totals. Takes and returns twice the area under the stair.
+/// Puts a record behind the others of a page, and adds it to the totals. Takes and returns twice the area
+/// under the stair.
 fn append(frame: &mut Frame, stair: i128, rec: Rec) -> i128
     requires page { IsPage frame.old }
     requires some { 0 < frame.old.len }
@@ -109,7 +111,8 @@ fn replace(frame: &mut Frame, i: usize, rec: Rec) -> i128
     refresh(frame)
 }
 
-/// Puts a record behind the others of a page, if it has others. Takes and returns twice the area under the stair.
+/// Puts a record behind the others of a page, if it has others. Takes and returns twice the area under the
+/// stair.
 pub(crate) fn push(frame: &mut Frame, stair: i128, rec: Rec) -> i128
     requires page { IsPage frame.old }
     requires room { frame.old.len < 128 }

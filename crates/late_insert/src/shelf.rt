@@ -1,5 +1,6 @@
 // Pages in the frames of a pool: one that is full is split, and one record more is put in.
-ghost use Rattle.std.specs.Prelude.{◌≡◌, ℕ, ◌+◌, ◌-◌, ◌^◌, ◌<◌, ◌≤◌, [], IsTrue, length, vec_len, vec_capacity, slice_index_or, insert, All};
+ghost use Rattle.std.specs.Prelude.{◌≡◌, ℕ, ◌+◌, ◌-◌, ◌^◌, ◌<◌, ◌≤◌, [], IsTrue, length, vec_len};
+ghost use Rattle.std.specs.Prelude.{vec_capacity, slice_index_or, insert, All};
 ghost use Rattle.trend_num.specs.Ranges.{InRange};
 ghost use Rattle.page_pool.specs.Pool.{spare_of};
 ghost use Rattle.late_insert.specs.declared.directory.Page.{Page};
@@ -35,7 +36,8 @@ pub(crate) fn first_page(pool: &mut Pool, pages: &mut Vec<Page>)
 pub(crate) fn is_full_before(pool: &Pool, pages: &[Page], t: u64) -> bool
     requires pages { ArePages pool.now pages.now }
     ensures before { IsTrue result → All (λ r. r.point.t < t) (records_of pool.now pages.now) }
-    ensures full { IsTrue result → (d : Page) → length (page_in pool.now (slice_index_or pages.now (length pages.now - 1) d)) ≡ 128 }
+    ensures full { IsTrue result → (d : Page)
+        → length (page_in pool.now (slice_index_or pages.now (length pages.now - 1) d)) ≡ 128 }
 {
     let frame = pool.frame(&pages[pages.len() - 1].id);
     frame.len == 128 && frame.times[127] < t
@@ -46,7 +48,8 @@ pub(crate) fn open_page(pool: &mut Pool, pages: &mut Vec<Page>, len: u32, rec: R
     requires pages { ArePages pool.old pages.old.items }
     requires counted { len ≡ length (records_of pool.old pages.old.items) }
     requires before { All (λ r. r.point.t < rec.point.t) (records_of pool.old pages.old.items) }
-    requires full { (d : Page) → length (page_in pool.old (slice_index_or pages.old.items (length pages.old.items - 1) d)) ≡ 128 }
+    requires full { (d : Page)
+        → length (page_in pool.old (slice_index_or pages.old.items (length pages.old.items - 1) d)) ≡ 128 }
     requires spare { 0 < spare_of pool.old }
     requires room { vec_len pages.old < vec_capacity pages.old }
     requires range { InRange rec.point }

@@ -1,7 +1,7 @@
 // Outside examples of contents, and a plain sorted list beside the pages.
 ghost use Rattle.std.specs.Prelude.{◌≡◌};
 
-use crate::{Content, Kind, Point, Rec};
+use crate::{Around, Content, Kind, Point, Rec};
 use std::alloc::{AllocError, Global};
 use std::process::Abort;
 use std::test::Fail;
@@ -105,6 +105,52 @@ fn pages_have_the_totals_of_their_points(rt: HostRuntime) -> Result<(), Fail> {
         }
     }
     assert_eq!(rt; area, 1789);
+    Ok(())
+}
+
+#[test]
+fn what_stands_around_a_time(rt: HostRuntime) -> Result<(), Fail> {
+    let mut content = Content::new(rt.alloc(), 2)?;
+    let (first, second) = (Point { t: 0, v: 4 }, Point { t: 10, v: 8 });
+    for p in [second, first] {
+        put(&rt, &mut content, rec(Kind::Kept, p.t, p.v));
+    }
+    for (t, below, upto, before, after) in [
+        (0, 0, 1, None, Some(first)),
+        (9, 1, 1, Some(first), Some(second)),
+        (10, 1, 2, Some(first), Some(second)),
+        (11, 2, 2, Some(second), None),
+    ] {
+        let around = Around {
+            below,
+            upto,
+            before,
+            after,
+        };
+        assert_eq!(rt; content.around(t), around);
+    }
+    Ok(())
+}
+
+#[test]
+fn a_walk_goes_in_runs_of_one_page(rt: HostRuntime) -> Result<(), Fail> {
+    let mut content = Content::new(rt.alloc(), 300)?;
+    for i in 0..300u64 {
+        put(&rt, &mut content, rec(Kind::Kept, i, i as i64));
+    }
+    assert!(rt; content.len() == 300);
+    let mut runs = content.runs(100, 290);
+    for (first, last, line, stair) in [
+        (100, 127, 6129, 6102),
+        (128, 255, 48641, 48514),
+        (256, 289, 17985, 17952),
+    ] {
+        let run = runs.next().expect(&rt, "a run");
+        assert_eq!(rt; (run.first().v, run.last().v), (first, last));
+        assert_eq!(rt; (run.low(), run.high()), (first, last));
+        assert_eq!(rt; (run.area(false), run.area(true)), (line, stair));
+    }
+    assert!(rt; runs.next().is_none());
     Ok(())
 }
 

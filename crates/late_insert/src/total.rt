@@ -22,7 +22,8 @@ pub(crate) fn point_at(frame: &Frame, i: usize) -> Point
     }
 }
 
-/// Twice the area between two neighbours: a line goes from the one value to the other, a stair keeps the first.
+/// Twice the area between two neighbours: a line goes from the one value to the other, a stair keeps the
+/// first.
 pub fn piece(step: bool, p: Point, q: Point) -> i128
     requires first { InRange p }
     requires second { InRange q }

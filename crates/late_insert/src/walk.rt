@@ -1,5 +1,6 @@
 // A walk over the points of a content, in runs of points that stand in one page.
-ghost use Rattle.std.specs.Prelude.{◌≡◌, ◌^◌, ◌<◌, ◌≤◌, [], ◌++◌, IfNone, IfSome, Some, length, slice_get, slice_range};
+ghost use Rattle.std.specs.Prelude.{◌≡◌, ◌^◌, ◌<◌, ◌≤◌, [], ◌++◌, IfNone, IfSome, Some, length, slice_get};
+ghost use Rattle.std.specs.Prelude.{slice_range};
 ghost use Rattle.trend_num.specs.Ranges.{InRange};
 ghost use Rattle.trend_model.specs.Contents.{points_of};
 ghost use Rattle.trend_model.specs.Parts.{last_point};
@@ -13,7 +14,9 @@ use page_pool::{Frame, Pool};
 use std::marker::Model;
 use trend_num::Point;
 
-/// Points of a content that stand one after another in one page. Those of a whole page are measured by its totals.
+/// Points of a content that stand one after another in one page. Those of a whole page are measured by its
+/// totals.
+#[derive(Drop)]
 pub struct Run<'a> {
     frame: &'a Frame,
     // Twice the area under the stair of the whole page.
@@ -85,6 +88,7 @@ impl<'a> Run<'a> {
 }
 
 /// A walk over points of a content. It is seen as the list of the points that are still to come.
+#[derive(Drop)]
 pub struct Runs<'a> {
     pool: &'a Pool,
     pages: &'a [Page],
@@ -126,7 +130,7 @@ pub(crate) fn runs_in<'a>(pool: &'a Pool, pages: &'a [Page], first: u32, behind:
 impl<'a> Runs<'a> {
     /// The next points that stand in one page; none exactly where no point is left.
     pub fn next(&mut self) -> Option<Run<'a>>
-        ensures run { IfSome result (λ run. self.old ≡ run ++ self.new) }
+        ensures front { IfSome result (λ run. self.old ≡ run ++ self.new) }
         ensures some { IfSome result (λ run. 0 < length run) }
         ensures none { IfNone result (self.old ≡ []) }
     {

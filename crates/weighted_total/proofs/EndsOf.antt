@@ -1,11 +1,15 @@
 -- The ends of a window's shape, and the points inside.
-use Rattle.std.proofs.Common.{◌≡◌, ℕ, zero, suc, ◌+◌, ◌-◌, ◌<◌, ◌≤◌, inl, inr, ℤ, pos, Bool, true, false, nat_lt, nat_le, List, [], ◌∷◌, ◌++◌, Option, None, Some, All, length, get_or, take, drop, refl, sym, ap, ap₂, ◌∙◌, subst, arith, append-nil}
+use Rattle.std.proofs.Common.{◌≡◌, ℕ, zero, suc, ◌+◌, ◌-◌, ◌<◌, ◌≤◌, inl, inr, ℤ, pos, Bool, true, false}
+use Rattle.std.proofs.Common.{nat_lt, nat_le, List, [], ◌∷◌, ◌++◌, Option, None, Some, All, length, get_or}
+use Rattle.std.proofs.Common.{take, drop, refl, sym, ap, ap₂, ◌∙◌, subst, arith, append-nil}
 use Rattle.std.specs.Prelude.{◌&&◌, count_by, slice_get, slice_range}
 use Rattle.std.specs.List.{filter}
 use Rattle.std.specs.Option.{option_to_list}
-use Rattle.std.proofs.lemmas.Bool.{and_left, and_parts, and_right, cases_lt, false≢true, le-leb, le-ltb, leb-true, lt-leb, lt-ltb}
+use Rattle.std.proofs.lemmas.Bool.{and_left, and_parts, and_right, cases_lt, false≢true, le-leb, le-ltb}
+use Rattle.std.proofs.lemmas.Bool.{leb-true, lt-leb, lt-ltb}
 use Rattle.std.proofs.lemmas.List.{get_or-drop, get_or-take, length-drop, length-map, length-take, take_all}
-use Rattle.std.proofs.lemmas.List.Elements.{All-append, All-cons, All-drop, All-head, All-nil, All-take, All-weaker, filter-append}
+use Rattle.std.proofs.lemmas.List.Elements.{All-append, All-cons, All-drop, All-head, All-nil, All-take}
+use Rattle.std.proofs.lemmas.List.Elements.{All-weaker, filter-append}
 use Rattle.std.proofs.lemmas.Slice.{between_is}
 use Rattle.trend_num.specs.declared.archive.Rec.{Rec}
 use Rattle.trend_num.specs.declared.point.Point.{Point}
@@ -14,14 +18,19 @@ use Rattle.trend_model.specs.Contents.{IsRising, points_of}
 use Rattle.trend_model.specs.Lists.{IfThere}
 use Rattle.trend_model.specs.Parts.{PointsRise, RisesAfter, last_point}
 use Rattle.trend_model.specs.Reads.{read_at, value_read}
-use Rattle.trend_model.specs.Windows.{end_at, is_covered, last_time_from}
+use Rattle.trend_model.specs.Windows.{end_at, is_covered, last_from, last_time_from}
 use Rattle.weighted_total.proofs.Covered.{covered_read}
 use Rattle.trend_model.proofs.ReadLaw.{points_rise}
 use Rattle.trend_model.proofs.WindowLaw.{inside, rises_rest}
 use Rattle.interp_read.specs.Closing.{IsNotBefore, points_closed_by}
 use Rattle.interp_read.proofs.ClosedPoints.{IsClosed, closed, closed_in_range, closed_rise}
 use Rattle.interp_read.proofs.Listing.{kept_middle}
-use Rattle.interp_read.proofs.RisingPoints.{Before, From, IsGapAt, gap_at, last_take, rises_push}
+use Rattle.interp_read.proofs.RisingPoints.{Before, From, IsGapAt, first_parts, gap_at, no_first, no_last}
+use Rattle.interp_read.proofs.RisingPoints.{rises_push}
+use Rattle.interp_read.specs.NextTo.{AreNeighbours}
+use Rattle.interp_read.proofs.ReadsNextTo.{before_is}
+use Rattle.weighted_total.proofs.Walking.{last_is}
+use Rattle.weighted_total.proofs.Sums.{last_joined, last_from_all}
 use Rattle.weighted_total.specs.declared.shape.Ends.{Ends}
 use Rattle.weighted_total.specs.Shapes.{IsShape, counted}
 use Rattle.weighted_total.proofs.Readable.{readable, value_small}
@@ -34,14 +43,6 @@ pub last_time_is : (p : Point) (ps : List Point) (z : Point) → last_point (p �
 last_time_is p [] z last = let same : p ≡ z = cc in ap (λ x. x.t) same
 last_time_is p (q ∷ ps) z last = last_time_is q ps z last
 
--- a window is covered by points that begin and end so
-pub covered_by : (cs : List Point) (p z : Point) (from to : ℕ) → slice_get cs 0 ≡ Some p
-    → last_point cs ≡ Some z
-    → (nat_le p.t from && nat_le to z.t) ≡ is_covered cs from to
-covered_by [] p z from to first last = cc
-covered_by (x ∷ xs) p z from to first last =
-    let same : x ≡ p = cc in rw (last_time_is x xs z last, same) refl
-
 -- it ends at the last point or before
 pub ends_before : (cs : List Point) (z : Point) (from to : ℕ) → last_point cs ≡ Some z
     → is_covered cs from to ≡ true → to ≤ z.t
@@ -51,65 +52,59 @@ ends_before (x ∷ xs) z from to last covered =
     let reach = leb-true to (last_time_from x xs) both.1 in
     omega (arith, reach, last_time_is x xs z last)
 
--- the first point of a closed content
-closed_first : (held : Option Point) (cs ps : List Point) (p : Point) → IsClosed held cs ps
-    → slice_get ps 0 ≡ Some p → slice_get cs 0 ≡ Some p
-closed_first held cs ps p closing first = rw closing.whole (of_front ps first)
-  where
-    of_front : (xs : List Point) → slice_get xs 0 ≡ Some p
-        → slice_get (xs ++ option_to_list closing.more) 0 ≡ Some p
-    of_front [] h = cc
-    of_front (x ∷ xs) h = h
+-- what is not true is false
+pub not_true : (b : Bool) → (b ≡ true → ⊥) → b ≡ false
+not_true true never = absurd (never refl)
+not_true false never = refl
 
--- with no held point it is the content
-closed_own : (cs ps : List Point) → IsClosed None cs ps → cs ≡ ps
-closed_own cs ps closing = closing.whole ∙ no_more closing.more closing.of_held
-  where
-    no_more : (o : Option Point) → ((q : Point) → o ≡ Some q → None ≡ Some q) → ps ++ option_to_list o ≡ ps
-    no_more None of_held = append-nil ps
-    no_more (Some q) of_held = let never = of_held q refl in cc
+-- where no point stands from the end on, the window is not covered
+pub uncovered_end : (cs : List Point) (from to : ℕ) (before after : Option Point)
+    → AreNeighbours cs to before after → after ≡ None
+    → is_covered cs from to ≡ false
+uncovered_end cs from to None after near none =
+    let front = no_last near.earlier near.last in
+    let back = no_first near.later (near.first ∙ none) in
+    rw (near.whole ∙ ap₂ (λ a b. a ++ b) front back) refl
+uncovered_end cs from to (Some z) after near none =
+    let back = no_first near.later (near.first ∙ none) in
+    let whole : cs ≡ near.earlier = near.whole
+    ∙ (ap (λ l. near.earlier ++ l) back ∙ append-nil near.earlier) in
+    let last : last_point cs ≡ Some z = ap last_point whole ∙ near.last in
+    let early = before_is cs to z after near in
+    not_true (is_covered cs from to) (λ covered. let reach = ends_before cs z from to last covered in absurd
+    (omega arith))
 
--- ---- what the code finds of a window's cover
+-- points from a time on end at it or after it
+ends_from : (p : Point) (ps earlier : List Point) (q : Point) (more : List Point) (to : ℕ)
+    → p ∷ ps ≡ earlier ++ q ∷ more
+    → All (From to) (q ∷ more) → to ≤ last_time_from p ps
+ends_from p ps [] q more to is from =
+    let same : p ≡ q = cc in
+    let rest : ps ≡ more = cc in
+    let last = last_from_all to q more from in
+    let time = last_time_is q more (last_from q more) (last_is q more) in
+    rw (same, rest) (omega arith)
+ends_from p ps (e ∷ es) q more to is from =
+    let rest : ps ≡ es ++ q ∷ more = cc in
+    let last = last_from_all to q more from in
+    let joined = ap (λ (x : Point). x.t) (last_joined p es q more) in
+    let time = last_time_is p (es ++ q ∷ more) (last_from p (es ++ q ∷ more)) (last_is p (es ++ q ∷ more)) in
+    rw rest (omega arith)
 
--- with a held point
-pub covers_held : (held : Option Point) (q p : Point) (l : List Rec) (from to : ℕ) → held ≡ Some q
-    → IsRising l
-    → IfThere (IsNotBefore l) held → slice_get (points_of l) 0 ≡ Some p → p.t ≤ from
-    → nat_le to q.t ≡ is_covered (points_closed_by held l) from to
-covers_held held q p l from to is rises not_before first starts =
-    let closing = closed held l rises not_before in
-    let last = closing.ends q is in
-    let cover =
-    covered_by (points_closed_by held l) p last.0 from to
-    (closed_first held (points_closed_by held l) (points_of l) p closing first) last.1.0 in
-    ap (nat_le to) (sym last.1.1) ∙ rw (le-leb p.t from starts) at cover
-
--- with none
-pub covers_own : (held : Option Point) (p z : Point) (l : List Rec) (from to n : ℕ) → held ≡ None → IsRising l
-    → slice_get (points_of l) 0 ≡ Some p → p.t ≤ from → n ≡ length l → 0 < n
-    → slice_get (points_of l) (n - 1) ≡ Some z
-    → nat_le to z.t ≡ is_covered (points_closed_by held l) from to
-covers_own held p z l from to n is rises first starts whole some found =
-    let ps = points_of l in
-    let all : n - 1 + 1 ≡ n = omega arith in
-    let long : length ps ≤ n = omega (arith, length-map l (λ r. r.point)) in
-    let last : last_point ps ≡ Some z = ap last_point (sym (take_all n ps long))
-    ∙ (rw all at (last_take ps (n - 1) z found)) in
-    let same = closed_own (points_closed_by None l) ps (closed None l rises tt) in
-    rw (is, same) (rw (le-leb p.t from starts) at (covered_by ps p z from to first last))
-
--- where it starts before the first point
-pub covers_none : (held : Option Point) (p : Point) (l : List Rec) (from to : ℕ) → IsRising l
-    → IfThere (IsNotBefore l) held
-    → slice_get (points_of l) 0 ≡ Some p → from < p.t
-    → nat_le p.t from ≡ is_covered (points_closed_by held l) from to
-covers_none held p l from to rises not_before first early =
-    by_first (points_closed_by held l)
-    (closed_first held (points_closed_by held l) (points_of l) p (closed held l rises not_before) first)
-  where
-    by_first : (cs : List Point) → slice_get cs 0 ≡ Some p → nat_le p.t from ≡ is_covered cs from to
-    by_first [] h = cc
-    by_first (x ∷ xs) h = let same : x ≡ p = cc in rw (same, lt-leb p.t from early) refl
+-- a window with a value at its start and a point from its end on is covered
+pub covered_by : (step : Bool) (cs : List Point) (from to : ℕ) (v : ℤ) (before : Option Point) (q : Point)
+    → value_read (read_at step cs from) ≡ Some v → AreNeighbours cs to before (Some q)
+    → is_covered cs from to ≡ true
+covered_by step [] from to v before q value near = cc
+covered_by step (p ∷ ps) from to v before q value near =
+    let parts = first_parts near.later q near.first in
+    let whole : p ∷ ps ≡ near.earlier ++ q ∷ parts.0 = near.whole ∙ ap (λ l. near.earlier ++ l) parts.1 in
+    let reach = ends_from p ps near.earlier q parts.0 to whole
+    (subst (All (From to)) parts.1 near.later_are) in
+    elim (cases_lt from p.t) [
+      | inl early ↦ let none = rw (lt-ltb from p.t early) at value in cc
+      | inr starts ↦ rw (le-leb p.t from starts, le-leb to (last_time_from p ps) reach) refl
+    ]
 
 -- a read in a covered window has a value
 pub value_there : (step : Bool) (cs : List Point) (from to t : ℕ) (v : Option ℤ)
@@ -181,7 +176,8 @@ counted_places ps from to a b order first second =
     ) refl in
     kept_middle f ps a b early late middle
 
--- a held point that is added is not before the end of a covered window, so a test that fails from there on passes it
+-- a held point that is added is not before the end of a covered window, so a test that fails from there on
+-- passes it
 -- over
 passed_over : (f : Point → Bool) (held : Option Point) (cs ps : List Point) (from to : ℕ)
     → IsClosed held cs ps
@@ -231,7 +227,8 @@ pub found_shape : (step : Bool) (held : Option Point) (l : List Rec) (from to : 
     → e.first ≡ count_by (λ r. nat_lt r.point.t (from + 1)) l
     → e.behind ≡ count_by (λ r. nat_lt r.point.t to) l
     → IsShape step (points_closed_by held l) (points_of l) from to e
-found_shape step held l from to e rises range held_range not_before order reach covered starts ends start end first
+found_shape step held l from to e rises range held_range not_before order reach covered starts ends start end
+first
     behind =
     let In : Point → Type 0 = λ p. InRange p in
     let ps = points_of l in

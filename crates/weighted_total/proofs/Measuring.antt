@@ -1,5 +1,6 @@
 -- Measures of the points between two ends, and of these.
-use Rattle.std.proofs.Common.{◌≡◌, ℕ, ◌-◌, ◌*◌, ◌^◌, ◌≤◌, ℤ, pos, ◌+ℤ◌, Bool, true, List, [], ◌∷◌, ◌++◌, Some, All, length, refl, sym, ap, ◌∙◌, subst, arith}
+use Rattle.std.proofs.Common.{◌≡◌, ℕ, ◌-◌, ◌*◌, ◌^◌, ◌≤◌, ℤ, pos, ◌+ℤ◌, Bool, true, List, [], ◌∷◌, ◌++◌, Some}
+use Rattle.std.proofs.Common.{All, length, refl, sym, ap, ◌∙◌, subst, arith}
 use Rattle.std.specs.Prelude.{count_by, nat_lt, unsigned_abs}
 use Rattle.std.proofs.lemmas.Int.{ints}
 use Rattle.std.proofs.lemmas.List.{get_or_append_left, length-append}
@@ -7,11 +8,13 @@ use Rattle.std.proofs.lemmas.List.Edits.{length-between}
 use Rattle.std.proofs.lemmas.List.Elements.{All-head}
 use Rattle.trend_num.specs.declared.archive.Rec.{Rec}
 use Rattle.trend_num.specs.declared.measure.Measure.{Measure}
-use Rattle.trend_num.specs.declared.measure.Measure.TheVariants.{Area, Avg, Total, Low, High, Count, First, Last}
+use Rattle.trend_num.specs.declared.measure.Measure.TheVariants.{Area, Avg, Total, Low, High, Count, First}
+use Rattle.trend_num.specs.declared.measure.Measure.TheVariants.{Last}
 use Rattle.trend_num.specs.declared.point.Point.{Point}
 use Rattle.trend_num.specs.Ranges.{InRange, largest_value, last_time}
 use Rattle.trend_model.specs.Contents.{IsRising, points_of}
-use Rattle.trend_model.specs.Windows.{area, but_last, greatest_from, last_from, least_from, measured, of_first, piece, taken_values, window_value}
+use Rattle.trend_model.specs.Windows.{area, but_last, greatest_from, last_from, least_from, measured}
+use Rattle.trend_model.specs.Windows.{of_first, piece, taken_values, window_value}
 use Rattle.trend_model.proofs.ReadLaw.{points_rise}
 use Rattle.interp_read.proofs.RisingPoints.{IsGapAt, gap_at}
 use Rattle.weighted_total.specs.declared.shape.Ends.{Ends}

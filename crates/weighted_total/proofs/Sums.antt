@@ -1,5 +1,6 @@
 -- Totals of lists of points.
-use Rattle.std.proofs.Common.{◌≡◌, ℕ, ◌+◌, ◌-◌, ◌*◌, ◌≤◌, ℤ, pos, ◌+ℤ◌, Bool, true, false, List, [], ◌∷◌, ◌++◌, All, refl, sym, ap, ◌∙◌, fold, arith}
+use Rattle.std.proofs.Common.{◌≡◌, ℕ, ◌+◌, ◌-◌, ◌*◌, ◌≤◌, ℤ, pos, ◌+ℤ◌, Bool, true, false, List, [], ◌∷◌}
+use Rattle.std.proofs.Common.{◌++◌, All, refl, sym, ap, ◌∙◌, fold, arith}
 use Rattle.std.specs.Prelude.{unsigned_abs}
 use Rattle.std.specs.Int.{int_min, int_max}
 use Rattle.std.proofs.lemmas.Int.{ints, unsigned_abs-mul}
@@ -10,7 +11,7 @@ use Rattle.trend_num.specs.declared.point.Point.{Point}
 use Rattle.trend_num.specs.Ranges.{InRange, largest_value, last_time}
 use Rattle.trend_model.specs.Parts.{RisesAfter}
 use Rattle.trend_model.specs.Windows.{area, greater, greatest_from, last_from, least_from, lesser, piece}
-use Rattle.late_insert.specs.Totals.{area_of, greatest_of, least_of}
+use Rattle.late_insert.specs.Totals.{greatest_of, least_of}
 
 -- ---- areas of lists that are joined
 
@@ -83,6 +84,12 @@ area_of_span step p (x ∷ xs) rises range =
     let times = ap (λ n. n * (2 * largest_value)) span in
     omega (arith, sum, times)
 
+-- the last of points from a time on is from it on
+pub last_from_all : (t : ℕ) (p : Point) (xs : List Point) → All (λ q. t ≤ q.t) (p ∷ xs)
+    → t ≤ (last_from p xs).t
+last_from_all t p [] from = All-head (λ q. t ≤ q.t) p [] from
+last_from_all t p (x ∷ xs) from = last_from_all t x xs (All-tail (λ q. t ≤ q.t) p (x ∷ xs) from)
+
 -- the last of points in range is in range
 pub last_in_range : (p : Point) (xs : List Point) → All (λ q. InRange q) (p ∷ xs) → InRange (last_from p xs)
 last_in_range p [] range = All-head (λ q. InRange q) p [] range
@@ -119,11 +126,6 @@ greatest_joined p (x ∷ xs) q ys =
     ∙ sym (greater_assoc p.v (greatest_from x xs) (greatest_from q ys))
 
 -- ---- the totals of pages
-
-pub area_of_is : (ps : List Point) → area_of ps ≡ area false ps
-area_of_is [] = refl
-area_of_is (p ∷ []) = refl
-area_of_is (p ∷ q ∷ ps) = ap (λ a. piece false p q +ℤ a) (area_of_is (q ∷ ps))
 
 pub int_min_is : (a b : ℤ) → int_min a b ≡ lesser a b
 int_min_is a b = grind (arith, ints)

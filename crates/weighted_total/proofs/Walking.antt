@@ -1,121 +1,27 @@
--- Parts of a content's points, one after another.
-use Rattle.std.proofs.Common.{◌≡◌, ℕ, zero, suc, ◌+◌, ◌-◌, ◌*◌, ◌<◌, ◌≤◌, ℤ, pos, ◌+ℤ◌, Bool, true, false, List, [], ◌∷◌, ◌++◌, Some, All, take, drop, refl, sym, ap, ◌∙◌, subst, arith, add-one, suc-add}
-use Rattle.std.specs.Prelude.{slice_get, slice_range, unsigned_abs}
-use Rattle.std.proofs.lemmas.List.{drop-drop}
-use Rattle.std.proofs.lemmas.List.Edits.{between_more, between_none}
+-- A walk over the points of a window, in runs.
+use Rattle.std.proofs.Common.{◌≡◌, ℕ, ◌+◌, ◌-◌, ◌*◌, ◌<◌, ◌≤◌, ℤ, ◌+ℤ◌, Bool, true, false, List, [], ◌∷◌}
+use Rattle.std.proofs.Common.{◌++◌, Some, All, length}
+use Rattle.std.proofs.Common.{refl, sym, ap, ap₂, ◌∙◌, subst, arith, append_assoc, append-nil}
+use Rattle.std.specs.Prelude.{drop, slice_get, slice_range, unsigned_abs}
 use Rattle.std.proofs.lemmas.List.Elements.{All-cons, All-drop, All-take}
-use Rattle.std.proofs.lemmas.Option.{get_or_from_slice_get, slice_get_within}
 use Rattle.trend_num.specs.declared.archive.Rec.{Rec}
 use Rattle.trend_num.specs.declared.point.Point.{Point}
-use Rattle.trend_num.specs.Ranges.{InRange, largest_value, last_time}
 use Rattle.trend_model.specs.Contents.{points_of}
+use Rattle.trend_num.specs.Ranges.{InRange, largest_value, last_time}
 use Rattle.trend_model.specs.Parts.{RisesAfter, last_point}
 use Rattle.trend_model.specs.Windows.{area, greater, greatest_from, last_from, least_from, lesser, piece}
-use Rattle.late_insert.specs.declared.content.PageTotals.{PageTotals}
-use Rattle.late_insert.specs.PageTotals.{IsPageOf, points_on}
-use Rattle.late_insert.specs.Totals.{area_of, greatest_of, least_of}
-use Rattle.interp_read.proofs.RisingPoints.{last_push}
-use Rattle.weighted_total.specs.declared.inside.Part.{Part}
-use Rattle.weighted_total.specs.Parts.{IsPart}
-use Rattle.weighted_total.proofs.Sums.{area_joined, area_of_is, area_small, greatest_joined, greatest_of_is, last_joined, least_joined, least_of_is}
-
--- ---- places one after another
-
--- the points from a place on begin with the one there
-pub range_first : (ps : List Point) (i j : ℕ) (p : Point) → slice_get ps i ≡ Some p → i < j
-    → slice_range ps i j ≡ p ∷ slice_range ps (i + 1) j
-range_first ps i j p found below =
-    let whole : j - i ≡ suc (j - (i + 1)) = omega arith in
-    let split : drop i ps ≡ p ∷ drop (i + 1) ps = rw add-one (split_at ps i found) in
-    rw (whole, split) refl
-  where
-    split_at : (xs : List Point) (k : ℕ) → slice_get xs k ≡ Some p → drop k xs ≡ p ∷ drop (suc k) xs
-    split_at [] k h = cc
-    split_at (x ∷ xs) zero h = let same : x ≡ p = cc in ap (λ y. y ∷ xs) same
-    split_at (x ∷ xs) (suc k) h = split_at xs k h
-
--- and end with the one before the end
-pub range_last : (ps : List Point) (i j : ℕ) (q : Point) → slice_get ps j ≡ Some q → i ≤ j
-    → slice_range ps i (j + 1) ≡ slice_range ps i j ++ q ∷ []
-range_last ps i j q found order =
-    let is = get_or_from_slice_get ps j q q found in
-    rw is at (between_more ps i j q order (slice_get_within ps j q found))
-
--- two ranges that meet
-pub range_joined : (ps : List Point) (i j k : ℕ) → i ≤ j → j ≤ k
-    → slice_range ps i k ≡ slice_range ps i j ++ slice_range ps j k
-range_joined ps i j k first second =
-    let parts : k - i ≡ (j - i) + (k - j) = omega arith in
-    let place : i + (j - i) ≡ j = omega arith in
-    rw parts (taken (drop i ps) (j - i) (k - j)
-    ∙ ap (λ l. take (j - i) (drop i ps) ++ take (k - j) l)
-    (drop-drop (j - i) i ps ∙ ap (λ n. drop n ps) place))
-  where
-    no_points : (n : ℕ) → take {A = Point} n [] ≡ []
-    no_points zero = refl
-    no_points (suc n) = refl
-
-    taken : (xs : List Point) (m n : ℕ) → take (m + n) xs ≡ take m xs ++ take n (drop m xs)
-    taken xs zero n = ap (λ k. take k xs) (omega arith)
-    taken [] (suc m) n = rw (suc-add m n, no_points n) refl
-    taken (x ∷ xs) (suc m) n = rw (suc-add m n) (ap (λ l. x ∷ l) (taken xs m n))
+use Rattle.late_insert.specs.Totals.{greatest_of, least_of}
+use Rattle.late_insert.proofs.Joining.{all_left, all_right}
+use Rattle.interp_read.proofs.RisingPoints.{first_parts}
+use Rattle.weighted_total.proofs.Sums.{area_joined, area_small, greatest_joined, greatest_of_is, last_joined}
+use Rattle.weighted_total.proofs.Sums.{least_joined, least_of_is}
 
 -- the last of some points
-last_is : (p : Point) (rest : List Point) → last_point (p ∷ rest) ≡ Some (last_from p rest)
+pub last_is : (p : Point) (rest : List Point) → last_point (p ∷ rest) ≡ Some (last_from p rest)
 last_is p [] = refl
 last_is p (x ∷ rest) = last_is x rest
 
-pub last_of_range : (p q : Point) (rest xs : List Point) → p ∷ rest ≡ xs ++ q ∷ [] → last_from p rest ≡ q
-last_of_range p q rest xs is =
-    let both : Some (last_from p rest) ≡ Some q = sym (last_is p rest)
-    ∙ (ap last_point is ∙ last_push xs q) in cc
-
--- ---- parts
-
--- one point
-pub one_part : (ps : List Point) (i end : ℕ) (p : Point) (v : ℤ) → slice_get ps i ≡ Some p → i < end → v ≡ p.v
-    → IsPart ps i end (record { next = i + 1; first = p; last = p; area = pos 0; low = v; high = v })
-one_part ps i end p v found below is = record {
-  rest = [];
-  points = range_first ps i (i + 1) p found (omega arith) ∙ ap (λ l. p ∷ l) (between_none ps (i + 1));
-  some = omega arith;
-  within = omega arith;
-  last = refl;
-  area = refl;
-  low = is;
-  high = is;
-}
-
--- a whole page
-pub page_part : (l : List Rec) (i end : ℕ) (page : PageTotals) (p q : Point) (a low high : ℤ)
-    → IsPageOf l i page → page.first ≡ i
-    → page.len ≤ end - i → slice_get (points_of l) i ≡ Some p
-    → slice_get (points_of l) (i + page.len - 1) ≡ Some q
-    → a ≡ page.area → low ≡ page.low → high ≡ page.high
-    → IsPart (points_of l) i end
-    (record { next = i + page.len; first = p; last = q; area = a; low = low; high = high })
-page_part l i end page p q a low high is starts fits first last a_is low_is high_is =
-    let ps = points_of l in
-    let j = i + page.len - 1 in
-    let behind : j + 1 ≡ i + page.len = omega (arith, is.upto) in
-    let rest = slice_range ps (i + 1) (i + page.len) in
-    let points : slice_range ps i (i + page.len) ≡ p ∷ rest =
-    range_first ps i (i + page.len) p first (omega (arith, is.upto)) in
-    let on : points_on l page ≡ p ∷ rest = rw starts points in
-    let end_is : slice_range ps i (i + page.len) ≡ slice_range ps i j ++ q ∷ [] =
-    rw behind at (range_last ps i j q last (omega (arith, is.upto))) in
-    record {
-      rest = rest;
-      points = points;
-      some = omega (arith, is.upto);
-      within = omega (arith, is.upto);
-      last = sym (last_of_range p q rest (slice_range ps i j) (sym points ∙ end_is));
-      area = a_is ∙ (is.area ∙ (ap area_of on ∙ area_of_is (p ∷ rest)));
-      low = low_is ∙ (is.low ∙ (ap least_of on ∙ least_of_is p rest));
-      high = high_is ∙ (is.high ∙ (ap greatest_of on ∙ greatest_of_is p rest));
-    }
-
--- ---- a walk over parts
+-- ---- points that rise
 
 pub rises_front : (p : Point) (xs ys : List Point) → RisesAfter p (xs ++ ys) → RisesAfter p xs
 rises_front p [] ys rises = tt
@@ -131,97 +37,134 @@ rises_back : (p : Point) (xs : List Point) (q : Point) (ys : List Point) → Ris
 rises_back p [] q ys rises = rises.1
 rises_back p (x ∷ xs) q ys rises = rises_back x xs q ys rises.1
 
--- the points that were walked, and a part more
-pub walked : (ps : List Point) (first i end : ℕ) (part : Part) (is : IsPart ps i end part) → first ≤ i
-    → slice_range ps first part.next ≡ slice_range ps first i ++ part.first ∷ is.rest
-walked ps first i end part is order =
-    range_joined ps first i part.next order (omega (arith, is.some))
-    ∙ ap (λ l. slice_range ps first i ++ l) is.points
+-- ---- what was taken of a range
+
+-- the range is what was taken, and the rest
+pub record IsTaken (inner taken rest : List Point) : Type 0 where
+  pub parts : inner ≡ taken ++ rest
+
+-- nothing was taken yet
+pub taken_none : (inner rest : List Point) → rest ≡ inner → IsTaken inner [] rest
+taken_none inner rest is = record { parts = sym is }
+
+-- and in the end all
+pub taken_all : (inner taken rest : List Point) → IsTaken inner taken rest → rest ≡ [] → taken ≡ inner
+taken_all inner taken rest is none = sym (append-nil taken) ∙ (ap (λ l. taken ++ l) (sym none) ∙ sym is.parts)
+
+-- a run more
+pub taken_more : (inner taken old run new : List Point) → IsTaken inner taken old → old ≡ run ++ new
+    → IsTaken inner (taken ++ run) new
+taken_more inner taken old run new is split =
+    record { parts = is.parts ∙ (ap (λ l. taken ++ l) split ∙ sym (append_assoc taken run new)) }
+
+-- the points of a range are in range
+pub inner_range : (l : List Rec) (first behind : ℕ) → All InRange (points_of l)
+    → All (λ p. InRange p) (slice_range (points_of l) first behind)
+inner_range l first behind range =
+    let In : Point → Type 0 = λ p. InRange p in
+    All-take In (behind - first) (drop first (points_of l)) (All-drop In first (points_of l) range)
+
+-- the sums over the start and what was taken
+pub record IsWalked (step : Bool) (start : Point) (inner rest : List Point) (twice : ℤ) (last : Point) : Type
+    0 where
+  pub taken : List Point
+  pub is : IsTaken inner taken rest
+  pub twice_is : twice ≡ area step (start ∷ taken)
+  pub last_is : last ≡ last_from start taken
+
+-- a run from its first point to its last
+pub record IsRunOf (old run new : List Point) (q z : Point) : Type 0 where
+  pub split : old ≡ run ++ new
+  pub first : slice_get run 0 ≡ Some q
+  pub last : last_point run ≡ Some z
 
 -- the seam and the sums of a step of a walk
-pub record IsStep (start : Point) (xs : List Point) (part : Part) (step : Bool) : Type 0 where
-  pub order : (last_from start xs).t ≤ part.first.t
-  pub small : unsigned_abs (area step (start ∷ xs)) ≤ last_time * (2 * largest_value)
-  pub small_part : unsigned_abs part.area ≤ last_time * (2 * largest_value)
+pub record IsStep (step : Bool) (last q : Point) (twice part : ℤ) : Type 0 where
+  pub order : last.t ≤ q.t
+  pub small : unsigned_abs twice ≤ last_time * (2 * largest_value)
+  pub small_part : unsigned_abs part ≤ last_time * (2 * largest_value)
 
-pub is_step : (ps : List Point) (start : Point) (first i end : ℕ) (part : Part) (step : Bool)
-    (is : IsPart ps i end part) → first ≤ i
-    → InRange start → All (λ p. InRange p) ps → RisesAfter start (slice_range ps first end)
-    → IsStep start (slice_range ps first i) part step
-is_step ps start first i end part step is order in_range range rises =
-    let In : Point → Type 0 = λ p. InRange p in
-    let xs = slice_range ps first i in
-    let whole : slice_range ps first end ≡ (xs ++ part.first ∷ is.rest) ++ slice_range ps part.next end =
-    range_joined ps first part.next end (omega (arith, is.some)) is.within
-    ∙ ap (λ l. l ++ slice_range ps part.next end) (walked ps first i end part is order) in
-    let upto : RisesAfter start (xs ++ part.first ∷ is.rest) =
-    rises_front start (xs ++ part.first ∷ is.rest) (slice_range ps part.next end)
-    (subst (RisesAfter start) whole rises) in
-    let taken =
-    All-cons In start xs in_range
-    (All-take In (i - first) (drop first ps) (All-drop In first ps range)) in
-    let of_part : All In (part.first ∷ is.rest) =
-    subst (All In) is.points (All-take In (part.next - i) (drop i ps) (All-drop In i ps range)) in
-    let seam = rises_seam start xs part.first is.rest upto in
-    record {
-      order = omega (arith, seam);
-      small = area_small step start xs (rises_front start xs (part.first ∷ is.rest) upto) taken;
-      small_part =
-          rw is.area
-          (area_small false part.first is.rest (rises_back start xs part.first is.rest upto) of_part);
-    }
+module _ (step : Bool) (start : Point) (inner old run new : List Point) (twice : ℤ) (last q z : Point)
+    (walk : IsWalked step start inner old twice last) (next : IsRunOf old run new q z) where
+  -- the run, by its first point
+  run_parts : (more : List Point) × (run ≡ q ∷ more)
+  run_parts = first_parts run q next.first
 
--- a stair is walked by single points
-single_rest : (ps : List Point) (i end : ℕ) (part : Part) (is : IsPart ps i end part) → part.next ≡ i + 1
-    → is.rest ≡ []
-single_rest ps i end part is next =
-    let one : slice_range ps i (i + 1) ≡ part.first ∷ is.rest = rw next at is.points in
-    let found : (i + 1) - i ≡ 1 = omega arith in
-    by_length (drop i ps) (rw found at one)
-  where
-    by_length : (xs : List Point) → take 1 xs ≡ part.first ∷ is.rest → is.rest ≡ []
-    by_length [] h = cc
-    by_length (x ∷ xs) h = cc
+  after : IsTaken inner (walk.taken ++ run) new
+  after = taken_more inner walk.taken old run new walk.is next.split
 
-part_area : (ps : List Point) (i end : ℕ) (part : Part) (step : Bool) (is : IsPart ps i end part)
-    → (step ≡ true → part.next ≡ i + 1)
-    → part.area ≡ area step (part.first ∷ is.rest)
-part_area ps i end part false is single = is.area
-part_area ps i end part true is single =
-    let none = single_rest ps i end part is (single refl) in
-    is.area ∙ rw none refl
+  pub walk_step : InRange start → All (λ p. InRange p) inner → RisesAfter start inner
+      → IsStep step last q twice (area step run)
+  walk_step in_range range rises =
+      let In : Point → Type 0 = λ p. InRange p in
+      let more = run_parts.0 in
+      let xs = walk.taken in
+      let whole : inner ≡ (xs ++ q ∷ more) ++ new = after.parts ∙ ap (λ l. (xs ++ l) ++ new) run_parts.1 in
+      let upto : RisesAfter start (xs ++ q ∷ more) = rises_front start (xs ++ q ∷ more) new
+      (subst (RisesAfter start) whole rises) in
+      let all : All In (xs ++ q ∷ more) = all_left In (xs ++ q ∷ more) new (subst (All In) whole range) in
+      let seam = rises_seam start xs q more upto in
+      record {
+        order = rw walk.last_is (omega arith);
+        small = rw walk.twice_is
+            (area_small step start xs (rises_front start xs (q ∷ more) upto)
+            (All-cons In start xs in_range (all_left In xs (q ∷ more) all)));
+        small_part = rw run_parts.1 (area_small step q more (rises_back start xs q more upto)
+            (all_right In xs (q ∷ more) all));
+      }
 
--- the sums after a step of a walk
-pub area_walked : (ps : List Point) (start : Point) (first i end : ℕ) (part : Part) (step : Bool)
-    (is : IsPart ps i end part) → first ≤ i
-    → (step ≡ true → part.next ≡ i + 1)
-    → (area step (start ∷ slice_range ps first i) +ℤ piece step
-    (last_from start (slice_range ps first i)) part.first) +ℤ part.area
-    ≡ area step (start ∷ slice_range ps first part.next)
-area_walked ps start first i end part step is order single =
-    let xs = slice_range ps first i in
-    rw (walked ps first i end part is order, part_area ps i end part step is single)
-    (sym (area_joined step start xs part.first is.rest))
+  pub walk_more : (sum : ℤ) → sum ≡ (twice +ℤ piece step last q) +ℤ area step run
+      → IsWalked step start inner new sum z
+  walk_more sum is =
+      let more = run_parts.0 in
+      let xs = walk.taken in
+      let ends : Some z ≡ Some (last_from q more) = sym next.last
+      ∙ (ap last_point run_parts.1 ∙ last_is q more) in
+      let end : z ≡ last_from q more = cc in
+      record {
+        taken = xs ++ run;
+        is = after;
+        twice_is = is
+            ∙ (ap₂ (λ a b. a +ℤ b) (ap₂ (λ a x. a +ℤ piece step x q) walk.twice_is walk.last_is)
+            (ap (area step) run_parts.1)
+            ∙ (sym (area_joined step start xs q more) ∙ ap (λ l. area step (start ∷ (xs ++ l)))
+            (sym run_parts.1)));
+        last_is = end ∙ (sym (last_joined start xs q more) ∙ ap (λ l. last_from start (xs ++ l))
+            (sym run_parts.1));
+      }
 
-pub last_walked : (ps : List Point) (start : Point) (first i end : ℕ) (part : Part)
-    (is : IsPart ps i end part) → first ≤ i
-    → part.last ≡ last_from start (slice_range ps first part.next)
-last_walked ps start first i end part is order =
-    rw (walked ps first i end part is order)
-    (is.last ∙ sym (last_joined start (slice_range ps first i) part.first is.rest))
+-- the sums of all
+pub walk_all : (step : Bool) (start : Point) (inner rest : List Point) (twice : ℤ) (last : Point)
+    → IsWalked step start inner rest twice last
+    → rest ≡ [] → (twice ≡ area step (start ∷ inner)) × (last ≡ last_from start inner)
+walk_all step start inner rest twice last walk none =
+    let all = taken_all inner walk.taken rest walk.is none in
+    (walk.twice_is ∙ ap (λ l. area step (start ∷ l)) all, walk.last_is ∙ ap (last_from start) all)
 
-pub least_walked : (ps : List Point) (start : Point) (first i end : ℕ) (part : Part)
-    (is : IsPart ps i end part) → first ≤ i
-    → lesser (least_from start (slice_range ps first i)) part.low
-    ≡ least_from start (slice_range ps first part.next)
-least_walked ps start first i end part is order =
-    rw (walked ps first i end part is order, is.low)
-    (sym (least_joined start (slice_range ps first i) part.first is.rest))
+-- the least and the greatest value of the start and what was taken
+pub record IsSpread (start : Point) (inner rest : List Point) (low high : ℤ) : Type 0 where
+  pub taken : List Point
+  pub is : IsTaken inner taken rest
+  pub low_is : low ≡ least_from start taken
+  pub high_is : high ≡ greatest_from start taken
 
-pub greatest_walked : (ps : List Point) (start : Point) (first i end : ℕ) (part : Part)
-    (is : IsPart ps i end part) → first ≤ i
-    → greater (greatest_from start (slice_range ps first i)) part.high
-    ≡ greatest_from start (slice_range ps first part.next)
-greatest_walked ps start first i end part is order =
-    rw (walked ps first i end part is order, is.high)
-    (sym (greatest_joined start (slice_range ps first i) part.first is.rest))
+pub spread_more : (start : Point) (inner old run new : List Point) (low high a b : ℤ)
+    → IsSpread start inner old low high → old ≡ run ++ new
+    → 0 < length run → a ≡ lesser low (least_of run) → b ≡ greater high (greatest_of run)
+    → IsSpread start inner new a b
+spread_more start inner old [] new low high a b spread split some lows highs = absurd (omega arith)
+spread_more start inner old (q ∷ more) new low high a b spread split some lows highs = record {
+  taken = spread.taken ++ q ∷ more;
+  is = taken_more inner spread.taken old (q ∷ more) new spread.is split;
+  low_is = lows ∙ (ap₂ lesser spread.low_is (least_of_is q more)
+      ∙ sym (least_joined start spread.taken q more));
+  high_is = highs ∙ (ap₂ greater spread.high_is (greatest_of_is q more)
+      ∙ sym (greatest_joined start spread.taken q more));
+}
+
+pub spread_all : (start : Point) (inner rest : List Point) (low high : ℤ) → IsSpread start inner rest low high
+    → rest ≡ []
+    → (low ≡ least_from start inner) × (high ≡ greatest_from start inner)
+spread_all start inner rest low high spread none =
+    let all = taken_all inner spread.taken rest spread.is none in
+    (spread.low_is ∙ ap (least_from start) all, spread.high_is ∙ ap (greatest_from start) all)

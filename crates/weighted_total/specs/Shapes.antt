@@ -1,5 +1,6 @@
 -- The shape of a window, by its ends and the places of the points inside.
-use Rattle.std.specs.Prelude.{◌≡◌, ◌≤◌, ℕ, Bool, true, List, [], ◌∷◌, ◌++◌, length, nat_le, nat_lt, ◌&&◌, slice_range, All}
+use Rattle.std.specs.Prelude.{◌≡◌, ◌≤◌, ℕ, Bool, true, List, [], ◌∷◌, ◌++◌, length, nat_le, nat_lt, ◌&&◌}
+use Rattle.std.specs.Prelude.{slice_range, All}
 use Rattle.std.specs.List.{filter}
 use Rattle.trend_num.specs.declared.point.Point.{Point}
 use Rattle.trend_num.specs.Ranges.{InRange}

@@ -1,59 +1,21 @@
 // Totals over points of a content that stand one after another.
-ghost use Rattle.std.specs.Prelude.{◌≡◌, ◌+◌, ◌*◌, ◌^◌, ◌<◌, ◌≤◌, ◌+ℤ◌, ◌∷◌, false, length, slice_range, unsigned_abs};
+ghost use Rattle.std.specs.Prelude.{◌≡◌, ◌+◌, ◌*◌, ◌^◌, ◌<◌, ◌≤◌, ◌+ℤ◌, ◌∷◌, false, length, slice_range};
+ghost use Rattle.std.specs.Prelude.{unsigned_abs};
 ghost use Rattle.trend_num.specs.Ranges.{InRange, largest_value, last_time};
 ghost use Rattle.trend_model.specs.Contents.{points_of};
 ghost use Rattle.trend_model.specs.Parts.{PointsRise};
-ghost use Rattle.trend_model.specs.Windows.{area, greater, greatest_from, last_from, least_from, lesser, piece};
-ghost use Rattle.weighted_total.specs.Parts.{IsPart};
+ghost use Rattle.trend_model.specs.Windows.{area, greater, greatest_from, last_from, least_from, lesser};
+ghost use Rattle.trend_model.specs.Windows.{piece};
 
-use late_insert::Content;
+use late_insert::{Content, piece};
 use trend_num::Point;
 
-/// Points one after another, with their totals as points of a line.
+/// Points one after another: the first, the last, and twice the area under them.
 #[derive(Clone, Copy)]
 pub(crate) struct Part {
-    /// The place behind the last of them.
-    pub next: u32,
     pub first: Point,
     pub last: Point,
-    /// Twice the area under the line through them.
     pub area: i128,
-    pub low: i64,
-    pub high: i64,
-}
-
-/// The points of a content from the place i on: the whole page, where one starts there that does not go beyond the end, and
-/// pages are asked for; else one point.
-fn part_at(content: &Content, i: u32, end: u32, pages: bool) -> Part
-    requires some { i < end }
-    requires within { end ≤ length content.now.records }
-    ensures part { IsPart (points_of content.now.records) i end result }
-    ensures single { pages ≡ false → result.next ≡ i + 1 }
-    ensures first { InRange result.first }
-    ensures last { InRange result.last }
-{
-    let first = content.point(i);
-    if pages {
-        let page = content.page(i);
-        if page.first == i && page.len <= end - i {
-            return Part {
-                next: i + page.len,
-                first,
-                last: content.point(i + page.len - 1),
-                area: page.area,
-                low: page.low,
-                high: page.high,
-            };
-        }
-    }
-    Part {
-        next: i + 1,
-        first,
-        last: first,
-        area: 0,
-        low: first.v,
-        high: first.v,
-    }
 }
 
 /// The area under a start and the points after it, with the last of these points.
@@ -63,8 +25,7 @@ pub(crate) struct Area {
     pub last: Point,
 }
 
-/// Twice the area under the start and the points at the places from `first` on, before `behind`. The totals of pages are
-/// those of lines, so a stair is walked point by point.
+/// Twice the area under the start and the points at the places from `first` on, before `behind`.
 pub(crate) fn area_inside(
     content: &Content,
     step: bool,
@@ -85,11 +46,14 @@ pub(crate) fn area_inside(
         twice: 0,
         last: start,
     };
-    let mut i = first;
-    while i < behind {
-        let part = part_at(content, i, behind, !step);
+    let mut runs = content.runs(first, behind);
+    while let Some(run) = runs.next() {
+        let part = Part {
+            first: run.first(),
+            last: run.last(),
+            area: run.area(step),
+        };
         area = joined(step, area, part);
-        i = part.next;
     }
     area
 }
@@ -113,28 +77,6 @@ fn joined(step: bool, area: Area, part: Part) -> Area
     }
 }
 
-/// Twice the area between two neighbours.
-pub(crate) fn piece(step: bool, p: Point, q: Point) -> i128
-    requires first { InRange p }
-    requires second { InRange q }
-    ensures { result ≡ piece step p q }
-{
-    if step {
-        trapezoid(p, Point { t: q.t, v: p.v })
-    } else {
-        trapezoid(p, q)
-    }
-}
-
-/// Twice the area under the line from p to q.
-fn trapezoid(p: Point, q: Point) -> i128
-    requires first { InRange p }
-    requires second { InRange q }
-    ensures { result ≡ piece false p q }
-{
-    i128::from(q.t.saturating_sub(p.t)) * (i128::from(p.v) + i128::from(q.v))
-}
-
 /// A sum of few areas.
 pub(crate) fn sum(a: i128, b: i128) -> i128
     requires first { unsigned_abs a ≤ 2 * last_time * (2 * largest_value) }
@@ -151,7 +93,8 @@ pub(crate) struct Extremes {
     pub high: i64,
 }
 
-/// The least value and the greatest of a start and of the points at the places from `first` on, before `behind`.
+/// The least value and the greatest of a start and of the points at the places from `first` on, before
+/// `behind`.
 pub(crate) fn extremes_inside(content: &Content, start: Point, first: u32, behind: u32) -> Extremes
     requires order { first ≤ behind }
     requires within { behind ≤ length content.now.records }
@@ -163,11 +106,9 @@ pub(crate) fn extremes_inside(content: &Content, start: Point, first: u32, behin
         low: start.v,
         high: start.v,
     };
-    let mut i = first;
-    while i < behind {
-        let part = part_at(content, i, behind, true);
-        extremes = widened(extremes, part.low, part.high);
-        i = part.next;
+    let mut runs = content.runs(first, behind);
+    while let Some(run) = runs.next() {
+        extremes = widened(extremes, run.low(), run.high());
     }
     extremes
 }

@@ -1,9 +1,11 @@
 //! Measures of a window of a tag's content: area, mean, total, least, greatest, count, first and last.
 //!
-//! A window of the closed content has a shape: its start as it reads, the points strictly inside, its end as it reads.
-//! `Windows` of the model says what each measure is of a list of points, for lines and for the stairs of a step tag; each
-//! call here says that of the closed content. What is strictly inside is a part of one page, whole pages, and a part of
-//! another, so the totals of pages stand for their points. A window takes no memory.
+//! A window of the closed content has a shape: its start as it reads, the points strictly inside, its end as
+//! it reads. `Windows` of the model says what each measure is of a list of points, for lines and for the
+//! stairs of a step tag; each call here says that of the closed content. One search for each end tells what
+//! is read there, whether the window is covered, and which points are inside. These are gone over in runs of
+//! one page each: whole pages answer by their totals, lines and stairs alike, and the pages at the ends by
+//! their points. A window takes no memory.
 #![tactic(auto)]
 
 mod inside;

@@ -3,17 +3,19 @@ ghost use Rattle.std.specs.Prelude.{◌≡◌, ◌^◌, ◌<◌, ◌≤◌, Some
 ghost use Rattle.trend_num.specs.Ranges.{InRange, last_time};
 ghost use Rattle.trend_model.specs.Contents.{points_of};
 ghost use Rattle.trend_model.specs.Lists.{IfThere};
-ghost use Rattle.trend_model.specs.Windows.{area, greatest_from, least_from, measured, of_first, taken_values, window_value};
+ghost use Rattle.trend_model.specs.Windows.{area, greatest_from, least_from, measured, of_first};
+ghost use Rattle.trend_model.specs.Windows.{taken_values, window_value};
 ghost use Rattle.interp_read.specs.Closing.{IsNotBefore, points_closed_by};
 ghost use Rattle.weighted_total.specs.Shapes.{AreEnds, counted, outline};
 
-use crate::inside::{Extremes, area_inside, extremes_inside, piece, sum, widened};
+use crate::inside::{Extremes, area_inside, extremes_inside, sum, widened};
 use crate::shape::{Ends, ends_of};
-use late_insert::Content;
+use late_insert::{Content, piece};
 use trend_num::{Measure, Point, round_half_up};
 
-/// A measure of the window of a line from one time to a later one: none exactly where the window starts before the first
-/// point, or ends after the last, or there is no point. The held point is not before a point of the content.
+/// A measure of the window of a line from one time to a later one: none exactly where the window starts
+/// before the first point, or ends after the last, or there is no point. The held point is not before a point
+/// of the content.
 pub fn window(
     content: &Content,
     held: Option<Point>,
@@ -30,8 +32,9 @@ pub fn window(
     value(content, held, false, measure, from, to)
 }
 
-/// A measure of the window of a step tag's stair from one time to a later one: none exactly where the window starts before
-/// the first point, or ends after the last, or there is no point. The held point is not before a point of the content.
+/// A measure of the window of a step tag's stair from one time to a later one: none exactly where the window
+/// starts before the first point, or ends after the last, or there is no point. The held point is not before
+/// a point of the content.
 pub fn window_step(
     content: &Content,
     held: Option<Point>,
@@ -79,7 +82,8 @@ fn value_between(
     requires order { from < to }
     requires reach { to ≤ last_time }
     requires ends { AreEnds (points_of content.now.records) ends }
-    ensures { measured step measure (points_of content.now.records) (outline (points_of content.now.records) ends) from to ≡ Some result }
+    ensures { measured step measure (points_of content.now.records) (outline (points_of content.now.records) ends) from to
+        ≡ Some result }
 {
     match measure {
         Measure::Area => twice_area(content, step, ends),

@@ -6,10 +6,11 @@ ghost use Rattle.trend_model.specs.Lists.{IfThere};
 ghost use Rattle.trend_model.specs.Reads.{read_at, value_read};
 ghost use Rattle.trend_model.specs.Windows.{is_covered};
 ghost use Rattle.interp_read.specs.Closing.{IsNotBefore, points_closed_by};
+ghost use Rattle.interp_read.specs.NextTo.{AreNeighbours};
 ghost use Rattle.weighted_total.specs.Readable.{IsReadable};
 ghost use Rattle.weighted_total.specs.Shapes.{IsShape};
 
-use interp_read::{Reading, at, at_step};
+use interp_read::{Neighbours, Reading, neighbours_at, reading_of};
 use late_insert::Content;
 use trend_num::{Point, round_half_up};
 
@@ -37,64 +38,41 @@ pub(crate) fn ends_of(
     requires last { IfThere (IsNotBefore content.now.records) held }
     requires order { from < to }
     requires reach { to ≤ last_time }
-    ensures shape { IfSome result (IsShape step (points_closed_by held content.now.records) (points_of content.now.records) from to) }
+    ensures shape { IfSome result
+        (IsShape step (points_closed_by held content.now.records) (points_of content.now.records) from to) }
     ensures uncovered { IfNone result (is_covered (points_closed_by held content.now.records) from to ≡ false) }
 {
     let _len = content.len();
-    if !covers(content, held, from, to) {
-        return None;
-    }
-    let start = value_at(content, held, step, from)?;
-    let end = value_at(content, held, step, to)?;
+    let begin = neighbours_at(content, held, from);
+    let stop = neighbours_at(content, held, to);
+    let _later = stop.after?;
+    let start = value_at(content, held, step, from, begin)?;
+    let end = value_at(content, held, step, to, stop)?;
     Some(Ends {
         start: Point { t: from, v: start },
-        first: content.below(from + 1),
-        behind: content.below(to),
+        first: begin.upto,
+        behind: stop.below,
         end: Point { t: to, v: end },
     })
 }
 
-/// Whether a window does not start before the first point of the closed content, nor end after the last.
-fn covers(content: &Content, held: Option<Point>, from: u64, to: u64) -> bool
+/// The value of a line or a stair at t, rounded, by the points next to t.
+fn value_at(
+    content: &Content,
+    held: Option<Point>,
+    step: bool,
+    t: u64,
+    next: Neighbours,
+) -> Option<i64>
     requires range { IfThere InRange held }
     requires last { IfThere (IsNotBefore content.now.records) held }
-    ensures { result ≡ is_covered (points_closed_by held content.now.records) from to }
-{
-    let n = content.len();
-    if n == 0 {
-        return match held {
-            Some(q) => q.t <= from && to <= q.t,
-            None => false,
-        };
-    }
-    let last = match held {
-        Some(q) => q.t,
-        None => content.point(n - 1).t,
-    };
-    content.point(0).t <= from && to <= last
-}
-
-/// The value of a line or a stair at t, rounded.
-fn value_at(content: &Content, held: Option<Point>, step: bool, t: u64) -> Option<i64>
-    requires range { IfThere InRange held }
-    requires last { IfThere (IsNotBefore content.now.records) held }
+    requires near { AreNeighbours (points_closed_by held content.now.records) t next.before next.after }
+    requires before_range { IfSome next.before InRange }
+    requires after_range { IfSome next.after InRange }
     ensures { result ≡ value_read (read_at step (points_closed_by held content.now.records) t) }
 {
     let _len = content.len();
-    value_of(read(content, held, step, t))
-}
-
-/// What a line or a stair reads at t.
-fn read(content: &Content, held: Option<Point>, step: bool, t: u64) -> Reading
-    requires range { IfThere InRange held }
-    requires last { IfThere (IsNotBefore content.now.records) held }
-    ensures { result ≡ read_at step (points_closed_by held content.now.records) t }
-{
-    if step {
-        at_step(content, held, t)
-    } else {
-        at(content, held, t)
-    }
+    value_of(reading_of(next, step, t))
 }
 
 /// The value of what is read, rounded.

@@ -89,6 +89,14 @@ fn a_window_over_pages_is_that_of_the_points(rt: HostRuntime) -> Result<(), Fail
     assert_eq!(rt; window(&content, None, Measure::Low, 0, 299), Some(0));
     assert_eq!(rt; window(&content, None, Measure::High, 0, 299), Some(6));
     assert_eq!(rt; window(&content, None, Measure::Area, 0, 299), Some(1789));
+    assert_eq!(rt;
+        window_step(&content, None, Measure::Area, 0, 299),
+        Some(1784)
+    );
+    assert_eq!(rt;
+        window_step(&content, None, Measure::Area, 3, 250),
+        Some(1484)
+    );
     Ok(())
 }
 

@@ -7,23 +7,28 @@ pub returns-in-Some-clause-closed : goal.returns-in-Some-clause-closed
 returns-in-Some-clause-closed c =
     let l = c.args.content.now.records in
     let last = last_of_all l c.len.result c.last_of.result c.len.ensures.value c.last_of.ensures.value in
-    same_held c.args.held c.in_ok-q.q c.in-Some.p l c.in_ok-q.was c.len.ensures.rising (last ∙ c.in-Some.is) c.if-p-q.true
+    same_held c.args.held c.in_ok-q.q c.in-Some.p l c.in_ok-q.was c.len.ensures.rising (last ∙ c.in-Some.is)
+    c.if-p-q.true
 
 pub returns-in_default-clause-closed : goal.returns-in_default-clause-closed
 returns-in_default-clause-closed c =
     let l = c.args.content.now.records in
     let q = c.in_ok-q.q in
     let last = last_of_all l c.len.result c.last_of.result c.len.ensures.value c.last_of.ensures.value in
-    let other : (p : Point) → c.last_of.result ≡ Some p → p.t ≢ q.t = λ p is. let same : c.in-Some.p ≡ p = cc in rw (← same) c.if-p-q.false in
-    (added_held c.args.held q l c.last_of.result c.in_ok-q.was c.len.ensures.rising c.requires.last last other).0
+    let other : (p : Point) → c.last_of.result ≡ Some p → p.t ≢ q.t = λ p is. let same : c.in-Some.p ≡ p =
+    cc in rw (← same) c.if-p-q.false in
+    (added_held c.args.held q l c.last_of.result c.in_ok-q.was c.len.ensures.rising c.requires.last last
+    other).0
 
 pub returns-in_default-clause-later : goal.returns-in_default-clause-later
 returns-in_default-clause-later c =
     let l = c.args.content.now.records in
     let q = c.in_ok-q.q in
     let last = last_of_all l c.len.result c.last_of.result c.len.ensures.value c.last_of.ensures.value in
-    let other : (p : Point) → c.last_of.result ≡ Some p → p.t ≢ q.t = λ p is. let same : c.in-Some.p ≡ p = cc in rw (← same) c.if-p-q.false in
-    (added_held c.args.held q l c.last_of.result c.in_ok-q.was c.len.ensures.rising c.requires.last last other).1
+    let other : (p : Point) → c.last_of.result ≡ Some p → p.t ≢ q.t = λ p is. let same : c.in-Some.p ≡ p =
+    cc in rw (← same) c.if-p-q.false in
+    (added_held c.args.held q l c.last_of.result c.in_ok-q.was c.len.ensures.rising c.requires.last last
+    other).1
 
 pub returns-in_default-2-clause-closed : goal.returns-in_default-2-clause-closed
 returns-in_default-2-clause-closed c =
@@ -31,7 +36,8 @@ returns-in_default-2-clause-closed c =
     let q = c.in_ok-q.q in
     let last = last_of_all l c.len.result c.last_of.result c.len.ensures.value c.last_of.ensures.value in
     let other : (p : Point) → c.last_of.result ≡ Some p → p.t ≢ q.t = λ p is. cc in
-    (added_held c.args.held q l c.last_of.result c.in_ok-q.was c.len.ensures.rising c.requires.last last other).0
+    (added_held c.args.held q l c.last_of.result c.in_ok-q.was c.len.ensures.rising c.requires.last last
+    other).0
 
 pub returns-in_default-2-clause-later : goal.returns-in_default-2-clause-later
 returns-in_default-2-clause-later c =
@@ -39,4 +45,5 @@ returns-in_default-2-clause-later c =
     let q = c.in_ok-q.q in
     let last = last_of_all l c.len.result c.last_of.result c.len.ensures.value c.last_of.ensures.value in
     let other : (p : Point) → c.last_of.result ≡ Some p → p.t ≢ q.t = λ p is. cc in
-    (added_held c.args.held q l c.last_of.result c.in_ok-q.was c.len.ensures.rising c.requires.last last other).1
+    (added_held c.args.held q l c.last_of.result c.in_ok-q.was c.len.ensures.rising c.requires.last last
+    other).1

@@ -14,10 +14,12 @@ returns-in_ok-push_point-in-Some-clause-more c all first more =
 
 pub returns-in-Some-2-clause-list : goal.returns-in-Some-2-clause-list
 returns-in-Some-2-clause-list c all first more =
-    let many = taken_before all c.args.first.items c.in-Some-2.field-0 256 first (omega (arith, c.args.first.ok.0)) in
+    let many = taken_before all c.args.first.items c.in-Some-2.field-0 256 first
+    (omega (arith, c.args.first.ok.0)) in
     rw c.in-Some-2.is many.0
 
 pub returns-in-Some-2-clause-more : goal.returns-in-Some-2-clause-more
 returns-in-Some-2-clause-more c all first more =
-    let many = taken_before all c.args.first.items c.in-Some-2.field-0 256 first (omega (arith, c.args.first.ok.0)) in
+    let many = taken_before all c.args.first.items c.in-Some-2.field-0 256 first
+    (omega (arith, c.args.first.ok.0)) in
     rw c.in-Some-2.is (λ h. many.1, λ h. search rules)

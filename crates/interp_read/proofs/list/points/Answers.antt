@@ -16,14 +16,18 @@ returns-clause-list c =
     let stop = c.min-stop.result in
     let all = points_from_to ps c.args.from c.args.to in
     let few : end ≤ 2 ^ 32 - 1 = search rules in
-    let within : end ≤ length ps = omega (arith, c.places_from_to-places.ensures.within, length-map l (λ r. r.point)) in
+    let within : end ≤ length ps = omega
+    (arith, c.places_from_to-places.ensures.within, length-map l (λ r. r.point)) in
     let is = c.places_from_to-places.ensures.points in
     let first : c.in_ok-list.list.items ≡ take 256 all =
     c.in_ok-list.ensures ∙ (copied_first ps start end stop 256 (omega arith) few ∙ ap (take 256) (sym is)) in
     let left = left_over ps start end stop 256 (omega arith) few within in
     let long = ap length is in
-    let more : IsTrue (nat_lt stop end) ↔ (256 < length all) =
-    (λ h. let some = left.0 (ltb-true stop end h) in omega (arith, some, long), λ h. lt-ltb stop end (left.1 (omega (arith, h, long)))) in
+    let more : IsTrue (nat_lt stop end) ↔ (256 < length all) = (
+      λ h. let some = left.0 (ltb-true stop end h) in omega (arith, some, long),
+      λ h. lt-ltb stop end
+          (left.1 (omega (arith, h, long))),
+    ) in
     rw c.held_from_to.ensures (c.completed.ensures.list all first more)
 
 pub returns-clause-more : goal.returns-clause-more
@@ -35,12 +39,16 @@ returns-clause-more c =
     let stop = c.min-stop.result in
     let all = points_from_to ps c.args.from c.args.to in
     let few : end ≤ 2 ^ 32 - 1 = search rules in
-    let within : end ≤ length ps = omega (arith, c.places_from_to-places.ensures.within, length-map l (λ r. r.point)) in
+    let within : end ≤ length ps = omega
+    (arith, c.places_from_to-places.ensures.within, length-map l (λ r. r.point)) in
     let is = c.places_from_to-places.ensures.points in
     let first : c.in_ok-list.list.items ≡ take 256 all =
     c.in_ok-list.ensures ∙ (copied_first ps start end stop 256 (omega arith) few ∙ ap (take 256) (sym is)) in
     let left = left_over ps start end stop 256 (omega arith) few within in
     let long = ap length is in
-    let more : IsTrue (nat_lt stop end) ↔ (256 < length all) =
-    (λ h. let some = left.0 (ltb-true stop end h) in omega (arith, some, long), λ h. lt-ltb stop end (left.1 (omega (arith, h, long)))) in
+    let more : IsTrue (nat_lt stop end) ↔ (256 < length all) = (
+      λ h. let some = left.0 (ltb-true stop end h) in omega (arith, some, long),
+      λ h. lt-ltb stop end
+          (left.1 (omega (arith, h, long))),
+    ) in
     rw c.held_from_to.ensures (c.completed.ensures.more all first more)

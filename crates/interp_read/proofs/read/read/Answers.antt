@@ -1,49 +1,10 @@
-use Rattle.std.proofs.Common.{◌≡◌, ◌≢◌, Some, ap, sym, ◌∙◌}
-use Rattle.trend_num.specs.declared.point.Point.{Point}
-use Rattle.trend_num.specs.declared.reading.Reading.TheVariants.{Exact, Flat}
 use Rattle.interp_read.specs.Closing.{points_closed_by}
-use Rattle.interp_read.proofs.ReadsNextTo.{before_is, read_exact, read_flat, read_inside, read_nothing, value_back}
 use Rattle.interp_read.proofs.read.read.Goals as goal
 
-pub reading_between-requires-clause-after : goal.reading_between-requires-clause-after
-reading_between-requires-clause-after c =
-    let cs = points_closed_by c.args.held c.args.content.now.records in
-    let near = rw (c.in-Some-Some.is-0, c.in-Some-Some.is-1) at c.neighbours_at-next.ensures.neighbours in
-    before_is cs c.args.t c.in-Some-Some.p (Some c.in-Some-Some.q) near
+pub reading_of-requires-clause-near : goal.reading_of-requires-clause-near
+reading_of-requires-clause-near c =
+    (points_closed_by c.args.held c.args.content.now.records, c.neighbours_at.ensures.neighbours)
 
-pub returns-in_default-Some : goal.returns-in_default-Some
-returns-in_default-Some c =
-    let cs = points_closed_by c.args.held c.args.content.now.records in
-    let q = c.in_default-Some.q in
-    let near = rw c.in_default-Some.is-1 at c.neighbours_at-next.ensures.neighbours in
-    let range = rw c.in_default-Some.is-1 at c.neighbours_at-next.ensures.after_range in
-    ap Exact (value_back q range)
-    ∙ sym (read_exact c.args.step cs c.args.t c.neighbours_at-next.result.before q near c.if-q-t.true)
-
-pub returns-in-Some-Some : goal.returns-in-Some-Some
-returns-in-Some-Some c =
-    let cs = points_closed_by c.args.held c.args.content.now.records in
-    let q = c.in_default-Some.q in
-    let near = rw (c.in-Some-Some.is-0, c.in_default-Some.is-1) at c.neighbours_at-next.ensures.neighbours in
-    c.reading_between.ensures ∙ sym (read_inside c.args.step cs c.args.t c.in-Some-Some.p q near c.if-q-t.false)
-
-pub returns-in-Some-None : goal.returns-in-Some-None
-returns-in-Some-None c =
-    let cs = points_closed_by c.args.held c.args.content.now.records in
-    let near = rw (c.in-Some-None.is-0, c.in-Some-None.is-1) at c.neighbours_at-next.ensures.neighbours in
-    let range = rw c.in-Some-None.is-0 at c.neighbours_at-next.ensures.before_range in
-    ap Flat (value_back c.in-Some-None.p range) ∙ sym (read_flat c.args.step cs c.args.t c.in-Some-None.p near)
-
-pub returns-in-None-default : goal.returns-in-None-default
-returns-in-None-default c =
-    let cs = points_closed_by c.args.held c.args.content.now.records in
-    let near = rw c.in-None-default.is-0 at c.neighbours_at-next.ensures.neighbours in
-    let other : (q : Point) → c.neighbours_at-next.result.after ≡ Some q → q.t ≢ c.args.t =
-    λ q is. let same : c.in_default-Some.q ≡ q = cc in rw (← same) c.if-q-t.false in
-    sym (read_nothing c.args.step cs c.args.t c.neighbours_at-next.result.after near other)
-
-pub returns-in-None-default-2 : goal.returns-in-None-default-2
-returns-in-None-default-2 c =
-    let cs = points_closed_by c.args.held c.args.content.now.records in
-    let near = rw c.in-None-default.is-0 at c.neighbours_at-next.ensures.neighbours in
-    sym (read_nothing c.args.step cs c.args.t c.neighbours_at-next.result.after near (λ q is. cc))
+pub returns : goal.returns
+returns c = c.reading_of.ensures (points_closed_by c.args.held c.args.content.now.records)
+    c.neighbours_at.ensures.neighbours

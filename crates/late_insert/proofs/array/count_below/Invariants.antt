@@ -1,4 +1,4 @@
-use Rattle.std.proofs.Common.{ℕ, ◌-◌, ◌<◌, ◌≤◌, length, get_or}
+use Rattle.std.proofs.Common.{◌-◌}
 use Rattle.late_insert.proofs.Halving.{IsHalving}
 use Rattle.late_insert.proofs.array.count_below.Given as goal
 

@@ -1,4 +1,4 @@
-use Rattle.std.proofs.Common.{◌≡◌, ◌≢◌, Some, sym, ◌∙◌, arith}
+use Rattle.std.proofs.Common.{◌≡◌, ◌≢◌, Some, sym, ◌∙◌}
 use Rattle.std.specs.Prelude.{slice_get}
 use Rattle.trend_num.specs.declared.point.Point.{Point}
 use Rattle.trend_model.specs.Contents.{points_of}
@@ -29,7 +29,8 @@ pub returns-in-Some-clause-upto : goal.returns-in-Some-clause-upto
 returns-in-Some-clause-upto c =
     let l = records_of c.args.pool.now c.args.pages.now in
     let gap = c.gap_in-gap.ensures in
-    upto_there l c.args.t c.gap_in-gap.result.place c.requires.pages.rising gap.bound gap.before gap.after c.in-Some.q
+    upto_there l c.args.t c.gap_in-gap.result.place c.requires.pages.rising gap.bound gap.before gap.after
+    c.in-Some.q
     (sym c.first_from.ensures.value ∙ c.in-Some.is) c.if-q-t.true
 
 pub returns-in_default-clause-upto : goal.returns-in_default-clause-upto
@@ -37,7 +38,8 @@ returns-in_default-clause-upto c =
     let l = records_of c.args.pool.now c.args.pages.now in
     let gap = c.gap_in-gap.ensures in
     let other : (q : Point) → slice_get (points_of l) c.gap_in-gap.result.place ≡ Some q → q.t ≢ c.args.t =
-    λ q is. let found = sym c.first_from.ensures.value ∙ c.in-Some.is in let same : c.in-Some.q ≡ q = cc in rw (← same) c.if-q-t.false in
+    λ q is. let found = sym c.first_from.ensures.value
+    ∙ c.in-Some.is in let same : c.in-Some.q ≡ q = cc in rw (← same) c.if-q-t.false in
     upto_gap l c.args.t c.gap_in-gap.result.place c.requires.pages.rising gap.bound gap.before gap.after other
 
 pub returns-in_default-2-clause-upto : goal.returns-in_default-2-clause-upto

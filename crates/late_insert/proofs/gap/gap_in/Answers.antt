@@ -1,7 +1,4 @@
-use Rattle.std.proofs.Common.{◌≡◌, ℕ, ◌+◌, ◌-◌, ◌<◌, ◌≤◌, List, All, AllPairs, take, drop, ap, sym, ◌∙◌, get_or, length, subst, arith}
-use Rattle.trend_num.specs.declared.archive.Rec.{Rec}
-use Rattle.late_insert.specs.declared.directory.Page.{Page}
-use Rattle.trend_model.specs.Contents.{IsRising}
+use Rattle.std.proofs.Common.{arith}
 use Rattle.late_insert.proofs.Finding.{starts_rise, found_for}
 use Rattle.late_insert.proofs.Reading.{is_read, frame_page, frame_rises, gap_within, gap_before, gap_after}
 use Rattle.late_insert.proofs.gap.gap_in.Goals as goal
@@ -12,54 +9,69 @@ page_for-k-requires-clause-rising c =
 
 pub below_in-requires-clause-recorded : goal.below_in-requires-clause-recorded
 below_in-requires-clause-recorded c =
-    let is = is_read c.args.pool.now c.args.pages.now c.page_for-k.result c.index-pages-k.result c.frame.result.now c.requires.pages
+    let is = is_read c.args.pool.now c.args.pages.now c.page_for-k.result c.index-pages-k.result
+    c.frame.result.now c.requires.pages
     c.page_for-k.ensures.within c.index-pages-k.is c.frame.ensures in
     (frame_page _ _ _ _ _ is).recorded
 
 pub below_in-requires-clause-rising : goal.below_in-requires-clause-rising
 below_in-requires-clause-rising c =
-    let is = is_read c.args.pool.now c.args.pages.now c.page_for-k.result c.index-pages-k.result c.frame.result.now c.requires.pages
+    let is = is_read c.args.pool.now c.args.pages.now c.page_for-k.result c.index-pages-k.result
+    c.frame.result.now c.requires.pages
     c.page_for-k.ensures.within c.index-pages-k.is c.frame.ensures in
     frame_rises _ _ _ _ _ is
 
 pub overflow_cast-result : goal.overflow_cast-result
 overflow_cast-result c =
-    let is = is_read c.args.pool.now c.args.pages.now c.page_for-k.result c.index-pages-k.result c.frame.result.now c.requires.pages
+    let is = is_read c.args.pool.now c.args.pages.now c.page_for-k.result c.index-pages-k.result
+    c.frame.result.now c.requires.pages
     c.page_for-k.ensures.within c.index-pages-k.is c.frame.ensures in
     omega (arith, c.below_in.ensures.bound, (frame_page _ _ _ _ _ is).recorded.few)
 
 pub overflow_add-result : goal.overflow_add-result
 overflow_add-result c =
-    let is = is_read c.args.pool.now c.args.pages.now c.page_for-k.result c.index-pages-k.result c.frame.result.now c.requires.pages
+    let is = is_read c.args.pool.now c.args.pages.now c.page_for-k.result c.index-pages-k.result
+    c.frame.result.now c.requires.pages
     c.page_for-k.ensures.within c.index-pages-k.is c.frame.ensures in
-    let found = found_for c.args.pool.now c.args.pages.now c.page_for-k.result c.args.t c.requires.pages is.within c.page_for-k.ensures.before
+    let found = found_for c.args.pool.now c.args.pages.now c.page_for-k.result c.args.t c.requires.pages
+    is.within c.page_for-k.ensures.before
     c.page_for-k.ensures.after in
     omega (
       arith,
-      gap_within _ _ _ _ _ is c.args.t c.below_in.result found c.below_in.ensures.bound c.below_in.ensures.before c.below_in.ensures.after,
+      gap_within _ _ _ _ _ is c.args.t c.below_in.result found c.below_in.ensures.bound
+          c.below_in.ensures.before c.below_in.ensures.after,
       c.requires.few,
     )
 
 pub returns-clause-bound : goal.returns-clause-bound
 returns-clause-bound c =
-    let is = is_read c.args.pool.now c.args.pages.now c.page_for-k.result c.index-pages-k.result c.frame.result.now c.requires.pages
+    let is = is_read c.args.pool.now c.args.pages.now c.page_for-k.result c.index-pages-k.result
+    c.frame.result.now c.requires.pages
     c.page_for-k.ensures.within c.index-pages-k.is c.frame.ensures in
-    let found = found_for c.args.pool.now c.args.pages.now c.page_for-k.result c.args.t c.requires.pages is.within c.page_for-k.ensures.before
+    let found = found_for c.args.pool.now c.args.pages.now c.page_for-k.result c.args.t c.requires.pages
+    is.within c.page_for-k.ensures.before
     c.page_for-k.ensures.after in
-    gap_within _ _ _ _ _ is c.args.t c.below_in.result found c.below_in.ensures.bound c.below_in.ensures.before c.below_in.ensures.after
+    gap_within _ _ _ _ _ is c.args.t c.below_in.result found c.below_in.ensures.bound
+    c.below_in.ensures.before c.below_in.ensures.after
 
 pub returns-clause-before : goal.returns-clause-before
 returns-clause-before c =
-    let is = is_read c.args.pool.now c.args.pages.now c.page_for-k.result c.index-pages-k.result c.frame.result.now c.requires.pages
+    let is = is_read c.args.pool.now c.args.pages.now c.page_for-k.result c.index-pages-k.result
+    c.frame.result.now c.requires.pages
     c.page_for-k.ensures.within c.index-pages-k.is c.frame.ensures in
-    let found = found_for c.args.pool.now c.args.pages.now c.page_for-k.result c.args.t c.requires.pages is.within c.page_for-k.ensures.before
+    let found = found_for c.args.pool.now c.args.pages.now c.page_for-k.result c.args.t c.requires.pages
+    is.within c.page_for-k.ensures.before
     c.page_for-k.ensures.after in
-    gap_before _ _ _ _ _ is c.args.t c.below_in.result found c.below_in.ensures.bound c.below_in.ensures.before c.below_in.ensures.after
+    gap_before _ _ _ _ _ is c.args.t c.below_in.result found c.below_in.ensures.bound
+    c.below_in.ensures.before c.below_in.ensures.after
 
 pub returns-clause-after : goal.returns-clause-after
 returns-clause-after c =
-    let is = is_read c.args.pool.now c.args.pages.now c.page_for-k.result c.index-pages-k.result c.frame.result.now c.requires.pages
+    let is = is_read c.args.pool.now c.args.pages.now c.page_for-k.result c.index-pages-k.result
+    c.frame.result.now c.requires.pages
     c.page_for-k.ensures.within c.index-pages-k.is c.frame.ensures in
-    let found = found_for c.args.pool.now c.args.pages.now c.page_for-k.result c.args.t c.requires.pages is.within c.page_for-k.ensures.before
+    let found = found_for c.args.pool.now c.args.pages.now c.page_for-k.result c.args.t c.requires.pages
+    is.within c.page_for-k.ensures.before
     c.page_for-k.ensures.after in
-    gap_after _ _ _ _ _ is c.args.t c.below_in.result found c.below_in.ensures.bound c.below_in.ensures.before c.below_in.ensures.after
+    gap_after _ _ _ _ _ is c.args.t c.below_in.result found c.below_in.ensures.bound c.below_in.ensures.before
+    c.below_in.ensures.after

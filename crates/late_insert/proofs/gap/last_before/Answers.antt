@@ -1,6 +1,5 @@
-use Rattle.std.proofs.Common.{◌≡◌, ◌+◌, ◌-◌, take, sym, arith}
+use Rattle.std.proofs.Common.{◌≡◌, ◌+◌, ◌-◌, sym, arith}
 use Rattle.trend_model.specs.Contents.{points_of}
-use Rattle.trend_model.specs.Parts.{last_point}
 use Rattle.late_insert.specs.Pages.{records_of}
 use Rattle.late_insert.proofs.Nearest.{point_get}
 use Rattle.late_insert.proofs.Ranges.{last_take}

@@ -4,7 +4,8 @@ use Rattle.std.specs.Int.{w64, w128, int_min, int_max}
 use Rattle.std.proofs.lemmas.Int.{to_z-of_z}
 use Rattle.std.proofs.lemmas.List.Edits.{insert_end}
 use Rattle.late_insert.specs.Pages.{records_in}
-use Rattle.late_insert.proofs.Summing.{IsPushed, length-records_in, area_of_fits, area_pushed, area_pushed_fits, page_pushed, value_fits}
+use Rattle.late_insert.proofs.Summing.{IsPushed, length-records_in, area_of_fits, area_pushed}
+use Rattle.late_insert.proofs.Summing.{area_pushed_fits, page_pushed, value_fits}
 use Rattle.late_insert.proofs.page.append.Goals as goal
 
 pub overflow_add-frame : goal.overflow_add-frame
@@ -20,8 +21,13 @@ overflow_add-frame c =
       high = c.store.ensures.high;
     } in
     let line : FitsSigned w128 c.piece.result = search rules in
-    rw (to_z-of_z w128 c.piece.result line, to_z-of_z w128 c.store.new.frame.area (area_of_fits _ _ _ _ push false _ (push.area ∙ push.page.area)))
-    (area_pushed_fits _ _ _ _ push false c.store.new.frame.area c.piece.result (push.area ∙ push.page.area) c.piece.ensures)
+    rw (
+      to_z-of_z w128 c.piece.result line,
+      to_z-of_z w128 c.store.new.frame.area
+          (area_of_fits _ _ _ _ push false _ (push.area ∙ push.page.area)),
+    )
+    (area_pushed_fits _ _ _ _ push false c.store.new.frame.area c.piece.result (push.area ∙ push.page.area)
+    c.piece.ensures)
 
 pub returns-clause-page : goal.returns-clause-page
 returns-clause-page c =
@@ -44,7 +50,8 @@ returns-clause-page c =
     rw (
       to_z-of_z w128 c.piece.result line,
       to_z-of_z w128 c.store.new.frame.area (area_of_fits _ _ _ _ push false _ (push.area ∙ push.page.area)),
-      to_z-of_z w128 _ (area_pushed_fits _ _ _ _ push false c.store.new.frame.area c.piece.result (push.area ∙ push.page.area) c.piece.ensures),
+      to_z-of_z w128 _ (area_pushed_fits _ _ _ _ push false c.store.new.frame.area c.piece.result
+          (push.area ∙ push.page.area) c.piece.ensures),
       to_z-of_z w64 c.min-frame.result least,
       to_z-of_z w64 c.max-frame.result greatest,
     )
@@ -54,7 +61,8 @@ returns-clause-page c =
 
 pub returns-clause-records : goal.returns-clause-records
 returns-clause-records c =
-    c.store.ensures.records ∙ (ap (λ n. insert (records_in c.args.frame.now) n c.args.rec) (sym (length-records_in c.args.frame.now))
+    c.store.ensures.records ∙ (ap (λ n. insert (records_in c.args.frame.now) n c.args.rec)
+    (sym (length-records_in c.args.frame.now))
     ∙ insert_end (records_in c.args.frame.now) c.args.rec)
 
 pub overflow_add-result : goal.overflow_add-result
@@ -70,7 +78,11 @@ overflow_add-result c =
       high = c.store.ensures.high;
     } in
     let line : FitsSigned w128 c.piece-2.result = search rules in
-    rw (to_z-of_z w128 c.piece-2.result line, to_z-of_z w128 c.args.stair (area_of_fits _ _ _ _ push true _ c.requires.stair))
+    rw (
+      to_z-of_z w128 c.piece-2.result line,
+      to_z-of_z w128 c.args.stair
+          (area_of_fits _ _ _ _ push true _ c.requires.stair),
+    )
     (area_pushed_fits _ _ _ _ push true c.args.stair c.piece-2.result c.requires.stair c.piece-2.ensures)
 
 pub returns-clause-stair : goal.returns-clause-stair
@@ -89,6 +101,7 @@ returns-clause-stair c =
     rw (
       to_z-of_z w128 c.piece-2.result line,
       to_z-of_z w128 c.args.stair (area_of_fits _ _ _ _ push true _ c.requires.stair),
-      to_z-of_z w128 _ (area_pushed_fits _ _ _ _ push true c.args.stair c.piece-2.result c.requires.stair c.piece-2.ensures),
+      to_z-of_z w128 _ (area_pushed_fits _ _ _ _ push true c.args.stair c.piece-2.result c.requires.stair
+          c.piece-2.ensures),
     )
     (area_pushed _ _ _ _ push true c.args.stair c.piece-2.result c.requires.stair c.piece-2.ensures)

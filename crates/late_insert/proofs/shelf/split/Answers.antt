@@ -1,4 +1,4 @@
-use Rattle.std.proofs.Common.{◌≡◌, ℕ, ◌<◌, Vec, Option, Some, Result, Ok, Err, true, ap, sym, ◌∙◌, get_or, set, length, refl, rules, arith, subst}
+use Rattle.std.proofs.Common.{◌≡◌, Some, Result, Ok, Err, true, ap, ◌∙◌, set, refl, rules, arith}
 use Rattle.std.specs.Prelude.{FitsSigned, IsOk, is_err, is_some}
 use Rattle.std.specs.Int.{w128}
 use Rattle.std.proofs.lemmas.Int.{to_z-of_z}
@@ -7,7 +7,8 @@ use Rattle.late_insert.specs.declared.directory.Page.{Page}
 use Rattle.page_pool.specs.Pool.{Takes}
 use Rattle.page_pool.proofs.Stored.{spare-written}
 use Rattle.late_insert.proofs.Reading.{IsRead, frame_page}
-use Rattle.late_insert.proofs.Shelving.{pages_cut, records-cut, lower_len, upper_len, first_small, full_frame, within_from}
+use Rattle.late_insert.proofs.Shelving.{pages_cut, records-cut, lower_len, upper_len, first_small, full_frame}
+use Rattle.late_insert.proofs.Shelving.{within_from}
 use Rattle.late_insert.proofs.shelf.split.Goals as goal
 
 -- what is no error is a value
@@ -17,95 +18,158 @@ ok_from (Err e) none = absurd (none refl)
 
 pub cut-halves-requires-clause-page : goal.cut-halves-requires-clause-page
 cut-halves-requires-clause-page c =
-    let is : IsRead c.args.pool.now c.args.pages.now.items c.args.k c.index.result.now c.frame_mut.result.now =
-    record { paged = c.requires.pages; within = within_from c.args.pages.now c.args.k c.requires.within; read = c.index.ensures; there = c.frame_mut.ensures.value } in
+    let is : IsRead c.args.pool.now c.args.pages.now.items c.args.k c.index.result.now
+    c.frame_mut.result.now =
+    record {
+      paged = c.requires.pages;
+      within = within_from c.args.pages.now c.args.k c.requires.within;
+      read = c.index.ensures;
+      there = c.frame_mut.ensures.value;
+    } in
     frame_page _ _ _ _ _ is
 
 pub cut-halves-requires-clause-full : goal.cut-halves-requires-clause-full
 cut-halves-requires-clause-full c =
-    let is : IsRead c.args.pool.now c.args.pages.now.items c.args.k c.index.result.now c.frame_mut.result.now =
-    record { paged = c.requires.pages; within = within_from c.args.pages.now c.args.k c.requires.within; read = c.index.ensures; there = c.frame_mut.ensures.value } in
+    let is : IsRead c.args.pool.now c.args.pages.now.items c.args.k c.index.result.now
+    c.frame_mut.result.now =
+    record {
+      paged = c.requires.pages;
+      within = within_from c.args.pages.now c.args.k c.requires.within;
+      read = c.index.ensures;
+      there = c.frame_mut.ensures.value;
+    } in
     full_frame _ _ _ _ _ is (c.requires.full c.index.result.now)
 
 pub unwrap-id-requires : goal.unwrap-id-requires
 unwrap-id-requires c =
-    let stays = spare-written c.args.pool.now c.index.result.now.id c.cut-halves.new.frame (ap is_some c.frame_mut.ensures.value) in
-    ok_from c.take_frame.result (λ err. let none = c.take_frame.ensures.none_spare.0 err in absurd (omega (arith, c.requires.spare)))
+    let stays = spare-written c.args.pool.now c.index.result.now.id c.cut-halves.new.frame
+    (ap is_some c.frame_mut.ensures.value) in
+    ok_from c.take_frame.result (λ err. let none = c.take_frame.ensures.none_spare.0 err in absurd
+    (omega (arith, c.requires.spare)))
 
 pub overflow_add-first : goal.overflow_add-first
 overflow_add-first c =
-    let is : IsRead c.args.pool.now c.args.pages.now.items c.args.k c.index.result.now c.frame_mut.result.now =
-    record { paged = c.requires.pages; within = within_from c.args.pages.now c.args.k c.requires.within; read = c.index.ensures; there = c.frame_mut.ensures.value } in
+    let is : IsRead c.args.pool.now c.args.pages.now.items c.args.k c.index.result.now
+    c.frame_mut.result.now =
+    record {
+      paged = c.requires.pages;
+      within = within_from c.args.pages.now c.args.k c.requires.within;
+      read = c.index.ensures;
+      there = c.frame_mut.ensures.value;
+    } in
     let full = full_frame _ _ _ _ _ is (c.requires.full c.index.result.now) in
-    omega (arith, first_small _ _ _ _ c.index_mut-page.result.now _ is full c.index_mut-page.ensures.value c.requires.few)
+    omega (
+      arith,
+      first_small _ _ _ _ c.index_mut-page.result.now _ is full c.index_mut-page.ensures.value
+          c.requires.few,
+    )
 
 pub returns-clause-pages : goal.returns-clause-pages
 returns-clause-pages c =
-    let is : IsRead c.args.pool.now c.args.pages.now.items c.args.k c.index.result.now c.frame_mut.result.now =
-    record { paged = c.requires.pages; within = within_from c.args.pages.now c.args.k c.requires.within; read = c.index.ensures; there = c.frame_mut.ensures.value } in
+    let is : IsRead c.args.pool.now c.args.pages.now.items c.args.k c.index.result.now
+    c.frame_mut.result.now =
+    record {
+      paged = c.requires.pages;
+      within = within_from c.args.pages.now c.args.k c.requires.within;
+      read = c.index.ensures;
+      there = c.frame_mut.ensures.value;
+    } in
     let below : FitsSigned w128 c.cut-halves.result.lower_stair = search rules in
     let above : FitsSigned w128 c.cut-halves.result.upper_stair = search rules in
     let lower = to_z-of_z w128 c.cut-halves.result.lower_stair below ∙ c.cut-halves.ensures.lower_stair in
     let upper = to_z-of_z w128 c.cut-halves.result.upper_stair above ∙ c.cut-halves.ensures.upper_stair in
     let full = full_frame _ _ _ _ _ is (c.requires.full c.index.result.now) in
-    let takes : Takes (set c.args.pool.now c.index.result.now.id (Some c.cut-halves.new.frame)) c.unwrap-id.result c.take_frame.new.self =
+    let takes : Takes (set c.args.pool.now c.index.result.now.id (Some c.cut-halves.new.frame))
+    c.unwrap-id.result c.take_frame.new.self =
     rw c.unwrap-id.ensures at c.take_frame.ensures.taken in
     rw c.insert_page.ensures.list
-    (pages_cut _ _ _ _ _ _ c.index_mut-page.result.now _ _ _ _ _ lower upper is full c.cut-halves.ensures.lower c.cut-halves.ensures.upper c.cut-halves.ensures.lower_records
+    (pages_cut _ _ _ _ _ _ c.index_mut-page.result.now _ _ _ _ _ lower upper is full
+    c.cut-halves.ensures.lower c.cut-halves.ensures.upper c.cut-halves.ensures.lower_records
     c.cut-halves.ensures.upper_records takes c.index_mut-page.ensures.value)
 
 pub returns-clause-records : goal.returns-clause-records
 returns-clause-records c =
-    let is : IsRead c.args.pool.now c.args.pages.now.items c.args.k c.index.result.now c.frame_mut.result.now =
-    record { paged = c.requires.pages; within = within_from c.args.pages.now c.args.k c.requires.within; read = c.index.ensures; there = c.frame_mut.ensures.value } in
+    let is : IsRead c.args.pool.now c.args.pages.now.items c.args.k c.index.result.now
+    c.frame_mut.result.now =
+    record {
+      paged = c.requires.pages;
+      within = within_from c.args.pages.now c.args.k c.requires.within;
+      read = c.index.ensures;
+      there = c.frame_mut.ensures.value;
+    } in
     let below : FitsSigned w128 c.cut-halves.result.lower_stair = search rules in
     let above : FitsSigned w128 c.cut-halves.result.upper_stair = search rules in
     let lower = to_z-of_z w128 c.cut-halves.result.lower_stair below ∙ c.cut-halves.ensures.lower_stair in
     let upper = to_z-of_z w128 c.cut-halves.result.upper_stair above ∙ c.cut-halves.ensures.upper_stair in
     let full = full_frame _ _ _ _ _ is (c.requires.full c.index.result.now) in
-    let takes : Takes (set c.args.pool.now c.index.result.now.id (Some c.cut-halves.new.frame)) c.unwrap-id.result c.take_frame.new.self =
+    let takes : Takes (set c.args.pool.now c.index.result.now.id (Some c.cut-halves.new.frame))
+    c.unwrap-id.result c.take_frame.new.self =
     rw c.unwrap-id.ensures at c.take_frame.ensures.taken in
     rw c.insert_page.ensures.list
-    (records-cut _ _ _ _ _ _ c.index_mut-page.result.now _ _ _ _ _ lower upper is full c.cut-halves.ensures.lower c.cut-halves.ensures.upper c.cut-halves.ensures.lower_records
+    (records-cut _ _ _ _ _ _ c.index_mut-page.result.now _ _ _ _ _ lower upper is full
+    c.cut-halves.ensures.lower c.cut-halves.ensures.upper c.cut-halves.ensures.lower_records
     c.cut-halves.ensures.upper_records takes c.index_mut-page.ensures.value)
 
 pub returns-clause-lower : goal.returns-clause-lower
 returns-clause-lower c = λ d.
-    let is : IsRead c.args.pool.now c.args.pages.now.items c.args.k c.index.result.now c.frame_mut.result.now =
-    record { paged = c.requires.pages; within = within_from c.args.pages.now c.args.k c.requires.within; read = c.index.ensures; there = c.frame_mut.ensures.value } in
+    let is : IsRead c.args.pool.now c.args.pages.now.items c.args.k c.index.result.now
+    c.frame_mut.result.now =
+    record {
+      paged = c.requires.pages;
+      within = within_from c.args.pages.now c.args.k c.requires.within;
+      read = c.index.ensures;
+      there = c.frame_mut.ensures.value;
+    } in
     let below : FitsSigned w128 c.cut-halves.result.lower_stair = search rules in
     let above : FitsSigned w128 c.cut-halves.result.upper_stair = search rules in
     let lower = to_z-of_z w128 c.cut-halves.result.lower_stair below ∙ c.cut-halves.ensures.lower_stair in
     let upper = to_z-of_z w128 c.cut-halves.result.upper_stair above ∙ c.cut-halves.ensures.upper_stair in
     let full = full_frame _ _ _ _ _ is (c.requires.full c.index.result.now) in
-    let takes : Takes (set c.args.pool.now c.index.result.now.id (Some c.cut-halves.new.frame)) c.unwrap-id.result c.take_frame.new.self =
+    let takes : Takes (set c.args.pool.now c.index.result.now.id (Some c.cut-halves.new.frame))
+    c.unwrap-id.result c.take_frame.new.self =
     rw c.unwrap-id.ensures at c.take_frame.ensures.taken in
     rw c.insert_page.ensures.list
-    (lower_len _ _ _ _ _ _ c.index_mut-page.result.now _ _ _ _ _ lower upper is full c.cut-halves.ensures.lower c.cut-halves.ensures.upper c.cut-halves.ensures.lower_records
+    (lower_len _ _ _ _ _ _ c.index_mut-page.result.now _ _ _ _ _ lower upper is full
+    c.cut-halves.ensures.lower c.cut-halves.ensures.upper c.cut-halves.ensures.lower_records
     c.cut-halves.ensures.upper_records takes c.index_mut-page.ensures.value d)
 
 pub returns-clause-upper : goal.returns-clause-upper
 returns-clause-upper c = λ d.
-    let is : IsRead c.args.pool.now c.args.pages.now.items c.args.k c.index.result.now c.frame_mut.result.now =
-    record { paged = c.requires.pages; within = within_from c.args.pages.now c.args.k c.requires.within; read = c.index.ensures; there = c.frame_mut.ensures.value } in
+    let is : IsRead c.args.pool.now c.args.pages.now.items c.args.k c.index.result.now
+    c.frame_mut.result.now =
+    record {
+      paged = c.requires.pages;
+      within = within_from c.args.pages.now c.args.k c.requires.within;
+      read = c.index.ensures;
+      there = c.frame_mut.ensures.value;
+    } in
     let below : FitsSigned w128 c.cut-halves.result.lower_stair = search rules in
     let above : FitsSigned w128 c.cut-halves.result.upper_stair = search rules in
     let lower = to_z-of_z w128 c.cut-halves.result.lower_stair below ∙ c.cut-halves.ensures.lower_stair in
     let upper = to_z-of_z w128 c.cut-halves.result.upper_stair above ∙ c.cut-halves.ensures.upper_stair in
     let full = full_frame _ _ _ _ _ is (c.requires.full c.index.result.now) in
-    let takes : Takes (set c.args.pool.now c.index.result.now.id (Some c.cut-halves.new.frame)) c.unwrap-id.result c.take_frame.new.self =
+    let takes : Takes (set c.args.pool.now c.index.result.now.id (Some c.cut-halves.new.frame))
+    c.unwrap-id.result c.take_frame.new.self =
     rw c.unwrap-id.ensures at c.take_frame.ensures.taken in
     rw c.insert_page.ensures.list
-    (upper_len _ _ _ _ _ _ c.index_mut-page.result.now _ _ _ _ _ lower upper is full c.cut-halves.ensures.lower c.cut-halves.ensures.upper c.cut-halves.ensures.lower_records
+    (upper_len _ _ _ _ _ _ c.index_mut-page.result.now _ _ _ _ _ lower upper is full
+    c.cut-halves.ensures.lower c.cut-halves.ensures.upper c.cut-halves.ensures.lower_records
     c.cut-halves.ensures.upper_records takes c.index_mut-page.ensures.value d)
 
 pub returns-clause-list : goal.returns-clause-list
 returns-clause-list c =
-    let is : IsRead c.args.pool.now c.args.pages.now.items c.args.k c.index.result.now c.frame_mut.result.now =
-    record { paged = c.requires.pages; within = within_from c.args.pages.now c.args.k c.requires.within; read = c.index.ensures; there = c.frame_mut.ensures.value } in
+    let is : IsRead c.args.pool.now c.args.pages.now.items c.args.k c.index.result.now
+    c.frame_mut.result.now =
+    record {
+      paged = c.requires.pages;
+      within = within_from c.args.pages.now c.args.k c.requires.within;
+      read = c.index.ensures;
+      there = c.frame_mut.ensures.value;
+    } in
     record {
       lower = _;
       upper = _;
       list = c.insert_page.ensures.list;
-      start = ap (λ (p : Page). p.start) (c.index_mut-page.ensures.value ∙ get_or_default c.args.pages.now.items c.args.k _ _ is.within);
+      start = ap (λ (p : Page). p.start) (c.index_mut-page.ensures.value
+          ∙ get_or_default c.args.pages.now.items c.args.k _ _ is.within);
     }

@@ -1,9 +1,9 @@
-use Rattle.std.proofs.Common.{◌≡◌, ◌+◌, ◌-◌, take, drop, refl, ap, ◌∙◌, arith, rules}
+use Rattle.std.proofs.Common.{◌≡◌, ◌-◌, take, drop, refl, ap, ◌∙◌, arith, rules}
 use Rattle.std.specs.Prelude.{FitsSigned}
-use Rattle.std.specs.Int.{w64, int_max}
+use Rattle.std.specs.Int.{w64}
 use Rattle.std.proofs.lemmas.Int.{to_z-of_z}
 use Rattle.late_insert.specs.Totals.{greatest_of}
-use Rattle.late_insert.proofs.Summing.{points_in, value_fits, IsTotal, total_first, greatest_total}
+use Rattle.late_insert.proofs.Summing.{points_in, value_fits, total_first, greatest_total}
 use Rattle.late_insert.proofs.total.high_between.Goals as goal
 
 pub loop-i-init : goal.loop-i-init
@@ -12,7 +12,8 @@ loop-i-init c =
     let fits = value_fits c.point_at-high.result c.point_at-high.ensures.range in
     record {
       total = simp to_z-of_z
-          (total_first greatest_of c.args.frame.now c.args.start c.point_at-high.result c.point_at-high.result.v (omega arith) c.point_at-high.ensures.value refl);
+          (total_first greatest_of c.args.frame.now c.args.start c.point_at-high.result
+          c.point_at-high.result.v (omega arith) c.point_at-high.ensures.value refl);
       upto = omega (arith, c.requires.some);
     }
 
@@ -21,8 +22,14 @@ loop-i-preserved c =
     let high : FitsSigned w64 c.max-high.result = search rules in
     let value = value_fits c.point_at.result c.point_at.ensures.range in
     record {
-      total = rw (to_z-of_z w64 c.max-high.result high, c.max-high.ensures.value, to_z-of_z w64 c.point_at.result.v value)
-          (greatest_total c.args.frame.now c.args.start c.loop-i.i c.loop-i.invariant.total.below (omega (arith, c.loop-i-test.true, c.requires.within))
+      total = rw (
+        to_z-of_z w64 c.max-high.result high,
+        c.max-high.ensures.value,
+        to_z-of_z w64
+            c.point_at.result.v value,
+      )
+          (greatest_total c.args.frame.now c.args.start c.loop-i.i c.loop-i.invariant.total.below
+          (omega (arith, c.loop-i-test.true, c.requires.within))
           c.point_at.result _ c.loop-i.invariant.total c.point_at.ensures.value);
       upto = omega (arith, c.loop-i-test.true);
     }
@@ -30,4 +37,5 @@ loop-i-preserved c =
 pub returns : goal.returns
 returns c =
     let all : c.loop-i.i ≡ c.args.end = omega (arith, c.loop-i.invariant.upto) in
-    c.loop-i.invariant.total.is ∙ ap (λ n. greatest_of (take (n - c.args.start) (drop c.args.start (points_in c.args.frame.now)))) all
+    c.loop-i.invariant.total.is ∙ ap (λ n. greatest_of
+    (take (n - c.args.start) (drop c.args.start (points_in c.args.frame.now)))) all

@@ -1,4 +1,4 @@
-use Rattle.std.proofs.Common.{◌≡◌, ◌-◌, ◌≤◌}
+use Rattle.std.proofs.Common.{◌≤◌}
 use Rattle.late_insert.specs.Totals.{greatest_of}
 use Rattle.late_insert.proofs.Summing.{IsTotal}
 use Rattle.late_insert.proofs.total.high_between.Given as goal

@@ -1,6 +1,4 @@
-use Rattle.std.proofs.Common.{subst, sym}
 use Rattle.std.proofs.lemmas.Int.{to_z-of_z}
-use Rattle.trend_num.specs.Ranges.{InRange}
 use Rattle.late_insert.specs.Pages.{rec_in}
 use Rattle.late_insert.proofs.Summing.{rec_in_range, value_fits}
 use Rattle.late_insert.proofs.total.point_at.Goals as goal

@@ -9,5 +9,6 @@ page_of-requires-clause-rising c = firsts_rise c.args.pool.now 0 c.args.pages.no
 pub invariant_of-result : goal.invariant_of-result
 invariant_of-result c =
     let few : c.args.behind < 2 ^ 32 = search rules in
-    walk_first c.args.pool.now c.args.pages.now c.page_of.result c.args.first c.args.behind c.requires.pages c.page_of.ensures.within
+    walk_first c.args.pool.now c.args.pages.now c.page_of.result c.args.first c.args.behind c.requires.pages
+    c.page_of.ensures.within
     c.requires.order c.requires.within few c.page_of.ensures.before c.page_of.ensures.after

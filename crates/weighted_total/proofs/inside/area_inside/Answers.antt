@@ -1,50 +1,69 @@
-use Rattle.std.proofs.Common.{◌≡◌, ◌+◌, ◌∙◌, true, ap, arith, not}
+use Rattle.std.proofs.Common.{◌≡◌, [], refl, ap, sym, ◌∙◌, All, rules, arith}
+use Rattle.std.specs.Prelude.{FitsSigned, slice_range}
+use Rattle.std.specs.Int.{w128}
+use Rattle.std.proofs.lemmas.Int.{to_z-of_z}
 use Rattle.trend_model.specs.Contents.{points_of}
-use Rattle.weighted_total.proofs.Walking.{area_walked, is_step, last_walked}
+use Rattle.weighted_total.proofs.Walking.{IsRunOf, inner_range, taken_none, walk_step, walk_more, walk_all}
 use Rattle.weighted_total.proofs.inside.area_inside.Goals as goal
+
+pub loop-run-init : goal.loop-run-init
+loop-run-init c = record {
+  walked = record { taken = []; is = taken_none _ _ c.runs-runs.ensures; twice_is = refl; last_is = refl };
+  range = c.requires.start;
+}
 
 pub joined-area-requires-clause-order : goal.joined-area-requires-clause-order
 joined-area-requires-clause-order c =
-    let ps = points_of c.args.content.now.records in
-    let next =
-    is_step ps c.args.start c.args.first c.loop-i.i c.args.behind c.part_at-part.result c.args.step
-    c.part_at-part.ensures.part
-    c.loop-i.invariant.from c.requires.start c.len-len.ensures.range c.requires.rises in
-    rw c.loop-i.invariant.last next.order
+    let walk = c.loop-run.invariant.walked in
+    let inner = slice_range (points_of c.args.content.now.records) c.args.first c.args.behind in
+    let next : IsRunOf c.loop-run.runs c.in-Some.run' c.next.new.self c.first.result c.last.result =
+    record { split = c.in-Some.ensures.front; first = c.first.ensures.value; last = c.last.ensures.value } in
+    let range = inner_range c.args.content.now.records c.args.first c.args.behind c.len-len.ensures.range in
+    let fits : FitsSigned w128 c.area.result = search rules in
+    let step = walk_step c.args.step c.args.start inner _ _ _ _ _ _ _ walk next c.requires.start range
+    c.requires.rises in
+    step.order
 
 pub joined-area-requires-clause-small : goal.joined-area-requires-clause-small
 joined-area-requires-clause-small c =
-    let ps = points_of c.args.content.now.records in
-    let next =
-    is_step ps c.args.start c.args.first c.loop-i.i c.args.behind c.part_at-part.result c.args.step
-    c.part_at-part.ensures.part
-    c.loop-i.invariant.from c.requires.start c.len-len.ensures.range c.requires.rises in
-    rw c.loop-i.invariant.twice next.small
+    let walk = c.loop-run.invariant.walked in
+    let inner = slice_range (points_of c.args.content.now.records) c.args.first c.args.behind in
+    let next : IsRunOf c.loop-run.runs c.in-Some.run' c.next.new.self c.first.result c.last.result =
+    record { split = c.in-Some.ensures.front; first = c.first.ensures.value; last = c.last.ensures.value } in
+    let range = inner_range c.args.content.now.records c.args.first c.args.behind c.len-len.ensures.range in
+    let fits : FitsSigned w128 c.area.result = search rules in
+    let step = walk_step c.args.step c.args.start inner _ _ _ _ _ _ _ walk next c.requires.start range
+    c.requires.rises in
+    step.small
 
 pub joined-area-requires-clause-small_part : goal.joined-area-requires-clause-small_part
 joined-area-requires-clause-small_part c =
-    let ps = points_of c.args.content.now.records in
-    let next =
-    is_step ps c.args.start c.args.first c.loop-i.i c.args.behind c.part_at-part.result c.args.step
-    c.part_at-part.ensures.part
-    c.loop-i.invariant.from c.requires.start c.len-len.ensures.range c.requires.rises in
-    next.small_part
+    let walk = c.loop-run.invariant.walked in
+    let inner = slice_range (points_of c.args.content.now.records) c.args.first c.args.behind in
+    let next : IsRunOf c.loop-run.runs c.in-Some.run' c.next.new.self c.first.result c.last.result =
+    record { split = c.in-Some.ensures.front; first = c.first.ensures.value; last = c.last.ensures.value } in
+    let range = inner_range c.args.content.now.records c.args.first c.args.behind c.len-len.ensures.range in
+    let fits : FitsSigned w128 c.area.result = search rules in
+    let step = walk_step c.args.step c.args.start inner _ _ _ _ _ _ _ walk next c.requires.start range
+    c.requires.rises in
+    rw (to_z-of_z w128 c.area.result fits, c.area.ensures) step.small_part
 
-pub loop-i-preserved : goal.loop-i-preserved
-loop-i-preserved c =
-    let ps = points_of c.args.content.now.records in
-    let part = c.part_at-part.result in
-    let is = c.part_at-part.ensures.part in
-    let from = c.loop-i.invariant.from in
-    let single : c.args.step ≡ true → part.next ≡ c.loop-i.i + 1 =
-    λ h. c.part_at-part.ensures.single (ap not h) in
-    let sums =
-    area_walked ps c.args.start c.args.first c.loop-i.i c.args.behind part c.args.step is from single in
+pub loop-run-preserved : goal.loop-run-preserved
+loop-run-preserved c =
+    let walk = c.loop-run.invariant.walked in
+    let inner = slice_range (points_of c.args.content.now.records) c.args.first c.args.behind in
+    let next : IsRunOf c.loop-run.runs c.in-Some.run' c.next.new.self c.first.result c.last.result =
+    record { split = c.in-Some.ensures.front; first = c.first.ensures.value; last = c.last.ensures.value } in
+    let fits : FitsSigned w128 c.area.result = search rules in
+    let part = rw (to_z-of_z w128 c.area.result fits, c.area.ensures) at c.joined-area.ensures.twice in
     record {
-      from = omega (arith, is.some);
-      upto = is.within;
-      twice = c.joined-area.ensures.twice ∙ rw (c.loop-i.invariant.twice, c.loop-i.invariant.last) sums;
-      last = c.joined-area.ensures.last
-          ∙ last_walked ps c.args.start c.args.first c.loop-i.i c.args.behind part is from;
-      range = rw c.joined-area.ensures.last c.part_at-part.ensures.last;
+      walked = rw c.joined-area.ensures.last
+          (walk_more c.args.step c.args.start inner _ _ _ _ _ _ _ walk next c.joined-area.result.twice part);
+      range = rw c.joined-area.ensures.last c.last.ensures.range;
     }
+
+pub returns : goal.returns
+returns c =
+    let all = walk_all c.args.step c.args.start _ _ _ _ c.loop-run.invariant.walked
+    c.in_default.ensures.none in
+    record { area = all.0; last = all.1; range = c.loop-run.invariant.range }

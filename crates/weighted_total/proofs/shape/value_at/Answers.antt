@@ -1,3 +1,5 @@
+use Rattle.std.proofs.Common.{ap, ◌∙◌}
+use Rattle.trend_model.specs.Reads.{value_read}
 use Rattle.trend_model.specs.Contents.{points_of}
 use Rattle.trend_model.proofs.ReadLaw.{points_rise}
 use Rattle.interp_read.specs.Closing.{points_closed_by}
@@ -15,4 +17,12 @@ value_of-requires c =
     (points_rise l c.len-len.ensures.rising) closing.whole closing.later in
     let range =
     closed_in_range c.args.held cs (points_of l) closing c.requires.range c.len-len.ensures.range in
-    rw c.read.ensures (readable c.args.step cs c.args.t rises range)
+    rw (c.reading_of.ensures cs c.requires.near) (readable c.args.step cs c.args.t rises range)
+
+pub reading_of-requires-clause-near : goal.reading_of-requires-clause-near
+reading_of-requires-clause-near c = (points_closed_by c.args.held c.args.content.now.records, c.requires.near)
+
+pub returns : goal.returns
+returns c =
+    c.value_of.ensures ∙ ap value_read (c.reading_of.ensures
+    (points_closed_by c.args.held c.args.content.now.records) c.requires.near)

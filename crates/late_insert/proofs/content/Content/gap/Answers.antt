@@ -1,5 +1,4 @@
-use Rattle.std.proofs.Common.{◌≡◌, ◌+◌, ◌<◌, ◌≤◌, All, take, drop, ap, sym, ◌∙◌, length, subst, arith}
-use Rattle.std.specs.Prelude.{slice_range}
+use Rattle.std.proofs.Common.{ap, subst}
 use Rattle.trend_model.specs.Contents.{IsRising}
 use Rattle.late_insert.proofs.content.Content.gap.Goals as goal
 

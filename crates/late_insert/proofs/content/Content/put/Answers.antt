@@ -5,7 +5,8 @@ use Rattle.late_insert.proofs.Keeping.{frame_spare}
 use Rattle.late_insert.proofs.content.Content.put.Goals as goal
 
 pub open_page-requires-clause-spare : goal.open_page-requires-clause-spare
-open_page-requires-clause-spare c = frame_spare c.self.inside.pool c.self.inside.pages.items _ _ _ c.self.invariant
+open_page-requires-clause-spare c = frame_spare c.self.inside.pool c.self.inside.pages.items _ _ _
+    c.self.invariant
 
 pub open_page-requires-clause-room : goal.open_page-requires-clause-room
 open_page-requires-clause-room c =
@@ -15,11 +16,13 @@ open_page-requires-clause-room c =
 pub returns-then-is_full_before-clause-content : goal.returns-then-is_full_before-clause-content
 returns-then-is_full_before-clause-content c = λ rs is.
     let seen = ap (λ s. s.records) c.self.view_is in
-    subst (IsContentOf (rs ++ c.args.rec ∷ [])) (sym (c.open_page.ensures.records ∙ ap (placed c.args.rec) seen))
+    subst (IsContentOf (rs ++ c.args.rec ∷ []))
+    (sym (c.open_page.ensures.records ∙ ap (placed c.args.rec) seen))
     (content_more rs c.args.self.now.records c.args.rec is)
 
 pub make_room-k-requires-clause-spare : goal.make_room-k-requires-clause-spare
-make_room-k-requires-clause-spare c = frame_spare c.self.inside.pool c.self.inside.pages.items _ _ _ c.self.invariant
+make_room-k-requires-clause-spare c = frame_spare c.self.inside.pool c.self.inside.pages.items _ _ _
+    c.self.invariant
 
 pub make_room-k-requires-clause-room : goal.make_room-k-requires-clause-room
 make_room-k-requires-clause-room c =

@@ -1,4 +1,4 @@
-use Rattle.std.proofs.Common.{◌≡◌, ◌≤◌, true, false, sym, ap, ◌∙◌, rules, arith}
+use Rattle.std.proofs.Common.{true, false, sym, ap, ◌∙◌, rules, arith}
 use Rattle.std.specs.Prelude.{FitsSigned}
 use Rattle.std.specs.Int.{w128}
 use Rattle.std.proofs.lemmas.Int.{to_z-of_z}
@@ -11,7 +11,8 @@ returns-then-step c =
     let run = c.self.invariant in
     let stair = c.self.inside.stair in
     let fits : FitsSigned w128 stair = search rules in
-    let all = all_range c.self.inside.frame.now c.self.inside.start c.self.inside.end run.some run.within (omega arith) in
+    let all = all_range c.self.inside.frame.now c.self.inside.start c.self.inside.end run.some run.within
+    (omega arith) in
     rw c.if-step.true (to_z-of_z w128 stair fits ∙ (run.stair_is ∙ ap (area true) (sym all ∙ c.self.view_is)))
 
 pub returns-else-step : goal.returns-else-step
@@ -20,4 +21,5 @@ returns-else-step c =
     let run = c.self.invariant in
     let fits : FitsSigned w128 f.area = search rules in
     let all = all_range f c.self.inside.start c.self.inside.end run.some run.within (omega arith) in
-    rw c.if-step.false (to_z-of_z w128 f.area fits ∙ (run.page.area ∙ ap (area false) (sym all ∙ c.self.view_is)))
+    rw c.if-step.false (to_z-of_z w128 f.area fits
+    ∙ (run.page.area ∙ ap (area false) (sym all ∙ c.self.view_is)))

@@ -1,6 +1,5 @@
-use Rattle.std.proofs.Common.{◌≡◌, ◌+◌, ◌<◌, ◌≤◌, sym, ◌∙◌, get_or, arith}
+use Rattle.std.proofs.Common.{◌<◌, sym, ◌∙◌, get_or, arith}
 use Rattle.std.proofs.lemmas.List.{get_or_default}
-use Rattle.late_insert.specs.declared.directory.Page.{Page}
 use Rattle.late_insert.proofs.Reading.{IsRead, is_read, place_on, stair_again}
 use Rattle.late_insert.proofs.Walking.{run_is, run_some, walk_on, walk_split}
 use Rattle.late_insert.proofs.walk.Runs.next.Goals as goal
@@ -15,7 +14,8 @@ overflow_sub-run c =
     let p = get_or pages k c.index-self-self.result in
     let again = get_or_default pages k c.index-self-self.result p within in
     let is : IsRead c.self.inside.pool.now pages k p c.frame-frame.result.now =
-    is_read c.self.inside.pool.now pages k p c.frame-frame.result.now walk.paged within again c.frame-frame.ensures in
+    is_read c.self.inside.pool.now pages k p c.frame-frame.result.now walk.paged within again
+    c.frame-frame.ensures in
     (place_on _ _ _ _ _ is c.self.inside.place (walk.at more)).0
 
 pub overflow_sub-self-inside : goal.overflow_sub-self-inside
@@ -28,7 +28,8 @@ overflow_sub-self-inside c =
     let p = get_or pages k c.index-self-self.result in
     let again = get_or_default pages k c.index-self-self.result p within in
     let is : IsRead c.self.inside.pool.now pages k p c.frame-frame.result.now =
-    is_read c.self.inside.pool.now pages k p c.frame-frame.result.now walk.paged within again c.frame-frame.ensures in
+    is_read c.self.inside.pool.now pages k p c.frame-frame.result.now walk.paged within again
+    c.frame-frame.ensures in
     let place = place_on _ _ _ _ _ is c.self.inside.place (walk.at more) in
     omega (arith, place.0)
 
@@ -42,7 +43,8 @@ invariant_of-run c =
     let p = get_or pages k c.index-self-self.result in
     let again = get_or_default pages k c.index-self-self.result p within in
     let is : IsRead c.self.inside.pool.now pages k p c.frame-frame.result.now =
-    is_read c.self.inside.pool.now pages k p c.frame-frame.result.now walk.paged within again c.frame-frame.ensures in
+    is_read c.self.inside.pool.now pages k p c.frame-frame.result.now walk.paged within again
+    c.frame-frame.ensures in
     run_is _ _ _ _ _ c.min.result _ _ walk more is c.min.ensures _ (stair_again _ _ _ _ _ is p again)
 
 pub invariant_of-self : goal.invariant_of-self
@@ -55,11 +57,12 @@ invariant_of-self c =
     let p = get_or pages k c.index-self-self.result in
     let again = get_or_default pages k c.index-self-self.result p within in
     let is : IsRead c.self.inside.pool.now pages k p c.frame-frame.result.now =
-    is_read c.self.inside.pool.now pages k p c.frame-frame.result.now walk.paged within again c.frame-frame.ensures in
+    is_read c.self.inside.pool.now pages k p c.frame-frame.result.now walk.paged within again
+    c.frame-frame.ensures in
     walk_on _ _ _ _ _ c.min.result _ _ walk more is c.min.ensures
 
-pub returns-clause-run : goal.returns-clause-run
-returns-clause-run c =
+pub returns-clause-front : goal.returns-clause-front
+returns-clause-front c =
     let walk = c.self.invariant in
     let more : c.self.inside.place < c.self.inside.end = omega (arith, walk.ordered) in
     let within = (walk.at more).within in
@@ -68,7 +71,8 @@ returns-clause-run c =
     let p = get_or pages k c.index-self-self.result in
     let again = get_or_default pages k c.index-self-self.result p within in
     let is : IsRead c.self.inside.pool.now pages k p c.frame-frame.result.now =
-    is_read c.self.inside.pool.now pages k p c.frame-frame.result.now walk.paged within again c.frame-frame.ensures in
+    is_read c.self.inside.pool.now pages k p c.frame-frame.result.now walk.paged within again
+    c.frame-frame.ensures in
     sym c.self.view_is ∙ walk_split _ _ _ _ _ c.min.result _ _ walk more is c.min.ensures
 
 pub returns-clause-some : goal.returns-clause-some
@@ -81,5 +85,6 @@ returns-clause-some c =
     let p = get_or pages k c.index-self-self.result in
     let again = get_or_default pages k c.index-self-self.result p within in
     let is : IsRead c.self.inside.pool.now pages k p c.frame-frame.result.now =
-    is_read c.self.inside.pool.now pages k p c.frame-frame.result.now walk.paged within again c.frame-frame.ensures in
+    is_read c.self.inside.pool.now pages k p c.frame-frame.result.now walk.paged within again
+    c.frame-frame.ensures in
     run_some _ _ _ _ _ c.min.result _ _ walk more is c.min.ensures
