@@ -88,19 +88,19 @@ impl Intake {
         let Standing::Taken = self.standing else {
             return rest;
         };
-        let mut rows = self.rows;
-        while rows < MAX_ROWS
+        let mut left = MAX_ROWS - self.rows;
+        while left > 0
             && let Some((point, after)) = plain_point(rest)
         {
             match self.core.take(point, steps) {
                 Ok(_) => {
                     rest = after;
-                    rows += 1;
+                    left -= 1;
                 }
                 Err(_) => break,
             }
         }
-        self.rows = rows;
+        self.rows = MAX_ROWS - left;
         rest
     }
 

@@ -1,5 +1,5 @@
 // A line as most are, read in one pass, eight digits at a time.
-ghost use Rattle.std.specs.Prelude.{◌≡◌, ℕ, ◌+◌, ◌-◌, ◌*◌, ◌%◌, ◌^◌, ◌<◌, ◌≤◌, true, length, take, drop, nat_le, slice_range, List, IfSome};
+ghost use Rattle.std.specs.Prelude.{◌≡◌, ℕ, ◌+◌, ◌-◌, ◌*◌, ◌%◌, ◌^◌, ◌<◌, ◌≤◌, true, length, get_or, take, drop, nat_le, slice_range, List, IfSome};
 ghost use Rattle.std.specs.Char.{is_ascii_digit};
 ghost use Rattle.std.specs.List.{list_all};
 ghost use Rattle.std.specs.Float.Numeral.{digits_len};
@@ -9,8 +9,8 @@ ghost use Rattle.core.specs.Slice.Scan.{digits_from, flag_word, little_endian};
 ghost use Rattle.core.specs.Str.Parse.{digits_value as ascii_value};
 ghost use lib.Lanes.{number_l};
 ghost use Rattle.trend_num.specs.Numerals.{digits_value};
-ghost use Rattle.trend_num.specs.Ranges.{InRange};
-ghost use Rattle.point_text.specs.FirstPoint.{EndsAt, IsFirstPoint};
+ghost use Rattle.trend_num.specs.Ranges.{InRange, largest_value, last_time};
+ghost use Rattle.point_text.specs.FirstPoint.{EndsAt, IsField, IsFirstPoint};
 
 use core::dec2flt::ten_to;
 use trend_num::{MAX_T, MAX_V, Point};
@@ -20,6 +20,9 @@ const PLAIN_DIGITS: usize = 16;
 
 /// The most bytes of a plain line: two numbers, a comma, a sign, a carriage return and a line feed.
 const PLAIN_BYTES: usize = 2 * PLAIN_DIGITS + 4;
+
+/// The digits of a usual time: milliseconds from 2001 to 2286.
+const USUAL_DIGITS: usize = 13;
 
 /// The point of a plain line that a text begins with, and what follows the line. Plain is a line whose numbers are in range
 /// and of 1 to 16 digits, with a `-` at most before the value, and after it a line feed or `\r` and a line feed. None says
@@ -33,21 +36,81 @@ pub fn plain_point(text: &[u8]) -> Option<(Point, &[u8])>
     if text.len() < PLAIN_BYTES {
         return None;
     }
+    match usual_time(text) {
+        Some(t) => point_after(text, t, USUAL_DIGITS),
+        None => point_of_other_time(text),
+    }
+}
+
+/// The usual time that a text begins with, where its comma follows it.
+#[inline(always)]
+fn usual_time(text: &[u8]) -> Option<u64>
+    requires { PLAIN_BYTES ≤ length text.now }
+    ensures time { IfSome result (IsField text.now 0 USUAL_DIGITS 44) }
+    ensures in_range { IfSome result (λ t. t ≤ last_time) }
+{
+    let (t, comma) = digits(text, 0);
+    if comma == USUAL_DIGITS && text[comma] == b',' {
+        Some(t)
+    } else {
+        None
+    }
+}
+
+/// The point of a plain line, whatever its time, and what follows the line.
+#[inline(never)]
+fn point_of_other_time(text: &[u8]) -> Option<(Point, &[u8])>
+    requires { PLAIN_BYTES ≤ length text.now }
+    ensures point { IfSome result (λ p. IsFirstPoint text.now p.1.now (Ok p.0)) }
+    ensures in_range { IfSome result (λ p. InRange p.0) }
+    ensures shorter { IfSome result (λ p. length p.1.now < length text.now) }
+{
     let (t, comma) = digits(text, 0);
     if comma == 0 || text[comma] != b',' || t > MAX_T {
         return None;
     }
+    point_after(text, t, comma)
+}
+
+/// The point of a plain line with this time and this place of its comma, and what follows the line.
+#[inline(always)]
+fn point_after(text: &[u8], t: u64, comma: usize) -> Option<(Point, &[u8])>
+    requires time { IsField text.now 0 comma 44 t }
+    requires in_range { t ≤ last_time }
+    requires long { PLAIN_BYTES ≤ length text.now }
+    ensures point { IfSome result (λ p. IsFirstPoint text.now p.1.now (Ok p.0)) }
+    ensures in_range { IfSome result (λ p. InRange p.0) }
+    ensures shorter { IfSome result (λ p. length p.1.now < length text.now) }
+{
     let sign = comma + 1;
     let negative = text[sign] == b'-';
     let from = sign + usize::from(negative);
+    let (size, end) = amount(text, from)?;
+    let feed = feed_at(text, end)?;
+    let value = size as i64;
+    let v = if negative { -value } else { value };
+    Some((Point { t, v }, &text[feed + 1..]))
+}
+
+/// The amount of a value that the digits from an index on spell, and the index after them.
+#[inline(always)]
+fn amount(text: &[u8], from: usize) -> Option<(u64, usize)>
+    requires { from + PLAIN_DIGITS < length text.now }
+    ensures amount { IfSome result (λ p. IsField text.now from p.1 (get_or text.now p.1 0) p.0) }
+    ensures in_range { IfSome result (λ p. p.0 ≤ largest_value) }
+{
+    let (count, size) = digits_of_word(word_at(text, from));
+    if count == 0 {
+        return None;
+    }
+    if count < 8 {
+        return Some((size, from + count));
+    }
     let (size, end) = digits(text, from);
     if end == from || size > MAX_V as u64 {
         return None;
     }
-    let feed = feed_at(text, end)?;
-    let amount = size as i64;
-    let v = if negative { -amount } else { amount };
-    Some((Point { t, v }, &text[feed + 1..]))
+    Some((size, end))
 }
 
 /// The index of the line feed that ends a line whose digits end here, after `\r` or not.
