@@ -2,8 +2,7 @@
 ghost use Rattle.std.specs.Prelude.{◌≡◌, ◌↔◌, IsTrue, List, [], ◌∷◌, ◌++◌};
 ghost use Rattle.trend_model.specs.History.{Event, Origin, Raw, in_force, is_far, sent};
 ghost use Rattle.trend_model.specs.State.{gained, offered, offered_in_order};
-ghost use Rattle.exception_test.specs.Gate.{GateStands, newest};
-ghost use Rattle.std.specs.Option.{option_or};
+ghost use Rattle.exception_test.specs.Gate.{GateStands};
 
 use trend_num::{Point, Sending, Tuning};
 
@@ -69,41 +68,18 @@ impl Gate {
         ensures first { result.first ≡ (offered tuning.now self.old.last self.old.pending p).first }
         ensures second { result.second ≡ (offered tuning.now self.old.last self.old.pending p).second }
     {
-        let Some(last) = self.last else {
-            self.last = Some(p);
-            return in_order(None, p);
-        };
-        if p.t <= self.newest(last) {
-            return self.advance_late(p);
+        match (self.last, self.pending) {
+            (None, _) => {
+                self.last = Some(p);
+                in_order(None, p)
+            }
+            (Some(last), None) if p.t <= last.t => late(None, p),
+            (Some(_), Some(waiting)) if p.t <= waiting.t => {
+                *self = sent_last(waiting);
+                late(Some(waiting), p)
+            }
+            (Some(last), _) => self.advance_in_order(tuning, last, p),
         }
-        self.advance_in_order(tuning, last, p)
-    }
-
-    /// The time of the newest value in order: the one that waits, or else the last one sent.
-    #[inline(always)]
-    fn newest(&self, last: Point) -> u64
-        ensures { result ≡ newest last self.now.pending }
-    {
-        match &self.pending {
-            Some(waiting) => waiting.t,
-            None => last.t,
-        }
-    }
-
-    /// The same, with a value that is late: one that waits is sent.
-    #[inline(always)]
-    fn advance_late(&mut self, p: Point) -> Sent
-        ensures last { self.new.last ≡ option_or self.old.pending self.old.last }
-        ensures pending { self.new.pending ≡ None }
-        ensures first { result.first ≡ self.old.pending }
-        ensures second { result.second ≡ Some (Sending.Late p) }
-    {
-        let first = self.pending;
-        *self = Gate {
-            last: first.or(self.last),
-            pending: None,
-        };
-        late(first, p)
     }
 
     /// The same, with a value in order.

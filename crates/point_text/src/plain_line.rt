@@ -21,14 +21,47 @@ const PLAIN_DIGITS: usize = 16;
 /// The most bytes of a plain line: two numbers, a comma, a sign, a carriage return and a line feed.
 const PLAIN_BYTES: usize = 2 * PLAIN_DIGITS + 4;
 
-/// The digits of a usual time: milliseconds from 2001 to 2286.
-const USUAL_DIGITS: usize = 13;
+/// Eight digits that lines began with, as a word, and their number: lines that follow one another mostly begin alike.
+#[derive(Clone, Copy)]
+pub struct Front {
+    word: u64,
+    number: u64,
+    ghost spelled: { (bytes : List ℕ) → IsEightBytes bytes → word ≡ number_l 256 bytes
+        → (8 ≡ digits_len bytes) × (number ≡ ascii_value 10 (take 8 bytes)) },
+}
+
+impl Front {
+    /// Eight zeros.
+    pub fn new() -> Front {
+        Front {
+            word: 0x3030_3030_3030_3030,
+            number: 0,
+        }
+    }
+
+    /// The number of a word of eight digits, which is kept in place of the last one.
+    #[inline(always)]
+    fn number_of(&mut self, word: u64) -> Option<u64>
+        ensures { IfSome result (λ n. (bytes : List ℕ) → IsEightBytes bytes → word ≡ number_l 256 bytes
+            → (8 ≡ digits_len bytes) × (n ≡ ascii_value 10 (take 8 bytes))) }
+    {
+        if word == self.word {
+            return Some(self.number);
+        }
+        let (count, number) = digits_of_word(word);
+        if count < 8 {
+            return None;
+        }
+        *self = Front { word, number };
+        Some(number)
+    }
+}
 
 /// The point of a plain line that a text begins with, and what follows the line. Plain is a line whose numbers are in range
 /// and of 1 to 16 digits, with a `-` at most before the value, and after it a line feed or `\r` and a line feed. None says
 /// nothing of the text.
 #[inline(always)]
-pub fn plain_point(text: &[u8]) -> Option<(Point, &[u8])>
+pub fn plain_point<'t>(text: &'t [u8], front: &mut Front) -> Option<(Point, &'t [u8])>
     ensures point { IfSome result (λ p. IsFirstPoint text.now p.1.now (Ok p.0)) }
     ensures in_range { IfSome result (λ p. InRange p.0) }
     ensures shorter { IfSome result (λ p. length p.1.now < length text.now) }
@@ -36,40 +69,43 @@ pub fn plain_point(text: &[u8]) -> Option<(Point, &[u8])>
     if text.len() < PLAIN_BYTES {
         return None;
     }
-    match usual_time(text) {
-        Some(t) => point_after(text, t, USUAL_DIGITS),
-        None => point_of_other_time(text),
-    }
-}
-
-/// The usual time that a text begins with, where its comma follows it.
-#[inline(always)]
-fn usual_time(text: &[u8]) -> Option<u64>
-    requires { PLAIN_BYTES ≤ length text.now }
-    ensures time { IfSome result (IsField text.now 0 USUAL_DIGITS 44) }
-    ensures in_range { IfSome result (λ t. t ≤ last_time) }
-{
-    let (t, comma) = digits(text, 0);
-    if comma == USUAL_DIGITS && text[comma] == b',' {
-        Some(t)
-    } else {
-        None
-    }
-}
-
-/// The point of a plain line, whatever its time, and what follows the line.
-#[inline(never)]
-fn point_of_other_time(text: &[u8]) -> Option<(Point, &[u8])>
-    requires { PLAIN_BYTES ≤ length text.now }
-    ensures point { IfSome result (λ p. IsFirstPoint text.now p.1.now (Ok p.0)) }
-    ensures in_range { IfSome result (λ p. InRange p.0) }
-    ensures shorter { IfSome result (λ p. length p.1.now < length text.now) }
-{
-    let (t, comma) = digits(text, 0);
-    if comma == 0 || text[comma] != b',' || t > MAX_T {
+    let (t, comma) = time(text, front)?;
+    if text[comma] != b',' {
         return None;
     }
     point_after(text, t, comma)
+}
+
+/// The time that a text begins with, and the index after its digits.
+#[inline(always)]
+fn time(text: &[u8], front: &mut Front) -> Option<(u64, usize)>
+    requires { PLAIN_DIGITS < length text.now }
+    ensures time { IfSome result (λ p. IsField text.now 0 p.1 (get_or text.now p.1 0) p.0) }
+    ensures in_range { IfSome result (λ p. p.0 ≤ last_time) }
+{
+    if let Some(t) = usual_time(text, front) {
+        return Some((t, 13));
+    }
+    let (t, end) = digits(text, 0);
+    if end == 0 || t > MAX_T {
+        return None;
+    }
+    Some((t, end))
+}
+
+/// The time of thirteen digits, from 2001 to 2286, that a text begins with.
+#[inline(always)]
+fn usual_time(text: &[u8], front: &mut Front) -> Option<u64>
+    requires { PLAIN_DIGITS < length text.now }
+    ensures time { IfSome result (IsField text.now 0 13 (get_or text.now 13 0)) }
+    ensures in_range { IfSome result (λ t. t ≤ last_time) }
+{
+    let high = front.number_of(word_at(text, 0))?;
+    let (more, low) = more_digits(word_at(text, 8));
+    if more != 5 {
+        return None;
+    }
+    Some(high.wrapping_mul(100_000).wrapping_add(low))
 }
 
 /// The point of a plain line with this time and this place of its comma, and what follows the line.
@@ -142,10 +178,7 @@ fn digits(bytes: &[u8], at: usize) -> (u64, usize)
     if count < 8 {
         return (high, at + count);
     }
-    let (more, low) = more_digits(word_at(bytes, at + 8));
-    if more == 5 {
-        return (high.wrapping_mul(100_000).wrapping_add(low), at + 13);
-    }
+    let (more, low) = digits_of_word(word_at(bytes, at + 8));
     (
         high.wrapping_mul(ten_to(more as u64)).wrapping_add(low),
         at + 8 + more,
