@@ -6,7 +6,7 @@ ghost use Rattle.point_text.specs.FirstPoint.{HasNoFeed};
 ghost use Rattle.pack_command.specs.Pack.{most_rows, origin_of};
 ghost use Rattle.pack_command.specs.Coming.{HasCome, IsNextRow, IsReady, point_of_row};
 
-use point_text::{RowNo, first_point, plain_point, point_of_line};
+use point_text::{Front, RowNo, first_point, plain_point, point_of_line};
 use std::alloc::Global;
 use std::sync::ledger::Ledger;
 use tag_core::TagCore;
@@ -88,19 +88,20 @@ impl Intake {
         let Standing::Taken = self.standing else {
             return rest;
         };
-        let mut rows = self.rows;
-        while rows < MAX_ROWS
-            && let Some((point, after)) = plain_point(rest)
+        let mut front = Front::new();
+        let mut left = MAX_ROWS - self.rows;
+        while left > 0
+            && let Some((point, after)) = plain_point(rest, &mut front)
         {
             match self.core.take(point, steps) {
                 Ok(_) => {
                     rest = after;
-                    rows += 1;
+                    left -= 1;
                 }
                 Err(_) => break,
             }
         }
-        self.rows = rows;
+        self.rows = MAX_ROWS - left;
         rest
     }
 

@@ -74,6 +74,10 @@ value_lt ds k all few =
     let power : 10 ^ length ds ≤ 10 ^ k = pow-le-pow_right (lit< tt) {i = length ds} {j = k} few in
     omega (arith, digits_value-lt 10 ds (all_digits ds all))
 
+-- so to us
+pub spelt_lt : (ds : List ℕ) (k : ℕ) → list_all is_ascii_digit ds ≡ true → length ds ≤ k → digits_value ds < 10 ^ k
+spelt_lt ds k all few = rw (← value_is ds all) (value_lt ds k all few)
+
 -- and one that goes on in the second
 pub two_words : (xs : List ℕ) (c v d w tens : ℕ) → 16 ≤ length xs → c ≡ 8 → d ≤ 8 → c ≡ digits_len (take 8 xs) → v ≡ ascii_value 10 (take c (take 8 xs))
     → d ≡ digits_len (take 8 (drop 8 xs)) → w ≡ ascii_value 10 (take d (take 8 (drop 8 xs))) → tens ≡ 10 ^ d

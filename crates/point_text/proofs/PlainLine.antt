@@ -15,16 +15,7 @@ use Rattle.trend_num.specs.Numerals.{numeral, unsigned_numeral, digits_value}
 use Rattle.trend_num.specs.Ranges.{last_time, largest_value}
 use Rattle.point_text.specs.Row.{point_read, point_of_fields, point_of_line}
 use Rattle.point_text.proofs.Split.{rest_whole}
-use Rattle.point_text.specs.FirstPoint.{EndsAt, HasNoFeed, IsFirstPoint}
-
--- from one index to another there are digits, which spell n, and then this byte
-pub record IsField (text : List ℕ) (at end byte n : ℕ) : Type 0 where
-  pub some : at < end
-  pub few : end ≤ at + 16
-  pub within : end < length text
-  pub digits : list_all is_ascii_digit (take (end - at) (drop at text)) ≡ true
-  pub value : n ≡ digits_value (take (end - at) (drop at text))
-  pub after : get_or text end 0 ≡ byte
+use Rattle.point_text.specs.FirstPoint.{EndsAt, HasNoFeed, IsField, IsFirstPoint}
 
 -- 1 to 20 digits, which spell n
 pub record AreDigits (ds : List ℕ) (n : ℕ) : Type 0 where

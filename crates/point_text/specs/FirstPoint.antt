@@ -1,6 +1,9 @@
 -- The first line of a text of which more may come.
-use Rattle.std.specs.Prelude.{◌≡◌, ℕ, ◌+◌, ◌<◌, ◌⊎◌, List, ◌∷◌, ◌++◌, All, false, length, get_or, map, nat_eq, Result}
+use Rattle.std.specs.Prelude.{◌≡◌, ℕ, ◌+◌, ◌-◌, ◌<◌, ◌≤◌, ◌⊎◌, List, ◌∷◌, ◌++◌, All, true, false, length, get_or, take, drop, map, nat_eq, Result}
+use Rattle.std.specs.Char.{is_ascii_digit}
+use Rattle.std.specs.List.{list_all}
 use Rattle.std.specs.Str.Lines.{lines, strip_carriage_return}
+use Rattle.trend_num.specs.Numerals.{digits_value}
 use Rattle.trend_num.specs.declared.point.Point.{Point}
 use Rattle.trend_num.specs.declared.refusal.Reason.{Reason}
 use Rattle.point_text.specs.Row.{point_of_line}
@@ -29,3 +32,12 @@ pub record EndsAt (text : List ℕ) (end feed : ℕ) : Type 0 where
   pub is : ((get_or text end 0 ≡ 10) × (feed ≡ end)) ⊎ ((get_or text end 0 ≡ 13) × (feed ≡ end + 1))
   pub fed : get_or text feed 0 ≡ 10
   pub within : feed < length text
+
+-- from one index to another there are digits, which spell n, and then this byte
+pub record IsField (text : List ℕ) (at end byte n : ℕ) : Type 0 where
+  pub some : at < end
+  pub few : end ≤ at + 16
+  pub within : end < length text
+  pub digits : list_all is_ascii_digit (take (end - at) (drop at text)) ≡ true
+  pub value : n ≡ digits_value (take (end - at) (drop at text))
+  pub after : get_or text end 0 ≡ byte

@@ -15,6 +15,6 @@ mod printer;
 
 pub use failure::RowNo;
 pub use line_reader::{first_point, point_of_line, short_line};
-pub use plain_line::plain_point;
+pub use plain_line::{Front, plain_point};
 pub use printer::write_archive;
 pub use trend_num::{Kind, Point, Reason, Rec, WantOfMemory};

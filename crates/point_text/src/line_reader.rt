@@ -7,7 +7,7 @@ ghost use Rattle.trend_num.specs.Ranges.{InRange, last_time};
 ghost use Rattle.point_text.specs.Row.{point_of, point_of_line};
 ghost use Rattle.point_text.specs.FirstPoint.{HasNoFeed, IsFirstPoint, ReadSame};
 
-use crate::plain_line::plain_point;
+use crate::plain_line::{Front, plain_point};
 use trend_num::{MAX_T, MAX_V, Point, Reason, numeral};
 
 /// What stands between the fields of a line.
@@ -28,7 +28,7 @@ pub fn first_point(text: &[u8]) -> Option<(Result<Point, Reason>, &[u8])>
     ensures shorter { IfSome result (λ p. length p.1.now < length text.now) }
     ensures none { IfNone result (HasNoFeed text.now) }
 {
-    match plain_point(text) {
+    match plain_point(text, &mut Front::new()) {
         Some((point, after)) => Some((Ok(point), after)),
         None => point_of_any_line(text),
     }

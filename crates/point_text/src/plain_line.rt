@@ -1,5 +1,5 @@
 // A line as most are, read in one pass, eight digits at a time.
-ghost use Rattle.std.specs.Prelude.{◌≡◌, ℕ, ◌+◌, ◌-◌, ◌*◌, ◌%◌, ◌^◌, ◌<◌, ◌≤◌, true, length, take, drop, nat_le, slice_range, List, IfSome};
+ghost use Rattle.std.specs.Prelude.{◌≡◌, ℕ, ◌+◌, ◌-◌, ◌*◌, ◌%◌, ◌^◌, ◌<◌, ◌≤◌, true, length, get_or, take, drop, nat_le, slice_range, List, IfSome};
 ghost use Rattle.std.specs.Char.{is_ascii_digit};
 ghost use Rattle.std.specs.List.{list_all};
 ghost use Rattle.std.specs.Float.Numeral.{digits_len};
@@ -9,8 +9,8 @@ ghost use Rattle.core.specs.Slice.Scan.{digits_from, flag_word, little_endian};
 ghost use Rattle.core.specs.Str.Parse.{digits_value as ascii_value};
 ghost use lib.Lanes.{number_l};
 ghost use Rattle.trend_num.specs.Numerals.{digits_value};
-ghost use Rattle.trend_num.specs.Ranges.{InRange};
-ghost use Rattle.point_text.specs.FirstPoint.{EndsAt, IsFirstPoint};
+ghost use Rattle.trend_num.specs.Ranges.{InRange, largest_value, last_time};
+ghost use Rattle.point_text.specs.FirstPoint.{EndsAt, IsField, IsFirstPoint};
 
 use core::dec2flt::ten_to;
 use trend_num::{MAX_T, MAX_V, Point};
@@ -21,11 +21,47 @@ const PLAIN_DIGITS: usize = 16;
 /// The most bytes of a plain line: two numbers, a comma, a sign, a carriage return and a line feed.
 const PLAIN_BYTES: usize = 2 * PLAIN_DIGITS + 4;
 
+/// Eight digits that lines began with, as a word, and their number: lines that follow one another mostly begin alike.
+#[derive(Clone, Copy)]
+pub struct Front {
+    word: u64,
+    number: u64,
+    ghost spelled: { (bytes : List ℕ) → IsEightBytes bytes → word ≡ number_l 256 bytes
+        → (8 ≡ digits_len bytes) × (number ≡ ascii_value 10 (take 8 bytes)) },
+}
+
+impl Front {
+    /// Eight zeros.
+    pub fn new() -> Front {
+        Front {
+            word: 0x3030_3030_3030_3030,
+            number: 0,
+        }
+    }
+
+    /// The number of a word of eight digits, which is kept in place of the last one.
+    #[inline(always)]
+    fn number_of(&mut self, word: u64) -> Option<u64>
+        ensures { IfSome result (λ n. (bytes : List ℕ) → IsEightBytes bytes → word ≡ number_l 256 bytes
+            → (8 ≡ digits_len bytes) × (n ≡ ascii_value 10 (take 8 bytes))) }
+    {
+        if word == self.word {
+            return Some(self.number);
+        }
+        let (count, number) = digits_of_word(word);
+        if count < 8 {
+            return None;
+        }
+        *self = Front { word, number };
+        Some(number)
+    }
+}
+
 /// The point of a plain line that a text begins with, and what follows the line. Plain is a line whose numbers are in range
 /// and of 1 to 16 digits, with a `-` at most before the value, and after it a line feed or `\r` and a line feed. None says
 /// nothing of the text.
 #[inline(always)]
-pub fn plain_point(text: &[u8]) -> Option<(Point, &[u8])>
+pub fn plain_point<'t>(text: &'t [u8], front: &mut Front) -> Option<(Point, &'t [u8])>
     ensures point { IfSome result (λ p. IsFirstPoint text.now p.1.now (Ok p.0)) }
     ensures in_range { IfSome result (λ p. InRange p.0) }
     ensures shorter { IfSome result (λ p. length p.1.now < length text.now) }
@@ -33,21 +69,84 @@ pub fn plain_point(text: &[u8]) -> Option<(Point, &[u8])>
     if text.len() < PLAIN_BYTES {
         return None;
     }
-    let (t, comma) = digits(text, 0);
-    if comma == 0 || text[comma] != b',' || t > MAX_T {
+    let (t, comma) = time(text, front)?;
+    if text[comma] != b',' {
         return None;
     }
+    point_after(text, t, comma)
+}
+
+/// The time that a text begins with, and the index after its digits.
+#[inline(always)]
+fn time(text: &[u8], front: &mut Front) -> Option<(u64, usize)>
+    requires { PLAIN_DIGITS < length text.now }
+    ensures time { IfSome result (λ p. IsField text.now 0 p.1 (get_or text.now p.1 0) p.0) }
+    ensures in_range { IfSome result (λ p. p.0 ≤ last_time) }
+{
+    if let Some(t) = usual_time(text, front) {
+        return Some((t, 13));
+    }
+    let (t, end) = digits(text, 0);
+    if end == 0 || t > MAX_T {
+        return None;
+    }
+    Some((t, end))
+}
+
+/// The time of thirteen digits, from 2001 to 2286, that a text begins with.
+#[inline(always)]
+fn usual_time(text: &[u8], front: &mut Front) -> Option<u64>
+    requires { PLAIN_DIGITS < length text.now }
+    ensures time { IfSome result (IsField text.now 0 13 (get_or text.now 13 0)) }
+    ensures in_range { IfSome result (λ t. t ≤ last_time) }
+{
+    let high = front.number_of(word_at(text, 0))?;
+    let (more, low) = more_digits(word_at(text, 8));
+    if more != 5 {
+        return None;
+    }
+    Some(high.wrapping_mul(100_000).wrapping_add(low))
+}
+
+/// The point of a plain line with this time and this place of its comma, and what follows the line.
+#[inline(always)]
+fn point_after(text: &[u8], t: u64, comma: usize) -> Option<(Point, &[u8])>
+    requires time { IsField text.now 0 comma 44 t }
+    requires in_range { t ≤ last_time }
+    requires long { PLAIN_BYTES ≤ length text.now }
+    ensures point { IfSome result (λ p. IsFirstPoint text.now p.1.now (Ok p.0)) }
+    ensures in_range { IfSome result (λ p. InRange p.0) }
+    ensures shorter { IfSome result (λ p. length p.1.now < length text.now) }
+{
     let sign = comma + 1;
     let negative = text[sign] == b'-';
     let from = sign + usize::from(negative);
+    let (size, end) = amount(text, from)?;
+    let feed = feed_at(text, end)?;
+    let value = size as i64;
+    let v = if negative { -value } else { value };
+    Some((Point { t, v }, &text[feed + 1..]))
+}
+
+/// The amount of a value that the digits from an index on spell, and the index after them.
+#[inline(always)]
+fn amount(text: &[u8], from: usize) -> Option<(u64, usize)>
+    requires { from + PLAIN_DIGITS < length text.now }
+    ensures amount { IfSome result (λ p. IsField text.now from p.1 (get_or text.now p.1 0) p.0) }
+    ensures in_range { IfSome result (λ p. p.0 ≤ largest_value) }
+{
+    let (count, size) = digits_of_word(word_at(text, from));
+    if count == 0 {
+        return None;
+    }
+    if count < 8 {
+        return Some((size, from + count));
+    }
     let (size, end) = digits(text, from);
     if end == from || size > MAX_V as u64 {
         return None;
     }
-    let feed = feed_at(text, end)?;
-    let amount = size as i64;
-    let v = if negative { -amount } else { amount };
-    Some((Point { t, v }, &text[feed + 1..]))
+    Some((size, end))
 }
 
 /// The index of the line feed that ends a line whose digits end here, after `\r` or not.
@@ -79,10 +178,7 @@ fn digits(bytes: &[u8], at: usize) -> (u64, usize)
     if count < 8 {
         return (high, at + count);
     }
-    let (more, low) = more_digits(word_at(bytes, at + 8));
-    if more == 5 {
-        return (high.wrapping_mul(100_000).wrapping_add(low), at + 13);
-    }
+    let (more, low) = digits_of_word(word_at(bytes, at + 8));
     (
         high.wrapping_mul(ten_to(more as u64)).wrapping_add(low),
         at + 8 + more,
