@@ -4,3 +4,4 @@ pub mod SameLanes
 pub mod Rules
 pub mod Steps
 pub mod Taken
+pub mod Pieces
