@@ -5,3 +5,4 @@ pub mod Rules
 pub mod Steps
 pub mod Taken
 pub mod Pieces
+pub mod Scans
