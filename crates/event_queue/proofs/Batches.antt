@@ -1,11 +1,17 @@
 -- The bytes of a batch, written and read.
-use Rattle.std.proofs.Common.{◌≡◌, ℕ, zero, suc, ◌+◌, ◌*◌, ◌<◌, ◌≤◌, List, [], ◌∷◌, ◌++◌, length, get_or, take, drop, flat_map}
+use Rattle.std.proofs.Common.{◌≡◌, ℕ, zero, suc, ◌+◌, ◌*◌, ◌^◌, ◌<◌, ◌≤◌, min, List, [], ◌∷◌, ◌++◌, length, get_or, take, drop, flat_map}
 use Rattle.std.proofs.Common.{refl, sym, ◌∙◌, ap, arith, append_assoc, add-one, length-append}
 use Rattle.std.proofs.lemmas.List.{take_all, drop-drop}
+use Rattle.std.proofs.lemmas.List.Elements.{All-head, All-tail}
+use Rattle.std.proofs.lemmas.Nat.{from_be_bytes-to_be_bytes_2, from_be_bytes-to_be_bytes_8}
+use Rattle.std.specs.Int.{w64, from_be_bytes}
+use Rattle.std.specs.List.{All}
 use Rattle.trend_num.specs.declared.point.Point.{Point}
+use Rattle.trend_num.specs.Ranges.{InRange}
 use Rattle.archive_file.specs.Fields.{number_bytes, point_bytes, point_at}
-use Rattle.archive_file.proofs.Joins.{joined, images_more}
-use Rattle.event_queue.specs.Slots.{batch_bytes, points_in}
+use Rattle.archive_file.proofs.Joins.{images_more}
+use Rattle.archive_file.proofs.Points.{point_at-bytes}
+use Rattle.event_queue.specs.Slots.{batch_bytes, points_in, count_in, batch_in}
 
 -- so many points of a batch are written behind its two numbers
 pub record IsWritten (first : ℕ) (points : List Point) (i : ℕ) (bytes : List ℕ) : Type 0 where
@@ -66,3 +72,32 @@ pub take-points_in : (i n : ℕ) (bytes : List ℕ) → i ≤ n → take i (poin
 take-points_in zero n bytes le = refl
 take-points_in (suc i) zero bytes le = absurd (omega (arith, le))
 take-points_in (suc i) (suc n) bytes le = ap (λ ps. point_at bytes ∷ ps) (take-points_in i n (drop 16 bytes) (omega (arith, le)))
+
+-- a point's bytes are 16
+images_long : (ps : List Point) → length (flat_map point_bytes ps) ≡ 16 * length ps
+images_long [] = refl
+images_long (p ∷ ps) = omega (arith, images_long ps)
+
+-- so those of a batch are as many
+pub length-batch_bytes : (first : ℕ) (ps : List Point) → length (batch_bytes first ps) ≡ 10 + 16 * length ps
+length-batch_bytes first ps = omega (arith, images_long ps)
+
+-- points are read of their bytes
+pub points_in-images : (ps : List Point) (more : List ℕ) → All InRange ps → points_in (length ps) (flat_map point_bytes ps ++ more) ≡ ps
+points_in-images [] more inside = refl
+points_in-images (p ∷ ps) more inside =
+    let whole : flat_map point_bytes (p ∷ ps) ++ more ≡ point_bytes p ++ (flat_map point_bytes ps ++ more) = append_assoc (point_bytes p) (flat_map point_bytes ps) more in
+    ap (points_in (suc (length ps))) whole
+    ∙ ap (λ q. q ∷ points_in (length ps) (flat_map point_bytes ps ++ more)) (point_at-bytes p (flat_map point_bytes ps ++ more) (All-head InRange p ps inside))
+    ∙ ap (λ qs. p ∷ qs) (points_in-images ps more (All-tail InRange p ps inside))
+
+-- a batch is read of its bytes
+pub batch_in-bytes : (first : ℕ) (ps : List Point) (more : List ℕ) → first < 2 ^ 64 → length ps ≤ 64 → All InRange ps
+    → batch_in (batch_bytes first ps ++ more) ≡ record { first = first; count = length ps; points = ps }
+batch_in-bytes first ps more small few inside =
+    let number : from_be_bytes w64 (take 8 (batch_bytes first ps ++ more)) ≡ first = from_be_bytes-to_be_bytes_8 first small in
+    let count : count_in (batch_bytes first ps ++ more) ≡ length ps = from_be_bytes-to_be_bytes_2 (length ps) (omega (arith, few)) in
+    let clipped : min 64 (count_in (batch_bytes first ps ++ more)) ≡ length ps = omega (arith, count, few) in
+    let points : points_in (min 64 (count_in (batch_bytes first ps ++ more))) (flat_map point_bytes ps ++ more) ≡ ps =
+    ap (λ n. points_in n (flat_map point_bytes ps ++ more)) clipped ∙ points_in-images ps more inside in
+    λ i. record { first = number i; count = count i; points = points i }

@@ -7,3 +7,4 @@ pub mod Pieces
 pub mod Scans
 pub mod SameLanes
 pub mod Overtaken
+pub mod Filled

@@ -1,12 +1,13 @@
 -- What a lane holds depends on which gates are open, and on the slots behind these, alone.
 use Rattle.std.proofs.Common.{◌≡◌, inl, inr, ⊎_elim, ℕ, zero, suc, ◌+◌, ◌*◌, ◌<◌, ◌≤◌, List, [], ◌++◌, length, get_or}
-use Rattle.std.proofs.Common.{take, drop, refl, sym, ◌∙◌, ap, subst, arith, length-drop}
+use Rattle.std.proofs.Common.{take, drop, refl, sym, ◌∙◌, ap, subst, arith, length-take, length-drop}
 use Rattle.std.specs.List.{All}
 use Rattle.std.proofs.lemmas.Bool.{cases_eq}
 use Rattle.std.proofs.lemmas.List.{get_or-drop, ext_get_or}
 use Rattle.trend_num.specs.declared.point.Point.{Point}
 use Rattle.trend_num.specs.Ranges.{InRange}
 use Rattle.disk_model.specs.Gates.{open_byte, IsOpen}
+use Rattle.disk_model.proofs.Bytes.{holds_same}
 use Rattle.event_queue.specs.Slots.{Batch, gate_of, place_of, slot_at, batch_in, batch_at}
 use Rattle.event_queue.specs.Lanes.{IsStale, points_beyond, points_of, points_before, IsStaleBehind, IsNextBehind, FollowsOn}
 use Rattle.event_queue.specs.Lanes.{IsCounted, IsSound, IsLane}
@@ -25,6 +26,17 @@ same_behind slots k a b size same =
     let at = place_of slots k in
     ap (take 1034) (ext_get_or 0 (drop at b) (drop at a) (omega (arith, length-drop at b, length-drop at a, size)) (λ i below.
     get_or-drop at b i 0 ∙ same (at + i) (omega arith) ∙ sym (get_or-drop at a i 0)))
+
+-- bytes that agree in slot k, which is whole in both
+pub same_slot : (slots k : ℕ) (a b : List ℕ) → place_of slots k + 1034 ≤ length a → place_of slots k + 1034 ≤ length b
+    → ((i : ℕ) → place_of slots k ≤ i → i < place_of slots k + 1034 → get_or b i 0 ≡ get_or a i 0)
+    → slot_at slots b k ≡ slot_at slots a k
+same_slot slots k a b a_long b_long same =
+    let at = place_of slots k in
+    let a_size : length (take 1034 (drop at a)) ≡ 1034 = omega (arith, length-take 1034 (drop at a), length-drop at a) in
+    ap (λ n. take n (drop at b)) (sym a_size)
+    ∙ holds_same at (take 1034 (drop at a)) b a (omega (arith, a_size)) (omega (arith, a_size))
+    (λ i low below. same i low (omega (arith, a_size, below))) (ap (λ n. take n (drop at a)) a_size)
 
 module _ (slots taken n : ℕ) (a b : List ℕ) (is : HasSameSlots slots n a b) where
   -- the same batches
