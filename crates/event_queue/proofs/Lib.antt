@@ -8,3 +8,4 @@ pub mod Scans
 pub mod SameLanes
 pub mod Overtaken
 pub mod Filled
+pub mod Found

@@ -26,7 +26,7 @@ module _ (slots taken : ℕ) (bytes : List ℕ) where
 
   module _ (k : ℕ) (s : Scanned) (read : IsRead slots taken bytes k s) (within : IsWithin slots taken k s) where
     -- where some open slot is stale and was told, all are
-    told_stale : s.stale ≡ true → (j : ℕ) → j < k → IsOpen (gate_of j) bytes → IsStale taken (batch_at slots bytes j)
+    pub told_stale : s.stale ≡ true → (j : ℕ) → j < k → IsOpen (gate_of j) bytes → IsStale taken (batch_at slots bytes j)
     told_stale told j j_in j_open =
         let one = read.stale.0 told in
         all_stale k one.0 j read.lane one.1 j_in one.2 j_open one.3
@@ -36,7 +36,7 @@ module _ (slots taken : ℕ) (bytes : List ℕ) where
     not_stale untold j j_in j_open stale = true≢false (sym (read.stale.1 (j, j_in, j_open, stale)) ∙ untold)
 
     -- where slots were used and none is stale, the open ones number on up to the last
-    last_next : s.stale ≡ false → 0 < s.lane.used → IsNextBehind slots bytes taken (s.lane.used - 1)
+    pub last_next : s.stale ≡ false → 0 < s.lane.used → IsNextBehind slots bytes taken (s.lane.used - 1)
     last_next untold some =
         let last = s.lane.used - 1 in
         let in_k : last < k = omega (arith, some, within.used) in
