@@ -1,5 +1,6 @@
 -- What a lane holds depends on which gates are open, and on the slots behind these, alone.
-use Rattle.std.proofs.Common.{◌≡◌, inl, inr, ⊎_elim, ℕ, zero, suc, ◌+◌, ◌*◌, ◌<◌, ◌≤◌, List, [], ◌++◌, length, get_or}
+use Rattle.std.proofs.Common.{◌≡◌, inl, inr, ⊎_elim, ℕ, zero, suc, ◌+◌, ◌*◌, ◌<◌, ◌≤◌, List, [], ◌++◌, length}
+use Rattle.std.proofs.Common.{get_or}
 use Rattle.std.proofs.Common.{take, drop, refl, sym, ◌∙◌, ap, subst, arith, length-take, length-drop}
 use Rattle.std.specs.List.{All}
 use Rattle.std.proofs.lemmas.Bool.{cases_eq}
@@ -9,7 +10,8 @@ use Rattle.trend_num.specs.Ranges.{InRange}
 use Rattle.disk_model.specs.Gates.{open_byte, IsOpen}
 use Rattle.disk_model.proofs.Bytes.{holds_same}
 use Rattle.event_queue.specs.Slots.{Batch, gate_of, place_of, slot_at, batch_in, batch_at}
-use Rattle.event_queue.specs.Lanes.{IsStale, points_beyond, points_of, points_before, IsStaleBehind, IsNextBehind, FollowsOn}
+use Rattle.event_queue.specs.Lanes.{IsStale, points_beyond, points_of, points_before, IsStaleBehind}
+use Rattle.event_queue.specs.Lanes.{IsNextBehind, FollowsOn}
 use Rattle.event_queue.specs.Lanes.{IsCounted, IsSound, IsLane}
 use Rattle.event_queue.proofs.Steps.{points_shut, points_open}
 
@@ -24,16 +26,19 @@ pub same_behind : (slots k : ℕ) (a b : List ℕ) → length b ≡ length a
     → ((i : ℕ) → place_of slots k ≤ i → get_or b i 0 ≡ get_or a i 0) → slot_at slots b k ≡ slot_at slots a k
 same_behind slots k a b size same =
     let at = place_of slots k in
-    ap (take 1034) (ext_get_or 0 (drop at b) (drop at a) (omega (arith, length-drop at b, length-drop at a, size)) (λ i below.
+    ap (take 1034) (ext_get_or 0 (drop at b) (drop at a)
+    (omega (arith, length-drop at b, length-drop at a, size)) (λ i below.
     get_or-drop at b i 0 ∙ same (at + i) (omega arith) ∙ sym (get_or-drop at a i 0)))
 
 -- bytes that agree in slot k, which is whole in both
-pub same_slot : (slots k : ℕ) (a b : List ℕ) → place_of slots k + 1034 ≤ length a → place_of slots k + 1034 ≤ length b
+pub same_slot : (slots k : ℕ) (a b : List ℕ) → place_of slots k + 1034 ≤ length a
+    → place_of slots k + 1034 ≤ length b
     → ((i : ℕ) → place_of slots k ≤ i → i < place_of slots k + 1034 → get_or b i 0 ≡ get_or a i 0)
     → slot_at slots b k ≡ slot_at slots a k
 same_slot slots k a b a_long b_long same =
     let at = place_of slots k in
-    let a_size : length (take 1034 (drop at a)) ≡ 1034 = omega (arith, length-take 1034 (drop at a), length-drop at a) in
+    let a_size : length (take 1034 (drop at a))
+    ≡ 1034 = omega (arith, length-take 1034 (drop at a), length-drop at a) in
     ap (λ n. take n (drop at b)) (sym a_size)
     ∙ holds_same at (take 1034 (drop at a)) b a (omega (arith, a_size)) (omega (arith, a_size))
     (λ i low below. same i low (omega (arith, a_size, below))) (ap (λ n. take n (drop at a)) a_size)
@@ -46,8 +51,10 @@ module _ (slots taken n : ℕ) (a b : List ℕ) (is : HasSameSlots slots n a b) 
   -- the same points
   same_points_of : (k : ℕ) → k < n → points_of slots b taken k ≡ points_of slots a taken k
   same_points_of k there = ⊎_elim
-      (λ opened. points_open slots taken b k (is.forth k there opened) ∙ ap (points_beyond taken) (same_batch k there opened) ∙ sym (points_open slots taken a k opened))
-      (λ shut. points_shut slots taken b k (λ opened. shut (is.back k there opened)) ∙ sym (points_shut slots taken a k shut))
+      (λ opened. points_open slots taken b k (is.forth k there opened)
+      ∙ ap (points_beyond taken) (same_batch k there opened) ∙ sym (points_open slots taken a k opened))
+      (λ shut. points_shut slots taken b k (λ opened. shut (is.back k there opened))
+      ∙ sym (points_shut slots taken a k shut))
       (cases_eq (get_or a (gate_of k) 0) open_byte)
 
   pub same_points : (m : ℕ) → m ≤ n → points_before slots b taken m ≡ points_before slots a taken m
@@ -57,15 +64,19 @@ module _ (slots taken n : ℕ) (a b : List ℕ) (is : HasSameSlots slots n a b) 
       ∙ ap (λ l. points_before slots a taken m ++ l) (same_points_of m (omega (arith, within)))
 
   -- the same batches are stale
-  pub same_stale : (k : ℕ) → k < n → IsOpen (gate_of k) a → IsStale taken (batch_at slots a k) → IsStale taken (batch_at slots b k)
+  pub same_stale : (k : ℕ) → k < n → IsOpen (gate_of k) a → IsStale taken (batch_at slots a k)
+      → IsStale taken (batch_at slots b k)
   same_stale k there opened stale = subst (IsStale taken) (sym (same_batch k there opened)) stale
 
-  pub same_beyond : (k : ℕ) → k < n → IsOpen (gate_of k) a → taken < (batch_at slots a k).first + (batch_at slots a k).count
+  pub same_beyond : (k : ℕ) → k < n → IsOpen (gate_of k) a
+      → taken < (batch_at slots a k).first + (batch_at slots a k).count
       → taken < (batch_at slots b k).first + (batch_at slots b k).count
-  same_beyond k there opened beyond = subst (λ x. taken < x.first + x.count) (sym (same_batch k there opened)) beyond
+  same_beyond k there opened beyond = subst (λ x. taken < x.first + x.count) (sym (same_batch k there opened))
+      beyond
 
   -- the same slots keep the layout
-  same_follows : (k : ℕ) → k < n → IsOpen (gate_of k) a → FollowsOn slots a taken k → FollowsOn slots b taken k
+  same_follows : (k : ℕ) → k < n → IsOpen (gate_of k) a → FollowsOn slots a taken k
+      → FollowsOn slots b taken k
   same_follows k there opened follows = ⊎_elim
       (λ behind. inl (record {
         stale = same_stale k there opened behind.stale;
@@ -73,9 +84,11 @@ module _ (slots taken n : ℕ) (a b : List ℕ) (is : HasSameSlots slots n a b) 
             let was = is.back j j_in j_open in same_stale j j_in was (behind.before j below was);
       }))
       (λ next. inr (record {
-        numbered = ap (λ x. x.first) (same_batch k there opened) ∙ next.numbered ∙ ap (λ ps. taken + length ps) (sym (same_points k (omega (arith, there))));
+        numbered = ap (λ x. x.first) (same_batch k there opened) ∙ next.numbered
+            ∙ ap (λ ps. taken + length ps) (sym (same_points k (omega (arith, there))));
         opened = λ j below. is.forth j (omega (arith, there, below)) (next.opened j below);
-        beyond = λ j below. same_beyond j (omega (arith, there, below)) (next.opened j below) (next.beyond j below);
+        beyond = λ j below. same_beyond j (omega (arith, there, below)) (next.opened j below)
+            (next.beyond j below);
       })) follows
 
   pub same_sound : (k : ℕ) → k < n → IsOpen (gate_of k) a → IsSound slots a taken k → IsSound slots b taken k
@@ -86,7 +99,9 @@ module _ (slots taken n : ℕ) (a b : List ℕ) (is : HasSameSlots slots n a b) 
   }
 
   pub same_lane : (m : ℕ) → m ≤ n → IsLane slots a taken m → IsLane slots b taken m
-  same_lane m within lane = record { sound = λ k below opened.
-      let there : k < n = omega (arith, below, within) in
-      let was = is.back k there opened in
-      same_sound k there was (lane.sound k below was) }
+  same_lane m within lane = record {
+    sound = λ k below opened.
+        let there : k < n = omega (arith, below, within) in
+        let was = is.back k there opened in
+        same_sound k there was (lane.sound k below was);
+  }

@@ -17,7 +17,7 @@ pub fn an_append_is_whole_or_absent()
         → IsFilled slots taken used next old points
         → IsGuarded (place_of slots used) (batch_bytes next batch) (gate_of used) old new
         → IsFilled slots taken used next new points
-            ⊎ IsFilled slots taken (used + 1) (next + length batch) new (points ++ batch) }
+        ⊎ IsFilled slots taken (used + 1) (next + length batch) new (points ++ batch) }
 {}
 
 /// Each image of a restart of a lane that a summary has overtaken is overtaken, and such a lane holds no points.
@@ -30,7 +30,7 @@ pub fn a_restart_leaves_an_overtaken_lane()
 pub fn a_lane_is_filled_or_overtaken()
     ensures { (slots taken : ℕ) (bytes : List ℕ) → lane_end slots ≤ length bytes → IsLane slots bytes taken slots
         → IsOvertaken slots taken bytes ⊎ ((used : ℕ) × (next : ℕ) × (points : List Point)
-            × IsFilled slots taken used next bytes points) }
+        × IsFilled slots taken used next bytes points) }
 {}
 
 /// A scan tells which of the two: a stale lane is overtaken, and any other is in use, up to the place that it answers.

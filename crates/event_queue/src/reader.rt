@@ -11,7 +11,8 @@ ghost use Rattle.event_queue.specs.Pieces.{IsOpenSlot, IsPiece};
 ghost use Rattle.event_queue.specs.Scans.{IsWithin, IsRead, Fits};
 
 use crate::slot::{
-    BATCH_MOST, FIRST_GATE, POINT_LEN, SLOT_LEN, add_points, first_out_of_range, slot_place, take_count,
+    BATCH_MOST, FIRST_GATE, POINT_LEN, SLOT_LEN, add_points, first_out_of_range, slot_place,
+    take_count,
 };
 use crate::{Lane, ScanNo};
 use archive_file::{read_bytes, take_number};
@@ -42,12 +43,7 @@ pub struct Scanned {
 
 /// Reads a lane of so many slots for a summary that counts the first `taken` raw values, or names the first byte of the
 /// first field that breaks the layout, slot by slot. The device is not written.
-pub fn scan<D: Disk>(
-    alloc: Global,
-    dev: &mut D,
-    slots: u32,
-    taken: u64,
-) -> Result<Scanned, ScanNo>
+pub fn scan<D: Disk>(alloc: Global, dev: &mut D, slots: u32, taken: u64) -> Result<Scanned, ScanNo>
     requires room { Reaches (D.trace dev.old) (lane_end slots) }
     requires number { taken < 10 ^ 18 }
     ensures ok { IfOk result (λ s. IfSome (D.trace dev.old) (λ t. IsRead slots taken (seen (Option.Some t)) slots s)) }

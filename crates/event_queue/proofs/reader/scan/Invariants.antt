@@ -10,6 +10,7 @@ invariant-loop-j g l = record {
   later : g.D.Disk.fault_count l.fn.dev ≤ g.D.Disk.fault_count l.dev;
   slots_same : l.scanned.lane.slots ≡ l.slots;
   within : IsWithin l.slots l.taken (min (64 * l.j) l.used) l.scanned;
-  read : IfSome (g.D.Disk.trace l.fn.dev) (λ t. IsRead l.slots l.taken (seen (Option.Some t)) (min (64 * l.j) l.used) l.scanned);
+  read : IfSome (g.D.Disk.trace l.fn.dev)
+      (λ t. IsRead l.slots l.taken (seen (Option.Some t)) (min (64 * l.j) l.used) l.scanned);
   long : 64 * l.j < l.used → vec_len l.piece ≡ 1034 * min 64 l.used;
 }
