@@ -26,3 +26,6 @@ pub use law::{
 pub use reader::{Scanned, scan};
 pub use slot::{BATCH_MOST, SLOT_LEN};
 pub use trend_num::Point;
+
+#[cfg(test)]
+mod tests;
