@@ -1,37 +1,51 @@
 -- The bytes of a batch, written and read.
-use Rattle.std.proofs.Common.{◌≡◌, ℕ, zero, suc, ◌+◌, ◌*◌, ◌<◌, ◌≤◌, List, [], ◌∷◌, ◌++◌, length, get_or, take, drop, flat_map}
+use Rattle.std.proofs.Common.{◌≡◌, ℕ, zero, suc, ◌+◌, ◌*◌, ◌^◌, ◌<◌, ◌≤◌, min, List, [], ◌∷◌, ◌++◌, length}
+use Rattle.std.proofs.Common.{get_or, take, drop, flat_map}
 use Rattle.std.proofs.Common.{refl, sym, ◌∙◌, ap, arith, append_assoc, add-one, length-append}
 use Rattle.std.proofs.lemmas.List.{take_all, drop-drop}
+use Rattle.std.proofs.lemmas.List.Elements.{All-head, All-tail}
+use Rattle.std.proofs.lemmas.Nat.{from_be_bytes-to_be_bytes_2, from_be_bytes-to_be_bytes_8}
+use Rattle.std.specs.Int.{w64, from_be_bytes}
+use Rattle.std.specs.List.{All}
 use Rattle.trend_num.specs.declared.point.Point.{Point}
+use Rattle.trend_num.specs.Ranges.{InRange}
 use Rattle.archive_file.specs.Fields.{number_bytes, point_bytes, point_at}
-use Rattle.archive_file.proofs.Joins.{joined, images_more}
-use Rattle.event_queue.specs.Slots.{batch_bytes, points_in}
+use Rattle.archive_file.proofs.Joins.{images_more}
+use Rattle.archive_file.proofs.Points.{point_at-bytes}
+use Rattle.event_queue.specs.Slots.{batch_bytes, points_in, count_in, batch_in}
 
 -- so many points of a batch are written behind its two numbers
 pub record IsWritten (first : ℕ) (points : List Point) (i : ℕ) (bytes : List ℕ) : Type 0 where
-  pub items : bytes ≡ number_bytes 8 first ++ (number_bytes 2 (length points) ++ flat_map point_bytes (take i points))
+  pub items : bytes ≡ number_bytes 8 first
+      ++ (number_bytes 2 (length points) ++ flat_map point_bytes (take i points))
   pub long : length bytes ≡ 10 + 16 * i
 
 -- one point more
-pub written_more : (first : ℕ) (points : List Point) (i : ℕ) (p : Point) (bytes new : List ℕ) → IsWritten first points i bytes
-    → i < length points → p ≡ get_or points i p → new ≡ bytes ++ point_bytes p → IsWritten first points (i + 1) new
+pub written_more : (first : ℕ) (points : List Point) (i : ℕ) (p : Point) (bytes new : List ℕ)
+    → IsWritten first points i bytes
+    → i < length points → p ≡ get_or points i p → new ≡ bytes ++ point_bytes p
+    → IsWritten first points (i + 1) new
 written_more first points i p bytes new so_far there is more =
     let image = flat_map point_bytes (take i points) in
     let front = number_bytes 8 first in
     let count = number_bytes 2 (length points) in
     record {
-      items = more ∙ ap (λ l. l ++ point_bytes p) so_far.items ∙ append_assoc front (count ++ image) (point_bytes p)
+      items = more ∙ ap (λ l. l ++ point_bytes p) so_far.items
+          ∙ append_assoc front (count ++ image) (point_bytes p)
           ∙ ap (λ l. front ++ l) (append_assoc count image (point_bytes p))
           ∙ ap (λ l. front ++ (count ++ l)) (sym (images_more point_bytes points i p there is));
       long = ap length more ∙ length-append bytes (point_bytes p) ∙ omega (arith, so_far.long);
     }
 
 -- none are
-pub written_none : (first : ℕ) (points : List Point) (none one two n8 n2 : List ℕ) → none ≡ [] → one ≡ none ++ n8
-    → two ≡ one ++ n2 → n8 ≡ number_bytes 8 first → n2 ≡ number_bytes 2 (length points) → IsWritten first points 0 two
+pub written_none : (first : ℕ) (points : List Point) (none one two n8 n2 : List ℕ) → none ≡ [] → one ≡ none
+    ++ n8
+    → two ≡ one ++ n2 → n8 ≡ number_bytes 8 first → n2 ≡ number_bytes 2 (length points)
+    → IsWritten first points 0 two
 written_none first points none one two n8 n2 empty put8 put2 is8 is2 =
     let items : two ≡ number_bytes 8 first ++ number_bytes 2 (length points) =
-    put2 ∙ ap (λ l. l ++ n2) (put8 ∙ ap (λ l. l ++ n8) empty ∙ is8) ∙ ap (λ l. number_bytes 8 first ++ l) is2 in
+    put2 ∙ ap (λ l. l ++ n2) (put8 ∙ ap (λ l. l ++ n8) empty ∙ is8)
+    ∙ ap (λ l. number_bytes 8 first ++ l) is2 in
     record { items = items; long = ap length items }
 
 -- all are
@@ -39,14 +53,17 @@ pub written_all : (first : ℕ) (points : List Point) (i : ℕ) (bytes : List �
     → IsWritten first points i bytes → bytes ≡ batch_bytes first points
 written_all first points i bytes all so_far =
     so_far.items
-    ∙ ap (λ ps. number_bytes 8 first ++ (number_bytes 2 (length points) ++ flat_map point_bytes ps)) (take_all i points all)
+    ∙ ap (λ ps. number_bytes 8 first ++ (number_bytes 2 (length points) ++ flat_map point_bytes ps))
+    (take_all i points all)
 
 -- one point more read
-pub points_in_more : (i : ℕ) (bytes : List ℕ) → points_in (i + 1) bytes ≡ points_in i bytes ++ point_at (drop (16 * i) bytes) ∷ []
+pub points_in_more : (i : ℕ) (bytes : List ℕ) → points_in (i + 1) bytes ≡ points_in i bytes
+    ++ point_at (drop (16 * i) bytes) ∷ []
 points_in_more zero bytes = refl
 points_in_more (suc i) bytes =
     ap (λ n. points_in n bytes) (add-one (suc i))
-    ∙ ap (λ ps. point_at bytes ∷ ps) (ap (λ n. points_in n (drop 16 bytes)) (sym (add-one i)) ∙ points_in_more i (drop 16 bytes))
+    ∙ ap (λ ps. point_at bytes ∷ ps) (ap (λ n. points_in n (drop 16 bytes)) (sym (add-one i))
+    ∙ points_in_more i (drop 16 bytes))
     ∙ ap (λ l. point_at bytes ∷ (points_in i (drop 16 bytes) ++ point_at l ∷ []))
     (drop-drop (16 * i) 16 bytes ∙ ap (λ n. drop n bytes) (omega arith))
 
@@ -65,4 +82,41 @@ length-points_in (suc n) bytes = omega (arith, length-points_in n (drop 16 bytes
 pub take-points_in : (i n : ℕ) (bytes : List ℕ) → i ≤ n → take i (points_in n bytes) ≡ points_in i bytes
 take-points_in zero n bytes le = refl
 take-points_in (suc i) zero bytes le = absurd (omega (arith, le))
-take-points_in (suc i) (suc n) bytes le = ap (λ ps. point_at bytes ∷ ps) (take-points_in i n (drop 16 bytes) (omega (arith, le)))
+take-points_in (suc i) (suc n) bytes le = ap (λ ps. point_at bytes ∷ ps)
+    (take-points_in i n (drop 16 bytes) (omega (arith, le)))
+
+-- a point's bytes are 16
+images_long : (ps : List Point) → length (flat_map point_bytes ps) ≡ 16 * length ps
+images_long [] = refl
+images_long (p ∷ ps) = omega (arith, images_long ps)
+
+-- so those of a batch are as many
+pub length-batch_bytes : (first : ℕ) (ps : List Point) → length (batch_bytes first ps) ≡ 10 + 16 * length ps
+length-batch_bytes first ps = omega (arith, images_long ps)
+
+-- points are read of their bytes
+pub points_in-images : (ps : List Point) (more : List ℕ) → All InRange ps
+    → points_in (length ps) (flat_map point_bytes ps ++ more) ≡ ps
+points_in-images [] more inside = refl
+points_in-images (p ∷ ps) more inside =
+    let whole : flat_map point_bytes (p ∷ ps) ++ more ≡ point_bytes p ++ (flat_map point_bytes ps ++ more) =
+    append_assoc (point_bytes p) (flat_map point_bytes ps) more in
+    ap (points_in (suc (length ps))) whole
+    ∙ ap (λ q. q ∷ points_in (length ps) (flat_map point_bytes ps ++ more))
+    (point_at-bytes p (flat_map point_bytes ps ++ more) (All-head InRange p ps inside))
+    ∙ ap (λ qs. p ∷ qs) (points_in-images ps more (All-tail InRange p ps inside))
+
+-- a batch is read of its bytes
+pub batch_in-bytes : (first : ℕ) (ps : List Point) (more : List ℕ) → first < 2 ^ 64 → length ps ≤ 64
+    → All InRange ps
+    → batch_in (batch_bytes first ps ++ more) ≡ record { first = first; count = length ps; points = ps }
+batch_in-bytes first ps more small few inside =
+    let number : from_be_bytes w64 (take 8 (batch_bytes first ps ++ more))
+    ≡ first = from_be_bytes-to_be_bytes_8 first small in
+    let count : count_in (batch_bytes first ps ++ more) ≡ length ps = from_be_bytes-to_be_bytes_2 (length ps)
+    (omega (arith, few)) in
+    let clipped : min 64 (count_in (batch_bytes first ps ++ more)) ≡ length ps = omega (arith, count, few) in
+    let points : points_in (min 64 (count_in (batch_bytes first ps ++ more)))
+    (flat_map point_bytes ps ++ more) ≡ ps =
+    ap (λ n. points_in n (flat_map point_bytes ps ++ more)) clipped ∙ points_in-images ps more inside in
+    λ i. record { first = number i; count = count i; points = points i }

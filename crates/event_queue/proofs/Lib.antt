@@ -1,6 +1,11 @@
 pub mod Rooms
 pub mod Batches
-pub mod SameLanes
 pub mod Rules
 pub mod Steps
 pub mod Taken
+pub mod Pieces
+pub mod Scans
+pub mod SameLanes
+pub mod Overtaken
+pub mod Filled
+pub mod Found

@@ -1,31 +1,38 @@
 -- The room that a lane needs: what it gives a call, and what calls leave of it.
-use Rattle.std.proofs.Common.{◌≡◌, ◌≢◌, inl, inr, ⊎_elim, ℕ, ◌+◌, ◌*◌, ◌<◌, ◌≤◌, List, length, get_or, Option, None, Some}
+use Rattle.std.proofs.Common.{◌≡◌, ◌≢◌, inl, inr, ⊎_elim, ℕ, ◌+◌, ◌*◌, ◌<◌, ◌≤◌, List, length, get_or, Option}
+use Rattle.std.proofs.Common.{None, Some}
 use Rattle.std.proofs.Common.{refl, sym, ◌∙◌, subst, arith}
 use Rattle.std.proofs.lemmas.Bool.{cases_lt}
 use Rattle.disk_model.specs.Traces.{Trace, seen}
-use Rattle.disk_model.specs.Images.{IsOutside, MayLeave, Now, FromOld}
+use Rattle.disk_model.specs.Images.{IsOutside, MayLeave, Now, FromOld, IsSettled}
 use Rattle.disk_model.specs.Moments.{During}
-use Rattle.disk_model.specs.Calls.{Reaches}
-use Rattle.disk_model.specs.Gates.{open_byte, IsShut, IsGuarded, AreShut, IsClosing}
+use Rattle.disk_model.specs.Calls.{HasLength, Reaches}
+use Rattle.disk_model.specs.Gates.{open_byte, IsShut, IsGuarded, HasGatesOf, AreShut, IsClosing}
 use Rattle.disk_model.proofs.Images.{present}
 use Rattle.disk_model.proofs.Moments.{during_now}
 use Rattle.event_queue.specs.Slots.{gate_of, place_of, lane_end}
 use Rattle.event_queue.specs.Places.{HasRoom}
+use Rattle.event_queue.specs.Scans.{IsRead}
+use Rattle.event_queue.specs.declared.reader.Scanned.{Scanned}
 
 -- what a read gives has the whole lane
-pub reaches_lane : (o : Option Trace) (slots used n : ℕ) → Now o (HasRoom slots used) → n ≤ lane_end slots → Reaches o n
+pub reaches_lane : (o : Option Trace) (slots used n : ℕ) → Now o (HasRoom slots used) → n ≤ lane_end slots
+    → Reaches o n
 reaches_lane None slots used n room le = tt
 reaches_lane (Some t) slots used n room le = omega (arith, (room.each (seen (Some t)) (present t)).long)
 
 -- the next gate is there, and closed
-pub next_shut : (o : Option Trace) (slots used gate : ℕ) → Now o (HasRoom slots used) → used < slots → gate ≡ gate_of used
+pub next_shut : (o : Option Trace) (slots used gate : ℕ) → Now o (HasRoom slots used) → used < slots → gate
+    ≡ gate_of used
     → Now o (IsShut gate)
-next_shut o slots used gate room free is = record { each = λ c may.
-    let has = room.each c may in
-    subst (λ g. IsShut g c) (sym is) (record {
-      there = omega (arith, has.long);
-      closed = has.shut used (omega arith) free;
-    }) }
+next_shut o slots used gate room free is = record {
+  each = λ c may.
+      let has = room.each c may in
+      subst (λ g. IsShut g c) (sym is) (record {
+        there = omega (arith, has.long);
+        closed = has.shut used (omega arith) free;
+      });
+}
 
 -- a gate lies before all slots
 pub gate_outside : (slots used k at n : ℕ) → k < slots → at ≡ place_of slots used → IsOutside at n (gate_of k)
@@ -38,7 +45,8 @@ room_guarded slots used bytes d c free has guarded = record {
   long = omega (arith, has.long, guarded.no_shorter);
   shut = λ k low there opened.
       let same = guarded.outside (gate_of k) (omega (arith, has.long))
-      (gate_outside slots used k (place_of slots used) (length bytes) there refl) (λ is. absurd (omega (arith, is))) in
+      (gate_outside slots used k (place_of slots used) (length bytes) there refl)
+      (λ is. absurd (omega (arith, is))) in
       has.shut k (omega arith) there (sym same ∙ opened);
 }
 
@@ -46,21 +54,48 @@ room_guarded slots used bytes d c free has guarded = record {
 pub room_behind : (o new : Option Trace) (slots used at gate : ℕ) (bytes : List ℕ) → used < slots
     → Now o (HasRoom slots used) → at ≡ place_of slots used → gate ≡ gate_of used
     → During o new (FromOld o (IsGuarded at bytes gate)) → Now new (HasRoom slots (used + 1))
-room_behind o new slots used at gate bytes free room is_at is_gate during = record { each = λ c may.
-    let from = (during_now o new (FromOld o (IsGuarded at bytes gate)) during).each c may in
-    let guarded = subst (λ a. IsGuarded a bytes gate from.0 c) is_at from.2 in
-    room_guarded slots used bytes from.0 c free (room.each from.0 from.1)
-    (subst (λ x. IsGuarded (place_of slots used) bytes x from.0 c) is_gate guarded) }
+room_behind o new slots used at gate bytes free room is_at is_gate during = record {
+  each = λ c may.
+      let from = (during_now o new (FromOld o (IsGuarded at bytes gate)) during).each c may in
+      let guarded = subst (λ a. IsGuarded a bytes gate from.0 c) is_at from.2 in
+      room_guarded slots used bytes from.0 c free (room.each from.0 from.1)
+      (subst (λ x. IsGuarded (place_of slots used) bytes x from.0 c) is_gate guarded);
+}
 
 -- gates were closed, and those of the used slots are
 pub room_anew : (o new : Option Trace) (slots used : ℕ) → Now o (HasRoom slots used)
-    → During o new (FromOld o (IsClosing (gate_of 0) used)) → Now new (AreShut (gate_of 0) used) → Now new (HasRoom slots 0)
-room_anew o new slots used room during shut = record { each = λ c may.
-    let from = (during_now o new (FromOld o (IsClosing (gate_of 0) used)) during).each c may in
-    let has = room.each from.0 from.1 in
-    record {
-      long = omega (arith, has.long, from.2.same_length);
-      shut = λ k low there. ⊎_elim (λ below. ((shut.each c may) (gate_of k) (omega arith) (omega arith)).closed)
-          (λ above opened. has.shut k above there (sym (from.2.same (gate_of k) (inl (inr (omega arith)))) ∙ opened))
-          (cases_lt k used);
-    } }
+    → During o new (FromOld o (IsClosing (gate_of 0) used)) → Now new (AreShut (gate_of 0) used)
+    → Now new (HasRoom slots 0)
+room_anew o new slots used room during shut = record {
+  each = λ c may.
+      let from = (during_now o new (FromOld o (IsClosing (gate_of 0) used)) during).each c may in
+      let has = room.each from.0 from.1 in
+      record {
+        long = omega (arith, has.long, from.2.same_length);
+        shut = λ k low there. ⊎_elim (λ below. ((shut.each c may) (gate_of k) (omega arith)
+            (omega arith)).closed)
+            (λ above opened. has.shut k above there
+            (sym (from.2.same (gate_of k) (inl (inr (omega arith)))) ∙ opened))
+            (cases_lt k used);
+      };
+}
+
+-- a lane that was read of a settled device has room from its place on
+pub room_read : (o : Option Trace) (slots taken len : ℕ) (s : Scanned) → IsSettled o → HasLength o len → lane_end slots ≤ len
+    → IfSome o (λ t. IsRead slots taken (seen (Some t)) slots s) → Now o (HasRoom slots s.lane.used)
+room_read None slots taken len s settled long le read = record { each = λ c may. absurd may.image }
+room_read (Some t) slots taken len s settled long le read = record {
+  each = λ c may.
+      subst (HasRoom slots s.lane.used) (sym (settled.each c may)) (record {
+        long = omega (arith, long, le);
+        shut = read.none_behind;
+      });
+}
+
+-- and its gates read the same in each image
+pub gates_read : (o : Option Trace) (at n : ℕ) → IsSettled o → Reaches o (at + n) → Now o (HasGatesOf (seen o) at n)
+gates_read None at n settled room = record { each = λ c may. absurd may.image }
+gates_read (Some t) at n settled room = record {
+  each = λ c may.
+      subst (HasGatesOf (seen (Some t)) at n) (sym (settled.each c may)) (record { there = room; same = λ i low high. refl });
+}

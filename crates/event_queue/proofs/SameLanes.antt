@@ -1,27 +1,107 @@
--- What a lane holds depends on its gates and its open slots alone.
-use Rattle.std.proofs.Common.{◌≡◌, ◌⊎◌, inl, inr, ⊎_elim, ℕ, ◌+◌, ◌*◌, ◌<◌, ◌≤◌, Bool, cond, eqb, List, [], ◌++◌, length, get_or}
+-- What a lane holds depends on which gates are open, and on the slots behind these, alone.
+use Rattle.std.proofs.Common.{◌≡◌, inl, inr, ⊎_elim, ℕ, zero, suc, ◌+◌, ◌*◌, ◌<◌, ◌≤◌, List, [], ◌++◌, length}
+use Rattle.std.proofs.Common.{get_or}
 use Rattle.std.proofs.Common.{take, drop, refl, sym, ◌∙◌, ap, subst, arith, length-take, length-drop}
-use Rattle.std.proofs.lemmas.List.{get_or-take, get_or-drop, ext_get_or}
+use Rattle.std.specs.List.{All}
+use Rattle.std.proofs.lemmas.Bool.{cases_eq}
+use Rattle.std.proofs.lemmas.List.{get_or-drop, ext_get_or}
 use Rattle.trend_num.specs.declared.point.Point.{Point}
+use Rattle.trend_num.specs.Ranges.{InRange}
 use Rattle.disk_model.specs.Gates.{open_byte, IsOpen}
-use Rattle.event_queue.specs.Slots.{Batch, gate_of, place_of, lane_end, slot_at, batch_in, batch_at}
-use Rattle.event_queue.specs.Lanes.{IsStale, points_beyond, points_of, points_before, IsStaleBehind, IsNextBehind, FollowsOn}
-use Rattle.event_queue.specs.Lanes.{IsSound, IsLane}
+use Rattle.disk_model.proofs.Bytes.{holds_same}
+use Rattle.event_queue.specs.Slots.{Batch, gate_of, place_of, slot_at, batch_in, batch_at}
+use Rattle.event_queue.specs.Lanes.{IsStale, points_beyond, points_of, points_before, IsStaleBehind}
+use Rattle.event_queue.specs.Lanes.{IsNextBehind, FollowsOn}
+use Rattle.event_queue.specs.Lanes.{IsCounted, IsSound, IsLane}
+use Rattle.event_queue.proofs.Steps.{points_shut, points_open}
 
--- the same gates, and behind open ones the same slots
-pub record HasSameSlots (slots : ℕ) (a b : List ℕ) : Type 0 where
-  pub gates : (k : ℕ) → k < slots → get_or b (gate_of k) 0 ≡ get_or a (gate_of k) 0
-  pub slots_same : (k : ℕ) → k < slots → IsOpen (gate_of k) a → slot_at slots b k ≡ slot_at slots a k
+-- of the first n slots the same are open, and hold the same bytes
+pub record HasSameSlots (slots n : ℕ) (a b : List ℕ) : Type 0 where
+  pub forth : (k : ℕ) → k < n → IsOpen (gate_of k) a → IsOpen (gate_of k) b
+  pub back : (k : ℕ) → k < n → IsOpen (gate_of k) b → IsOpen (gate_of k) a
+  pub same : (k : ℕ) → k < n → IsOpen (gate_of k) a → slot_at slots b k ≡ slot_at slots a k
 
--- bytes that agree in a slot
-pub same_slot : (slots k : ℕ) (a b : List ℕ) → k < slots → lane_end slots ≤ length a → lane_end slots ≤ length b
+-- bytes that agree from slot k on
+pub same_behind : (slots k : ℕ) (a b : List ℕ) → length b ≡ length a
+    → ((i : ℕ) → place_of slots k ≤ i → get_or b i 0 ≡ get_or a i 0) → slot_at slots b k ≡ slot_at slots a k
+same_behind slots k a b size same =
+    let at = place_of slots k in
+    ap (take 1034) (ext_get_or 0 (drop at b) (drop at a)
+    (omega (arith, length-drop at b, length-drop at a, size)) (λ i below.
+    get_or-drop at b i 0 ∙ same (at + i) (omega arith) ∙ sym (get_or-drop at a i 0)))
+
+-- bytes that agree in slot k, which is whole in both
+pub same_slot : (slots k : ℕ) (a b : List ℕ) → place_of slots k + 1034 ≤ length a
+    → place_of slots k + 1034 ≤ length b
     → ((i : ℕ) → place_of slots k ≤ i → i < place_of slots k + 1034 → get_or b i 0 ≡ get_or a i 0)
     → slot_at slots b k ≡ slot_at slots a k
-same_slot slots k a b there a_long b_long same =
+same_slot slots k a b a_long b_long same =
     let at = place_of slots k in
-    let a_size : length (take 1034 (drop at a)) ≡ 1034 = omega (arith, length-take 1034 (drop at a), length-drop at a) in
-    let b_size : length (take 1034 (drop at b)) ≡ 1034 = omega (arith, length-take 1034 (drop at b), length-drop at b) in
-    ext_get_or 0 (take 1034 (drop at b)) (take 1034 (drop at a)) (b_size ∙ sym a_size) (λ i below.
-    get_or-take 1034 (drop at b) i 0 (omega (arith, b_size, below)) ∙ get_or-drop at b i 0
-    ∙ same (at + i) (omega arith) (omega (arith, b_size, below))
-    ∙ sym (get_or-take 1034 (drop at a) i 0 (omega (arith, b_size, below)) ∙ get_or-drop at a i 0))
+    let a_size : length (take 1034 (drop at a))
+    ≡ 1034 = omega (arith, length-take 1034 (drop at a), length-drop at a) in
+    ap (λ n. take n (drop at b)) (sym a_size)
+    ∙ holds_same at (take 1034 (drop at a)) b a (omega (arith, a_size)) (omega (arith, a_size))
+    (λ i low below. same i low (omega (arith, a_size, below))) (ap (λ n. take n (drop at a)) a_size)
+
+module _ (slots taken n : ℕ) (a b : List ℕ) (is : HasSameSlots slots n a b) where
+  -- the same batches
+  pub same_batch : (k : ℕ) → k < n → IsOpen (gate_of k) a → batch_at slots b k ≡ batch_at slots a k
+  same_batch k there opened = ap batch_in (is.same k there opened)
+
+  -- the same points
+  same_points_of : (k : ℕ) → k < n → points_of slots b taken k ≡ points_of slots a taken k
+  same_points_of k there = ⊎_elim
+      (λ opened. points_open slots taken b k (is.forth k there opened)
+      ∙ ap (points_beyond taken) (same_batch k there opened) ∙ sym (points_open slots taken a k opened))
+      (λ shut. points_shut slots taken b k (λ opened. shut (is.back k there opened))
+      ∙ sym (points_shut slots taken a k shut))
+      (cases_eq (get_or a (gate_of k) 0) open_byte)
+
+  pub same_points : (m : ℕ) → m ≤ n → points_before slots b taken m ≡ points_before slots a taken m
+  same_points zero within = refl
+  same_points (suc m) within =
+      ap (λ l. l ++ points_of slots b taken m) (same_points m (omega (arith, within)))
+      ∙ ap (λ l. points_before slots a taken m ++ l) (same_points_of m (omega (arith, within)))
+
+  -- the same batches are stale
+  pub same_stale : (k : ℕ) → k < n → IsOpen (gate_of k) a → IsStale taken (batch_at slots a k)
+      → IsStale taken (batch_at slots b k)
+  same_stale k there opened stale = subst (IsStale taken) (sym (same_batch k there opened)) stale
+
+  pub same_beyond : (k : ℕ) → k < n → IsOpen (gate_of k) a
+      → taken < (batch_at slots a k).first + (batch_at slots a k).count
+      → taken < (batch_at slots b k).first + (batch_at slots b k).count
+  same_beyond k there opened beyond = subst (λ x. taken < x.first + x.count) (sym (same_batch k there opened))
+      beyond
+
+  -- the same slots keep the layout
+  same_follows : (k : ℕ) → k < n → IsOpen (gate_of k) a → FollowsOn slots a taken k
+      → FollowsOn slots b taken k
+  same_follows k there opened follows = ⊎_elim
+      (λ behind. inl (record {
+        stale = same_stale k there opened behind.stale;
+        before = λ j below j_open. let j_in : j < n = omega (arith, there, below) in
+            let was = is.back j j_in j_open in same_stale j j_in was (behind.before j below was);
+      }))
+      (λ next. inr (record {
+        numbered = ap (λ x. x.first) (same_batch k there opened) ∙ next.numbered
+            ∙ ap (λ ps. taken + length ps) (sym (same_points k (omega (arith, there))));
+        opened = λ j below. is.forth j (omega (arith, there, below)) (next.opened j below);
+        beyond = λ j below. same_beyond j (omega (arith, there, below)) (next.opened j below)
+            (next.beyond j below);
+      })) follows
+
+  pub same_sound : (k : ℕ) → k < n → IsOpen (gate_of k) a → IsSound slots a taken k → IsSound slots b taken k
+  same_sound k there opened sound = record {
+    counted = subst IsCounted (sym (same_batch k there opened)) sound.counted;
+    follows = same_follows k there opened sound.follows;
+    in_range = subst (λ x. All InRange x.points) (sym (same_batch k there opened)) sound.in_range;
+  }
+
+  pub same_lane : (m : ℕ) → m ≤ n → IsLane slots a taken m → IsLane slots b taken m
+  same_lane m within lane = record {
+    sound = λ k below opened.
+        let there : k < n = omega (arith, below, within) in
+        let was = is.back k there opened in
+        same_sound k there was (lane.sound k below was);
+  }

@@ -1,10 +1,13 @@
 -- What was read of the first slots goes on to one slot more.
-use Rattle.std.proofs.Common.{◌≡◌, ◌≢◌, ◌⊎◌, ◌↔◌, inl, inr, ⊎_elim, ℕ, ◌+◌, ◌-◌, ◌*◌, ◌<◌, ◌≤◌, Bool, true, false, cond, min}
-use Rattle.std.proofs.Common.{List, [], ◌++◌, length, get_or, take, drop, refl, sym, ◌∙◌, ap, subst, arith, add-one}
+use Rattle.std.proofs.Common.{◌≡◌, ◌≢◌, ◌⊎◌, ◌↔◌, inl, inr, ⊎_elim, ℕ, ◌+◌, ◌-◌, ◌*◌, ◌<◌, ◌≤◌, Bool, true}
+use Rattle.std.proofs.Common.{false, cond, min}
+use Rattle.std.proofs.Common.{List, [], ◌++◌, length, get_or, take, drop, refl, sym, ◌∙◌, ap, subst, arith}
+use Rattle.std.proofs.Common.{add-one}
 use Rattle.std.proofs.Common.{Option, Some}
 use Rattle.std.specs.Int.{w64, from_be_bytes}
 use Rattle.std.specs.List.{All}
-use Rattle.std.proofs.lemmas.Bool.{cases_lt, cases_eq, eq-eqb, ne_eqb, le-leb, lt-leb, cond-true, cond-false, true≢false}
+use Rattle.std.proofs.lemmas.Bool.{cases_lt, cases_eq, eq-eqb, ne_eqb, le-leb, lt-leb, cond-true, cond-false}
+use Rattle.std.proofs.lemmas.Bool.{true≢false}
 use Rattle.std.proofs.lemmas.List.{append-nil}
 use Rattle.trend_num.specs.declared.point.Point.{Point}
 use Rattle.trend_num.specs.Ranges.{InRange}
@@ -13,8 +16,10 @@ use Rattle.archive_file.specs.declared.failure.ScanNo.{ScanNo}
 use Rattle.archive_file.specs.declared.failure.ScanNo.TheVariants.{Damaged}
 use Rattle.archive_file.proofs.Logs.{byte_of}
 use Rattle.event_queue.specs.declared.reader.Scanned.{Scanned}
-use Rattle.event_queue.specs.Slots.{Batch, gate_of, place_of, count_in, points_in, slot_at, batch_in, batch_at}
-use Rattle.event_queue.specs.Lanes.{IsStale, points_beyond, points_of, points_before, FollowsOn, IsCounted, IsSound, IsLane}
+use Rattle.event_queue.specs.Slots.{Batch, gate_of, place_of, count_in, points_in, slot_at, batch_in}
+use Rattle.event_queue.specs.Slots.{batch_at}
+use Rattle.event_queue.specs.Lanes.{IsStale, points_beyond, points_of, points_before, FollowsOn, IsCounted}
+use Rattle.event_queue.specs.Lanes.{IsSound, IsLane}
 use Rattle.event_queue.specs.Damages.{BreaksAt, IsLaneDamage}
 use Rattle.event_queue.specs.Scans.{IsRead}
 use Rattle.event_queue.specs.Pieces.{IsOpenSlot}
@@ -31,21 +36,29 @@ beyond_all taken b beyond = cond-false _ [] b.points (lt-leb (b.first + b.count)
 -- the first k + 1 slots of a lane, where the first k keep the layout and the last is closed or keeps it
 pub lane_more : (slots taken : ℕ) (bytes : List ℕ) (k : ℕ) → IsLane slots bytes taken k
     → (IsOpen (gate_of k) bytes → IsSound slots bytes taken k) → IsLane slots bytes taken (k + 1)
-lane_more slots taken bytes k lane last = record { sound = λ j below opened. ⊎_elim (λ before. lane.sound j before opened)
-    (λ at. let is : j ≡ k = omega arith in
-    subst (IsSound slots bytes taken) (sym is) (last (subst (λ i. IsOpen (gate_of i) bytes) is opened))) (cases_lt j k) }
+lane_more slots taken bytes k lane last =
+    record {
+      sound = λ j below opened. ⊎_elim (λ before. lane.sound j before opened)
+          (λ at. let is : j ≡ k = omega arith in
+          subst (IsSound slots bytes taken) (sym is) (last (subst (λ i. IsOpen (gate_of i) bytes) is opened)))
+          (cases_lt j k);
+    }
 
 module _ (slots taken : ℕ) (bytes : List ℕ) (k : ℕ) where
   -- a closed slot holds nothing
   pub points_shut : get_or bytes (gate_of k) 0 ≢ open_byte → points_of slots bytes taken k ≡ []
-  points_shut shut = cond-false _ (points_beyond taken (batch_at slots bytes k)) [] (ne_eqb (get_or bytes (gate_of k) 0) open_byte shut)
+  points_shut shut = cond-false _ (points_beyond taken (batch_at slots bytes k)) []
+      (ne_eqb (get_or bytes (gate_of k) 0) open_byte shut)
 
   -- an open one what its batch does
-  pub points_open : IsOpen (gate_of k) bytes → points_of slots bytes taken k ≡ points_beyond taken (batch_at slots bytes k)
-  points_open opened = cond-true _ (points_beyond taken (batch_at slots bytes k)) [] (eq-eqb (get_or bytes (gate_of k) 0) open_byte opened)
+  pub points_open : IsOpen (gate_of k) bytes → points_of slots bytes taken k
+      ≡ points_beyond taken (batch_at slots bytes k)
+  points_open opened = cond-true _ (points_beyond taken (batch_at slots bytes k)) []
+      (eq-eqb (get_or bytes (gate_of k) 0) open_byte opened)
 
   -- one slot more
-  pub points_more : points_before slots bytes taken (k + 1) ≡ points_before slots bytes taken k ++ points_of slots bytes taken k
+  pub points_more : points_before slots bytes taken (k + 1) ≡ points_before slots bytes taken k
+      ++ points_of slots bytes taken k
   points_more = ap (points_before slots bytes taken) (add-one k)
 
   -- a closed slot is passed by
@@ -53,20 +66,30 @@ module _ (slots taken : ℕ) (bytes : List ℕ) (k : ℕ) where
       → IsRead slots taken bytes (k + 1) s
   read_shut s shut read = record {
     lane = lane_more slots taken bytes k read.lane (λ opened. absurd (shut opened));
-    points = read.points ∙ sym (points_more ∙ ap (λ l. points_before slots bytes taken k ++ l) (points_shut shut)
+    points = read.points ∙ sym (points_more ∙ ap (λ l. points_before slots bytes taken k ++ l)
+        (points_shut shut)
         ∙ append-nil (points_before slots bytes taken k));
     last = read.last;
-    none_behind = λ j low below. ⊎_elim (λ before. read.none_behind j low before) (λ at. subst (λ i. get_or bytes (gate_of i) 0 ≢ open_byte) (omega arith) shut) (cases_lt j k);
+    none_behind = λ j low below. ⊎_elim (λ before. read.none_behind j low before)
+        (λ at. subst (λ i. get_or bytes (gate_of i) 0 ≢ open_byte) (omega arith) shut) (cases_lt j k);
     stale = (
       λ told. let one = read.stale.0 told in (one.0, omega (arith, one.1), one.2, one.3),
-      λ one. read.stale.1 (one.0, ⊎_elim (λ before. before) (λ at. absurd (shut (subst (λ i. IsOpen (gate_of i) bytes) (omega (arith, one.1)) one.2))) (cases_lt one.0 k), one.2, one.3),
+      λ one. read.stale.1 (
+        one.0,
+        ⊎_elim (λ before. before)
+            (λ at. absurd (shut (subst (λ i. IsOpen (gate_of i) bytes) (omega (arith, one.1)) one.2)))
+            (cases_lt one.0 k),
+        one.2,
+        one.3,
+      ),
     );
   }
 
   -- an open slot that keeps the layout is taken in
   pub read_open : (s new : Scanned) (stale : Bool) → IsRead slots taken bytes k s → IsOpen (gate_of k) bytes
       → IsSound slots bytes taken k → ((stale ≡ true) ↔ IsStale taken (batch_at slots bytes k))
-      → new.points.items ≡ s.points.items ++ points_beyond taken (batch_at slots bytes k) → new.lane.used ≡ k + 1 → new.stale ≡ stale
+      → new.points.items ≡ s.points.items ++ points_beyond taken (batch_at slots bytes k) → new.lane.used
+      ≡ k + 1 → new.stale ≡ stale
       → IsRead slots taken bytes (k + 1) new
   read_open s new stale read opened sound tested points used told = record {
     lane = lane;
@@ -76,7 +99,8 @@ module _ (slots taken : ℕ) (bytes : List ℕ) (k : ℕ) where
     none_behind = λ j low below. absurd (omega (arith, used));
     stale = (
       λ yes. (k, omega arith, opened, tested.0 (sym told ∙ yes)),
-      λ one. told ∙ tested.1 (all_stale slots taken bytes (k + 1) one.0 k lane one.1 (omega arith) one.2 opened one.3),
+      λ one. told ∙ tested.1 (all_stale slots taken bytes (k + 1) one.0 k lane one.1 (omega arith) one.2
+          opened one.3),
     );
   }
     where
@@ -90,16 +114,19 @@ pub record HasFields (slot : List ℕ) (first count : ℕ) (rest : List ℕ) : T
   pub rest_is : rest ≡ drop 10 slot
 
 -- the points of a count that is one
-pub points_counted : (slot : List ℕ) (first count : ℕ) (rest : List ℕ) → HasFields slot first count rest → count ≤ 64
+pub points_counted : (slot : List ℕ) (first count : ℕ) (rest : List ℕ) → HasFields slot first count rest
+    → count ≤ 64
     → (batch_in slot).points ≡ points_in count rest
 points_counted slot first count rest fields few =
     let clipped : min 64 (count_in slot) ≡ count = omega (arith, fields.count_is) in
     ap (λ n. points_in n (drop 10 slot)) clipped ∙ ap (points_in count) (sym fields.rest_is)
 
 -- the first damage, where an open slot breaks the layout and those before it keep it
-pub damage_here : (slots taken : ℕ) (bytes : List ℕ) (k : ℕ) (slot : List ℕ) (o a : ℕ) (byte : Option ℕ) (why : ScanNo) → k < slots
+pub damage_here : (slots taken : ℕ) (bytes : List ℕ) (k : ℕ) (slot : List ℕ) (o a : ℕ) (byte : Option ℕ)
+    (why : ScanNo) → k < slots
     → IsLane slots bytes taken k → IsOpenSlot slots bytes k slot → BreaksAt slots bytes taken k o → o < 1034
-    → why ≡ Damaged (place_of slots k + o) (Some (get_or slot o 0)) → why ≡ Damaged a byte → IsLaneDamage slots bytes taken a byte
+    → why ≡ Damaged (place_of slots k + o) (Some (get_or slot o 0)) → why ≡ Damaged a byte
+    → IsLaneDamage slots bytes taken a byte
 damage_here slots taken bytes k slot o a byte why there lane at_slot breaks within said told =
     let place : a ≡ place_of slots k + o = cc in
     let byte_said : byte ≡ Some (get_or slot o 0) = cc in (
@@ -111,6 +138,7 @@ damage_here slots taken bytes k slot o a byte why there lane at_slot breaks with
         opened = at_slot.opened;
         breaks = breaks;
         place = place;
-        byte_there = byte_said ∙ ap Some (ap (λ l. get_or l o 0) at_slot.here ∙ byte_of bytes (place_of slots k) 1034 o within ∙ ap (λ i. get_or bytes i 0) (sym place));
+        byte_there = byte_said ∙ ap Some (ap (λ l. get_or l o 0) at_slot.here
+            ∙ byte_of bytes (place_of slots k) 1034 o within ∙ ap (λ i. get_or bytes i 0) (sym place));
       },
     )

@@ -1,5 +1,6 @@
 -- One open slot: what its fields decide.
-use Rattle.std.proofs.Common.{◌≡◌, ◌⊎◌, ◌↔◌, inl, inr, ⊎_elim, ℕ, ◌+◌, ◌*◌, ◌<◌, ◌≤◌, Bool, true, false, cond, List, [], ◌∷◌}
+use Rattle.std.proofs.Common.{◌≡◌, ◌⊎◌, ◌↔◌, inl, inr, ⊎_elim, ℕ, ◌+◌, ◌*◌, ◌<◌, ◌≤◌, Bool, true, false, cond}
+use Rattle.std.proofs.Common.{List, [], ◌∷◌}
 use Rattle.std.proofs.Common.{◌++◌, length, take, drop, refl, sym, ◌∙◌, ap, subst, arith, length-append}
 use Rattle.std.specs.Int.{w16, w64, from_be_bytes}
 use Rattle.std.specs.List.{All}
@@ -20,7 +21,8 @@ use Rattle.event_queue.proofs.Rules.{fits_follow, misfit_follow}
 use Rattle.event_queue.proofs.Steps.{HasFields, points_counted, beyond_stale, beyond_all, read_open}
 
 -- the fields, as they are read one after the other
-pub fields_read : (slot behind rest : List ℕ) (first count : ℕ) → first ≡ from_be_bytes w64 (take 8 slot) → behind ≡ drop 8 slot
+pub fields_read : (slot behind rest : List ℕ) (first count : ℕ) → first ≡ from_be_bytes w64 (take 8 slot)
+    → behind ≡ drop 8 slot
     → count ≡ from_be_bytes w16 (take 2 behind) → rest ≡ drop 2 behind → HasFields slot first count rest
 fields_read slot behind rest first count number is counted left = record {
   first_is = number;
@@ -34,34 +36,42 @@ none_there [] none = refl
 none_there (x ∷ xs) none = absurd (omega (arith, none))
 
 -- what holds of the whole, whatever the device, goes on to one open slot more
-pub within_more : (slots taken k first count : ℕ) (rest : List ℕ) (s new : Scanned) (stale : Bool) → IsWithin slots taken k s
+pub within_more : (slots taken k first count : ℕ) (rest : List ℕ) (s new : Scanned) (stale : Bool)
+    → IsWithin slots taken k s
     → Fits s k first stale → count ≤ 64 → All InRange (points_in count rest) → new.lane.slots ≡ s.lane.slots
     → new.lane.used ≡ k + 1 → new.lane.next ≡ s.lane.next + cond stale 0 count
-    → new.points.items ≡ s.points.items ++ points_in (cond stale 0 count) rest → new.stale ≡ stale → IsWithin slots taken (k + 1) new
-within_more slots taken k first count rest s new true within fits few inside same used next points told = record {
-  slots_same = same ∙ within.slots_same;
-  used = omega (arith, used);
-  number = next ∙ omega (arith, within.number, ap length left);
-  few = omega (arith, within.few, within.used, used, ap length left);
-  in_range = subst (All InRange) (sym left) within.in_range;
-  none_stale = λ yes. left ∙ ⊎_elim within.none_stale (λ none. none_there s.points.items (omega (arith, within.few, none))) fits;
-}
+    → new.points.items ≡ s.points.items ++ points_in (cond stale 0 count) rest → new.stale ≡ stale
+    → IsWithin slots taken (k + 1) new
+within_more slots taken k first count rest s new true within fits few inside same used next points told =
+    record {
+      slots_same = same ∙ within.slots_same;
+      used = omega (arith, used);
+      number = next ∙ omega (arith, within.number, ap length left);
+      few = omega (arith, within.few, within.used, used, ap length left);
+      in_range = subst (All InRange) (sym left) within.in_range;
+      none_stale = λ yes. left ∙ ⊎_elim within.none_stale
+          (λ none. none_there s.points.items (omega (arith, within.few, none))) fits;
+    }
   where
     left : new.points.items ≡ s.points.items
     left = points ∙ append-nil s.points.items
-within_more slots taken k first count rest s new false within fits few inside same used next points told = record {
-  slots_same = same ∙ within.slots_same;
-  used = omega (arith, used);
-  number = next ∙ omega (arith, within.number, more);
-  few = omega (arith, within.few, within.used, used, more, few);
-  in_range = subst (All InRange) (sym points) (All-append InRange s.points.items (points_in count rest) within.in_range inside);
-  none_stale = λ yes. absurd (true≢false (sym yes ∙ told));
-}
+within_more slots taken k first count rest s new false within fits few inside same used next points told =
+    record {
+      slots_same = same ∙ within.slots_same;
+      used = omega (arith, used);
+      number = next ∙ omega (arith, within.number, more);
+      few = omega (arith, within.few, within.used, used, more, few);
+      in_range = subst (All InRange) (sym points)
+          (All-append InRange s.points.items (points_in count rest) within.in_range inside);
+      none_stale = λ yes. absurd (true≢false (sym yes ∙ told));
+    }
   where
     more : length new.points.items ≡ length s.points.items + count
-    more = ap length points ∙ length-append s.points.items (points_in count rest) ∙ ap (λ n. length s.points.items + n) (length-points_in count rest)
+    more = ap length points ∙ length-append s.points.items (points_in count rest)
+        ∙ ap (λ n. length s.points.items + n) (length-points_in count rest)
 
-module _ (slots taken : ℕ) (bytes : List ℕ) (k first count : ℕ) (slot rest : List ℕ) (fields : HasFields slot first count rest) (at_slot : IsOpenSlot slots bytes k slot) where
+module _ (slots taken : ℕ) (bytes : List ℕ) (k first count : ℕ) (slot rest : List ℕ)
+    (fields : HasFields slot first count rest) (at_slot : IsOpenSlot slots bytes k slot) where
   -- the fields are those of slot k
   first_at : first ≡ (batch_at slots bytes k).first
   first_at = fields.first_is ∙ ap (λ l. (batch_in l).first) at_slot.here
@@ -70,62 +80,88 @@ module _ (slots taken : ℕ) (bytes : List ℕ) (k first count : ℕ) (slot rest
   count_at = fields.count_is ∙ ap count_in at_slot.here
 
   points_at : count ≤ 64 → (batch_at slots bytes k).points ≡ points_in count rest
-  points_at few = ap (λ l. (batch_in l).points) (sym at_slot.here) ∙ points_counted slot first count rest fields few
+  points_at few = ap (λ l. (batch_in l).points) (sym at_slot.here)
+      ∙ points_counted slot first count rest fields few
 
   -- a count that is none breaks the layout
   pub count_breaks : (count ≡ 0) ⊎ (64 < count) → IsCountBroken slots bytes k 8
-  count_breaks bad = record { field = refl; broken = λ counted. absurd (⊎_elim (λ none. omega (arith, none, count_at, counted.some)) (λ many. omega (arith, many, count_at, counted.few)) bad) }
+  count_breaks bad = record {
+    field = refl;
+    broken =
+        λ counted. absurd (⊎_elim (λ none. omega (arith, none, count_at, counted.some))
+        (λ many. omega (arith, many, count_at, counted.few)) bad);
+  }
 
   module _ (some : 1 ≤ count) (few : count ≤ 64) where
     counted : IsCounted (batch_at slots bytes k)
     counted = record { some = omega (arith, some, count_at); few = omega (arith, few, count_at) }
 
-    module _ (s : Scanned) (read : IsRead slots taken bytes k s) (within : IsWithin slots taken k s) (stale : Bool) (tested : (stale ≡ true) ↔ (first + count ≤ taken)) where
+    module _ (s : Scanned) (read : IsRead slots taken bytes k s) (within : IsWithin slots taken k s)
+        (stale : Bool) (tested : (stale ≡ true) ↔ (first + count ≤ taken)) where
       stale_at : (stale ≡ true) ↔ IsStale taken (batch_at slots bytes k)
-      stale_at = (λ yes. omega (arith, tested.0 yes, first_at, count_at), λ all. tested.1 (omega (arith, all, first_at, count_at)))
+      stale_at = (
+        λ yes. omega (arith, tested.0 yes, first_at, count_at),
+        λ all. tested.1
+            (omega (arith, all, first_at, count_at)),
+      )
 
       -- so does a first number that does not fit
       pub first_breaks : (Fits s k first stale → ⊥) → IsFirstBroken slots bytes taken k 0
       first_breaks unfit = record {
         field = refl;
         counted = counted;
-        broken = misfit_follow slots taken bytes k s read within counted stale stale_at (λ fits. unfit (subst (λ n. Fits s k n stale) (sym first_at) fits));
+        broken = misfit_follow slots taken bytes k s read within counted stale stale_at
+            (λ fits. unfit (subst (λ n. Fits s k n stale) (sym first_at) fits));
       }
 
       module _ (fits : Fits s k first stale) where
         follows : FollowsOn slots bytes taken k
-        follows = fits_follow slots taken bytes k s read within counted stale stale_at (subst (λ n. Fits s k n stale) first_at fits)
+        follows = fits_follow slots taken bytes k s read within counted stale stale_at
+            (subst (λ n. Fits s k n stale) first_at fits)
 
         -- and a point out of range
-        pub point_breaks : (i : ℕ) → i < count → All InRange (points_in i rest) → (InRange (point_at (drop (16 * i) rest)) → ⊥)
+        pub point_breaks : (i : ℕ) → i < count → All InRange (points_in i rest)
+            → (InRange (point_at (drop (16 * i) rest)) → ⊥)
             → IsPointBroken slots bytes taken k (10 + 16 * i) i
         point_breaks i there before outside = record {
           field = refl;
           counted = counted;
           follows = follows;
           there = omega (arith, there, count_at);
-          before = subst (All InRange) (sym (ap (take i) (points_at few) ∙ take-points_in i count rest (omega (arith, there)))) before;
+          before = subst (All InRange) (sym (ap (take i) (points_at few)
+              ∙ take-points_in i count rest (omega (arith, there)))) before;
           broken = λ inside. outside (subst (λ l. InRange (point_at l)) (sym place) inside);
         }
           where
             place : drop (16 * i) rest ≡ drop (10 + 16 * i) (slot_at slots bytes k)
-            place = ap (drop (16 * i)) fields.rest_is ∙ drop-drop (16 * i) 10 slot ∙ ap (drop (10 + 16 * i)) at_slot.here
+            place = ap (drop (16 * i)) fields.rest_is ∙ drop-drop (16 * i) 10 slot
+                ∙ ap (drop (10 + 16 * i)) at_slot.here
 
         -- what a batch holds beyond the summary
         beyond_at : points_beyond taken (batch_at slots bytes k) ≡ points_in (cond stale 0 count) rest
         beyond_at = elim (cases_Bool stale) [
-          | inl told ↦ beyond_stale taken (batch_at slots bytes k) (stale_at.0 told) ∙ ap (λ b. points_in (cond b 0 count) rest) (sym told)
-          | inr untold ↦ beyond_all taken (batch_at slots bytes k) (not_stale untold) ∙ points_at few ∙ ap (λ b. points_in (cond b 0 count) rest) (sym untold)
+          | inl told ↦ beyond_stale taken (batch_at slots bytes k) (stale_at.0 told)
+              ∙ ap (λ b. points_in (cond b 0 count) rest) (sym told)
+          | inr untold ↦ beyond_all taken (batch_at slots bytes k) (not_stale untold) ∙ points_at few
+              ∙ ap (λ b. points_in (cond b 0 count) rest) (sym untold)
         ]
           where
-            not_stale : stale ≡ false → taken < (batch_at slots bytes k).first + (batch_at slots bytes k).count
-            not_stale untold = ⊎_elim (λ beyond. beyond) (λ all. absurd (true≢false (sym (stale_at.1 all) ∙ untold)))
+            not_stale : stale ≡ false → taken < (batch_at slots bytes k).first +
+                (batch_at slots bytes k).count
+            not_stale untold = ⊎_elim (λ beyond. beyond)
+                (λ all. absurd (true≢false (sym (stale_at.1 all) ∙ untold)))
                 (cases_lt taken ((batch_at slots bytes k).first + (batch_at slots bytes k).count))
 
         -- else the slot is taken in
-        pub taken_in : (new : Scanned) → All InRange (points_in count rest) → new.points.items ≡ s.points.items ++ points_in (cond stale 0 count) rest
+        pub taken_in : (new : Scanned) → All InRange (points_in count rest) → new.points.items
+            ≡ s.points.items ++ points_in (cond stale 0 count) rest
             → new.lane.used ≡ k + 1 → new.stale ≡ stale → IsRead slots taken bytes (k + 1) new
         taken_in new inside points used told =
             read_open slots taken bytes k s new stale read at_slot.opened
-            (record { counted = counted; follows = follows; in_range = subst (All InRange) (sym (points_at few)) inside }) stale_at
+            (record {
+              counted = counted;
+              follows = follows;
+              in_range =
+                  subst (All InRange) (sym (points_at few)) inside;
+            }) stale_at
             (points ∙ ap (λ l. s.points.items ++ l) (sym beyond_at)) used told

@@ -17,14 +17,16 @@ pub record IsWithin (slots taken n : ℕ) (s : Scanned) : Type 0 where
   pub in_range : All InRange s.points.items
   pub none_stale : s.stale ≡ true → s.points.items ≡ []
 
--- this was read of the first n slots: each open one keeps the layout, these are the points, and `used` is one above the
+-- this was read of the first n slots: each open one keeps the layout, these are the points, and `used` is one
+-- above the
 -- last open one, or 0
 pub record IsRead (slots taken : ℕ) (bytes : List ℕ) (n : ℕ) (s : Scanned) : Type 0 where
   pub lane : IsLane slots bytes taken n
   pub points : s.points.items ≡ points_before slots bytes taken n
   pub last : 0 < s.lane.used → IsOpen (gate_of (s.lane.used - 1)) bytes
   pub none_behind : (k : ℕ) → s.lane.used ≤ k → k < n → slice_index bytes (gate_of k) ≢ open_byte
-  pub stale : IsTrue s.stale ↔ ((k : ℕ) × (k < n) × IsOpen (gate_of k) bytes × IsStale taken (batch_at slots bytes k))
+  pub stale : IsTrue s.stale ↔ ((k : ℕ) × (k < n) × IsOpen (gate_of k) bytes
+      × IsStale taken (batch_at slots bytes k))
 
 -- a batch with this first number may stand in slot k, behind what was read
 abbrev pub Fits : Scanned → ℕ → ℕ → Bool → Type 0

@@ -1,5 +1,7 @@
--- The bytes of a lane. Behind the first 400 bytes of a device stand the gates, one for each slot, and behind them the
--- slots, 1,034 bytes each. A slot holds one batch: the number of its first raw value in 8 bytes, how many there are in
+-- The bytes of a lane. Behind the first 400 bytes of a device stand the gates, one for each slot, and behind
+-- them the
+-- slots, 1,034 bytes each. A slot holds one batch: the number of its first raw value in 8 bytes, how many
+-- there are in
 -- 2, and their points.
 use Rattle.std.specs.Prelude.{ℕ, zero, suc, ◌+◌, ◌*◌, min, List, [], ◌∷◌, ◌++◌, length, take, drop, flat_map}
 use Rattle.std.specs.Int.{w16, w64, from_be_bytes}
@@ -18,7 +20,8 @@ place_of slots k = 400 + slots + 1034 * k
 abbrev pub lane_end : ℕ → ℕ
 lane_end slots = 400 + 1035 * slots
 
--- raw values that were put into the lane together: the number of the first, counted from 0 since the tag began, how
+-- raw values that were put into the lane together: the number of the first, counted from 0 since the tag
+-- began, how
 -- many there are, and their points
 pub record Batch : Type 0 where
   pub first : ℕ
@@ -27,7 +30,8 @@ pub record Batch : Type 0 where
 
 -- the bytes of a batch
 abbrev pub batch_bytes : ℕ → List Point → List ℕ
-batch_bytes first points = number_bytes 8 first ++ (number_bytes 2 (length points) ++ flat_map point_bytes points)
+batch_bytes first points = number_bytes 8 first
+    ++ (number_bytes 2 (length points) ++ flat_map point_bytes points)
 
 -- the n points that stand one after the other
 abbrev pub points_in : ℕ → List ℕ → List Point

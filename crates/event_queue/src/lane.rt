@@ -49,7 +49,9 @@ impl Lane {
         ensures untouched { IsErrOf result LaneFull → dev.new ≡ dev.old }
         ensures unmoved { OnErr result (self.new ≡ self.old) }
         ensures moved { OnOk result (self.new ≡ record self.old {
-            used = self.old.used + 1; next = self.old.next + length points.now }) }
+          used = self.old.used + 1;
+          next = self.old.next + length points.now;
+        }) }
         ensures reads { OnOk result (Sees (D.trace dev.new) (written (written (seen (D.trace dev.old))
             (place_of self.old.slots self.old.used) (batch_bytes self.old.next points.now))
             (gate_of self.old.used) (open_byte ∷ []))) }

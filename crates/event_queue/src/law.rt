@@ -1,5 +1,5 @@
 // What each image that a crash may leave of a lane holds, in the words of what is recovered of it.
-ghost use Rattle.std.specs.Prelude.{◌≡◌, ◌⊎◌, ℕ, ◌+◌, ◌<◌, ◌≤◌, ◌^◌, ◌++◌, List, [], length};
+ghost use Rattle.std.specs.Prelude.{◌≡◌, ◌⊎◌, ℕ, ◌+◌, ◌<◌, ◌≤◌, ◌^◌, ◌++◌, List, [], length, true, false};
 ghost use Rattle.std.specs.List.{All};
 ghost use Rattle.trend_num.specs.declared.point.Point.{Point};
 ghost use Rattle.trend_num.specs.Ranges.{InRange};
@@ -7,6 +7,8 @@ ghost use Rattle.disk_model.specs.Gates.{IsGuarded, IsClosing};
 ghost use Rattle.event_queue.specs.Slots.{gate_of, place_of, batch_bytes, lane_end};
 ghost use Rattle.event_queue.specs.Lanes.{lane_points, IsLane};
 ghost use Rattle.event_queue.specs.Places.{IsFilled, IsOvertaken};
+ghost use Rattle.event_queue.specs.declared.reader.Scanned.{Scanned};
+ghost use Rattle.event_queue.specs.Scans.{IsRead, IsWithin};
 
 /// Each image of an append holds the points from before, or these and the whole batch behind them.
 pub fn an_append_is_whole_or_absent()
@@ -15,7 +17,7 @@ pub fn an_append_is_whole_or_absent()
         → IsFilled slots taken used next old points
         → IsGuarded (place_of slots used) (batch_bytes next batch) (gate_of used) old new
         → IsFilled slots taken used next new points
-            ⊎ IsFilled slots taken (used + 1) (next + length batch) new (points ++ batch) }
+        ⊎ IsFilled slots taken (used + 1) (next + length batch) new (points ++ batch) }
 {}
 
 /// Each image of a restart of a lane that a summary has overtaken is overtaken, and such a lane holds no points.
@@ -28,5 +30,14 @@ pub fn a_restart_leaves_an_overtaken_lane()
 pub fn a_lane_is_filled_or_overtaken()
     ensures { (slots taken : ℕ) (bytes : List ℕ) → lane_end slots ≤ length bytes → IsLane slots bytes taken slots
         → IsOvertaken slots taken bytes ⊎ ((used : ℕ) × (next : ℕ) × (points : List Point)
-            × IsFilled slots taken used next bytes points) }
+        × IsFilled slots taken used next bytes points) }
+{}
+
+/// A scan tells which of the two: a stale lane is overtaken, and any other is in use, up to the place that it answers.
+pub fn a_scan_tells_which_it_is()
+    ensures overtaken { (slots taken : ℕ) (bytes : List ℕ) (s : Scanned) → IsRead slots taken bytes slots s
+        → IsWithin slots taken slots s → s.stale ≡ true → IsOvertaken slots taken bytes }
+    ensures filled { (slots taken : ℕ) (bytes : List ℕ) (s : Scanned) → lane_end slots ≤ length bytes
+        → IsRead slots taken bytes slots s → IsWithin slots taken slots s → s.stale ≡ false
+        → IsFilled slots taken s.lane.used s.lane.next bytes s.points.items }
 {}

@@ -20,11 +20,12 @@ pub use archive_file::{DeviceFault, ScanNo};
 pub use failure::LaneNo;
 pub use lane::Lane;
 pub use law::{
-    a_lane_is_filled_or_overtaken, a_restart_leaves_an_overtaken_lane, an_append_is_whole_or_absent,
+    a_lane_is_filled_or_overtaken, a_restart_leaves_an_overtaken_lane, a_scan_tells_which_it_is,
+    an_append_is_whole_or_absent,
 };
 pub use reader::{Scanned, scan};
 pub use slot::{BATCH_MOST, SLOT_LEN};
 pub use trend_num::Point;
 
-
-
+#[cfg(test)]
+mod tests;

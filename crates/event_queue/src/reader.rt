@@ -1,8 +1,8 @@
 // What a lane holds, read in large pieces.
-ghost use Rattle.std.specs.Prelude.{◌≡◌, ◌≢◌, ◌↔◌, ◌+◌, ◌*◌, ◌^◌, ◌<◌, ◌≤◌, ℕ, List, length, take, drop, slice_index, Option};
+ghost use Rattle.std.specs.Prelude.{◌≡◌, ◌≢◌, ◌↔◌, ◌+◌, ◌*◌, ◌^◌, ◌<◌, ◌≤◌, ℕ, List, length, take, drop, slice_index, vec_len, Option};
 ghost use Rattle.std.specs.Prelude.{IsTrue, IfOk, IfSome, OnOk, OnErr, IsErrOf};
 ghost use Rattle.disk_model.specs.Traces.{seen};
-ghost use Rattle.disk_model.specs.Calls.{Reaches, Rose};
+ghost use Rattle.disk_model.specs.Calls.{HasCause, Reaches, Reads, Rose};
 ghost use Rattle.archive_file.specs.declared.failure.ScanNo.TheVariants.{DeviceFault, Damaged, WantOfMemory};
 ghost use Rattle.disk_model.specs.Gates.{open_byte};
 ghost use Rattle.event_queue.specs.Slots.{place_of, lane_end};
@@ -11,11 +11,12 @@ ghost use Rattle.event_queue.specs.Pieces.{IsOpenSlot, IsPiece};
 ghost use Rattle.event_queue.specs.Scans.{IsWithin, IsRead, Fits};
 
 use crate::slot::{
-    BATCH_MOST, FIRST_GATE, POINT_LEN, SLOT_LEN, add_points, first_out_of_range, slot_place, take_count,
+    BATCH_MOST, FIRST_GATE, POINT_LEN, SLOT_LEN, add_points, first_out_of_range, slot_place,
+    take_count,
 };
 use crate::{Lane, ScanNo};
 use archive_file::{read_bytes, take_number};
-use disk_model::{Disk, OPEN};
+use disk_model::{Disk, Failed, OPEN};
 use std::alloc::Global;
 use trend_num::Point;
 
@@ -42,12 +43,7 @@ pub struct Scanned {
 
 /// Reads a lane of so many slots for a summary that counts the first `taken` raw values, or names the first byte of the
 /// first field that breaks the layout, slot by slot. The device is not written.
-pub fn scan<D: Disk>(
-    alloc: Global,
-    dev: &mut D,
-    slots: u32,
-    taken: u64,
-) -> Result<Scanned, ScanNo>
+pub fn scan<D: Disk>(alloc: Global, dev: &mut D, slots: u32, taken: u64) -> Result<Scanned, ScanNo>
     requires room { Reaches (D.trace dev.old) (lane_end slots) }
     requires number { taken < 10 ^ 18 }
     ensures ok { IfOk result (λ s. IfSome (D.trace dev.old) (λ t. IsRead slots taken (seen (Option.Some t)) slots s)) }
@@ -68,13 +64,27 @@ pub fn scan<D: Disk>(
     for j in 0..used.div_ceil(PIECE) {
         let from = PIECE * j;
         let count = PIECE.min(used - from);
-        piece.truncate(SLOT_LEN * count as usize);
-        let Ok(()) = dev.read(slot_place(slots, from), &mut piece) else {
+        let len = SLOT_LEN * count as usize;
+        let Ok(()) = refill(dev, slot_place(slots, from), len, &mut piece) else {
             return Err(ScanNo::DeviceFault);
         };
         scanned.take_piece(taken, &gates, from, count, &piece)?;
     }
     Ok(scanned)
+}
+
+// Cuts a piece to so many bytes, and fills it with those from `at` on.
+fn refill<D: Disk>(dev: &mut D, at: u64, len: usize, piece: &mut Vec<u8>) -> Result<(), Failed>
+    requires there { Reaches (D.trace dev.old) (at + len) }
+    requires room { len ≤ vec_len piece.old }
+    ensures len { OnOk result (vec_len piece.new ≡ len) }
+    ensures bytes { OnOk result (Reads (D.trace dev.old) at piece.new.items) }
+    ensures same { D.trace dev.new ≡ D.trace dev.old }
+    ensures untimed { D.ticks dev.new ≡ D.ticks dev.old }
+    ensures cause { HasCause (D.fault_count dev.old) (D.fault_count dev.new) result }
+{
+    piece.truncate(len);
+    dev.read(at, piece)
 }
 
 // One more than the number of the last open gate, or 0 where none is open.

@@ -11,8 +11,10 @@ loop-i-preserved c =
     let i = c.loop-i._i in
     record {
       rest = points_behind i bytes _ _ c.loop-i.invariant.rest c.take_point.ensures.rest;
-      points = c.in_ok-push.ensures.items ∙ ap (λ l. l ++ c.take_point.result.0 ∷ []) c.loop-i.invariant.points
+      points = c.in_ok-push.ensures.items ∙ ap (λ l. l ++ c.take_point.result.0 ∷ [])
+          c.loop-i.invariant.points
           ∙ append_assoc c.args.points.now.items (points_in i bytes) (c.take_point.result.0 ∷ [])
-          ∙ ap (λ p. c.args.points.now.items ++ (points_in i bytes ++ p ∷ [])) (c.take_point.ensures.point ∙ ap point_at c.loop-i.invariant.rest)
+          ∙ ap (λ p. c.args.points.now.items ++ (points_in i bytes ++ p ∷ []))
+          (c.take_point.ensures.point ∙ ap point_at c.loop-i.invariant.rest)
           ∙ ap (λ l. c.args.points.now.items ++ l) (sym (points_in_more i bytes));
     }

@@ -12,8 +12,10 @@ loop-i-preserved c =
     let bytes = c.args.bytes.now in
     let i = c.loop-i.i in
     let inside : InRange (point_at (drop (16 * i) bytes)) =
-    subst InRange (c.take_point.ensures.point ∙ ap point_at c.loop-i.invariant.rest) (c.in_range.ensures.0 c.if-not-in_range.false) in
+    subst InRange (c.take_point.ensures.point ∙ ap point_at c.loop-i.invariant.rest)
+    (c.in_range.ensures.0 c.if-not-in_range.false) in
     record {
       rest = points_behind i bytes _ _ c.loop-i.invariant.rest c.take_point.ensures.rest;
-      before = subst (All InRange) (sym (points_in_more i bytes)) (All-push InRange (points_in i bytes) _ c.loop-i.invariant.before inside);
+      before = subst (All InRange) (sym (points_in_more i bytes))
+          (All-push InRange (points_in i bytes) _ c.loop-i.invariant.before inside);
     }

@@ -1,4 +1,5 @@
-use Rattle.std.proofs.Common.{◌≡◌, ◌+◌, ◌*◌, ◌<◌, ◌⊎◌, inl, inr, ◌++◌, cond, get_or, Some, refl, sym, ap, ◌∙◌, arith, true, false}
+use Rattle.std.proofs.Common.{◌≡◌, ◌+◌, ◌*◌, ◌<◌, ◌⊎◌, inl, inr, ◌++◌, cond, get_or, Some, refl, sym, ap, ◌∙◌}
+use Rattle.std.proofs.Common.{arith, true, false}
 use Rattle.std.proofs.lemmas.Bool.{cond-true, cond-false, true≢false}
 use Rattle.std.specs.List.{All}
 use Rattle.trend_num.specs.Ranges.{InRange}
@@ -6,10 +7,12 @@ use Rattle.archive_file.specs.declared.failure.ScanNo.TheVariants.{Damaged}
 use Rattle.event_queue.specs.Slots.{points_in}
 use Rattle.event_queue.specs.Scans.{Fits}
 use Rattle.event_queue.proofs.Steps.{HasFields, damage_here}
-use Rattle.event_queue.proofs.Taken.{fields_read, within_more, count_breaks, first_breaks, point_breaks, taken_in}
+use Rattle.event_queue.proofs.Taken.{fields_read, within_more, count_breaks, first_breaks, point_breaks}
+use Rattle.event_queue.proofs.Taken.{taken_in}
 use Rattle.event_queue.proofs.reader.Scanned.take_slot.Goals as goal
 use Rattle.event_queue.proofs.reader.Scanned.take_slot.Goals.{then-stale, else-stale}
 use Rattle.event_queue.proofs.reader.Scanned.take_slot.Goals.{then-count-eq0-via-then-count-eq0}
+use Rattle.event_queue.proofs.reader.Scanned.take_slot.Goals.{}
 use Rattle.event_queue.proofs.reader.Scanned.take_slot.Goals.{then-count-eq0-via-else-count-eq0+then-count-gt-BATCH_MOST}
 
 pub returns-then-count-eq0-clause-damaged : goal.returns-then-count-eq0-clause-damaged
@@ -17,12 +20,15 @@ returns-then-count-eq0-clause-damaged c = λ a byte told bytes at_slot read.
     let slots = c.args.self.now.lane.slots in
     let slot = c.args.slot.now in
     let same : c.damage.result ≡ Damaged a byte = cc (told) in
-    let fields = fields_read slot _ _ _ _ c.take_number-first.ensures.number c.take_number-first.ensures.rest c.take_count-count.ensures.number c.take_count-count.ensures.rest in
-    let bad : (c.take_count-count.result.0 ≡ 0) ⊎ (64 < c.take_count-count.result.0) = elim c.then-count-eq0.branch [
+    let fields = fields_read slot _ _ _ _ c.take_number-first.ensures.number c.take_number-first.ensures.rest
+    c.take_count-count.ensures.number c.take_count-count.ensures.rest in
+    let bad : (c.take_count-count.result.0 ≡ 0) ⊎ (64 < c.take_count-count.result.0) =
+    elim c.then-count-eq0.branch [
       | then-count-eq0-via-then-count-eq0 w ↦ inl w.if-count-eq0.true
       | then-count-eq0-via-else-count-eq0+then-count-gt-BATCH_MOST w ↦ inr w.if-count-gt-BATCH_MOST.true
     ] in
-    damage_here slots c.args.taken bytes c.args.k slot 8 a byte c.damage.result c.requires.there read.lane at_slot
+    damage_here slots c.args.taken bytes c.args.k slot 8 a byte c.damage.result c.requires.there read.lane
+    at_slot
     (inl (count_breaks slots c.args.taken bytes c.args.k _ _ slot _ fields at_slot bad)) (omega arith)
     (c.damage.ensures ∙ ap (λ p. Damaged (p + 8) (Some (get_or slot 8 0))) c.slot_place-at.ensures) same
 
@@ -31,11 +37,15 @@ returns-then-not-follows-clause-damaged c = λ a byte told bytes at_slot read.
     let slots = c.args.self.now.lane.slots in
     let slot = c.args.slot.now in
     let same : c.damage-then-not-follows.result ≡ Damaged a byte = cc (told) in
-    let fields = fields_read slot _ _ _ _ c.take_number-first.ensures.number c.take_number-first.ensures.rest c.take_count-count.ensures.number c.take_count-count.ensures.rest in
-    damage_here slots c.args.taken bytes c.args.k slot 0 a byte c.damage-then-not-follows.result c.requires.there read.lane at_slot
-    (inr (inl (first_breaks slots c.args.taken bytes c.args.k _ _ slot _ fields at_slot (omega arith) (omega arith) c.args.self.now read c.requires.within _ c.is_stale-stale.ensures
-        (λ fits. true≢false (sym (c.follows.ensures.1 fits) ∙ c.if-not-follows.true))))) (omega arith)
-    (c.damage-then-not-follows.ensures ∙ ap (λ p. Damaged (p + 0) (Some (get_or slot 0 0))) c.slot_place-at.ensures) same
+    let fields = fields_read slot _ _ _ _ c.take_number-first.ensures.number c.take_number-first.ensures.rest
+    c.take_count-count.ensures.number c.take_count-count.ensures.rest in
+    damage_here slots c.args.taken bytes c.args.k slot 0 a byte c.damage-then-not-follows.result
+    c.requires.there read.lane at_slot
+    (inr (inl (first_breaks slots c.args.taken bytes c.args.k _ _ slot _ fields at_slot (omega arith)
+    (omega arith) c.args.self.now read c.requires.within _ c.is_stale-stale.ensures
+    (λ fits. true≢false (sym (c.follows.ensures.1 fits) ∙ c.if-not-follows.true))))) (omega arith)
+    (c.damage-then-not-follows.ensures ∙ ap (λ p. Damaged (p + 0) (Some (get_or slot 0 0)))
+    c.slot_place-at.ensures) same
 
 pub returns-in-Some-clause-damaged : goal.returns-in-Some-clause-damaged
 returns-in-Some-clause-damaged c = λ a byte told bytes at_slot read.
@@ -43,24 +53,36 @@ returns-in-Some-clause-damaged c = λ a byte told bytes at_slot read.
     let slot = c.args.slot.now in
     let i = c.in-Some.i in
     let same : c.damage-in-Some.result ≡ Damaged a byte = cc (told) in
-    let fields = fields_read slot _ _ _ _ c.take_number-first.ensures.number c.take_number-first.ensures.rest c.take_count-count.ensures.number c.take_count-count.ensures.rest in
-    damage_here slots c.args.taken bytes c.args.k slot (10 + 16 * i) a byte c.damage-in-Some.result c.requires.there read.lane at_slot
-    (inr (inr (i, point_breaks slots c.args.taken bytes c.args.k _ _ slot _ fields at_slot (omega arith) (omega arith) c.args.self.now read c.requires.within _ c.is_stale-stale.ensures
-        (c.follows.ensures.0 c.if-not-follows.false) i c.in-Some.ensures.there c.in-Some.ensures.before c.in-Some.ensures.broken))) (omega (arith, c.in-Some.ensures.there))
-    (c.damage-in-Some.ensures ∙ ap (λ p. Damaged (p + (10 + 16 * i)) (Some (get_or slot (10 + 16 * i) 0))) c.slot_place-at.ensures) same
+    let fields = fields_read slot _ _ _ _ c.take_number-first.ensures.number c.take_number-first.ensures.rest
+    c.take_count-count.ensures.number c.take_count-count.ensures.rest in
+    damage_here slots c.args.taken bytes c.args.k slot (10 + 16 * i) a byte c.damage-in-Some.result
+    c.requires.there read.lane at_slot
+    (inr (inr (
+      i,
+      point_breaks slots c.args.taken bytes c.args.k _ _ slot _ fields at_slot (omega arith)
+          (omega arith) c.args.self.now read c.requires.within _ c.is_stale-stale.ensures
+          (c.follows.ensures.0 c.if-not-follows.false) i c.in-Some.ensures.there c.in-Some.ensures.before
+          c.in-Some.ensures.broken,
+    ))) (omega (arith, c.in-Some.ensures.there))
+    (c.damage-in-Some.ensures ∙ ap (λ p. Damaged (p + (10 + 16 * i)) (Some (get_or slot (10 + 16 * i) 0)))
+    c.slot_place-at.ensures) same
 
 -- how many points were added
-beyond_is : (c : goal.After-self-3-1) → c.if-stale.beyond ≡ cond c.is_stale-stale.result 0 c.take_count-count.result.0
+beyond_is : (c : goal.After-self-3-1) → c.if-stale.beyond
+    ≡ cond c.is_stale-stale.result 0 c.take_count-count.result.0
 beyond_is c = elim c.if-stale.branch [
-  | then-stale w ↦ w.beyond-is ∙ sym (cond-true c.is_stale-stale.result 0 c.take_count-count.result.0 w.if-stale.true)
-  | else-stale w ↦ w.beyond-is ∙ sym (cond-false c.is_stale-stale.result 0 c.take_count-count.result.0 w.if-stale.false)
+  | then-stale w ↦ w.beyond-is ∙ sym (cond-true c.is_stale-stale.result 0 c.take_count-count.result.0
+      w.if-stale.true)
+  | else-stale w ↦ w.beyond-is ∙ sym (cond-false c.is_stale-stale.result 0 c.take_count-count.result.0
+      w.if-stale.false)
 ]
 
 pub returns-clause-within : goal.returns-clause-within
 returns-clause-within c =
     let s = c.args.self.now in
     let rest = c.take_count-count.result.1.now in
-    within_more s.lane.slots c.args.taken c.args.k c.take_number-first.result.0 c.take_count-count.result.0 rest s _ c.is_stale-stale.result c.requires.within
+    within_more s.lane.slots c.args.taken c.args.k c.take_number-first.result.0 c.take_count-count.result.0
+    rest s _ c.is_stale-stale.result c.requires.within
     (c.follows.ensures.0 c.if-not-follows.false) (omega arith) c.in_default.ensures.none refl refl
     (ap (λ n. s.lane.next + n) (c.from.ensures ∙ beyond_is c))
     (c.in-Ok.ensures ∙ ap (λ n. s.points.items ++ points_in n rest) (beyond_is c)) refl
@@ -70,7 +92,9 @@ returns-clause-read c = λ bytes at_slot read.
     let s = c.args.self.now in
     let slot = c.args.slot.now in
     let rest = c.take_count-count.result.1.now in
-    let fields = fields_read slot _ _ _ _ c.take_number-first.ensures.number c.take_number-first.ensures.rest c.take_count-count.ensures.number c.take_count-count.ensures.rest in
-    taken_in s.lane.slots c.args.taken bytes c.args.k _ _ slot rest fields at_slot (omega arith) (omega arith) s read c.requires.within _ c.is_stale-stale.ensures
+    let fields = fields_read slot _ _ _ _ c.take_number-first.ensures.number c.take_number-first.ensures.rest
+    c.take_count-count.ensures.number c.take_count-count.ensures.rest in
+    taken_in s.lane.slots c.args.taken bytes c.args.k _ _ slot rest fields at_slot (omega arith) (omega arith)
+    s read c.requires.within _ c.is_stale-stale.ensures
     (c.follows.ensures.0 c.if-not-follows.false) _ c.in_default.ensures.none
     (c.in-Ok.ensures ∙ ap (λ n. s.points.items ++ points_in n rest) (beyond_is c)) refl refl

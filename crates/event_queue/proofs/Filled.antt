@@ -1,0 +1,186 @@
+-- A lane in use, before and behind an append.
+use Rattle.std.proofs.Common.{◌≡◌, ◌≢◌, ◌⊎◌, inl, inr, ⊎_elim, ℕ, zero, suc, ◌+◌, ◌-◌, ◌*◌, ◌^◌, ◌<◌, ◌≤◌}
+use Rattle.std.proofs.Common.{List, [], ◌∷◌, ◌++◌}
+use Rattle.std.proofs.Common.{length, get_or, take, drop, refl, sym, ◌∙◌, ap, subst, arith, length-append}
+use Rattle.std.proofs.Common.{add-zero, add-one}
+use Rattle.std.proofs.Common.{take-append-drop}
+use Rattle.std.specs.List.{All}
+use Rattle.std.proofs.lemmas.Bool.{cases_lt, cases_eq}
+use Rattle.std.proofs.lemmas.List.{append-nil, take-take}
+use Rattle.trend_num.specs.declared.point.Point.{Point}
+use Rattle.trend_num.specs.Ranges.{InRange}
+use Rattle.disk_model.specs.Gates.{open_byte, IsOpen, IsGuarded}
+use Rattle.event_queue.specs.Slots.{Batch, gate_of, place_of, lane_end, batch_bytes, slot_at, batch_in}
+use Rattle.event_queue.specs.Slots.{batch_at}
+use Rattle.event_queue.specs.Lanes.{points_beyond, points_of, points_before, lane_points, IsSound, IsLane}
+use Rattle.event_queue.specs.Places.{HasRoom, IsFilled}
+use Rattle.event_queue.proofs.Batches.{length-batch_bytes, batch_in-bytes}
+use Rattle.event_queue.proofs.Rooms.{gate_outside, room_guarded}
+use Rattle.event_queue.proofs.Steps.{beyond_all, lane_more, points_shut, points_open, points_more}
+use Rattle.event_queue.proofs.SameLanes.{HasSameSlots, same_slot, same_points, same_beyond, same_lane}
+
+-- no gate from `used` on is open, so all points are in the slots before
+pub points_used : (slots taken used m : ℕ) (c : List ℕ)
+    → ((k : ℕ) → used ≤ k → k < used + m → get_or c (gate_of k) 0 ≢ open_byte)
+    → points_before slots c taken (used + m) ≡ points_before slots c taken used
+points_used slots taken used zero c shut = ap (points_before slots c taken) (add-zero used)
+points_used slots taken used (suc m) c shut =
+    let longer : used + suc m ≡ used + m + 1 = omega arith in
+    ap (points_before slots c taken) longer ∙ points_more slots taken c (used + m)
+    ∙ ap (λ l. points_before slots c taken (used + m) ++ l)
+    (points_shut slots taken c (used + m) (shut (used + m) (omega arith) (omega arith)))
+    ∙ append-nil (points_before slots c taken (used + m))
+    ∙ points_used slots taken used m c (λ k low below. shut k low (omega (arith, below)))
+
+-- the whole lane's, then
+pub lane_points_used : (slots taken used : ℕ) (c : List ℕ) → used ≤ slots → HasRoom slots used c
+    → lane_points slots c taken ≡ points_before slots c taken used
+lane_points_used slots taken used c within room =
+    let whole : slots ≡ used + (slots - used) = omega arith in
+    ap (points_before slots c taken) whole
+    ∙ points_used slots taken used (slots - used) c
+    (λ k low below. room.shut k low (omega (arith, within, below)))
+
+-- and the whole keeps the layout where they do
+pub lane_used : (slots taken used : ℕ) (c : List ℕ) → HasRoom slots used c → IsLane slots c taken used
+    → IsLane slots c taken slots
+lane_used slots taken used c room lane = record {
+  sound = λ k below opened.
+      ⊎_elim (λ before. lane.sound k before opened) (λ behind. absurd (room.shut k behind below opened))
+      (cases_lt k used);
+}
+
+-- a shorter front of a lane
+pub lane_front : (slots taken n m : ℕ) (c : List ℕ) → m ≤ n → IsLane slots c taken n → IsLane slots c taken m
+lane_front slots taken n m c le lane = record
+    { sound = λ k below opened. lane.sound k (omega (arith, below, le)) opened }
+
+-- where these bytes stand at a slot's beginning, the slot holds their batch
+pub batch_held : (slots k first : ℕ) (ps : List Point) (c : List ℕ) → first < 2 ^ 64 → length ps ≤ 64
+    → All InRange ps
+    → take (length (batch_bytes first ps)) (drop (place_of slots k) c) ≡ batch_bytes first ps
+    → batch_at slots c k ≡ record { first = first; count = length ps; points = ps }
+batch_held slots k first ps c small few inside holds =
+    let m = length (batch_bytes first ps) in
+    let slot = slot_at slots c k in
+    let front : take m slot ≡ batch_bytes first ps = take-take m 1034 (drop (place_of slots k) c)
+    (omega (arith, length-batch_bytes first ps, few)) ∙ holds in
+    ap batch_in (sym (take-append-drop m slot) ∙ ap (λ l. l ++ drop m slot) front)
+    ∙ batch_in-bytes first ps (drop m slot) small few inside
+
+module _ (slots taken used next : ℕ) (held batch : List Point) (old new : List ℕ) (free : used < slots)
+    (some : 1 ≤ length batch) (few : length batch ≤ 64)
+    (inside : All InRange batch) (small : next + length batch < 2 ^ 64)
+    (filled : IsFilled slots taken used next old held)
+    (guarded : IsGuarded (place_of slots used) (batch_bytes next batch) (gate_of used) old new) where
+  -- every other gate is as it was
+  gate_same : (k : ℕ) → k < slots → k ≢ used → get_or new (gate_of k) 0 ≡ get_or old (gate_of k) 0
+  gate_same k there other =
+      guarded.outside (gate_of k) (omega (arith, filled.room.long, there))
+      (gate_outside slots used k (place_of slots used) (length (batch_bytes next batch)) there refl)
+      (λ is. other (omega (arith, is)))
+
+  -- and so are the used slots
+  slot_same : (k : ℕ) → k < used → slot_at slots new k ≡ slot_at slots old k
+  slot_same k before = same_slot slots k old new (omega (arith, filled.room.long, before, free))
+      (omega (arith, filled.room.long, guarded.no_shorter, before, free))
+      (λ i low below. guarded.outside i (omega (arith, filled.room.long, below, before, free))
+      (inl (omega (arith, below, before)))
+      (λ is. absurd (omega (arith, is, low, free))))
+
+  -- an open gate before was that of a used slot
+  was_used : (k : ℕ) → k < slots → IsOpen (gate_of k) old → k < used
+  was_used k there opened = ⊎_elim (λ before. before)
+      (λ behind. absurd (filled.room.shut k behind there opened)) (cases_lt k used)
+
+  -- where the gate is closed, the lane holds what it held
+  pub absent : get_or new (gate_of used) 0 ≢ open_byte → IsFilled slots taken used next new held
+  absent shut = record {
+    room = record {
+      long = omega (arith, filled.room.long, guarded.no_shorter);
+      shut = λ k low there opened. closed k low there opened;
+    };
+    lane = same_lane slots taken slots old new same slots (omega arith) filled.lane;
+    opened = λ k before. same.forth k (omega (arith, before, free)) (filled.opened k before);
+    beyond = λ k before. same_beyond slots taken slots old new same k (omega (arith, before, free))
+        (filled.opened k before) (filled.beyond k before);
+    points = same_points slots taken slots old new same slots (omega arith) ∙ filled.points;
+    number = filled.number;
+  }
+    where
+      closed : (k : ℕ) → used ≤ k → k < slots → IsOpen (gate_of k) new → ⊥
+      closed k low there opened = elim (cases_eq k used) [
+        | inl is ↦ shut (ap (λ i. get_or new (gate_of i) 0) (sym is) ∙ opened)
+        | inr other ↦ filled.room.shut k low there (sym (gate_same k there other) ∙ opened)
+      ]
+
+      same : HasSameSlots slots slots old new
+      same = record {
+        forth = λ k there opened. gate_same k there
+            (λ is. absurd (omega (arith, is, was_used k there opened))) ∙ opened;
+        back = λ k there opened. sym (gate_same k there
+            (λ is. shut (ap (λ i. get_or new (gate_of i) 0) (sym is) ∙ opened))) ∙ opened;
+        same = λ k there opened. slot_same k (was_used k there opened);
+      }
+
+  -- where it is open, the lane holds the batch behind that
+  pub whole : IsOpen (gate_of used) new → IsFilled slots taken (used + 1) (next + length batch) new
+      (held ++ batch)
+  whole opened = record {
+    room = room;
+    lane = lane_used slots taken (used + 1) new room lane;
+    opened = λ k below. ⊎_elim (λ before. same.forth k before (filled.opened k before))
+        (λ at. subst (λ i. IsOpen (gate_of i) new) (omega arith) opened) (cases_lt k used);
+    beyond = λ k below. ⊎_elim (λ before. same_beyond slots taken used old new same k before
+        (filled.opened k before) (filled.beyond k before))
+        (λ at. subst (λ i. taken < (batch_at slots new i).first + (batch_at slots new i).count) (omega arith)
+        last_beyond) (cases_lt k used);
+    points = lane_points_used slots taken (used + 1) new (omega arith) room ∙ points_more slots taken new used
+        ∙ ap (λ l. l ++ points_of slots new taken used) before
+        ∙ ap (λ l. held ++ l) (points_open slots taken new used opened
+        ∙ beyond_all taken (batch_at slots new used) last_beyond ∙ ap (λ x. x.points) last);
+    number = omega (arith, filled.number, length-append held batch);
+  }
+    where
+      same : HasSameSlots slots used old new
+      same = record {
+        forth = λ k below was. gate_same k (omega (arith, below, free))
+            (λ is. absurd (omega (arith, is, below))) ∙ was;
+        back = λ k below is_open. filled.opened k below;
+        same = λ k below was. slot_same k below;
+      }
+
+      room : HasRoom slots (used + 1) new
+      room = room_guarded slots used (batch_bytes next batch) old new free filled.room guarded
+
+      last : batch_at slots new used ≡ record { first = next; count = length batch; points = batch }
+      last = batch_held slots used next batch new (omega (arith, small)) few inside (guarded.whole opened)
+
+      first_is : (batch_at slots new used).first ≡ next
+      first_is = ap (λ x. x.first) last
+
+      count_is : (batch_at slots new used).count ≡ length batch
+      count_is = ap (λ x. x.count) last
+
+      last_beyond : taken < (batch_at slots new used).first + (batch_at slots new used).count
+      last_beyond = omega (arith, first_is, count_is, some, filled.number)
+
+      before : points_before slots new taken used ≡ held
+      before = same_points slots taken used old new same used (omega arith)
+          ∙ sym (lane_points_used slots taken used old (omega (arith, free)) filled.room) ∙ filled.points
+
+      sound : IsSound slots new taken used
+      sound = record {
+        counted = record { some = omega (arith, count_is, some); few = omega (arith, count_is, few) };
+        follows = inr (record {
+          numbered = first_is ∙ filled.number ∙ ap (λ ps. taken + length ps) (sym before);
+          opened = λ j below. same.forth j below (filled.opened j below);
+          beyond = λ j below. same_beyond slots taken used old new same j below (filled.opened j below)
+              (filled.beyond j below);
+        });
+        in_range = subst (λ x. All InRange x.points) (sym last) inside;
+      }
+
+      lane : IsLane slots new taken (used + 1)
+      lane = lane_more slots taken new used (same_lane slots taken used old new same used (omega arith)
+          (lane_front slots taken slots used old (omega (arith, free)) filled.lane)) (λ again. sound)

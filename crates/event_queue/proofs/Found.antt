@@ -1,0 +1,128 @@
+-- A lane that keeps the layout is in use, or overtaken.
+use Rattle.std.proofs.Common.{◌≡◌, ◌≢◌, ◌⊎◌, inl, inr, ⊎_elim, ℕ, zero, suc, ◌+◌, ◌-◌, ◌*◌, ◌<◌, ◌≤◌, true}
+use Rattle.std.proofs.Common.{false, List, length, get_or}
+use Rattle.std.proofs.Common.{refl, sym, ◌∙◌, ap, subst, arith}
+use Rattle.std.proofs.lemmas.Bool.{cases_lt, cases_eq}
+use Rattle.trend_num.specs.declared.point.Point.{Point}
+use Rattle.disk_model.specs.Gates.{open_byte, IsOpen}
+use Rattle.event_queue.specs.declared.reader.Scanned.{Scanned}
+use Rattle.event_queue.specs.Slots.{gate_of, lane_end, batch_at}
+use Rattle.event_queue.specs.Lanes.{IsStale, lane_points, IsNextBehind, IsLane}
+use Rattle.event_queue.specs.Places.{IsFilled, IsOvertaken}
+use Rattle.event_queue.specs.Scans.{IsWithin, IsRead}
+use Rattle.event_queue.proofs.Rules.{next_beyond, told_stale, last_next}
+
+module _ (slots taken : ℕ) (c : List ℕ) where
+  -- each open one of the first n slots is stale
+  record AreStale (n : ℕ) : Type 0 where
+    stale : (k : ℕ) → k < n → IsOpen (gate_of k) c → IsStale taken (batch_at slots c k)
+
+  -- of the first n slots the first are open and not stale, and the others closed
+  record AreUsed (n used : ℕ) : Type 0 where
+    within : used ≤ n
+    opened : (k : ℕ) → k < used → IsOpen (gate_of k) c
+    beyond : (k : ℕ) → k < used → taken < (batch_at slots c k).first + (batch_at slots c k).count
+    shut : (k : ℕ) → used ≤ k → k < n → get_or c (gate_of k) 0 ≢ open_byte
+
+  -- a closed slot more
+  stale_shut : (n : ℕ) → get_or c (gate_of n) 0 ≢ open_byte → AreStale n → AreStale (suc n)
+  stale_shut n shut are = record {
+    stale = λ k below opened. ⊎_elim (λ before. are.stale k before opened)
+        (λ at. absurd (shut (subst (λ i. IsOpen (gate_of i) c) (omega arith) opened))) (cases_lt k n);
+  }
+
+  used_shut : (n used : ℕ) → get_or c (gate_of n) 0 ≢ open_byte → AreUsed n used → AreUsed (suc n) used
+  used_shut n used shut are = record {
+    within = omega (arith, are.within);
+    opened = are.opened;
+    beyond = are.beyond;
+    shut = λ k low below. ⊎_elim (λ before. are.shut k low before)
+        (λ at. subst (λ i. get_or c (gate_of i) 0 ≢ open_byte) (omega arith) shut) (cases_lt k n);
+  }
+
+  -- one or the other
+  stale_or_used : IsLane slots c taken slots → (n : ℕ) → n ≤ slots → AreStale n
+      ⊎ ((used : ℕ) × AreUsed n used)
+  stale_or_used lane zero within = inr (
+    0,
+    record {
+      within = omega arith;
+      opened = λ k below. absurd (omega (arith, below));
+      beyond = λ k below. absurd (omega (arith, below));
+      shut = λ k low below. absurd (omega (arith, below));
+    },
+  )
+  stale_or_used lane (suc n) within = ⊎_elim
+      (λ opened. let sound = lane.sound n (omega (arith, within)) opened in ⊎_elim
+      (λ behind. inl (record {
+        stale = λ k below k_open. ⊎_elim (λ before. behind.before k before k_open)
+            (λ at. subst (λ i. IsStale taken (batch_at slots c i)) (omega arith) behind.stale)
+            (cases_lt k n);
+      }))
+      (λ next. inr (
+        suc n,
+        record {
+          within = omega arith;
+          opened = λ k below. ⊎_elim (λ before. next.opened k before)
+              (λ at. subst (λ i. IsOpen (gate_of i) c) (omega arith) opened) (cases_lt k n);
+          beyond = λ k below. ⊎_elim (λ before. next.beyond k before)
+              (λ at. subst (λ i. taken < (batch_at slots c i).first + (batch_at slots c i).count)
+              (omega arith) (next_beyond slots taken c n next sound.counted)) (cases_lt k n);
+          shut = λ k low below. absurd (omega (arith, low, below));
+        },
+      )) sound.follows)
+      (λ shut. ⊎_elim (λ are. inl (stale_shut n shut are)) (λ are. inr (are.0, used_shut n are.0 shut are.1))
+      (stale_or_used lane n (omega (arith, within))))
+      (cases_eq (get_or c (gate_of n) 0) open_byte)
+
+  pub filled_or_overtaken : lane_end slots ≤ length c → IsLane slots c taken slots
+      → IsOvertaken slots taken c ⊎ ((used : ℕ) × (next : ℕ) × (points : List Point)
+      × IsFilled slots taken used next c points)
+  filled_or_overtaken long lane = ⊎_elim (λ are. inl (record { lane = lane; stale = are.stale }))
+      (λ are. inr (
+        are.0,
+        taken + length (lane_points slots c taken),
+        lane_points slots c taken,
+        record {
+          room = record { long = long; shut = are.1.shut };
+          lane = lane;
+          opened = are.1.opened;
+          beyond = are.1.beyond;
+          points = refl;
+          number = refl;
+        },
+      )) (stale_or_used lane slots (omega arith))
+
+  module _ (s : Scanned) (read : IsRead slots taken c slots s) (within : IsWithin slots taken slots s) where
+    -- what a scan tells
+    pub scanned_overtaken : s.stale ≡ true → IsOvertaken slots taken c
+    scanned_overtaken told = record {
+      lane = read.lane;
+      stale = told_stale slots taken c slots s read within
+          told;
+    }
+
+    -- the slots before the last used one number on up to it
+    last_one : s.stale ≡ false → (k : ℕ) → k < s.lane.used → IsNextBehind slots c taken (s.lane.used - 1)
+    last_one untold k below = last_next slots taken c slots s read within untold (omega (arith, below))
+
+    pub scanned_filled : lane_end slots ≤ length c → s.stale ≡ false
+        → IsFilled slots taken s.lane.used s.lane.next c s.points.items
+    scanned_filled long untold = record {
+      room = record { long = long; shut = read.none_behind };
+      lane = read.lane;
+      opened = λ k below. ⊎_elim (λ before. (last_one untold k below).opened k before)
+          (λ at. subst (λ i. IsOpen (gate_of i) c) (omega (arith, below, at))
+          (read.last (omega (arith, below)))) (cases_lt k (s.lane.used - 1));
+      beyond = λ k below. ⊎_elim (λ before. (last_one untold k below).beyond k before)
+          (λ at. subst (λ i. taken < (batch_at slots c i).first + (batch_at slots c i).count)
+          (omega (arith, below, at)) (last_beyond k below)) (cases_lt k (s.lane.used - 1));
+      points = sym read.points;
+      number = within.number;
+    }
+      where
+        last_beyond : (k : ℕ) → k < s.lane.used → taken < (batch_at slots c (s.lane.used - 1)).first +
+            (batch_at slots c (s.lane.used - 1)).count
+        last_beyond k below = next_beyond slots taken c (s.lane.used - 1) (last_one untold k below)
+            (read.lane.sound (s.lane.used - 1) (omega (arith, below, within.used))
+            (read.last (omega (arith, below)))).counted

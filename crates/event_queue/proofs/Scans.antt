@@ -1,0 +1,89 @@
+-- A lane that was read piece by piece.
+use Rattle.std.proofs.Common.{◌≡◌, ◌≢◌, ⊎_elim, ℕ, zero, suc, ◌+◌, ◌*◌, ◌-◌, ◌<◌, ◌≤◌, min, List, length}
+use Rattle.std.proofs.Common.{get_or, take, drop}
+use Rattle.std.proofs.Common.{Option, None, Some, IfSome, refl, sym, ◌∙◌, ap, subst, arith, add-zero}
+use Rattle.disk_model.specs.Traces.{Trace, seen}
+use Rattle.disk_model.specs.Calls.{Reads}
+use Rattle.disk_model.specs.Gates.{open_byte}
+use Rattle.archive_file.proofs.Logs.{byte_of}
+use Rattle.event_queue.specs.declared.reader.Scanned.{Scanned}
+use Rattle.event_queue.specs.Slots.{gate_of, place_of}
+use Rattle.event_queue.specs.Scans.{IsRead}
+use Rattle.event_queue.specs.Pieces.{IsPiece}
+use Rattle.event_queue.proofs.Steps.{read_shut}
+
+-- gates and slots that were read of a device that tells its calls
+piece_there : (t : Trace) (slots from : ℕ) (gates piece : List ℕ) → length gates ≡ slots
+    → Reads (Some t) (gate_of 0) gates
+    → Reads (Some t) (place_of slots from) piece → IsPiece slots (seen (Some t)) gates from piece
+piece_there t slots from gates piece all gates_read slots_read = record {
+  gates_here = gates_read ∙ ap (λ n. take n (drop (gate_of 0) (seen (Some t)))) all;
+  slots_here = slots_read;
+}
+
+-- what was read of an equal device at an equal place
+pub moved : (now o : Option Trace) (at to : ℕ) (bytes : List ℕ) → now ≡ o → at ≡ to → Reads now at bytes
+    → Reads o to bytes
+moved now o at to bytes same place reads = subst (λ x. Reads x to bytes) same
+    (subst (λ n. Reads now n bytes) place reads)
+
+-- so what follows for any bytes that hold the gates and a piece, and of which the slots before it were read,
+-- follows for
+-- the device's
+pub with_piece : (o : Option Trace) (slots taken n from : ℕ) (gates piece lent_gates lent_piece : List ℕ)
+    (s : Scanned) (P : ℕ → List ℕ → Type 0)
+    → n ≡ from → s.lane.slots ≡ slots → length gates ≡ slots → Reads o (gate_of 0) gates → lent_gates ≡ gates
+    → Reads o (place_of slots from) piece → lent_piece ≡ piece
+    → IfSome o (λ t. IsRead slots taken (seen (Some t)) n s)
+    → ((bytes : List ℕ) → IsPiece s.lane.slots bytes lent_gates from lent_piece
+    → IsRead s.lane.slots taken bytes from s → P s.lane.slots bytes)
+    → IfSome o (λ t. P slots (seen (Some t)))
+with_piece None slots taken n from gates piece lent_gates lent_piece s P is same all gates_read lent_g
+    slots_read lent_p read follows = tt
+with_piece (Some t) slots taken n from gates piece lent_gates lent_piece s P is same all gates_read lent_g
+    slots_read lent_p read follows =
+    let bytes = seen (Some t) in
+    let at_piece = subst (λ l. IsPiece slots bytes lent_gates from l) (sym lent_p)
+    (subst (λ l. IsPiece slots bytes l from piece) (sym lent_g)
+    (piece_there t slots from gates piece all gates_read slots_read)) in
+    subst (λ m. P m bytes) same (follows bytes
+    (subst (λ m. IsPiece m bytes lent_gates from lent_piece) (sym same) at_piece)
+    (subst (λ m. IsRead m taken bytes from s) (sym same)
+    (subst (λ m. IsRead slots taken bytes m s) is read)))
+
+-- closed slots at the end
+read_on : (slots taken : ℕ) (bytes : List ℕ) (used m : ℕ) (s : Scanned) → IsRead slots taken bytes used s
+    → ((k : ℕ) → used ≤ k → k < used + m → get_or bytes (gate_of k) 0 ≢ open_byte)
+    → IsRead slots taken bytes (used + m) s
+read_on slots taken bytes used zero s read shut = subst (λ n. IsRead slots taken bytes n s)
+    (sym (add-zero used)) read
+read_on slots taken bytes used (suc m) s read shut =
+    subst (λ n. IsRead slots taken bytes n s) (omega arith)
+    (read_shut slots taken bytes (used + m) s (shut (used + m) (omega arith) (omega arith))
+    (read_on slots taken bytes used m s read (λ k low below. shut k low (omega arith))))
+
+-- behind the last open gate there is nothing
+pub read_all : (o : Option Trace) (slots taken n used : ℕ) (gates lent : List ℕ) (s : Scanned) → n ≡ used
+    → used ≤ slots → length gates ≡ slots
+    → Reads o (gate_of 0) gates → lent ≡ gates
+    → ((k : ℕ) → used ≤ k → k < length lent → get_or lent k 0 ≢ open_byte)
+    → IfSome o (λ t. IsRead slots taken (seen (Some t)) n s)
+    → IfSome o (λ t. IsRead slots taken (seen (Some t)) slots s)
+read_all None slots taken n used gates lent s is within all gates_read lent_is shut read = tt
+read_all (Some t) slots taken n used gates lent s is within all gates_read lent_is shut read =
+    let bytes = seen (Some t) in
+    let gate : (k : ℕ) → k < slots → get_or lent k 0 ≡ get_or bytes (gate_of k) 0 =
+    λ k there. ap (λ l. get_or l k 0) (lent_is ∙ gates_read ∙ ap (λ m. take m (drop 400 bytes)) all)
+    ∙ byte_of bytes 400 slots k there in
+    subst (λ m. IsRead slots taken bytes m s) (omega (arith, within))
+    (read_on slots taken bytes used (slots - used) s (subst (λ m. IsRead slots taken bytes m s) is read)
+    (λ k low below opened. shut k low (omega (arith, within, ap length lent_is, all))
+    (gate k (omega (arith, within)) ∙ opened)))
+
+-- before anything was read
+pub read_first : (o : Option Trace) (slots taken n : ℕ) (s : Scanned) → 0 ≡ n
+    → ((bytes : List ℕ) → IsRead slots taken bytes 0 s)
+    → IfSome o (λ t. IsRead slots taken (seen (Some t)) n s)
+read_first None slots taken n s is read = tt
+read_first (Some t) slots taken n s is read = subst (λ m. IsRead slots taken (seen (Some t)) m s) is
+    (read (seen (Some t)))
