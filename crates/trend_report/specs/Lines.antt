@@ -1,0 +1,91 @@
+-- The lines of a report, byte for byte.
+use Rattle.std.specs.Prelude.{List, ◌++◌, Bool, true, false, Option, None, Some, codes, ℕ, ℤ}
+use Rattle.std.specs.Fmt.{decimal, signed_decimal}
+use Rattle.std.specs.List.{flat_map}
+use Rattle.trend_num.specs.declared.point.Point.{Point}
+use Rattle.trend_num.specs.declared.reading.Reading.{Reading}
+use Rattle.trend_num.specs.declared.reading.Reading.TheVariants.{Exact, Line, Flat, Nothing}
+use Rattle.trend_model.specs.Reads.{rounded}
+use Rattle.interp_read.specs.declared.query.Reply.{Reply}
+use Rattle.interp_read.specs.declared.query.Reply.TheVariants.{At, Points, Window}
+use Rattle.weighted_total.specs.Readable.{IsReadable}
+use Rattle.calc_eval.specs.declared.value.Bad.{Bad as Cause}
+use Rattle.calc_eval.specs.declared.value.Bad.TheVariants.{NoData, DivZero, Range}
+use Rattle.calc_eval.specs.declared.value.CalcValue.{CalcValue}
+use Rattle.calc_eval.specs.declared.value.CalcValue.TheVariants.{Num, Bad}
+use Rattle.trend_report.specs.declared.tag_line.TagLine.{TagLine}
+use Rattle.trend_report.specs.declared.reply_line.ReplyText.{ReplyText}
+use Rattle.trend_report.specs.declared.reply_line.ReplyText.TheVariants.{Tag, Snap, Row}
+
+-- ---- tags
+
+-- `T,V`
+abbrev pub point_text : Point → List ℕ
+point_text p = decimal p.t ++ codes "," ++ signed_decimal p.v
+
+-- a point that may not be there
+abbrev pub held_text : Option Point → List ℕ
+held_text None = codes "none"
+held_text (Some q) = point_text q
+
+-- `taken=N records=R kept=K late=L`, between blanks, and the word of what follows
+abbrev pub counts_text : TagLine → List ℕ
+counts_text l =
+    codes " taken=" ++ decimal l.taken ++ codes " records=" ++ decimal l.records ++ codes " kept=" ++ decimal l.kept
+    ++ codes " late=" ++ decimal l.late ++ codes " held="
+
+-- `tag NAME taken=N records=R kept=K late=L held=HELD`
+abbrev pub tag_text : TagLine → List ℕ
+tag_text l = codes "tag " ++ l.name ++ counts_text l ++ held_text l.held ++ codes "\n"
+
+-- ---- replies
+
+-- what stands at a time; a fraction is rounded
+abbrev pub reading_text : Reading → List ℕ
+reading_text (Exact v) = codes "exact " ++ signed_decimal v
+reading_text (Line f) = codes "line " ++ signed_decimal (rounded f.num f.den)
+reading_text (Flat v) = codes "flat " ++ signed_decimal v
+reading_text Nothing = codes "none"
+
+-- each point and a space, and then whether others follow
+abbrev pub points_text : List Point → Bool → List ℕ
+points_text ps true = flat_map (λ p. point_text p ++ codes " ") ps ++ codes "more"
+points_text ps false = flat_map (λ p. point_text p ++ codes " ") ps ++ codes "end"
+
+-- a number that may not be there
+abbrev pub number_text : Option ℤ → List ℕ
+number_text None = codes "none"
+number_text (Some n) = signed_decimal n
+
+-- why a value is no number
+abbrev pub cause_text : Cause → List ℕ
+cause_text NoData = codes "bad nodata"
+cause_text DivZero = codes "bad divzero"
+cause_text Range = codes "bad range"
+
+-- the value of a calculation, which may not be there
+abbrev pub value_text : Option CalcValue → List ℕ
+value_text None = codes "none"
+value_text (Some (Num n)) = signed_decimal n
+value_text (Some (Bad why)) = cause_text why
+
+-- the answer to a question about a tag
+abbrev pub answer_text : Reply → List ℕ
+answer_text (At reading) = reading_text reading
+answer_text (Points ps) = points_text ps.list.items ps.more
+answer_text (Window n) = number_text n
+
+-- the answer to any query
+abbrev pub told_text : ReplyText → List ℕ
+told_text (Tag reply) = answer_text reply
+told_text (Snap taken held) = codes "snap " ++ decimal taken ++ codes " " ++ held_text held
+told_text (Row value) = value_text value
+
+-- `reply READER ROW TEXT`
+abbrev pub reply_text : ℕ → ℕ → ReplyText → List ℕ
+reply_text reader row r = codes "reply " ++ decimal reader ++ codes " " ++ decimal row ++ codes " " ++ told_text r ++ codes "\n"
+
+-- a reply whose fraction, if it has one, can be rounded, as that of each read of points in range
+abbrev pub IsPrintable : ReplyText → Type 0
+IsPrintable (Tag (At reading)) = IsReadable reading
+IsPrintable other = Unit {0}

@@ -1,0 +1,132 @@
+// The line of a reply.
+ghost use Rattle.std.specs.Prelude.{◌≡◌, ◌++◌, IfOk, OnOk, string_bytes, true};
+ghost use Rattle.trend_model.specs.Reads.{rounded};
+ghost use Rattle.weighted_total.specs.Readable.{IsReadable, IsRoundable};
+ghost use Rattle.trend_report.specs.Lines.{IsPrintable, answer_text, cause_text, number_text, points_text, reading_text, reply_text, told_text, value_text};
+
+use crate::point_text::{put_held, put_point};
+use calc_eval::{Bad, CalcValue};
+use interp_read::{PointList, Reading, Reply};
+use std::alloc::{AllocError, Global};
+use trend_num::{Frac, Point, WantOfMemory, round_half_up};
+
+/// The answer to a query.
+#[derive(Drop)]
+pub enum ReplyText {
+    /// To a question about a tag.
+    Tag(Reply),
+    /// The snapshot of a tag: how many raw values were taken, and the held point.
+    Snap { taken: u64, held: Option<Point> },
+    /// The value of a calculation in a window. None where there is no such window.
+    Row(Option<CalcValue>),
+}
+
+/// The line `reply READER ROW TEXT`, with its line feed. Readers and rows are counted from 1.
+pub fn reply_text(
+    alloc: Global,
+    reader: u32,
+    row: u64,
+    reply: &ReplyText,
+) -> Result<String, WantOfMemory>
+    requires { IsPrintable reply.now }
+    ensures { IfOk result (λ text. string_bytes text ≡ reply_text reader row reply.now) }
+{
+    reply_line(alloc, reader, row, reply).map_err(|_| WantOfMemory)
+}
+
+/// The same, with the allocator's own error.
+fn reply_line(alloc: Global, reader: u32, row: u64, reply: &ReplyText) -> Result<String, AllocError>
+    requires { IsPrintable reply.now }
+    ensures { IfOk result (λ text. string_bytes text ≡ reply_text reader row reply.now) }
+{
+    let mut text = String::new(alloc);
+    write!(text, "reply {reader} {row} ")?;
+    put_told(&mut text, reply)?;
+    text.push_str("\n")?;
+    Ok(text)
+}
+
+/// Adds what is told.
+fn put_told(text: &mut String, reply: &ReplyText) -> Result<(), AllocError>
+    requires { IsPrintable reply.now }
+    ensures { OnOk result (string_bytes text.new ≡ string_bytes text.old ++ told_text reply.now) }
+{
+    match reply {
+        ReplyText::Tag(Reply::At(reading)) => put_reading(text, *reading),
+        ReplyText::Tag(Reply::Points(points)) => put_points(text, points),
+        ReplyText::Tag(Reply::Window(number)) => put_number(text, *number),
+        ReplyText::Snap { taken, held } => {
+            write!(text, "snap {taken} ")?;
+            put_held(text, *held)
+        }
+        ReplyText::Row(value) => put_value(text, *value),
+    }
+}
+
+/// Adds what stands at a time.
+fn put_reading(text: &mut String, reading: Reading) -> Result<(), AllocError>
+    requires { IsReadable reading }
+    ensures { OnOk result (string_bytes text.new ≡ string_bytes text.old ++ reading_text reading) }
+{
+    match reading {
+        Reading::Exact(v) => write!(text, "exact {v}"),
+        Reading::Line(f) => {
+            let v = rounded(f);
+            write!(text, "line {v}")
+        }
+        Reading::Flat(v) => write!(text, "flat {v}"),
+        Reading::Nothing => text.push_str("none"),
+    }
+}
+
+/// The whole number next to a fraction.
+fn rounded(f: Frac) -> i128
+    requires { IsRoundable f }
+    ensures { result ≡ rounded f.num f.den }
+{
+    round_half_up(f.num, f.den)
+}
+
+/// Adds points.
+fn put_points(text: &mut String, points: &PointList) -> Result<(), AllocError>
+    ensures { OnOk result (string_bytes text.new
+        ≡ string_bytes text.old ++ points_text points.now.list.items points.now.more) }
+{
+    for p in points.list.as_slice() {
+        put_point(text, *p)?;
+        text.push_str(" ")?;
+    }
+    text.push_str(if points.more { "more" } else { "end" })
+}
+
+/// Adds a number, or `none` where there is none.
+fn put_number(text: &mut String, number: Option<i128>) -> Result<(), AllocError>
+    ensures { OnOk result (string_bytes text.new ≡ string_bytes text.old ++ number_text number) }
+{
+    match number {
+        Some(n) => write!(text, "{n}"),
+        None => text.push_str("none"),
+    }
+}
+
+/// Adds the value of a calculation, or `none` where there is none.
+fn put_value(text: &mut String, value: Option<CalcValue>) -> Result<(), AllocError>
+    ensures { OnOk result (string_bytes text.new ≡ string_bytes text.old ++ value_text value) }
+{
+    match value {
+        Some(CalcValue::Num(n)) => write!(text, "{n}"),
+        Some(CalcValue::Bad(why)) => text.push_str(cause_text(why)),
+        None => text.push_str("none"),
+    }
+}
+
+/// Why a value is no number.
+fn cause_text(why: Bad) -> &'static str
+    ensures { result.now ≡ cause_text why }
+{
+    match why {
+        Bad::NoData => "bad nodata",
+        Bad::DivZero => "bad divzero",
+        Bad::Range => "bad range",
+    }
+}
