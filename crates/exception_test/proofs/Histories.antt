@@ -1,5 +1,5 @@
 -- A gate that follows the rules stands for one history after another.
-use Rattle.std.proofs.Common.{◌≡◌, List, ◌∷◌, ◌++◌, Option, sym, ap, ap₂, ◌∙◌, subst}
+use Rattle.std.proofs.Common.{◌≡◌, List, ◌∷◌, ◌++◌, Option, sym, ap, ap₂, ◌∙◌}
 use Rattle.trend_num.specs.declared.point.Point.{Point}
 use Rattle.trend_num.specs.declared.sending.Sending.{Sending}
 use Rattle.trend_num.specs.declared.tuning.Tuning.{Tuning}

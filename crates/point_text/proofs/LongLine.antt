@@ -1,5 +1,5 @@
 -- Lemmas on a line that is too long to have a point.
-use Rattle.std.proofs.Common.{◌≡◌, ℕ, ◌+◌, ◌-◌, ◌<◌, ◌≤◌, ℤ, pos, neg_ℤ, ◌⊎◌, inl, inr, Bool, ◌&&◌, suc, nat_le, drop, true, false, cond, List, [], ◌∷◌, ◌++◌, length, take, get_or, map, nat_eq, nat_lt, position, Option, Some, None, Result, Err, arith, refl, sym, ap, ◌∙◌, append_assoc, length-append, length-take}
+use Rattle.std.proofs.Common.{◌≡◌, ℕ, ◌+◌, ◌-◌, ◌<◌, ℤ, pos, neg_ℤ, ◌⊎◌, inl, inr, Bool, ◌&&◌, suc, nat_le, drop, true, false, cond, List, [], ◌∷◌, ◌++◌, length, take, get_or, map, nat_eq, nat_lt, position, Option, Some, None, Result, Err, arith, refl, sym, ap, ◌∙◌, append_assoc, length-append, length-take}
 use Rattle.std.proofs.lemmas.Bool.Decides.{nat_tests}
 use Rattle.std.proofs.lemmas.Bool.{eqb-true, ltb-true, ltb-false}
 use Rattle.std.proofs.lemmas.List.{take_more, take_all}
@@ -8,7 +8,7 @@ use Rattle.std.proofs.lemmas.List.Splits.{length-slice_split, join_with_byte-sli
 use Rattle.std.proofs.lemmas.List.Sums.{sum_by-append}
 use Rattle.std.specs.Char.{is_ascii_digit}
 use Rattle.std.specs.List.{count_by, join_with_byte, list_all, slice_split}
-use Rattle.std.specs.Str.Lines.{lines, strip_carriage_return}
+use Rattle.std.specs.Str.Lines.{strip_carriage_return}
 use Rattle.trend_num.specs.declared.point.Point.{Point}
 use Rattle.trend_num.specs.declared.refusal.Reason.{Reason}
 use Rattle.trend_num.specs.declared.refusal.Reason.TheVariants.{Fields, Number}

@@ -1,5 +1,5 @@
 -- Lemmas on the parts between separators, and on the lines of a text.
-use Rattle.std.proofs.Common.{◌≡◌, ◌≢◌, ℕ, ◌+◌, ◌-◌, ◌<◌, ◌≤◌, Bool, cond, List, [], ◌∷◌, length, take, drop, nat_eq, nat_lt, position, false, ◌++◌, get_or, All, Some, None, arith, refl, sym, ap, ◌∙◌, length-take, get_or-take}
+use Rattle.std.proofs.Common.{◌≡◌, ◌≢◌, ℕ, ◌+◌, ◌-◌, ◌<◌, ◌≤◌, Bool, cond, List, [], ◌∷◌, length, take, drop, nat_eq, nat_lt, position, false, ◌++◌, get_or, Some, None, arith, refl, sym, ap, ◌∙◌, length-take, get_or-take}
 use Rattle.std.proofs.lemmas.Grind.{common_steps}
 use Rattle.std.proofs.lemmas.List.Quantifiers.{position-Some}
 use Rattle.std.proofs.lemmas.List.Splits.{slice_split_at, slice_split_none, slice_split_first, length-slice_split}

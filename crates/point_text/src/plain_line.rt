@@ -265,3 +265,47 @@ fn value_of_eight(word: u64) -> u64
     let second = ((pairs >> 16) & 0x0000_00ff_0000_00ff).wrapping_mul(1 + (10_000 << 32));
     first.wrapping_add(second) >> 32
 }
+
+#[cfg(test)]
+mod tests {
+    use super::*;
+
+    #[test]
+    fn a_front_serves_the_lines_that_begin_alike(rt: HostRuntime) {
+        let table: [(&[u8], u64, i64); 6] = [
+            (b"0000000000007,8\n--------------------------------", 7, 8),
+            (
+                b"1700000000986,5005\n--------------------------------",
+                1_700_000_000_986,
+                5005,
+            ),
+            (
+                b"1700000001518,-4\r\n--------------------------------",
+                1_700_000_001_518,
+                -4,
+            ),
+            (
+                b"17000000,-4\n--------------------------------",
+                17_000_000,
+                -4,
+            ),
+            (
+                b"170000000012,0\n--------------------------------",
+                170_000_000_012,
+                0,
+            ),
+            (
+                b"1800000001518,7\n--------------------------------",
+                1_800_000_001_518,
+                7,
+            ),
+        ];
+        let mut front = Front::new();
+        for (text, t, v) in table {
+            match plain_point(text, &mut front) {
+                Some((point, _)) => assert_eq!(rt; point, Point { t, v }),
+                None => assert!(rt; false),
+            }
+        }
+    }
+}

@@ -1,6 +1,5 @@
-use Rattle.std.proofs.Common.{ℕ, string_bytes, sym, ap, ◌∙◌, subst}
+use Rattle.std.proofs.Common.{ℕ, sym, subst}
 use Rattle.trend_num.specs.declared.refusal.What.TheVariants.{Records}
-use Rattle.point_text.specs.Text.{archive_text}
 use Rattle.plant_status.specs.declared.status.Status.TheVariants.{Limit}
 use Rattle.pack_command.specs.Pack.{IsPackRefusal, origin_of}
 use Rattle.pack_command.specs.Coming.{IsAllRead}

@@ -1,4 +1,4 @@
-use Rattle.std.proofs.Common.{sym, ◌∙◌, arith}
+use Rattle.std.proofs.Common.{◌∙◌, arith}
 use Rattle.core.proofs.dec2flt.Eight.{lanes_are, first_other, shifted_is}
 use Rattle.point_text.proofs.plain_line.more_digits.Goals as goal
 

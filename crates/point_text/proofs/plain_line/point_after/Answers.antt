@@ -1,4 +1,4 @@
-use Rattle.std.proofs.Common.{◌≡◌, ◌∙◌, inl, inr, refl, sym, ap, ℕ, ◌+◌, Bool, true, false, nat_eq, get_or, ◌-ℤ◌, ◌≤◌, ℤ, pos, neg_ℤ, to_z, of_z, w64, eq-eqb, arith}
+use Rattle.std.proofs.Common.{◌≡◌, ℕ, Bool, true, false, ◌-ℤ◌, ◌≤◌, ℤ, pos, neg_ℤ, to_z, of_z, w64, eq-eqb, arith}
 use mir.Val.{bool_byte}
 use Rattle.std.proofs.lemmas.Int.{ints}
 use Rattle.std.proofs.lemmas.Bool.{ne_eqb}

@@ -1,4 +1,4 @@
-use Rattle.std.proofs.Common.{◌≡◌, ◌-◌, ◌≤◌, length, take}
+use Rattle.std.proofs.Common.{◌-◌, ◌≤◌, length, take}
 use Rattle.std.specs.List.{flat_map}
 use Rattle.byte_io.specs.Outside.{IsWritten}
 use Rattle.point_text.specs.Text.{record_line}
