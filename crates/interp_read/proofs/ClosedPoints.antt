@@ -125,7 +125,7 @@ closed (Some q) l rises not_before = by_last (last_point (points_of l)) refl
         }
 
     by_last : (o : Option Point) → last_point (points_of l) ≡ o
-    → IsClosed (Some q) (points_closed_by (Some q) l) (points_of l)
+        → IsClosed (Some q) (points_closed_by (Some q) l) (points_of l)
     by_last None last = added_one (after_all q l None rises not_before last (λ p h. cc))
     by_last (Some p) last =
         elim (cases_eq p.t q.t) [
@@ -159,7 +159,7 @@ pub closed_in_range : (held : Option Point) (cs ps : List Point) → IsClosed he
 closed_in_range held cs ps closing range all = rw closing.whole (with_more closing.more closing.of_held)
   where
     with_more : (o : Option Point) → ((q : Point) → o ≡ Some q → held ≡ Some q)
-    → All (λ p. InRange p) (ps ++ option_to_list o)
+        → All (λ p. InRange p) (ps ++ option_to_list o)
     with_more None of_held = rw (append-nil ps) all
     with_more (Some q) of_held =
         let held_is : held ≡ Some q = of_held q refl in
@@ -193,7 +193,7 @@ neighbours_inside held cs ps t n p rises closing gap found =
     }
   where
     more_from : (o : Option Point) → IfSome o (IsAfterAll ps) → IsAmong p ps → t ≤ p.t
-    → All (From t) (option_to_list o)
+        → All (From t) (option_to_list o)
     more_from None later in_it from = All-nil (From t)
     more_from (Some q) later in_it from =
         let after : p.t < q.t = among_all (Before q.t) ps later p in_it in

@@ -1,6 +1,6 @@
 -- Rising lists of points.
-use Rattle.std.proofs.Common.{◌≡◌, ℕ, zero, suc, ◌+◌, ◌<◌, ◌≤◌, inl, inr, cond, nat_lt, List, [], ◌∷◌, ◌++◌}
-use Rattle.std.proofs.Common.{None, Some, All, length, take, drop, refl, sym, ap, ◌∙◌, subst, arith, add-one}
+use Rattle.std.proofs.Common.{◌≡◌, ℕ, zero, suc, ◌<◌, ◌≤◌, inl, inr, cond, nat_lt, List, [], ◌∷◌, ◌++◌}
+use Rattle.std.proofs.Common.{None, Some, All, length, take, drop, refl, sym, ap, ◌∙◌, subst, arith}
 use Rattle.std.specs.Prelude.{count_by, slice_get}
 use Rattle.std.proofs.lemmas.Bool.{cases_lt, lt-ltb, le-ltb}
 use Rattle.std.proofs.lemmas.List.Elements.{All-nil, All-cons, All-head, All-tail}
@@ -77,7 +77,7 @@ rises_push [] q rises before = tt
 rises_push (p ∷ ps) q rises before = after p ps rises before
   where
     after : (x : Point) (xs : List Point) → RisesAfter x xs → All (Before q.t) (x ∷ xs)
-    → RisesAfter x (xs ++ q ∷ [])
+        → RisesAfter x (xs ++ q ∷ [])
     after x [] r h = (All-head (Before q.t) x [] h, tt)
     after x (y ∷ xs) r h = (r.0, after y xs r.1 (All-tail (Before q.t) x (y ∷ xs) h))
 

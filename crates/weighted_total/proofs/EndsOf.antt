@@ -1,13 +1,13 @@
 -- The ends of a window's shape, and the points inside.
 use Rattle.std.proofs.Common.{◌≡◌, ℕ, zero, suc, ◌+◌, ◌-◌, ◌<◌, ◌≤◌, inl, inr, ℤ, pos, Bool, true, false}
-use Rattle.std.proofs.Common.{nat_lt, nat_le, List, [], ◌∷◌, ◌++◌, Option, None, Some, All, length, get_or}
+use Rattle.std.proofs.Common.{nat_lt, nat_le, List, [], ◌∷◌, ◌++◌, Option, None, Some, All, get_or}
 use Rattle.std.proofs.Common.{take, drop, refl, sym, ap, ap₂, ◌∙◌, subst, arith, append-nil}
-use Rattle.std.specs.Prelude.{◌&&◌, count_by, slice_get, slice_range}
+use Rattle.std.specs.Prelude.{◌&&◌, count_by, slice_range}
 use Rattle.std.specs.List.{filter}
 use Rattle.std.specs.Option.{option_to_list}
 use Rattle.std.proofs.lemmas.Bool.{and_left, and_parts, and_right, cases_lt, false≢true, le-leb, le-ltb}
 use Rattle.std.proofs.lemmas.Bool.{leb-true, lt-leb, lt-ltb}
-use Rattle.std.proofs.lemmas.List.{get_or-drop, get_or-take, length-drop, length-map, length-take, take_all}
+use Rattle.std.proofs.lemmas.List.{get_or-drop, get_or-take, length-drop, length-take}
 use Rattle.std.proofs.lemmas.List.Elements.{All-append, All-cons, All-drop, All-head, All-nil, All-take}
 use Rattle.std.proofs.lemmas.List.Elements.{All-weaker, filter-append}
 use Rattle.std.proofs.lemmas.Slice.{between_is}
@@ -227,8 +227,7 @@ pub found_shape : (step : Bool) (held : Option Point) (l : List Rec) (from to : 
     → e.first ≡ count_by (λ r. nat_lt r.point.t (from + 1)) l
     → e.behind ≡ count_by (λ r. nat_lt r.point.t to) l
     → IsShape step (points_closed_by held l) (points_of l) from to e
-found_shape step held l from to e rises range held_range not_before order reach covered starts ends start end
-first
+found_shape step held l from to e rises range held_range not_before order reach covered starts ends start end first
     behind =
     let In : Point → Type 0 = λ p. InRange p in
     let ps = points_of l in

@@ -1,5 +1,5 @@
 -- A walk over the points of a window, in runs.
-use Rattle.std.proofs.Common.{◌≡◌, ℕ, ◌+◌, ◌-◌, ◌*◌, ◌<◌, ◌≤◌, ℤ, ◌+ℤ◌, Bool, true, false, List, [], ◌∷◌}
+use Rattle.std.proofs.Common.{◌≡◌, ℕ, ◌-◌, ◌*◌, ◌<◌, ◌≤◌, ℤ, ◌+ℤ◌, Bool, List, [], ◌∷◌}
 use Rattle.std.proofs.Common.{◌++◌, Some, All, length}
 use Rattle.std.proofs.Common.{refl, sym, ap, ap₂, ◌∙◌, subst, arith, append_assoc, append-nil}
 use Rattle.std.specs.Prelude.{drop, slice_get, slice_range, unsigned_abs}

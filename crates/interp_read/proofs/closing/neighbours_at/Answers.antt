@@ -1,5 +1,4 @@
-use Rattle.std.proofs.Common.{◌≡◌, ◌≤◌, None, Some, length, sym, ◌∙◌, arith}
-use Rattle.trend_model.specs.Contents.{points_of}
+use Rattle.std.proofs.Common.{None, Some, sym, ◌∙◌, arith}
 use Rattle.interp_read.proofs.ClosedPoints.{found_behind, found_inside, found_last, past_all}
 use Rattle.interp_read.proofs.closing.neighbours_at.Goals as goal
 

@@ -1,4 +1,4 @@
-use Rattle.std.proofs.Common.{◌≡◌, true, refl, sym, ap, Some, ◌∙◌, arith, rules}
+use Rattle.std.proofs.Common.{refl, sym, ap, Some, ◌∙◌, arith, rules}
 use Rattle.std.specs.Prelude.{FitsSigned, IfNone}
 use Rattle.std.proofs.Common.{Option, None}
 use Rattle.weighted_total.specs.declared.shape.Ends.{Ends}
