@@ -27,6 +27,11 @@ abbrev pub Answers : {A B : Type 0} → (A → B) → Result A TextNo → Result
 Answers see (Ok a) due = due ≡ Ok (see a)
 Answers see (Err why) due = why ≢ WantOfMemory → due ≡ Err why
 
+-- what is answered, with a value seen so, is an answer that is due; no memory may be found at any time
+abbrev pub Reads : {A B : Type 0} → (A → B) → Result A TextNo → (Result B TextNo → Type 0) → Type 0
+Reads see (Ok a) IsDue = IsDue (Ok (see a))
+Reads see (Err why) IsDue = why ≢ WantOfMemory → IsDue (Err why)
+
 -- what follows a step that may be refused
 abbrev pub Follows : {A B : Type 0} → Result A TextNo → (A → Result B TextNo → Type 0) → Result B TextNo → Type 0
 Follows (Err why) next answer = answer ≡ Err why

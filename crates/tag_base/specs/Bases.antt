@@ -1,5 +1,5 @@
 -- What the bytes of a base say.
-use Rattle.std.specs.Prelude.{◌≡◌, ◌≢◌, ℕ, Bool, cond, List, [], ◌∷◌, length, map, nat_le, codes, Option, None, Some, option_and_then, option_map, Result, Ok, Err}
+use Rattle.std.specs.Prelude.{◌≡◌, ℕ, Bool, cond, List, [], ◌∷◌, length, map, nat_le, codes, Option, None, Some, option_and_then, option_map, Result, Ok, Err}
 use Rattle.toml.specs.Data.{Members}
 use Rattle.toml.specs.View.{table_view}
 use Rattle.trend_num.specs.declared.refusal.What.TheVariants.{Tags, Groups}
@@ -8,7 +8,7 @@ use Rattle.tag_base.specs.declared.definition.GroupDef.{GroupDef}
 use Rattle.tag_base.specs.declared.base.BaseTables.{BaseTables}
 use Rattle.tag_base.specs.declared.definition.Base.{Base}
 use Rattle.tag_base.specs.declared.refusal.TextNo.{TextNo}
-use Rattle.tag_base.specs.declared.refusal.TextNo.TheVariants.{Limit, WantOfMemory}
+use Rattle.tag_base.specs.declared.refusal.TextNo.TheVariants.{Limit}
 use Rattle.tag_base.specs.Answers.{broken, when, given, after, Follows}
 use Rattle.tag_base.specs.Tables.{document, has_keys, tables_at, tables_if_there}
 use Rattle.tag_base.specs.Tags.{tags_after}
@@ -60,6 +60,6 @@ abbrev pub TablesRead : BaseForm → Result Base TextNo → Type 0
 TablesRead tables = Follows (tags_after [] tables.tags) (λ tags answer. (groups : Result (List GroupDef) TextNo)
     × GroupsRead tags [] tables.groups groups × Follows groups (IsBaseOf tags) answer)
 
--- what bytes come to as a base; no memory may be found at any time
-abbrev pub IsBaseAnswer : List ℕ → Result Base TextNo → Type 0
-IsBaseAnswer bytes answer = answer ≢ Err WantOfMemory → Follows (base_tables (document bytes)) TablesRead answer
+-- what bytes come to as a base
+abbrev pub BaseRead : List ℕ → Result Base TextNo → Type 0
+BaseRead bytes = Follows (base_tables (document bytes)) TablesRead

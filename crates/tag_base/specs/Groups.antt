@@ -59,10 +59,14 @@ abbrev pub new_group_name : List GroupDef → Members → Option (List ℕ)
 new_group_name earlier ms =
     option_and_then (λ name. cond (is_none (group_place earlier name)) (Some name) None) (name_at (codes "name") ms)
 
+-- whether the tag at a place is among inputs
+abbrev pub is_input : List Input → ℕ → Bool
+is_input inputs place = list_any (λ i. nat_eq i.place place) inputs
+
 -- the tag at a place as an input, where it is no step tag and no earlier input
 abbrev pub new_input : List TagDef → List Input → ℕ → Option Input
 new_input tags earlier place =
-    option_and_then (λ tag. cond (tag.step || list_any (λ i. nat_eq i.place place) earlier) None (Some (record { place = place; name = tag.name })))
+    option_and_then (λ tag. cond (tag.step || is_input earlier place) None (Some (record { place = place; name = tag.name })))
     (slice_get tags place)
 
 -- the input that a text names
@@ -79,9 +83,12 @@ abbrev pub item_count : Items → ℕ
 item_count no_items = 0
 item_count (item d ds) = item_count ds + 1
 
--- 1 to 64 inputs
+-- as many items as a group may have inputs
+abbrev pub is_input_count : Items → Bool
+is_input_count items = nat_le 1 (item_count items) && nat_le (item_count items) most_inputs
+
 abbrev pub inputs_of : List TagDef → Items → Option (List Input)
-inputs_of tags items = cond (nat_le 1 (item_count items) && nat_le (item_count items) most_inputs) (inputs_after tags [] items) None
+inputs_of tags items = cond (is_input_count items) (inputs_after tags [] items) None
 
 abbrev pub inputs_at : List TagDef → Members → Option (List Input)
 inputs_at tags ms = option_and_then (inputs_of tags) (array_at (codes "tags") ms)

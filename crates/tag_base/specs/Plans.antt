@@ -70,10 +70,14 @@ files_after rule earlier [] = Ok earlier
 files_after rule earlier (ms ∷ mss) =
     given (file_of ms) (broken rule (length earlier)) (λ file. files_after rule (earlier ++ file ∷ []) mss)
 
+-- whether a refresher has the group at a place
+abbrev pub is_refreshed : List Refresher → ℕ → Bool
+is_refreshed refreshers place = list_any (λ r. nat_eq r.group place) refreshers
+
 -- the group that a table names, where no earlier refresher has it
 abbrev pub new_group : List GroupDef → List Refresher → Members → Option ℕ
 new_group groups earlier ms =
-    option_and_then (λ place. cond (list_any (λ r. nat_eq r.group place) earlier) None (Some place))
+    option_and_then (λ place. cond (is_refreshed earlier place) None (Some place))
     (option_and_then (group_place groups) (string_at (codes "group") ms))
 
 -- the refresher of a table, after some refreshers

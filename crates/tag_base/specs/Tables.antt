@@ -1,5 +1,5 @@
 -- What a table of a TOML document holds at its keys.
-use Rattle.std.specs.Prelude.{◌≡◌, ℕ, ◌+◌, ℤ, pos, negsuc, Bool, true, false, cond, ◌&&◌, ◌||◌, List, [], ◌∷◌, length, nat_le, Option, None, Some, is_some, option_map, option_and_then, bytes_eq}
+use Rattle.std.specs.Prelude.{◌≡◌, ℕ, ◌+◌, ℤ, pos, negsuc, Bool, true, false, cond, ◌&&◌, ◌||◌, List, [], ◌∷◌, ◌++◌, length, nat_le, Option, None, Some, is_some, option_map, option_and_then, bytes_eq}
 use Rattle.std.specs.List.{list_any, list_all}
 use Rattle.std.specs.Str.{is_utf8}
 use Rattle.toml.specs.Data.{Data, Items, Members, no_items, item, no_members, member, get_member, as_str, as_integer, as_array, as_table}
@@ -13,7 +13,7 @@ document bytes = cond (is_utf8 bytes) (parse_document bytes) None
 -- ---- keys
 
 abbrev pub is_among : List (List ℕ) → List ℕ → Bool
-is_among keys key = list_any (bytes_eq key) keys
+is_among keys key = list_any (λ k. bytes_eq k key) keys
 
 -- every key passes a test
 abbrev pub all_keys : (List ℕ → Bool) → Members → Bool
@@ -54,14 +54,14 @@ number_at key least most ms = option_and_then (within least most) (option_and_th
 abbrev pub array_at : List ℕ → Members → Option Items
 array_at key ms = option_and_then as_array (get_member key ms)
 
--- items that are tables, each
-abbrev pub tables_of : Items → Option (List Members)
-tables_of no_items = Some []
-tables_of (item d ds) = option_and_then (λ ms. option_map (λ mss. ms ∷ mss) (tables_of ds)) (as_table d)
+-- the tables that items are, each, after some tables
+abbrev pub tables_after : List Members → Items → Option (List Members)
+tables_after earlier no_items = Some earlier
+tables_after earlier (item d ds) = option_and_then (λ ms. tables_after (earlier ++ ms ∷ []) ds) (as_table d)
 
 -- the tables of the array at a key, where each of its items is a table
 abbrev pub tables_at : List ℕ → Members → Option (List Members)
-tables_at key ms = option_and_then tables_of (array_at key ms)
+tables_at key ms = option_and_then (tables_after []) (array_at key ms)
 
 -- the same, and none where the key is not there
 abbrev pub tables_if_there : List ℕ → Members → Option (List Members)

@@ -1,9 +1,9 @@
 // What a table of a TOML document holds at its keys.
-ghost use Rattle.std.specs.Prelude.{◌≡◌, ◌||◌, map, IfOk, option_map};
+ghost use Rattle.std.specs.Prelude.{◌≡◌, ◌||◌, [], map, IfOk, option_map};
 ghost use Rattle.std.specs.List.{list_all};
 ghost use Rattle.toml.specs.Data.{get_member};
 ghost use Rattle.toml.specs.View.{view, table_view, items_view};
-ghost use Rattle.tag_base.specs.Tables.{is_among, has_key, all_keys, has_keys, string_at, name_at, number_at, within, tables_at, tables_if_there, tables_of};
+ghost use Rattle.tag_base.specs.Tables.{is_among, has_key, all_keys, has_keys, string_at, name_at, number_at, within, tables_at, tables_if_there, tables_after};
 
 use std::alloc::Global;
 use toml::{Table, Value};
@@ -20,7 +20,12 @@ pub(crate) fn value_at<'t>(table: &'t Table, key: &str) -> Option<&'t Value>
 fn is_among(keys: &[&str], key: &str) -> bool
     ensures { result ≡ is_among (map (λ k. k.now) keys.now) key.now }
 {
-    keys.iter().any(|k| *k == key)
+    for k in keys {
+        if *k == key {
+            return true;
+        }
+    }
+    false
 }
 
 /// Whether a table has each of the first keys, and no key but these and the others.
@@ -34,7 +39,12 @@ pub(crate) fn has_keys(table: &Table, needed: &[&str], others: &[&str]) -> bool
 fn has_each(table: &Table, keys: &[&str]) -> bool
     ensures { result ≡ list_all (has_key (table_view table.now)) (map (λ k. k.now) keys.now) }
 {
-    keys.iter().all(|key| value_at(table, key).is_some())
+    for key in keys {
+        if value_at(table, key).is_none() {
+            return false;
+        }
+    }
+    true
 }
 
 /// Whether each key of a table is one of these.
@@ -128,7 +138,7 @@ pub(crate) fn tables_if_there<'t>(
 /// The tables among items, where each of the items is one.
 fn tables_of<'t>(alloc: Global, items: &'t [Value]) -> Result<Option<Vec<&'t Table>>, WantOfMemory>
     ensures { IfOk result (λ found.
-        option_map (λ ts. map (λ t. table_view t.now) ts.items) found ≡ tables_of (items_view items.now)) }
+        option_map (λ ts. map (λ t. table_view t.now) ts.items) found ≡ tables_after [] (items_view items.now)) }
 {
     let mut tables = Vec::new(alloc);
     for item in items {

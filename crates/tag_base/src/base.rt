@@ -1,9 +1,9 @@
 // From bytes to a base.
-ghost use Rattle.std.specs.Prelude.{◌≡◌, ◌≢◌, ◌≤◌, ◌<◌, map, length, vec_len, All, IfOk, option_map};
+ghost use Rattle.std.specs.Prelude.{◌≡◌, ◌≤◌, vec_len, All, IfOk, option_map};
 ghost use Rattle.toml.specs.View.{table_view};
 ghost use Rattle.trend_num.specs.Ranges.{IsTuned};
-ghost use Rattle.tag_base.specs.Answers.{Answers};
-ghost use Rattle.tag_base.specs.Bases.{tables_of, base_arrays, base_tables, IsBaseAnswer};
+ghost use Rattle.tag_base.specs.Answers.{Answers, Reads};
+ghost use Rattle.tag_base.specs.Bases.{tables_of, base_arrays, base_tables, BaseRead};
 
 use crate::access::{has_keys, tables_at, tables_if_there};
 use crate::definition::Base;
@@ -77,7 +77,7 @@ fn base_tables<'t>(alloc: Global, document: &'t Option<Table>) -> Result<BaseTab
 /// The base that bytes spell, or the first rule that they break, or the first count that is above its limit. The order is: that
 /// of the whole text, the counts of tags and of groups, each tag in turn, each group in turn.
 pub fn read_base(alloc: Global, bytes: &[u8]) -> Result<Base, TextNo>
-    ensures base { IsBaseAnswer bytes.now result }
+    ensures base { Reads (λ base. base) result (BaseRead bytes.now) }
     ensures tuned { IfOk result (λ base. All (λ tag. IsTuned tag.tuning) base.tags.items) }
 {
     let document = document(alloc, bytes)?;

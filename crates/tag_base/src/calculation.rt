@@ -1,11 +1,10 @@
 // The calculations of a group.
-ghost use Rattle.std.specs.Prelude.{◌≡◌, ◌≢◌, ◌^◌, ◌<◌, ◌≤◌, ◌⊎◌, ℕ, [], map, length, vec_len, IfOk, IfErr, Err, option_map, bytes_eq};
+ghost use Rattle.std.specs.Prelude.{◌≡◌, ◌≢◌, ◌≤◌, [], map, length, vec_len, IfOk, IfErr, option_map, bytes_eq};
 ghost use Rattle.std.specs.List.{list_any};
 ghost use Rattle.toml.specs.View.{table_view};
 ghost use Rattle.calc_eval.specs.Group.{calculation};
-ghost use Rattle.tag_base.specs.Answers.{Answers};
+ghost use Rattle.tag_base.specs.Answers.{Reads};
 ghost use Rattle.tag_base.specs.Groups.{text_of, told_of, calc_text, calcs_after, calcs_at, Define, IsFirstRefused, CalcsRead};
-ghost use Rattle.tag_base.specs.declared.refusal.TextNo.TheVariants.{BadText, WantOfMemory};
 
 use crate::access::{has_keys, name_at, string_at, tables_at};
 use crate::refusal::TextNo;
@@ -49,7 +48,12 @@ fn calc_text(alloc: Global, earlier: &[CalcText], table: &Table) -> Result<Optio
 fn is_taken(calcs: &[CalcText], name: &Name) -> bool
     ensures { result ≡ list_any (λ c. bytes_eq c.name name.now) (map text_of calcs.now) }
 {
-    calcs.iter().any(|calc| calc.name.bytes() == name.bytes())
+    for calc in calcs {
+        if calc.name.bytes() == name.bytes() {
+            return true;
+        }
+    }
+    false
 }
 
 /// The calculations of tables.
@@ -84,7 +88,7 @@ pub(crate) fn calcs_at(alloc: Global, table: &Table) -> Result<Option<Vec<CalcTe
 fn defs_of(alloc: Global, place: u32, texts: &[CalcText]) -> Result<Vec<CalcDef>, TextNo>
     ensures defined { IfOk result (λ defs. Define (map text_of texts.now) (map calculation defs.items)) }
     ensures as_many { IfOk result (λ defs. vec_len defs ≡ length texts.now) }
-    ensures refused { IfErr result (λ why. why ≢ WantOfMemory → IsFirstRefused place (map text_of texts.now) why) }
+    ensures refused { IfErr result (λ why. (why ≢ TextNo.WantOfMemory) → IsFirstRefused place (map text_of texts.now) why) }
 {
     let mut defs = Vec::new(alloc);
     for text in texts {
@@ -112,9 +116,12 @@ fn refusal(place: u32, why: ParseNo) -> TextNo
 /// The checked calculations of the group at a place, or why they are refused.
 pub(crate) fn checked(alloc: Global, place: u32, inputs: &[Name], texts: &[CalcText]) -> Result<Checked, TextNo>
     requires { length texts.now ≤ 64 }
-    ensures { result ≢ Err WantOfMemory → CalcsRead place inputs.now (map text_of texts.now) result }
+    ensures { Reads (λ checked. checked) result (CalcsRead place inputs.now (map text_of texts.now)) }
 {
-    let defs = defs_of(alloc, place, texts)?;
+    let defs = match defs_of(alloc, place, texts) {
+        Ok(defs) => defs,
+        Err(why) => return Err(why),
+    };
     match check(alloc, inputs, defs) {
         Ok(checked) => Ok(checked),
         Err(CheckNo::WantOfMemory) => Err(TextNo::WantOfMemory),

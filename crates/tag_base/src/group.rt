@@ -1,9 +1,8 @@
 // The groups of a base.
-ghost use Rattle.std.specs.Prelude.{◌≡◌, ◌≢◌, ◌≤◌, ◌<◌, [], map, length, vec_len, Ok, Err, IfOk, IfErr, option_map};
+ghost use Rattle.std.specs.Prelude.{◌≡◌, ◌≤◌, ◌<◌, [], map, length, vec_len, IfOk, IfSome, option_map};
 ghost use Rattle.toml.specs.View.{table_view};
-ghost use Rattle.tag_base.specs.Answers.{Answers};
+ghost use Rattle.tag_base.specs.Answers.{Answers, Reads};
 ghost use Rattle.tag_base.specs.Groups.{group_place, new_group_name, text_of, form_of, group_text, GroupRead, GroupsRead};
-ghost use Rattle.tag_base.specs.declared.refusal.TextNo.TheVariants.{WantOfMemory};
 
 use crate::access::{has_keys, name_at, number_at};
 use crate::calculation::{CalcText, calcs_at, checked};
@@ -32,7 +31,8 @@ struct GroupText {
 
 /// The place of the first group of a name.
 pub(crate) fn group_place(groups: &[GroupDef], name: &[u8]) -> Option<usize>
-    ensures { result ≡ group_place groups.now name.now }
+    ensures place { result ≡ group_place groups.now name.now }
+    ensures there { IfSome result (λ i. i < length groups.now) }
 {
     groups.iter().position(|group| group.name.bytes() == name)
 }
@@ -102,45 +102,49 @@ fn places_of(alloc: Global, inputs: &[Input]) -> Result<Vec<u32>, WantOfMemory>
 fn names_of(alloc: Global, inputs: &[Input]) -> Result<Vec<Name>, WantOfMemory>
     ensures { IfOk result (λ names. names.items ≡ map (λ i. i.name) inputs.now) }
 {
-    inputs
-        .iter()
-        .map(|input| input.name)
-        .collect(alloc)
-        .map_err(|_| WantOfMemory)
+    let mut names = Vec::new(alloc);
+    for input in inputs {
+        names.push(input.name).map_err(|_| WantOfMemory)?;
+    }
+    Ok(names)
 }
 
 /// The group of a table after some groups, or the first rule that the table breaks.
 fn group_of(alloc: Global, tags: &[TagDef], earlier: &[GroupDef], table: &Table) -> Result<GroupDef, TextNo>
     requires few_tags { length tags.now ≤ 1024 }
     requires few_groups { length earlier.now ≤ 16 }
-    ensures { result ≢ Err WantOfMemory → GroupRead tags.now earlier.now (table_view table.now) result }
+    ensures { Reads (λ group. group) result (GroupRead tags.now earlier.now (table_view table.now)) }
 {
     let text = group_text(alloc, tags, earlier, table)?;
     let inputs = places_of(alloc, &text.inputs)?;
     let names = names_of(alloc, &text.inputs)?;
-    let calcs = checked(alloc, earlier.len() as u32, &names, &text.calcs)?;
-    Ok(GroupDef {
-        name: text.name,
-        inputs,
-        start: text.start,
-        period: text.period,
-        calcs,
-    })
+    match checked(alloc, earlier.len() as u32, &names, &text.calcs) {
+        Ok(calcs) => Ok(GroupDef {
+            name: text.name,
+            inputs,
+            start: text.start,
+            period: text.period,
+            calcs,
+        }),
+        Err(why) => Err(why),
+    }
 }
 
 /// The groups of tables, or the first rule that one breaks.
 pub(crate) fn groups_of(alloc: Global, tags: &[TagDef], tables: &[&Table]) -> Result<Vec<GroupDef>, TextNo>
     requires few_tags { length tags.now ≤ 1024 }
     requires few_groups { length tables.now ≤ 16 }
-    ensures groups { IfOk result (λ groups. GroupsRead tags.now [] (map (λ t. table_view t.now) tables.now) (Ok groups.items)) }
-    ensures refused { IfErr result (λ why. why ≢ WantOfMemory → GroupsRead tags.now [] (map (λ t. table_view t.now) tables.now) (Err why)) }
+    ensures groups { Reads (λ groups. groups.items) result (GroupsRead tags.now [] (map (λ t. table_view t.now) tables.now)) }
     ensures as_many { IfOk result (λ groups. vec_len groups ≡ length tables.now) }
 {
     let mut groups = Vec::new(alloc);
     for table in tables {
-        match group_of(alloc, tags, &groups, table) {
-            Ok(group) => groups.push(group).map_err(|_| TextNo::WantOfMemory)?,
+        let group = match group_of(alloc, tags, &groups, table) {
+            Ok(group) => group,
             Err(why) => return Err(why),
+        };
+        if groups.push(group).is_err() {
+            return Err(TextNo::WantOfMemory);
         }
     }
     Ok(groups)

@@ -1,7 +1,7 @@
 // The inputs of a group.
 ghost use Rattle.std.specs.Prelude.{◌≡◌, ◌^◌, ◌<◌, ◌≤◌, [], map, length, All, IfOk, IfSome, option_map};
 ghost use Rattle.toml.specs.View.{items_view, table_view};
-ghost use Rattle.tag_base.specs.Groups.{new_input, named_input, inputs_after, inputs_of, inputs_at};
+ghost use Rattle.tag_base.specs.Groups.{is_input, new_input, named_input, inputs_after, is_input_count, inputs_of, inputs_at};
 
 use crate::access::value_at;
 use crate::tag::tag_place;
@@ -19,20 +19,39 @@ pub(crate) struct Input {
     pub(crate) name: Name,
 }
 
-/// The input that a text names: a tag that is no step tag and no earlier input.
+/// Whether the tag at a place is among inputs.
+fn is_input(inputs: &[Input], place: u32) -> bool
+    ensures { result ≡ is_input inputs.now place }
+{
+    inputs.iter().any(|input| input.place == place)
+}
+
+/// The tag at a place as an input, where it is no step tag and no earlier input.
+fn new_input(tags: &[TagDef], earlier: &[Input], place: usize) -> Option<Input>
+    requires there { place < length tags.now }
+    requires few_tags { length tags.now ≤ 1024 }
+    ensures { result ≡ new_input tags.now earlier.now place }
+{
+    let tag = tags[place];
+    let place = place as u32;
+    if tag.step || is_input(earlier, place) {
+        return None;
+    }
+    Some(Input {
+        place,
+        name: tag.name,
+    })
+}
+
+/// The input that a text names.
 fn named_input(tags: &[TagDef], earlier: &[Input], name: &str) -> Option<Input>
     requires { length tags.now ≤ 1024 }
     ensures { result ≡ named_input tags.now earlier.now name.now }
 {
-    let place = tag_place(tags, name.as_bytes())?;
-    let tag = tags.get(place)?;
-    if tag.step || earlier.iter().any(|input| input.place == place as u32) {
-        return None;
+    match tag_place(tags, name.as_bytes()) {
+        Some(place) => new_input(tags, earlier, place),
+        None => None,
     }
-    Some(Input {
-        place: place as u32,
-        name: tag.name,
-    })
 }
 
 /// The inputs that items name.
@@ -53,6 +72,15 @@ fn inputs_of(alloc: Global, tags: &[TagDef], items: &[Value]) -> Result<Option<V
     Ok(Some(inputs))
 }
 
+/// Whether there are as many items as a group may have inputs.
+#[tactic(auto, using(crate::proofs::Items::count_of_items))]
+fn is_input_count(items: &[Value]) -> bool
+    ensures { result ≡ is_input_count (items_view items.now) }
+{
+    let count = items.len();
+    1 <= count && count <= MAX_INPUTS
+}
+
 /// The inputs of the table of a group, where they are 1 to 64 tags that are no step tags, none twice.
 pub(crate) fn inputs_at(alloc: Global, tags: &[TagDef], table: &Table) -> Result<Option<Vec<Input>>, WantOfMemory>
     requires { length tags.now ≤ 1024 }
@@ -64,7 +92,7 @@ pub(crate) fn inputs_at(alloc: Global, tags: &[TagDef], table: &Table) -> Result
     let Some(items) = value.as_array() else {
         return Ok(None);
     };
-    if items.is_empty() || items.len() > MAX_INPUTS {
+    if !is_input_count(items.as_slice()) {
         return Ok(None);
     }
     inputs_of(alloc, tags, items.as_slice())

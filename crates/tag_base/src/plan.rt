@@ -2,7 +2,7 @@
 ghost use Rattle.std.specs.Prelude.{◌≡◌, ◌≤◌, ◌<◌, [], map, length, IfOk, option_map};
 ghost use Rattle.toml.specs.View.{table_view};
 ghost use Rattle.tag_base.specs.Answers.{Answers};
-ghost use Rattle.tag_base.specs.Plans.{tables_of, plan_arrays, plan_tables, file_of, files_after, new_group, refresher_of, refreshers_after, plan_parts, plan};
+ghost use Rattle.tag_base.specs.Plans.{tables_of, plan_arrays, plan_tables, file_of, files_after, is_refreshed, new_group, refresher_of, refreshers_after, plan_parts, plan};
 
 use crate::access::{has_keys, number_at, string_at, tables_if_there};
 use crate::definition::{Base, GroupDef};
@@ -111,16 +111,29 @@ fn files_of(alloc: Global, rule: u8, tables: &[&Table]) -> Result<Vec<FileName>,
     Ok(files)
 }
 
+/// Whether a refresher has the group at a place.
+fn is_refreshed(refreshers: &[Refresher], group: u32) -> bool
+    ensures { result ≡ is_refreshed refreshers.now group }
+{
+    refreshers.iter().any(|refresher| refresher.group == group)
+}
+
 /// The place of the group that a table names, where no earlier refresher has it.
 fn new_group(groups: &[GroupDef], earlier: &[Refresher], table: &Table) -> Option<u32>
     requires { length groups.now ≤ 16 }
     ensures { result ≡ new_group groups.now earlier.now (table_view table.now) }
 {
-    let place = group_place(groups, string_at(table, "group")?.as_bytes())?;
-    if earlier.iter().any(|refresher| refresher.group == place as u32) {
+    let Some(name) = string_at(table, "group") else {
+        return None;
+    };
+    let Some(place) = group_place(groups, name.as_bytes()) else {
+        return None;
+    };
+    let place = place as u32;
+    if is_refreshed(earlier, place) {
         return None;
     }
-    Some(place as u32)
+    Some(place)
 }
 
 /// The refresher of a table, where the table names a group that no earlier refresher has, and 0 to 1,000 turns.

@@ -1,5 +1,5 @@
 // The tags of a base.
-ghost use Rattle.std.specs.Prelude.{◌≡◌, [], map, All, IfOk, IfSome, option_map};
+ghost use Rattle.std.specs.Prelude.{◌≡◌, ◌<◌, [], map, length, vec_len, All, IfOk, IfSome, option_map};
 ghost use Rattle.toml.specs.Data.{get_member};
 ghost use Rattle.toml.specs.View.{view, table_view};
 ghost use Rattle.trend_num.specs.Ranges.{IsTuned};
@@ -14,7 +14,7 @@ use trend_num::{MAX_DEV, MAX_T, Name, TagDef, Tuning};
 
 /// Whether a value is not there, or is a text.
 fn is_text_if_there(value: Option<&Value>) -> bool
-    ensures { result ≡ is_text_if_there (option_map (λ v. view v.now) value) }
+    ensures { result ≡ is_text_if_there (option_map (λ v. view v.now) value.entry) }
 {
     match value {
         Some(value) => value.is_str(),
@@ -50,7 +50,7 @@ fn tuning_at(table: &Table) -> Option<Tuning>
 
 /// Whether a value says step tag: it is not there, which says no, or it is a boolean.
 fn step_of(value: Option<&Value>) -> Option<bool>
-    ensures { result ≡ step_of (option_map (λ v. view v.now) value) }
+    ensures { result ≡ step_of (option_map (λ v. view v.now) value.entry) }
 {
     match value {
         Some(value) => value.as_bool(),
@@ -60,7 +60,8 @@ fn step_of(value: Option<&Value>) -> Option<bool>
 
 /// The place of the first tag of a name.
 pub(crate) fn tag_place(tags: &[TagDef], name: &[u8]) -> Option<usize>
-    ensures { result ≡ tag_place tags.now name.now }
+    ensures place { result ≡ tag_place tags.now name.now }
+    ensures there { IfSome result (λ i. i < length tags.now) }
 {
     tags.iter().position(|tag| tag.name.bytes() == name)
 }
@@ -99,6 +100,7 @@ fn tag_of(earlier: &[TagDef], table: &Table) -> Result<TagDef, TextNo>
 /// The tags of tables, or the first rule that one breaks.
 pub(crate) fn tags_of(alloc: Global, tables: &[&Table]) -> Result<Vec<TagDef>, TextNo>
     ensures tags { Answers (λ tags. tags.items) result (tags_after [] (map (λ t. table_view t.now) tables.now)) }
+    ensures as_many { IfOk result (λ tags. vec_len tags ≡ length tables.now) }
     ensures tuned { IfOk result (λ tags. All (λ tag. IsTuned tag.tuning) tags.items) }
 {
     let mut tags = Vec::new(alloc);
