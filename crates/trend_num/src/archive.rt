@@ -1,4 +1,4 @@
-// What an archive keeps of a tag: its records, and the summary from which it goes on.
+// What an archive keeps of a tag: its records, the summary from which it goes on, and what others see of it.
 use crate::point::Point;
 use crate::tuning::Tuning;
 
@@ -24,7 +24,7 @@ pub struct Rec {
 /// The state of a tag beside its records.
 #[derive(Clone, Copy, Debug, PartialEq, Eq)]
 pub struct Summary {
-    /// How many raw values were taken since the tag began.
+    /// How many events, raw values and retunings, were taken since the tag began.
     pub taken: u64,
     /// How many records there are.
     pub records: u32,
@@ -41,4 +41,13 @@ pub struct Summary {
     /// The tuning in force. None stands only in a summary that was written before tags could be retuned, and means the
     /// tuning with which the tag was made.
     pub tuning: Option<Tuning>,
+}
+
+/// The newest state of a tag, as others see it.
+#[derive(Clone, Copy, Debug, PartialEq, Eq)]
+pub struct Snap {
+    /// How many events, raw values and retunings, were taken since the tag began.
+    pub taken: u64,
+    /// The last value sent in order: the archive's line is closed by it.
+    pub held: Option<Point>,
 }

@@ -23,7 +23,7 @@ mod tag_def;
 mod tests;
 mod tuning;
 
-pub use archive::{Kind, MAX_RECORDS, Rec, Summary};
+pub use archive::{Kind, MAX_RECORDS, Rec, Snap, Summary};
 pub use counter::Steps;
 pub use digits::numeral;
 pub use equality::{same_name, same_point, same_rec, same_sending, same_summary, same_tuning};
