@@ -16,8 +16,8 @@ ROOT = os.path.dirname(os.path.dirname(HERE))
 BELOW = ["trend_num", "trend_model", "page_pool", "late_insert", "interp_read", "weighted_total"]
 RUNS = 3
 # The work, and how many times the plain rate the paged rate is to be at least.
-WORKS = [("in_order", 1 / 3), ("late", 50), ("whole_area", 5), ("whole_low", 5),
-         ("small_area", 1), ("small_low", 1)]
+WORKS = [("in_order", 1 / 3), ("late", 50), ("whole_area", 5), ("whole_stair", 5), ("whole_low", 5),
+         ("small_area", 1), ("small_stair", 1), ("small_low", 1)]
 
 
 def build(folder):
