@@ -4,16 +4,14 @@ use Rattle.std.proofs.Common.{None, Some}
 use Rattle.std.proofs.Common.{refl, sym, ◌∙◌, subst, arith}
 use Rattle.std.proofs.lemmas.Bool.{cases_lt}
 use Rattle.disk_model.specs.Traces.{Trace, seen}
-use Rattle.disk_model.specs.Images.{IsOutside, MayLeave, Now, FromOld, IsSettled}
+use Rattle.disk_model.specs.Images.{IsOutside, MayLeave, Now, FromOld}
 use Rattle.disk_model.specs.Moments.{During}
-use Rattle.disk_model.specs.Calls.{HasLength, Reaches}
-use Rattle.disk_model.specs.Gates.{open_byte, IsShut, IsGuarded, HasGatesOf, AreShut, IsClosing}
+use Rattle.disk_model.specs.Calls.{Reaches}
+use Rattle.disk_model.specs.Gates.{open_byte, IsShut, IsGuarded, AreShut, IsClosing}
 use Rattle.disk_model.proofs.Images.{present}
 use Rattle.disk_model.proofs.Moments.{during_now}
 use Rattle.event_queue.specs.Slots.{gate_of, place_of, lane_end}
 use Rattle.event_queue.specs.Places.{HasRoom}
-use Rattle.event_queue.specs.Scans.{IsRead}
-use Rattle.event_queue.specs.declared.reader.Scanned.{Scanned}
 
 -- what a read gives has the whole lane
 pub reaches_lane : (o : Option Trace) (slots used n : ℕ) → Now o (HasRoom slots used) → n ≤ lane_end slots
@@ -78,24 +76,4 @@ room_anew o new slots used room during shut = record {
             (sym (from.2.same (gate_of k) (inl (inr (omega arith)))) ∙ opened))
             (cases_lt k used);
       };
-}
-
--- a lane that was read of a settled device has room from its place on
-pub room_read : (o : Option Trace) (slots taken len : ℕ) (s : Scanned) → IsSettled o → HasLength o len → lane_end slots ≤ len
-    → IfSome o (λ t. IsRead slots taken (seen (Some t)) slots s) → Now o (HasRoom slots s.lane.used)
-room_read None slots taken len s settled long le read = record { each = λ c may. absurd may.image }
-room_read (Some t) slots taken len s settled long le read = record {
-  each = λ c may.
-      subst (HasRoom slots s.lane.used) (sym (settled.each c may)) (record {
-        long = omega (arith, long, le);
-        shut = read.none_behind;
-      });
-}
-
--- and its gates read the same in each image
-pub gates_read : (o : Option Trace) (at n : ℕ) → IsSettled o → Reaches o (at + n) → Now o (HasGatesOf (seen o) at n)
-gates_read None at n settled room = record { each = λ c may. absurd may.image }
-gates_read (Some t) at n settled room = record {
-  each = λ c may.
-      subst (HasGatesOf (seen (Some t)) at n) (sym (settled.each c may)) (record { there = room; same = λ i low high. refl });
 }

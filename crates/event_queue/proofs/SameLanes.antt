@@ -9,7 +9,7 @@ use Rattle.trend_num.specs.declared.point.Point.{Point}
 use Rattle.trend_num.specs.Ranges.{InRange}
 use Rattle.disk_model.specs.Gates.{open_byte, IsOpen}
 use Rattle.disk_model.proofs.Bytes.{holds_same}
-use Rattle.event_queue.specs.Slots.{Batch, gate_of, place_of, slot_at, batch_in, batch_at}
+use Rattle.event_queue.specs.Slots.{Batch, gate_of, place_of, lane_end, slot_at, batch_in, batch_at}
 use Rattle.event_queue.specs.Lanes.{IsStale, points_beyond, points_of, points_before, IsStaleBehind}
 use Rattle.event_queue.specs.Lanes.{IsNextBehind, FollowsOn}
 use Rattle.event_queue.specs.Lanes.{IsCounted, IsSound, IsLane}
@@ -105,3 +105,16 @@ module _ (slots taken n : ℕ) (a b : List ℕ) (is : HasSameSlots slots n a b) 
         let was = is.back k there opened in
         same_sound k there was (lane.sound k below was);
   }
+
+-- two images with the same bytes from the first gate to the last slot hold the same lane
+pub same_bytes : (slots : ℕ) (a b : List ℕ) → lane_end slots ≤ length a → lane_end slots ≤ length b
+    → ((i : ℕ) → gate_of 0 ≤ i → i < lane_end slots → get_or b i 0 ≡ get_or a i 0) → HasSameSlots slots slots a b
+same_bytes slots a b a_long b_long same = record {
+  forth = λ k there opened. gate k there ∙ opened;
+  back = λ k there opened. sym (gate k there) ∙ opened;
+  same = λ k there opened. same_slot slots k a b (omega (arith, a_long, there)) (omega (arith, b_long, there))
+      (λ i low below. same i (omega (arith, low)) (omega (arith, below, there)));
+}
+  where
+    gate : (k : ℕ) → k < slots → get_or b (gate_of k) 0 ≡ get_or a (gate_of k) 0
+    gate k there = same (gate_of k) (omega arith) (omega (arith, there))

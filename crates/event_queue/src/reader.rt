@@ -1,6 +1,6 @@
 // What a lane holds, read in large pieces.
-ghost use Rattle.std.specs.Prelude.{◌≡◌, ◌≢◌, ◌↔◌, ◌+◌, ◌*◌, ◌^◌, ◌<◌, ◌≤◌, ℕ, List, length, take, drop, slice_index, vec_len, Option};
-ghost use Rattle.std.specs.Prelude.{IsTrue, IfOk, IfSome, OnOk, OnErr, IsErrOf};
+ghost use Rattle.std.specs.Prelude.{◌≡◌, ◌≢◌, ◌↔◌, ◌+◌, ◌*◌, ◌^◌, ◌<◌, ◌≤◌, ℕ, List, length, take, drop};
+ghost use Rattle.std.specs.Prelude.{slice_index, vec_len, Option, IsTrue, IfOk, IfSome, OnOk, OnErr, IsErrOf};
 ghost use Rattle.disk_model.specs.Traces.{seen};
 ghost use Rattle.disk_model.specs.Calls.{HasCause, Reaches, Reads, Rose};
 ghost use Rattle.archive_file.specs.declared.failure.ScanNo.TheVariants.{DeviceFault, Damaged, WantOfMemory};

@@ -1,10 +1,10 @@
 // The bytes of a slot, and where it stands.
-ghost use Rattle.std.specs.Prelude.{◌≡◌, ◌↔◌, ◌⊎◌, ◌+◌, ◌*◌, ◌<◌, ◌≤◌, ℕ, length, take, drop, min, IsTrue, IfSome, IfNone, OnOk, ◌++◌};
+ghost use Rattle.std.specs.Prelude.{◌≡◌, ◌+◌, ◌*◌, ◌<◌, ◌≤◌, ◌++◌, length, take, drop, IfSome, IfNone, OnOk};
 ghost use Rattle.std.specs.Int.{w16, from_be_bytes};
 ghost use Rattle.std.specs.List.{All};
 ghost use Rattle.trend_num.specs.Ranges.{InRange};
 ghost use Rattle.archive_file.specs.Fields.{point_at};
-ghost use Rattle.event_queue.specs.Slots.{gate_of, place_of, batch_bytes, points_in};
+ghost use Rattle.event_queue.specs.Slots.{place_of, batch_bytes, points_in};
 
 use archive_file::{put, put_point, take_point};
 use arrayvec::ArrayVec;

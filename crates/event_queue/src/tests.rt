@@ -180,15 +180,17 @@ fn a_batch_is_written_in_four_calls(rt: HostRuntime) -> Result<(), Fail> {
 fn a_crash_leaves_the_batch_whole_or_absent(rt: HostRuntime) -> Result<(), Fail> {
     let alloc = rt.alloc();
     let picks = [Pick::Old, Pick::New, Pick::Fill(0xa5), Pick::Fill(0)];
-    // Opening takes three calls. Stopped behind so many more, and how many points each pick leaves.
+    let none: &[Point] = &[];
+    let all: &[Point] = &THREE;
+    // Opening takes three calls. Stopped behind so many more, and what each pick leaves.
     let cases = [
-        (0, [0, 0, 0, 0]),
-        (1, [0, 0, 0, 0]),
-        (2, [0, 3, 3, 0]),
-        (3, [0, 3, 3, 0]),
-        (4, [3, 3, 3, 3]),
+        (0, [none; 4]),
+        (1, [none; 4]),
+        (2, [none, all, all, none]),
+        (3, [none, all, all, none]),
+        (4, [all; 4]),
     ];
-    for (stop, counts) in cases {
+    for (stop, images) in cases {
         let mut disk = new_lane(alloc, 64, 3 + stop)?;
         let done = commit(alloc, &mut disk, 64, &THREE).ok_or("not opened")?;
         let want = if stop == 4 {
@@ -197,13 +199,9 @@ fn a_crash_leaves_the_batch_whole_or_absent(rt: HostRuntime) -> Result<(), Fail>
             Err(LaneNo::DeviceFault)
         };
         assert_eq!(rt; done, want);
-        for (pick, count) in picks.into_iter().zip(counts) {
+        for (pick, image) in picks.into_iter().zip(images) {
             let points = left(alloc, &disk, pick, 64, 0)?;
-            assert_eq!(rt;
-                points.as_slice(),
-                &THREE[..count],
-                "stopped at {stop}, {pick:?}"
-            );
+            assert_eq!(rt; points.as_slice(), image, "stopped at {stop}, {pick:?}");
         }
     }
     Ok(())
@@ -221,7 +219,7 @@ fn a_lane_of_one_slot_is_full(rt: HostRuntime) -> Result<(), Fail> {
     );
     assert_eq!(rt;
         (disk.clock(), disk.faults()),
-        (clock + 1, 0),
+        (clock.wrapping_add(1), 0),
         "the sync of the opening alone"
     );
     assert_eq!(rt; begin_anew(alloc, &mut disk, 1, 3), Some(true));
