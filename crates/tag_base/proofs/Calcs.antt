@@ -1,5 +1,5 @@
 -- What the texts of calculations define, one after another.
-use Rattle.std.proofs.Common.{◌≡◌, ℕ, ◌+◌, ◌<◌, List, [], ◌∷◌, ◌++◌, length, map, take, drop, get_or, refl, sym, ap, ◌∙◌, subst, take-append-drop}
+use Rattle.std.proofs.Common.{◌≡◌, ℕ, ◌+◌, ◌<◌, List, [], ◌∷◌, ◌++◌, length, map, take, drop, get_or, sym, ap, ◌∙◌, subst, take-append-drop}
 use Rattle.std.proofs.lemmas.List.{drop_more, take_more, map_push, map-append}
 use Rattle.calc_parser.specs.declared.refusal.ParseNo.{ParseNo}
 use Rattle.calc_parser.specs.Formulas.{IsFormula, HasCause}

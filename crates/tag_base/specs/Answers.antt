@@ -22,7 +22,8 @@ abbrev pub after : {A B : Type 0} → Result A TextNo → (A → Result B TextNo
 after (Err why) answer = Err why
 after (Ok a) answer = answer a
 
--- the value that is answered, seen so, is the one that is due, or the refusal is; no memory may be found at any time
+-- the value that is answered, seen so, is the one that is due, or the refusal is; no memory may be found at
+-- any time
 abbrev pub Answers : {A B : Type 0} → (A → B) → Result A TextNo → Result B TextNo → Type 0
 Answers see (Ok a) due = due ≡ Ok (see a)
 Answers see (Err why) due = why ≢ WantOfMemory → due ≡ Err why
@@ -33,6 +34,7 @@ Reads see (Ok a) IsDue = IsDue (Ok (see a))
 Reads see (Err why) IsDue = why ≢ WantOfMemory → IsDue (Err why)
 
 -- what follows a step that may be refused
-abbrev pub Follows : {A B : Type 0} → Result A TextNo → (A → Result B TextNo → Type 0) → Result B TextNo → Type 0
+abbrev pub Follows : {A B : Type 0} → Result A TextNo → (A → Result B TextNo → Type 0)
+    → Result B TextNo → Type 0
 Follows (Err why) next answer = answer ≡ Err why
 Follows (Ok a) next answer = next a answer

@@ -1,5 +1,5 @@
 -- What the bytes of a base say.
-use Rattle.std.specs.Prelude.{◌≡◌, ℕ, Bool, cond, List, [], ◌∷◌, length, map, nat_le, codes, Option, None, Some, option_and_then, option_map, Result, Ok, Err}
+use Rattle.std.specs.Prelude.{◌≡◌, ℕ, cond, List, [], ◌∷◌, length, map, nat_le, codes, Option, None, Some, option_and_then, option_map, Result, Ok, Err}
 use Rattle.toml.specs.Data.{Members}
 use Rattle.toml.specs.View.{table_view}
 use Rattle.trend_num.specs.declared.refusal.What.TheVariants.{Tags, Groups}
@@ -9,7 +9,7 @@ use Rattle.tag_base.specs.declared.base.BaseTables.{BaseTables}
 use Rattle.tag_base.specs.declared.definition.Base.{Base}
 use Rattle.tag_base.specs.declared.refusal.TextNo.{TextNo}
 use Rattle.tag_base.specs.declared.refusal.TextNo.TheVariants.{Limit}
-use Rattle.tag_base.specs.Answers.{broken, when, given, after, Follows}
+use Rattle.tag_base.specs.Answers.{broken, when, given, Follows}
 use Rattle.tag_base.specs.Tables.{document, has_keys, tables_at, tables_if_there}
 use Rattle.tag_base.specs.Tags.{tags_after}
 use Rattle.tag_base.specs.Groups.{GroupsRead}
@@ -27,7 +27,11 @@ pub record BaseForm : Type 0 where
   pub groups : List Members
 
 abbrev pub tables_of : BaseTables → BaseForm
-tables_of tables = record { tags = map (λ t. table_view t.now) tables.tags.items; groups = map (λ t. table_view t.now) tables.groups.items }
+tables_of tables =
+    record {
+      tags = map (λ t. table_view t.now) tables.tags.items;
+      groups = map (λ t. table_view t.now) tables.groups.items;
+    }
 
 -- one tag or more
 abbrev pub some_tables : List Members → Option (List Members)
@@ -37,11 +41,13 @@ some_tables (ms ∷ mss) = Some (ms ∷ mss)
 -- the tables of a document with the keys `tag` and, at will, `group`
 abbrev pub base_arrays : Members → Option BaseForm
 base_arrays ms = cond (has_keys (codes "tag" ∷ []) (codes "group" ∷ []) ms)
-    (option_and_then (λ tags. option_map (λ groups. record { tags = tags; groups = groups }) (tables_if_there (codes "group") ms))
+    (option_and_then (λ tags. option_map (λ groups. record { tags = tags; groups = groups })
+    (tables_if_there (codes "group") ms))
     (option_and_then some_tables (tables_at (codes "tag") ms)))
     None
 
--- the tables of what was found in bytes: rule 1 asks for a document, rule 2 for its arrays; then how many tags there are, and how many groups
+-- the tables of what was found in bytes: rule 1 asks for a document, rule 2 for its arrays; then how many
+-- tags there are, and how many groups
 abbrev pub base_tables : Option Members → Result BaseForm TextNo
 base_tables found =
     given found (broken 1 0) (λ ms.
@@ -57,7 +63,8 @@ IsBaseOf tags groups (Err why) = ⊥
 
 -- what the tables of a base come to: the tags first, and then the groups
 abbrev pub TablesRead : BaseForm → Result Base TextNo → Type 0
-TablesRead tables = Follows (tags_after [] tables.tags) (λ tags answer. (groups : Result (List GroupDef) TextNo)
+TablesRead tables = Follows (tags_after [] tables.tags)
+    (λ tags answer. (groups : Result (List GroupDef) TextNo)
     × GroupsRead tags [] tables.groups groups × Follows groups (IsBaseOf tags) answer)
 
 -- what bytes come to as a base

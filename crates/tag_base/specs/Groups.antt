@@ -1,7 +1,7 @@
 -- What the tables of groups say.
-use Rattle.std.specs.Prelude.{◌≡◌, ◌≢◌, ◌⊎◌, ℕ, ◌+◌, Bool, true, cond, ◌&&◌, ◌||◌, List, [], ◌∷◌, ◌++◌, length, map, position, slice_get, codes, bytes_eq, string_bytes, nat_eq, nat_le, Option, None, Some, is_none, option_and_then, Result, Ok, Err, ⊤}
+use Rattle.std.specs.Prelude.{◌≡◌, ◌≢◌, ◌⊎◌, ℕ, ◌+◌, Bool, cond, ◌&&◌, ◌||◌, List, [], ◌∷◌, ◌++◌, length, map, position, slice_get, codes, bytes_eq, string_bytes, nat_eq, nat_le, Option, None, Some, is_none, option_and_then, Result, Ok, Err, ⊤, ◌<◌, ◌≤◌, All, vec_len}
 use Rattle.std.specs.List.{list_any}
-use Rattle.toml.specs.Data.{Data, Items, Members, no_items, item, as_str}
+use Rattle.toml.specs.Data.{Items, Members, no_items, item, as_str}
 use Rattle.trend_num.specs.Ranges.{last_time}
 use Rattle.trend_num.specs.declared.refusal.What.TheVariants.{Calcs}
 use Rattle.trend_num.specs.declared.tag_def.TagDef.{TagDef}
@@ -48,7 +48,14 @@ pub record GroupForm : Type 0 where
   pub calcs : List CalcForm
 
 abbrev pub form_of : GroupText → GroupForm
-form_of g = record { name = g.name; inputs = g.inputs.items; start = g.start; period = g.period; calcs = map text_of g.calcs.items }
+form_of g =
+    record {
+      name = g.name;
+      inputs = g.inputs.items;
+      start = g.start;
+      period = g.period;
+      calcs = map text_of g.calcs.items;
+    }
 
 -- the place of the first group of a name
 abbrev pub group_place : List GroupDef → List ℕ → Option ℕ
@@ -57,7 +64,8 @@ group_place groups name = position (λ g. bytes_eq g.name name) groups
 -- the name of a table, where it is one and no earlier group has it
 abbrev pub new_group_name : List GroupDef → Members → Option (List ℕ)
 new_group_name earlier ms =
-    option_and_then (λ name. cond (is_none (group_place earlier name)) (Some name) None) (name_at (codes "name") ms)
+    option_and_then (λ name. cond (is_none (group_place earlier name)) (Some name) None)
+    (name_at (codes "name") ms)
 
 -- whether the tag at a place is among inputs
 abbrev pub is_input : List Input → ℕ → Bool
@@ -66,7 +74,8 @@ is_input inputs place = list_any (λ i. nat_eq i.place place) inputs
 -- the tag at a place as an input, where it is no step tag and no earlier input
 abbrev pub new_input : List TagDef → List Input → ℕ → Option Input
 new_input tags earlier place =
-    option_and_then (λ tag. cond (tag.step || is_input earlier place) None (Some (record { place = place; name = tag.name })))
+    option_and_then (λ tag. cond (tag.step || is_input earlier place) None
+    (Some (record { place = place; name = tag.name })))
     (slice_get tags place)
 
 -- the input that a text names
@@ -77,7 +86,8 @@ named_input tags earlier name = option_and_then (new_input tags earlier) (tag_pl
 abbrev pub inputs_after : List TagDef → List Input → Items → Option (List Input)
 inputs_after tags earlier no_items = Some earlier
 inputs_after tags earlier (item d ds) =
-    option_and_then (λ input. inputs_after tags (earlier ++ input ∷ []) ds) (option_and_then (named_input tags earlier) (as_str d))
+    option_and_then (λ input. inputs_after tags (earlier ++ input ∷ []) ds)
+    (option_and_then (named_input tags earlier) (as_str d))
 
 abbrev pub item_count : Items → ℕ
 item_count no_items = 0
@@ -97,14 +107,16 @@ inputs_at tags ms = option_and_then (inputs_of tags) (array_at (codes "tags") ms
 abbrev pub calc_text : List CalcForm → Members → Option CalcForm
 calc_text earlier ms = cond (has_keys (codes "name" ∷ codes "formula" ∷ []) [] ms)
     (option_and_then (λ name. option_and_then (λ formula.
-    cond (list_any (λ c. bytes_eq c.name name) earlier) None (Some (record { name = name; formula = formula })))
+    cond (list_any (λ c. bytes_eq c.name name) earlier) None
+    (Some (record { name = name; formula = formula })))
     (string_at (codes "formula") ms)) (name_at (codes "name") ms))
     None
 
 -- the calculations of tables, in order, after some calculations
 abbrev pub calcs_after : List CalcForm → List Members → Option (List CalcForm)
 calcs_after earlier [] = Some earlier
-calcs_after earlier (ms ∷ mss) = option_and_then (λ calc. calcs_after (earlier ++ calc ∷ []) mss) (calc_text earlier ms)
+calcs_after earlier (ms ∷ mss) =
+    option_and_then (λ calc. calcs_after (earlier ++ calc ∷ []) mss) (calc_text earlier ms)
 
 -- one calculation or more
 abbrev pub calcs_of : List Members → Option (List CalcForm)
@@ -117,8 +129,8 @@ calcs_at ms = option_and_then calcs_of (tables_at (codes "calc") ms)
 abbrev pub group_keys : List (List ℕ)
 group_keys = codes "name" ∷ codes "tags" ∷ codes "start" ∷ codes "period" ∷ codes "calc" ∷ []
 
--- the text of a group after some groups, by the rules of a group in their order: 6 its keys, 7 its name, 8 its inputs, 9
--- its start and period, 10 its calculations; and then how many these are
+-- the text of a group after some groups, by the rules of a group in their order: 6 its keys, 7 its name, 8
+-- its inputs, 9 its start and period, 10 its calculations; and then how many these are
 abbrev pub group_text : List TagDef → List GroupDef → Members → Result GroupForm TextNo
 group_text tags earlier ms =
     when (has_keys group_keys [] ms) (broken 6 (length earlier))
@@ -130,12 +142,24 @@ group_text tags earlier ms =
     when (nat_le (length calcs) most_calcs) (Limit Calcs (length calcs))
     (Ok (record { name = name; inputs = inputs; start = start; period = period; calcs = calcs }))))))))
 
+-- what holds of every such text over so many tags
+pub record IsSoundText (tags : ℕ) (text : GroupText) : Type 0 where
+  pub inputs_are_tags : All (λ i. i.place < tags) text.inputs.items
+  pub some_inputs : 1 ≤ vec_len text.inputs
+  pub few_inputs : vec_len text.inputs ≤ most_inputs
+  pub some_calcs : 1 ≤ vec_len text.calcs
+  pub few_calcs : vec_len text.calcs ≤ most_calcs
+  pub start : text.start ≤ last_time
+  pub some_period : 1 ≤ text.period
+  pub short_period : text.period ≤ longest_period
+
 -- ---- its calculations
 
 -- the calculations have the names of the texts, and the trees of their formulas
 abbrev pub Define : List CalcForm → List Calculation → Type 0
 Define [] [] = ⊤
-Define (text ∷ texts) (calc ∷ calcs) = (calc.name ≡ text.name) × IsFormula text.formula calc.tree × Define texts calcs
+Define (text ∷ texts) (calc ∷ calcs) =
+    (calc.name ≡ text.name) × IsFormula text.formula calc.tree × Define texts calcs
 Define texts calcs = ⊥
 
 -- what is told of a text that is refused as a formula
@@ -189,10 +213,24 @@ abbrev pub IsGroupAnswer : GroupForm → Group → Result GroupDef TextNo → Ty
 IsGroupAnswer text calcs (Ok g) = IsGroup text calcs g
 IsGroupAnswer text calcs (Err why) = ⊥
 
+-- what holds of every group that is read, over so many tags: 1 to 64 inputs, each a tag, whose names the
+-- calculations stand on; 1 to 64 calculations; a start that is a time; a period from 1 to the longest
+pub record IsSound (tags : ℕ) (g : GroupDef) : Type 0 where
+  pub inputs_are_tags : All (λ i. i < tags) g.inputs.items
+  pub some_inputs : 1 ≤ length g.inputs.items
+  pub few_inputs : length g.inputs.items ≤ most_inputs
+  pub as_many_names : length g.calcs.inputs ≡ length g.inputs.items
+  pub some_calcs : 1 ≤ length g.calcs.calcs
+  pub few_calcs : length g.calcs.calcs ≤ most_calcs
+  pub start : g.start ≤ last_time
+  pub some_period : 1 ≤ g.period
+  pub short_period : g.period ≤ longest_period
+
 -- what the text of a group comes to, after so many groups
 abbrev pub TextRead : ℕ → GroupForm → Result GroupDef TextNo → Type 0
 TextRead place text answer = (calcs : Result Group TextNo)
-    × CalcsRead place (map (λ i. i.name) text.inputs) text.calcs calcs × Follows calcs (IsGroupAnswer text) answer
+    × CalcsRead place (map (λ i. i.name) text.inputs) text.calcs calcs
+    × Follows calcs (IsGroupAnswer text) answer
 
 -- what the table of a group comes to, after some groups
 abbrev pub GroupRead : List TagDef → List GroupDef → Members → Result GroupDef TextNo → Type 0

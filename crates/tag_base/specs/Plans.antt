@@ -1,9 +1,8 @@
 -- What the bytes of a plan say.
-use Rattle.std.specs.Prelude.{ℕ, Bool, cond, ◌&&◌, List, [], ◌∷◌, ◌++◌, length, map, nat_eq, nat_le, codes, Option, None, Some, option_and_then, option_map, Result, Ok, Err}
+use Rattle.std.specs.Prelude.{ℕ, Bool, cond, ◌&&◌, List, [], ◌∷◌, ◌++◌, length, map, nat_eq, nat_le, codes, Option, None, Some, option_and_then, option_map, Result, Ok}
 use Rattle.std.specs.List.{list_any}
 use Rattle.toml.specs.Data.{Members}
 use Rattle.toml.specs.View.{table_view}
-use Rattle.trend_num.specs.declared.refusal.What.{What}
 use Rattle.trend_num.specs.declared.refusal.What.TheVariants.{Collectors, Readers}
 use Rattle.tag_base.specs.declared.definition.GroupDef.{GroupDef}
 use Rattle.tag_base.specs.declared.plan.PlanTables.{PlanTables}
@@ -29,7 +28,12 @@ pub record PlanParts : Type 0 where
   pub refreshers : List Refresher
 
 abbrev pub plan_parts : Plan → PlanParts
-plan_parts plan = record { collectors = plan.collectors.items; readers = plan.readers.items; refreshers = plan.refreshers.items }
+plan_parts plan =
+    record {
+      collectors = plan.collectors.items;
+      readers = plan.readers.items;
+      refreshers = plan.refreshers.items;
+    }
 
 -- the tables of collectors, of readers and of refreshers
 pub record PlanForm : Type 0 where
@@ -52,7 +56,8 @@ abbrev pub plan_arrays : Members → Option PlanForm
 plan_arrays ms = cond (has_keys [] plan_keys ms)
     (option_and_then (λ collectors. option_and_then (λ readers.
     option_map (λ refreshers. record { collectors = collectors; readers = readers; refreshers = refreshers })
-    (tables_if_there (codes "refresher") ms)) (tables_if_there (codes "reader") ms)) (tables_if_there (codes "collector") ms))
+    (tables_if_there (codes "refresher") ms))
+    (tables_if_there (codes "reader") ms)) (tables_if_there (codes "collector") ms))
     None
 
 -- 1 to 255 bytes
@@ -83,17 +88,19 @@ new_group groups earlier ms =
 -- the refresher of a table, after some refreshers
 abbrev pub refresher_of : List GroupDef → List Refresher → Members → Option Refresher
 refresher_of groups earlier ms = cond (has_keys (codes "group" ∷ codes "turns" ∷ []) [] ms)
-    (option_and_then (λ group. option_map (λ turns. record { group = group; turns = turns }) (number_at (codes "turns") 0 most_turns ms))
+    (option_and_then (λ group. option_map (λ turns. record { group = group; turns = turns })
+    (number_at (codes "turns") 0 most_turns ms))
     (new_group groups earlier ms))
     None
 
 abbrev pub refreshers_after : List GroupDef → List Refresher → List Members → Result (List Refresher) TextNo
 refreshers_after groups earlier [] = Ok earlier
 refreshers_after groups earlier (ms ∷ mss) =
-    given (refresher_of groups earlier ms) (broken 5 (length earlier)) (λ r. refreshers_after groups (earlier ++ r ∷ []) mss)
+    given (refresher_of groups earlier ms) (broken 5 (length earlier))
+    (λ r. refreshers_after groups (earlier ++ r ∷ []) mss)
 
--- the tables of what was found in bytes: rule 1 asks for a document, rule 2 for its arrays; then how many collectors there are, and how many
--- readers
+-- the tables of what was found in bytes: rule 1 asks for a document, rule 2 for its arrays; then how many
+-- collectors there are, and how many readers
 abbrev pub plan_tables : Option Members → Result PlanForm TextNo
 plan_tables found =
     given found (broken 1 0) (λ ms.
@@ -102,7 +109,8 @@ plan_tables found =
     (when (nat_le (length tables.readers) most_files) (Limit Readers (length tables.readers))
     (Ok tables))))
 
--- the plan of bytes over the groups of a base: rule 3 is that of a collector, 4 that of a reader, 5 that of a refresher
+-- the plan of bytes over the groups of a base: rule 3 is that of a collector, 4 that of a reader, 5 that of
+-- a refresher
 abbrev pub plan : List GroupDef → List ℕ → Result PlanParts TextNo
 plan groups bytes =
     after (plan_tables (document bytes)) (λ tables.

@@ -1,8 +1,8 @@
 -- What a table of a TOML document holds at its keys.
-use Rattle.std.specs.Prelude.{◌≡◌, ℕ, ◌+◌, ℤ, pos, negsuc, Bool, true, false, cond, ◌&&◌, ◌||◌, List, [], ◌∷◌, ◌++◌, length, nat_le, Option, None, Some, is_some, option_map, option_and_then, bytes_eq}
+use Rattle.std.specs.Prelude.{ℕ, ℤ, pos, negsuc, Bool, true, cond, ◌&&◌, ◌||◌, List, [], ◌∷◌, ◌++◌, length, nat_le, Option, None, Some, is_some, option_and_then, bytes_eq}
 use Rattle.std.specs.List.{list_any, list_all}
 use Rattle.std.specs.Str.{is_utf8}
-use Rattle.toml.specs.Data.{Data, Items, Members, no_items, item, no_members, member, get_member, as_str, as_integer, as_array, as_table}
+use Rattle.toml.specs.Data.{Items, Members, no_items, item, no_members, member, get_member, as_str, as_integer, as_array, as_table}
 use Rattle.toml.specs.Parse.{parse_document}
 use Rattle.trend_num.specs.Names.{is_name_byte}
 
@@ -25,7 +25,8 @@ has_key ms key = is_some (get_member key ms)
 
 -- each of the first keys is there, and no key but these and the others
 abbrev pub has_keys : List (List ℕ) → List (List ℕ) → Members → Bool
-has_keys needed others ms = list_all (has_key ms) needed && all_keys (λ key. is_among needed key || is_among others key) ms
+has_keys needed others ms =
+    list_all (has_key ms) needed && all_keys (λ key. is_among needed key || is_among others key) ms
 
 -- ---- values
 
@@ -48,7 +49,8 @@ within least most (negsuc n) = None
 
 -- the number at a key, where it is a whole number between these
 abbrev pub number_at : List ℕ → ℕ → ℕ → Members → Option ℕ
-number_at key least most ms = option_and_then (within least most) (option_and_then as_integer (get_member key ms))
+number_at key least most ms =
+    option_and_then (within least most) (option_and_then as_integer (get_member key ms))
 
 -- the array at a key
 abbrev pub array_at : List ℕ → Members → Option Items

@@ -10,7 +10,8 @@ use Rattle.tag_base.specs.Tables.{has_keys, name_at, number_at}
 
 -- the keys that each tag has
 abbrev pub tag_keys : List (List ℕ)
-tag_keys = codes "name" ∷ codes "exc_dev" ∷ codes "exc_max" ∷ codes "comp_dev" ∷ codes "comp_min" ∷ codes "comp_max" ∷ []
+tag_keys = codes "name" ∷ codes "exc_dev" ∷ codes "exc_max" ∷
+    codes "comp_dev" ∷ codes "comp_min" ∷ codes "comp_max" ∷ []
 
 -- the keys that a tag may have
 abbrev pub free_tag_keys : List (List ℕ)
@@ -24,13 +25,21 @@ is_text_if_there (Some d) = is_some (as_str d)
 -- a table with the keys of a tag, whose description and units are texts
 abbrev pub has_tag_form : Members → Bool
 has_tag_form ms = has_keys tag_keys free_tag_keys ms
-    && is_text_if_there (get_member (codes "descriptor") ms) && is_text_if_there (get_member (codes "engunits") ms)
+    && is_text_if_there (get_member (codes "descriptor") ms)
+    && is_text_if_there (get_member (codes "engunits") ms)
 
 -- five whole numbers in their ranges
 abbrev pub tuning_at : Members → Option Tuning
 tuning_at ms =
-    option_and_then (λ exc_dev. option_and_then (λ exc_max. option_and_then (λ comp_dev. option_and_then (λ comp_min.
-    option_map (λ comp_max. record { exc_dev = exc_dev; exc_max = exc_max; comp_dev = comp_dev; comp_min = comp_min; comp_max = comp_max })
+    option_and_then (λ exc_dev. option_and_then (λ exc_max. option_and_then (λ comp_dev.
+    option_and_then (λ comp_min.
+    option_map (λ comp_max. record {
+      exc_dev = exc_dev;
+      exc_max = exc_max;
+      comp_dev = comp_dev;
+      comp_min = comp_min;
+      comp_max = comp_max;
+    })
     (number_at (codes "comp_max") 0 last_time ms)) (number_at (codes "comp_min") 0 last_time ms))
     (number_at (codes "comp_dev") 0 largest_value ms)) (number_at (codes "exc_max") 0 last_time ms))
     (number_at (codes "exc_dev") 0 largest_value ms)
@@ -47,10 +56,11 @@ tag_place tags name = position (λ t. bytes_eq t.name name) tags
 -- the name of a table, where it is one and no earlier tag has it
 abbrev pub new_tag_name : List TagDef → Members → Option (List ℕ)
 new_tag_name earlier ms =
-    option_and_then (λ name. cond (is_none (tag_place earlier name)) (Some name) None) (name_at (codes "name") ms)
+    option_and_then (λ name. cond (is_none (tag_place earlier name)) (Some name) None)
+    (name_at (codes "name") ms)
 
--- the tag of a table after some tags, by the rules of a tag in their order: 3 its keys, 4 its name, 5 its numbers and
--- whether it is a step tag
+-- the tag of a table after some tags, by the rules of a tag in their order: 3 its keys, 4 its name, 5 its
+-- numbers and whether it is a step tag
 abbrev pub tag_of : List TagDef → Members → Result TagDef TextNo
 tag_of earlier ms =
     when (has_tag_form ms) (broken 3 (length earlier))

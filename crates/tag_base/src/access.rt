@@ -1,5 +1,5 @@
 // What a table of a TOML document holds at its keys.
-ghost use Rattle.std.specs.Prelude.{◌≡◌, ◌||◌, [], map, IfOk, option_map};
+ghost use Rattle.std.specs.Prelude.{◌≡◌, ◌||◌, [], map, IfOk, option_map, ◌≤◌, IfSome};
 ghost use Rattle.std.specs.List.{list_all};
 ghost use Rattle.toml.specs.Data.{get_member};
 ghost use Rattle.toml.specs.View.{view, table_view, items_view};
@@ -30,7 +30,8 @@ fn is_among(keys: &[&str], key: &str) -> bool
 
 /// Whether a table has each of the first keys, and no key but these and the others.
 pub(crate) fn has_keys(table: &Table, needed: &[&str], others: &[&str]) -> bool
-    ensures { result ≡ has_keys (map (λ k. k.now) needed.now) (map (λ k. k.now) others.now) (table_view table.now) }
+    ensures { result ≡ has_keys (map (λ k. k.now) needed.now) (map (λ k. k.now) others.now)
+        (table_view table.now) }
 {
     has_each(table, needed) && has_only(table, needed, others)
 }
@@ -49,7 +50,8 @@ fn has_each(table: &Table, keys: &[&str]) -> bool
 
 /// Whether each key of a table is one of these.
 fn has_only(table: &Table, needed: &[&str], others: &[&str]) -> bool
-    ensures { result ≡ all_keys (λ key. is_among (map (λ k. k.now) needed.now) key || is_among (map (λ k. k.now) others.now) key)
+    ensures { result ≡ all_keys
+        (λ key. is_among (map (λ k. k.now) needed.now) key || is_among (map (λ k. k.now) others.now) key)
         (table_view table.now) }
 {
     for key in table.keys() {
@@ -82,7 +84,9 @@ pub(crate) fn name_at(table: &Table, key: &str) -> Option<Name>
 
 /// The number at a key, where it is a whole number from the least to the most.
 pub(crate) fn number_at(table: &Table, key: &str, least: u64, most: u64) -> Option<u64>
-    ensures { result ≡ number_at key.now least most (table_view table.now) }
+    ensures number { result ≡ number_at key.now least most (table_view table.now) }
+    ensures not_below { IfSome result (λ n. least ≤ n) }
+    ensures not_above { IfSome result (λ n. n ≤ most) }
 {
     match value_at(table, key) {
         Some(value) => match value.as_integer() {
@@ -95,7 +99,9 @@ pub(crate) fn number_at(table: &Table, key: &str, least: u64, most: u64) -> Opti
 
 /// The number, where it is not below the least nor above the most.
 fn within(number: i64, least: u64, most: u64) -> Option<u64>
-    ensures { result ≡ within least most number }
+    ensures number { result ≡ within least most number }
+    ensures not_below { IfSome result (λ n. least ≤ n) }
+    ensures not_above { IfSome result (λ n. n ≤ most) }
 {
     let Ok(number) = u64::try_from(number) else {
         return None;
@@ -107,9 +113,14 @@ fn within(number: i64, least: u64, most: u64) -> Option<u64>
 }
 
 /// The tables of the array at a key, where each of its items is a table.
-pub(crate) fn tables_at<'t>(alloc: Global, table: &'t Table, key: &str) -> Result<Option<Vec<&'t Table>>, WantOfMemory>
+pub(crate) fn tables_at<'t>(
+    alloc: Global,
+    table: &'t Table,
+    key: &str,
+) -> Result<Option<Vec<&'t Table>>, WantOfMemory>
     ensures { IfOk result (λ found.
-        option_map (λ ts. map (λ t. table_view t.now) ts.items) found ≡ tables_at key.now (table_view table.now)) }
+        option_map (λ ts. map (λ t. table_view t.now) ts.items) found
+        ≡ tables_at key.now (table_view table.now)) }
 {
     let Some(value) = value_at(table, key) else {
         return Ok(None);
@@ -127,7 +138,8 @@ pub(crate) fn tables_if_there<'t>(
     key: &str,
 ) -> Result<Option<Vec<&'t Table>>, WantOfMemory>
     ensures { IfOk result (λ found.
-        option_map (λ ts. map (λ t. table_view t.now) ts.items) found ≡ tables_if_there key.now (table_view table.now)) }
+        option_map (λ ts. map (λ t. table_view t.now) ts.items) found
+        ≡ tables_if_there key.now (table_view table.now)) }
 {
     if value_at(table, key).is_none() {
         return Ok(Some(Vec::new(alloc)));
@@ -138,7 +150,8 @@ pub(crate) fn tables_if_there<'t>(
 /// The tables among items, where each of the items is one.
 fn tables_of<'t>(alloc: Global, items: &'t [Value]) -> Result<Option<Vec<&'t Table>>, WantOfMemory>
     ensures { IfOk result (λ found.
-        option_map (λ ts. map (λ t. table_view t.now) ts.items) found ≡ tables_after [] (items_view items.now)) }
+        option_map (λ ts. map (λ t. table_view t.now) ts.items) found
+        ≡ tables_after [] (items_view items.now)) }
 {
     let mut tables = Vec::new(alloc);
     for item in items {

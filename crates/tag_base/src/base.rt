@@ -1,9 +1,10 @@
 // From bytes to a base.
-ghost use Rattle.std.specs.Prelude.{◌≡◌, ◌≤◌, vec_len, All, IfOk, option_map};
+ghost use Rattle.std.specs.Prelude.{◌≡◌, ◌≤◌, vec_len, All, IfOk, option_map, length};
 ghost use Rattle.toml.specs.View.{table_view};
 ghost use Rattle.trend_num.specs.Ranges.{IsTuned};
 ghost use Rattle.tag_base.specs.Answers.{Answers, Reads};
 ghost use Rattle.tag_base.specs.Bases.{tables_of, base_arrays, base_tables, BaseRead};
+ghost use Rattle.tag_base.specs.Groups.{IsSound};
 
 use crate::access::{has_keys, tables_at, tables_if_there};
 use crate::definition::Base;
@@ -28,7 +29,8 @@ struct BaseTables<'t> {
     groups: Vec<&'t Table>,
 }
 
-/// The tables of a document with the keys `tag` and, at will, `group`, each an array of tables, the first not empty.
+/// The tables of a document with the keys `tag` and, at will, `group`, each an array of tables, the first
+/// not empty.
 fn base_arrays<'t>(alloc: Global, table: &'t Table) -> Result<Option<BaseTables<'t>>, WantOfMemory>
     ensures { IfOk result (λ found. option_map tables_of found ≡ base_arrays (table_view table.now)) }
 {
@@ -74,10 +76,12 @@ fn base_tables<'t>(alloc: Global, document: &'t Option<Table>) -> Result<BaseTab
     Ok(tables)
 }
 
-/// The base that bytes spell, or the first rule that they break, or the first count that is above its limit. The order is: that
-/// of the whole text, the counts of tags and of groups, each tag in turn, each group in turn.
+/// The base that bytes spell, or the first rule that they break, or the first count that is above its
+/// limit. The order is: that of the whole text, the counts of tags and of groups, each tag in turn, each
+/// group in turn.
 pub fn read_base(alloc: Global, bytes: &[u8]) -> Result<Base, TextNo>
     ensures base { Reads (λ base. base) result (BaseRead bytes.now) }
+    ensures sound { IfOk result (λ base. All (IsSound (length base.tags.items)) base.groups.items) }
     ensures tuned { IfOk result (λ base. All (λ tag. IsTuned tag.tuning) base.tags.items) }
 {
     let document = document(alloc, bytes)?;

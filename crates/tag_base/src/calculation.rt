@@ -1,5 +1,5 @@
 // The calculations of a group.
-ghost use Rattle.std.specs.Prelude.{◌≡◌, ◌≢◌, ◌≤◌, [], map, length, vec_len, IfOk, IfErr, option_map, bytes_eq};
+ghost use Rattle.std.specs.Prelude.{◌≡◌, ◌≢◌, ◌≤◌, [], map, length, vec_len, IfOk, IfErr, IfSome, option_map, bytes_eq};
 ghost use Rattle.std.specs.List.{list_any};
 ghost use Rattle.toml.specs.View.{table_view};
 ghost use Rattle.calc_eval.specs.Group.{calculation};
@@ -25,8 +25,13 @@ pub(crate) struct CalcText {
 }
 
 /// The calculation of a table, where it is two texts of which the first is a name that no earlier one has.
-fn calc_text(alloc: Global, earlier: &[CalcText], table: &Table) -> Result<Option<CalcText>, WantOfMemory>
-    ensures { IfOk result (λ found. option_map text_of found ≡ calc_text (map text_of earlier.now) (table_view table.now)) }
+fn calc_text(
+    alloc: Global,
+    earlier: &[CalcText],
+    table: &Table,
+) -> Result<Option<CalcText>, WantOfMemory>
+    ensures { IfOk result (λ found. option_map text_of found
+        ≡ calc_text (map text_of earlier.now) (table_view table.now)) }
 {
     if !has_keys(table, &["name", "formula"], &[]) {
         return Ok(None);
@@ -58,8 +63,10 @@ fn is_taken(calcs: &[CalcText], name: &Name) -> bool
 
 /// The calculations of tables.
 fn calcs_of(alloc: Global, tables: &[&Table]) -> Result<Option<Vec<CalcText>>, WantOfMemory>
-    ensures { IfOk result (λ found.
-        option_map (λ calcs. map text_of calcs.items) found ≡ calcs_after [] (map (λ t. table_view t.now) tables.now)) }
+    ensures calcs { IfOk result (λ found.
+        option_map (λ calcs. map text_of calcs.items) found
+        ≡ calcs_after [] (map (λ t. table_view t.now) tables.now)) }
+    ensures as_many { IfOk result (λ found. IfSome found (λ calcs. vec_len calcs ≡ length tables.now)) }
 {
     let mut calcs = Vec::new(alloc);
     for table in tables {
@@ -73,7 +80,9 @@ fn calcs_of(alloc: Global, tables: &[&Table]) -> Result<Option<Vec<CalcText>>, W
 
 /// The calculations of the table of a group, where there is one or more.
 pub(crate) fn calcs_at(alloc: Global, table: &Table) -> Result<Option<Vec<CalcText>>, WantOfMemory>
-    ensures { IfOk result (λ found. option_map (λ calcs. map text_of calcs.items) found ≡ calcs_at (table_view table.now)) }
+    ensures calcs { IfOk result (λ found.
+        option_map (λ calcs. map text_of calcs.items) found ≡ calcs_at (table_view table.now)) }
+    ensures some { IfOk result (λ found. IfSome found (λ calcs. 1 ≤ vec_len calcs)) }
 {
     let Some(tables) = tables_at(alloc, table, "calc")? else {
         return Ok(None);
@@ -88,7 +97,8 @@ pub(crate) fn calcs_at(alloc: Global, table: &Table) -> Result<Option<Vec<CalcTe
 fn defs_of(alloc: Global, place: u32, texts: &[CalcText]) -> Result<Vec<CalcDef>, TextNo>
     ensures defined { IfOk result (λ defs. Define (map text_of texts.now) (map calculation defs.items)) }
     ensures as_many { IfOk result (λ defs. vec_len defs ≡ length texts.now) }
-    ensures refused { IfErr result (λ why. (why ≢ TextNo.WantOfMemory) → IsFirstRefused place (map text_of texts.now) why) }
+    ensures refused { IfErr result (λ why. (why ≢ TextNo.WantOfMemory)
+        → IsFirstRefused place (map text_of texts.now) why) }
 {
     let mut defs = Vec::new(alloc);
     for text in texts {
@@ -97,7 +107,8 @@ fn defs_of(alloc: Global, place: u32, texts: &[CalcText]) -> Result<Vec<CalcDef>
             Err(why) => return Err(refusal(place, why)),
         };
         let name = text.name;
-        defs.push(CalcDef { name, expr }).map_err(|_| TextNo::WantOfMemory)?;
+        defs.push(CalcDef { name, expr })
+            .map_err(|_| TextNo::WantOfMemory)?;
     }
     Ok(defs)
 }
@@ -107,16 +118,31 @@ fn refusal(place: u32, why: ParseNo) -> TextNo
     ensures { result ≡ told_of place why }
 {
     match why {
-        ParseNo::Long { .. } => TextNo::BadText { rule: 11, place, at: MAX_FORMULA },
-        ParseNo::Deep { at } | ParseNo::Syntax { at, .. } => TextNo::BadText { rule: 11, place, at },
+        ParseNo::Long { .. } => TextNo::BadText {
+            rule: 11,
+            place,
+            at: MAX_FORMULA,
+        },
+        ParseNo::Deep { at } | ParseNo::Syntax { at, .. } => TextNo::BadText {
+            rule: 11,
+            place,
+            at,
+        },
         ParseNo::WantOfMemory => TextNo::WantOfMemory,
     }
 }
 
 /// The checked calculations of the group at a place, or why they are refused.
-pub(crate) fn checked(alloc: Global, place: u32, inputs: &[Name], texts: &[CalcText]) -> Result<Checked, TextNo>
+pub(crate) fn checked(
+    alloc: Global,
+    place: u32,
+    inputs: &[Name],
+    texts: &[CalcText],
+) -> Result<Checked, TextNo>
     requires { length texts.now ≤ 64 }
-    ensures { Reads (λ checked. checked) result (CalcsRead place inputs.now (map text_of texts.now)) }
+    ensures calcs { Reads (λ checked. checked) result (CalcsRead place inputs.now (map text_of texts.now)) }
+    ensures names { IfOk result (λ checked. checked.inputs ≡ inputs.now) }
+    ensures as_many { IfOk result (λ checked. length checked.calcs ≡ length texts.now) }
 {
     let defs = match defs_of(alloc, place, texts) {
         Ok(defs) => defs,
@@ -125,6 +151,10 @@ pub(crate) fn checked(alloc: Global, place: u32, inputs: &[Name], texts: &[CalcT
     match check(alloc, inputs, defs) {
         Ok(checked) => Ok(checked),
         Err(CheckNo::WantOfMemory) => Err(TextNo::WantOfMemory),
-        Err(_) => Err(TextNo::BadText { rule: 12, place, at: 0 }),
+        Err(_) => Err(TextNo::BadText {
+            rule: 12,
+            place,
+            at: 0,
+        }),
     }
 }

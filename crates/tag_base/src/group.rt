@@ -1,8 +1,8 @@
 // The groups of a base.
-ghost use Rattle.std.specs.Prelude.{◌≡◌, ◌≤◌, ◌<◌, [], map, length, vec_len, IfOk, IfSome, option_map};
+ghost use Rattle.std.specs.Prelude.{◌≡◌, ◌≤◌, ◌<◌, [], map, length, vec_len, IfOk, IfSome, option_map, All};
 ghost use Rattle.toml.specs.View.{table_view};
 ghost use Rattle.tag_base.specs.Answers.{Answers, Reads};
-ghost use Rattle.tag_base.specs.Groups.{group_place, new_group_name, text_of, form_of, group_text, GroupRead, GroupsRead};
+ghost use Rattle.tag_base.specs.Groups.{group_place, new_group_name, text_of, form_of, group_text, IsSoundText, IsSound, GroupRead, GroupsRead};
 
 use crate::access::{has_keys, name_at, number_at};
 use crate::calculation::{CalcText, calcs_at, checked};
@@ -48,11 +48,17 @@ fn new_group_name(earlier: &[GroupDef], table: &Table) -> Option<Name>
     Some(name)
 }
 
-/// The text of a group after some groups, or the first rule that its table breaks before its formulas are read.
-fn group_text(alloc: Global, tags: &[TagDef], earlier: &[GroupDef], table: &Table) -> Result<GroupText, TextNo>
+/// The text of a group after some groups, or the first rule that its table breaks before its formulas are
+/// read.
+fn group_text(
+    alloc: Global,
+    tags: &[TagDef],
+    earlier: &[GroupDef],
+    table: &Table,
+) -> Result<GroupText, TextNo>
     requires { length tags.now ≤ 1024 }
     ensures text { Answers form_of result (group_text tags.now earlier.now (table_view table.now)) }
-    ensures few { IfOk result (λ text. vec_len text.calcs ≤ 64) }
+    ensures sound { IfOk result (IsSoundText (length tags.now)) }
 {
     if !has_keys(table, &["name", "tags", "start", "period", "calc"], &[]) {
         return Err(broken(6, earlier.len()));
@@ -110,10 +116,16 @@ fn names_of(alloc: Global, inputs: &[Input]) -> Result<Vec<Name>, WantOfMemory>
 }
 
 /// The group of a table after some groups, or the first rule that the table breaks.
-fn group_of(alloc: Global, tags: &[TagDef], earlier: &[GroupDef], table: &Table) -> Result<GroupDef, TextNo>
+fn group_of(
+    alloc: Global,
+    tags: &[TagDef],
+    earlier: &[GroupDef],
+    table: &Table,
+) -> Result<GroupDef, TextNo>
     requires few_tags { length tags.now ≤ 1024 }
     requires few_groups { length earlier.now ≤ 16 }
-    ensures { Reads (λ group. group) result (GroupRead tags.now earlier.now (table_view table.now)) }
+    ensures group { Reads (λ group. group) result (GroupRead tags.now earlier.now (table_view table.now)) }
+    ensures sound { IfOk result (IsSound (length tags.now)) }
 {
     let text = group_text(alloc, tags, earlier, table)?;
     let inputs = places_of(alloc, &text.inputs)?;
@@ -131,11 +143,17 @@ fn group_of(alloc: Global, tags: &[TagDef], earlier: &[GroupDef], table: &Table)
 }
 
 /// The groups of tables, or the first rule that one breaks.
-pub(crate) fn groups_of(alloc: Global, tags: &[TagDef], tables: &[&Table]) -> Result<Vec<GroupDef>, TextNo>
+pub(crate) fn groups_of(
+    alloc: Global,
+    tags: &[TagDef],
+    tables: &[&Table],
+) -> Result<Vec<GroupDef>, TextNo>
     requires few_tags { length tags.now ≤ 1024 }
     requires few_groups { length tables.now ≤ 16 }
-    ensures groups { Reads (λ groups. groups.items) result (GroupsRead tags.now [] (map (λ t. table_view t.now) tables.now)) }
+    ensures groups { Reads (λ groups. groups.items) result
+        (GroupsRead tags.now [] (map (λ t. table_view t.now) tables.now)) }
     ensures as_many { IfOk result (λ groups. vec_len groups ≡ length tables.now) }
+    ensures sound { IfOk result (λ groups. All (IsSound (length tags.now)) groups.items) }
 {
     let mut groups = Vec::new(alloc);
     for table in tables {

@@ -1,5 +1,5 @@
 // The inputs of a group.
-ghost use Rattle.std.specs.Prelude.{◌≡◌, ◌^◌, ◌<◌, ◌≤◌, [], map, length, All, IfOk, IfSome, option_map};
+ghost use Rattle.std.specs.Prelude.{◌≡◌, ◌↔◌, ◌<◌, ◌≤◌, [], length, vec_len, All, IfOk, IfSome, IsTrue, option_map};
 ghost use Rattle.toml.specs.View.{items_view, table_view};
 ghost use Rattle.tag_base.specs.Groups.{is_input, new_input, named_input, inputs_after, is_input_count, inputs_of, inputs_at};
 
@@ -30,7 +30,8 @@ fn is_input(inputs: &[Input], place: u32) -> bool
 fn new_input(tags: &[TagDef], earlier: &[Input], place: usize) -> Option<Input>
     requires there { place < length tags.now }
     requires few_tags { length tags.now ≤ 1024 }
-    ensures { result ≡ new_input tags.now earlier.now place }
+    ensures input { result ≡ new_input tags.now earlier.now place }
+    ensures is_tag { IfSome result (λ input. input.place < length tags.now) }
 {
     let tag = tags[place];
     let place = place as u32;
@@ -46,7 +47,8 @@ fn new_input(tags: &[TagDef], earlier: &[Input], place: usize) -> Option<Input>
 /// The input that a text names.
 fn named_input(tags: &[TagDef], earlier: &[Input], name: &str) -> Option<Input>
     requires { length tags.now ≤ 1024 }
-    ensures { result ≡ named_input tags.now earlier.now name.now }
+    ensures input { result ≡ named_input tags.now earlier.now name.now }
+    ensures is_tag { IfSome result (λ input. input.place < length tags.now) }
 {
     match tag_place(tags, name.as_bytes()) {
         Some(place) => new_input(tags, earlier, place),
@@ -55,9 +57,17 @@ fn named_input(tags: &[TagDef], earlier: &[Input], name: &str) -> Option<Input>
 }
 
 /// The inputs that items name.
-fn inputs_of(alloc: Global, tags: &[TagDef], items: &[Value]) -> Result<Option<Vec<Input>>, WantOfMemory>
+fn inputs_of(
+    alloc: Global,
+    tags: &[TagDef],
+    items: &[Value],
+) -> Result<Option<Vec<Input>>, WantOfMemory>
     requires { length tags.now ≤ 1024 }
-    ensures { IfOk result (λ found. option_map (λ inputs. inputs.items) found ≡ inputs_after tags.now [] (items_view items.now)) }
+    ensures inputs { IfOk result (λ found.
+        option_map (λ inputs. inputs.items) found ≡ inputs_after tags.now [] (items_view items.now)) }
+    ensures are_tags { IfOk result (λ found. IfSome found
+        (λ inputs. All (λ i. i.place < length tags.now) inputs.items)) }
+    ensures as_many { IfOk result (λ found. IfSome found (λ inputs. vec_len inputs ≡ length items.now)) }
 {
     let mut inputs = Vec::new(alloc);
     for item in items {
@@ -75,16 +85,26 @@ fn inputs_of(alloc: Global, tags: &[TagDef], items: &[Value]) -> Result<Option<V
 /// Whether there are as many items as a group may have inputs.
 #[tactic(auto, using(crate::proofs::Items::count_of_items))]
 fn is_input_count(items: &[Value]) -> bool
-    ensures { result ≡ is_input_count (items_view items.now) }
+    ensures told { result ≡ is_input_count (items_view items.now) }
+    ensures counted { IsTrue result ↔ ((1 ≤ length items.now) × (length items.now ≤ 64)) }
 {
     let count = items.len();
     1 <= count && count <= MAX_INPUTS
 }
 
 /// The inputs of the table of a group, where they are 1 to 64 tags that are no step tags, none twice.
-pub(crate) fn inputs_at(alloc: Global, tags: &[TagDef], table: &Table) -> Result<Option<Vec<Input>>, WantOfMemory>
+pub(crate) fn inputs_at(
+    alloc: Global,
+    tags: &[TagDef],
+    table: &Table,
+) -> Result<Option<Vec<Input>>, WantOfMemory>
     requires { length tags.now ≤ 1024 }
-    ensures { IfOk result (λ found. option_map (λ inputs. inputs.items) found ≡ inputs_at tags.now (table_view table.now)) }
+    ensures inputs { IfOk result (λ found.
+        option_map (λ inputs. inputs.items) found ≡ inputs_at tags.now (table_view table.now)) }
+    ensures are_tags { IfOk result (λ found. IfSome found
+        (λ inputs. All (λ i. i.place < length tags.now) inputs.items)) }
+    ensures some { IfOk result (λ found. IfSome found (λ inputs. 1 ≤ vec_len inputs)) }
+    ensures few { IfOk result (λ found. IfSome found (λ inputs. vec_len inputs ≤ 64)) }
 {
     let Some(value) = value_at(table, "tags") else {
         return Ok(None);

@@ -1,9 +1,10 @@
 //! The base and the plan of a plant, read from TOML.
 //!
-//! A base names the tags of a plant and the groups of its calculations, and a plan the files of a run. The model is the reading
-//! of a text by rules in a fixed order, stated in `specs/` over the document that `toml` gives: `read_base` and `read_plan`
-//! answer what it says, or the first rule that is broken with the place of its table, or the first count that is above its
-//! limit. A formula is read by `calc_parser`, and the calculations of a group are checked by `calc_eval`.
+//! A base names the tags of a plant and the groups of its calculations, and a plan the files of a run. The
+//! model is the reading of a text by rules in a fixed order, stated in `specs/` over the document that
+//! `toml` gives: `read_base` and `read_plan` answer what it says, or the first rule that is broken with the
+//! place of its table, or the first count that is above its limit. A formula is read by `calc_parser`, and
+//! the calculations of a group are checked by `calc_eval`.
 #![tactic(auto)]
 
 mod access;

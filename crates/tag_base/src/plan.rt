@@ -1,5 +1,5 @@
 // From bytes to a plan.
-ghost use Rattle.std.specs.Prelude.{◌≡◌, ◌≤◌, ◌<◌, [], map, length, IfOk, option_map};
+ghost use Rattle.std.specs.Prelude.{◌≡◌, ◌≤◌, ◌<◌, [], map, length, IfOk, option_map, All, vec_len, IfSome};
 ghost use Rattle.toml.specs.View.{table_view};
 ghost use Rattle.tag_base.specs.Answers.{Answers};
 ghost use Rattle.tag_base.specs.Plans.{tables_of, plan_arrays, plan_tables, file_of, files_after, is_refreshed, new_group, refresher_of, refreshers_after, plan_parts, plan};
@@ -99,7 +99,8 @@ fn file_of(alloc: Global, table: &Table) -> Result<Option<FileName>, WantOfMemor
 
 /// The files of tables, or the first table that breaks the rule.
 fn files_of(alloc: Global, rule: u8, tables: &[&Table]) -> Result<Vec<FileName>, TextNo>
-    ensures { Answers (λ files. files.items) result (files_after rule [] (map (λ t. table_view t.now) tables.now)) }
+    ensures { Answers (λ files. files.items) result
+        (files_after rule [] (map (λ t. table_view t.now) tables.now)) }
 {
     let mut files = Vec::new(alloc);
     for table in tables {
@@ -121,7 +122,8 @@ fn is_refreshed(refreshers: &[Refresher], group: u32) -> bool
 /// The place of the group that a table names, where no earlier refresher has it.
 fn new_group(groups: &[GroupDef], earlier: &[Refresher], table: &Table) -> Option<u32>
     requires { length groups.now ≤ 16 }
-    ensures { result ≡ new_group groups.now earlier.now (table_view table.now) }
+    ensures group { result ≡ new_group groups.now earlier.now (table_view table.now) }
+    ensures is_group { IfSome result (λ place. place < length groups.now) }
 {
     let Some(name) = string_at(table, "group") else {
         return None;
@@ -136,10 +138,12 @@ fn new_group(groups: &[GroupDef], earlier: &[Refresher], table: &Table) -> Optio
     Some(place)
 }
 
-/// The refresher of a table, where the table names a group that no earlier refresher has, and 0 to 1,000 turns.
+/// The refresher of a table, where the table names a group that no earlier refresher has, and 0 to 1,000
+/// turns.
 fn refresher_of(groups: &[GroupDef], earlier: &[Refresher], table: &Table) -> Option<Refresher>
     requires { length groups.now ≤ 16 }
-    ensures { result ≡ refresher_of groups.now earlier.now (table_view table.now) }
+    ensures refresher { result ≡ refresher_of groups.now earlier.now (table_view table.now) }
+    ensures is_group { IfSome result (λ r. r.group < length groups.now) }
 {
     if !has_keys(table, &["group", "turns"], &[]) {
         return None;
@@ -150,25 +154,35 @@ fn refresher_of(groups: &[GroupDef], earlier: &[Refresher], table: &Table) -> Op
 }
 
 /// The refreshers of tables, or the first table that breaks the rule.
-fn refreshers_of(alloc: Global, groups: &[GroupDef], tables: &[&Table]) -> Result<Vec<Refresher>, TextNo>
+fn refreshers_of(
+    alloc: Global,
+    groups: &[GroupDef],
+    tables: &[&Table],
+) -> Result<Vec<Refresher>, TextNo>
     requires { length groups.now ≤ 16 }
-    ensures { Answers (λ rs. rs.items) result (refreshers_after groups.now [] (map (λ t. table_view t.now) tables.now)) }
+    ensures groups { IfOk result (λ rs. All (λ r. r.group < length groups.now) rs.items) }
+    ensures refreshers { Answers (λ rs. rs.items) result
+        (refreshers_after groups.now [] (map (λ t. table_view t.now) tables.now)) }
 {
     let mut refreshers = Vec::new(alloc);
     for table in tables {
         let Some(refresher) = refresher_of(groups, &refreshers, table) else {
             return Err(broken(5, refreshers.len()));
         };
-        refreshers.push(refresher).map_err(|_| TextNo::WantOfMemory)?;
+        refreshers
+            .push(refresher)
+            .map_err(|_| TextNo::WantOfMemory)?;
     }
     Ok(refreshers)
 }
 
-/// The plan that bytes spell over the groups of a base, or the first rule that they break, or the first count that is above its
-/// limit. The order is: that of the whole text, the counts of collectors and of readers, each collector in turn, each
-/// reader in turn, each refresher in turn.
+/// The plan that bytes spell over the groups of a base, or the first rule that they break, or the first
+/// count that is above its limit. The order is: that of the whole text, the counts of collectors and of
+/// readers, each collector in turn, each reader in turn, each refresher in turn.
 pub fn read_plan(alloc: Global, bytes: &[u8], base: &Base) -> Result<Plan, TextNo>
-    ensures { Answers plan_parts result (plan base.now.groups.items bytes.now) }
+    ensures plan { Answers plan_parts result (plan base.now.groups.items bytes.now) }
+    ensures groups { IfOk result (λ plan.
+        All (λ r. r.group < vec_len base.now.groups) plan.refreshers.items) }
 {
     let document = document(alloc, bytes)?;
     let tables = plan_tables(alloc, &document)?;

@@ -8,8 +8,9 @@ use trend_num::{WantOfMemory, What};
 /// Why a text is no base or no plan.
 #[derive(Debug, Clone, Copy, PartialEq, Eq, Error)]
 pub enum TextNo {
-    /// The table at `place`, counted from 0 in its own array, is the first that breaks a rule, and `rule` the first rule that it
-    /// breaks. Where the text as a whole breaks one, `place` is 0. `at` is the byte of a formula at which it is refused, else 0.
+    /// The table at `place`, counted from 0 in its own array, is the first that breaks a rule, and `rule`
+    /// the first rule that it breaks. Where the text as a whole breaks one, `place` is 0. `at` is the byte
+    /// of a formula at which it is refused, else 0.
     #[error("rule {rule} is broken at table {place}, byte {at}")]
     BadText { rule: u8, place: u32, at: u32 },
     /// There are more of these than there may be: so many.

@@ -28,7 +28,9 @@ fn has_tag_form(table: &Table) -> bool
 {
     has_keys(
         table,
-        &["name", "exc_dev", "exc_max", "comp_dev", "comp_min", "comp_max"],
+        &[
+            "name", "exc_dev", "exc_max", "comp_dev", "comp_min", "comp_max",
+        ],
         &["descriptor", "engunits", "step"],
     ) && is_text_if_there(value_at(table, "descriptor"))
         && is_text_if_there(value_at(table, "engunits"))
@@ -99,7 +101,8 @@ fn tag_of(earlier: &[TagDef], table: &Table) -> Result<TagDef, TextNo>
 
 /// The tags of tables, or the first rule that one breaks.
 pub(crate) fn tags_of(alloc: Global, tables: &[&Table]) -> Result<Vec<TagDef>, TextNo>
-    ensures tags { Answers (λ tags. tags.items) result (tags_after [] (map (λ t. table_view t.now) tables.now)) }
+    ensures tags { Answers (λ tags. tags.items) result
+        (tags_after [] (map (λ t. table_view t.now) tables.now)) }
     ensures as_many { IfOk result (λ tags. vec_len tags ≡ length tables.now) }
     ensures tuned { IfOk result (λ tags. All (λ tag. IsTuned tag.tuning) tags.items) }
 {

@@ -1,4 +1,7 @@
-// Bases and plans with each rule broken, first alone and then beside another one: what an independent program answers to them.
+// Bases with each rule broken, first alone and then beside another one: what an independent
+// program answers to them.
+mod plans;
+
 use super::*;
 use std::alloc::{AllocError, Global};
 use std::fmt::Write;
@@ -51,23 +54,6 @@ name = \"k\"\n\
 formula = \"low('T3')\"\n\
 ";
 
-const PLAN: &str = "\
-[[collector]]\n\
-file = \"c1.csv\"\n\
-[[collector]]\n\
-file = \"c2.csv\"\n\
-[[reader]]\n\
-file = \"r1.csv\"\n\
-[[reader]]\n\
-file = \"r2.csv\"\n\
-[[refresher]]\n\
-group = \"h\"\n\
-turns = 4\n\
-[[refresher]]\n\
-group = \"g\"\n\
-turns = 0\n\
-";
-
 // What the table at a place is refused for.
 fn bad<T>(rule: u8, place: u32, at: u32) -> Result<T, TextNo> {
     Err(TextNo::BadText { rule, place, at })
@@ -95,15 +81,28 @@ fn base_counts(alloc: Global, text: &str) -> Result<(usize, usize), TextNo> {
     Ok((base.tags.len(), base.groups.len()))
 }
 
-// How many collectors, readers and refreshers a plan has, over the base above.
-fn plan_counts(alloc: Global, text: &str) -> Result<(usize, usize, usize), TextNo> {
-    let base = read_base(alloc, BASE.as_bytes())?;
-    let plan = read_plan(alloc, text.as_bytes(), &base)?;
-    Ok((
-        plan.collectors.len(),
-        plan.readers.len(),
-        plan.refreshers.len(),
-    ))
+// A base of so many tags and groups, each group of so many calculations.
+fn large_base(
+    alloc: Global,
+    tags: usize,
+    groups: usize,
+    calcs: usize,
+) -> Result<String, AllocError> {
+    let mut text = String::new(alloc);
+    for i in 0..tags {
+        write!(text, "[[tag]]\nname = \"T{i}\"\nexc_dev = 0\nexc_max = 0\n")?;
+        text.push_str("comp_dev = 0\ncomp_min = 0\ncomp_max = 0\n")?;
+    }
+    for i in 0..groups {
+        write!(
+            text,
+            "[[group]]\nname = \"g{i}\"\ntags = [\"T0\"]\nstart = 0\nperiod = 1\n"
+        )?;
+        for j in 0..calcs {
+            write!(text, "[[group.calc]]\nname = \"c{j}\"\nformula = \"1\"\n")?;
+        }
+    }
+    Ok(text)
 }
 
 #[test]
@@ -112,18 +111,33 @@ fn a_base_is_refused_for_the_first_rule_that_it_breaks(rt: HostRuntime) -> Resul
     let cases: [(&[(&str, &str)], Result<(usize, usize), TextNo>); 75] = [
         (&[], Ok((3, 2))),
         (&[(r#""T1""#, r#""T1"#)], bad(1, 0, 0)),
-        (&[("exc_dev = 11", "exc_dev = 9223372036854775808")], bad(1, 0, 0)),
+        (
+            &[("exc_dev = 11", "exc_dev = 9223372036854775808")],
+            bad(1, 0, 0),
+        ),
         (&[("exc_dev = 11", "exc_dev = 0xB")], Ok((3, 2))),
-        (&[("comp_min = 14", "comp_min = 14\ncomp_min = 14")], bad(1, 0, 0)),
+        (
+            &[("comp_min = 14", "comp_min = 14\ncomp_min = 14")],
+            bad(1, 0, 0),
+        ),
         (&[("[[tag]]", "\u{feff}[[tag]]")], Ok((3, 2))),
         (&[("[[tag]]", "x = 1\n[[tag]]")], bad(2, 0, 0)),
         (&[("[[group]]", "[[groups]]")], bad(1, 0, 0)),
         (&[("[[tag]]", "tag = 1\n[[tags]]")], bad(1, 0, 0)),
         (&[("comp_max = 15\n", "")], bad(3, 0, 0)),
         (&[("comp_max = 25\n", "")], bad(3, 1, 0)),
-        (&[("comp_max = 25", "comp_max = 25\nother = 1")], bad(3, 1, 0)),
-        (&[(r#"descriptor = "flow""#, "descriptor = 5")], bad(3, 2, 0)),
-        (&[(r#"engunits = "m3""#, r#"engunits = ["m3"]"#)], bad(3, 2, 0)),
+        (
+            &[("comp_max = 25", "comp_max = 25\nother = 1")],
+            bad(3, 1, 0),
+        ),
+        (
+            &[(r#"descriptor = "flow""#, "descriptor = 5")],
+            bad(3, 2, 0),
+        ),
+        (
+            &[(r#"engunits = "m3""#, r#"engunits = ["m3"]"#)],
+            bad(3, 2, 0),
+        ),
         (&[(r#""V2""#, "5")], bad(4, 1, 0)),
         (&[(r#""V2""#, r#""V 2""#)], bad(4, 1, 0)),
         (&[(r#""V2""#, r#""""#)], bad(4, 1, 0)),
@@ -131,18 +145,42 @@ fn a_base_is_refused_for_the_first_rule_that_it_breaks(rt: HostRuntime) -> Resul
         (&[(r#""V2""#, r#""t1""#)], Ok((3, 2))),
         (&[("exc_dev = 21", "exc_dev = -1")], bad(5, 1, 0)),
         (&[("exc_dev = 21", "exc_dev = 0")], Ok((3, 2))),
-        (&[("exc_dev = 21", "exc_dev = 1000000000000000")], Ok((3, 2))),
-        (&[("exc_dev = 21", "exc_dev = 1000000000000001")], bad(5, 1, 0)),
+        (
+            &[("exc_dev = 21", "exc_dev = 1000000000000000")],
+            Ok((3, 2)),
+        ),
+        (
+            &[("exc_dev = 21", "exc_dev = 1000000000000001")],
+            bad(5, 1, 0),
+        ),
         (&[("exc_max = 22", "exc_max = 253402300799999")], Ok((3, 2))),
-        (&[("exc_max = 22", "exc_max = 253402300800000")], bad(5, 1, 0)),
+        (
+            &[("exc_max = 22", "exc_max = 253402300800000")],
+            bad(5, 1, 0),
+        ),
         (&[("comp_dev = 23", "comp_dev = 23.0")], bad(5, 1, 0)),
         (&[("comp_min = 24", "comp_min = true")], bad(5, 1, 0)),
         (&[("comp_max = 25", r#"comp_max = "25""#)], bad(5, 1, 0)),
         (&[("step = true", "step = 1")], bad(5, 1, 0)),
-        (&[(r#""V2""#, r#""V 2""#), ("exc_dev = 21", "exc_dev = -1")], bad(4, 1, 0)),
-        (&[(r#""V2""#, r#""T1""#), ("comp_max = 25\n", "")], bad(3, 1, 0)),
-        (&[("comp_max = 25", "comp_max = -1"), ("comp_max = 15", "comp_max = -1")], bad(5, 0, 0)),
-        (&[("comp_max = 35", "comp_max = -1"), (r#""g""#, r#""g h""#)], bad(5, 2, 0)),
+        (
+            &[(r#""V2""#, r#""V 2""#), ("exc_dev = 21", "exc_dev = -1")],
+            bad(4, 1, 0),
+        ),
+        (
+            &[(r#""V2""#, r#""T1""#), ("comp_max = 25\n", "")],
+            bad(3, 1, 0),
+        ),
+        (
+            &[
+                ("comp_max = 25", "comp_max = -1"),
+                ("comp_max = 15", "comp_max = -1"),
+            ],
+            bad(5, 0, 0),
+        ),
+        (
+            &[("comp_max = 35", "comp_max = -1"), (r#""g""#, r#""g h""#)],
+            bad(5, 2, 0),
+        ),
         (&[("start = 51\n", "")], bad(6, 1, 0)),
         (&[("start = 51", "start = 51\nx = 1")], bad(6, 1, 0)),
         (&[(r#""h""#, r#""g""#)], bad(7, 1, 0)),
@@ -160,9 +198,24 @@ fn a_base_is_refused_for_the_first_rule_that_it_breaks(rt: HostRuntime) -> Resul
         (&[("period = 52", "period = 0")], bad(9, 1, 0)),
         (&[("period = 52", "period = 1000000000000")], Ok((3, 2))),
         (&[("period = 52", "period = 1000000000001")], bad(9, 1, 0)),
-        (&[("[[group.calc]]\nname = \"k\"\nformula = \"low('T3')\"", "calc = []")], bad(10, 1, 0)),
-        (&[("[[group.calc]]\nname = \"k\"\nformula = \"low('T3')\"", "calc = 1")], bad(10, 1, 0)),
-        (&[(r#"name = "k""#, "name = \"k\"\ny = \"1\"")], bad(10, 1, 0)),
+        (
+            &[(
+                "[[group.calc]]\nname = \"k\"\nformula = \"low('T3')\"",
+                "calc = []",
+            )],
+            bad(10, 1, 0),
+        ),
+        (
+            &[(
+                "[[group.calc]]\nname = \"k\"\nformula = \"low('T3')\"",
+                "calc = 1",
+            )],
+            bad(10, 1, 0),
+        ),
+        (
+            &[(r#"name = "k""#, "name = \"k\"\ny = \"1\"")],
+            bad(10, 1, 0),
+        ),
         (&[("name = \"k\"\n", "")], bad(10, 1, 0)),
         (&[(r#""k""#, "3")], bad(10, 1, 0)),
         (&[(r#""k""#, r#""k k""#)], bad(10, 1, 0)),
@@ -170,78 +223,57 @@ fn a_base_is_refused_for_the_first_rule_that_it_breaks(rt: HostRuntime) -> Resul
         (&[(r#""low('T3')""#, "5")], bad(10, 1, 0)),
         (&[(r#""low('T3')""#, r#""low('T3'""#)], bad(11, 1, 8)),
         (&[(r#""low('T3')""#, r#""""#)], bad(11, 1, 0)),
-        (&[(r#""low('T3')""#, r#""1000000000000000001""#)], bad(11, 1, 0)),
-        (&[(r#""low('T3')""#, r#""---------------------------------1""#)], bad(11, 1, 32)),
-        (&[(r#""low('T3')""#, r#""--------------------------------1""#)], Ok((3, 2))),
+        (
+            &[(r#""low('T3')""#, r#""1000000000000000001""#)],
+            bad(11, 1, 0),
+        ),
+        (
+            &[(r#""low('T3')""#, r#""---------------------------------1""#)],
+            bad(11, 1, 32),
+        ),
+        (
+            &[(r#""low('T3')""#, r#""--------------------------------1""#)],
+            Ok((3, 2)),
+        ),
         (&[(r#""low('T3')""#, r#""low('V2')""#)], bad(12, 1, 0)),
         (&[(r#""low('T3')""#, r#""calc('k')""#)], bad(12, 1, 0)),
         (&[(r#""low('T3')""#, r#""calc('m')""#)], bad(12, 1, 0)),
         (&[(r#""avg('T1')""#, r#""calc('n')""#)], bad(12, 0, 0)),
         (&[(r#""avg('T1')""#, r#""avg('T3')""#)], bad(12, 0, 0)),
         (&[(r#""h""#, r#""g""#), ("start = 51\n", "")], bad(6, 1, 0)),
-        (&[(r#""h""#, r#""g""#), (r#"["T3", "T1"]"#, "[]")], bad(7, 1, 0)),
-        (&[(r#"["T3", "T1"]"#, "[]"), ("period = 52", "period = 0")], bad(8, 1, 0)),
-        (&[("period = 52", "period = 0"), (r#""k""#, "3")], bad(9, 1, 0)),
-        (&[(r#""avg('T1')""#, r#""avg('T1'""#), (r#""n""#, r#""m""#)], bad(10, 0, 0)),
-        (&[(r#""avg('T1')""#, r#""avg('T9')""#), (r#""calc('m') + 1""#, r#""1 +""#)], bad(11, 0, 3)),
-        (&[(r#""avg('T1')""#, r#""avg('T9')""#), ("start = 51\n", "")], bad(12, 0, 0)),
+        (
+            &[(r#""h""#, r#""g""#), (r#"["T3", "T1"]"#, "[]")],
+            bad(7, 1, 0),
+        ),
+        (
+            &[(r#"["T3", "T1"]"#, "[]"), ("period = 52", "period = 0")],
+            bad(8, 1, 0),
+        ),
+        (
+            &[("period = 52", "period = 0"), (r#""k""#, "3")],
+            bad(9, 1, 0),
+        ),
+        (
+            &[(r#""avg('T1')""#, r#""avg('T1'""#), (r#""n""#, r#""m""#)],
+            bad(10, 0, 0),
+        ),
+        (
+            &[
+                (r#""avg('T1')""#, r#""avg('T9')""#),
+                (r#""calc('m') + 1""#, r#""1 +""#),
+            ],
+            bad(11, 0, 3),
+        ),
+        (
+            &[(r#""avg('T1')""#, r#""avg('T9')""#), ("start = 51\n", "")],
+            bad(12, 0, 0),
+        ),
     ];
     for (edits, want) in cases {
         let text = edited(alloc, BASE, edits)?;
         assert_eq!(rt; base_counts(alloc, text.as_str()), want, "{edits:?}");
     }
     Ok(())
-}
-
-#[test]
-fn a_plan_is_refused_for_the_first_rule_that_it_breaks(rt: HostRuntime) -> Result<(), Fail> {
-    let alloc = rt.alloc();
-    let cases: [(&[(&str, &str)], Result<(usize, usize, usize), TextNo>); 23] = [
-        (&[], Ok((2, 2, 2))),
-        (&[(r#""c1.csv""#, r#""c1.csv"#)], bad(1, 0, 0)),
-        (&[("[[collector]]", "x = 1\n[[collector]]")], bad(2, 0, 0)),
-        (&[("[[reader]]\nfile = \"r1.csv\"\n[[reader]]", "[reader]")], bad(2, 0, 0)),
-        (&[("[[reader]]\nfile = \"r1.csv\"\n[[reader]]\nfile = \"r2.csv\"\n", "")], Ok((2, 0, 2))),
-        (&[(r#""c2.csv""#, r#""""#)], bad(3, 1, 0)),
-        (&[(r#""c2.csv""#, "1")], bad(3, 1, 0)),
-        (&[(r#"file = "c2.csv""#, "file = \"c2.csv\"\nx = 1")], bad(3, 1, 0)),
-        (&[("file = \"c2.csv\"\n", "")], bad(3, 1, 0)),
-        (&[(r#""r2.csv""#, r#""""#)], bad(4, 1, 0)),
-        (&[("file = \"r2.csv\"\n", "")], bad(4, 1, 0)),
-        (&[(r#""g""#, r#""i""#)], bad(5, 1, 0)),
-        (&[(r#""g""#, r#""h""#)], bad(5, 1, 0)),
-        (&[(r#""g""#, "1")], bad(5, 1, 0)),
-        (&[("turns = 0", "turns = -1")], bad(5, 1, 0)),
-        (&[("turns = 0", "turns = 1000")], Ok((2, 2, 2))),
-        (&[("turns = 0", "turns = 1001")], bad(5, 1, 0)),
-        (&[("turns = 0", "turns = false")], bad(5, 1, 0)),
-        (&[("turns = 0\n", "")], bad(5, 1, 0)),
-        (&[("turns = 0", "turns = 0\nx = 1")], bad(5, 1, 0)),
-        (&[(r#""r1.csv""#, r#""""#), (r#""c2.csv""#, r#""""#)], bad(3, 1, 0)),
-        (&[(r#""h""#, r#""i""#), (r#""r2.csv""#, r#""""#)], bad(4, 1, 0)),
-        (&[("turns = 0", "turns = -1"), ("turns = 4", "turns = -1")], bad(5, 0, 0)),
-    ];
-    for (edits, want) in cases {
-        let text = edited(alloc, PLAN, edits)?;
-        assert_eq!(rt; plan_counts(alloc, text.as_str()), want, "{edits:?}");
-    }
-    Ok(())
-}
-
-// A base of so many tags and groups, each group of so many calculations.
-fn large_base(alloc: Global, tags: usize, groups: usize, calcs: usize) -> Result<String, AllocError> {
-    let mut text = String::new(alloc);
-    for i in 0..tags {
-        write!(text, "[[tag]]\nname = \"T{i}\"\nexc_dev = 0\nexc_max = 0\n")?;
-        text.push_str("comp_dev = 0\ncomp_min = 0\ncomp_max = 0\n")?;
-    }
-    for i in 0..groups {
-        write!(text, "[[group]]\nname = \"g{i}\"\ntags = [\"T0\"]\nstart = 0\nperiod = 1\n")?;
-        for j in 0..calcs {
-            write!(text, "[[group.calc]]\nname = \"c{j}\"\nformula = \"1\"\n")?;
-        }
-    }
-    Ok(text)
 }
 
 #[test]
@@ -257,30 +289,11 @@ fn a_base_has_so_many_tables_at_most(rt: HostRuntime) -> Result<(), Fail> {
     ];
     for (tags, groups, calcs, want) in cases {
         let text = large_base(alloc, tags, groups, calcs)?;
-        assert_eq!(rt; base_counts(alloc, text.as_str()), want, "{tags} {groups} {calcs}");
-    }
-    Ok(())
-}
-
-#[test]
-fn a_plan_has_so_many_files_at_most(rt: HostRuntime) -> Result<(), Fail> {
-    let alloc = rt.alloc();
-    // The collectors and the readers.
-    let cases: [(usize, usize, Result<(usize, usize, usize), TextNo>); 4] = [
-        (16, 16, Ok((16, 16, 0))),
-        (17, 17, limit(What::Collectors, 17)),
-        (16, 17, limit(What::Readers, 17)),
-        (0, 0, Ok((0, 0, 0))),
-    ];
-    for (collectors, readers, want) in cases {
-        let mut text = String::new(alloc);
-        for _ in 0..collectors {
-            text.push_str("[[collector]]\nfile = \"c\"\n")?;
-        }
-        for _ in 0..readers {
-            text.push_str("[[reader]]\nfile = \"r\"\n")?;
-        }
-        assert_eq!(rt; plan_counts(alloc, text.as_str()), want, "{collectors} {readers}");
+        assert_eq!(rt;
+            base_counts(alloc, text.as_str()),
+            want,
+            "{tags} {groups} {calcs}"
+        );
     }
     Ok(())
 }
@@ -293,16 +306,11 @@ fn names_have_so_many_bytes_at_most(rt: HostRuntime) -> Result<(), Fail> {
         let text = edited(alloc, BASE, &[("V2", name.as_str())])?;
         assert_eq!(rt; base_counts(alloc, text.as_str()), want, "{count}");
     }
-    for (count, want) in [(255, Ok((2, 2, 2))), (256, bad(3, 1, 0))] {
-        let name = String::from_utf8(vec![in alloc; b'x'; count]?).map_err(|_| "bytes")?;
-        let text = edited(alloc, PLAN, &[("c2.csv", name.as_str())])?;
-        assert_eq!(rt; plan_counts(alloc, text.as_str()), want, "{count}");
-    }
     Ok(())
 }
 
 #[test]
-fn a_base_and_a_plan_hold_what_their_texts_say(rt: HostRuntime) -> Result<(), Fail> {
+fn a_base_holds_what_its_text_says(rt: HostRuntime) -> Result<(), Fail> {
     let alloc = rt.alloc();
     let base = read_base(alloc, BASE.as_bytes()).map_err(|_| "base")?;
     let tuning = Tuning {
@@ -313,15 +321,16 @@ fn a_base_and_a_plan_hold_what_their_texts_say(rt: HostRuntime) -> Result<(), Fa
         comp_max: 25,
     };
     let valve = base.tags.get(1).ok_or("tag")?;
-    assert_eq!(rt; (valve.name.bytes(), valve.tuning, valve.step), (b"V2".as_slice(), tuning, true));
+    assert_eq!(rt;
+        (valve.name.bytes(), valve.tuning, valve.step),
+        (b"V2".as_slice(), tuning, true)
+    );
     let group = base.groups.get(1).ok_or("group")?;
     assert_eq!(rt; group.inputs.as_slice(), [2, 0].as_slice());
-    assert_eq!(rt; (group.start, group.period, group.calcs.defs().len()), (51, 52, 1));
-    let plan = read_plan(alloc, PLAN.as_bytes(), &base).map_err(|_| "plan")?;
-    let reader = plan.readers.get(1).ok_or("reader")?;
-    assert_eq!(rt; reader.text(), "r2.csv");
-    let refresher = plan.refreshers.first().ok_or("refresher")?;
-    assert_eq!(rt; (refresher.group, refresher.turns), (1, 4));
+    assert_eq!(rt;
+        (group.start, group.period, group.calcs.defs().len()),
+        (51, 52, 1)
+    );
     Ok(())
 }
 

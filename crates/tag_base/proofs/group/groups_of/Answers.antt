@@ -1,4 +1,4 @@
-use Rattle.std.proofs.Common.{◌≡◌, ◌∷◌, ◌∙◌, List, Err, map, drop, ap, sym, refl, subst, ◌+◌}
+use Rattle.std.proofs.Common.{◌≡◌, ◌∷◌, ◌∙◌, Err, map, drop, ap, sym, refl, subst, ◌+◌}
 use Rattle.std.proofs.lemmas.List.{drop_more}
 use Rattle.toml.specs.View.{table_view}
 use Rattle.tag_base.specs.Groups.{GroupRead, GroupsRead}
@@ -12,6 +12,6 @@ returns-in-Err-clause-groups c unless =
     let t = c.table-item.result in
     let next : drop i tables ≡ t ∷ drop (i + 1) tables = drop_more tables i t c.loop-table-test.true ∙ ap (λ x. x ∷ drop (i + 1) tables) (sym c.table-item.is) in
     let why = c.in-Err.why in
-    let first = subst (λ gs. GroupRead c.args.tags.now gs (table_view t.now) (Err why)) c.deref.ensures.value (c.in-Err.ensures unless) in
+    let first = subst (λ gs. GroupRead c.args.tags.now gs (table_view t.now) (Err why)) c.deref.ensures.value (c.in-Err.ensures.group unless) in
     c.loop-table.invariant.read (Err why)
     (subst (λ l. GroupsRead c.args.tags.now c.loop-table.groups.items (map (λ x. table_view x.now) l) (Err why)) (sym next) (Err why, first, refl))
