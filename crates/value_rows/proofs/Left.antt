@@ -27,7 +27,7 @@ shortens s [] p between found = absurd (none_left s p between found)
 shortens s (x ∷ xs) p between found = (read_ends s [] [] (x ∷ xs) p found).shorter (omega arith)
 
 -- reads that are more than the bytes are enough
-enough : (n m : ℕ) (s : State) (xs : List ℕ) → is_between s ≡ true → length xs < n → length xs < m
+pub enough : (n m : ℕ) (s : State) (xs : List ℕ) → is_between s ≡ true → length xs < n → length xs < m
     → records_from default_config n s xs ≡ records_from default_config m s xs
 unfolding records_from
 enough zero m s xs between few less = absurd (omega arith)
@@ -42,13 +42,13 @@ enough (suc n) (suc m) s xs between few less =
     ] refl
 
 -- the records from a state on are those of one read and of what it leaves
-one_read : (n : ℕ) (s : State) (xs : List ℕ) → records_from default_config (n + 1) s xs
+pub one_read : (n : ℕ) (s : State) (xs : List ℕ) → records_from default_config (n + 1) s xs
     ≡ records_next (records_from default_config n) (next_record default_config s [] [] xs)
 unfolding records_from
 one_read n s xs = rw add-one refl
 
 -- the first record that is left, and the others
-first_left : (s : State) (xs : List ℕ) (p : Read) → is_between s ≡ true → next_record default_config s [] [] xs ≡ Some p
+pub first_left : (s : State) (xs : List ℕ) (p : Read) → is_between s ≡ true → next_record default_config s [] [] xs ≡ Some p
     → records_left s xs ≡ p.0 ∷ records_left p.1 p.2
 first_left s xs p between found =
     let ends = read_ends s [] [] xs p found in

@@ -1,5 +1,5 @@
 -- Places of names in a map: each name more is put where it is not there.
-use Rattle.std.proofs.Common.{IfSome, ◌≡◌, ℕ, ◌+◌, ◌<◌, Bool, true, false, cond, List, [], ◌∷◌, ◌++◌, Option, Some, None, length, take, get_or, refl, sym, ap, ◌∙◌, add-zero, arith, Bor}
+use Rattle.std.proofs.Common.{IfSome, ◌≡◌, ℕ, ◌+◌, ◌<◌, Bool, true, false, cond, List, [], ◌∷◌, ◌++◌, Option, Some, None, length, take, get_or, refl, sym, ap, ◌∙◌, subst, add-zero, arith, Bor}
 use Rattle.std.proofs.lemmas.List.{take_more, length-take-le}
 use Rattle.std.proofs.lemmas.Iterator.Adapters.{position_from-zero}
 use Rattle.std.proofs.lemmas.List.Quantifiers.{position-Some}
@@ -7,10 +7,12 @@ use Rattle.std.proofs.lemmas.Map.Text.{btree_map_updates_str}
 use Rattle.std.proofs.lemmas.Slice.Eq.{bytes_eq-Decides}
 use Rattle.std.specs.BTreeMap.{BTreeMap, UpdatesBy, get_by}
 use Rattle.std.specs.Cmp.Lexicographic.{slice_cmp}
-use Rattle.std.specs.List.{position, position_from}
+use Rattle.std.specs.List.{position, position_from, slice_get}
+use Rattle.std.proofs.lemmas.Option.{get_or_from_slice_get}
 use Rattle.std.specs.Option.{is_some, option_or}
 use Rattle.std.specs.Ordering.{nat_cmp}
 use Rattle.std.specs.Str.{bytes_eq}
+use Rattle.trend_num.specs.Names.{IsName}
 use Rattle.value_rows.specs.Raw.{place_of}
 use Rattle.value_rows.specs.Standing.{ArePlaces}
 
@@ -92,3 +94,12 @@ put_next m n names i name below here are gone updates q =
 pub place_within : (names : List (List ℕ)) (name : List ℕ) (o : Option ℕ) → o ≡ place_of names name → IfSome o (λ i. i < length names)
 place_within names name None is = tt
 place_within names name (Some i) is = (position-Some (bytes_eq name) names i [] (sym is)).0
+
+-- what has the place of a name is that name
+pub is_name_at : (names : List (List ℕ)) (name there : List ℕ) (i : ℕ) → place_of names name ≡ Some i → slice_get names i ≡ Some there
+    → IsName there → IsName name
+is_name_at names name there i at got is =
+    let found = position-Some (bytes_eq name) names i there at in
+    let same : get_or names i there ≡ there = get_or_from_slice_get names i there there got in
+    let one : name ≡ there = (bytes_eq-Decides name (get_or names i there)).0 found.1 ∙ same in
+    subst IsName (sym one) is

@@ -1,17 +1,14 @@
 -- The rows that were read so far, and what the rows of the whole text then are.
-use Rattle.std.proofs.Common.{All, ◌≡◌, ℕ, ◌+◌, ◌<◌, ◌≤◌, Bool, true, false, List, [], ◌∷◌, ◌++◌, Result, Ok, Err, length, map, refl, sym, ap, ◌∙◌, append_assoc, length-append, arith, Bor}
+use Rattle.std.proofs.Common.{All, ◌≡◌, ℕ, ◌+◌, ◌<◌, ◌≤◌, Bool, true, false, List, [], ◌∷◌, ◌++◌, Result, Ok, Err, length, map, sym, ap, ◌∙◌, append_assoc, length-append, arith, Bor}
 use Rattle.std.proofs.lemmas.List.{append-nil, map-append}
 use Rattle.std.proofs.lemmas.List.Elements.{All-push}
 use Rattle.csv.specs.declared.reader.Reader.{Reader}
 use Rattle.trend_num.specs.declared.refusal.Reason.{Reason}
 use Rattle.point_text.specs.declared.failure.RowNo.TheVariants.{BadRow, TooMany}
 use Rattle.point_text.proofs.RowList.{all_read, rows_from-all, rows_from-bad, rows_from-more}
+use Rattle.value_rows.specs.Plain.{Reads}
 use Rattle.value_rows.specs.Reading.{rows_read}
 use Rattle.value_rows.specs.Standing.{HasLeft, IsNext}
-
--- how records are read
-abbrev pub Reads : Type 0 → Type 0
-Reads R = List (List ℕ) → Result R Reason
 
 -- of records that read so, these rows were read, as many as told and no more than there may be; the reader has the others left
 pub record AreSoFar {R : Type 0} (P : R → Type 0) (row_of : Reads R) (all : List (Result R Reason)) (most : ℕ) (r : Reader (Bor (List ℕ))) (rows : List R) (count : ℕ) : Type 0 where
@@ -22,17 +19,12 @@ pub record AreSoFar {R : Type 0} (P : R → Type 0) (row_of : Reads R) (all : Li
   pub few : count ≤ most
   pub each : All P rows
 
--- before the first read
-pub none_so_far : {R : Type 0} (P : R → Type 0) (row_of : Reads R) (records : List (List (List ℕ))) (most : ℕ) (r : Reader (Bor (List ℕ))) (rows : List R)
-    → HasLeft r records → rows ≡ [] → AreSoFar P row_of (map row_of records) most r rows 0
-none_so_far P row_of records most r rows has none = record {
-  left = records;
-  stands = has;
-  split = rw none refl;
-  counted = ap length none;
-  few = omega arith;
-  each = rw none (λ k d below. absurd (omega arith));
-}
+-- one row more before others
+one_longer : {R : Type 0} (rows more : List R) (row : R) (reads : List (Result R Reason)) → more ≡ rows ++ row ∷ []
+    → all_read rows ++ Ok row ∷ reads ≡ all_read more ++ reads
+one_longer rows more row reads grown =
+    sym (append_assoc (all_read rows) (Ok row ∷ []) reads)
+    ∙ ap (λ l. l ++ reads) (sym (map-append (λ r. Ok r) rows (row ∷ [])) ∙ ap all_read (sym grown))
 
 -- the end of the text
 pub all_so_far : {R : Type 0} (row_of : Reads R) (all : List (Result R Reason)) (most count : ℕ) (left : List (List (List ℕ))) (rows : List R)
@@ -67,8 +59,7 @@ one_more P row_of all most count r left rest fields rows after row split counted
   left = rest;
   stands = has;
   split = split ∙ ap (λ l. all_read rows ++ map row_of l) next ∙ ap (λ r. all_read rows ++ r ∷ map row_of rest) good
-      ∙ sym (append_assoc (all_read rows) (Ok row ∷ []) (map row_of rest))
-      ∙ ap (λ l. l ++ map row_of rest) (sym (map-append (λ r. Ok r) rows (row ∷ [])) ∙ ap all_read (sym more));
+      ∙ one_longer rows after row (map row_of rest) more;
   counted = ap length more ∙ omega (arith, length-append rows (row ∷ []));
   few = omega arith;
   each = rw more (All-push P rows row each is_row);

@@ -77,6 +77,10 @@ impl<'n> Form for QueryForm<'n> {
 
     ghost is_row = { λ form. IsQuery form.tags form.groups.now };
 
+    fn plain<'t>(&self, _text: &'t [u8]) -> Option<(Query, &'t [u8])> {
+        None
+    }
+
     fn read(&self, row: &ByteRecord) -> Result<Query, Reason> {
         match fields_in(row) {
             Fields::Two(verb, a) => self.one_field(verb_of(verb), a),

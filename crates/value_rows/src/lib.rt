@@ -10,6 +10,10 @@
 //! reason in the order of [`Reason`], or that there are more records than there may be before a bad one. Only want of memory
 //! is refused beside what the model refuses; a reader over bytes that failed is answered as such, since no contract rules it
 //! out.
+//!
+//! Raw rows that stand as they are (the name of a tag, a comma, and a line of `pack`'s input, with its line feed) are read
+//! without `csv`, from the first on; from the first other record on the text goes through `csv` (`reading`). Both are proved
+//! to read the same.
 #![tactic(auto)]
 
 mod asked;
