@@ -18,8 +18,10 @@ pub record IsFirstRow {R : Type 0} (row_of : Reads R) (text after : List ℕ) (r
   pub first : records_of text ≡ fields ∷ records_of after
   pub reads : row_of fields ≡ Ok row
 
--- the text begins with records of these rows, as many as there may be at most, and the others are those of the rest
-pub record AreFirstRows {R : Type 0} (P : R → Type 0) (row_of : Reads R) (text rest : List ℕ) (most : ℕ) (rows : List R) : Type 0 where
+-- the text begins with records of these rows, as many as there may be at most, and the others are those of
+-- the rest
+pub record AreFirstRows {R : Type 0} (P : R → Type 0) (row_of : Reads R) (text rest : List ℕ) (most : ℕ)
+    (rows : List R) : Type 0 where
   pub split : map row_of (records_of text) ≡ map (λ r. Ok r) rows ++ map row_of (records_of rest)
   pub few : length rows ≤ most
   pub each : All P rows

@@ -38,9 +38,10 @@ pub struct GroupNames {
     pub calcs: Vec<Name>,
 }
 
-/// The queries of a text, of at most `most` records. A record is `at,TAG,T`, `points,TAG,FROM,TO`, a measure in place of
-/// `points`, `snap,TAG` or `row,GROUP,CALC,K`. Times are milliseconds from 1970; FROM is at most TO, and below it for a measure.
-/// K is the number of a window, from 0 to 10^12. A name stands for the first tag, group or calculation that has it.
+/// The queries of a text, of at most `most` records. A record is `at,TAG,T`, `points,TAG,FROM,TO`, a measure
+/// in place of `points`, `snap,TAG` or `row,GROUP,CALC,K`. Times are milliseconds from 1970; FROM is at most
+/// TO, and below it for a measure. K is the number of a window, from 0 to 10^12. A name stands for the first
+/// tag, group or calculation that has it.
 pub fn query_rows(
     alloc: Global,
     bytes: &[u8],

@@ -24,8 +24,8 @@ pub struct RawRow {
     pub point: Point,
 }
 
-/// The raw values of a text of records `TAG,T,V`, of at most `most`. T is in milliseconds from 1970, V in value units. A tag is
-/// the first one of its name.
+/// The raw values of a text of records `TAG,T,V`, of at most `most`. T is in milliseconds from 1970, V in
+/// value units. A tag is the first one of its name.
 pub fn raw_rows(alloc: Global, bytes: &[u8], tags: &[Name], most: u64) -> Result<Vec<RawRow>, RowNo>
     requires { length tags.now < 2 ^ 32 }
     ensures rows { IfOk result (λ rows. raw_rows tags.now most bytes.now ≡ Ok rows.items) }

@@ -24,7 +24,8 @@ pub(crate) trait Form {
 
     ghost is_row: { Self → Self.Row → Type 0 };
 
-    /// The row of a plain record that a text begins with, and what follows its line feed. None says nothing of the text.
+    /// The row of a plain record that a text begins with, and what follows its line feed. None says nothing
+    /// of the text.
     fn plain<'t>(&self, text: &'t [u8]) -> Option<(Self::Row, &'t [u8])>
         ensures first { IfSome result (λ p. IsFirstRow (row_of self.now) text.now p.1.now p.0) }
         ensures is_row { IfSome result (λ p. is_row self.now p.0) }
@@ -73,8 +74,8 @@ pub(crate) fn rows_of_text<F: Form>(
     Err(RowNo::WantOfMemory)
 }
 
-/// How many rows to make room for: as many as a text may have, but no more than `most`. Places that are never written take no
-/// memory.
+/// How many rows to make room for: as many as a text may have, but no more than `most`. Places that are never
+/// written take no memory.
 fn rows_upto(text: &[u8], most: u64) -> usize {
     let rows = (text.len() / SHORTEST_ROW) as u64 + 1;
     rows.min(most) as usize
