@@ -42,8 +42,8 @@ went_on r fields left true found next = record { others = next.0; first = next.1
 went_on r fields left false found next = absurd (cc)
 
 -- the end of the text
-pub all_so_far : {R : Type 0} {P : R
-    → Type 0} {row_of : Reads R} {all : List (Result R Reason)} {most count : ℕ}
+pub all_so_far : {R : Type 0} {P : R → Type 0} {row_of : Reads R}
+    {all : List (Result R Reason)} {most count : ℕ}
     {r : Reader (Bor (List ℕ))} {rows : List R} (here : AreSoFar P row_of all most r rows count) → here.left
     ≡ []
     → rows_read most all ≡ Ok rows
@@ -53,8 +53,8 @@ all_so_far {row_of = row_of} {all = all} {most = most} {rows = rows} here none =
     ∙ rows_from-all most rows (omega (arith, here.counted, here.few))
 
 -- a record more than there may be
-pub more_than_most : {R : Type 0} {P : R
-    → Type 0} {row_of : Reads R} {all : List (Result R Reason)} {most count : ℕ}
+pub more_than_most : {R : Type 0} {P : R → Type 0} {row_of : Reads R}
+    {all : List (Result R Reason)} {most count : ℕ}
     {r next : Reader (Bor (List ℕ))} {rows : List R} {fields : List (List ℕ)}
     (here : AreSoFar P row_of all most r rows count) → HasNext here.left fields next → count ≡ most
     → rows_read most all ≡ Err (TooMany (count + 1))
@@ -64,8 +64,8 @@ more_than_most {row_of = row_of} {all = all} {most = most} {rows = rows} {fields
     ∙ ap (λ n. Err (TooMany (n + 1))) (sym full)
 
 -- a bad record
-pub bad_so_far : {R : Type 0} {P : R
-    → Type 0} {row_of : Reads R} {all : List (Result R Reason)} {most count : ℕ}
+pub bad_so_far : {R : Type 0} {P : R → Type 0} {row_of : Reads R}
+    {all : List (Result R Reason)} {most count : ℕ}
     {r next : Reader (Bor (List ℕ))} {rows : List R} {fields : List (List ℕ)} {reason : Reason}
     (here : AreSoFar P row_of all most r rows count) → HasNext here.left fields next → count < most
     → row_of fields ≡ Err reason → rows_read most all ≡ Err (BadRow (count + 1) reason)
@@ -76,8 +76,8 @@ bad_so_far {row_of = row_of} {most = most} {rows = rows} {reason = reason} here 
     ∙ ap (λ n. Err (BadRow (n + 1) reason)) here.counted
 
 -- a good record
-pub one_more : {R : Type 0} {P : R
-    → Type 0} {row_of : Reads R} {all : List (Result R Reason)} {most count : ℕ}
+pub one_more : {R : Type 0} {P : R → Type 0} {row_of : Reads R}
+    {all : List (Result R Reason)} {most count : ℕ}
     {r next : Reader (Bor (List ℕ))} {rows after : List R} {fields : List (List ℕ)} {row : R}
     (here : AreSoFar P row_of all most r rows count) → HasNext here.left fields next → count < most
     → row_of fields ≡ Ok row → P row → after ≡ rows ++ row ∷ []
