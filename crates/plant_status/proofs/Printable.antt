@@ -13,7 +13,8 @@ IsPrintable-digit d small = grind (arith, nat_tests)
 
 pub IsPrintable-decimal : (n : ℕ) → n < 2 ^ 64 → IsPrintable (decimal n)
 IsPrintable-decimal = decimal_by_steps (λ _ digits. IsPrintable digits) IsPrintable-digit
-    (λ n digits _ front. IsPrintable-append digits ((48 + n % 10) ∷ []) front (IsPrintable-digit (n % 10) (omega arith)))
+    (λ n digits _ front. IsPrintable-append digits ((48 + n % 10) ∷ []) front
+    (IsPrintable-digit (n % 10) (omega arith)))
 
 -- what the bytes of a line are made of
 pub ruleset printable = (IsPrintable-append, IsPrintable-decimal)

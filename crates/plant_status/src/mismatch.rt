@@ -3,8 +3,8 @@ use crate::unit::Unit;
 use interp_read::TagQuery;
 use trend_num::{Point, Summary, TagDef};
 
-/// A place at which what a session keeps is compared with what its work tells. Tags, groups and inputs are numbered from 0; so
-/// are the entries of a tape.
+/// A place at which what a session keeps is compared with what its work tells. Tags, groups and inputs are
+/// numbered from 0; so are the entries of a tape.
 #[derive(Clone, Copy, Debug, PartialEq, Eq)]
 pub enum Place {
     /// The number of takes of a tag.

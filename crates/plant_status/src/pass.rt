@@ -7,8 +7,8 @@ pub trait Pass {
     /// How many of its answers were false. At 2^64 - 1 the count stays.
     ghost stops: { Self → ℕ };
 
-    /// Whether the worker may take its step of this number, counted from 0. A worker whose pass answers false makes no further
-    /// step.
+    /// Whether the worker may take its step of this number, counted from 0. A worker whose pass answers false
+    /// makes no further step.
     fn pass(&mut self, step: u64) -> bool
         ensures { stops self.new ≡ stops_after result (stops self.old) };
 }

@@ -17,8 +17,8 @@ pub enum Status {
     Done,
     /// The words of the command line are not understood.
     BadWords,
-    /// The base or the plan breaks a rule first at this place: the number of a table from 0, and a place in a formula's text.
-    /// Both are 0 where the rule is of the whole text. The line prints all three as they are.
+    /// The base or the plan breaks a rule first at this place: the number of a table from 0, and a place in a
+    /// formula's text. Both are 0 where the rule is of the whole text. The line prints all three as they are.
     BadText {
         file: FileId,
         rule: u8,
@@ -41,7 +41,8 @@ pub enum Status {
     DeviceFault {
         unit: Unit,
     },
-    /// A device's bytes break its layout first at this place; the byte there, or none where the device ends there.
+    /// A device's bytes break its layout first at this place; the byte there, or none where the device ends
+    /// there.
     Damaged {
         unit: Unit,
         at: u64,

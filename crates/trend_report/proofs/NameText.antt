@@ -13,8 +13,10 @@ byte_small b test = grind (arith, nat_tests)
 -- so is each byte of one
 bytes_small : (bytes : List ℕ) (i : ℕ) → list_all is_name_byte bytes ≡ true → get_or bytes i 0 < 128
 bytes_small [] i spelled = omega arith
-bytes_small (b ∷ bytes) zero spelled = byte_small b (both_left (is_name_byte b) (list_all is_name_byte bytes) spelled)
-bytes_small (b ∷ bytes) (suc i) spelled = bytes_small bytes i (both_right (is_name_byte b) (list_all is_name_byte bytes) spelled)
+bytes_small (b ∷ bytes) zero spelled =
+    byte_small b (both_left (is_name_byte b) (list_all is_name_byte bytes) spelled)
+bytes_small (b ∷ bytes) (suc i) spelled =
+    bytes_small bytes i (both_right (is_name_byte b) (list_all is_name_byte bytes) spelled)
 
 pub name_is_text : (name : List ℕ) → IsName name → IsUtf8 name
 name_is_text name is = IsUtf8-from_ascii name (λ i. bytes_small name i is.spelled)

@@ -31,7 +31,8 @@ held_text (Some q) = point_text q
 -- `taken=N records=R kept=K late=L`, between blanks, and the word of what follows
 abbrev pub counts_text : TagLine → List ℕ
 counts_text l =
-    codes " taken=" ++ decimal l.taken ++ codes " records=" ++ decimal l.records ++ codes " kept=" ++ decimal l.kept
+    codes " taken=" ++ decimal l.taken ++ codes " records=" ++ decimal l.records ++ codes " kept="
+    ++ decimal l.kept
     ++ codes " late=" ++ decimal l.late ++ codes " held="
 
 -- `tag NAME taken=N records=R kept=K late=L held=HELD`
@@ -83,7 +84,8 @@ told_text (Row value) = value_text value
 
 -- `reply READER ROW TEXT`
 abbrev pub reply_text : ℕ → ℕ → ReplyText → List ℕ
-reply_text reader row r = codes "reply " ++ decimal reader ++ codes " " ++ decimal row ++ codes " " ++ told_text r ++ codes "\n"
+reply_text reader row r = codes "reply " ++ decimal reader ++ codes " " ++ decimal row ++ codes " "
+    ++ told_text r ++ codes "\n"
 
 -- a reply whose fraction, if it has one, can be rounded, as that of each read of points in range
 abbrev pub IsPrintable : ReplyText → Type 0

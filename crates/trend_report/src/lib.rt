@@ -1,8 +1,8 @@
 //! The lines of a report: what a session has made of each tag, and the answers to the queries of its readers.
 //!
-//! Each line is one text, and its bytes are those of the definition of the same name: `tag_text` and `reply_text`. A fraction
-//! on a line between two points is rounded to the whole number next to it, the upper one where two are as near. The one
-//! error is want of memory.
+//! Each line is one text, and its bytes are those of the definition of the same name: `tag_text` and
+//! `reply_text`. A fraction on a line between two points is rounded to the whole number next to it, the upper
+//! one where two are as near. The one error is want of memory.
 #![tactic(auto)]
 
 mod name_text;

@@ -21,7 +21,8 @@ pub struct TagLine {
     pub held: Option<Point>,
 }
 
-/// The line `tag NAME taken=N records=R kept=K late=L held=HELD`, with its line feed. HELD is `T,V` or `none`.
+/// The line `tag NAME taken=N records=R kept=K late=L held=HELD`, with its line feed. HELD is `T,V` or
+/// `none`.
 pub fn tag_text(alloc: Global, line: &TagLine) -> Result<String, WantOfMemory>
     ensures { IfOk result (λ text. string_bytes text ≡ tag_text line.now) }
 {

@@ -3,3 +3,4 @@ pub mod NameMap
 pub mod Between
 pub mod Left
 pub mod SoFar
+pub mod PlainRecord

@@ -6,4 +6,5 @@ pub mod Raw
 pub mod Asked
 -- what private functions alone cite
 pub mod Form
+pub mod Plain
 pub mod Standing

@@ -1,5 +1,6 @@
 // Names, looked up in a map.
-ghost use Rattle.std.specs.Prelude.{◌≡◌, ◌<◌, ◌^◌, length, IfOk, IfSome};
+ghost use Rattle.std.specs.Prelude.{◌≡◌, ◌<◌, ◌^◌, length, IfOk, IfSome, OnSome, Some, slice_get};
+ghost use Rattle.trend_num.specs.Names.{IsName};
 ghost use Rattle.value_rows.specs.Raw.{place_of};
 
 use std::alloc::Global;
@@ -47,5 +48,25 @@ impl<'n> Places<'n> {
         ensures within { IfSome result (λ i. i < length self.now) }
     {
         self.map.get(name).copied()
+    }
+
+    /// The same, where the name is known to be one.
+    pub(crate) fn known(&self, name: &[u8]) -> Option<u32>
+        ensures place { result ≡ place_of self.now name.now }
+        ensures within { IfSome result (λ i. i < length self.now) }
+        ensures name { OnSome result (IsName name.now) }
+    {
+        let place = self.place(name)?;
+        let _name = self.name(place);
+        Some(place)
+    }
+
+    /// The bytes of the name at a place.
+    fn name(&self, place: u32) -> &[u8]
+        requires { place < length self.now }
+        ensures same { slice_get self.now place ≡ Some result.now }
+        ensures name { IsName result.now }
+    {
+        self.names[place as usize].bytes()
     }
 }

@@ -40,7 +40,7 @@ fn raw(tag: u32, t: u64, v: i64) -> RawRow {
 #[test]
 fn reads_raw_rows(rt: HostRuntime) -> Result<(), Fail> {
     let first = raw(0, 0, 5);
-    let table: [(&[u8], &[RawRow]); 10] = [
+    let table: [(&[u8], &[RawRow]); 12] = [
         (b"", &[]),
         (b"\n\r\n", &[]),
         (b"T1,0,5", &[first]),
@@ -63,6 +63,14 @@ fn reads_raw_rows(rt: HostRuntime) -> Result<(), Fail> {
             b"T1,3,1\na.b,1,2\nT1,2,3\n",
             &[raw(0, 3, 1), raw(1, 1, 2), raw(0, 2, 3)],
         ),
+        (
+            b"T1,0,5\n\"a.b\",1,2\nT1,2,3",
+            &[first, raw(1, 1, 2), raw(0, 2, 3)],
+        ),
+        (
+            b"T1,0,5\r\n\r\nT1,1,2\rT1,2,3\r",
+            &[first, raw(0, 1, 2), raw(0, 2, 3)],
+        ),
     ];
     for (text, want) in table {
         match raw_of(&rt, rt.alloc(), text, 3)? {
@@ -75,11 +83,13 @@ fn reads_raw_rows(rt: HostRuntime) -> Result<(), Fail> {
 
 #[test]
 fn tells_the_first_bad_raw_row(rt: HostRuntime) -> Result<(), Fail> {
-    let table: [(&[u8], u64, Reason); 22] = [
+    let table: [(&[u8], u64, Reason); 24] = [
         (b"T1,5", 1, Reason::Fields),
         (b"T1,0,5,\n", 1, Reason::Fields),
         (b" \n", 1, Reason::Fields),
         (b"T1,0,5\n\n\nT1,5\n", 2, Reason::Fields),
+        (b"T1,0,5\nT1,0,5\r\r\n,\n", 3, Reason::Fields),
+        (b"T1,0,5\n\xef\xbb\xbfT1,0,5\n", 2, Reason::Name),
         (b"T2,0,5", 1, Reason::Name),
         (b"t1,0,5", 1, Reason::Name),
         (b" T1,0,5", 1, Reason::Name),

@@ -10,10 +10,18 @@ returns-clause-ends g c =
     let code = c.from.ensures ∙ c.code.ensures in
     elim c.match-args.branch [
       | in-Ok+in-Ok-words_of w ↦
-          let words : w.as_slice.result.now ≡ drop 1 (into_iter_items w.in-Ok.given) = w.as_slice.ensures.value ∙ w.in-Ok-words_of.ensures in
-          rw w.in-Ok.is (w.run.result, code ∙ ap code_of w.status-is, rw (w.input-is, w.out-is, ← words) w.run.ensures.ends)
+          let words : w.as_slice.result.now ≡ drop 1 (into_iter_items w.in-Ok.given) =
+          w.as_slice.ensures.value ∙ w.in-Ok-words_of.ensures in
+          rw w.in-Ok.is (
+            w.run.result,
+            code ∙ ap code_of w.status-is,
+            rw (w.input-is, w.out-is, ← words) w.run.ensures.ends,
+          )
       | in-Ok+in-Err-words_of w ↦
-          rw w.in-Ok.is
-          (WantOfMemory, code ∙ ap code_of (w.status-is ∙ w.refuse.ensures.same), rw (w.input-is, w.out-is) (refl, w.refuse.ensures.line))
+          rw w.in-Ok.is (
+            WantOfMemory,
+            code ∙ ap code_of (w.status-is ∙ w.refuse.ensures.same),
+            rw (w.input-is, w.out-is) (refl, w.refuse.ensures.line),
+          )
       | in-Err w ↦ rw w.in-Err.is tt
     ]

@@ -4,4 +4,5 @@ use Rattle.trend_report.specs.Lines.{point_text}
 use Rattle.trend_report.proofs.reply_line.put_points.Given as goal
 
 abbrev pub invariant-loop-p : goal.invariant-loop-p
-invariant-loop-p l = string_bytes l.text ≡ string_bytes l.fn.text ++ flat_map (λ p. point_text p ++ codes " ") (take l.p-index l.points.list.items)
+invariant-loop-p l = string_bytes l.text ≡ string_bytes l.fn.text
+    ++ flat_map (λ p. point_text p ++ codes " ") (take l.p-index l.points.list.items)

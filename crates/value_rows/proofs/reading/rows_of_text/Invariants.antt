@@ -5,4 +5,5 @@ use Rattle.value_rows.proofs.reading.rows_of_text.Given as goal
 
 abbrev pub invariant-loop-count : goal.invariant-loop-count
 invariant-loop-count g l =
-    AreSoFar (g.F.Form.is_row l.form) (g.F.Form.row_of l.form) (map (g.F.Form.row_of l.form) (records_of l.fn.bytes)) l.fn.most l.reader l.rows.items l.count
+    AreSoFar (g.F.Form.is_row l.form) (g.F.Form.row_of l.form)
+    (map (g.F.Form.row_of l.form) (records_of l.fn.bytes)) l.fn.most l.reader l.rows.items l.count

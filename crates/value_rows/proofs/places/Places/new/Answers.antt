@@ -15,7 +15,11 @@ loop-i-preserved c =
     let here : get_or names i name ≡ name = rw (c.bytes-name.ensures.same) (sym c.index-names-i.is) in
     elim c.if-not-contains_key.branch [
       | then-not-contains_key+in_ok-map_err w ↦
-          let gone : is_some (get_by (λ k. slice_cmp nat_cmp name k.now) c.loop-i.map) ≡ false = search rules in
-          rw w.map-is (put_next c.loop-i.map w.insert.new.self names i name c.loop-i-test.true here c.loop-i.invariant gone (search rules))
-      | else-not-contains_key w ↦ rw w.map-is (there_already c.loop-i.map names i name c.loop-i-test.true here c.loop-i.invariant (sym w.if-not-contains_key.ensures))
+          let gone : is_some (get_by (λ k. slice_cmp nat_cmp name k.now) c.loop-i.map) ≡ false =
+          search rules in
+          rw w.map-is (put_next c.loop-i.map w.insert.new.self names i name c.loop-i-test.true here
+          c.loop-i.invariant gone (search rules))
+      | else-not-contains_key w ↦
+          rw w.map-is (there_already c.loop-i.map names i name c.loop-i-test.true here c.loop-i.invariant (sym
+          w.if-not-contains_key.ensures))
     ]
