@@ -16,4 +16,4 @@ pub use calc_eval::{Bad, CalcValue};
 pub use interp_read::{PointList, Reading, Reply};
 pub use reply_line::{ReplyText, reply_text};
 pub use tag_line::{TagLine, tag_text};
-pub use trend_num::{Frac, Name, Point, WantOfMemory};
+pub use trend_num::{Frac, Name, Point, Snap, WantOfMemory};
