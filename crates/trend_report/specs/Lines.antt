@@ -87,7 +87,8 @@ abbrev pub reply_text : ℕ → ℕ → ReplyText → List ℕ
 reply_text reader row r = codes "reply " ++ decimal reader ++ codes " " ++ decimal row ++ codes " "
     ++ told_text r ++ codes "\n"
 
--- a reply whose fraction, if it has one, can be rounded, as that of each read of points in range
-abbrev pub IsPrintable : ReplyText → Type 0
-IsPrintable (Tag (At reading)) = IsReadable reading
-IsPrintable other = Unit {0}
+-- a reply that has a text: its fraction, if it has one, can be rounded, as that of each read of points in
+-- range
+abbrev pub HasText : ReplyText → Type 0
+HasText (Tag (At reading)) = IsReadable reading
+HasText other = Unit {0}

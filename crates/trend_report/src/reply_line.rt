@@ -2,7 +2,7 @@
 ghost use Rattle.std.specs.Prelude.{◌≡◌, ◌++◌, IfOk, OnOk, string_bytes, true};
 ghost use Rattle.trend_model.specs.Reads.{rounded};
 ghost use Rattle.weighted_total.specs.Readable.{IsReadable, IsRoundable};
-ghost use Rattle.trend_report.specs.Lines.{IsPrintable, answer_text, cause_text, number_text, points_text, reading_text, reply_text, told_text, value_text};
+ghost use Rattle.trend_report.specs.Lines.{HasText, answer_text, cause_text, number_text, points_text, reading_text, reply_text, told_text, value_text};
 
 use crate::point_text::{put_held, put_point};
 use calc_eval::{Bad, CalcValue};
@@ -28,7 +28,7 @@ pub fn reply_text(
     row: u64,
     reply: &ReplyText,
 ) -> Result<String, WantOfMemory>
-    requires { IsPrintable reply.now }
+    requires { HasText reply.now }
     ensures { IfOk result (λ text. string_bytes text ≡ reply_text reader row reply.now) }
 {
     reply_line(alloc, reader, row, reply).map_err(|_| WantOfMemory)
@@ -36,7 +36,7 @@ pub fn reply_text(
 
 /// The same, with the allocator's own error.
 fn reply_line(alloc: Global, reader: u32, row: u64, reply: &ReplyText) -> Result<String, AllocError>
-    requires { IsPrintable reply.now }
+    requires { HasText reply.now }
     ensures { IfOk result (λ text. string_bytes text ≡ reply_text reader row reply.now) }
 {
     let mut text = String::new(alloc);
@@ -48,7 +48,7 @@ fn reply_line(alloc: Global, reader: u32, row: u64, reply: &ReplyText) -> Result
 
 /// Adds what is told.
 fn put_told(text: &mut String, reply: &ReplyText) -> Result<(), AllocError>
-    requires { IsPrintable reply.now }
+    requires { HasText reply.now }
     ensures { OnOk result (string_bytes text.new ≡ string_bytes text.old ++ told_text reply.now) }
 {
     match reply {

@@ -2,7 +2,7 @@
 ghost use Rattle.std.specs.Prelude.{◌≡◌};
 ghost use Rattle.interp_read.specs.declared.query.Reply.TheVariants.{At};
 ghost use Rattle.trend_report.specs.declared.reply_line.ReplyText.TheVariants.{Tag};
-ghost use Rattle.trend_report.specs.Lines.{IsPrintable};
+ghost use Rattle.trend_report.specs.Lines.{HasText};
 
 use super::*;
 use std::alloc::Global;
@@ -60,7 +60,7 @@ fn prints_tags(rt: HostRuntime) -> Result<(), Fail> {
 
 /// Prints a reply to the fifth query of the first reader.
 fn told(rt: &impl Abort, alloc: Global, reply: ReplyText, want: &str) -> Result<(), Fail>
-    requires { IsPrintable reply }
+    requires { HasText reply }
 {
     let text = reply_text(alloc, 1, 5, &reply)?;
     assert_eq!(rt; text.as_str(), want);
