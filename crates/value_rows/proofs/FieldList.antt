@@ -38,3 +38,6 @@ four_fields [] a b c d len first second third fourth = absurd (omega arith)
 four_fields (x ∷ fields) a b c d len first second third fourth =
     let tail = three_fields fields b c d (omega arith) second third fourth in
     cc
+
+-- the fields of a record of two, three or four
+pub ruleset known_fields = (two_fields, three_fields, four_fields)

@@ -60,8 +60,8 @@ first_left s xs p between found =
     ∙ ap (λ l. p.0 ∷ l) (enough (length xs) (length p.2 + 1) p.1 p.2 ends.between short (omega arith))
 
 -- no record is left
-nothing_left : (s : State) (xs : List ℕ) → next_record default_config s [] [] xs ≡ None → records_left s xs
-    ≡ []
+nothing_left : (s : State) (xs : List ℕ) → next_record default_config s [] [] xs ≡ None
+    → records_left s xs ≡ []
 nothing_left s xs gone = one_read (length xs) s xs
     ∙ ap (records_next (records_from default_config (length xs))) gone
 

@@ -145,8 +145,8 @@ ended_by_return a b c after first second third =
 -- ---- names and numerals stand as they are
 
 -- what each byte that passes one test passes too
-all_weaker : (p q : ℕ → Bool) → ((b : ℕ) → p b ≡ true → q b ≡ true) → (bytes : List ℕ) → list_all p bytes
-    ≡ true → list_all q bytes ≡ true
+all_weaker : (p q : ℕ → Bool) → ((b : ℕ) → p b ≡ true → q b ≡ true) → (bytes : List ℕ)
+    → list_all p bytes ≡ true → list_all q bytes ≡ true
 all_weaker p q each [] all = refl
 all_weaker p q each (b ∷ bytes) all =
     let tests = both (p b) (list_all p bytes) all in

@@ -44,9 +44,8 @@ went_on r fields left false found next = absurd (cc)
 -- the end of the text
 pub all_so_far : {R : Type 0} {P : R → Type 0} {row_of : Reads R}
     {all : List (Result R Reason)} {most count : ℕ}
-    {r : Reader (Bor (List ℕ))} {rows : List R} (here : AreSoFar P row_of all most r rows count) → here.left
-    ≡ []
-    → rows_read most all ≡ Ok rows
+    {r : Reader (Bor (List ℕ))} {rows : List R} (here : AreSoFar P row_of all most r rows count)
+    → here.left ≡ [] → rows_read most all ≡ Ok rows
 all_so_far {row_of = row_of} {all = all} {most = most} {rows = rows} here none =
     ap (rows_read most) (here.split ∙ ap (λ l. all_read rows ++ map row_of l) none
     ∙ append-nil (all_read rows))
