@@ -13,8 +13,9 @@ pub trait Files {
     /// How often a read has failed.
     ghost fault_count: { Self → ℕ };
 
-    /// Reads some bytes of a file, from place `at` on, to the front of `buf`, and returns how many. A read of none into a
-    /// buffer with room is the end of the file. A read of a file that is missing fails. The files stay as they are.
+    /// Reads some bytes of a file, from place `at` on, to the front of `buf`, and returns how many. A read
+    /// of none into a buffer with room is the end of the file. A read of a file that is missing fails. The
+    /// files stay as they are.
     fn read_at(&mut self, name: &str, at: u64, buf: &mut [u8]) -> Result<usize, Failed>
         ensures bound { IfOk result (λ n. n ≤ length buf.new) }
         ensures bytes { IfOk result (λ n. HasAt (told self.old name.now) at (take n buf.new)) }

@@ -6,8 +6,8 @@ use std::fs::File;
 use std::os::unix::fs::FileExt;
 use std::rt;
 
-/// The files of the working folder, or of another where a name is a path. Each error, also that a file is missing, is a
-/// fault.
+/// The files of the working folder, or of another where a name is a path. Each error, also that a file is
+/// missing, is a fault.
 #[derive(Drop)]
 pub struct DirFiles<R> {
     rt: R,

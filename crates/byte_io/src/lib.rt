@@ -9,8 +9,12 @@
 //! promise that no byte is lost, added or changed where they succeed, that a fault is told where
 //! one call failed and nowhere else, and how much was read or written by then.
 //!
-//! [`MemSource`] and [`MemSink`] are sources and sinks in memory, which fail at the calls that they
-//! are told to. [`StdSource`] and [`StdSink`] stand over std's readers and writers.
+//! [`Files`] are read by name, and a read leaves them as they are. Of a file is told nothing, that there
+//! is none of its name, or its bytes. [`read_file`] promises of a file what `read_all` does of a source.
+//!
+//! [`MemSource`], [`MemSink`] and [`MemFiles`] are sources, sinks and files in memory, which fail at the
+//! calls that they are told to. [`StdSource`] and [`StdSink`] stand over std's readers and writers, and
+//! [`DirFiles`] over the files of the working folder.
 #![tactic(auto)]
 
 mod failure;

@@ -7,8 +7,9 @@ use crate::memory::Calls;
 use crate::{Failed, Files};
 use std::marker::Model;
 
-/// Files in memory. A clause sees them as the names and bytes of the files, of which the first of a name counts, the numbers
-/// of the calls that are to fail, counted from 0, and how many calls and faults there were.
+/// Files in memory. A clause sees them as the names and bytes of the files, of which the first of a name
+/// counts, the numbers of the calls that are to fail, counted from 0, and how many calls and faults there
+/// were.
 #[derive(Debug, Drop)]
 pub struct MemFiles {
     files: Vec<(String, Vec<u8>)>,
@@ -70,7 +71,8 @@ fn find<'f>(files: &'f [(String, Vec<u8>)], name: &str) -> Option<&'f [u8]>
     None
 }
 
-// Copies what stands at a place and after it to the front of a buffer, as far as both go, and says how many bytes.
+// Copies what stands at a place and after it to the front of a buffer, as far as both go, and says how many
+// bytes.
 fn copy_from(bytes: &[u8], at: u64, buf: &mut [u8]) -> usize
     ensures count { result ≡ min (length (drop at bytes.now)) (length buf.old) }
     ensures copied { buf.new ≡ take result (drop at bytes.now) ++ drop result buf.old }

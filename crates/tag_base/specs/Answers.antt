@@ -1,7 +1,8 @@
 -- What a text of a plant is answered: steps one after another, of which the first that fails decides.
-use Rattle.std.specs.Prelude.{◌≡◌, ◌≢◌, ℕ, ◌-◌, ◌^◌, min, Bool, true, false, Option, None, Some, Result, Ok, Err}
+use Rattle.std.specs.Prelude.{◌≡◌, ◌≢◌, ℕ, ◌-◌, ◌^◌, min, nat_le, Bool, true, false, Option, None, Some, Result, Ok, Err}
 use Rattle.tag_base.specs.declared.refusal.TextNo.{TextNo}
-use Rattle.tag_base.specs.declared.refusal.TextNo.TheVariants.{BadText, WantOfMemory}
+use Rattle.tag_base.specs.declared.refusal.TextNo.TheVariants.{BadText, Limit, WantOfMemory}
+use Rattle.trend_num.specs.declared.refusal.What.{What}
 
 -- the table at a place breaks a rule. The place stays at the end of its type
 abbrev pub broken : ℕ → ℕ → TextNo
@@ -11,6 +12,10 @@ broken rule place = BadText rule (min place (2 ^ 32 - 1)) 0
 abbrev pub when : {A : Type 0} → Bool → TextNo → Result A TextNo → Result A TextNo
 when false why answer = Err why
 when true why answer = answer
+
+-- on where a count is not above its limit
+abbrev pub limited : {A : Type 0} → What → ℕ → ℕ → Result A TextNo → Result A TextNo
+limited what most count answer = when (nat_le count most) (Limit what count) answer
 
 -- on with a value, where there is one
 abbrev pub given : {A B : Type 0} → Option A → TextNo → (A → Result B TextNo) → Result B TextNo

@@ -1,5 +1,5 @@
 -- What the bytes of a base say.
-use Rattle.std.specs.Prelude.{◌≡◌, ℕ, cond, List, [], ◌∷◌, length, map, nat_le, codes, Option, None, Some, option_and_then, option_map, Result, Ok, Err}
+use Rattle.std.specs.Prelude.{◌≡◌, ℕ, cond, List, [], ◌∷◌, length, map, codes, Option, None, Some, option_and_then, option_map, Result, Ok, Err}
 use Rattle.toml.specs.Data.{Members}
 use Rattle.toml.specs.View.{table_view}
 use Rattle.trend_num.specs.declared.refusal.What.TheVariants.{Tags, Groups}
@@ -8,8 +8,7 @@ use Rattle.tag_base.specs.declared.definition.GroupDef.{GroupDef}
 use Rattle.tag_base.specs.declared.base.BaseTables.{BaseTables}
 use Rattle.tag_base.specs.declared.definition.Base.{Base}
 use Rattle.tag_base.specs.declared.refusal.TextNo.{TextNo}
-use Rattle.tag_base.specs.declared.refusal.TextNo.TheVariants.{Limit}
-use Rattle.tag_base.specs.Answers.{broken, when, given, Follows}
+use Rattle.tag_base.specs.Answers.{broken, limited, given, Follows}
 use Rattle.tag_base.specs.Tables.{document, has_keys, tables_at, tables_if_there}
 use Rattle.tag_base.specs.Tags.{tags_after}
 use Rattle.tag_base.specs.Groups.{GroupsRead}
@@ -52,8 +51,8 @@ abbrev pub base_tables : Option Members → Result BaseForm TextNo
 base_tables found =
     given found (broken 1 0) (λ ms.
     given (base_arrays ms) (broken 2 0) (λ tables.
-    when (nat_le (length tables.tags) most_tags) (Limit Tags (length tables.tags))
-    (when (nat_le (length tables.groups) most_groups) (Limit Groups (length tables.groups))
+    limited Tags most_tags (length tables.tags)
+    (limited Groups most_groups (length tables.groups)
     (Ok tables))))
 
 -- a base of these tags and groups

@@ -14,8 +14,8 @@ use Rattle.tag_base.specs.declared.definition.GroupDef.{GroupDef}
 use Rattle.tag_base.specs.declared.group.GroupText.{GroupText}
 use Rattle.tag_base.specs.declared.input.Input.{Input}
 use Rattle.tag_base.specs.declared.refusal.TextNo.{TextNo}
-use Rattle.tag_base.specs.declared.refusal.TextNo.TheVariants.{BadText, Limit, WantOfMemory}
-use Rattle.tag_base.specs.Answers.{broken, when, given, Follows}
+use Rattle.tag_base.specs.declared.refusal.TextNo.TheVariants.{BadText, WantOfMemory}
+use Rattle.tag_base.specs.Answers.{broken, when, limited, given, Follows}
 use Rattle.tag_base.specs.Tables.{has_keys, name_at, number_at, string_at, array_at, tables_at}
 use Rattle.tag_base.specs.Tags.{tag_place}
 
@@ -139,7 +139,7 @@ group_text tags earlier ms =
     given (number_at (codes "start") 0 last_time ms) (broken 9 (length earlier)) (λ start.
     given (number_at (codes "period") 1 longest_period ms) (broken 9 (length earlier)) (λ period.
     given (calcs_at ms) (broken 10 (length earlier)) (λ calcs.
-    when (nat_le (length calcs) most_calcs) (Limit Calcs (length calcs))
+    limited Calcs most_calcs (length calcs)
     (Ok (record { name = name; inputs = inputs; start = start; period = period; calcs = calcs }))))))))
 
 -- what holds of every such text over so many tags

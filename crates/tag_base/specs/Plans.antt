@@ -9,8 +9,7 @@ use Rattle.tag_base.specs.declared.plan.PlanTables.{PlanTables}
 use Rattle.tag_base.specs.declared.schedule.Refresher.{Refresher}
 use Rattle.tag_base.specs.declared.schedule.Plan.{Plan}
 use Rattle.tag_base.specs.declared.refusal.TextNo.{TextNo}
-use Rattle.tag_base.specs.declared.refusal.TextNo.TheVariants.{Limit}
-use Rattle.tag_base.specs.Answers.{broken, when, given, after}
+use Rattle.tag_base.specs.Answers.{broken, limited, given, after}
 use Rattle.tag_base.specs.Tables.{document, has_keys, string_at, number_at, tables_if_there}
 use Rattle.tag_base.specs.Groups.{group_place}
 
@@ -105,8 +104,8 @@ abbrev pub plan_tables : Option Members → Result PlanForm TextNo
 plan_tables found =
     given found (broken 1 0) (λ ms.
     given (plan_arrays ms) (broken 2 0) (λ tables.
-    when (nat_le (length tables.collectors) most_files) (Limit Collectors (length tables.collectors))
-    (when (nat_le (length tables.readers) most_files) (Limit Readers (length tables.readers))
+    limited Collectors most_files (length tables.collectors)
+    (limited Readers most_files (length tables.readers)
     (Ok tables))))
 
 -- the plan of bytes over the groups of a base: rule 3 is that of a collector, 4 that of a reader, 5 that of

@@ -10,7 +10,7 @@ use crate::access::{has_keys, tables_at, tables_if_there};
 use crate::definition::Base;
 use crate::document::document;
 use crate::group::groups_of;
-use crate::refusal::{TextNo, broken};
+use crate::refusal::{TextNo, broken, limited};
 use crate::tag::tags_of;
 use std::alloc::Global;
 use toml::Table;
@@ -61,18 +61,8 @@ fn base_tables<'t>(alloc: Global, document: &'t Option<Table>) -> Result<BaseTab
     let Some(tables) = base_arrays(alloc, table)? else {
         return Err(broken(2, 0));
     };
-    if tables.tags.len() > MAX_TAGS {
-        return Err(TextNo::Limit {
-            what: What::Tags,
-            number: tables.tags.len() as u64,
-        });
-    }
-    if tables.groups.len() > MAX_GROUPS {
-        return Err(TextNo::Limit {
-            what: What::Groups,
-            number: tables.groups.len() as u64,
-        });
-    }
+    limited(What::Tags, MAX_TAGS, tables.tags.len())?;
+    limited(What::Groups, MAX_GROUPS, tables.groups.len())?;
     Ok(tables)
 }
 

@@ -8,7 +8,7 @@ use crate::access::{has_keys, name_at, number_at};
 use crate::calculation::{CalcText, calcs_at, checked};
 use crate::definition::GroupDef;
 use crate::input::{Input, inputs_at};
-use crate::refusal::{TextNo, broken};
+use crate::refusal::{TextNo, broken, limited};
 use std::alloc::Global;
 use toml::Table;
 use trend_num::{MAX_T, Name, TagDef, WantOfMemory, What};
@@ -78,12 +78,7 @@ fn group_text(
     let Some(calcs) = calcs_at(alloc, table)? else {
         return Err(broken(10, earlier.len()));
     };
-    if calcs.len() > MAX_CALCS {
-        return Err(TextNo::Limit {
-            what: What::Calcs,
-            number: calcs.len() as u64,
-        });
-    }
+    limited(What::Calcs, MAX_CALCS, calcs.len())?;
     Ok(GroupText {
         name,
         inputs,

@@ -9,7 +9,7 @@ use crate::definition::{Base, GroupDef};
 use crate::document::document;
 use crate::file_name::FileName;
 use crate::group::group_place;
-use crate::refusal::{TextNo, broken};
+use crate::refusal::{TextNo, broken, limited};
 use crate::schedule::{Plan, Refresher};
 use std::alloc::Global;
 use toml::Table;
@@ -65,18 +65,8 @@ fn plan_tables<'t>(alloc: Global, document: &'t Option<Table>) -> Result<PlanTab
     let Some(tables) = plan_arrays(alloc, table)? else {
         return Err(broken(2, 0));
     };
-    if tables.collectors.len() > MAX_FILES {
-        return Err(TextNo::Limit {
-            what: What::Collectors,
-            number: tables.collectors.len() as u64,
-        });
-    }
-    if tables.readers.len() > MAX_FILES {
-        return Err(TextNo::Limit {
-            what: What::Readers,
-            number: tables.readers.len() as u64,
-        });
-    }
+    limited(What::Collectors, MAX_FILES, tables.collectors.len())?;
+    limited(What::Readers, MAX_FILES, tables.readers.len())?;
     Ok(tables)
 }
 

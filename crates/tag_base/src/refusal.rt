@@ -1,6 +1,6 @@
 // Why a base or a plan is refused.
-ghost use Rattle.std.specs.Prelude.{◌≡◌};
-ghost use Rattle.tag_base.specs.Answers.{broken};
+ghost use Rattle.std.specs.Prelude.{◌≡◌, ◌≤◌, Ok, OnOk};
+ghost use Rattle.tag_base.specs.Answers.{broken, limited};
 
 use thiserror::Error;
 use trend_num::{WantOfMemory, What};
@@ -30,6 +30,20 @@ impl From<WantOfMemory> for TextNo {
     fn from(_: WantOfMemory) -> TextNo {
         TextNo::WantOfMemory
     }
+}
+
+/// Refuses a count that is above its limit.
+pub(crate) fn limited(what: What, most: usize, count: usize) -> Result<(), TextNo>
+    ensures answer { result ≡ limited what most count (Ok tt) }
+    ensures within { OnOk result (count ≤ most) }
+{
+    if count > most {
+        return Err(TextNo::Limit {
+            what,
+            number: count as u64,
+        });
+    }
+    Ok(())
 }
 
 /// The refusal of the table at a place, which breaks a rule.
