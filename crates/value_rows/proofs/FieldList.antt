@@ -10,8 +10,7 @@ field_there (f ∷ fields) zero gone below = absurd (cc)
 field_there (f ∷ fields) (suc i) gone below = field_there fields i gone (omega arith)
 
 -- the fields of a record of two
-pub two_fields : (fields : List (List ℕ)) (a b : List ℕ) → length fields ≡ 2 → Some a ≡ field_at fields 0
-    → Some b ≡ field_at fields 1
+pub two_fields : (fields : List (List ℕ)) (a b : List ℕ) → length fields ≡ 2 → Some a ≡ field_at fields 0 → Some b ≡ field_at fields 1
     → fields ≡ a ∷ b ∷ []
 unfolding field_at
 two_fields [] a b len first second = absurd (omega arith)
@@ -20,8 +19,7 @@ two_fields (x ∷ y ∷ []) a b len first second = cc
 two_fields (x ∷ y ∷ z ∷ fields) a b len first second = absurd (omega arith)
 
 -- of a record of three
-pub three_fields : (fields : List (List ℕ)) (a b c : List ℕ) → length fields ≡ 3 → Some a ≡ field_at fields 0
-    → Some b ≡ field_at fields 1
+pub three_fields : (fields : List (List ℕ)) (a b c : List ℕ) → length fields ≡ 3 → Some a ≡ field_at fields 0 → Some b ≡ field_at fields 1
     → Some c ≡ field_at fields 2 → fields ≡ a ∷ b ∷ c ∷ []
 unfolding field_at
 three_fields [] a b c len first second third = absurd (omega arith)
@@ -31,13 +29,9 @@ three_fields (x ∷ fields) a b c len first second third =
 
 -- of a record of four
 pub four_fields : (fields : List (List ℕ)) (a b c d : List ℕ) → length fields ≡ 4 → Some a ≡ field_at fields 0
-    → Some b ≡ field_at fields 1 → Some c ≡ field_at fields 2 → Some d ≡ field_at fields 3 → fields
-    ≡ a ∷ b ∷ c ∷ d ∷ []
+    → Some b ≡ field_at fields 1 → Some c ≡ field_at fields 2 → Some d ≡ field_at fields 3 → fields ≡ a ∷ b ∷ c ∷ d ∷ []
 unfolding field_at
 four_fields [] a b c d len first second third fourth = absurd (omega arith)
 four_fields (x ∷ fields) a b c d len first second third fourth =
     let tail = three_fields fields b c d (omega arith) second third fourth in
     cc
-
--- the fields of a record of two, three or four
-pub ruleset known_fields = (two_fields, three_fields, four_fields)

@@ -25,10 +25,10 @@ use Rattle.value_rows.specs.Reading.{rows_of_text}
 -- the words of the verbs
 abbrev pub verb_words : List (List ℕ × VerbOfRow)
 verb_words =
-    (codes "at", verb.At) ∷ (codes "points", verb.Points) ∷ (codes "snap", verb.Snap)
-    ∷ (codes "row", verb.Row) ∷ (codes "area", verb.Window Area) ∷ (codes "avg", verb.Window Avg)
-    ∷ (codes "total", verb.Window Total) ∷ (codes "low", verb.Window Low) ∷ (codes "high", verb.Window High)
-    ∷ (codes "count", verb.Window Count) ∷ (codes "first", verb.Window First) ∷ (codes "last", verb.Window Last) ∷ []
+    (codes "at", verb.At) ∷ (codes "points", verb.Points) ∷ (codes "snap", verb.Snap) ∷ (codes "row", verb.Row)
+    ∷ (codes "area", verb.Window Area) ∷ (codes "avg", verb.Window Avg) ∷ (codes "total", verb.Window Total)
+    ∷ (codes "low", verb.Window Low) ∷ (codes "high", verb.Window High) ∷ (codes "count", verb.Window Count)
+    ∷ (codes "first", verb.Window First) ∷ (codes "last", verb.Window Last) ∷ []
 
 -- the verb of a word
 abbrev pub verb_of : List ℕ → Option VerbOfRow
@@ -112,8 +112,7 @@ two_fields tags None a b = Err Verb
 two_fields tags (Some verb.At) a b = at_row tags a b
 two_fields tags (Some other) a b = Err Fields
 
-abbrev pub three_fields : List (List ℕ) → List GroupNames → Option VerbOfRow → List ℕ → List ℕ → List ℕ
-    → Result Query Reason
+abbrev pub three_fields : List (List ℕ) → List GroupNames → Option VerbOfRow → List ℕ → List ℕ → List ℕ → Result Query Reason
 three_fields tags groups None a b c = Err Verb
 three_fields tags groups (Some verb.Points) a b c = points_row tags a b c
 three_fields tags groups (Some (verb.Window m)) a b c = window_row tags m a b c
@@ -137,8 +136,7 @@ IsTagQuery (Window m start end) = (start < end) × (end ≤ last_time)
 abbrev pub IsQuery : List (List ℕ) → List GroupNames → Query → Type 0
 IsQuery tags groups (Tag tag query) = (tag < length tags) × IsTagQuery query
 IsQuery tags groups (Snap tag) = tag < length tags
-IsQuery tags groups (Row group calc k) = (group < length groups) × (calc < length (calcs_at groups group))
-    × (k ≤ last_window)
+IsQuery tags groups (Row group calc k) = (group < length groups) × (calc < length (calcs_at groups group)) × (k ≤ last_window)
 
 -- the queries of a text, of at most `most` records
 abbrev pub query_rows : List (List ℕ) → List GroupNames → ℕ → List ℕ → Result (List Query) RowNo

@@ -10,14 +10,13 @@ use Rattle.point_text.specs.declared.failure.RowNo.TheVariants.{BadRow, TooMany,
 abbrev pub records_of : List ℕ → List (List (List ℕ))
 records_of bytes = records default_config (strip_bom bytes)
 
--- the rows of records that read so: refused is the first bad one of the first `most`, with its place and its
--- first reason; else that there are more records
+-- the rows of records that read so: refused is the first bad one of the first `most`, with its place and its first reason; else
+-- that there are more records
 abbrev pub rows_read : {R : Type 0} → ℕ → List (Result R Reason) → Result (List R) RowNo
 rows_read most reads = unless_more most (length reads) (all_rows (take most reads))
 
 -- the rows of a text whose records each read so
-abbrev pub rows_of_text : {R : Type 0} → (List (List ℕ) → Result R Reason) → ℕ → List ℕ
-    → Result (List R) RowNo
+abbrev pub rows_of_text : {R : Type 0} → (List (List ℕ) → Result R Reason) → ℕ → List ℕ → Result (List R) RowNo
 rows_of_text row_of most bytes = rows_read most (map row_of (records_of bytes))
 
 -- the rows are refused for this; want of memory alone may come whatever they are

@@ -38,10 +38,9 @@ pub struct GroupNames {
     pub calcs: Vec<Name>,
 }
 
-/// The queries of a text, of at most `most` records. A record is `at,TAG,T`, `points,TAG,FROM,TO`, a measure
-/// in place of `points`, `snap,TAG` or `row,GROUP,CALC,K`. Times are milliseconds from 1970; FROM is at most
-/// TO, and below it for a measure. K is the number of a window, from 0 to 10^12. A name stands for the first
-/// tag, group or calculation that has it.
+/// The queries of a text, of at most `most` records. A record is `at,TAG,T`, `points,TAG,FROM,TO`, a measure in place of
+/// `points`, `snap,TAG` or `row,GROUP,CALC,K`. Times are milliseconds from 1970; FROM is at most TO, and below it for a measure.
+/// K is the number of a window, from 0 to 10^12. A name stands for the first tag, group or calculation that has it.
 pub fn query_rows(
     alloc: Global,
     bytes: &[u8],
@@ -77,10 +76,6 @@ impl<'n> Form for QueryForm<'n> {
     ghost row_of = { λ form. query_row form.tags form.groups.now };
 
     ghost is_row = { λ form. IsQuery form.tags form.groups.now };
-
-    fn plain<'t>(&self, _text: &'t [u8]) -> Option<(Query, &'t [u8])> {
-        None
-    }
 
     fn read(&self, row: &ByteRecord) -> Result<Query, Reason> {
         match fields_in(row) {

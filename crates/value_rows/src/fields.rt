@@ -15,7 +15,7 @@ pub(crate) enum Fields<'r> {
 }
 
 /// The fields of a record.
-#[tactic(auto, using(crate::proofs::FieldList::known_fields))]
+#[tactic(auto, using(crate::proofs::FieldList::two_fields, crate::proofs::FieldList::three_fields, crate::proofs::FieldList::four_fields))]
 pub(crate) fn fields_in(row: &ByteRecord) -> Fields<'_>
     ensures { AreFields result (fields_of row.now) }
 {

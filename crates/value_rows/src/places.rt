@@ -1,29 +1,39 @@
 // Names, looked up in a map.
-ghost use Rattle.std.specs.Prelude.{◌≡◌, ◌<◌, ◌^◌, length, IfOk, IfSome, OnSome, Some, slice_get};
+ghost use Rattle.std.specs.Prelude.{◌≡◌, ◌<◌, ◌^◌, All, length, replicate, IfOk, IfSome};
+ghost use Rattle.std.specs.BTreeMap.{BTreeMap};
 ghost use Rattle.trend_num.specs.Names.{IsName};
 ghost use Rattle.value_rows.specs.Raw.{place_of};
+ghost use Rattle.value_rows.specs.Standing.{ArePlaces, IsHint};
 
 use std::alloc::Global;
 use std::collections::BTreeMap;
 use std::marker::Model;
 use trend_num::{Name, WantOfMemory};
 
-/// Names, with a map from each to its place among them. It is seen as the names in order.
+/// How many names are remembered, each in a slot of its own.
+const SLOTS: usize = 4096;
+
+/// A slot without a name: there are not so many.
+const NOBODY: u32 = u32::MAX;
+
+/// Names, with a map from each to its place among them, and a table of slots where most of them are found at once. It is
+/// seen as the names in order.
 #[derive(Drop)]
 pub(crate) struct Places<'n> {
     names: &'n [Name],
     map: BTreeMap<&'n [u8], u32>,
+    hints: Vec<u32>,
 }
 
 impl<'n> Model for Places<'n> {
     ghost use Rattle.std.specs.Prelude.{ℕ, List};
-    ghost use Rattle.value_rows.specs.Standing.{ArePlaces};
+    ghost use Rattle.value_rows.specs.Standing.{HasPlaces};
 
     ghost Value = { List (List ℕ) };
 
     ghost view = { λ p. p.names.now };
 
-    ghost invariant = { λ p. ArePlaces p.map p.names.now };
+    ghost invariant = { λ p. HasPlaces p.map p.hints.items p.names.now };
 }
 
 impl<'n> Places<'n> {
@@ -32,41 +42,89 @@ impl<'n> Places<'n> {
         requires few { length names.now < 2 ^ 32 }
         ensures names { IfOk result (λ places. places ≡ names.now) }
     {
-        let mut map: BTreeMap<&'n [u8], u32> = BTreeMap::new(alloc);
-        for i in 0..names.len() {
-            let name = names[i].bytes();
-            if !map.contains_key(name) {
-                map.insert(name, i as u32).map_err(|_| WantOfMemory)?;
-            }
-        }
-        Ok(Places { names, map })
+        let map = map_of(alloc, names)?;
+        let hints = hints_of(alloc, names, &map)?;
+        Ok(Places { names, map, hints })
     }
 
     /// The place of the first one of this name.
+    #[inline(always)]
     pub(crate) fn place(&self, name: &[u8]) -> Option<u32>
         ensures place { result ≡ place_of self.now name.now }
         ensures within { IfSome result (λ i. i < length self.now) }
+        ensures name { IfSome result (λ _. IsName name.now) }
+    {
+        let hint = self.hints[slot_of(name)];
+        if let Some(known) = self.names.get(hint as usize)
+            && known.bytes() == name
+        {
+            return Some(hint);
+        }
+        self.place_in_map(name)
+    }
+
+    /// The same, of a name that has no slot.
+    #[cold]
+    fn place_in_map(&self, name: &[u8]) -> Option<u32>
+        ensures place { result ≡ place_of self.now name.now }
+        ensures within { IfSome result (λ i. i < length self.now) }
+        ensures name { IfSome result (λ _. IsName name.now) }
     {
         self.map.get(name).copied()
     }
+}
 
-    /// The same, where the name is known to be one.
-    pub(crate) fn known(&self, name: &[u8]) -> Option<u32>
-        ensures place { result ≡ place_of self.now name.now }
-        ensures within { IfSome result (λ i. i < length self.now) }
-        ensures name { OnSome result (IsName name.now) }
-    {
-        let place = self.place(name)?;
-        let _name = self.name(place);
-        Some(place)
+/// The place of each name.
+fn map_of<'n>(alloc: Global, names: &'n [Name]) -> Result<BTreeMap<&'n [u8], u32>, WantOfMemory>
+    requires few { length names.now < 2 ^ 32 }
+    ensures places { IfOk result (λ map. ArePlaces map names.now) }
+    ensures named { IfOk result (λ _. All IsName names.now) }
+{
+    let mut map: BTreeMap<&'n [u8], u32> = BTreeMap::new(alloc);
+    for i in 0..names.len() {
+        let name = names[i].bytes();
+        if !map.contains_key(name) {
+            map.insert(name, i as u32).map_err(|_| WantOfMemory)?;
+        }
     }
+    Ok(map)
+}
 
-    /// The bytes of the name at a place.
-    fn name(&self, place: u32) -> &[u8]
-        requires { place < length self.now }
-        ensures same { slice_get self.now place ≡ Some result.now }
-        ensures name { IsName result.now }
-    {
-        self.names[place as usize].bytes()
+/// The place of a name in each slot, of the last one where several have the same slot.
+fn hints_of<'n>(
+    alloc: Global,
+    names: &'n [Name],
+    map: &BTreeMap<&'n [u8], u32>,
+) -> Result<Vec<u32>, WantOfMemory>
+    requires few { length names.now < 2 ^ 32 }
+    requires places { ArePlaces map.now names.now }
+    ensures slots { IfOk result (λ hints. length hints.items ≡ SLOTS) }
+    ensures hints { IfOk result (λ hints. All (IsHint names.now) hints.items) }
+{
+    let mut hints = empty_slots(alloc)?;
+    for name in names {
+        if let Some(place) = map.get(name.bytes()) {
+            hints[slot_of(name.bytes())] = *place;
+        }
     }
+    Ok(hints)
+}
+
+/// Slots without a name.
+fn empty_slots(alloc: Global) -> Result<Vec<u32>, WantOfMemory>
+    ensures { IfOk result (λ hints. hints.items ≡ replicate SLOTS NOBODY) }
+{
+    Vec::from_elem(alloc, NOBODY, SLOTS).map_err(|_| WantOfMemory)
+}
+
+/// The slot of a name.
+#[inline(always)]
+fn slot_of(name: &[u8]) -> usize
+    ensures { result < SLOTS }
+{
+    let mut mixed = 0u32;
+    for byte in name {
+        mixed = mixed.wrapping_mul(31).wrapping_add(u32::from(*byte));
+    }
+    (mixed.wrapping_mul(0x9E37_79B1) >> 20) as usize
 }

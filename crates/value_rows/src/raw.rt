@@ -1,19 +1,19 @@
 // The rows of a collector.
-ghost use Rattle.std.specs.Prelude.{◌≡◌, ◌∷◌, ◌++◌, ◌<◌, ◌^◌, All, length, Ok, IfOk, IfErr, IfSome};
+ghost use Rattle.std.specs.Prelude.{◌≡◌, ◌<◌, ◌^◌, All, length, Ok, IfOk, IfErr};
 ghost use Rattle.csv.specs.Records.{fields_of};
 ghost use Rattle.trend_num.specs.Numerals.{numeral};
 ghost use Rattle.trend_num.specs.Ranges.{InRange};
 ghost use Rattle.point_text.specs.Row.{point_read};
-ghost use Rattle.value_rows.specs.Plain.{may_begin_with_mark};
 ghost use Rattle.value_rows.specs.Raw.{IsRawRow, raw_row, raw_rows};
 ghost use Rattle.value_rows.specs.Reading.{AreRefusedFor};
 
 use crate::fields::{Fields, fields_in};
 use crate::numbers::time_of;
 use crate::places::Places;
-use crate::reading::{Form, rows_of_text};
+use crate::plain::front_rows;
+use crate::reading::{Form, rows_behind};
 use csv::ByteRecord;
-use point_text::{RowNo, first_point};
+use point_text::RowNo;
 use std::alloc::Global;
 use trend_num::{MAX_V, Name, Point, Reason, numeral};
 
@@ -24,8 +24,8 @@ pub struct RawRow {
     pub point: Point,
 }
 
-/// The raw values of a text of records `TAG,T,V`, of at most `most`. T is in milliseconds from 1970, V in
-/// value units. A tag is the first one of its name.
+/// The raw values of a text of records `TAG,T,V`, of at most `most`. T is in milliseconds from 1970, V in value units. A tag is
+/// the first one of its name.
 pub fn raw_rows(alloc: Global, bytes: &[u8], tags: &[Name], most: u64) -> Result<Vec<RawRow>, RowNo>
     requires { length tags.now < 2 ^ 32 }
     ensures rows { IfOk result (λ rows. raw_rows tags.now most bytes.now ≡ Ok rows.items) }
@@ -33,7 +33,7 @@ pub fn raw_rows(alloc: Global, bytes: &[u8], tags: &[Name], most: u64) -> Result
     ensures refused { IfErr result (AreRefusedFor (raw_rows tags.now most bytes.now)) }
 {
     match Places::new(alloc, tags) {
-        Ok(tags) => rows_of_text(alloc, &RawForm { tags }, bytes, most),
+        Ok(tags) => rows_of_form(alloc, &RawForm { tags }, bytes, most),
         Err(_) => Err(RowNo::WantOfMemory),
     }
 }
@@ -51,17 +51,6 @@ impl<'n> Form for RawForm<'n> {
 
     ghost is_row = { λ form. IsRawRow form.tags };
 
-    fn plain<'t>(&self, text: &'t [u8]) -> Option<(RawRow, &'t [u8])> {
-        let (name, line) = split_name(text)?;
-        let tag = self.tags.known(name)?;
-        match first_point(line) {
-            Some((Ok(point), after)) if !may_begin_with_mark(after) => {
-                Some((RawRow { tag, point }, after))
-            }
-            _ => None,
-        }
-    }
-
     fn read(&self, row: &ByteRecord) -> Result<RawRow, Reason> {
         match fields_in(row) {
             Fields::Three(tag, t, v) => {
@@ -74,22 +63,19 @@ impl<'n> Form for RawForm<'n> {
     }
 }
 
-/// What stands before the first comma of a text, and after it.
-fn split_name(text: &[u8]) -> Option<(&[u8], &[u8])>
-    ensures cut { IfSome result (λ p. text.now ≡ p.0.now ++ 44 ∷ p.1.now) }
+/// The raw values of a text: first of the plain rows that it begins with, and then of the records behind them.
+fn rows_of_form(
+    alloc: Global,
+    form: &RawForm<'_>,
+    bytes: &[u8],
+    most: u64,
+) -> Result<Vec<RawRow>, RowNo>
+    ensures rows { IfOk result (λ rows. raw_rows form.now.tags most bytes.now ≡ Ok rows.items) }
+    ensures in_range { IfOk result (λ rows. All (IsRawRow form.now.tags) rows.items) }
+    ensures refused { IfErr result (AreRefusedFor (raw_rows form.now.tags most bytes.now)) }
 {
-    let comma = text.iter().position(|b| *b == b',')?;
-    Some((&text[..comma], &text[comma + 1..]))
-}
-
-/// Whether a text begins with the first byte of a byte order mark.
-fn may_begin_with_mark(text: &[u8]) -> bool
-    ensures { result ≡ may_begin_with_mark text.now }
-{
-    match text {
-        [first, ..] => *first == 0xEF,
-        [] => false,
-    }
+    let (front, rest) = front_rows(alloc, &form.tags, bytes, most)?;
+    rows_behind(alloc, form, front, rest, most)
 }
 
 /// The point of a time and a value.

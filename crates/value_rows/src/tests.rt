@@ -40,7 +40,7 @@ fn raw(tag: u32, t: u64, v: i64) -> RawRow {
 #[test]
 fn reads_raw_rows(rt: HostRuntime) -> Result<(), Fail> {
     let first = raw(0, 0, 5);
-    let table: [(&[u8], &[RawRow]); 12] = [
+    let table: [(&[u8], &[RawRow]); 10] = [
         (b"", &[]),
         (b"\n\r\n", &[]),
         (b"T1,0,5", &[first]),
@@ -63,14 +63,6 @@ fn reads_raw_rows(rt: HostRuntime) -> Result<(), Fail> {
             b"T1,3,1\na.b,1,2\nT1,2,3\n",
             &[raw(0, 3, 1), raw(1, 1, 2), raw(0, 2, 3)],
         ),
-        (
-            b"T1,0,5\n\"a.b\",1,2\nT1,2,3",
-            &[first, raw(1, 1, 2), raw(0, 2, 3)],
-        ),
-        (
-            b"T1,0,5\r\n\r\nT1,1,2\rT1,2,3\r",
-            &[first, raw(0, 1, 2), raw(0, 2, 3)],
-        ),
     ];
     for (text, want) in table {
         match raw_of(&rt, rt.alloc(), text, 3)? {
@@ -83,13 +75,11 @@ fn reads_raw_rows(rt: HostRuntime) -> Result<(), Fail> {
 
 #[test]
 fn tells_the_first_bad_raw_row(rt: HostRuntime) -> Result<(), Fail> {
-    let table: [(&[u8], u64, Reason); 24] = [
+    let table: [(&[u8], u64, Reason); 22] = [
         (b"T1,5", 1, Reason::Fields),
         (b"T1,0,5,\n", 1, Reason::Fields),
         (b" \n", 1, Reason::Fields),
         (b"T1,0,5\n\n\nT1,5\n", 2, Reason::Fields),
-        (b"T1,0,5\nT1,0,5\r\r\n,\n", 3, Reason::Fields),
-        (b"T1,0,5\n\xef\xbb\xbfT1,0,5\n", 2, Reason::Name),
         (b"T2,0,5", 1, Reason::Name),
         (b"t1,0,5", 1, Reason::Name),
         (b" T1,0,5", 1, Reason::Name),
@@ -142,6 +132,79 @@ fn a_row_too_many_is_told_before_its_reason(rt: HostRuntime) -> Result<(), Fail>
             want,
             "{text:?}"
         );
+    }
+    Ok(())
+}
+
+/// Rows enough to follow one that is read in one pass.
+const TAIL: &str = "a.b,1700000000986,5005\nT1,1700000001518,-4998\n";
+
+#[test]
+fn reads_plain_rows_and_what_comes_between_them(rt: HostRuntime) -> Result<(), Fail> {
+    let first = raw(0, 0, 5);
+    let last = [
+        raw(1, 1_700_000_000_986, 5005),
+        raw(0, 1_700_000_001_518, -4998),
+    ];
+    let table: [(&str, &[RawRow]); 9] = [
+        ("", &[]),
+        ("T1,0,5\n", &[first]),
+        ("\u{feff}T1,0,5\n", &[first]),
+        ("T1,0,5\r\na.b,1,-7\r\n", &[first, raw(1, 1, -7)]),
+        ("T1,0,5\n\r\n\na.b,1,6\n", &[first, raw(1, 1, 6)]),
+        ("T1,0,5\ra.b,1,6\n", &[first, raw(1, 1, 6)]),
+        (
+            "T1,0,5\nT1,00000000000000000007,-0\n",
+            &[first, raw(0, 7, 0)],
+        ),
+        (
+            "T1,0,5\n\"a.b\",\"1\",6\nT1,2,7\n",
+            &[first, raw(1, 1, 6), raw(0, 2, 7)],
+        ),
+        (
+            "T1,253402300799999,-1000000000000000\n",
+            &[raw(0, 253_402_300_799_999, -1_000_000_000_000_000)],
+        ),
+    ];
+    for (begin, want) in table {
+        let text = format!(in rt.alloc(); "{begin}{TAIL}")?;
+        match raw_of(&rt, rt.alloc(), text.as_bytes(), 5)? {
+            Ok(rows) => {
+                assert_eq!(rt; rows.len(), want.len() + 2, "{begin:?}");
+                assert_eq!(rt; &rows[..want.len()], want, "{begin:?}");
+                assert_eq!(rt; &rows[want.len()..], last.as_slice(), "{begin:?}");
+            }
+            Err(why) => assert!(rt; false, "{begin:?} is refused: {why:?}"),
+        }
+    }
+    Ok(())
+}
+
+#[test]
+fn rows_are_counted_across_plain_ones(rt: HostRuntime) -> Result<(), Fail> {
+    let bad = |row, reason| Some(RowNo::BadRow { row, reason });
+    let many = |rows| Some(RowNo::TooMany { rows });
+    let table = [
+        ("T1,0,5\nT1,1,x\n", 9, bad(2, Reason::Number)),
+        ("T1,0,5\nT2,1,6\n", 9, bad(2, Reason::Name)),
+        ("T1,0,5\n\u{feff}T1,1,6\n", 9, bad(2, Reason::Name)),
+        ("T1,0,5\n\u{feff}\"T1\",1,6\n", 9, bad(2, Reason::Name)),
+        (
+            "T1,0,5\na.b,1,6\nT1,1,1000000000000001\n",
+            9,
+            bad(3, Reason::Range),
+        ),
+        ("T1,0,5\na.b,1,6\n\n\nT1,1\n", 9, bad(3, Reason::Fields)),
+        ("T1,0,5\na.b,1,6\n", 4, None),
+        ("T1,0,5\na.b,1,6\n", 3, many(4)),
+        ("T1,0,5\na.b,1,6\n", 2, many(3)),
+        ("T1,0,5\na.b,1,6\n", 1, many(2)),
+        ("T1,0,5\na.b,1,6\n", 0, many(1)),
+    ];
+    for (begin, most, want) in table {
+        let text = format!(in rt.alloc(); "{begin}{TAIL}")?;
+        let read = raw_of(&rt, rt.alloc(), text.as_bytes(), most)?;
+        assert_eq!(rt; read.err(), want, "{begin:?}");
     }
     Ok(())
 }

@@ -5,6 +5,5 @@ use Rattle.value_rows.proofs.raw.raw_rows.Goals as goal
 
 pub returns-in-Ok-clause-refused : goal.returns-in-Ok-clause-refused
 returns-in-Ok-clause-refused c =
-    subst (λ (tags : List (List ℕ)). IfErr c.rows_of_text.result
-    (AreRefusedFor (raw_rows tags c.args.most c.args.bytes.now)))
-    c.in-Ok.ensures.names c.rows_of_text.ensures.refused
+    subst (λ (tags : List (List ℕ)). IfErr c.rows_of_form.result (AreRefusedFor (raw_rows tags c.args.most c.args.bytes.now)))
+    c.in-Ok.ensures.names c.rows_of_form.ensures.refused

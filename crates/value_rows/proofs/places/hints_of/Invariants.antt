@@ -1,0 +1,9 @@
+use Rattle.std.proofs.Common.{All, ◌≡◌, length}
+use Rattle.value_rows.specs.Standing.{IsHint}
+use Rattle.value_rows.proofs.places.hints_of.Given as goal
+
+abbrev pub invariant-loop-name : goal.invariant-loop-name
+invariant-loop-name l = record {
+  slots : length l.hints.items ≡ 4096;
+  hints : All (IsHint l.names) l.hints.items;
+}
