@@ -108,8 +108,14 @@ pub record IsClosed (held : Option Point) (cs ps : List Point) : Type 0 where
 pub closed : (held : Option Point) (l : List Rec) → IsRising l → IfThere (IsNotBefore l) held
     → IsClosed held (points_closed_by held l) (points_of l)
 closed None l rises not_before =
-    record { more = None; whole = sym (append-nil (points_of l)); later = tt; of_held = λ q h. h; ends =
-    λ q h. cc }
+    record {
+      more = None;
+      whole = sym (append-nil (points_of l));
+      later = tt;
+      of_held = λ q h. h;
+      ends =
+          λ q h. cc;
+    }
 closed (Some q) l rises not_before = by_last (last_point (points_of l)) refl
   where
     added_one : IsAfterAll (points_of l) q → IsClosed (Some q) (points_closed_by (Some q) l) (points_of l)

@@ -67,11 +67,7 @@ fn plain_rows<'b>(
 /// The row of a plain line that a text begins with, and what follows the line. Plain is a line of a name that is known, a
 /// comma, and a plain line of a point. None says nothing of the text.
 #[inline(always)]
-fn plain_row<'b>(
-    tags: &Places<'_>,
-    text: &'b [u8],
-    front: &mut Front,
-) -> Option<(RawRow, &'b [u8])>
+fn plain_row<'b>(tags: &Places<'_>, text: &'b [u8], front: &mut Front) -> Option<(RawRow, &'b [u8])>
     ensures first { IfSome result (λ p. IsFirstRow (raw_row tags.now) text.now p.1.now p.0) }
     ensures is_row { IfSome result (λ p. IsRawRow tags.now p.0) }
     ensures shorter { IfSome result (λ p. length p.1.now < length text.now) }
