@@ -10,6 +10,10 @@
 //! reason in the order of [`Reason`], or that there are more records than there may be before a bad one. Only want of memory
 //! is refused beside what the model refuses; a reader over bytes that failed is answered as such, since no contract rules it
 //! out.
+//!
+//! Most rows of collectors are plain: a known name, a comma, and a line that [`plain_point`](point_text::plain_point) reads.
+//! The plain rows that a text begins with are read in one pass, and only what stands behind them goes through `csv`. No answer
+//! depends on where one way ends and the other begins.
 #![tactic(auto)]
 
 mod asked;
