@@ -23,6 +23,8 @@ def build(folder):
     """The program, built in a repository of its own."""
     crates = os.path.join(folder, "crates")
     for name in BELOW:
+        for part in ("src", "specs", "proofs"):
+            shutil.rmtree(os.path.join(crates, name, part), ignore_errors=True)
         shutil.copytree(os.path.join(ROOT, "crates", name), os.path.join(crates, name), dirs_exist_ok=True,
                         ignore=shutil.ignore_patterns("out", "must-fail"))
     source = os.path.join(crates, "rows_bench", "src")
