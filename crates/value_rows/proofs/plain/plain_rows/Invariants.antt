@@ -3,12 +3,12 @@ use Rattle.value_rows.specs.Raw.{IsRawRow, raw_row}
 use Rattle.value_rows.specs.Standing.{AreFirstRows}
 use Rattle.value_rows.proofs.plain.plain_rows.Given as goal
 
-abbrev pub invariant-loop-rest : goal.invariant-loop-rest
-invariant-loop-rest l = record {
+abbrev pub invariant-loop-front : goal.invariant-loop-front
+invariant-loop-front l = record {
   first : AreFirstRows (raw_row l.tags) l.bytes l.rest l.rows.items;
   are_rows : All (IsRawRow l.tags) l.rows.items;
   few : length l.rows.items ≤ l.most;
 }
 
-abbrev pub decreases-loop-rest : goal.decreases-loop-rest
-decreases-loop-rest l = length l.rest
+abbrev pub decreases-loop-front : goal.decreases-loop-front
+decreases-loop-front l = length l.rest
