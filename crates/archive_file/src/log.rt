@@ -3,7 +3,7 @@ ghost use Rattle.std.specs.Prelude.{◌≡◌, ◌+◌, ◌*◌, ◌^◌, ◌<�
 ghost use Rattle.disk_model.specs.Traces.{Wrote, WroteInPart, seen};
 ghost use Rattle.disk_model.specs.Calls.{IsNoted, Reaches, Reads, Rose};
 ghost use Rattle.archive_file.specs.declared.failure.ScanNo.TheVariants.{DeviceFault, Damaged};
-ghost use Rattle.archive_file.specs.declared.failure.PutNo.TheVariants.{DeviceFault as PutFault};
+ghost use Rattle.archive_file.specs.declared.failure.PutNo.TheVariants.{DeviceFault as PutFault, WantOfMemory};
 ghost use Rattle.archive_file.specs.Records.{rec_image, recs_image};
 ghost use Rattle.trend_num.specs.declared.archive.Rec.{Rec};
 ghost use Rattle.trend_num.specs.Ranges.{InRange};
@@ -21,6 +21,7 @@ pub fn put_records<D: Disk>(alloc: Global, dev: &mut D, at: u64, recs: &[Rec]) -
     requires room { Reaches (D.trace dev.old) at }
     ensures noted { IsNoted (Wrote at (recs_image recs.now)) (WroteInPart at (recs_image recs.now)) result
         (D.trace dev.old) (D.trace dev.new) }
+    ensures unwritten { IsErrOf result WantOfMemory → dev.new ≡ dev.old }
     ensures device_fault { IsErrOf result PutFault → Rose (D.fault_count dev.old) (D.fault_count dev.new) }
     ensures faults { D.fault_count dev.old ≤ D.fault_count dev.new }
     ensures later { D.ticks dev.old ≤ D.ticks dev.new }

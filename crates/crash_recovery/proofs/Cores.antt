@@ -1,0 +1,203 @@
+-- What was read of a device is what it recovers, and where its lane is broken.
+use Rattle.std.proofs.Common.{◌≡◌, ◌≢◌, inl, inr, ⊎_elim, ℕ, zero, suc, ◌+◌, ◌*◌, ◌<◌, ◌≤◌, min, Bool, true, false, List, [], ◌∷◌, ◌++◌, length, take, drop, map}
+use Rattle.std.proofs.Common.{get_or, Option, None, Some, refl, sym, ◌∙◌, ap, ap₂, subst, arith, length-append, length-take, length-drop}
+use Rattle.std.proofs.lemmas.Bool.{cases_Bool}
+use Rattle.trend_num.specs.declared.archive.TheConstants.{MAX_RECORDS}
+use Rattle.trend_num.specs.declared.archive.Rec.{Rec}
+use Rattle.trend_num.specs.declared.archive.Summary.{Summary}
+use Rattle.trend_num.specs.declared.point.Point.{Point}
+use Rattle.trend_num.specs.declared.tuning.Tuning.{Tuning}
+use Rattle.trend_num.specs.declared.tag_def.TagDef.{TagDef}
+use Rattle.trend_model.specs.History.{Event, Raw}
+use Rattle.trend_model.specs.State.{State, replay}
+use Rattle.disk_model.specs.Traces.{Trace, seen}
+use Rattle.disk_model.specs.Calls.{Rose}
+use Rattle.disk_model.specs.Gates.{IsOpen}
+use Rattle.archive_file.specs.Records.{recs_image, rec_image}
+use Rattle.archive_file.specs.Places.{HasRecords}
+use Rattle.event_queue.specs.declared.reader.Scanned.{Scanned}
+use Rattle.event_queue.specs.Slots.{lane_end}
+use Rattle.event_queue.specs.Lanes.{IsLane, lane_points}
+use Rattle.event_queue.specs.Damages.{IsLaneDamage}
+use Rattle.event_queue.specs.Places.{HasRoom, IsFilled, IsOvertaken}
+use Rattle.event_queue.specs.Scans.{IsWithin, IsRead}
+use Rattle.event_queue.proofs.Found.{scanned_overtaken, scanned_filled}
+use Rattle.crash_recovery.specs.declared.failure.OpenNo.{OpenNo}
+use Rattle.crash_recovery.specs.declared.failure.OpenNo.TheVariants.{DeviceFault, Damaged, OtherTag, Full, WantOfMemory}
+use Rattle.crash_recovery.specs.declared.layout_reader.Stored.{Stored}
+use Rattle.crash_recovery.specs.declared.seat.Seat.{Seat}
+use Rattle.crash_recovery.specs.declared.slot.Slot.{Slot}
+use Rattle.crash_recovery.specs.Headers.{slots_in, tuning_in}
+use Rattle.crash_recovery.specs.Recovery.{header_of, log_place, start_of, state_of, in_force, HasSummary, AllFit, IsStored, IsReplayed, IsRecovered}
+use Rattle.crash_recovery.specs.Damages.{IsValuePlace, StandsThere, IsTagDamage}
+use Rattle.crash_recovery.specs.Damages.IsTagDamage.{BadQueue, BadValue}
+use Rattle.crash_recovery.specs.Journals.{IsInUse, IsLeftBehind, LaneStands, IsSeat}
+use Rattle.crash_recovery.specs.Opening.{Shows, IsReadFrom, HoldsValue, IsOverfull, IsCause}
+use Rattle.crash_recovery.proofs.Reading.{rose_before}
+use Rattle.crash_recovery.proofs.Stored.{taken_stored, records_stored}
+
+-- a record has 17 bytes
+length-recs : (rs : List Rec) → length (recs_image rs) ≡ 17 * length rs
+length-recs [] = refl
+length-recs (r ∷ rs) = length-append (rec_image r) (recs_image rs) ∙ ap (λ n. 17 + n) (length-recs rs) ∙ omega arith
+
+-- a log that has so many records is so long
+log_long : (c : List ℕ) (at n : ℕ) (rs : List Rec) → at ≤ length c → HasRecords c at n rs → at + 17 * n ≤ length c
+log_long c at n rs within has =
+    let size = ap length has.records.image in
+    omega (arith, size, length-recs rs, has.counted, length-take (17 * n) (drop at c), length-drop at c, within)
+
+module _ (def : TagDef) (slots : ℕ) (x : Stored) (c : List ℕ) (read : IsReadFrom def slots x c) (s : Scanned)
+    (scanned : IsRead slots x.summary.taken c slots s) (inside : IsWithin slots x.summary.taken slots s) where
+  -- where a core begins that was made of this
+  start_same : (core : State) → core.records ≡ x.recs.items → core.summary ≡ record x.summary { tuning = Some x.tuning }
+      → core ≡ start_of c x.recs.items x.summary
+  start_same core records summary =
+      let make : List Rec → Summary → State = λ rs sm. record { records = rs; summary = sm } in
+      ap₂ make records (summary ∙ ap (λ u. record x.summary { tuning = Some u }) read.tuning)
+
+  -- the points that were scanned are those of the lane
+  points_same : s.points.items ≡ lane_points (slots_in (header_of c)) c x.summary.taken
+  points_same = scanned.points ∙ ap (λ n. lane_points n c x.summary.taken) read.slots_are
+
+  pub recovered : (step : Bool) (core new : State) → def.step ≡ step → core.records ≡ x.recs.items
+      → core.summary ≡ record x.summary { tuning = Some x.tuning } → AllFit step core (map Raw s.points.items)
+      → new ≡ replay step core (map Raw s.points.items) → IsRecovered def c new
+  recovered step core new same_step records summary fit state = (
+    x.recs.items,
+    x.summary,
+    read.stored,
+    record {
+      lane = subst (λ n. IsLane n c x.summary.taken n) read.slots_are scanned.lane;
+      fits = subst (λ k. AllFit k (start_of c x.recs.items x.summary) values) (sym same_step)
+          (subst (λ st. AllFit step st values) (start_same core records summary)
+          (subst (λ l. AllFit step core (map Raw l)) points_same fit));
+      state = state ∙ ap (λ l. replay step core (map Raw l)) points_same
+          ∙ ap (λ st. replay step st values) (start_same core records summary)
+          ∙ ap (λ k. replay k (start_of c x.recs.items x.summary) values) (sym same_step);
+    },
+  )
+    where
+      values : List Event
+      values = map Raw (lane_points (slots_in (header_of c)) c x.summary.taken)
+
+  -- the lane is in use, or overtaken
+  filled : s.stale ≡ false → IsFilled slots x.summary.taken s.lane.used s.lane.next c s.points.items
+  filled untold = scanned_filled slots x.summary.taken c s scanned inside
+      (subst (λ n. lane_end n ≤ length c) (sym read.slots_are) read.stored.long) untold
+
+  lane_stands : (stale : Bool) → s.stale ≡ stale → LaneStands stale slots x.summary.taken s.lane.used s.lane.next c
+  lane_stands false is = let f = filled is in record {
+    lane = f.lane;
+    opened = f.opened;
+    beyond = f.beyond;
+    number = f.number ∙ ap (λ l. x.summary.taken + length l) (sym f.points);
+  }
+  lane_stands true is = record {
+    stale = (scanned_overtaken slots x.summary.taken c s scanned inside is).stale;
+    number = inside.number ∙ ap (λ l. x.summary.taken + length l) (inside.none_stale is) ∙ omega arith;
+  }
+
+  pub seated : IsSeat (record { lane = s.lane; stale = s.stale; counts = x.slot; taken = x.summary.taken; records = x.summary.records }) c
+  seated =
+      let slots_same : s.lane.slots ≡ slots_in (header_of c) = inside.slots_same ∙ read.slots_are in
+      let summary_there : HasSummary c x.slot x.summary = subst (λ o. HasSummary c o x.summary) read.slot read.stored.summary in
+      record {
+        opened = read.stored.tag.opened;
+        header = read.stored.tag.header;
+        slots = slots_same;
+        room = record {
+          long = subst (λ n. lane_end n ≤ length c) (sym slots_same) read.stored.long;
+          shut = λ k low there. scanned.none_behind k low (omega (arith, there, inside.slots_same));
+        };
+        counts = sym read.slot;
+        taken = sym (taken_stored c x.slot x.summary summary_there);
+        records = sym (records_stored c x.slot x.summary summary_there);
+        long = omega (
+          arith,
+          log_long c (lane_end s.lane.slots) x.summary.records x.recs.items
+              (subst (λ n. lane_end n ≤ length c) (sym slots_same) read.stored.long)
+              (subst (λ n. HasRecords c (lane_end n) x.summary.records x.recs.items) (sym slots_same) read.stored.records),
+        );
+        lane = subst (λ n. LaneStands s.stale n x.summary.taken s.lane.used s.lane.next c) (sym inside.slots_same)
+            (lane_stands s.stale refl);
+      }
+
+  -- a value that finds no room
+  pub value_broken : (step : Bool) (core : State) (n a j i : ℕ) (byte : Option ℕ) → def.step ≡ step
+      → core.records ≡ x.recs.items → core.summary ≡ record x.summary { tuning = Some x.tuning }
+      → AllFit step core (map Raw (take n s.points.items))
+      → MAX_RECORDS < length (replay step core (map Raw (take n s.points.items))).records + 2
+      → IsValuePlace slots c x.summary.taken n a j i → StandsThere c a byte → IsTagDamage def c a byte
+  value_broken step core n a j i byte same_step records summary fit full place there =
+      let points = lane_points (slots_in (header_of c)) c x.summary.taken in
+      BadValue x.recs.items x.summary n j i (record {
+        stored = read.stored;
+        lane = subst (λ k. IsLane k c x.summary.taken k) read.slots_are scanned.lane;
+        fit = subst (λ k. AllFit k (start_of c x.recs.items x.summary) (map Raw (take n points))) (sym same_step)
+            (subst (λ st. AllFit step st (map Raw (take n points))) (start_same core records summary)
+            (subst (λ l. AllFit step core (map Raw (take n l))) points_same fit));
+        full = subst (λ k. MAX_RECORDS < length (replay k (start_of c x.recs.items x.summary) (map Raw (take n points))).records + 2)
+            (sym same_step) (subst (λ st. MAX_RECORDS < length (replay step st (map Raw (take n points))).records + 2)
+            (start_same core records summary)
+            (subst (λ l. MAX_RECORDS < length (replay step core (map Raw (take n l))).records + 2) points_same full));
+        at = subst (λ k. IsValuePlace k c x.summary.taken n a j i) read.slots_are place;
+        there = there;
+      })
+
+  -- a value of the lane that was scanned
+  pub holds_value : (n : ℕ) → n < length s.points.items → HoldsValue slots x.summary.taken s.lane.used n c
+  holds_value n below = elim (cases_Bool s.stale) [
+    | inl stale ↦ absurd (omega (arith, below, ap length (inside.none_stale stale)))
+    | inr fresh ↦ record { next = s.lane.next; held = s.points.items; filled = filled fresh; there = below }
+  ]
+
+-- the same of a device
+pub recovered_shown : (def : TagDef) (o : Option Trace) (slots : ℕ) (x : Stored) (s : Scanned) (step : Bool) (core new : State)
+    → IsWithin slots x.summary.taken slots s → Shows o (IsReadFrom def slots x) → Shows o (λ c. IsRead slots x.summary.taken c slots s)
+    → def.step ≡ step → core.records ≡ x.recs.items → core.summary ≡ record x.summary { tuning = Some x.tuning }
+    → AllFit step core (map Raw s.points.items) → new ≡ replay step core (map Raw s.points.items)
+    → Shows o (λ c. IsRecovered def c new)
+recovered_shown def None slots x s step core new inside read scanned same_step records summary fit state = tt
+recovered_shown def (Some t) slots x s step core new inside read scanned same_step records summary fit state =
+    recovered def slots x (seen (Some t)) read s scanned inside step core new same_step records summary fit state
+
+pub seated_shown : (def : TagDef) (o : Option Trace) (slots : ℕ) (x : Stored) (s : Scanned)
+    → IsWithin slots x.summary.taken slots s → Shows o (IsReadFrom def slots x) → Shows o (λ c. IsRead slots x.summary.taken c slots s)
+    → Shows o (IsSeat (record { lane = s.lane; stale = s.stale; counts = x.slot; taken = x.summary.taken; records = x.summary.records }))
+seated_shown def None slots x s inside read scanned = tt
+seated_shown def (Some t) slots x s inside read scanned = seated def slots x (seen (Some t)) read s scanned inside
+
+pub queue_shown : (def : TagDef) (o : Option Trace) (slots : ℕ) (x : Stored) (a : ℕ) (byte : Option ℕ)
+    → Shows o (IsReadFrom def slots x) → Shows o (λ c. IsLaneDamage slots c x.summary.taken a byte)
+    → Shows o (λ c. IsTagDamage def c a byte)
+queue_shown def None slots x a byte read damage = tt
+queue_shown def (Some t) slots x a byte read damage = BadQueue x.recs.items x.summary (record {
+  stored = read.stored;
+  broken = subst (λ n. IsLaneDamage n (seen (Some t)) x.summary.taken a byte) read.slots_are damage;
+})
+
+pub holds_shown : (def : TagDef) (o : Option Trace) (slots : ℕ) (x : Stored) (s : Scanned) (n : ℕ)
+    → IsWithin slots x.summary.taken slots s → Shows o (IsReadFrom def slots x) → Shows o (λ c. IsRead slots x.summary.taken c slots s)
+    → n < length s.points.items → Shows o (HoldsValue slots x.summary.taken s.lane.used n)
+holds_shown def None slots x s n inside read scanned below = tt
+holds_shown def (Some t) slots x s n inside read scanned below =
+    holds_value def slots x (seen (Some t)) read s scanned inside n below
+
+-- the refusal of a lane of which a value finds no room
+pub overfull_cause : (def : TagDef) (o : Option Trace) (slots : ℕ) (x : Stored) (s : Scanned) (step : Bool) (core : State) (n a b m : ℕ)
+    (why : OpenNo) → IsWithin slots x.summary.taken slots s → Shows o (IsReadFrom def slots x)
+    → Shows o (λ c. IsRead slots x.summary.taken c slots s) → def.step ≡ step → core.records ≡ x.recs.items
+    → core.summary ≡ record x.summary { tuning = Some x.tuning } → AllFit step core (map Raw (take n s.points.items))
+    → MAX_RECORDS < length (replay step core (map Raw (take n s.points.items))).records + 2 → a ≤ b
+    → IsOverfull o slots x.summary.taken n b m why → IsCause def o a m why
+overfull_cause def o slots x s step core n a b m DeviceFault inside read scanned same_step records summary fit full le over =
+    rose_before a b m le over
+overfull_cause def None slots x s step core n a b m (Damaged at byte) inside read scanned same_step records summary fit full le over = tt
+overfull_cause def (Some t) slots x s step core n a b m (Damaged at byte) inside read scanned same_step records summary fit full le over =
+    value_broken def slots x (seen (Some t)) read s scanned inside step core n at over.0 over.1 byte same_step records summary fit full
+    over.2 over.3
+overfull_cause def o slots x s step core n a b m (OtherTag found wanted) inside read scanned same_step records summary fit full le over =
+    absurd over
+overfull_cause def o slots x s step core n a b m (Full k) inside read scanned same_step records summary fit full le over = absurd over
+overfull_cause def o slots x s step core n a b m WantOfMemory inside read scanned same_step records summary fit full le over = absurd over

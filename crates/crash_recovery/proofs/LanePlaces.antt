@@ -1,0 +1,118 @@
+-- Where the values of a lane stand.
+use Rattle.std.proofs.Common.{◌≡◌, inl, inr, ⊎_elim, ℕ, ◌+◌, ◌-◌, ◌*◌, ◌<◌, ◌≤◌, min, List, [], ◌++◌, length, take, drop}
+use Rattle.std.proofs.Common.{get_or, Option, None, Some, refl, sym, ◌∙◌, ap, subst, arith, length-append}
+use Rattle.std.proofs.lemmas.List.{append-nil}
+use Rattle.std.specs.Int.{w16, from_be_bytes}
+use Rattle.trend_num.specs.declared.point.Point.{Point}
+use Rattle.disk_model.specs.Traces.{Trace, seen}
+use Rattle.disk_model.specs.Calls.{Reads}
+use Rattle.archive_file.proofs.Logs.{part_of}
+use Rattle.event_queue.specs.Slots.{gate_of, place_of, slot_at, batch_at, count_in, points_in, lane_end}
+use Rattle.event_queue.specs.Lanes.{points_beyond, points_of, points_before, lane_points}
+use Rattle.event_queue.specs.Places.{IsFilled}
+use Rattle.event_queue.proofs.Batches.{length-points_in}
+use Rattle.event_queue.proofs.Steps.{points_open, points_more, beyond_all}
+use Rattle.event_queue.proofs.Filled.{lane_points_used}
+use Rattle.crash_recovery.specs.Damages.{IsValuePlace, StandsThere}
+use Rattle.crash_recovery.specs.Opening.{Shows, HoldsValue}
+use Rattle.crash_recovery.proofs.Reading.{byte_here}
+
+-- the count of a slot, read of its place
+count_here : (slots j at : ℕ) (bytes c : List ℕ) → at ≡ place_of slots j + 8 → length bytes ≡ 2
+    → bytes ≡ take (length bytes) (drop at c) → count_in (slot_at slots c j) ≡ from_be_bytes w16 bytes
+count_here slots j at bytes c is size here = ap (from_be_bytes w16)
+    (part_of c (place_of slots j) 1034 8 2 (omega arith) ∙ ap (λ k. take 2 (drop k c)) (sym is)
+    ∙ ap (λ n. take n (drop at c)) (sym size) ∙ sym here)
+
+pub count_shown : (o : Option Trace) (slots j at : ℕ) (bytes : List ℕ) (m n : ℕ) → at ≡ place_of slots j + 8 → length bytes ≡ 2
+    → Reads o at bytes → m ≡ from_be_bytes w16 bytes → n ≡ min m 64 → Shows o (λ c. n ≡ min 64 (count_in (slot_at slots c j)))
+count_shown None slots j at bytes m n is size read m_is n_is = tt
+count_shown (Some t) slots j at bytes m n is size read m_is n_is =
+    let count = count_here slots j at bytes (seen (Some t)) is size read in
+    omega (arith, count, m_is, n_is)
+
+-- so many of the values stand in the first j slots, and `rest` more come before value n
+pub record IsCountedTo (slots taken n j rest : ℕ) (c : List ℕ) : Type 0 where
+  pub counted : n ≡ length (points_before slots c taken j) + rest
+
+-- none do in no slot
+pub counted_none : (o : Option Trace) (slots taken n : ℕ) → Shows o (IsCountedTo slots taken n 0 n)
+counted_none None slots taken n = tt
+counted_none (Some t) slots taken n = record { counted = omega arith }
+
+module _ (slots taken used n : ℕ) (c : List ℕ) (holds : HoldsValue slots taken used n c) (j : ℕ) (within : used ≤ slots)
+    (below : j < used) (m : ℕ) (is : m ≡ min 64 (count_in (slot_at slots c j))) where
+  -- a used slot holds all of its batch
+  all_beyond : points_beyond taken (batch_at slots c j) ≡ (batch_at slots c j).points
+  all_beyond = beyond_all taken (batch_at slots c j) (holds.filled.beyond j below)
+
+  -- which are so many
+  held_there : length (points_beyond taken (batch_at slots c j)) ≡ m
+  held_there = ap length all_beyond ∙ length-points_in (min 64 (count_in (slot_at slots c j))) (drop 10 (slot_at slots c j)) ∙ sym is
+
+  -- value n is behind them
+  pub counted_more : (rest : ℕ) → IsCountedTo slots taken n j rest c → m ≤ rest → IsCountedTo slots taken n (j + 1) (rest - m) c
+  counted_more rest so_far behind =
+      let next = ap length (points_more slots taken c j ∙ ap (λ l. points_before slots c taken j ++ l)
+      (points_open slots taken c j (holds.filled.opened j below))) in
+      let both = length-append (points_before slots c taken j) (points_beyond taken (batch_at slots c j)) in
+      record { counted = omega (arith, so_far.counted, next, both, held_there, behind) }
+
+  -- or it is among them
+  pub value_here : (rest a : ℕ) → IsCountedTo slots taken n j rest c → rest < m → a ≡ place_of slots j + (10 + 16 * rest)
+      → IsValuePlace slots c taken n a j rest
+  value_here rest a so_far among at = record {
+    slot = omega (arith, below, within);
+    number = so_far.counted;
+    within = omega (arith, among, held_there);
+    opened = holds.filled.opened j below;
+    place = at;
+  }
+
+-- all values are counted once the used slots are
+counted_all : (slots taken used n rest : ℕ) (c : List ℕ) → HoldsValue slots taken used n c → used ≤ slots
+    → IsCountedTo slots taken n used rest c → ⊥
+counted_all slots taken used n rest c holds within so_far =
+    let all = ap length (sym (lane_points_used slots taken used c within holds.filled.room) ∙ holds.filled.points) in
+    absurd (omega (arith, so_far.counted, all, holds.there))
+
+-- the same of a device
+pub more_shown : (o : Option Trace) (slots taken used n j rest m : ℕ) → used ≤ slots → j < used
+    → Shows o (HoldsValue slots taken used n) → Shows o (λ c. m ≡ min 64 (count_in (slot_at slots c j))) → m ≤ rest
+    → Shows o (IsCountedTo slots taken n j rest) → Shows o (IsCountedTo slots taken n (j + 1) (rest - m))
+more_shown None slots taken used n j rest m within below holds count behind so_far = tt
+more_shown (Some t) slots taken used n j rest m within below holds count behind so_far =
+    counted_more slots taken used n (seen (Some t)) holds j within below m count rest so_far behind
+
+pub value_shown : (o : Option Trace) (slots taken used n j rest m a : ℕ) → used ≤ slots → j < used
+    → Shows o (HoldsValue slots taken used n) → Shows o (λ c. m ≡ min 64 (count_in (slot_at slots c j))) → rest < m
+    → Shows o (IsCountedTo slots taken n j rest) → a ≡ place_of slots j + (10 + 16 * rest)
+    → Shows o (λ c. (k : ℕ) × (i : ℕ) × IsValuePlace slots c taken n a k i)
+value_shown None slots taken used n j rest m a within below holds count among so_far at = tt
+value_shown (Some t) slots taken used n j rest m a within below holds count among so_far at =
+    (j, rest, value_here slots taken used n (seen (Some t)) holds j within below m count rest a so_far among at)
+
+pub never_shown : (o : Option Trace) (slots taken used n j rest a : ℕ) → used ≤ slots → used ≤ j → j ≤ used
+    → Shows o (HoldsValue slots taken used n) → Shows o (IsCountedTo slots taken n j rest)
+    → Shows o (λ c. (k : ℕ) × (i : ℕ) × IsValuePlace slots c taken n a k i)
+never_shown None slots taken used n j rest a within low high holds so_far = tt
+never_shown (Some t) slots taken used n j rest a within low high holds so_far =
+    let same : j ≡ used = omega (arith, low, high) in
+    absurd (counted_all slots taken used n rest (seen (Some t)) holds within
+    (subst (λ k. IsCountedTo slots taken n k rest (seen (Some t))) same so_far))
+
+-- the byte at a value's place was read
+pub value_told : (o : Option Trace) (slots taken n a : ℕ) (bytes : List ℕ) → length bytes ≡ 1 → Reads o a bytes
+    → Shows o (λ c. a < length c) → Shows o (λ c. (j : ℕ) × (i : ℕ) × IsValuePlace slots c taken n a j i)
+    → Shows o (λ c. (j : ℕ) × (i : ℕ) × IsValuePlace slots c taken n a j i × StandsThere c a (Some (get_or bytes 0 0)))
+value_told None slots taken n a bytes size read within place = tt
+value_told (Some t) slots taken n a bytes size read within place = (
+  place.0,
+  place.1,
+  place.2,
+  record {
+    within = within;
+    byte_there = ap Some (sym (ap (λ k. get_or (seen (Some t)) k 0) (omega arith)
+        ∙ byte_here bytes a (seen (Some t)) 0 (omega (arith, size)) read));
+  },
+)

@@ -1,0 +1,277 @@
+-- Records are put behind the log, and the gate of the slot that does not count is closed.
+use Rattle.crash_recovery.specs.Opening.{Shows}
+use Rattle.std.proofs.Common.{◌≡◌, ◌≢◌, inl, inr, ⊎_elim, ℕ, ◌+◌, ◌-◌, ◌<◌, ◌≤◌, min, List, length, get_or}
+use Rattle.std.proofs.Common.{take, drop, Option, None, Some, Result, sym, ◌∙◌, ap, subst, arith, length-drop}
+use Rattle.std.proofs.lemmas.Bool.{cases_eq}
+use Rattle.std.proofs.lemmas.List.{take_all, drop_min}
+use Rattle.trend_num.specs.declared.archive.Rec.{Rec}
+use Rattle.trend_num.specs.declared.tag_def.TagDef.{TagDef}
+use Rattle.trend_model.specs.State.{State}
+use Rattle.disk_model.specs.Traces.{Wrote, WroteInPart, Trace, seen, written}
+use Rattle.disk_model.specs.Images.{IsOutside, IsTorn, Now, FromOld, IsSettled}
+use Rattle.disk_model.specs.Moments.{During}
+use Rattle.disk_model.specs.Calls.{IsNoted, Sees}
+use Rattle.disk_model.specs.Gates.{open_byte, IsShut, HasGatesOf, AreShut, IsClosing, Holds}
+use Rattle.disk_model.proofs.Bytes.{torn_self, length-written, holds_written}
+use Rattle.disk_model.proofs.Images.{present, wrote_now}
+use Rattle.disk_model.proofs.Moments.{started, during_now, weaker, in_turn, goes_on}
+use Rattle.disk_model.proofs.Closings.{closing_self}
+use Rattle.archive_file.specs.Records.{recs_image}
+use Rattle.event_queue.specs.Slots.{gate_of}
+use Rattle.event_queue.specs.Places.{HasRoom}
+use Rattle.event_queue.proofs.SameLanes.{HasSameSlots, same_bytes, same_lane, same_points, same_beyond}
+use Rattle.crash_recovery.specs.declared.seat.Seat.{Seat}
+use Rattle.crash_recovery.specs.declared.slot.Slot.{Slot}
+use Rattle.crash_recovery.specs.declared.slot.Slot.TheVariants.{First, Second}
+use Rattle.crash_recovery.specs.Recovery.{summary_place, summary_gate, slot_bytes, Recovers}
+use Rattle.crash_recovery.specs.Journals.{AllRecover, IsInUse}
+use Rattle.crash_recovery.specs.Seats.{log_end, spare_slot, IsLaid, LaidOn, IsLogged, ReadyOn}
+use Rattle.crash_recovery.proofs.Pieces.{same_piece}
+use Rattle.crash_recovery.proofs.Stored.{KeepsStored, KeepsLane, recovers_same}
+use Rattle.crash_recovery.proofs.SettledDevices.{now_shown, shown_now, shown_both, during_from, shown_from}
+use Rattle.crash_recovery.proofs.Places.{OnlySpare, slot_within, gate_within, behind_kept, only_spare}
+use Rattle.crash_recovery.proofs.Places.{laid_moved, settled_on, laid_shown, laid_again}
+
+-- the records that are not counted, as they are cut off
+pub new_records : (m from : ℕ) (recs : List Rec) → from ≡ min m (length recs) → take (length recs - from)
+    (drop from recs) ≡ drop m recs
+new_records m from recs is =
+    take_all (length recs - from) (drop from recs) (omega (arith, length-drop from recs))
+    ∙ ap (λ n. drop n recs) is ∙ drop_min m recs
+
+-- nothing was written
+pub torn_kept : (o : Option Trace) (at n : ℕ) → During o o (FromOld o (IsTorn at n))
+torn_kept o at n = started o (FromOld o (IsTorn at n)) (record { each = λ c may. (c, may, torn_self at n c) })
+
+-- a write that may be torn
+pub torn_moments : {E : Type 0} (r : Result (Unit {0}) E) (o new : Option Trace) (at : ℕ) (bytes : List ℕ)
+    → IsNoted (Wrote at bytes) (WroteInPart at bytes) r o new
+    → During o new (FromOld o (IsTorn at (length bytes)))
+torn_moments r o new at bytes noted =
+    goes_on (Wrote at bytes) (WroteInPart at bytes) r o o new (FromOld o (IsTorn at (length bytes)))
+    (torn_kept o at (length bytes)) noted (record { each = λ c may. wrote_now r o new at bytes c noted may })
+
+-- ---- the bytes
+
+-- a place beside a gate
+beside_gate : (gate i : ℕ) → i ≢ gate → IsOutside gate 1 i
+beside_gate gate i other = grind arith
+
+-- a write behind the log, and then the gate closed
+logged_of : (at n gate : ℕ) (a m b : List ℕ) → at ≤ length a → gate < at → IsTorn at n a m
+    → IsClosing gate 1 m b → IsLogged at gate a b
+logged_of at n gate a m b long before torn closing = record {
+  no_shorter = omega (arith, torn.no_shorter, closing.same_length);
+  same = λ i below other. closing.same i (inl (beside_gate gate i other))
+      ∙ torn.outside i (omega (arith, long, below)) (inl below);
+  gate_same = ⊎_elim (λ was. ⊎_elim (λ now. inr (now ∙ sym was ∙ as_before)) (λ shut. inl shut)
+      (cases_eq (get_or b gate 0) open_byte))
+      (λ was. inr (closing.same gate (inr was) ∙ as_before)) (cases_eq (get_or m gate 0) open_byte);
+}
+  where
+    as_before : get_or m gate 0 ≡ get_or a gate 0
+    as_before = torn.outside gate (omega (arith, long, before)) (inl before)
+
+-- the gates lie behind both slots
+pub gate_behind : (j : Slot) → 384 ≤ summary_gate j
+gate_behind First = omega arith
+gate_behind Second = omega arith
+
+module _ (p : Seat) (a b : List ℕ) (laid : IsLaid p a) (only : OnlySpare p.counts (log_end p) a b) where
+  -- the lane is as it was
+  pub same_slots : HasSameSlots p.lane.slots p.lane.slots a b
+  same_slots = same_bytes p.lane.slots a b (omega (arith, laid.long))
+      (omega (arith, laid.long, only.no_shorter))
+      (λ i low below. behind_kept p a b laid only i low (omega (arith, below)))
+
+  -- it keeps the layout, and holds the same points
+  pub lane_kept : KeepsLane p.lane.slots p.taken a b
+  lane_kept = record {
+    lane = λ lane. same_lane p.lane.slots p.taken p.lane.slots a b same_slots p.lane.slots (omega arith) lane;
+    points = λ lane. same_points p.lane.slots p.taken p.lane.slots a b same_slots p.lane.slots (omega arith);
+  }
+
+  -- no gate behind it was opened
+  pub room_kept : HasRoom p.lane.slots p.lane.used b
+  room_kept = record {
+    long = omega (arith, laid.long, only.no_shorter);
+    shut = λ k low below opened. laid.room.shut k low below
+        (sym (behind_kept p a b laid only (gate_of k) (omega arith) (omega (arith, below))) ∙ opened);
+  }
+
+  -- it is in use as it was
+  pub in_use_kept : p.lane.used ≤ p.lane.slots → IsInUse p.lane.slots p.taken p.lane.used p.lane.next a
+      → IsInUse p.lane.slots p.taken p.lane.used p.lane.next b
+  in_use_kept within lane = record {
+    lane = lane_kept.lane lane.lane;
+    opened = λ k below. same_slots.forth k (omega (arith, below, within)) (lane.opened k below);
+    beyond = λ k below. same_beyond p.lane.slots p.taken p.lane.slots a b same_slots k
+        (omega (arith, below, within))
+        (lane.opened k below) (lane.beyond k below);
+    number = lane.number ∙ ap (λ ps. p.taken + length ps) (sym (lane_kept.points lane.lane));
+  }
+
+module _ (p : Seat) (a b : List ℕ) (laid : IsLaid p a) (logged : IsLogged (log_end p)
+    (summary_gate (spare_slot p.counts)) a b) where
+  -- only the gate of the slot that does not count has changed
+  logged_only : OnlySpare p.counts (log_end p) a b
+  logged_only = record {
+    no_shorter = logged.no_shorter;
+    same = λ i below out other. logged.same i below
+        other;
+  }
+
+  -- what is stored was kept
+  logged_keeps : KeepsStored p a b
+  logged_keeps = only_spare p a b laid logged_only (⊎_elim (λ shut. inl shut) (λ same. inr (same, slot_same))
+      logged.gate_same)
+    where
+      slot_same : slot_bytes b (spare_slot p.counts) ≡ slot_bytes a (spare_slot p.counts)
+      slot_same =
+          let j = spare_slot p.counts in
+          let within = slot_within j in
+          let behind = gate_behind j in
+          same_piece (summary_place j) 128 a b (omega (arith, within, laid.long))
+          (omega (arith, within, laid.long, logged.no_shorter))
+          (λ i low below. logged.same i (omega (arith, within, below))
+          (λ is. absurd (omega (arith, is, within, behind, below))))
+
+  -- so it recovers what it recovered
+  logged_recovers : (def : TagDef) (s : State) → Recovers def a s → Recovers def b s
+  logged_recovers def s recovers = recovers_same def p a b s laid logged_keeps
+      (lane_kept p a b laid logged_only) recovers
+
+  -- and the place stands
+  logged_laid : p.lane.used ≤ p.lane.slots → IsLaid p b
+  logged_laid within = laid_moved p p.stale p.lane.used p.lane.next a b laid logged_keeps
+      (room_kept p a b laid logged_only)
+      (λ fresh. in_use_kept p a b laid logged_only within (laid.in_use fresh)) laid.number
+
+-- ---- the calls
+
+module _ (p : Seat) (n gate : ℕ) (is_gate : gate ≡ summary_gate (spare_slot p.counts)) (o mid : Option Trace)
+    (laid : LaidOn p o)
+    (torn : During o mid (FromOld o (IsTorn (log_end p) n))) where
+  -- the gate lies before the lane
+  low_gate : gate < 400
+  low_gate = omega (arith, is_gate, gate_within (spare_slot p.counts))
+
+  -- each image that was there is one of the place
+  each_laid : Now o (IsLaid p)
+  each_laid = now_shown o (IsLaid p) (settled_on p o laid) (laid_shown p o laid)
+
+  -- after the write
+  logged_first : During o mid (FromOld o (IsLogged (log_end p) gate))
+  logged_first = weaker o mid (FromOld o (IsTorn (log_end p) n)) (FromOld o (IsLogged (log_end p) gate))
+      (λ c from. (
+        from.0,
+        from.1,
+        logged_of (log_end p) n gate from.0 c c (each_laid.each from.0 from.1).long (omega (arith, low_gate))
+            from.2
+            (closing_self gate 1 c),
+      )) torn
+
+  -- each image recovers what it recovered
+  recovers_through : (new : Option Trace) (def : TagDef) (s : State) → AllRecover def o s
+      → During o new (FromOld o (IsLogged (log_end p) gate)) → During o new (λ c. Recovers def c s)
+  recovers_through new def s all logged =
+      during_from o new (IsLogged (log_end p) gate) (λ c. IsLaid p c × Recovers def c s)
+      (λ c. Recovers def c s) (settled_on p o laid)
+      (shown_both o (IsLaid p) (λ c. Recovers def c s) (laid_shown p o laid)
+      (shown_now o (λ c. Recovers def c s) all))
+      (λ a b q step. logged_recovers p a b q.0 (subst (λ g. IsLogged (log_end p) g a b) is_gate step) def s
+      q.1) logged
+
+  -- so each image recovers what it recovered
+  pub put_moments : (def : TagDef) (s : State) → AllRecover def o s → During o mid (λ c. Recovers def c s)
+  put_moments def s all = recovers_through mid def s all logged_first
+
+  -- the gate reads the same in each image
+  pub gates_torn : Now mid (HasGatesOf (seen mid) gate 1)
+  gates_torn = has mid torn
+    where
+      same_gate : (u : Trace) (c : List ℕ) → FromOld o (IsTorn (log_end p) n) c
+          → FromOld o (IsTorn (log_end p) n) (seen (Some u))
+          → HasGatesOf (seen (Some u)) gate 1 c
+      same_gate u c from here =
+          let a = each_laid.each from.0 from.1 in
+          let b = each_laid.each here.0 here.1 in
+          let one : from.0 ≡ here.0 = (settled_on p o laid).each from.0 from.1
+          ∙ sym ((settled_on p o laid).each here.0 here.1) in
+          record {
+            there = omega (arith, low_gate, a.long, from.2.no_shorter);
+            same = λ i low below.
+                from.2.outside i (omega (arith, low_gate, a.long, below))
+                (inl (omega (arith, low_gate, below)))
+                ∙ ap (λ d. get_or d i 0) one
+                ∙ sym (here.2.outside i (omega (arith, low_gate, b.long, below))
+                (inl (omega (arith, low_gate, below))));
+          }
+
+      has : (mid : Option Trace) → During o mid (FromOld o (IsTorn (log_end p) n))
+          → Now mid (HasGatesOf (seen mid) gate 1)
+      has None torn = record { each = λ c may. absurd may.image }
+      has (Some u) torn = record {
+        each = λ c may.
+            let now = during_now o (Some u) (FromOld o (IsTorn (log_end p) n)) torn in
+            same_gate u c (now.each c may) (now.each (seen (Some u)) (present u));
+      }
+
+  module _ (new : Option Trace) (closing : During mid new (FromOld mid (IsClosing gate 1))) where
+    -- after the gate was closed too
+    logged_moments : During o new (FromOld o (IsLogged (log_end p) gate))
+    logged_moments =
+        in_turn o mid new (FromOld o (IsLogged (log_end p) gate)) logged_first
+        (weaker mid new (FromOld mid (IsClosing gate 1)) (FromOld o (IsLogged (log_end p) gate)) (λ c from.
+        let first = (during_now o mid (FromOld o (IsTorn (log_end p) n)) torn).each from.0 from.1 in (
+          first.0,
+          first.1,
+          logged_of (log_end p) n gate first.0 from.0 c (each_laid.each first.0 first.1).long
+              (omega (arith, low_gate))
+              first.2 from.2,
+        )) closing)
+
+    -- each image recovers what it recovered
+    pub log_moments : (def : TagDef) (s : State) → AllRecover def o s → During o new (λ c. Recovers def c s)
+    log_moments def s all = recovers_through new def s all logged_moments
+
+    -- once all was done, the place stands
+    pub log_laid : p.lane.used ≤ p.lane.slots → IsSettled new → LaidOn p new
+    log_laid within settled =
+        laid_again p new settled (shown_from o new (IsLogged (log_end p) gate) (IsLaid p) (λ c. Unit {0})
+        (IsLaid p) (settled_on p o laid)
+        (laid_shown p o laid) (any_shown new)
+        (λ a b laid_a step none. logged_laid p a b laid_a (subst (λ g. IsLogged (log_end p) g a b) is_gate
+        step) within) logged_moments)
+      where
+        any_shown : (x : Option Trace) → Shows x (λ c. Unit {0})
+        any_shown None = tt
+        any_shown (Some u) = tt
+
+-- the bytes that were written stay where a gate before them is closed
+holds_closed : (at gate : ℕ) (bytes old m b : List ℕ) → gate < at → at ≤ length old
+    → m ≡ written old at bytes → IsClosing gate 1 m b
+    → Holds at bytes b
+holds_closed at gate bytes old m b before long is closing =
+    let size = ap length is ∙ length-written old at bytes long in
+    same_piece at (length bytes) m b (omega (arith, size)) (omega (arith, size, closing.same_length))
+    (λ i low below. closing.same i (inl (inr (omega (arith, before, low)))))
+    ∙ ap (λ l. take (length bytes) (drop at l)) is ∙ holds_written old at bytes long
+
+-- and then all is there for a summary
+pub ready_on : (p : Seat) (gate : ℕ) (recs : List Rec) (P Q : List ℕ → Type 0) (o mid new : Option Trace)
+    → gate ≡ summary_gate (spare_slot p.counts) → LaidOn p o → During o mid P → During mid new Q
+    → Sees mid (written (seen o) (log_end p) (recs_image (drop p.records recs)))
+    → IsClosing gate 1 (seen mid) (seen new) → Now new (AreShut gate 1)
+    → ReadyOn p (summary_gate (spare_slot p.counts)) recs new
+ready_on p gate recs P Q o mid None is_gate laid first second sees closing shut = tt
+ready_on p gate recs P Q o None (Some v) is_gate laid first second sees closing shut = absurd second.later
+ready_on p gate recs P Q None (Some u) (Some v) is_gate laid first second sees closing shut = absurd
+    first.later
+ready_on p gate recs P Q (Some t) (Some u) (Some v) is_gate laid first second sees closing shut = record {
+  shut = subst (λ g. IsShut g (seen (Some v))) is_gate ((shut.each (seen (Some v)) (present v)) gate
+      (omega arith) (omega arith));
+  logged = holds_closed (log_end p) gate (recs_image (drop p.records recs)) (seen (Some t)) (seen (Some u))
+      (seen (Some v))
+      (omega (arith, is_gate, gate_within (spare_slot p.counts))) laid.laid.long sees closing;
+}

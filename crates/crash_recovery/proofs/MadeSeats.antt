@@ -1,0 +1,50 @@
+-- The place of a journal on a device whose layout was just made.
+use Rattle.std.proofs.Common.{◌≡◌, ℕ, ◌+◌, ◌*◌, ◌<◌, ◌≤◌, false, List, length, Option, None, Some, IfSome, refl, sym, ap, arith}
+use Rattle.trend_num.specs.declared.tag_def.TagDef.{TagDef}
+use Rattle.trend_num.specs.Names.{IsName}
+use Rattle.trend_num.specs.Ranges.{IsTuned}
+use Rattle.disk_model.specs.Traces.{Trace, seen}
+use Rattle.disk_model.specs.Images.{IsSettled}
+use Rattle.event_queue.specs.declared.lane.Lane.{Lane}
+use Rattle.crash_recovery.specs.declared.seat.Seat.{Seat}
+use Rattle.crash_recovery.specs.Journals.{IsSeat, SeatedOn}
+use Rattle.crash_recovery.specs.Layouts.{IsMade}
+use Rattle.crash_recovery.proofs.Made.{made_room, made_points, made_lane, made_counting, made_header, made_slots}
+
+-- the first lane slot of so many, before the first event
+abbrev pub first_seat : ℕ → Seat
+first_seat slots = record {
+  lane = record { slots = slots; used = 0; next = 0 };
+  stale = false;
+  counts = None;
+  taken = 0;
+  records = 0;
+}
+
+made_seat : (def : TagDef) (slots : ℕ) (c : List ℕ) → IsMade def slots c → IsTuned def.tuning → IsName def.name
+    → 1 ≤ slots → slots ≤ 65536 → IsSeat (first_seat slots) c
+made_seat def slots c made tuned name some few = record {
+  opened = made.opened;
+  header = made_header def slots c made tuned name some few;
+  slots = sym (made_slots def slots c made tuned name some few);
+  room = made_room def slots c made;
+  counts = sym (made_counting def slots c made tuned name some few);
+  taken = refl;
+  records = refl;
+  long = omega (arith, made.long);
+  lane = record {
+    lane = made_lane def slots c made 0;
+    opened = λ k below. absurd (omega (arith, below));
+    beyond = λ k below. absurd (omega (arith, below));
+    number = omega (arith, ap length (made_points def slots c made 0));
+  };
+}
+
+-- the same of a device
+pub made_seated : (def : TagDef) (slots : ℕ) (o : Option Trace) → IsTuned def.tuning → IsName def.name → 1 ≤ slots
+    → slots ≤ 65536 → IfSome o (λ t. IsMade def slots (seen (Some t))) → IsSettled o → SeatedOn (first_seat slots) o
+made_seated def slots None tuned name some few made settled = tt
+made_seated def slots (Some t) tuned name some few made settled = record {
+  settled = settled;
+  seat = made_seat def slots (seen (Some t)) made tuned name some few;
+}

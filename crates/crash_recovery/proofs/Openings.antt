@@ -1,0 +1,190 @@
+-- What each image recovers while a tag's device is opened.
+use Rattle.std.proofs.Common.{◌≡◌, ◌≢◌, ◌⊎◌, inl, inr, ⊎_elim, ℕ, ◌+◌, ◌^◌, ◌<◌, ◌≤◌, Bool, true, false, List, [], ◌∷◌, length}
+use Rattle.std.proofs.Common.{Option, None, Some, IfSome, Result, refl, sym, ◌∙◌, ap, subst, arith}
+use Rattle.trend_num.specs.declared.tuning.Tuning.{Tuning}
+use Rattle.trend_num.specs.declared.tag_def.TagDef.{TagDef}
+use Rattle.trend_model.specs.History.{Event, Tune, Origin, in_force}
+use Rattle.trend_model.specs.State.{Stands}
+use Rattle.trend_model.proofs.StateLaw.{stands_after}
+use Rattle.trend_model.specs.State.{State, nothing_taken, after, after_under, replay}
+use Rattle.disk_model.specs.Traces.{Trace, Synced, Idle, seen, noted}
+use Rattle.disk_model.specs.Images.{MayLeave, Now, IsSettled}
+use Rattle.disk_model.specs.Moments.{During}
+use Rattle.disk_model.specs.Calls.{IsNoted}
+use Rattle.disk_model.specs.Gates.{IsOpen}
+use Rattle.disk_model.proofs.Images.{synced_now, settled}
+use Rattle.disk_model.proofs.Moments.{started, goes_on, weaker, in_turn, during_now}
+use Rattle.crash_recovery.specs.declared.seat.Seat.{Seat}
+use Rattle.crash_recovery.specs.Recovery.{IsNew, IsRecovered, Recovers, in_force as in_force_of}
+use Rattle.crash_recovery.specs.Journals.{AllRecover, GoesOnFrom, RecoversEither, IsSeat, SeatedOn}
+use Rattle.crash_recovery.specs.Opening.{Shows, IsOpenedAs, IsCountable, RecoversSame, IsLeftOrSame, StaysSame, RecoversThen, OpensAs, IsReadAs, IsFull, IsOther, IsCause}
+use Rattle.crash_recovery.specs.declared.failure.OpenNo.{OpenNo}
+use Rattle.crash_recovery.specs.declared.failure.OpenNo.TheVariants.{DeviceFault, Damaged, OtherTag, Full, WantOfMemory}
+use Rattle.crash_recovery.specs.Damages.{IsTagDamage}
+use Rattle.crash_recovery.proofs.Reading.{rose_before}
+use Rattle.trend_num.specs.declared.archive.TheConstants.{MAX_RECORDS}
+
+-- ---- the sync at the beginning
+
+-- each image until then is one from before
+pub synced_during : {E : Type 0} (r : Result (Unit {0}) E) (def : TagDef) (o new : Option Trace) → IsNoted Synced Idle r o new
+    → During o new (IsLeftOrSame def o)
+synced_during r def o new is =
+    weaker o new (MayLeave o) (IsLeftOrSame def o) (λ c may. inl may)
+    (goes_on Synced Idle r o o new (MayLeave o) (started o (MayLeave o) (record { each = λ c may. may })) is
+    (record { each = λ c may. synced_now r o new c is may }))
+
+-- a fact on what a read gives is one on what it gave before
+pub shown_before : (o mid : Option Trace) (P : List ℕ → Type 0) → mid ≡ noted Synced o → Shows mid P → Shows o P
+shown_before None mid P is shows = tt
+shown_before (Some t) mid P is shows = subst (λ m. Shows m P) is shows
+
+-- the cause of a refusal is one of the device before
+pub cause_synced : (def : TagDef) (o mid : Option Trace) (a b n : ℕ) (why : OpenNo) → mid ≡ noted Synced o → a ≤ b
+    → IsCause def mid b n why → IsCause def o a n why
+cause_synced def o mid a b n DeviceFault is le cause = rose_before a b n le cause
+cause_synced def o mid a b n (Damaged at byte) is le cause = shown_before o mid (λ c. IsTagDamage def c at byte) is cause
+cause_synced def o mid a b n (OtherTag found wanted) is le cause = shown_before o mid (λ c. IsOther def c found wanted) is cause
+cause_synced def o mid a b n (Full records) is le cause =
+    shown_before o mid (λ c. (s : State) × IsFull def c records s) is cause
+cause_synced def o mid a b n WantOfMemory is le cause = tt
+
+-- the same images until a later device that is the same
+pub during_same : (o mid new : Option Trace) (P : List ℕ → Type 0) → new ≡ mid → During o mid P → During o new P
+during_same o mid new P same during = subst (λ x. During o x P) (sym same) during
+
+-- a device of which a crash leaves what a read gives
+pub settled_mid : (o mid : Option Trace) → mid ≡ noted Synced o → IsSettled mid
+settled_mid o mid is = subst IsSettled (sym is) (settled o)
+
+-- ---- a new device
+
+new_seen : (o mid : Option Trace) → mid ≡ noted Synced o → Shows mid IsNew → IsNew (seen o)
+new_seen None mid is new = inl (omega arith)
+new_seen (Some t) mid is new = subst (λ m. Shows m IsNew) is new
+
+pub made_during : (def : TagDef) (o mid new : Option Trace) → mid ≡ noted Synced o → Shows mid IsNew
+    → During o mid (IsLeftOrSame def o) → During mid new (λ c. Recovers def c (nothing_taken def.tuning))
+    → During o new (IsLeftOrSame def o)
+made_during def o mid new is blank before made =
+    let start = nothing_taken def.tuning in
+    in_turn o mid new (IsLeftOrSame def o) before
+    (weaker mid new (λ c. Recovers def c start) (IsLeftOrSame def o)
+    (λ c recovers. inr (start, start, inl (new_seen o mid is blank, refl), inl (refl, refl), inl recovers)) made)
+
+pub made_as : (def : TagDef) (o mid new : Option Trace) (r : State) → mid ≡ noted Synced o → Shows mid IsNew
+    → During mid new (λ c. Recovers def c (nothing_taken def.tuning)) → r ≡ nothing_taken def.tuning → IsReadAs def o new false r
+made_as def None mid new r is blank made same = tt
+made_as def (Some t) mid new r is blank made same =
+    let start = nothing_taken def.tuning in
+    (start, inl (new_seen (Some t) mid is blank, refl), during_now mid new (λ c. Recovers def c start) made, (refl, same))
+
+-- ---- a device whose layout was finished
+
+pub seated_mid : (p : Seat) (o mid : Option Trace) → mid ≡ noted Synced o → Shows mid (IsSeat p) → SeatedOn p mid
+seated_mid p None mid is seat = subst (SeatedOn p) (sym is) tt
+seated_mid p (Some t) mid is seat = subst (SeatedOn p) (sym is) (record {
+  settled = settled (Some t);
+  seat = subst (λ m. Shows m (IsSeat p)) is seat;
+})
+
+pub read_as : (def : TagDef) (o mid : Option Trace) (retuned : Bool) (r : State) → mid ≡ noted Synced o
+    → Shows mid (λ c. (s : State) × IsRecovered def c s × OpensAs def retuned s r) → IsReadAs def o mid retuned r
+read_as def None mid retuned r is read = tt
+read_as def (Some t) mid retuned r is read =
+    let found = subst (λ m. Shows m (λ c. (s : State) × IsRecovered def c s × OpensAs def retuned s r)) is read in (
+      found.0,
+      inr found.1,
+      record {
+        each = λ c may. subst (λ x. Recovers def x found.0) (sym ((settled (Some t)).each c (subst (λ m. MayLeave m c) is may)))
+            (inr found.1);
+      },
+      found.2,
+    )
+
+-- ---- what is opened
+
+opens_as : (def : TagDef) (retuned : Bool) (s r : State) → OpensAs def retuned s r → IsOpenedAs def s r
+opens_as def false s r opens = inl opens
+opens_as def true s r opens = inr opens
+
+pub opened_shown : (def : TagDef) (o new : Option Trace) (retuned : Bool) (r : State) → IsReadAs def o new retuned r
+    → Shows o (λ c. (s : State) × Recovers def c s × IsOpenedAs def s r)
+opened_shown def None new retuned r read = tt
+opened_shown def (Some t) new retuned r read = (read.0, read.1, opens_as def retuned read.0 r read.3)
+
+-- without a retuning all is as it was read
+pub stays_read : (def : TagDef) (o new : Option Trace) → During o new (IsLeftOrSame def o) → StaysSame def o new
+stays_read def None new during = tt
+stays_read def (Some t) new during = λ countable. during
+
+pub recovers_read : (def : TagDef) (o new : Option Trace) (r : State) → IsReadAs def o new false r → RecoversThen def o new r
+recovers_read def None new r read = tt
+recovers_read def (Some t) new r read = λ countable. subst (λ s. AllRecover def new s) (sym read.3.1) read.2
+
+-- an event counts one at most
+counts_under : (step : Bool) (s : State) (e : Event) (u : Option Tuning) → (after_under step s e u).summary.taken ≤ s.summary.taken + 1
+counts_under step s e None = omega arith
+counts_under step s e (Some u) = omega arith
+
+-- what a checkpoint of a retuned core promises
+abbrev pub Promises : Option Trace → Option Trace → Bool → State → Type 0
+Promises mid new step r = r.summary.taken < 10 ^ 18 → (def : TagDef) (s : State) → AllRecover def mid s → GoesOnFrom def s step r
+    → During mid new (RecoversEither def s r)
+
+module _ (def : TagDef) (t : Trace) (mid new : Option Trace) (step : Bool) (r : State) (kind : step ≡ def.step)
+    (read : IsReadAs def (Some t) mid true r) (countable : IsCountable def (seen (Some t))) where
+  -- the core goes on from what was recovered
+  goes : GoesOnFrom def read.0 step r
+  goes = (kind, (Tune def.tuning ∷ [], read.3.1))
+
+  few : r.summary.taken < 10 ^ 18
+  few = ⊎_elim (λ tuned. absurd (read.3.0 tuned)) (λ less.
+      omega (arith, ap (λ x. x.summary.taken) read.3.1, counts_under def.step read.0 (Tune def.tuning) read.0.summary.tuning, less))
+      (countable read.0 read.1)
+
+  either_same : (c : List ℕ) → RecoversEither def read.0 r c → IsLeftOrSame def (Some t) c
+  either_same c either = inr (read.0, r, read.1, inr (read.3.0, read.3.1), either)
+
+pub stays_retuned : (def : TagDef) (o mid new : Option Trace) (step : Bool) (r : State) → step ≡ def.step → IsReadAs def o mid true r
+    → During o mid (IsLeftOrSame def o) → Promises mid new step r → StaysSame def o new
+stays_retuned def None mid new step r kind read before promise = tt
+stays_retuned def (Some t) mid new step r kind read before promise = λ countable.
+    in_turn (Some t) mid new (IsLeftOrSame def (Some t)) before
+    (weaker mid new (RecoversEither def read.0 r) (IsLeftOrSame def (Some t)) (either_same def t mid new step r kind read countable)
+    (promise (few def t mid new step r kind read countable) def read.0 read.2 (goes def t mid new step r kind read countable)))
+
+pub recovers_retuned : (def : TagDef) (o mid new : Option Trace) (step : Bool) (r : State) → step ≡ def.step → IsReadAs def o mid true r
+    → (r.summary.taken < 10 ^ 18 → (d : TagDef) (s : State) → AllRecover d mid s → GoesOnFrom d s step r → AllRecover d new r)
+    → RecoversThen def o new r
+recovers_retuned def None mid new step r kind read promise = tt
+recovers_retuned def (Some t) mid new step r kind read promise = λ countable.
+    promise (few def t mid new step r kind read countable) def read.0 read.2 (goes def t mid new step r kind read countable)
+
+-- ---- a tag that has to be retuned and is full
+
+pub full_shown : (def : TagDef) (o : Option Trace) (n : ℕ) (s : State) → Shows o (λ c. IsRecovered def c s)
+    → s.summary.tuning ≢ Some def.tuning → n ≡ length s.records → MAX_RECORDS < length s.records + 2
+    → Shows o (λ c. (x : State) × IsFull def c n x)
+full_shown def None n s recovered other is full = tt
+full_shown def (Some t) n s recovered other is full =
+    (s, record { recovered = inr recovered; other = other; records_are = is; full = full })
+
+-- a tuning is in force after a retuning
+pub tuning_after : (step : Bool) (s : State) (u w : Tuning) → s.summary.tuning ≡ Some u
+    → (after step s (Tune w)).summary.tuning ≡ Some w
+tuning_after step s u w is = ap (λ t. (after_under step s (Tune w) t).summary.tuning) is
+
+-- ---- for which history it stands
+
+pub stands_same : (def : TagDef) (o : Origin) (h : List Event) (s r : State) → o.step ≡ def.step → Stands o h s
+    → IsOpenedAs def s r → in_force o h ≡ def.tuning → Stands o h r
+stands_same def o h s r step stands (inl opened) tuned = subst (Stands o h) (sym opened.1) stands
+stands_same def o h s r step stands (inr opened) tuned = absurd (opened.0 (stands.tuned ∙ ap Some tuned))
+
+pub stands_retuned : (def : TagDef) (o : Origin) (h : List Event) (s r : State) → o.step ≡ def.step → Stands o h s
+    → IsOpenedAs def s r → in_force o h ≢ def.tuning → Stands o (Tune def.tuning ∷ h) r
+stands_retuned def o h s r step stands (inl opened) other =
+    absurd (other (ap (λ t. in_force_of (in_force o h) t) (sym stands.tuned ∙ opened.0)))
+stands_retuned def o h s r step stands (inr opened) other = subst (Stands o (Tune def.tuning ∷ h)) (sym opened.1)
+    (subst (λ k. Stands o (Tune def.tuning ∷ h) (after k s (Tune def.tuning))) step (stands_after o h (Tune def.tuning) s stands))

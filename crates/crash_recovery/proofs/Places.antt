@@ -1,0 +1,277 @@
+-- The place of a journal, where only the lane has changed, or only what no summary counts.
+use Rattle.crash_recovery.specs.Opening.{Shows}
+use Rattle.std.proofs.Common.{◌≡◌, ◌≢◌, ◌⊎◌, inl, inr, ℕ, ◌+◌, ◌*◌, ◌<◌, ◌≤◌, Bool, true, false, List, length}
+use Rattle.std.proofs.Common.{get_or, take, drop, Option, None, Some, refl, sym, ◌∙◌, ap, subst, arith}
+use Rattle.disk_model.specs.Traces.{Trace, seen}
+use Rattle.disk_model.specs.Images.{IsOutside, Now, IsSettled}
+use Rattle.disk_model.specs.Calls.{Reaches}
+use Rattle.disk_model.specs.Gates.{open_byte, HasGatesOf}
+use Rattle.event_queue.specs.Slots.{lane_end}
+use Rattle.event_queue.specs.Places.{HasRoom}
+use Rattle.crash_recovery.specs.declared.seat.Seat.{Seat}
+use Rattle.crash_recovery.specs.declared.slot.Slot.{Slot}
+use Rattle.crash_recovery.specs.declared.slot.Slot.TheVariants.{First, Second}
+use Rattle.crash_recovery.specs.Headers.{slots_in, IsHeader}
+use Rattle.crash_recovery.specs.Recovery.{summary_place, summary_gate, slot_bytes}
+use Rattle.crash_recovery.specs.Journals.{IsInUse, LaneStands, IsSeat, SeatedOn}
+use Rattle.crash_recovery.specs.Seats.{log_end, spare_slot, IsLaid, LaidOn, OverrunOn}
+use Rattle.crash_recovery.proofs.Pieces.{same_piece}
+use Rattle.crash_recovery.proofs.Counting.{same_counting, counting_left}
+use Rattle.crash_recovery.proofs.Stored.{KeepsStored, taken_kept, records_kept}
+
+-- ---- only the lane has changed
+
+pub record OnlyLane (slots : ℕ) (a b : List ℕ) : Type 0 where
+  pub no_shorter : length a ≤ length b
+  pub same : (i : ℕ) → i < length a → (i < 400) ⊎ (lane_end slots ≤ i) → get_or b i 0 ≡ get_or a i 0
+
+-- then all that is stored was kept
+pub only_lane : (p : Seat) (a b : List ℕ) → IsLaid p a → OnlyLane p.lane.slots a b → KeepsStored p a b
+only_lane p a b laid only = record {
+  no_shorter = only.no_shorter;
+  first = only.same 0 (omega (arith, laid.long)) (inl (omega arith));
+  header = front 0 128 (omega arith);
+  counts = same_counting a b (only.same 384 (omega (arith, laid.long)) (inl (omega arith)))
+      (only.same 385 (omega (arith, laid.long)) (inl (omega arith))) (front 128 128 (omega arith))
+      (front 256 128 (omega arith));
+  summary = λ i is. slot_same i;
+  log = same_piece (lane_end p.lane.slots) (17 * p.records) a b laid.long
+      (omega (arith, laid.long, only.no_shorter))
+      (λ i low below. only.same i (omega (arith, laid.long, below)) (inr low));
+}
+  where
+    front : (at n : ℕ) → at + n ≤ 400 → take n (drop at b) ≡ take n (drop at a)
+    front at n le = same_piece at n a b (omega (arith, laid.long, le))
+        (omega (arith, laid.long, only.no_shorter, le))
+        (λ i low below. only.same i (omega (arith, laid.long, le, below)) (inl (omega (arith, le, below))))
+
+    slot_same : (i : Slot) → slot_bytes b i ≡ slot_bytes a i
+    slot_same First = front 128 128 (omega arith)
+    slot_same Second = front 256 128 (omega arith)
+
+-- ---- only the slot that does not count, its gate, and what is behind the log have changed
+
+pub record OnlySpare (counts : Option Slot) (end : ℕ) (a b : List ℕ) : Type 0 where
+  pub no_shorter : length a ≤ length b
+  pub same : (i : ℕ) → i < end → IsOutside (summary_place (spare_slot counts)) 128 i
+      → i ≢ summary_gate (spare_slot counts)
+      → get_or b i 0 ≡ get_or a i 0
+
+-- the two slots and their gates lie apart, behind the header and before the lane
+apart_slot : (j i : Slot) → j ≢ i → (k : ℕ) → summary_place i ≤ k → k < summary_place i + 128
+    → IsOutside (summary_place j) 128 k × (k ≢ summary_gate j)
+apart_slot First First apart k low below = absurd (apart refl)
+apart_slot First Second apart k low below = (inr (omega (arith, low)), λ e. absurd (omega (arith, e, below)))
+apart_slot Second First apart k low below = (
+  inl (omega (arith, below)),
+  λ e. absurd
+      (omega (arith, e, below)),
+)
+apart_slot Second Second apart k low below = absurd (apart refl)
+
+-- a gate is no part of a slot, nor the other gate
+apart_gate : (j i : Slot) → j ≢ i → IsOutside (summary_place j) 128 (summary_gate i)
+    × (summary_gate i ≢ summary_gate j)
+apart_gate First First apart = absurd (apart refl)
+apart_gate First Second apart = (inr (omega arith), λ e. absurd (omega (arith, e)))
+apart_gate Second First apart = (inr (omega arith), λ e. absurd (omega (arith, e)))
+apart_gate Second Second apart = absurd (apart refl)
+
+-- the header is no part of them
+pub apart_front : (j : Slot) (k : ℕ) → k < 128 → IsOutside (summary_place j) 128 k × (k ≢ summary_gate j)
+apart_front First k below = (inl below, λ e. absurd (omega (arith, e, below)))
+apart_front Second k below = (inl (omega (arith, below)), λ e. absurd (omega (arith, e, below)))
+
+-- nor is the lane
+pub apart_lane : (j : Slot) (k : ℕ) → 400 ≤ k → IsOutside (summary_place j) 128 k × (k ≢ summary_gate j)
+apart_lane First k low = (inr (omega (arith, low)), λ e. absurd (omega (arith, e, low)))
+apart_lane Second k low = (inr (omega (arith, low)), λ e. absurd (omega (arith, e, low)))
+
+-- a slot lies before both gates
+pub slot_within : (j : Slot) → summary_place j + 128 ≤ 384
+slot_within First = omega arith
+slot_within Second = omega arith
+
+-- a gate lies before the lane
+pub gate_within : (j : Slot) → summary_gate j < 400
+gate_within First = omega arith
+gate_within Second = omega arith
+
+-- a slot lies before both gates
+pub gate_apart : (j : Slot) → IsOutside (summary_place j) 128 (summary_gate j)
+gate_apart First = inr (omega arith)
+gate_apart Second = inr (omega arith)
+
+-- the slot that counts is not the other one
+pub spare_other : (counts : Option Slot) (i : Slot) → counts ≡ Some i → spare_slot counts ≢ i
+spare_other None i is = absurd (cc (is))
+spare_other (Some First) First is = λ e. absurd (cc (e))
+spare_other (Some First) Second is = absurd (cc (is))
+spare_other (Some Second) First is = absurd (cc (is))
+spare_other (Some Second) Second is = λ e. absurd (cc (e))
+
+module _ (p : Seat) (a b : List ℕ) (laid : IsLaid p a) (only : OnlySpare p.counts (log_end p) a b) where
+  -- any other slot and its gate are as they were
+  pub others_kept : (i : Slot) → spare_slot p.counts ≢ i
+      → (get_or b (summary_gate i) 0 ≡ get_or a (summary_gate i) 0) × (slot_bytes b i ≡ slot_bytes a i)
+  others_kept i apart =
+      let gate = apart_gate (spare_slot p.counts) i apart in
+      let within = slot_within i in (
+        only.same (summary_gate i) (omega (arith, gate_within i)) gate.0 gate.1,
+        same_piece (summary_place i) 128 a b (omega (arith, within, laid.long))
+            (omega (arith, within, laid.long, only.no_shorter)) (λ k low below.
+            let out = apart_slot (spare_slot p.counts) i apart k low below in
+            only.same k (omega (arith, within, below)) out.0 out.1),
+      )
+
+  -- the header is as it was
+  pub front_kept : (n : ℕ) → n ≤ 128 → take n b ≡ take n a
+  front_kept n le = same_piece 0 n a b (omega (arith, le, laid.long))
+      (omega (arith, le, laid.long, only.no_shorter))
+      (λ k low below. let out = apart_front (spare_slot p.counts) k (omega (arith, le, below)) in
+      only.same k (omega (arith, le, below)) out.0 out.1)
+
+  -- and its gate
+  pub first_kept : get_or b 0 0 ≡ get_or a 0 0
+  first_kept = let out = apart_front (spare_slot p.counts) 0 (omega arith) in only.same 0 (omega arith) out.0
+      out.1
+
+  -- the lane and the log are as they were
+  pub behind_kept : (k : ℕ) → 400 ≤ k → k < log_end p → get_or b k 0 ≡ get_or a k 0
+  behind_kept k low below = let out = apart_lane (spare_slot p.counts) k low in only.same k below out.0 out.1
+
+  -- so the log is
+  pub log_kept : take (17 * p.records) (drop (lane_end p.lane.slots) b) ≡ take (17 * p.records)
+      (drop (lane_end p.lane.slots) a)
+  log_kept = same_piece (lane_end p.lane.slots) (17 * p.records) a b laid.long
+      (omega (arith, laid.long, only.no_shorter))
+      (λ k low below. behind_kept k (omega (arith, low)) below)
+
+  -- where the slot that does not count was shut or left as it was, all that is stored was kept
+  pub only_spare : (get_or b (summary_gate (spare_slot p.counts)) 0 ≢ open_byte)
+      ⊎ ((get_or b (summary_gate (spare_slot p.counts)) 0 ≡ get_or a (summary_gate (spare_slot p.counts)) 0)
+      × (slot_bytes b (spare_slot p.counts) ≡ slot_bytes a (spare_slot p.counts))) → KeepsStored p a b
+  only_spare spare = record {
+    no_shorter = only.no_shorter;
+    first = first_kept;
+    header = front_kept 128 (omega arith);
+    counts = counting_left p.counts a b (sym laid.counts) (record { others = others_kept; spare = spare })
+        ∙ laid.counts;
+    summary = λ i is. (others_kept i (spare_other p.counts i is)).1;
+    log = log_kept;
+  }
+
+-- ---- the place
+
+-- a place that stands elsewhere in its lane
+abbrev pub moved : Seat → Bool → ℕ → ℕ → Seat
+moved p stale used next = record p { stale = stale; lane = record p.lane { used = used; next = next } }
+
+-- it is a place where what is stored was kept
+pub laid_moved : (p : Seat) (stale : Bool) (used next : ℕ) (a b : List ℕ) → IsLaid p a → KeepsStored p a b
+    → HasRoom p.lane.slots used b → (stale ≡ false → IsInUse p.lane.slots p.taken used next b)
+    → (stale ≡ true → next ≡ p.taken) → IsLaid (moved p stale used next) b
+laid_moved p stale used next a b laid keeps room in_use number = record {
+  opened = keeps.first ∙ laid.opened;
+  header = subst IsHeader (sym keeps.header) laid.header;
+  slots = laid.slots ∙ ap slots_in (sym keeps.header);
+  room = room;
+  counts = laid.counts ∙ sym keeps.counts;
+  taken = laid.taken ∙ sym (taken_kept a b p.counts keeps.summary);
+  records = laid.records ∙ sym (records_kept a b p.counts keeps.summary);
+  long = omega (arith, laid.long, keeps.no_shorter);
+  in_use = in_use;
+  number = number;
+}
+
+-- what a journal keeps is more
+laid_of : (p : Seat) (c : List ℕ) → IsSeat p c → IsLaid p c
+laid_of p c seat = record {
+  opened = seat.opened;
+  header = seat.header;
+  slots = seat.slots;
+  room = seat.room;
+  counts = seat.counts;
+  taken = seat.taken;
+  records = seat.records;
+  long = seat.long;
+  in_use = λ is. subst (λ b. LaneStands b p.lane.slots p.taken p.lane.used p.lane.next c) is seat.lane;
+  number = λ is. (subst (λ b. LaneStands b p.lane.slots p.taken p.lane.used p.lane.next c) is
+      seat.lane).number;
+}
+
+-- and it is this where the lane is not overtaken
+seat_of : (p : Seat) (c : List ℕ) → IsLaid p c → p.stale ≡ false → IsSeat p c
+seat_of p c laid fresh = record {
+  opened = laid.opened;
+  header = laid.header;
+  slots = laid.slots;
+  room = laid.room;
+  counts = laid.counts;
+  taken = laid.taken;
+  records = laid.records;
+  long = laid.long;
+  lane = subst (λ b. LaneStands b p.lane.slots p.taken p.lane.used p.lane.next c) (sym fresh)
+      (laid.in_use fresh);
+}
+
+-- the same of devices
+pub laid_on : (p : Seat) (o : Option Trace) → SeatedOn p o → LaidOn p o
+laid_on p None seated = tt
+laid_on p (Some t) seated = record { settled = seated.settled; laid = laid_of p (seen (Some t)) seated.seat }
+
+-- a place that is not overtaken
+pub seated_on : (p : Seat) (o : Option Trace) → p.stale ≡ false → LaidOn p o → SeatedOn p o
+seated_on p None fresh laid = tt
+seated_on p (Some t) fresh laid = record {
+  settled = laid.settled;
+  seat = seat_of p (seen (Some t)) laid.laid
+      fresh;
+}
+
+-- an overtaken one
+pub overrun_on : (p : Seat) (o : Option Trace) → SeatedOn p o → p.stale ≡ true → OverrunOn p o
+overrun_on p None seated is = tt
+overrun_on p (Some t) seated is =
+    let lane = subst (λ b. LaneStands b p.lane.slots p.taken p.lane.used p.lane.next (seen (Some t))) is
+    seated.seat.lane in
+    record { stale = lane.stale }
+
+-- its parts
+pub settled_on : (p : Seat) (o : Option Trace) → LaidOn p o → IsSettled o
+settled_on p None laid = record { each = λ c may. absurd may.image }
+settled_on p (Some t) laid = laid.settled
+
+-- what a read gives
+pub laid_shown : (p : Seat) (o : Option Trace) → LaidOn p o → Shows o (IsLaid p)
+laid_shown p None laid = tt
+laid_shown p (Some t) laid = laid.laid
+
+-- and back
+pub laid_again : (p : Seat) (o : Option Trace) → IsSettled o → Shows o (IsLaid p) → LaidOn p o
+laid_again p None settled laid = tt
+laid_again p (Some t) settled laid = record { settled = settled; laid = laid }
+
+-- ---- what the calls need
+
+-- the lane is there
+pub room_on : (p : Seat) (o : Option Trace) → LaidOn p o → Now o (HasRoom p.lane.slots p.lane.used)
+room_on p None laid = record { each = λ c may. absurd may.image }
+room_on p (Some t) laid = record {
+  each = λ c may. subst (HasRoom p.lane.slots p.lane.used)
+      (sym (laid.settled.each c may)) laid.laid.room;
+}
+
+-- so is all that is before the end of the log
+pub reaches_on : (p : Seat) (o : Option Trace) (n : ℕ) → LaidOn p o → n ≤ log_end p → Reaches o n
+reaches_on p None n laid le = tt
+reaches_on p (Some t) n laid le = omega (arith, le, laid.laid.long)
+
+-- gates there read the same in each image
+pub gates_on : (p : Seat) (o : Option Trace) (at n : ℕ) → LaidOn p o → at + n ≤ log_end p
+    → Now o (HasGatesOf (seen o) at n)
+gates_on p None at n laid le = record { each = λ c may. absurd may.image }
+gates_on p (Some t) at n laid le = record {
+  each = λ c may. subst (HasGatesOf (seen (Some t)) at n) (sym (laid.settled.each c may))
+      (record { there = omega (arith, le, laid.laid.long); same = λ i low below. refl });
+}

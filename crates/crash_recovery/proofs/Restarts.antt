@@ -1,0 +1,92 @@
+-- The gates of an overtaken lane are closed.
+use Rattle.crash_recovery.specs.Opening.{Shows}
+use Rattle.std.proofs.Common.{◌≡◌, ◌⊎◌, inl, inr, ℕ, ◌<◌, ◌≤◌, true, false, List, length, Option, sym, ◌∙◌}
+use Rattle.std.proofs.Common.{ap, arith}
+use Rattle.trend_num.specs.declared.tag_def.TagDef.{TagDef}
+use Rattle.trend_model.specs.State.{State}
+use Rattle.disk_model.specs.Traces.{Trace}
+use Rattle.disk_model.specs.Images.{IsOutside, Now, FromOld, IsSettled}
+use Rattle.disk_model.specs.Moments.{During}
+use Rattle.disk_model.specs.Gates.{IsClosing}
+use Rattle.event_queue.specs.Slots.{gate_of, lane_end}
+use Rattle.event_queue.specs.Lanes.{IsLane}
+use Rattle.event_queue.specs.Places.{HasRoom, IsOvertaken}
+use Rattle.event_queue.proofs.Overtaken.{overtaken_none, overtaken_closing}
+use Rattle.event_queue.proofs.Filled.{lane_points_used}
+use Rattle.crash_recovery.specs.declared.seat.Seat.{Seat}
+use Rattle.crash_recovery.specs.Recovery.{Recovers}
+use Rattle.crash_recovery.specs.Journals.{AllRecover, IsInUse}
+use Rattle.crash_recovery.specs.Seats.{IsLaid, LaidOn, IsOverrun, OverrunOn, restarted}
+use Rattle.crash_recovery.proofs.Stored.{KeepsLane, recovers_same}
+use Rattle.crash_recovery.proofs.SettledDevices.{shown_now, shown_both, during_from, shown_from}
+use Rattle.crash_recovery.proofs.Places.{OnlyLane, only_lane, laid_moved, settled_on, laid_shown, laid_again}
+
+-- only the lane has changed
+closing_lane : (slots used : ℕ) (a b : List ℕ) → used ≤ slots → IsClosing (gate_of 0) used a b
+    → OnlyLane slots a b
+closing_lane slots used a b le closing = record {
+  no_shorter = omega (arith, closing.same_length);
+  same = λ i there out. closing.same i (inl (outside i out));
+}
+  where
+    outside : (i : ℕ) → (i < 400) ⊎ (lane_end slots ≤ i) → IsOutside (gate_of 0) used i
+    outside i (inl below) = inl (omega (arith, below))
+    outside i (inr above) = inr (omega (arith, above, le))
+
+module _ (p : Seat) (le : p.lane.used ≤ p.lane.slots) (a b : List ℕ)
+    (closing : IsClosing (gate_of 0) p.lane.used a b) where
+  -- an overtaken lane stays so
+  overtaken_after : IsOverrun p a → IsLane p.lane.slots a p.taken p.lane.slots
+      → IsOvertaken p.lane.slots p.taken b
+  overtaken_after over lane =
+      overtaken_closing p.lane.slots p.taken p.lane.used a b le (record { lane = lane; stale = over.stale })
+      closing
+
+  -- it holds nothing, before and after
+  closing_keeps : IsOverrun p a → KeepsLane p.lane.slots p.taken a b
+  closing_keeps over = record {
+    lane = λ lane. (overtaken_after over lane).lane;
+    points = λ lane. overtaken_none p.lane.slots p.taken b (overtaken_after over lane) p.lane.slots
+        (omega arith)
+        ∙ sym (overtaken_none p.lane.slots p.taken a (record { lane = lane; stale = over.stale })
+        p.lane.slots (omega arith));
+  }
+
+-- a lane with no open gate is in use up to its first slot
+pub in_use_fresh : (slots taken next : ℕ) (c : List ℕ) → HasRoom slots 0 c → next ≡ taken
+    → IsInUse slots taken 0 next c
+in_use_fresh slots taken next c room is = record {
+  lane = record { sound = λ k below opened. absurd (room.shut k (omega arith) below opened) };
+  opened = λ k below. absurd (omega (arith, below));
+  beyond = λ k below. absurd (omega (arith, below));
+  number = omega (arith, is, ap length (lane_points_used slots taken 0 c (omega arith) room));
+}
+
+module _ (o new : Option Trace) (p : Seat) (le : p.lane.used ≤ p.lane.slots) (laid : LaidOn p o)
+    (during : During o new (FromOld o (IsClosing (gate_of 0) p.lane.used))) where
+  -- each image recovers what it recovered
+  pub restart_moments : (def : TagDef) (s : State) → AllRecover def o s → OverrunOn p o
+      → During o new (λ c. Recovers def c s)
+  restart_moments def s all over =
+      let Q : List ℕ → Type 0 = λ c. IsLaid p c × (IsOverrun p c × Recovers def c s) in
+      let known : Shows o Q =
+      shown_both o (IsLaid p) (λ c. IsOverrun p c × Recovers def c s) (laid_shown p o laid)
+      (shown_both o (IsOverrun p) (λ c. Recovers def c s) over (shown_now o (λ c. Recovers def c s) all)) in
+      during_from o new (IsClosing (gate_of 0) p.lane.used) Q (λ c. Recovers def c s) (settled_on p o laid)
+      known
+      (λ a b q closing. recovers_same def p a b s q.0
+      (only_lane p a b q.0 (closing_lane p.lane.slots p.lane.used a b le closing))
+      (closing_keeps p le a b closing q.1.0) q.1.1) during
+
+  -- and the lane begins anew
+  pub restart_laid : p.stale ≡ true → IsSettled new → Now new (HasRoom p.lane.slots 0)
+      → LaidOn (restarted p) new
+  restart_laid stale settled room =
+      laid_again (restarted p) new settled
+      (shown_from o new (IsClosing (gate_of 0) p.lane.used) (IsLaid p) (HasRoom p.lane.slots 0)
+      (IsLaid (restarted p))
+      (settled_on p o laid) (laid_shown p o laid) (shown_now new (HasRoom p.lane.slots 0) room)
+      (λ a b laid_a closing room_b. laid_moved p false 0 p.lane.next a b laid_a
+      (only_lane p a b laid_a (closing_lane p.lane.slots p.lane.used a b le closing)) room_b
+      (λ e. in_use_fresh p.lane.slots p.taken p.lane.next b room_b (laid_a.number stale))
+      (λ e. absurd (cc (e)))) during)

@@ -1,0 +1,114 @@
+-- The bytes of a slot, cut into its fields.
+use Rattle.std.proofs.Common.{◌≡◌, ⊎_elim, ℕ, zero, suc, ◌+◌, ◌^◌, ◌<◌, ◌≤◌, true, eqb, List, [], ◌∷◌, ◌++◌}
+use Rattle.std.proofs.Common.{length, take, drop, replicate, refl, sym, ap, ◌∙◌, arith, take-append-drop}
+use Rattle.std.proofs.Common.{length-take, length-drop}
+use Rattle.std.specs.Int.{w32, w64, from_be_bytes, cast_signed}
+use Rattle.std.specs.List.{list_all}
+use Rattle.std.proofs.lemmas.Nat.{be_bytes_4, be_bytes_8}
+use Rattle.std.proofs.lemmas.Bool.{cases_lt, eqb-true, and_parts}
+use Rattle.std.proofs.lemmas.List.{drop-drop, drop-take, take-take, take_all, get_or-take, get_or-drop}
+use Rattle.std.proofs.lemmas.List.{get_or_past, append_assoc}
+use Rattle.archive_file.specs.Fields.{number_bytes, point_bytes, point_at}
+use Rattle.archive_file.proofs.Points.{IsBytes, point_bytes-at}
+
+-- what stands from a place on: a piece, and what is behind it
+pub cut : (b : List ℕ) (at n : ℕ) (piece rest : List ℕ) → take n (drop at b) ≡ piece → drop (at + n) b ≡ rest
+    → drop at b ≡ piece ++ rest
+cut b at n piece rest is behind =
+    sym (take-append-drop n (drop at b)) ∙ ap (λ l. take n (drop at b) ++ l) (drop-drop n at b)
+    ∙ ap (λ l. l ++ drop (at + n) b) is ∙ ap (λ l. piece ++ l) behind
+
+-- five points and what is behind them
+pub five_and_more : (a b c d e t : List ℕ) → (a ++ (b ++ (c ++ (d ++ e)))) ++ t
+    ≡ a ++ (b ++ (c ++ (d ++ (e ++ t))))
+five_and_more a b c d e t = simp append_assoc
+
+-- bytes that are all zeros
+all_zeros : (l : List ℕ) → list_all (λ x. eqb x 0) l ≡ true → l ≡ replicate (length l) 0
+all_zeros [] all = refl
+all_zeros (x ∷ l) all =
+    let parts = and_parts (eqb x 0) (list_all (λ x. eqb x 0) l) all in
+    ap (λ y. y ∷ l) (eqb-true x 0 parts.0) ∙ ap (λ k. 0 ∷ k) (all_zeros l parts.1)
+
+-- so many
+pub zeros_are : (l : List ℕ) (n : ℕ) → length l ≡ n → list_all (λ x. eqb x 0) l ≡ true → l ≡ replicate n 0
+zeros_are l n long all = all_zeros l all ∙ ap (λ k. replicate k 0) long
+
+-- bytes behind a zero
+bytes_behind_zero : (l : List ℕ) → IsBytes l → IsBytes (0 ∷ l)
+bytes_behind_zero l bytes zero = omega arith
+bytes_behind_zero l bytes (suc i) = bytes i
+
+-- a point stands in the first 16 bytes
+point_of_piece : (l : List ℕ) → point_at (take 16 l) ≡ point_at l
+point_of_piece l =
+    let first : take 8 (take 16 l) ≡ take 8 l = take-take 8 16 l (omega arith) in
+    let second : take 8 (drop 8 (take 16 l)) ≡ take 8 (drop 8 l) =
+    ap (take 8) (drop-take 8 8 l) ∙ take-take 8 8 (drop 8 l) (omega arith) in
+    λ i. record {
+      t = from_be_bytes w64 (first i);
+      v = cast_signed w64 (from_be_bytes w64 (second i));
+    }
+
+-- 8 bytes are a number of 64 bits
+pub eight_below : (l : List ℕ) → IsBytes l → from_be_bytes w64 l < 2 ^ 64
+eight_below l bytes =
+    omega (arith, bytes 0, bytes 1, bytes 2, bytes 3, bytes 4, bytes 5, bytes 6, bytes 7)
+
+-- 4 bytes one of 32
+pub four_below : (l : List ℕ) → IsBytes l → from_be_bytes w32 l < 2 ^ 32
+four_below l bytes = omega (arith, bytes 0, bytes 1, bytes 2, bytes 3)
+
+-- the pieces of 128 bytes
+module _ (b : List ℕ) (long : length b ≡ 128) (bytes : IsBytes b) where
+  -- one is as long as it is
+  pub length-piece : (at n : ℕ) → at + n ≤ 128 → length (take n (drop at b)) ≡ n
+  length-piece at n within = omega (arith, length-take n (drop at b), length-drop at b)
+
+  -- of bytes
+  pub bytes_of_piece : (at n : ℕ) → IsBytes (take n (drop at b))
+  bytes_of_piece at n i = ⊎_elim
+      (λ below. omega (arith, get_or-take n (drop at b) i 0 below, get_or-drop at b i 0, bytes (at + i)))
+      (λ above. let past : length (take n (drop at b)) ≤ i = omega (arith, length-take n (drop at b)) in
+      omega (arith, get_or_past (take n (drop at b)) i 0 past))
+      (cases_lt i n)
+
+  -- the last one is the rest
+  pub last_piece : (at n : ℕ) → at + n ≡ 128 → take n (drop at b) ≡ drop at b
+  last_piece at n end = take_all n (drop at b) (omega (arith, length-drop at b))
+
+  -- a number of 8 bytes
+  pub eight : (at : ℕ) → at + 8 ≤ 128 → take 8 (drop at b)
+      ≡ number_bytes 8 (from_be_bytes w64 (take 8 (drop at b)))
+  eight at within =
+      sym (be_bytes_8 (take 8 (drop at b)) _ (length-piece at 8 within) (bytes_of_piece at 8) refl)
+
+  -- of 4 bytes
+  pub four : (at : ℕ) → at + 4 ≤ 128 → take 4 (drop at b)
+      ≡ number_bytes 4 (from_be_bytes w32 (take 4 (drop at b)))
+  four at within =
+      sym (be_bytes_4 (take 4 (drop at b)) _ (length-piece at 4 within) (bytes_of_piece at 4) refl)
+
+  -- of 7 bytes
+  pub seven : (at : ℕ) → at + 7 ≤ 128 → take 7 (drop at b)
+      ≡ number_bytes 7 (from_be_bytes w64 (0 ∷ take 7 (drop at b)))
+  seven at within =
+      let piece = take 7 (drop at b) in
+      let longer : length (0 ∷ piece) ≡ 8 = omega (arith, length-piece at 7 within) in
+      sym (ap (drop 1) (be_bytes_8 (0 ∷ piece) (from_be_bytes w64 (0 ∷ piece)) longer
+      (bytes_behind_zero piece (bytes_of_piece at 7)) refl))
+
+  -- of 6 bytes
+  pub six : (at : ℕ) → at + 6 ≤ 128 → take 6 (drop at b)
+      ≡ number_bytes 6 (from_be_bytes w64 (0 ∷ 0 ∷ take 6 (drop at b)))
+  six at within =
+      let piece = take 6 (drop at b) in
+      let longer : length (0 ∷ 0 ∷ piece) ≡ 8 = omega (arith, length-piece at 6 within) in
+      sym (ap (drop 2) (be_bytes_8 (0 ∷ 0 ∷ piece) (from_be_bytes w64 (0 ∷ 0 ∷ piece)) longer
+      (bytes_behind_zero (0 ∷ piece) (bytes_behind_zero piece (bytes_of_piece at 6))) refl))
+
+  -- a point
+  pub sixteen : (at : ℕ) → at + 16 ≤ 128 → take 16 (drop at b) ≡ point_bytes (point_at (drop at b))
+  sixteen at within =
+      sym (ap point_bytes (sym (point_of_piece (drop at b)))
+      ∙ point_bytes-at (take 16 (drop at b)) (length-piece at 16 within) (bytes_of_piece at 16))

@@ -1,0 +1,201 @@
+-- The records and the summary that are stored, where only bytes beside them change.
+use Rattle.std.proofs.Common.{◌≡◌, inl, inr, ℕ, ◌*◌, ◌≤◌, Bool, List, length, get_or, take, drop, map, Option}
+use Rattle.std.proofs.Common.{None, Some, refl, sym, ◌∙◌, ap, subst, arith}
+use Rattle.std.specs.Int.{w32, w64, from_be_bytes}
+use Rattle.trend_num.specs.declared.archive.Rec.{Rec}
+use Rattle.trend_num.specs.declared.archive.Summary.{Summary}
+use Rattle.trend_num.specs.declared.tag_def.TagDef.{TagDef}
+use Rattle.trend_model.specs.History.{Raw}
+use Rattle.trend_model.specs.Parts.{ArePartsOk}
+use Rattle.trend_model.specs.State.{State, replay}
+use Rattle.archive_file.specs.Places.{AreRecords}
+use Rattle.event_queue.specs.Slots.{lane_end}
+use Rattle.event_queue.specs.Lanes.{lane_points, IsLane}
+use Rattle.crash_recovery.specs.declared.seat.Seat.{Seat}
+use Rattle.crash_recovery.specs.declared.slot.Slot.{Slot}
+use Rattle.crash_recovery.specs.Headers.{name_in, tuning_in, slots_in, is_step_in, IsHeader}
+use Rattle.crash_recovery.specs.Recovery.{IsNew, header_of, log_place, slot_bytes, counting}
+use Rattle.crash_recovery.specs.Recovery.{HasSummary, in_force, state_of, start_of, AllFit, IsOfTag, IsStored}
+use Rattle.crash_recovery.specs.Recovery.{IsReplayed, Recovers}
+use Rattle.crash_recovery.specs.Journals.{taken_of, records_of}
+use Rattle.crash_recovery.specs.Seats.{IsLaid}
+use Rattle.crash_recovery.proofs.SlotNumbers.{taken_spelled, records_spelled}
+
+-- all bytes on which what is stored depends are as they were
+pub record KeepsStored (p : Seat) (a b : List ℕ) : Type 0 where
+  pub no_shorter : length a ≤ length b
+  pub first : get_or b 0 0 ≡ get_or a 0 0
+  pub header : header_of b ≡ header_of a
+  pub counts : counting b ≡ counting a
+  pub summary : (i : Slot) → p.counts ≡ Some i → slot_bytes b i ≡ slot_bytes a i
+  pub log : take (17 * p.records) (drop (lane_end p.lane.slots) b) ≡ take (17 * p.records)
+      (drop (lane_end p.lane.slots) a)
+
+-- the summary that counts begins with how many events and how many records it has
+pub taken_stored : (c : List ℕ) (o : Option Slot) (s : Summary) → HasSummary c o s → taken_of c o ≡ s.taken
+taken_stored c None s is = sym (ap (λ (x : Summary). x.taken) is)
+taken_stored c (Some i) s has = ap (λ l. from_be_bytes w64 (take 8 l)) has.1 ∙ taken_spelled s has.0
+
+pub records_stored : (c : List ℕ) (o : Option Slot) (s : Summary) → HasSummary c o s
+    → records_of c o ≡ s.records
+records_stored c None s is = sym (ap (λ (x : Summary). x.records) is)
+records_stored c (Some i) s has = ap (λ l. from_be_bytes w32 (take 4 (drop 8 l))) has.1
+    ∙ records_spelled s has.0
+
+-- the same bytes are the same summary
+summary_same : (a b : List ℕ) (o : Option Slot) (s : Summary)
+    → ((i : Slot) → o ≡ Some i → slot_bytes b i ≡ slot_bytes a i)
+    → HasSummary a o s → HasSummary b o s
+summary_same a b None s same is = is
+summary_same a b (Some i) s same has = (has.0, same i refl ∙ has.1)
+
+-- and the same numbers
+pub taken_kept : (a b : List ℕ) (o : Option Slot)
+    → ((i : Slot) → o ≡ Some i → slot_bytes b i ≡ slot_bytes a i)
+    → taken_of b o ≡ taken_of a o
+taken_kept a b None same = refl
+taken_kept a b (Some i) same = ap (λ l. from_be_bytes w64 (take 8 l)) (same i refl)
+
+pub records_kept : (a b : List ℕ) (o : Option Slot)
+    → ((i : Slot) → o ≡ Some i → slot_bytes b i ≡ slot_bytes a i)
+    → records_of b o ≡ records_of a o
+records_kept a b None same = refl
+records_kept a b (Some i) same = ap (λ l. from_be_bytes w32 (take 4 (drop 8 l))) (same i refl)
+
+module _ (def : TagDef) (p : Seat) (a : List ℕ) (laid : IsLaid p a) where
+  -- of the summary that is stored, the place knows the numbers
+  pub taken_known : (rs : List Rec) (s : Summary) → IsStored def a rs s → p.taken ≡ s.taken
+  taken_known rs s stored = laid.taken ∙ ap (taken_of a) laid.counts
+      ∙ taken_stored a (counting a) s stored.summary
+
+  pub records_known : (rs : List Rec) (s : Summary) → IsStored def a rs s → p.records ≡ s.records
+  records_known rs s stored = laid.records ∙ ap (records_of a) laid.counts
+      ∙ records_stored a (counting a) s stored.summary
+
+  -- it is no new device
+  pub not_new : IsNew a → ⊥
+  not_new (inl short) = absurd (omega (arith, short, laid.long))
+  not_new (inr shut) = shut laid.opened
+
+  -- where the lane ends
+  place_known : log_place a ≡ lane_end p.lane.slots
+  place_known = ap lane_end (sym laid.slots)
+
+  module _ (b : List ℕ) (keeps : KeepsStored p a b) where
+    -- the lane ends where it did
+    place_same : log_place b ≡ log_place a
+    place_same = ap (λ h. lane_end (slots_in h)) keeps.header
+
+    -- the device is the same tag's
+    pub tag_kept : IsOfTag def a → IsOfTag def b
+    tag_kept tag = record {
+      opened = keeps.first ∙ tag.opened;
+      header = subst IsHeader (sym keeps.header) tag.header;
+      same_name = ap name_in keeps.header ∙ tag.same_name;
+      same_step = ap is_step_in keeps.header ∙ tag.same_step;
+    }
+
+    -- the layout is whole
+    pub long_kept : log_place a ≤ length a → log_place b ≤ length b
+    long_kept long = subst (λ n. n ≤ length b) (sym place_same) (omega (arith, long, keeps.no_shorter))
+
+    -- all that was stored is stored
+    pub stored_kept : (rs : List Rec) (s : Summary) → IsStored def a rs s → IsStored def b rs s
+    stored_kept rs s stored = record {
+      tag = tag_kept stored.tag;
+      long = long_kept stored.long;
+      summary = subst (λ o. HasSummary b o s) (laid.counts ∙ sym keeps.counts)
+          (summary_same a b p.counts s keeps.summary (subst (λ o. HasSummary a o s) (sym laid.counts)
+          stored.summary));
+      records = record {
+        counted = stored.records.counted;
+        records = subst (AreRecords rs) (sym bytes_same) stored.records.records;
+      };
+      parts = subst (λ h. ArePartsOk (in_force (tuning_in h) s.tuning) def.step rs s) (sym keeps.header)
+          stored.parts;
+    }
+      where
+        count : s.records ≡ p.records
+        count = sym (records_known rs s stored)
+
+        bytes_same : take (17 * s.records) (drop (log_place b) b) ≡ take (17 * s.records)
+            (drop (log_place a) a)
+        bytes_same =
+            ap (λ n. take (17 * n) (drop (log_place b) b)) count
+            ∙ ap (λ n. take (17 * p.records) (drop n b)) (place_same ∙ place_known) ∙ keeps.log
+            ∙ ap (λ n. take (17 * p.records) (drop n a)) (sym place_known)
+            ∙ ap (λ n. take (17 * n) (drop (log_place a) a)) (sym count)
+
+    -- the lane goes on from the same state
+    start_kept : (rs : List Rec) (s : Summary) → start_of b rs s ≡ start_of a rs s
+    start_kept rs s = ap (λ h. state_of rs s (in_force (tuning_in h) s.tuning)) keeps.header
+
+    -- what a lane of this many slots replays
+    pub replays : (step : Bool) (c : List ℕ) (start : State) (taken : ℕ) (s : State)
+        → header_of c ≡ header_of a
+        → IsLane p.lane.slots c taken p.lane.slots
+        → AllFit step start (map Raw (lane_points p.lane.slots c taken))
+        → s ≡ replay step start (map Raw (lane_points p.lane.slots c taken)) → IsReplayed step c start taken s
+    replays step c start taken s same lane fits state =
+        let slots : p.lane.slots ≡ slots_in (header_of c) = laid.slots ∙ ap slots_in (sym same) in
+        record {
+          lane = subst (λ n. IsLane n c taken n) slots lane;
+          fits = subst (λ n. AllFit step start (map Raw (lane_points n c taken))) slots fits;
+          state = subst (λ n. s ≡ replay step start (map Raw (lane_points n c taken))) slots state;
+        }
+
+    -- what it recovers, where the lane's part is shown
+    pub recovers_kept : (s r : State)
+        → ((start : State) → IsReplayed def.step a start p.taken s → IsReplayed def.step b start p.taken r)
+        → Recovers def a s → Recovers def b r
+    recovers_kept s r moves (inl new) = absurd (not_new new.0)
+    recovers_kept s r moves (inr is) =
+        let taken = taken_known is.0 is.1 is.2 in
+        let before : IsReplayed def.step a (start_of a is.0 is.1) p.taken s =
+        subst (λ n. IsReplayed def.step a (start_of a is.0 is.1) n s) (sym taken) is.3 in
+        let now : IsReplayed def.step b (start_of b is.0 is.1) p.taken r =
+        subst (λ x. IsReplayed def.step b x p.taken r) (sym (start_kept is.0 is.1))
+        (moves (start_of a is.0 is.1) before) in
+        inr (
+          is.0,
+          is.1,
+          stored_kept is.0 is.1 is.2,
+          subst (λ n. IsReplayed def.step b (start_of b is.0 is.1)
+              n r) taken now,
+        )
+
+-- a lane that keeps the layout and holds the same points does so after a change
+pub record KeepsLane (slots taken : ℕ) (a b : List ℕ) : Type 0 where
+  pub lane : IsLane slots a taken slots → IsLane slots b taken slots
+  pub points : IsLane slots a taken slots → lane_points slots b taken ≡ lane_points slots a taken
+
+-- what a lane of so many slots replays
+pub record IsLaneReplayed (slots : ℕ) (step : Bool) (c : List ℕ) (start : State) (taken : ℕ)
+    (s : State) : Type 0 where
+  pub lane : IsLane slots c taken slots
+  pub fits : AllFit step start (map Raw (lane_points slots c taken))
+  pub state : s ≡ replay step start (map Raw (lane_points slots c taken))
+
+-- that of a place is that of its image
+pub lane_replayed : (p : Seat) (a : List ℕ) (step : Bool) (start : State) (s : State) → IsLaid p a
+    → IsReplayed step a start p.taken s → IsLaneReplayed p.lane.slots step a start p.taken s
+lane_replayed p a step start s laid was =
+    let back = sym laid.slots in
+    record {
+      lane = subst (λ n. IsLane n a p.taken n) back was.lane;
+      fits = subst (λ n. AllFit step start (map Raw (lane_points n a p.taken))) back was.fits;
+      state = subst (λ n. s ≡ replay step start (map Raw (lane_points n a p.taken))) back was.state;
+    }
+
+-- then it recovers what it recovered
+pub recovers_same : (def : TagDef) (p : Seat) (a b : List ℕ) (s : State) → IsLaid p a → KeepsStored p a b
+    → KeepsLane p.lane.slots p.taken a b → Recovers def a s → Recovers def b s
+recovers_same def p a b s laid keeps same recovers = recovers_kept def p a laid b keeps s s moves recovers
+  where
+    moves : (start : State) → IsReplayed def.step a start p.taken s → IsReplayed def.step b start p.taken s
+    moves start replayed =
+        let was = lane_replayed p a def.step start s laid replayed in
+        let points = sym (same.points was.lane) in
+        replays def p a laid b keeps def.step b start p.taken s keeps.header (same.lane was.lane)
+        (subst (λ ps. AllFit def.step start (map Raw ps)) points was.fits)
+        (subst (λ ps. s ≡ replay def.step start (map Raw ps)) points was.state)

@@ -1,0 +1,80 @@
+use Rattle.std.proofs.Common.{◌≡◌, ◌<◌, ◌^◌, ap, sym, subst, true, false, List, ℕ}
+use Rattle.trend_num.specs.declared.tag_def.TagDef.{TagDef}
+use Rattle.trend_model.specs.State.{State}
+use Rattle.crash_recovery.specs.Recovery.{Recovers}
+use Rattle.crash_recovery.specs.Journals.{AllRecover, GoesOnFrom}
+use Rattle.crash_recovery.specs.Opening.{Shows, IsLeftOrSame, IsOpenedAs, StaysSame, RecoversThen, IsReadAs}
+use Rattle.crash_recovery.proofs.Shows.{if_ok, if_ok₂, if_err}
+use Rattle.crash_recovery.proofs.Openings.{Promises, during_same, opened_shown, recovers_read, stays_retuned, recovers_retuned}
+use Rattle.crash_recovery.proofs.opening.open_tag.Goals as goal
+
+pub returns-then-read-clause-any_moment : goal.returns-then-read-clause-any_moment
+returns-then-read-clause-any_moment g c =
+    let def = c.args.def.now in
+    let o = g.D.Disk.trace c.args.dev in
+    let mid = g.D.Disk.trace c.read_tag.new.dev in
+    let put = g.D.Disk.trace c.new-2.result.dev in
+    let same = ap (λ j. g.D.Disk.trace j.dev) c.new-2.ensures in
+    let core = c.in-Ok.read.core in
+    let read = subst (λ b. IsReadAs def o mid b core.state) c.if-read.true c.in-Ok.ensures.opened in
+    if_ok c.with_checkpoint.result (λ x. Promises put (g.D.Disk.trace x.journal.dev) core.step core.state)
+    (λ x. StaysSame def o (g.D.Disk.trace x.journal.dev))
+    (λ x promise. stays_retuned def o put (g.D.Disk.trace x.journal.dev) core.step core.state c.in-Ok.ensures.step
+    (subst (λ m. IsReadAs def o m true core.state) (sym same) read)
+    (during_same o mid put (IsLeftOrSame def o) same c.in-Ok.ensures.any_moment) promise)
+    c.with_checkpoint.ensures.any_moment
+
+pub returns-then-read-clause-any_moment_refused : goal.returns-then-read-clause-any_moment_refused
+returns-then-read-clause-any_moment_refused g c =
+    let def = c.args.def.now in
+    let o = g.D.Disk.trace c.args.dev in
+    let mid = g.D.Disk.trace c.read_tag.new.dev in
+    let put = g.D.Disk.trace c.new-2.result.dev in
+    let same = ap (λ j. g.D.Disk.trace j.dev) c.new-2.ensures in
+    let core = c.in-Ok.read.core in
+    let read = subst (λ b. IsReadAs def o mid b core.state) c.if-read.true c.in-Ok.ensures.opened in
+    if_err c.with_checkpoint.result (λ x. Promises put (g.D.Disk.trace x.dev) core.step core.state)
+    (λ x. StaysSame def o (g.D.Disk.trace x.dev))
+    (λ x promise. stays_retuned def o put (g.D.Disk.trace x.dev) core.step core.state c.in-Ok.ensures.step
+    (subst (λ m. IsReadAs def o m true core.state) (sym same) read)
+    (during_same o mid put (IsLeftOrSame def o) same c.in-Ok.ensures.any_moment) promise)
+    c.with_checkpoint.ensures.any_moment_refused
+
+pub returns-then-read-clause-opened : goal.returns-then-read-clause-opened
+returns-then-read-clause-opened g c =
+    let def = c.args.def.now in
+    let o = g.D.Disk.trace c.args.dev in
+    let core = c.in-Ok.read.core in
+    if_ok c.with_checkpoint.result (λ x. x.core ≡ core)
+    (λ x. Shows o (λ y. (s : State) × Recovers def y s × IsOpenedAs def s x.core.state))
+    (λ x same. subst (λ k. Shows o (λ y. (s : State) × Recovers def y s × IsOpenedAs def s k.state)) (sym same)
+    (opened_shown def o (g.D.Disk.trace c.read_tag.new.dev) c.in-Ok.read.retuned core.state c.in-Ok.ensures.opened))
+    c.with_checkpoint.ensures.core
+
+pub returns-then-read-clause-recovers : goal.returns-then-read-clause-recovers
+returns-then-read-clause-recovers g c =
+    let def = c.args.def.now in
+    let o = g.D.Disk.trace c.args.dev in
+    let mid = g.D.Disk.trace c.read_tag.new.dev in
+    let put = g.D.Disk.trace c.new-2.result.dev in
+    let same = ap (λ j. g.D.Disk.trace j.dev) c.new-2.ensures in
+    let core = c.in-Ok.read.core in
+    let read = subst (λ b. IsReadAs def o mid b core.state) c.if-read.true c.in-Ok.ensures.opened in
+    if_ok₂ c.with_checkpoint.result (λ x. core.state.summary.taken < 10 ^ 18 → (d : TagDef) (s : State) → AllRecover d put s
+    → GoesOnFrom d s core.step core.state → AllRecover d (g.D.Disk.trace x.journal.dev) core.state) (λ x. x.core ≡ core)
+    (λ x. RecoversThen def o (g.D.Disk.trace x.journal.dev) x.core.state)
+    (λ x durable kept. subst (λ k. RecoversThen def o (g.D.Disk.trace x.journal.dev) k.state) (sym kept)
+    (recovers_retuned def o put (g.D.Disk.trace x.journal.dev) core.step core.state c.in-Ok.ensures.step
+    (subst (λ m. IsReadAs def o m true core.state) (sym same) read) durable))
+    c.with_checkpoint.ensures.durable c.with_checkpoint.ensures.core
+
+pub returns-else-read-clause-recovers : goal.returns-else-read-clause-recovers
+returns-else-read-clause-recovers g c =
+    let def = c.args.def.now in
+    let o = g.D.Disk.trace c.args.dev in
+    let mid = g.D.Disk.trace c.read_tag.new.dev in
+    let put = g.D.Disk.trace c.new-2.result.dev in
+    let same = ap (λ j. g.D.Disk.trace j.dev) c.new-2.ensures in
+    let state = c.in-Ok.read.core.state in
+    recovers_read def o put state (subst (λ x. IsReadAs def o x false state) (sym same)
+    (subst (λ b. IsReadAs def o mid b state) c.if-read.false c.in-Ok.ensures.opened))

@@ -1,0 +1,55 @@
+use Rattle.std.proofs.Common.{◌<◌, ◌+◌, ap, ap₂, Err, ◌∙◌, sym, subst, length, take, map}
+use Rattle.trend_num.specs.declared.archive.TheConstants.{MAX_RECORDS}
+use Rattle.trend_model.specs.History.{Raw}
+use Rattle.trend_model.specs.State.{replay}
+use Rattle.crash_recovery.specs.Recovery.{AllFit}
+use Rattle.crash_recovery.specs.Opening.{HoldsValue, IsOverfull}
+use Rattle.crash_recovery.proofs.Shows.{shows_after}
+use Rattle.crash_recovery.proofs.Reading.{cause_of_scan}
+use Rattle.crash_recovery.proofs.Cores.{queue_shown, holds_shown, overfull_cause, recovered_shown, seated_shown}
+use Rattle.crash_recovery.proofs.replay.read_core.Goals as goal
+
+pub returns-in-Err-clause-cause : goal.returns-in-Err-clause-cause
+returns-in-Err-clause-cause g c def same_step read =
+    let no = c.in-Err.ensures in
+    cause_of_scan def _ _ _ _ _ c.refusal_of.ensures (λ is. no.device_fault (ap Err is))
+    (λ at byte is. queue_shown def _ c.args.slots c.args.stored at byte read (no.damaged at byte (ap Err is)))
+
+pub returns-in-Err-replay-clause-cause : goal.returns-in-Err-replay-clause-cause
+returns-in-Err-replay-clause-cause g c def same_step read =
+    let scan = c.in-Ok.ensures in
+    let s = c.in-Ok.scanned in
+    let made = c.in-Ok-from_parts.ensures in
+    let core = c.in-Ok-from_parts.core in
+    let no = c.in-Err-replay.ensures in
+    let n = c.in-Err-replay.number in
+    let points = c.deref-2.ensures.value in
+    overfull_cause def _ c.args.slots c.args.stored s c.args.step core.state n _ _ _ c.overfull.result scan.within read
+    scan.ok same_step (made.records ∙ c.deref.ensures.value) made.summary
+    (subst (λ k. AllFit k core.state (map Raw (take n s.points.items))) made.step
+    (subst (λ l. AllFit core.step core.state (map Raw (take n l))) points no.fit_before))
+    (subst (λ k. MAX_RECORDS < length (replay k core.state (map Raw (take n s.points.items))).records + 2) made.step
+    (subst (λ l. MAX_RECORDS < length (replay core.step core.state (map Raw (take n l))).records + 2) points no.full))
+    scan.faults
+    (subst (λ o. IsOverfull o c.args.slots c.args.stored.summary.taken n (g.D.Disk.fault_count c.scan.new.dev)
+    (g.D.Disk.fault_count c.overfull.new.dev) c.overfull.result) scan.same
+    (c.overfull.ensures.value c.args.stored.summary.taken
+    (shows_after _ _ (HoldsValue c.args.slots c.args.stored.summary.taken s.lane.used n) scan.same
+    (holds_shown def _ c.args.slots c.args.stored s n scan.within read scan.ok (subst (λ l. n < length l) points no.within)))))
+
+pub returns-clause-recovered : goal.returns-clause-recovered
+returns-clause-recovered g c def same_step read =
+    let s = c.in-Ok.scanned in
+    let made = c.in-Ok-from_parts.ensures in
+    let core = c.in-Ok-from_parts.core in
+    let done = c.in_default-replay.ensures in
+    let points = c.deref-2.ensures.value in
+    recovered_shown def _ c.args.slots c.args.stored s c.args.step core.state c.replay.new.core.state c.in-Ok.ensures.within read
+    c.in-Ok.ensures.ok same_step (made.records ∙ c.deref.ensures.value) made.summary
+    (subst (λ k. AllFit k core.state (map Raw s.points.items)) made.step
+    (subst (λ l. AllFit core.step core.state (map Raw l)) points done.fit))
+    (done.state ∙ ap₂ (λ k l. replay k core.state (map Raw l)) made.step points)
+
+pub returns-clause-seat : goal.returns-clause-seat
+returns-clause-seat g c def read =
+    seated_shown def _ c.args.slots c.args.stored c.in-Ok.scanned c.in-Ok.ensures.within read c.in-Ok.ensures.ok

@@ -1,0 +1,13 @@
+use Rattle.std.proofs.Common.{◌≡◌, true, false, rules, tests, arith}
+use Rattle.std.proofs.lemmas.Iterator.{first_from_Range}
+use Rattle.crash_recovery.specs.SlotFields.{is_point_ok}
+use Rattle.crash_recovery.proofs.Firsts.{first_found}
+use Rattle.crash_recovery.proofs.slot_field.broken_point.Goals as goal
+
+pub returns : goal.returns
+returns c =
+    let test = is_point_ok c.args.b.now in
+    first_found test 0 128 c.find.result
+    (first_from_Range _ _ _ _ (λ i. test i ≡ false) (λ i. test i ≡ true) c.find.ensures.ran
+    (λ x q k. grind (arith, tests))
+    (λ x q k. (search rules, grind (arith, tests))))

@@ -1,0 +1,98 @@
+-- What a journal shows, and how it stands to its device.
+use Rattle.std.specs.Prelude.{◌≡◌, ◌⊎◌, ℕ, ◌+◌, ◌*◌, ◌-◌, ◌<◌, ◌≤◌, Bool, true, false, cond, List, length, Option, None, Some}
+use Rattle.trend_num.specs.declared.tag_def.TagDef.{TagDef}
+use Rattle.trend_model.specs.History.{Event}
+use Rattle.trend_model.specs.State.{State, replay}
+use Rattle.disk_model.specs.Traces.{Trace, seen}
+use Rattle.disk_model.specs.Images.{Now, IsSettled}
+use Rattle.disk_model.specs.Gates.{IsOpen}
+use Rattle.event_queue.specs.Slots.{gate_of, lane_end, batch_at}
+use Rattle.event_queue.specs.Lanes.{IsStale, lane_points, IsLane}
+use Rattle.event_queue.specs.Places.{HasRoom}
+use Rattle.crash_recovery.specs.Headers.{slots_in, IsHeader}
+use Rattle.crash_recovery.specs.declared.seat.Seat.{Seat}
+use Rattle.crash_recovery.specs.declared.slot.Slot.{Slot}
+use Rattle.crash_recovery.specs.Recovery.{header_of, taken_in, records_in, counting, Recovers}
+
+-- ---- what it shows
+
+-- a journal on a device of this type: how many events are acknowledged, how many lane slots there are and how many are free,
+-- and whether a call of the device has failed
+pub record Logged (D : Type 0) : Type 0 where
+  pub dev : D
+  pub acked : ℕ
+  pub slots : ℕ
+  pub free : ℕ
+  pub failed : Bool
+
+-- each image that a crash now may leave recovers this state
+abbrev pub AllRecover : TagDef → Option Trace → State → Type 0
+AllRecover def o s = Now o (λ c. Recovers def c s)
+
+-- a state of the tag's kind that goes on by some events from what is recovered
+abbrev pub GoesOnFrom : TagDef → State → Bool → State → Type 0
+GoesOnFrom def s step r = (step ≡ def.step) × ((events : List Event) × (r ≡ replay def.step s events))
+
+-- an image recovers the one state or the other
+abbrev pub RecoversEither : TagDef → State → State → List ℕ → Type 0
+RecoversEither def s r c = Recovers def c s ⊎ Recovers def c r
+
+-- ---- how it stands to its device
+
+-- how many events the summary that counts has, and how many records
+abbrev pub taken_of : List ℕ → Option Slot → ℕ
+taken_of c None = 0
+taken_of c (Some i) = taken_in c i
+
+abbrev pub records_of : List ℕ → Option Slot → ℕ
+records_of c None = 0
+records_of c (Some i) = records_in c i
+
+-- the lane keeps the layout, and its first `used` slots number on from the summary to `next`
+pub record IsInUse (slots taken used next : ℕ) (c : List ℕ) : Type 0 where
+  pub lane : IsLane slots c taken slots
+  pub opened : (k : ℕ) → k < used → IsOpen (gate_of k) c
+  pub beyond : (k : ℕ) → k < used → taken < (batch_at slots c k).first + (batch_at slots c k).count
+  pub number : next ≡ taken + length (lane_points slots c taken)
+
+-- the summary has overtaken each open lane slot
+pub record IsLeftBehind (slots taken next : ℕ) (c : List ℕ) : Type 0 where
+  pub stale : (k : ℕ) → k < slots → IsOpen (gate_of k) c → IsStale taken (batch_at slots c k)
+  pub number : next ≡ taken
+
+abbrev pub LaneStands : Bool → ℕ → ℕ → ℕ → ℕ → List ℕ → Type 0
+LaneStands false slots taken used next c = IsInUse slots taken used next c
+LaneStands true slots taken used next c = IsLeftBehind slots taken next c
+
+-- it is a place on a device of these bytes
+pub record IsSeat (p : Seat) (c : List ℕ) : Type 0 where
+  pub opened : IsOpen 0 c
+  pub header : IsHeader (header_of c)
+  pub slots : p.lane.slots ≡ slots_in (header_of c)
+  pub room : HasRoom p.lane.slots p.lane.used c
+  pub counts : p.counts ≡ counting c
+  pub taken : p.taken ≡ taken_of c p.counts
+  pub records : p.records ≡ records_of c p.counts
+  pub long : lane_end p.lane.slots + 17 * p.records ≤ length c
+  pub lane : LaneStands p.stale p.lane.slots p.taken p.lane.used p.lane.next c
+
+-- a device on which that is a place, and of which a crash leaves what a read gives
+pub record IsSeated (p : Seat) (t : Trace) : Type 0 where
+  pub settled : IsSettled (Some t)
+  pub seat : IsSeat p (seen (Some t))
+
+-- the same where the device tells its calls
+abbrev pub SeatedOn : Seat → Option Trace → Type 0
+SeatedOn p None = Unit {0}
+SeatedOn p (Some t) = IsSeated p t
+
+-- what is true of each journal
+pub record IsJournal (p : Seat) (failed : Bool) (o : Option Trace) : Type 0 where
+  pub within : p.lane.used ≤ p.lane.slots
+  pub some : 1 ≤ p.lane.slots
+  pub few : p.lane.slots ≤ 65536
+  pub seated : failed ≡ false → SeatedOn p o
+
+-- how many lane slots are free: all of them where the lane is stale, since its gates are closed before the next write
+abbrev pub free_in : Seat → ℕ
+free_in p = cond p.stale p.lane.slots (p.lane.slots - p.lane.used)

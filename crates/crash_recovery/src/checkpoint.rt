@@ -1,0 +1,256 @@
+// A checkpoint: the new records, then the summary, and then the lane begins anew.
+ghost use Rattle.std.specs.Prelude.{◌≡◌, ◌≢◌, ◌↔◌, ◌+◌, ◌*◌, ◌^◌, ◌<◌, ◌≤◌, true, false, IsTrue, length};
+ghost use Rattle.std.specs.Prelude.{drop, OnOk, OnErr, IfOk, IsErrOf};
+ghost use Rattle.trend_num.specs.declared.tag_def.TagDef.{TagDef};
+ghost use Rattle.trend_model.specs.State.{State};
+ghost use Rattle.disk_model.specs.Traces.{seen, written};
+ghost use Rattle.disk_model.specs.Images.{FromOld, IsTorn};
+ghost use Rattle.disk_model.specs.Moments.{During};
+ghost use Rattle.disk_model.specs.Calls.{HasCause, Reaches, Rose, Sees};
+ghost use Rattle.archive_file.specs.Records.{recs_image};
+ghost use Rattle.archive_file.specs.declared.failure.PutNo.TheVariants.{DeviceFault as PutFault};
+ghost use Rattle.archive_file.specs.declared.failure.PutNo.TheVariants.{WantOfMemory as NoMemory};
+ghost use Rattle.event_queue.specs.Slots.{lane_end};
+ghost use Rattle.crash_recovery.specs.Recovery.{summary_gate, Recovers};
+ghost use Rattle.crash_recovery.specs.Journals.{AllRecover, GoesOnFrom, RecoversEither, SeatedOn, free_in};
+ghost use Rattle.crash_recovery.specs.Seats.{log_end, spare_slot, LaidOn, OverrunOn, ReadyOn};
+
+use crate::layout_reader::log_start;
+use crate::seat::Seat;
+use crate::slot::Slot;
+use archive_file::{DeviceFault, PutNo, REC_LEN, put_records, summary_bytes};
+use disk_model::{Disk, close_gates, write_guarded};
+use event_queue::Lane;
+use std::alloc::Global;
+use tag_core::TagCore;
+use trend_num::Rec;
+
+// How many events a tag takes at most.
+const MOST_TAKEN: u64 = 1_000_000_000_000_000_000;
+
+impl Seat {
+    /// Makes a checkpoint of a core that goes on from what the device recovers. Nothing is called where the
+    /// summary counts all of its events and each lane slot is free. A core that has taken no more events than
+    /// the summary counts, or too many, is none of these, and is refused as memory that is not there.
+    pub(crate) fn checkpoint<D: Disk>(
+        &mut self,
+        alloc: Global,
+        dev: &mut D,
+        core: &TagCore,
+    ) -> Result<(), PutNo>
+        requires within { self.old.lane.used ≤ self.old.lane.slots }
+        requires seated { SeatedOn self.old (D.trace dev.old) }
+
+        // A crash at any moment leaves an image that recovers what each recovered before, or the state of the
+        // core; at Ok, the latter.
+        ensures any_moment { core.now.state.summary.taken < 10 ^ 18
+            → (def : TagDef) (s : State) → AllRecover def (D.trace dev.old) s
+            → GoesOnFrom def s core.now.step core.now.state
+            → During (D.trace dev.old) (D.trace dev.new) (RecoversEither def s core.now.state) }
+        ensures durable { OnOk result (core.now.state.summary.taken < 10 ^ 18
+            → (def : TagDef) (s : State) → AllRecover def (D.trace dev.old) s
+            → GoesOnFrom def s core.now.step core.now.state
+            → AllRecover def (D.trace dev.new) core.now.state) }
+
+        ensures seated { OnOk result (SeatedOn self.new (D.trace dev.new)) }
+        ensures number { OnOk result (self.new.lane.next ≡ core.now.state.summary.taken) }
+        ensures free { OnOk result (free_in self.new ≡ self.new.lane.slots) }
+        ensures still_seated { IsErrOf result NoMemory → SeatedOn self.new (D.trace dev.new) }
+        ensures kept { IsErrOf result NoMemory → (def : TagDef) (s : State)
+            → AllRecover def (D.trace dev.old) s → AllRecover def (D.trace dev.new) s }
+        ensures device_fault { IsErrOf result PutFault → Rose (D.fault_count dev.old) (D.fault_count dev.new) }
+        ensures unmoved { OnErr result (self.new.lane.next ≡ self.old.lane.next) }
+        ensures slots { self.new.lane.slots ≡ self.old.lane.slots }
+        ensures within { self.new.lane.used ≤ self.new.lane.slots }
+        ensures faults { D.fault_count dev.old ≤ D.fault_count dev.new }
+        ensures later { D.ticks dev.old ≤ D.ticks dev.new }
+    {
+        if self.has_all_of(core) {
+            return Ok(());
+        }
+        if core.taken() <= self.taken || core.taken() >= MOST_TAKEN {
+            return Err(PutNo::WantOfMemory);
+        }
+        self.make_checkpoint(alloc, dev, core)
+    }
+
+    // Whether the summary counts as many events as the core has taken, and no values are in the lane.
+    fn has_all_of(&self, core: &TagCore) -> bool
+        requires { self.now.lane.used ≤ self.now.lane.slots }
+        ensures { IsTrue result → (self.now.taken ≡ core.now.state.summary.taken)
+            × (self.now.lane.next ≡ self.now.taken)
+            × (free_in self.now ≡ self.now.lane.slots) }
+    {
+        core.taken() == self.taken
+            && self.lane.next == self.taken
+            && self.free_slots() == self.lane.slots
+    }
+
+    // Makes a checkpoint of a core that has taken more events than the summary counts.
+    fn make_checkpoint<D: Disk>(
+        &mut self,
+        alloc: Global,
+        dev: &mut D,
+        core: &TagCore,
+    ) -> Result<(), PutNo>
+        requires within { self.old.lane.used ≤ self.old.lane.slots }
+        requires seated { SeatedOn self.old (D.trace dev.old) }
+        requires more { self.old.taken < core.now.state.summary.taken }
+        requires countable { core.now.state.summary.taken < 10 ^ 18 }
+        ensures any_moment { (def : TagDef) (s : State) → AllRecover def (D.trace dev.old) s
+            → GoesOnFrom def s core.now.step core.now.state
+            → During (D.trace dev.old) (D.trace dev.new) (RecoversEither def s core.now.state) }
+        ensures durable { OnOk result ((def : TagDef) (s : State) → AllRecover def (D.trace dev.old) s
+            → GoesOnFrom def s core.now.step core.now.state
+            → AllRecover def (D.trace dev.new) core.now.state) }
+        ensures seated { OnOk result (SeatedOn self.new (D.trace dev.new)) }
+        ensures number { OnOk result (self.new.lane.next ≡ core.now.state.summary.taken) }
+        ensures free { OnOk result (free_in self.new ≡ self.new.lane.slots) }
+        ensures still_seated { IsErrOf result NoMemory → SeatedOn self.new (D.trace dev.new) }
+        ensures kept { IsErrOf result NoMemory → (def : TagDef) (s : State)
+            → AllRecover def (D.trace dev.old) s → AllRecover def (D.trace dev.new) s }
+        ensures device_fault { IsErrOf result PutFault → Rose (D.fault_count dev.old) (D.fault_count dev.new) }
+        ensures unmoved { OnErr result (self.new.lane.next ≡ self.old.lane.next) }
+        ensures slots { self.new.lane.slots ≡ self.old.lane.slots }
+        ensures within { self.new.lane.used ≤ self.new.lane.slots }
+        ensures faults { D.fault_count dev.old ≤ D.fault_count dev.new }
+        ensures later { D.ticks dev.old ≤ D.ticks dev.new }
+    {
+        let Ok(()) = self.close_stale(dev) else {
+            return Err(PutNo::DeviceFault);
+        };
+        self.log_records(alloc, dev, core.recs())?;
+        let Ok(mut seat) = self.put_summary(dev, core) else {
+            return Err(PutNo::DeviceFault);
+        };
+        let Ok(()) = seat.close_stale(dev) else {
+            return Err(PutNo::DeviceFault);
+        };
+        *self = seat;
+        Ok(())
+    }
+
+    // Puts those records behind the log that the summary does not count, closes the gate of the slot that
+    // does not count, and syncs.
+    fn log_records<D: Disk>(&self, alloc: Global, dev: &mut D, recs: &[Rec]) -> Result<(), PutNo>
+        requires within { self.now.lane.used ≤ self.now.lane.slots }
+        requires laid { LaidOn self.now (D.trace dev.old) }
+
+        // A crash at any moment leaves an image that recovers what each recovered before.
+        ensures any_moment { (def : TagDef) (s : State) → AllRecover def (D.trace dev.old) s
+            → During (D.trace dev.old) (D.trace dev.new) (λ c. Recovers def c s) }
+        ensures laid { OnOk result (LaidOn self.now (D.trace dev.new)) }
+        ensures ready { OnOk result (ReadyOn self.now (summary_gate (spare_slot self.now.counts)) recs.now
+            (D.trace dev.new)) }
+        ensures unwritten { IsErrOf result NoMemory → dev.new ≡ dev.old }
+        ensures device_fault { IsErrOf result PutFault → Rose (D.fault_count dev.old) (D.fault_count dev.new) }
+        ensures faults { D.fault_count dev.old ≤ D.fault_count dev.new }
+        ensures later { D.ticks dev.old ≤ D.ticks dev.new }
+    {
+        self.put_new_records(alloc, dev, recs)?;
+        match close_gates(dev, self.spare_slot().gate(), 1) {
+            Ok(()) => Ok(()),
+            Err(_) => Err(PutNo::DeviceFault),
+        }
+    }
+
+    // Puts those records behind the log that the summary does not count, with no sync.
+    fn put_new_records<D: Disk>(
+        &self,
+        alloc: Global,
+        dev: &mut D,
+        recs: &[Rec],
+    ) -> Result<(), PutNo>
+        requires room { Reaches (D.trace dev.old) (log_end self.now) }
+
+        // A crash at any moment leaves an image from before with other bytes behind the log.
+        ensures any_moment { During (D.trace dev.old) (D.trace dev.new) (FromOld (D.trace dev.old)
+            (IsTorn (log_end self.now) (length (recs_image (drop self.now.records recs.now))))) }
+        ensures reads { OnOk result (Sees (D.trace dev.new)
+            (written (seen (D.trace dev.old)) (log_end self.now)
+            (recs_image (drop self.now.records recs.now)))) }
+        ensures unwritten { IsErrOf result NoMemory → dev.new ≡ dev.old }
+        ensures device_fault { IsErrOf result PutFault → Rose (D.fault_count dev.old) (D.fault_count dev.new) }
+        ensures faults { D.fault_count dev.old ≤ D.fault_count dev.new }
+        ensures later { D.ticks dev.old ≤ D.ticks dev.new }
+    {
+        let from = (self.records as usize).min(recs.len());
+        let recs = &recs[from..];
+        if recs.is_empty() {
+            return Ok(());
+        }
+        put_records(alloc, dev, self.log_end(), recs)
+    }
+
+    // Puts the summary of a core into the slot that does not count, behind the records that are new. The
+    // place that it answers is that of the journal from then on.
+    fn put_summary<D: Disk>(&self, dev: &mut D, core: &TagCore) -> Result<Seat, DeviceFault>
+        requires fresh { self.now.stale ≡ false }
+        requires within { self.now.lane.used ≤ self.now.lane.slots }
+        requires laid { LaidOn self.now (D.trace dev.old) }
+        requires ready { ReadyOn self.now (summary_gate (spare_slot self.now.counts)) core.now.state.records
+            (D.trace dev.old) }
+        requires more { self.now.taken < core.now.state.summary.taken }
+        requires countable { core.now.state.summary.taken < 10 ^ 18 }
+
+        // A crash at any moment leaves an image that recovers what each recovered before, or the state of the
+        // core; at Ok, the latter, and then the summary has overtaken the lane.
+        ensures any_moment { (def : TagDef) (s : State) → AllRecover def (D.trace dev.old) s
+            → GoesOnFrom def s core.now.step core.now.state
+            → During (D.trace dev.old) (D.trace dev.new) (RecoversEither def s core.now.state) }
+        ensures durable { OnOk result ((def : TagDef) (s : State) → AllRecover def (D.trace dev.old) s
+            → GoesOnFrom def s core.now.step core.now.state
+            → AllRecover def (D.trace dev.new) core.now.state) }
+        ensures overrun { IfOk result (λ p. (def : TagDef) (s : State) → AllRecover def (D.trace dev.old) s
+            → GoesOnFrom def s core.now.step core.now.state → OverrunOn p (D.trace dev.new)) }
+        ensures laid { IfOk result (λ p. LaidOn p (D.trace dev.new)) }
+        ensures number { IfOk result (λ p. p.lane.next ≡ core.now.state.summary.taken) }
+        ensures same_lane { IfOk result (λ p. (p.lane.slots ≡ self.now.lane.slots)
+            × (p.lane.used ≡ self.now.lane.used)) }
+        ensures stale { IfOk result (λ p. p.stale ≡ false → p.lane.used ≡ 0) }
+        ensures later { D.ticks dev.old ≤ D.ticks dev.new }
+        ensures cause { HasCause (D.fault_count dev.old) (D.fault_count dev.new) result }
+    {
+        let slot = self.spare_slot();
+        let _tuning = core.tuning();
+        let _recs = core.recs();
+        let summary = core.summary();
+        let Ok(()) = write_guarded(dev, slot.place(), &summary_bytes(&summary), slot.gate()) else {
+            return Err(DeviceFault);
+        };
+        Ok(Seat {
+            lane: Lane {
+                next: summary.taken,
+                ..self.lane
+            },
+            stale: self.lane.used > 0,
+            counts: Some(slot),
+            taken: summary.taken,
+            records: summary.records,
+        })
+    }
+
+    // Where the records end that the summary counts.
+    fn log_end(&self) -> u64
+        ensures { result ≡ log_end self.now }
+    {
+        records_end(self.lane.slots, self.records)
+    }
+
+    // The slot into which the next summary goes: one that does not count.
+    fn spare_slot(&self) -> Slot
+        ensures { result ≡ spare_slot self.now.counts }
+    {
+        match self.counts {
+            Some(Slot::First) => Slot::Second,
+            _ => Slot::First,
+        }
+    }
+}
+
+// Where so many records end, behind a lane of so many slots.
+fn records_end(slots: u32, records: u32) -> u64
+    ensures { result ≡ lane_end slots + 17 * records }
+{
+    log_start(slots) + REC_LEN as u64 * u64::from(records)
+}

@@ -1,0 +1,199 @@
+// The journal of a tag's device: batches of values, and checkpoints.
+ghost use Rattle.std.specs.Prelude.{◌≡◌, ◌≢◌, ◌↔◌, ◌+◌, ◌^◌, ◌<◌, ◌≤◌, true, false, length, map, OnOk, OnErr, IsErrOf};
+ghost use Rattle.std.specs.List.{All};
+ghost use Rattle.trend_num.specs.Ranges.{InRange};
+ghost use Rattle.trend_num.specs.declared.tag_def.TagDef.{TagDef};
+ghost use Rattle.trend_model.specs.History.{Raw};
+ghost use Rattle.trend_model.specs.State.{State, replay};
+ghost use Rattle.disk_model.specs.Moments.{During};
+ghost use Rattle.disk_model.specs.Calls.{Rose};
+ghost use Rattle.archive_file.specs.declared.failure.PutNo.TheVariants.{DeviceFault as PutFault, WantOfMemory as NoMemory};
+ghost use Rattle.event_queue.specs.declared.failure.LaneNo.TheVariants.{LaneFull, DeviceFault as LaneFault};
+
+use crate::seat::Seat;
+use archive_file::PutNo;
+use disk_model::Disk;
+use event_queue::LaneNo;
+use std::alloc::Global;
+use std::marker::Model;
+use tag_core::TagCore;
+use trend_num::Point;
+
+/// The device of an opened tag. What it acknowledges, no crash takes away.
+#[derive(Drop)]
+pub struct Journal<D: Disk> {
+    dev: D,
+    seat: Seat,
+    failed: bool,
+}
+
+impl<D: Disk> Model for Journal<D> {
+    ghost use Rattle.crash_recovery.specs.Journals.{Logged, IsJournal, free_in};
+
+    ghost Value = { Logged D };
+
+    ghost view = { λ j. record {
+      dev = j.dev;
+      acked = j.seat.lane.next;
+      slots = j.seat.lane.slots;
+      free = free_in j.seat;
+      failed = j.failed;
+    } };
+
+    ghost invariant = { λ j. IsJournal j.seat j.failed (D.trace j.dev) };
+}
+
+impl<D: Disk> Journal<D> {
+    ghost use Rattle.crash_recovery.specs.Journals.{AllRecover, GoesOnFrom, RecoversEither, SeatedOn, free_in};
+    ghost use Rattle.crash_recovery.specs.Recovery.{AllFit};
+
+    /// The journal of a device that was opened.
+    pub(crate) fn new(dev: D, seat: Seat) -> Journal<D>
+        requires within { seat.lane.used ≤ seat.lane.slots }
+        requires some { 1 ≤ seat.lane.slots }
+        requires few { seat.lane.slots ≤ 65536 }
+        requires seated { SeatedOn seat (D.trace dev) }
+        ensures { result ≡ record {
+          dev = dev;
+          acked = seat.lane.next;
+          slots = seat.lane.slots;
+          free = free_in seat;
+          failed = false;
+        } }
+    {
+        Journal {
+            dev,
+            seat,
+            failed: false,
+        }
+    }
+
+    /// Puts 1 to 64 values, those after the acknowledged ones, into the lane as one batch. At Ok they are acknowledged: a
+    /// crash leaves them. LaneFull where no lane slot is free; then nothing was called. After DeviceFault the device is
+    /// opened again before it is used.
+    pub fn commit(&mut self, points: &[Point]) -> Result<(), LaneNo>
+        requires usable { self.old.failed ≡ false }
+        requires some { 1 ≤ length points.now }
+        requires few { length points.now ≤ 64 }
+        requires in_range { All InRange points.now }
+        requires number { self.old.acked + length points.now < 2 ^ 64 }
+
+        // Where the values find room in what each image recovers, a crash at any moment leaves an image that recovers the
+        // same, or that and all of these values; at Ok, the latter.
+        ensures any_moment { (def : TagDef) (s : State) → AllRecover def (D.trace self.old.dev) s
+            → AllFit def.step s (map Raw points.now)
+            → During (D.trace self.old.dev) (D.trace self.new.dev)
+            (RecoversEither def s (replay def.step s (map Raw points.now))) }
+        ensures durable { OnOk result ((def : TagDef) (s : State) → AllRecover def (D.trace self.old.dev) s
+            → AllFit def.step s (map Raw points.now)
+            → AllRecover def (D.trace self.new.dev) (replay def.step s (map Raw points.now))) }
+
+        ensures acked { OnOk result (self.new.acked ≡ self.old.acked + length points.now) }
+        ensures free { OnOk result (self.new.free + 1 ≡ self.old.free) }
+        ensures usable { OnOk result (self.new.failed ≡ false) }
+        ensures lane_full { IsErrOf result LaneFull ↔ (self.old.free ≡ 0) }
+        ensures untouched { IsErrOf result LaneFull → self.new ≡ self.old }
+        ensures failed { IsErrOf result LaneFault → self.new.failed ≡ true }
+        ensures device_fault { IsErrOf result LaneFault
+            → Rose (D.fault_count self.old.dev) (D.fault_count self.new.dev) }
+        ensures unmoved { OnErr result (self.new.acked ≡ self.old.acked) }
+        ensures slots { self.new.slots ≡ self.old.slots }
+        ensures faultless { OnOk result (D.fault_count self.new.dev ≡ D.fault_count self.old.dev) }
+        ensures faults { D.fault_count self.old.dev ≤ D.fault_count self.new.dev }
+        ensures later { D.ticks self.old.dev ≤ D.ticks self.new.dev }
+    {
+        if self.seat.is_full() {
+            return Err(LaneNo::LaneFull);
+        }
+        let Ok(()) = self.seat.append(&mut self.dev, points) else {
+            self.failed = true;
+            return Err(LaneNo::DeviceFault);
+        };
+        Ok(())
+    }
+
+    /// Makes a checkpoint of a core that goes on from what the device recovers: puts the new records behind those that the
+    /// summary counts, then the summary, and then begins the lane anew. At Ok all of the core's events are acknowledged.
+    /// Nothing is called where they are already. After DeviceFault the device is opened again before it is used.
+    pub fn checkpoint(&mut self, alloc: Global, core: &TagCore) -> Result<(), PutNo>
+        requires usable { self.old.failed ≡ false }
+
+        // Where the core goes on by some events from what each image recovers, a crash at any moment leaves an image that
+        // recovers the same, or the state of the core; at Ok, the latter. This is said of a core that has taken fewer than
+        // 10^18 events.
+        ensures any_moment { core.now.state.summary.taken < 10 ^ 18
+            → (def : TagDef) (s : State) → AllRecover def (D.trace self.old.dev) s
+            → GoesOnFrom def s core.now.step core.now.state
+            → During (D.trace self.old.dev) (D.trace self.new.dev) (RecoversEither def s core.now.state) }
+        ensures durable { OnOk result (core.now.state.summary.taken < 10 ^ 18
+            → (def : TagDef) (s : State) → AllRecover def (D.trace self.old.dev) s
+            → GoesOnFrom def s core.now.step core.now.state
+            → AllRecover def (D.trace self.new.dev) core.now.state) }
+
+        ensures acked { OnOk result (self.new.acked ≡ core.now.state.summary.taken) }
+        ensures free { OnOk result (self.new.free ≡ self.new.slots) }
+        ensures usable { OnOk result (self.new.failed ≡ false) }
+
+        // Want of memory leaves what each image recovers, and all that was acknowledged.
+        ensures no_memory { IsErrOf result NoMemory → self.new.failed ≡ false }
+        ensures kept { IsErrOf result NoMemory → (def : TagDef) (s : State)
+            → AllRecover def (D.trace self.old.dev) s → AllRecover def (D.trace self.new.dev) s }
+        ensures failed { IsErrOf result PutFault → self.new.failed ≡ true }
+        ensures device_fault { IsErrOf result PutFault
+            → Rose (D.fault_count self.old.dev) (D.fault_count self.new.dev) }
+        ensures unmoved { OnErr result (self.new.acked ≡ self.old.acked) }
+        ensures slots { self.new.slots ≡ self.old.slots }
+        ensures faults { D.fault_count self.old.dev ≤ D.fault_count self.new.dev }
+        ensures later { D.ticks self.old.dev ≤ D.ticks self.new.dev }
+    {
+        match self.seat.checkpoint(alloc, &mut self.dev, core) {
+            Err(PutNo::DeviceFault) => {
+                self.failed = true;
+                Err(PutNo::DeviceFault)
+            }
+            done => done,
+        }
+    }
+
+    /// How many events are acknowledged, counted since the tag began.
+    pub fn acked(&self) -> u64
+        ensures { result ≡ self.now.acked }
+    {
+        self.seat.lane.next
+    }
+
+    /// How many lane slots are free.
+    pub fn free_slots(&self) -> u32
+        ensures { result ≡ self.now.free }
+    {
+        self.seat.free_slots()
+    }
+
+    /// How many calls the device has counted.
+    pub fn clock(&self) -> u64
+        ensures { result ≡ D.ticks self.now.dev }
+    {
+        self.dev.clock()
+    }
+
+    /// How often a call of the device has failed.
+    pub fn faults(&self) -> u64
+        ensures { result ≡ D.fault_count self.now.dev }
+    {
+        self.dev.faults()
+    }
+
+    /// Whether a call of this journal has answered DeviceFault.
+    pub fn failed(&self) -> bool
+        ensures { result ≡ self.now.failed }
+    {
+        self.failed
+    }
+
+    /// The device, moved out.
+    pub fn into_device(self) -> D
+        ensures { result ≡ self.dev }
+    {
+        self.dev
+    }
+}

@@ -1,0 +1,331 @@
+// Opening a tag's device.
+ghost use Rattle.std.specs.Prelude.{◌≡◌, ◌≢◌, ◌⊎◌, ◌+◌, ◌-◌, ◌*◌, ◌^◌, ◌<◌, ◌≤◌, ℕ, Some, Err, true, false};
+ghost use Rattle.std.specs.Prelude.{length, IfOk, IfErr, OnErr};
+ghost use Rattle.trend_num.specs.declared.archive.TheConstants.{MAX_RECORDS};
+ghost use Rattle.trend_num.specs.declared.tag_def.TagDef.{TagDef};
+ghost use Rattle.trend_num.specs.Ranges.{IsTuned};
+ghost use Rattle.trend_model.specs.State.{State, nothing_taken};
+ghost use Rattle.disk_model.specs.Images.{IsSettled};
+ghost use Rattle.disk_model.specs.Moments.{During};
+ghost use Rattle.disk_model.specs.Calls.{Rose};
+ghost use Rattle.disk_model.specs.Gates.{IsOpen};
+ghost use Rattle.crash_recovery.specs.declared.failure.OpenNo.TheVariants.{DeviceFault, WantOfMemory, Full as TooFull};
+ghost use Rattle.crash_recovery.specs.Recovery.{IsNew, IsRecovered, Recovers};
+ghost use Rattle.crash_recovery.specs.Journals.{AllRecover, GoesOnFrom, RecoversEither, IsSeat, SeatedOn};
+ghost use Rattle.crash_recovery.specs.Opening.{Shows, IsOpenedAs, OpensAs, StaysSame, RecoversThen};
+ghost use Rattle.crash_recovery.specs.Opening.{IsLeftOrSame, IsReadAs};
+ghost use Rattle.crash_recovery.specs.Opening.{IsCause, refusal_of_put};
+
+use crate::layout::make_layout;
+use crate::layout_reader::{read_layout, read_part, read_stored};
+use crate::replay::read_core;
+use crate::seat::Seat;
+use crate::{Journal, OpenFail, OpenNo};
+use archive_file::PutNo;
+use disk_model::{Disk, OPEN};
+use event_queue::Lane;
+use std::alloc::Global;
+use std::marker::Brand;
+use std::sync::ledger::{Blank, Ledger};
+use tag_core::TagCore;
+use trend_num::{Steps, TagDef, same_tuning};
+
+/// A tag whose device is open: its journal, and the core that holds what the device recovers.
+#[derive(Drop)]
+pub struct Opened<D: Disk> {
+    /// What keeps the device.
+    pub journal: Journal<D>,
+    /// The tag in memory.
+    pub core: TagCore,
+}
+
+/// Opens the device of a tag, with memory for `room` values more. It begins with a sync. A new device gets the layout, with
+/// `lane_slots` slots. Of any other the header, the summary that counts, the records and the lane are read, and the lane's
+/// values are taken; where another tuning than the wanted one is in force, the tag is retuned, and a checkpoint is made.
+/// All values that are found are acknowledged.
+pub fn open_tag<D: Disk>(
+    alloc: Global,
+    dev: D,
+    def: &TagDef,
+    lane_slots: u32,
+    room: u32,
+) -> Result<Opened<D>, OpenFail<D>>
+    requires some { 1 ≤ lane_slots }
+    requires few { lane_slots ≤ 65536 }
+    requires tuned { IsTuned def.now.tuning }
+
+    // A crash at any moment leaves an image that one before might have left, or that recovers what the device recovered at
+    // the start, or that as it is opened.
+    ensures any_moment { IfOk result (λ o. StaysSame def.now (D.trace dev) (D.trace o.journal.dev)) }
+    ensures any_moment_refused { IfErr result (λ e. StaysSame def.now (D.trace dev) (D.trace e.dev)) }
+
+    // The core is what the device recovered, retuned where another tuning than the wanted one was in force.
+    ensures opened { IfOk result (λ o. Shows (D.trace dev) (λ c. (s : State) × Recovers def.now c s
+        × IsOpenedAs def.now s o.core.state)) }
+    ensures recovers { IfOk result (λ o. RecoversThen def.now (D.trace dev) (D.trace o.journal.dev) o.core.state) }
+    ensures acked { IfOk result (λ o. o.journal.acked ≡ o.core.state.summary.taken) }
+    ensures usable { IfOk result (λ o. o.journal.failed ≡ false) }
+    ensures step { IfOk result (λ o. o.core.step ≡ def.now.step) }
+    ensures tuning { IfOk result (λ o. o.core.state.summary.tuning ≡ Some def.now.tuning) }
+    ensures room { IfOk result (λ o. 2 * room ≤ o.core.spare) }
+    ensures cause { IfErr result (λ e. IsCause def.now (D.trace dev) (D.fault_count dev) (D.fault_count e.dev) e.why) }
+    ensures faults { IfOk result (λ o. D.fault_count dev ≤ D.fault_count o.journal.dev) }
+    ensures faults_refused { IfErr result (λ e. D.fault_count dev ≤ D.fault_count e.dev) }
+{
+    let mut dev = dev;
+    let read = match read_tag::<Brand, D>(alloc, &mut dev, def, lane_slots, room, Blank::new(1)) {
+        Ok(read) => read,
+        Err(why) => return Err(OpenFail { dev, why }),
+    };
+    let opened = Opened {
+        journal: Journal::new(dev, read.seat),
+        core: read.core,
+    };
+    if read.retuned {
+        opened.with_checkpoint(alloc)
+    } else {
+        Ok(opened)
+    }
+}
+
+impl<D: Disk> Opened<D> {
+    /// The same once a checkpoint is made of the core.
+    fn with_checkpoint(self, alloc: Global) -> Result<Opened<D>, OpenFail<D>>
+        requires usable { self.journal.failed ≡ false }
+        ensures any_moment { IfOk result (λ o. self.core.state.summary.taken < 10 ^ 18
+            → (def : TagDef) (s : State) → AllRecover def (D.trace self.journal.dev) s
+            → GoesOnFrom def s self.core.step self.core.state
+            → During (D.trace self.journal.dev) (D.trace o.journal.dev) (RecoversEither def s self.core.state)) }
+        ensures any_moment_refused { IfErr result (λ e. self.core.state.summary.taken < 10 ^ 18
+            → (def : TagDef) (s : State) → AllRecover def (D.trace self.journal.dev) s
+            → GoesOnFrom def s self.core.step self.core.state
+            → During (D.trace self.journal.dev) (D.trace e.dev) (RecoversEither def s self.core.state)) }
+        ensures durable { IfOk result (λ o. self.core.state.summary.taken < 10 ^ 18
+            → (def : TagDef) (s : State) → AllRecover def (D.trace self.journal.dev) s
+            → GoesOnFrom def s self.core.step self.core.state
+            → AllRecover def (D.trace o.journal.dev) self.core.state) }
+        ensures core { IfOk result (λ o. o.core ≡ self.core) }
+        ensures acked { IfOk result (λ o. o.journal.acked ≡ self.core.state.summary.taken) }
+        ensures usable { IfOk result (λ o. o.journal.failed ≡ false) }
+        ensures cause { IfErr result (λ e. (e.why ≡ DeviceFault)
+            ⊎ (e.why ≡ WantOfMemory)) }
+        ensures device_fault { IfErr result (λ e. e.why ≡ DeviceFault
+            → Rose (D.fault_count self.journal.dev) (D.fault_count e.dev)) }
+        ensures faults { IfOk result (λ o. D.fault_count self.journal.dev ≤ D.fault_count o.journal.dev) }
+        ensures faults_refused { IfErr result (λ e. D.fault_count self.journal.dev ≤ D.fault_count e.dev) }
+    {
+        let Opened { mut journal, core } = self;
+        match journal.checkpoint(alloc, &core) {
+            Ok(()) => Ok(Opened { journal, core }),
+            Err(why) => Err(OpenFail {
+                dev: journal.into_device(),
+                why: refusal_of_put(why),
+            }),
+        }
+    }
+}
+
+/// What was read of a tag's device: the place on it, the tag in memory, and whether it had to be retuned.
+#[derive(Drop)]
+struct Read {
+    seat: Seat,
+    core: TagCore,
+    retuned: bool,
+}
+
+/// Makes a new device's layout, or reads what another device recovers, and retunes it in memory where that is wanted.
+fn read_tag<L: Ledger, D: Disk>(
+    alloc: Global,
+    dev: &mut D,
+    def: &TagDef,
+    lane_slots: u32,
+    room: u32,
+    blank: Blank,
+) -> Result<Read, OpenNo>
+    requires name { blank.name ≡ L.name }
+    requires parts { blank.parts ≡ L.parts }
+    requires some_parts { 0 < L.parts }
+    requires some { 1 ≤ lane_slots }
+    requires few { lane_slots ≤ 65536 }
+    requires tuned { IsTuned def.now.tuning }
+    ensures any_moment { During (D.trace dev.old) (D.trace dev.new) (IsLeftOrSame def.now (D.trace dev.old)) }
+    ensures opened { IfOk result (λ r.
+        IsReadAs def.now (D.trace dev.old) (D.trace dev.new) r.retuned r.core.state) }
+    ensures seated { IfOk result (λ r. SeatedOn r.seat (D.trace dev.new)) }
+    ensures slots { IfOk result (λ r. (1 ≤ r.seat.lane.slots) × (r.seat.lane.slots ≤ 65536)) }
+    ensures used { IfOk result (λ r. r.seat.lane.used ≤ r.seat.lane.slots) }
+    ensures acked { IfOk result (λ r. r.retuned ≡ false → r.seat.lane.next ≡ r.core.state.summary.taken) }
+    ensures step { IfOk result (λ r. r.core.step ≡ def.now.step) }
+    ensures tuning { IfOk result (λ r. r.core.state.summary.tuning ≡ Some def.now.tuning) }
+    ensures room { IfOk result (λ r. 2 * room ≤ r.core.spare) }
+    ensures cause { IfErr result
+        (IsCause def.now (D.trace dev.old) (D.fault_count dev.old) (D.fault_count dev.new)) }
+    ensures faults { D.fault_count dev.old ≤ D.fault_count dev.new }
+{
+    let Ok(()) = dev.sync() else {
+        return Err(OpenNo::DeviceFault);
+    };
+    let mut steps = Steps::<L>::new(blank);
+    match is_new(dev) {
+        Ok(true) => made(alloc, dev, def, lane_slots, room),
+        Ok(false) => read_back(alloc, dev, def, room, &mut steps),
+        Err(why) => Err(why),
+    }
+}
+
+/// Whether no layout was finished on a device.
+fn is_new<D: Disk>(dev: &mut D) -> Result<bool, OpenNo>
+    ensures new { IfOk result (λ b. b ≡ true → Shows (D.trace dev.old) IsNew) }
+    ensures begun { IfOk result (λ b. b ≡ false → Shows (D.trace dev.old) (IsOpen 0)) }
+    ensures fault { OnErr result ((result ≡ Err DeviceFault) × Rose (D.fault_count dev.old) (D.fault_count dev.new)) }
+    ensures same { D.trace dev.new ≡ D.trace dev.old }
+    ensures untimed { D.ticks dev.new ≡ D.ticks dev.old }
+    ensures faults { D.fault_count dev.old ≤ D.fault_count dev.new }
+{
+    let Ok(len) = dev.len() else {
+        return Err(OpenNo::DeviceFault);
+    };
+    if len <= 1 {
+        return Ok(true);
+    }
+    let gate = read_part::<1, D>(dev, 0)?;
+    Ok(gate[0] != OPEN)
+}
+
+/// A new device with its layout, and a tag before its first event.
+fn made<D: Disk>(
+    alloc: Global,
+    dev: &mut D,
+    def: &TagDef,
+    lane_slots: u32,
+    room: u32,
+) -> Result<Read, OpenNo>
+    requires some { 1 ≤ lane_slots }
+    requires few { lane_slots ≤ 65536 }
+    requires tuned { IsTuned def.now.tuning }
+    requires new { Shows (D.trace dev.old) IsNew }
+    requires settled { IsSettled (D.trace dev.old) }
+    ensures any_moment { During (D.trace dev.old) (D.trace dev.new)
+        (λ c. Recovers def.now c (nothing_taken def.now.tuning)) }
+    ensures core { IfOk result (λ r. r.core.state ≡ nothing_taken def.now.tuning) }
+    ensures seated { IfOk result (λ r. SeatedOn r.seat (D.trace dev.new)) }
+    ensures lane { IfOk result (λ r. r.seat.lane ≡ record { slots = lane_slots; used = 0; next = 0 }) }
+    ensures retuned { IfOk result (λ r. r.retuned ≡ false) }
+    ensures step { IfOk result (λ r. r.core.step ≡ def.now.step) }
+    ensures room { IfOk result (λ r. r.core.spare ≡ 2 * room) }
+    ensures cause { IfErr result
+        (IsCause def.now (D.trace dev.old) (D.fault_count dev.old) (D.fault_count dev.new)) }
+    ensures faults { D.fault_count dev.old ≤ D.fault_count dev.new }
+{
+    let Ok(core) = TagCore::new(alloc, def.tuning, def.step, room) else {
+        return Err(OpenNo::WantOfMemory);
+    };
+    if let Err(why) = make_layout(alloc, dev, def, lane_slots) {
+        return Err(refusal_of_put(why));
+    }
+    let seat = Seat {
+        lane: Lane {
+            slots: lane_slots,
+            used: 0,
+            next: 0,
+        },
+        stale: false,
+        counts: None,
+        taken: 0,
+        records: 0,
+    };
+    Ok(Read {
+        seat,
+        core,
+        retuned: false,
+    })
+}
+
+/// What a device recovers whose layout was finished, retuned where another tuning than the wanted one is in force.
+fn read_back<L: Ledger, D: Disk>(
+    alloc: Global,
+    dev: &mut D,
+    def: &TagDef,
+    room: u32,
+    steps: &mut Steps<L>,
+) -> Result<Read, OpenNo>
+    requires opened { Shows (D.trace dev.old) (IsOpen 0) }
+    requires tuned { IsTuned def.now.tuning }
+    ensures opened { IfOk result (λ r. Shows (D.trace dev.old) (λ c. (s : State) × IsRecovered def.now c s
+        × OpensAs def.now r.retuned s r.core.state)) }
+    ensures seat { IfOk result (λ r. Shows (D.trace dev.old) (IsSeat r.seat)) }
+    ensures slots { IfOk result (λ r. (1 ≤ r.seat.lane.slots) × (r.seat.lane.slots ≤ 65536)) }
+    ensures used { IfOk result (λ r. r.seat.lane.used ≤ r.seat.lane.slots) }
+    ensures acked { IfOk result (λ r. r.retuned ≡ false → r.seat.lane.next ≡ r.core.state.summary.taken) }
+    ensures step { IfOk result (λ r. r.core.step ≡ def.now.step) }
+    ensures tuning { IfOk result (λ r. r.core.state.summary.tuning ≡ Some def.now.tuning) }
+    ensures room { IfOk result (λ r. 2 * room ≤ r.core.spare) }
+    ensures cause { IfErr result
+        (IsCause def.now (D.trace dev.old) (D.fault_count dev.old) (D.fault_count dev.new)) }
+    ensures same { D.trace dev.new ≡ D.trace dev.old }
+    ensures untimed { D.ticks dev.new ≡ D.ticks dev.old }
+    ensures faults { D.fault_count dev.old ≤ D.fault_count dev.new }
+{
+    let header = match read_layout(dev, def) {
+        Ok(header) => header,
+        Err(why) => return Err(why),
+    };
+    let stored = match read_stored(alloc, dev, &header, def.step) {
+        Ok(stored) => stored,
+        Err(why) => return Err(why),
+    };
+    match read_core(alloc, dev, header.slots, stored, def.step, room, steps) {
+        Ok((seat, core)) => tuned(seat, core, def, steps),
+        Err(why) => Err(why),
+    }
+}
+
+/// The tag, retuned where another tuning than the wanted one is in force.
+fn tuned<L: Ledger>(
+    seat: Seat,
+    core: TagCore,
+    def: &TagDef,
+    steps: &mut Steps<L>,
+) -> Result<Read, OpenNo>
+    requires tuned { IsTuned def.now.tuning }
+    requires room { 2 ≤ core.spare }
+    requires countable { core.state.summary.taken < 2 ^ 64 - 1 }
+    requires step { core.step ≡ def.now.step }
+    ensures opened { IfOk result (λ r. OpensAs def.now r.retuned core.state r.core.state) }
+    ensures seat { IfOk result (λ r. r.seat ≡ seat) }
+    ensures step { IfOk result (λ r. r.core.step ≡ def.now.step) }
+    ensures tuning { IfOk result (λ r. r.core.state.summary.tuning ≡ Some def.now.tuning) }
+    ensures room { IfOk result (λ r. core.spare ≤ r.core.spare + 2) }
+    ensures full { IfErr result (λ why. why ≡ TooFull (length core.state.records)) }
+    ensures many { OnErr result (MAX_RECORDS < length core.state.records + 2) }
+    ensures other { OnErr result (core.state.summary.tuning ≢ Some def.now.tuning) }
+{
+    let mut core = core;
+    if same_tuning(&core.tuning(), &def.tuning) {
+        return Ok(Read {
+            seat,
+            core,
+            retuned: false,
+        });
+    }
+    match core.retune(def.tuning, steps) {
+        Ok(_) => Ok(Read {
+            seat,
+            core,
+            retuned: true,
+        }),
+        Err(full) => Err(OpenNo::Full {
+            records: full.records,
+        }),
+    }
+}
+
+/// The refusal to open where a checkpoint or a layout was not written.
+fn refusal_of_put(why: PutNo) -> OpenNo
+    ensures { result ≡ refusal_of_put why }
+{
+    match why {
+        PutNo::DeviceFault => OpenNo::DeviceFault,
+        PutNo::WantOfMemory => OpenNo::WantOfMemory,
+    }
+}

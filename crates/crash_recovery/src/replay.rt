@@ -1,0 +1,197 @@
+// The values of a lane, taken after what its device stores.
+ghost use Rattle.std.specs.Prelude.{◌≡◌, ◌+◌, ◌*◌, ◌^◌, ◌<◌, ◌≤◌, ℕ, length, min, take, map, Err, IfOk, IfErr, OnOk, OnErr};
+ghost use Rattle.std.specs.List.{All};
+ghost use Rattle.trend_num.specs.declared.archive.TheConstants.{MAX_RECORDS};
+ghost use Rattle.trend_num.specs.declared.tag_def.TagDef.{TagDef};
+ghost use Rattle.trend_num.specs.Ranges.{InRange, IsTuned};
+ghost use Rattle.trend_model.specs.History.{Raw};
+ghost use Rattle.trend_model.specs.Parts.{ArePartsOk};
+ghost use Rattle.trend_model.specs.State.{replay};
+ghost use Rattle.disk_model.specs.Calls.{Reaches, Rose};
+ghost use Rattle.event_queue.specs.Slots.{place_of, slot_at, count_in};
+ghost use Rattle.crash_recovery.specs.declared.failure.OpenNo.TheVariants.{DeviceFault};
+ghost use Rattle.crash_recovery.specs.Recovery.{AllFit, IsRecovered};
+ghost use Rattle.crash_recovery.specs.Damages.{IsValuePlace};
+ghost use Rattle.crash_recovery.specs.Opening.{Shows, IsCause, IsReadFrom, HoldsValue, IsOverfull};
+ghost use Rattle.crash_recovery.specs.Journals.{IsSeat};
+
+use crate::OpenNo;
+use crate::layout_reader::{LANE, Stored, damaged, read_part, refusal_of};
+use crate::seat::Seat;
+use disk_model::Disk;
+use event_queue::{BATCH_MOST, SLOT_LEN, scan};
+use std::alloc::Global;
+use std::sync::ledger::Ledger;
+use tag_core::TagCore;
+use trend_num::{Point, Steps};
+
+// Where the fields of a lane slot begin: how many values there are, and the values.
+const COUNT: u64 = 8;
+
+const POINTS: u64 = 10;
+
+// How many bytes a value has.
+const POINT_LEN: u64 = 16;
+
+/// Takes each of these values. Answers how many were taken before one found no room.
+pub(crate) fn replay<L: Ledger>(
+    core: &mut TagCore,
+    points: &[Point],
+    steps: &mut Steps<L>,
+) -> Result<(), usize>
+    requires in_range { All InRange points.now }
+    requires room { 2 * length points.now ≤ core.old.spare }
+    requires countable { core.old.state.summary.taken + length points.now < 2 ^ 64 }
+    ensures fit { OnOk result (AllFit core.old.step core.old.state (map Raw points.now)) }
+    ensures state { OnOk result (core.new.state ≡ replay core.old.step core.old.state (map Raw points.now)) }
+    ensures taken { OnOk result
+        (core.new.state.summary.taken ≡ core.old.state.summary.taken + length points.now) }
+    ensures room_left { OnOk result (core.old.spare ≤ core.new.spare + 2 * length points.now) }
+    ensures step { core.new.step ≡ core.old.step }
+    ensures within { IfErr result (λ n. n < length points.now) }
+    ensures fit_before { IfErr result (λ n. AllFit core.old.step core.old.state (map Raw (take n points.now))) }
+    ensures full { IfErr result (λ n. MAX_RECORDS
+        < length (replay core.old.step core.old.state (map Raw (take n points.now))).records + 2) }
+{
+    for (n, p) in points.iter().enumerate() {
+        let Ok(_) = core.take(*p, steps) else {
+            return Err(n);
+        };
+    }
+    Ok(())
+}
+
+/// Where a value of the lane stands, by its number among all of them.
+fn value_place<D: Disk>(dev: &mut D, slots: u32, used: u32, number: usize) -> Result<u64, OpenNo>
+    requires some { 1 ≤ slots }
+    requires within { used ≤ slots }
+    requires there { Reaches (D.trace dev.old) (400 + 1035 * slots) }
+    ensures place { (taken : ℕ) → Shows (D.trace dev.old) (HoldsValue slots taken used number)
+        → IfOk result (λ a. Shows (D.trace dev.old) (λ c. (j : ℕ) × (i : ℕ) × IsValuePlace slots c taken number a j i)) }
+    ensures end { IfOk result (λ a. a < 400 + 1035 * slots) }
+    ensures fault { OnErr result ((result ≡ Err DeviceFault) × Rose (D.fault_count dev.old) (D.fault_count dev.new)) }
+    ensures same { D.trace dev.new ≡ D.trace dev.old }
+    ensures untimed { D.ticks dev.new ≡ D.ticks dev.old }
+    ensures faults { D.fault_count dev.old ≤ D.fault_count dev.new }
+{
+    let mut rest = number;
+    for j in 0..used {
+        let count = usize::from(count_at(dev, slots, j)?);
+        if rest < count {
+            return Ok(value_start(slots, j, rest));
+        }
+        rest -= count;
+    }
+    Ok(value_start(slots, 0, 0))
+}
+
+/// How many values a lane slot holds, which stands 8 bytes behind its beginning.
+fn count_at<D: Disk>(dev: &mut D, slots: u32, slot: u32) -> Result<u16, OpenNo>
+    requires within { slot < slots }
+    requires there { Reaches (D.trace dev.old) (400 + 1035 * slots) }
+    ensures count { IfOk result (λ n. Shows (D.trace dev.old) (λ c. n ≡ min 64 (count_in (slot_at slots c slot)))) }
+    ensures few { IfOk result (λ n. n ≤ 64) }
+    ensures fault { OnErr result ((result ≡ Err DeviceFault) × Rose (D.fault_count dev.old) (D.fault_count dev.new)) }
+    ensures same { D.trace dev.new ≡ D.trace dev.old }
+    ensures untimed { D.ticks dev.new ≡ D.ticks dev.old }
+    ensures faults { D.fault_count dev.old ≤ D.fault_count dev.new }
+{
+    let bytes = read_part::<2, D>(dev, slot_start(slots, slot) + COUNT)?;
+    Ok(u16::from_be_bytes(bytes).min(BATCH_MOST))
+}
+
+/// Where a value begins, by its number among those of a lane slot.
+fn value_start(slots: u32, slot: u32, number: usize) -> u64
+    requires { number ≤ 64 }
+    ensures { result ≡ place_of slots slot + (10 + 16 * number) }
+{
+    slot_start(slots, slot) + (POINTS + POINT_LEN * number as u64)
+}
+
+/// Where a lane slot begins.
+fn slot_start(slots: u32, number: u32) -> u64
+    ensures { result ≡ place_of slots number }
+{
+    LANE + u64::from(slots) + SLOT_LEN as u64 * u64::from(number)
+}
+
+/// The refusal of a lane of which value `number` finds no room.
+fn overfull<D: Disk>(dev: &mut D, slots: u32, used: u32, number: usize) -> OpenNo
+    requires some { 1 ≤ slots }
+    requires within { used ≤ slots }
+    requires few { slots ≤ 65536 }
+    requires there { Reaches (D.trace dev.old) (400 + 1035 * slots) }
+    ensures value { (taken : ℕ) → Shows (D.trace dev.old) (HoldsValue slots taken used number)
+        → IsOverfull (D.trace dev.old) slots taken number (D.fault_count dev.old) (D.fault_count dev.new) result }
+    ensures same { D.trace dev.new ≡ D.trace dev.old }
+    ensures untimed { D.ticks dev.new ≡ D.ticks dev.old }
+    ensures faults { D.fault_count dev.old ≤ D.fault_count dev.new }
+{
+    let at = match value_place(dev, slots, used, number) {
+        Ok(at) => at,
+        Err(why) => return why,
+    };
+    match read_part::<1, D>(dev, at) {
+        Ok(bytes) => damaged(at, bytes[0]),
+        Err(why) => why,
+    }
+}
+
+/// The core of what a device stores and its lane holds beyond that, with memory for `room` events more and a retuning.
+pub(crate) fn read_core<L: Ledger, D: Disk>(
+    alloc: Global,
+    dev: &mut D,
+    slots: u32,
+    stored: Stored,
+    step: bool,
+    room: u32,
+    steps: &mut Steps<L>,
+) -> Result<(Seat, TagCore), OpenNo>
+    requires some { 1 ≤ slots }
+    requires few { slots ≤ 65536 }
+    requires there { Reaches (D.trace dev.old) (400 + 1035 * slots) }
+    requires tuned { IsTuned stored.tuning }
+    requires parts { ArePartsOk stored.tuning step stored.recs.items stored.summary }
+    ensures recovered { (def : TagDef) → def.step ≡ step → Shows (D.trace dev.old) (IsReadFrom def slots stored)
+        → IfOk result (λ r. Shows (D.trace dev.old) (λ c. IsRecovered def c r.1.state)) }
+    ensures seat { (def : TagDef) → Shows (D.trace dev.old) (IsReadFrom def slots stored)
+        → IfOk result (λ r. Shows (D.trace dev.old) (IsSeat r.0)) }
+    ensures slots { IfOk result (λ r. r.0.lane.slots ≡ slots) }
+    ensures used { IfOk result (λ r. r.0.lane.used ≤ slots) }
+    ensures next { IfOk result (λ r. r.0.lane.next ≡ r.1.state.summary.taken) }
+    ensures countable { IfOk result (λ r. r.1.state.summary.taken < 2 * 10 ^ 18) }
+    ensures step { IfOk result (λ r. r.1.step ≡ step) }
+    ensures room { IfOk result (λ r. 2 * room + 2 ≤ r.1.spare) }
+    ensures cause { (def : TagDef) → def.step ≡ step → Shows (D.trace dev.old) (IsReadFrom def slots stored)
+        → IfErr result (IsCause def (D.trace dev.old) (D.fault_count dev.old) (D.fault_count dev.new)) }
+    ensures same { D.trace dev.new ≡ D.trace dev.old }
+    ensures untimed { D.ticks dev.new ≡ D.ticks dev.old }
+    ensures faults { D.fault_count dev.old ≤ D.fault_count dev.new }
+{
+    let scanned = match scan(alloc, dev, slots, stored.summary.taken) {
+        Ok(scanned) => scanned,
+        Err(why) => return Err(refusal_of(why)),
+    };
+    let events = (scanned.points.len() as u32 + 1).saturating_add(room);
+    let Ok(mut core) = TagCore::from_parts(
+        alloc,
+        stored.tuning,
+        step,
+        &stored.recs,
+        &stored.summary,
+        events,
+    ) else {
+        return Err(OpenNo::WantOfMemory);
+    };
+    if let Err(number) = replay(&mut core, &scanned.points, steps) {
+        return Err(overfull(dev, slots, scanned.lane.used, number));
+    }
+    let seat = Seat {
+        lane: scanned.lane,
+        stale: scanned.stale,
+        counts: stored.slot,
+        taken: stored.summary.taken,
+        records: stored.summary.records,
+    };
+    Ok((seat, core))
+}

@@ -1,0 +1,152 @@
+// The place of a journal on its device.
+ghost use Rattle.std.specs.Prelude.{◌≡◌, ◌≢◌, ◌↔◌, ◌+◌, ◌*◌, ◌^◌, ◌<◌, ◌≤◌, true, false, IsTrue, length, map};
+ghost use Rattle.std.specs.Prelude.{OnOk, OnErr};
+ghost use Rattle.std.specs.List.{All};
+ghost use Rattle.trend_num.specs.Ranges.{InRange};
+ghost use Rattle.trend_num.specs.declared.tag_def.TagDef.{TagDef};
+ghost use Rattle.trend_model.specs.History.{Raw};
+ghost use Rattle.trend_model.specs.State.{State, replay};
+ghost use Rattle.disk_model.specs.Moments.{During};
+ghost use Rattle.disk_model.specs.Calls.{HasCause};
+ghost use Rattle.crash_recovery.specs.Recovery.{AllFit, Recovers};
+ghost use Rattle.crash_recovery.specs.Journals.{AllRecover, RecoversEither, SeatedOn, free_in};
+ghost use Rattle.crash_recovery.specs.Seats.{LaidOn, OverrunOn, restarted};
+
+use crate::slot::Slot;
+use disk_model::Disk;
+use event_queue::{DeviceFault, Lane, LaneNo};
+use trend_num::Point;
+
+/// Where a journal stands on its device.
+#[derive(Clone, Copy, Debug, PartialEq, Eq)]
+pub(crate) struct Seat {
+    /// The place in the lane.
+    pub(crate) lane: Lane,
+    /// The summary counts all values of the lane's open slots, and their gates are still to be closed.
+    pub(crate) stale: bool,
+    /// The slot whose summary counts, if there is one.
+    pub(crate) counts: Option<Slot>,
+    /// How many events that summary counts.
+    pub(crate) taken: u64,
+    /// How many records that summary counts.
+    pub(crate) records: u32,
+}
+
+impl Seat {
+    /// Whether no lane slot is free.
+    pub(crate) fn is_full(&self) -> bool
+        requires { self.now.lane.used ≤ self.now.lane.slots }
+        ensures { IsTrue result ↔ (free_in self.now ≡ 0) }
+    {
+        self.free_slots() == 0
+    }
+
+    /// How many lane slots are free.
+    pub(crate) fn free_slots(&self) -> u32
+        requires { self.now.lane.used ≤ self.now.lane.slots }
+        ensures { result ≡ free_in self.now }
+    {
+        if self.stale {
+            self.lane.slots
+        } else {
+            self.lane.slots - self.lane.used
+        }
+    }
+
+    /// Puts 1 to 64 values into a free lane slot as one batch. The gates that are still to be closed are
+    /// closed first.
+    pub(crate) fn append<D: Disk>(
+        &mut self,
+        dev: &mut D,
+        points: &[Point],
+    ) -> Result<(), DeviceFault>
+        requires within { self.old.lane.used ≤ self.old.lane.slots }
+        requires seated { SeatedOn self.old (D.trace dev.old) }
+        requires free { free_in self.old ≢ 0 }
+        requires some { 1 ≤ length points.now }
+        requires few { length points.now ≤ 64 }
+        requires in_range { All InRange points.now }
+        requires number { self.old.lane.next + length points.now < 2 ^ 64 }
+
+        // A crash at any moment leaves an image that recovers what each recovered before, or that and all of
+        // these values; at Ok, the latter.
+        ensures any_moment { (def : TagDef) (s : State) → AllRecover def (D.trace dev.old) s
+            → AllFit def.step s (map Raw points.now)
+            → During (D.trace dev.old) (D.trace dev.new)
+            (RecoversEither def s (replay def.step s (map Raw points.now))) }
+        ensures durable { OnOk result ((def : TagDef) (s : State) → AllRecover def (D.trace dev.old) s
+            → AllFit def.step s (map Raw points.now)
+            → AllRecover def (D.trace dev.new) (replay def.step s (map Raw points.now))) }
+
+        ensures seated { OnOk result (SeatedOn self.new (D.trace dev.new)) }
+        ensures number { OnOk result (self.new.lane.next ≡ self.old.lane.next + length points.now) }
+        ensures free { OnOk result (free_in self.new + 1 ≡ free_in self.old) }
+        ensures unmoved { OnErr result (self.new.lane.next ≡ self.old.lane.next) }
+        ensures slots { self.new.lane.slots ≡ self.old.lane.slots }
+        ensures within { self.new.lane.used ≤ self.new.lane.slots }
+        ensures later { D.ticks dev.old ≤ D.ticks dev.new }
+        ensures cause { HasCause (D.fault_count dev.old) (D.fault_count dev.new) result }
+    {
+        self.close_stale(dev)?;
+        self.put_batch(dev, points)
+    }
+
+    // Puts 1 to 64 values into the next lane slot as one batch.
+    fn put_batch<D: Disk>(&mut self, dev: &mut D, points: &[Point]) -> Result<(), DeviceFault>
+        requires fresh { self.old.stale ≡ false }
+        requires within { self.old.lane.used < self.old.lane.slots }
+        requires laid { LaidOn self.old (D.trace dev.old) }
+        requires some { 1 ≤ length points.now }
+        requires few { length points.now ≤ 64 }
+        requires in_range { All InRange points.now }
+        requires number { self.old.lane.next + length points.now < 2 ^ 64 }
+        ensures any_moment { (def : TagDef) (s : State) → AllRecover def (D.trace dev.old) s
+            → AllFit def.step s (map Raw points.now)
+            → During (D.trace dev.old) (D.trace dev.new)
+            (RecoversEither def s (replay def.step s (map Raw points.now))) }
+        ensures durable { OnOk result ((def : TagDef) (s : State) → AllRecover def (D.trace dev.old) s
+            → AllFit def.step s (map Raw points.now)
+            → AllRecover def (D.trace dev.new) (replay def.step s (map Raw points.now))) }
+        ensures seated { OnOk result (SeatedOn self.new (D.trace dev.new)) }
+        ensures moved { OnOk result (self.new ≡ record self.old {
+          lane = record self.old.lane {
+            used = self.old.lane.used + 1;
+            next = self.old.lane.next + length points.now;
+          };
+        }) }
+        ensures unmoved { OnErr result (self.new ≡ self.old) }
+        ensures later { D.ticks dev.old ≤ D.ticks dev.new }
+        ensures cause { HasCause (D.fault_count dev.old) (D.fault_count dev.new) result }
+    {
+        match self.lane.append_batch(dev, points) {
+            Ok(()) => Ok(()),
+            Err(LaneNo::LaneFull) => unreachable!(),
+            Err(LaneNo::DeviceFault) => Err(DeviceFault),
+        }
+    }
+
+    /// Closes the gates of an overtaken lane. Nothing is called where it is not overtaken.
+    pub(crate) fn close_stale<D: Disk>(&mut self, dev: &mut D) -> Result<(), DeviceFault>
+        requires within { self.old.lane.used ≤ self.old.lane.slots }
+        requires laid { LaidOn self.old (D.trace dev.old) }
+
+        // A crash at any moment leaves an image that recovers what each recovered before.
+        ensures any_moment { (def : TagDef) (s : State) → AllRecover def (D.trace dev.old) s
+            → (self.old.stale ≡ true → OverrunOn self.old (D.trace dev.old))
+            → During (D.trace dev.old) (D.trace dev.new) (λ c. Recovers def c s) }
+        ensures laid { OnOk result (LaidOn self.new (D.trace dev.new)) }
+        ensures fresh { OnOk result (self.new.stale ≡ false) }
+        ensures kept { self.old.stale ≡ false → self.new ≡ self.old }
+        ensures restarted { self.old.stale ≡ true → OnOk result (self.new ≡ restarted self.old) }
+        ensures unmoved { OnErr result (self.new ≡ self.old) }
+        ensures later { D.ticks dev.old ≤ D.ticks dev.new }
+        ensures cause { HasCause (D.fault_count dev.old) (D.fault_count dev.new) result }
+    {
+        if !self.stale {
+            return Ok(());
+        }
+        self.lane.restart(dev)?;
+        self.stale = false;
+        Ok(())
+    }
+}
