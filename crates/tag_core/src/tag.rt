@@ -8,7 +8,7 @@ ghost use Rattle.trend_model.specs.History.{Event, Origin, Raw, Tune};
 ghost use Rattle.trend_model.specs.Parts.{ArePartsOk};
 ghost use Rattle.trend_model.specs.State.{Stands, after, nothing_taken};
 ghost use Rattle.tag_core.specs.Compressed.{HangAt, lower_of, upper_of};
-ghost use Rattle.tag_core.specs.Core.{comparisons};
+ghost use Rattle.tag_core.specs.Core.{IsCore, comparisons};
 
 use crate::compressor::Compressor;
 use door_slopes::Doors;
@@ -274,6 +274,9 @@ impl TagCore {
         ensures value { result ≡ self.now.state.summary }
         ensures parts { (u : Tuning) → result.tuning ≡ Some u → result.taken < 10 ^ 18
             → ArePartsOk u self.now.step self.now.state.records result }
+
+        // However many events were taken.
+        ensures is_core { (u : Tuning) × IsCore u self.now.step self.now.state }
     {
         Summary {
             taken: self.taken,
