@@ -18,18 +18,22 @@ use Rattle.crash_recovery.specs.declared.layout_reader.Stored.{Stored}
 use Rattle.crash_recovery.specs.declared.slot.Slot.{Slot}
 use Rattle.crash_recovery.specs.Headers.{def_in, slots_in, IsHeader, IsHeaderBroken}
 use Rattle.crash_recovery.specs.SlotFields.{IsSlotBroken}
-use Rattle.crash_recovery.specs.Recovery.{summary_place, summary_gate, slot_bytes, chosen, counting, in_force, no_summary}
+use Rattle.crash_recovery.specs.Recovery.{summary_place, summary_gate, slot_bytes, chosen, counting, in_force}
+use Rattle.crash_recovery.specs.Recovery.{no_summary}
 use Rattle.crash_recovery.specs.Damages.{IsTagDamage}
 use Rattle.crash_recovery.specs.Opening.{Shows, IsOther, HasHeader, HasLayout, CountsSummary, IsReadFrom}
-use Rattle.crash_recovery.proofs.Reading.{has_header, header_broken, counting_read, here_at, records_broken, parts_broken}
-use Rattle.crash_recovery.proofs.Reading.{is_other, counts_summary, stored_none, stored_some, layout_short, has_layout}
+use Rattle.crash_recovery.proofs.Reading.{has_header, header_broken, counting_read, here_at, records_broken}
+use Rattle.crash_recovery.proofs.Reading.{parts_broken}
+use Rattle.crash_recovery.proofs.Reading.{is_other, counts_summary, stored_none, stored_some, layout_short}
+use Rattle.crash_recovery.proofs.Reading.{has_layout}
 
 -- the same bytes were read before some calls that changed nothing
 pub reads_before : (o p : Option Trace) (at : ℕ) (bytes : List ℕ) → p ≡ o → Reads p at bytes → Reads o at bytes
 reads_before o p at bytes same read = subst (λ x. Reads x at bytes) same read
 
 -- a broken header
-pub header_cause : (def : TagDef) (o : Option Trace) (bytes : List ℕ) (len at : ℕ) → length bytes ≡ 128 → Reads o 0 bytes
+pub header_cause : (def : TagDef) (o : Option Trace) (bytes : List ℕ) (len at : ℕ) → length bytes ≡ 128
+    → Reads o 0 bytes
     → HasLength o len → 128 ≤ len → at < 128 → IsHeaderBroken bytes at → Shows o (IsOpen 0)
     → Shows o (λ c. IsTagDamage def c at (Some (get_or bytes at 0)))
 header_cause def None bytes len at size read is long within broken opened = tt
@@ -45,7 +49,8 @@ other_cause def (Some t) h opened has differs = is_other def (seen (Some t)) h o
 -- the slot that counts
 pub counting_shown : (o : Option Trace) (a b d : ℕ) (first second gates : List ℕ) (m n : ℕ) (result : Option Slot)
     → length first ≡ 8 → length second ≡ 8 → length gates ≡ 2 → a ≡ 128 → b ≡ 256 → d ≡ 384
-    → Reads o a first → Reads o b second → Reads o d gates → m ≡ from_be_bytes w64 first → n ≡ from_be_bytes w64 second
+    → Reads o a first → Reads o b second → Reads o d gates → m ≡ from_be_bytes w64 first
+    → n ≡ from_be_bytes w64 second
     → result ≡ chosen (nat_eq (get_or gates 0 0) open_byte) (nat_eq (get_or gates 1 0) open_byte) (nat_le n m)
     → Shows o (λ c. counting c ≡ result)
 counting_shown None a b d first second gates m n result fs ss gs at_a at_b at_d fr sr gr m_is n_is is = tt
@@ -58,14 +63,18 @@ pub records_cause : (def : TagDef) (o : Option Trace) (slots log : ℕ) (i : Slo
     (byte : Option ℕ) → log ≡ lane_end slots → Shows o (λ c. IsDamage c log s.records a byte)
     → Shows o (CountsSummary def slots i s u) → Shows o (λ c. IsTagDamage def c a byte)
 records_cause def None slots log i s u a byte is damage has = tt
-records_cause def (Some t) slots log i s u a byte is damage has = records_broken def slots i s u (seen (Some t)) a byte
+records_cause def (Some t) slots log i s u a byte is damage has = records_broken def slots i s u (seen
+    (Some t)) a byte
     (subst (λ n. IsDamage (seen (Some t)) n s.records a byte) is damage) has
 
 -- records and a summary that can't be
-pub parts_cause : (def : TagDef) (o : Option Trace) (slots log place : ℕ) (i : Slot) (s : Summary) (u : Tuning) (step : Bool)
+pub parts_cause : (def : TagDef) (o : Option Trace) (slots log place : ℕ) (i : Slot) (s : Summary) (u : Tuning)
+    (step : Bool)
     (rs : List Rec) (first : List ℕ) → def.step ≡ step → log ≡ lane_end slots → place ≡ summary_place i
-    → Shows o (λ c. HasRecords c log s.records rs) → (ArePartsOk u step rs s → ⊥) → length first ≡ 1 → Reads o place first
-    → Shows o (CountsSummary def slots i s u) → Shows o (λ c. IsTagDamage def c (summary_place i) (Some (get_or first 0 0)))
+    → Shows o (λ c. HasRecords c log s.records rs) → (ArePartsOk u step rs s → ⊥) → length first ≡ 1
+    → Reads o place first
+    → Shows o (CountsSummary def slots i s u) → Shows o (λ c. IsTagDamage def c (summary_place i) (Some
+    (get_or first 0 0)))
 parts_cause def None slots log place i s u step rs first same_step is at records broken size read has = tt
 parts_cause def (Some t) slots log place i s u step rs first same_step is at records broken size read has =
     parts_broken def slots i s u step rs first (seen (Some t)) same_step
@@ -81,13 +90,15 @@ records_shown (Some t) slots log n rs is has = subst (λ k. HasRecords (seen (So
 -- a summary that counts
 pub counts_shown : (def : TagDef) (o : Option Trace) (slots : ℕ) (made : Tuning) (i : Slot) (s : Summary) (u : Tuning)
     → Shows o (HasLayout def slots made) → Shows o (λ c. counting c ≡ Some i) → IsSummary s
-    → Shows o (λ c. slot_bytes c i ≡ summary_image s) → u ≡ in_force made s.tuning → Shows o (CountsSummary def slots i s u)
+    → Shows o (λ c. slot_bytes c i ≡ summary_image s) → u ≡ in_force made s.tuning
+    → Shows o (CountsSummary def slots i s u)
 counts_shown def None slots made i s u has counts whole bytes tuning = tt
 counts_shown def (Some t) slots made i s u has counts whole bytes tuning =
     counts_summary def slots made i s u (seen (Some t)) has counts whole bytes tuning
 
 -- all that is stored
-pub stored_shown : (def : TagDef) (o : Option Trace) (slots : ℕ) (i : Slot) (s : Summary) (u : Tuning) (step : Bool) (x : Stored)
+pub stored_shown : (def : TagDef) (o : Option Trace) (slots : ℕ) (i : Slot) (s : Summary) (u : Tuning)
+    (step : Bool) (x : Stored)
     → def.step ≡ step → Shows o (CountsSummary def slots i s u)
     → Shows o (λ c. HasRecords c (lane_end slots) s.records x.recs.items) → ArePartsOk u step x.recs.items s
     → x.slot ≡ Some i → x.summary ≡ s → x.tuning ≡ u → Shows o (IsReadFrom def slots x)
@@ -96,7 +107,8 @@ stored_shown def (Some t) slots i s u step x same_step has records ok slot summa
     stored_some def slots i s u step x (seen (Some t)) same_step has records ok slot summary tuning
 
 -- nothing is
-pub nothing_shown : (def : TagDef) (o : Option Trace) (slots : ℕ) (made : Tuning) (x : Stored) → Shows o (HasLayout def slots made)
+pub nothing_shown : (def : TagDef) (o : Option Trace) (slots : ℕ) (made : Tuning) (x : Stored)
+    → Shows o (HasLayout def slots made)
     → Shows o (λ c. counting c ≡ None) → x.slot ≡ None → x.summary ≡ no_summary → x.recs.items ≡ [] → x.tuning ≡ made
     → Shows o (IsReadFrom def slots x)
 nothing_shown def None slots made x has none slot summary recs tuning = tt

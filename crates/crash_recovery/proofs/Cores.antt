@@ -1,6 +1,8 @@
 -- What was read of a device is what it recovers, and where its lane is broken.
-use Rattle.std.proofs.Common.{◌≡◌, ◌≢◌, inl, inr, ⊎_elim, ℕ, zero, suc, ◌+◌, ◌*◌, ◌<◌, ◌≤◌, min, Bool, true, false, List, [], ◌∷◌, ◌++◌, length, take, drop, map}
-use Rattle.std.proofs.Common.{get_or, Option, None, Some, refl, sym, ◌∙◌, ap, ap₂, subst, arith, length-append, length-take, length-drop}
+use Rattle.std.proofs.Common.{◌≡◌, ◌≢◌, inl, inr, ⊎_elim, ℕ, zero, suc, ◌+◌, ◌*◌, ◌<◌, ◌≤◌, min, Bool, true}
+use Rattle.std.proofs.Common.{false, List, [], ◌∷◌, ◌++◌, length, take, drop, map}
+use Rattle.std.proofs.Common.{get_or, Option, None, Some, refl, sym, ◌∙◌, ap, ap₂, subst, arith, length-append}
+use Rattle.std.proofs.Common.{length-take, length-drop}
 use Rattle.std.proofs.lemmas.Bool.{cases_Bool}
 use Rattle.trend_num.specs.declared.archive.TheConstants.{MAX_RECORDS}
 use Rattle.trend_num.specs.declared.archive.Rec.{Rec}
@@ -23,12 +25,14 @@ use Rattle.event_queue.specs.Places.{HasRoom, IsFilled, IsOvertaken}
 use Rattle.event_queue.specs.Scans.{IsWithin, IsRead}
 use Rattle.event_queue.proofs.Found.{scanned_overtaken, scanned_filled}
 use Rattle.crash_recovery.specs.declared.failure.OpenNo.{OpenNo}
-use Rattle.crash_recovery.specs.declared.failure.OpenNo.TheVariants.{DeviceFault, Damaged, OtherTag, Full, WantOfMemory}
+use Rattle.crash_recovery.specs.declared.failure.OpenNo.TheVariants.{DeviceFault, Damaged, OtherTag, Full}
+use Rattle.crash_recovery.specs.declared.failure.OpenNo.TheVariants.{WantOfMemory}
 use Rattle.crash_recovery.specs.declared.layout_reader.Stored.{Stored}
 use Rattle.crash_recovery.specs.declared.seat.Seat.{Seat}
 use Rattle.crash_recovery.specs.declared.slot.Slot.{Slot}
 use Rattle.crash_recovery.specs.Headers.{slots_in, tuning_in}
-use Rattle.crash_recovery.specs.Recovery.{header_of, log_place, start_of, state_of, in_force, HasSummary, AllFit, IsStored, IsReplayed, IsRecovered}
+use Rattle.crash_recovery.specs.Recovery.{header_of, log_place, start_of, state_of, in_force, HasSummary}
+use Rattle.crash_recovery.specs.Recovery.{AllFit, IsStored, IsReplayed, IsRecovered}
 use Rattle.crash_recovery.specs.Damages.{IsValuePlace, StandsThere, IsTagDamage}
 use Rattle.crash_recovery.specs.Damages.IsTagDamage.{BadQueue, BadValue}
 use Rattle.crash_recovery.specs.Journals.{IsInUse, IsLeftBehind, LaneStands, IsSeat}
@@ -50,7 +54,10 @@ log_long c at n rs within has =
 module _ (def : TagDef) (slots : ℕ) (x : Stored) (c : List ℕ) (read : IsReadFrom def slots x c) (s : Scanned)
     (scanned : IsRead slots x.summary.taken c slots s) (inside : IsWithin slots x.summary.taken slots s) where
   -- where a core begins that was made of this
-  start_same : (core : State) → core.records ≡ x.recs.items → core.summary ≡ record x.summary { tuning = Some x.tuning }
+  start_same : (core : State) → core.records ≡ x.recs.items → core.summary ≡ record x.summary {
+    tuning =
+        Some x.tuning;
+  }
       → core ≡ start_of c x.recs.items x.summary
   start_same core records summary =
       let make : List Rec → Summary → State = λ rs sm. record { records = rs; summary = sm } in
@@ -98,10 +105,18 @@ module _ (def : TagDef) (slots : ℕ) (x : Stored) (c : List ℕ) (read : IsRead
     number = inside.number ∙ ap (λ l. x.summary.taken + length l) (inside.none_stale is) ∙ omega arith;
   }
 
-  pub seated : IsSeat (record { lane = s.lane; stale = s.stale; counts = x.slot; taken = x.summary.taken; records = x.summary.records }) c
+  pub seated : IsSeat (record {
+    lane = s.lane;
+    stale = s.stale;
+    counts = x.slot;
+    taken =
+        x.summary.taken;
+    records = x.summary.records;
+  }) c
   seated =
       let slots_same : s.lane.slots ≡ slots_in (header_of c) = inside.slots_same ∙ read.slots_are in
-      let summary_there : HasSummary c x.slot x.summary = subst (λ o. HasSummary c o x.summary) read.slot read.stored.summary in
+      let summary_there : HasSummary c x.slot x.summary = subst
+      (λ o. HasSummary c o x.summary) read.slot read.stored.summary in
       record {
         opened = read.stored.tag.opened;
         header = read.stored.tag.header;
@@ -117,7 +132,8 @@ module _ (def : TagDef) (slots : ℕ) (x : Stored) (c : List ℕ) (read : IsRead
           arith,
           log_long c (lane_end s.lane.slots) x.summary.records x.recs.items
               (subst (λ n. lane_end n ≤ length c) (sym slots_same) read.stored.long)
-              (subst (λ n. HasRecords c (lane_end n) x.summary.records x.recs.items) (sym slots_same) read.stored.records),
+              (subst (λ n. HasRecords c (lane_end n) x.summary.records x.recs.items)
+              (sym slots_same) read.stored.records),
         );
         lane = subst (λ n. LaneStands s.stale n x.summary.taken s.lane.used s.lane.next c) (sym inside.slots_same)
             (lane_stands s.stale refl);
@@ -137,7 +153,8 @@ module _ (def : TagDef) (slots : ℕ) (x : Stored) (c : List ℕ) (read : IsRead
         fit = subst (λ k. AllFit k (start_of c x.recs.items x.summary) (map Raw (take n points))) (sym same_step)
             (subst (λ st. AllFit step st (map Raw (take n points))) (start_same core records summary)
             (subst (λ l. AllFit step core (map Raw (take n l))) points_same fit));
-        full = subst (λ k. MAX_RECORDS < length (replay k (start_of c x.recs.items x.summary) (map Raw (take n points))).records + 2)
+        full = subst (λ k. MAX_RECORDS < length (replay k (start_of c x.recs.items x.summary) (map Raw
+            (take n points))).records + 2)
             (sym same_step) (subst (λ st. MAX_RECORDS < length (replay step st (map Raw (take n points))).records + 2)
             (start_same core records summary)
             (subst (λ l. MAX_RECORDS < length (replay step core (map Raw (take n l))).records + 2) points_same full));
@@ -153,8 +170,10 @@ module _ (def : TagDef) (slots : ℕ) (x : Stored) (c : List ℕ) (read : IsRead
   ]
 
 -- the same of a device
-pub recovered_shown : (def : TagDef) (o : Option Trace) (slots : ℕ) (x : Stored) (s : Scanned) (step : Bool) (core new : State)
-    → IsWithin slots x.summary.taken slots s → Shows o (IsReadFrom def slots x) → Shows o (λ c. IsRead slots x.summary.taken c slots s)
+pub recovered_shown : (def : TagDef) (o : Option Trace) (slots : ℕ) (x : Stored) (s : Scanned) (step : Bool)
+    (core new : State)
+    → IsWithin slots x.summary.taken slots s → Shows o (IsReadFrom def slots x)
+    → Shows o (λ c. IsRead slots x.summary.taken c slots s)
     → def.step ≡ step → core.records ≡ x.recs.items → core.summary ≡ record x.summary { tuning = Some x.tuning }
     → AllFit step core (map Raw s.points.items) → new ≡ replay step core (map Raw s.points.items)
     → Shows o (λ c. IsRecovered def c new)
@@ -163,8 +182,16 @@ recovered_shown def (Some t) slots x s step core new inside read scanned same_st
     recovered def slots x (seen (Some t)) read s scanned inside step core new same_step records summary fit state
 
 pub seated_shown : (def : TagDef) (o : Option Trace) (slots : ℕ) (x : Stored) (s : Scanned)
-    → IsWithin slots x.summary.taken slots s → Shows o (IsReadFrom def slots x) → Shows o (λ c. IsRead slots x.summary.taken c slots s)
-    → Shows o (IsSeat (record { lane = s.lane; stale = s.stale; counts = x.slot; taken = x.summary.taken; records = x.summary.records }))
+    → IsWithin slots x.summary.taken slots s → Shows o (IsReadFrom def slots x)
+    → Shows o (λ c. IsRead slots x.summary.taken c slots s)
+    → Shows o (IsSeat (record {
+      lane = s.lane;
+      stale = s.stale;
+      counts = x.slot;
+      taken =
+          x.summary.taken;
+      records = x.summary.records;
+    }))
 seated_shown def None slots x s inside read scanned = tt
 seated_shown def (Some t) slots x s inside read scanned = seated def slots x (seen (Some t)) read s scanned inside
 
@@ -178,14 +205,16 @@ queue_shown def (Some t) slots x a byte read damage = BadQueue x.recs.items x.su
 })
 
 pub holds_shown : (def : TagDef) (o : Option Trace) (slots : ℕ) (x : Stored) (s : Scanned) (n : ℕ)
-    → IsWithin slots x.summary.taken slots s → Shows o (IsReadFrom def slots x) → Shows o (λ c. IsRead slots x.summary.taken c slots s)
+    → IsWithin slots x.summary.taken slots s → Shows o (IsReadFrom def slots x)
+    → Shows o (λ c. IsRead slots x.summary.taken c slots s)
     → n < length s.points.items → Shows o (HoldsValue slots x.summary.taken s.lane.used n)
 holds_shown def None slots x s n inside read scanned below = tt
 holds_shown def (Some t) slots x s n inside read scanned below =
     holds_value def slots x (seen (Some t)) read s scanned inside n below
 
 -- the refusal of a lane of which a value finds no room
-pub overfull_cause : (def : TagDef) (o : Option Trace) (slots : ℕ) (x : Stored) (s : Scanned) (step : Bool) (core : State) (n a b m : ℕ)
+pub overfull_cause : (def : TagDef) (o : Option Trace) (slots : ℕ) (x : Stored) (s : Scanned) (step : Bool)
+    (core : State) (n a b m : ℕ)
     (why : OpenNo) → IsWithin slots x.summary.taken slots s → Shows o (IsReadFrom def slots x)
     → Shows o (λ c. IsRead slots x.summary.taken c slots s) → def.step ≡ step → core.records ≡ x.recs.items
     → core.summary ≡ record x.summary { tuning = Some x.tuning } → AllFit step core (map Raw (take n s.points.items))
@@ -193,11 +222,16 @@ pub overfull_cause : (def : TagDef) (o : Option Trace) (slots : ℕ) (x : Stored
     → IsOverfull o slots x.summary.taken n b m why → IsCause def o a m why
 overfull_cause def o slots x s step core n a b m DeviceFault inside read scanned same_step records summary fit full le over =
     rose_before a b m le over
-overfull_cause def None slots x s step core n a b m (Damaged at byte) inside read scanned same_step records summary fit full le over = tt
-overfull_cause def (Some t) slots x s step core n a b m (Damaged at byte) inside read scanned same_step records summary fit full le over =
-    value_broken def slots x (seen (Some t)) read s scanned inside step core n at over.0 over.1 byte same_step records summary fit full
+overfull_cause def None slots x s step core n a b m
+    (Damaged at byte) inside read scanned same_step records summary fit full le over = tt
+overfull_cause def (Some t) slots x s step core n a b m
+    (Damaged at byte) inside read scanned same_step records summary fit full le over =
+    value_broken def slots x (seen
+    (Some t)) read s scanned inside step core n at over.0 over.1 byte same_step records summary fit full
     over.2 over.3
-overfull_cause def o slots x s step core n a b m (OtherTag found wanted) inside read scanned same_step records summary fit full le over =
+overfull_cause def o slots x s step core n a b m
+    (OtherTag found wanted) inside read scanned same_step records summary fit full le over =
     absurd over
-overfull_cause def o slots x s step core n a b m (Full k) inside read scanned same_step records summary fit full le over = absurd over
+overfull_cause def o slots x s step core n a b m
+    (Full k) inside read scanned same_step records summary fit full le over = absurd over
 overfull_cause def o slots x s step core n a b m WantOfMemory inside read scanned same_step records summary fit full le over = absurd over

@@ -1,5 +1,6 @@
 -- Where the values of a lane stand.
-use Rattle.std.proofs.Common.{◌≡◌, inl, inr, ⊎_elim, ℕ, ◌+◌, ◌-◌, ◌*◌, ◌<◌, ◌≤◌, min, List, [], ◌++◌, length, take, drop}
+use Rattle.std.proofs.Common.{◌≡◌, inl, inr, ⊎_elim, ℕ, ◌+◌, ◌-◌, ◌*◌, ◌<◌, ◌≤◌, min, List, [], ◌++◌, length}
+use Rattle.std.proofs.Common.{take, drop}
 use Rattle.std.proofs.Common.{get_or, Option, None, Some, refl, sym, ◌∙◌, ap, subst, arith, length-append}
 use Rattle.std.proofs.lemmas.List.{append-nil}
 use Rattle.std.specs.Int.{w16, from_be_bytes}
@@ -24,8 +25,10 @@ count_here slots j at bytes c is size here = ap (from_be_bytes w16)
     (part_of c (place_of slots j) 1034 8 2 (omega arith) ∙ ap (λ k. take 2 (drop k c)) (sym is)
     ∙ ap (λ n. take n (drop at c)) (sym size) ∙ sym here)
 
-pub count_shown : (o : Option Trace) (slots j at : ℕ) (bytes : List ℕ) (m n : ℕ) → at ≡ place_of slots j + 8 → length bytes ≡ 2
-    → Reads o at bytes → m ≡ from_be_bytes w16 bytes → n ≡ min m 64 → Shows o (λ c. n ≡ min 64 (count_in (slot_at slots c j)))
+pub count_shown : (o : Option Trace) (slots j at : ℕ) (bytes : List ℕ) (m n : ℕ) → at ≡ place_of slots j + 8
+    → length bytes ≡ 2
+    → Reads o at bytes → m ≡ from_be_bytes w16 bytes → n ≡ min m 64 → Shows o (λ c. n ≡ min 64 (count_in
+    (slot_at slots c j)))
 count_shown None slots j at bytes m n is size read m_is n_is = tt
 count_shown (Some t) slots j at bytes m n is size read m_is n_is =
     let count = count_here slots j at bytes (seen (Some t)) is size read in
@@ -40,7 +43,8 @@ pub counted_none : (o : Option Trace) (slots taken n : ℕ) → Shows o (IsCount
 counted_none None slots taken n = tt
 counted_none (Some t) slots taken n = record { counted = omega arith }
 
-module _ (slots taken used n : ℕ) (c : List ℕ) (holds : HoldsValue slots taken used n c) (j : ℕ) (within : used ≤ slots)
+module _ (slots taken used n : ℕ) (c : List ℕ) (holds : HoldsValue slots taken used n c) (j : ℕ)
+    (within : used ≤ slots)
     (below : j < used) (m : ℕ) (is : m ≡ min 64 (count_in (slot_at slots c j))) where
   -- a used slot holds all of its batch
   all_beyond : points_beyond taken (batch_at slots c j) ≡ (batch_at slots c j).points
@@ -48,10 +52,12 @@ module _ (slots taken used n : ℕ) (c : List ℕ) (holds : HoldsValue slots tak
 
   -- which are so many
   held_there : length (points_beyond taken (batch_at slots c j)) ≡ m
-  held_there = ap length all_beyond ∙ length-points_in (min 64 (count_in (slot_at slots c j))) (drop 10 (slot_at slots c j)) ∙ sym is
+  held_there = ap length all_beyond ∙ length-points_in (min 64 (count_in (slot_at slots c j))) (drop 10
+      (slot_at slots c j)) ∙ sym is
 
   -- value n is behind them
-  pub counted_more : (rest : ℕ) → IsCountedTo slots taken n j rest c → m ≤ rest → IsCountedTo slots taken n (j + 1) (rest - m) c
+  pub counted_more : (rest : ℕ) → IsCountedTo slots taken n j rest c → m ≤ rest → IsCountedTo slots taken n
+      (j + 1) (rest - m) c
   counted_more rest so_far behind =
       let next = ap length (points_more slots taken c j ∙ ap (λ l. points_before slots c taken j ++ l)
       (points_open slots taken c j (holds.filled.opened j below))) in
@@ -59,7 +65,8 @@ module _ (slots taken used n : ℕ) (c : List ℕ) (holds : HoldsValue slots tak
       record { counted = omega (arith, so_far.counted, next, both, held_there, behind) }
 
   -- or it is among them
-  pub value_here : (rest a : ℕ) → IsCountedTo slots taken n j rest c → rest < m → a ≡ place_of slots j + (10 + 16 * rest)
+  pub value_here : (rest a : ℕ) → IsCountedTo slots taken n j rest c → rest < m
+      → a ≡ place_of slots j + (10 + 16 * rest)
       → IsValuePlace slots c taken n a j rest
   value_here rest a so_far among at = record {
     slot = omega (arith, below, within);
@@ -104,7 +111,8 @@ never_shown (Some t) slots taken used n j rest a within low high holds so_far =
 -- the byte at a value's place was read
 pub value_told : (o : Option Trace) (slots taken n a : ℕ) (bytes : List ℕ) → length bytes ≡ 1 → Reads o a bytes
     → Shows o (λ c. a < length c) → Shows o (λ c. (j : ℕ) × (i : ℕ) × IsValuePlace slots c taken n a j i)
-    → Shows o (λ c. (j : ℕ) × (i : ℕ) × IsValuePlace slots c taken n a j i × StandsThere c a (Some (get_or bytes 0 0)))
+    → Shows o (λ c. (j : ℕ) × (i : ℕ) × IsValuePlace slots c taken n a j i
+    × StandsThere c a (Some (get_or bytes 0 0)))
 value_told None slots taken n a bytes size read within place = tt
 value_told (Some t) slots taken n a bytes size read within place = (
   place.0,

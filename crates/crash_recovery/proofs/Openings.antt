@@ -1,5 +1,6 @@
 -- What each image recovers while a tag's device is opened.
-use Rattle.std.proofs.Common.{◌≡◌, ◌≢◌, ◌⊎◌, inl, inr, ⊎_elim, ℕ, ◌+◌, ◌^◌, ◌<◌, ◌≤◌, Bool, true, false, List, [], ◌∷◌, length}
+use Rattle.std.proofs.Common.{◌≡◌, ◌≢◌, ◌⊎◌, inl, inr, ⊎_elim, ℕ, ◌+◌, ◌^◌, ◌<◌, ◌≤◌, Bool, true, false, List}
+use Rattle.std.proofs.Common.{[], ◌∷◌, length}
 use Rattle.std.proofs.Common.{Option, None, Some, IfSome, Result, refl, sym, ◌∙◌, ap, subst, arith}
 use Rattle.trend_num.specs.declared.tuning.Tuning.{Tuning}
 use Rattle.trend_num.specs.declared.tag_def.TagDef.{TagDef}
@@ -17,9 +18,11 @@ use Rattle.disk_model.proofs.Moments.{started, goes_on, weaker, in_turn, during_
 use Rattle.crash_recovery.specs.declared.seat.Seat.{Seat}
 use Rattle.crash_recovery.specs.Recovery.{IsNew, IsRecovered, Recovers, in_force as in_force_of}
 use Rattle.crash_recovery.specs.Journals.{AllRecover, GoesOnFrom, RecoversEither, IsSeat, SeatedOn}
-use Rattle.crash_recovery.specs.Opening.{Shows, IsOpenedAs, IsCountable, RecoversSame, IsLeftOrSame, StaysSame, RecoversThen, OpensAs, IsReadAs, IsFull, IsOther, IsCause}
+use Rattle.crash_recovery.specs.Opening.{Shows, IsOpenedAs, IsCountable, RecoversSame, IsLeftOrSame, StaysSame}
+use Rattle.crash_recovery.specs.Opening.{RecoversThen, OpensAs, IsReadAs, IsFull, IsOther, IsCause}
 use Rattle.crash_recovery.specs.declared.failure.OpenNo.{OpenNo}
-use Rattle.crash_recovery.specs.declared.failure.OpenNo.TheVariants.{DeviceFault, Damaged, OtherTag, Full, WantOfMemory}
+use Rattle.crash_recovery.specs.declared.failure.OpenNo.TheVariants.{DeviceFault, Damaged, OtherTag, Full}
+use Rattle.crash_recovery.specs.declared.failure.OpenNo.TheVariants.{WantOfMemory}
 use Rattle.crash_recovery.specs.Damages.{IsTagDamage}
 use Rattle.crash_recovery.proofs.Reading.{rose_before}
 use Rattle.trend_num.specs.declared.archive.TheConstants.{MAX_RECORDS}
@@ -27,7 +30,8 @@ use Rattle.trend_num.specs.declared.archive.TheConstants.{MAX_RECORDS}
 -- ---- the sync at the beginning
 
 -- each image until then is one from before
-pub synced_during : {E : Type 0} (r : Result (Unit {0}) E) (def : TagDef) (o new : Option Trace) → IsNoted Synced Idle r o new
+pub synced_during : {E : Type 0} (r : Result (Unit {0}) E) (def : TagDef) (o new : Option Trace)
+    → IsNoted Synced Idle r o new
     → During o new (IsLeftOrSame def o)
 synced_during r def o new is =
     weaker o new (MayLeave o) (IsLeftOrSame def o) (λ c may. inl may)
@@ -43,8 +47,10 @@ shown_before (Some t) mid P is shows = subst (λ m. Shows m P) is shows
 pub cause_synced : (def : TagDef) (o mid : Option Trace) (a b n : ℕ) (why : OpenNo) → mid ≡ noted Synced o → a ≤ b
     → IsCause def mid b n why → IsCause def o a n why
 cause_synced def o mid a b n DeviceFault is le cause = rose_before a b n le cause
-cause_synced def o mid a b n (Damaged at byte) is le cause = shown_before o mid (λ c. IsTagDamage def c at byte) is cause
-cause_synced def o mid a b n (OtherTag found wanted) is le cause = shown_before o mid (λ c. IsOther def c found wanted) is cause
+cause_synced def o mid a b n (Damaged at byte) is le cause = shown_before o mid
+    (λ c. IsTagDamage def c at byte) is cause
+cause_synced def o mid a b n (OtherTag found wanted) is le cause = shown_before o mid
+    (λ c. IsOther def c found wanted) is cause
 cause_synced def o mid a b n (Full records) is le cause =
     shown_before o mid (λ c. (s : State) × IsFull def c records s) is cause
 cause_synced def o mid a b n WantOfMemory is le cause = tt
@@ -73,11 +79,16 @@ made_during def o mid new is blank before made =
     (λ c recovers. inr (start, start, inl (new_seen o mid is blank, refl), inl (refl, refl), inl recovers)) made)
 
 pub made_as : (def : TagDef) (o mid new : Option Trace) (r : State) → mid ≡ noted Synced o → Shows mid IsNew
-    → During mid new (λ c. Recovers def c (nothing_taken def.tuning)) → r ≡ nothing_taken def.tuning → IsReadAs def o new false r
+    → During mid new (λ c. Recovers def c (nothing_taken def.tuning)) → r ≡ nothing_taken def.tuning
+    → IsReadAs def o new false r
 made_as def None mid new r is blank made same = tt
 made_as def (Some t) mid new r is blank made same =
-    let start = nothing_taken def.tuning in
-    (start, inl (new_seen (Some t) mid is blank, refl), during_now mid new (λ c. Recovers def c start) made, (refl, same))
+    let start = nothing_taken def.tuning in (
+      start,
+      inl (new_seen (Some t) mid is blank, refl),
+      during_now mid new (λ c. Recovers def c start) made,
+      (refl, same),
+    )
 
 -- ---- a device whose layout was finished
 
@@ -96,7 +107,8 @@ read_as def (Some t) mid retuned r is read =
       found.0,
       inr found.1,
       record {
-        each = λ c may. subst (λ x. Recovers def x found.0) (sym ((settled (Some t)).each c (subst (λ m. MayLeave m c) is may)))
+        each = λ c may. subst (λ x. Recovers def x found.0) (sym ((settled (Some t)).each c (subst
+            (λ m. MayLeave m c) is may)))
             (inr found.1);
       },
       found.2,
@@ -118,18 +130,21 @@ pub stays_read : (def : TagDef) (o new : Option Trace) → During o new (IsLeftO
 stays_read def None new during = tt
 stays_read def (Some t) new during = λ countable. during
 
-pub recovers_read : (def : TagDef) (o new : Option Trace) (r : State) → IsReadAs def o new false r → RecoversThen def o new r
+pub recovers_read : (def : TagDef) (o new : Option Trace) (r : State) → IsReadAs def o new false r
+    → RecoversThen def o new r
 recovers_read def None new r read = tt
 recovers_read def (Some t) new r read = λ countable. subst (λ s. AllRecover def new s) (sym read.3.1) read.2
 
 -- an event counts one at most
-counts_under : (step : Bool) (s : State) (e : Event) (u : Option Tuning) → (after_under step s e u).summary.taken ≤ s.summary.taken + 1
+counts_under : (step : Bool) (s : State) (e : Event) (u : Option Tuning)
+    → (after_under step s e u).summary.taken ≤ s.summary.taken + 1
 counts_under step s e None = omega arith
 counts_under step s e (Some u) = omega arith
 
 -- what a checkpoint of a retuned core promises
 abbrev pub Promises : Option Trace → Option Trace → Bool → State → Type 0
-Promises mid new step r = r.summary.taken < 10 ^ 18 → (def : TagDef) (s : State) → AllRecover def mid s → GoesOnFrom def s step r
+Promises mid new step r = r.summary.taken < 10 ^ 18 → (def : TagDef) (s : State) → AllRecover def mid s
+    → GoesOnFrom def s step r
     → During mid new (RecoversEither def s r)
 
 module _ (def : TagDef) (t : Trace) (mid new : Option Trace) (step : Bool) (r : State) (kind : step ≡ def.step)
@@ -140,26 +155,38 @@ module _ (def : TagDef) (t : Trace) (mid new : Option Trace) (step : Bool) (r : 
 
   few : r.summary.taken < 10 ^ 18
   few = ⊎_elim (λ tuned. absurd (read.3.0 tuned)) (λ less.
-      omega (arith, ap (λ x. x.summary.taken) read.3.1, counts_under def.step read.0 (Tune def.tuning) read.0.summary.tuning, less))
+      omega (
+        arith,
+        ap (λ x. x.summary.taken) read.3.1,
+        counts_under def.step read.0
+            (Tune def.tuning) read.0.summary.tuning,
+        less,
+      ))
       (countable read.0 read.1)
 
   either_same : (c : List ℕ) → RecoversEither def read.0 r c → IsLeftOrSame def (Some t) c
   either_same c either = inr (read.0, r, read.1, inr (read.3.0, read.3.1), either)
 
-pub stays_retuned : (def : TagDef) (o mid new : Option Trace) (step : Bool) (r : State) → step ≡ def.step → IsReadAs def o mid true r
+pub stays_retuned : (def : TagDef) (o mid new : Option Trace) (step : Bool) (r : State) → step ≡ def.step
+    → IsReadAs def o mid true r
     → During o mid (IsLeftOrSame def o) → Promises mid new step r → StaysSame def o new
 stays_retuned def None mid new step r kind read before promise = tt
 stays_retuned def (Some t) mid new step r kind read before promise = λ countable.
     in_turn (Some t) mid new (IsLeftOrSame def (Some t)) before
-    (weaker mid new (RecoversEither def read.0 r) (IsLeftOrSame def (Some t)) (either_same def t mid new step r kind read countable)
-    (promise (few def t mid new step r kind read countable) def read.0 read.2 (goes def t mid new step r kind read countable)))
+    (weaker mid new (RecoversEither def read.0 r) (IsLeftOrSame def (Some t))
+    (either_same def t mid new step r kind read countable)
+    (promise (few def t mid new step r kind read countable) def read.0 read.2
+    (goes def t mid new step r kind read countable)))
 
-pub recovers_retuned : (def : TagDef) (o mid new : Option Trace) (step : Bool) (r : State) → step ≡ def.step → IsReadAs def o mid true r
-    → (r.summary.taken < 10 ^ 18 → (d : TagDef) (s : State) → AllRecover d mid s → GoesOnFrom d s step r → AllRecover d new r)
+pub recovers_retuned : (def : TagDef) (o mid new : Option Trace) (step : Bool) (r : State) → step ≡ def.step
+    → IsReadAs def o mid true r
+    → (r.summary.taken < 10 ^ 18 → (d : TagDef) (s : State) → AllRecover d mid s → GoesOnFrom d s step r
+    → AllRecover d new r)
     → RecoversThen def o new r
 recovers_retuned def None mid new step r kind read promise = tt
 recovers_retuned def (Some t) mid new step r kind read promise = λ countable.
-    promise (few def t mid new step r kind read countable) def read.0 read.2 (goes def t mid new step r kind read countable)
+    promise (few def t mid new step r kind read countable) def read.0 read.2
+    (goes def t mid new step r kind read countable)
 
 -- ---- a tag that has to be retuned and is full
 
@@ -187,4 +214,5 @@ pub stands_retuned : (def : TagDef) (o : Origin) (h : List Event) (s r : State) 
 stands_retuned def o h s r step stands (inl opened) other =
     absurd (other (ap (λ t. in_force_of (in_force o h) t) (sym stands.tuned ∙ opened.0)))
 stands_retuned def o h s r step stands (inr opened) other = subst (Stands o (Tune def.tuning ∷ h)) (sym opened.1)
-    (subst (λ k. Stands o (Tune def.tuning ∷ h) (after k s (Tune def.tuning))) step (stands_after o h (Tune def.tuning) s stands))
+    (subst (λ k. Stands o (Tune def.tuning ∷ h) (after k s (Tune def.tuning))) step (stands_after o h
+    (Tune def.tuning) s stands))

@@ -19,14 +19,17 @@ use Rattle.crash_recovery.specs.declared.slot.Slot.{Slot}
 use Rattle.crash_recovery.specs.declared.slot.Slot.TheVariants.{First, Second}
 use Rattle.crash_recovery.specs.Headers.{def_in, tuning_in, slots_in, IsHeader, IsHeaderBroken}
 use Rattle.crash_recovery.specs.SlotFields.{IsSlotBroken}
-use Rattle.crash_recovery.specs.Recovery.{header_of, log_place, summary_place, summary_gate, slot_bytes, is_open, taken_in, chosen}
+use Rattle.crash_recovery.specs.Recovery.{header_of, log_place, summary_place, summary_gate, slot_bytes}
+use Rattle.crash_recovery.specs.Recovery.{is_open, taken_in, chosen}
 use Rattle.crash_recovery.specs.Recovery.{counting, HasSummary, in_force, no_summary, IsOfTag, IsStored}
 use Rattle.crash_recovery.specs.Damages.{EndsBefore, StandsThere, IsHeaderDamage, IsLayoutDamage, IsSummaryDamage}
 use Rattle.crash_recovery.specs.Damages.{IsLogDamage, ArePartsDamaged, IsTagDamage}
 use Rattle.crash_recovery.specs.Damages.IsTagDamage.{EndsShort, BadHeader, BadLayout, BadSummary, BadLog, BadParts}
-use Rattle.crash_recovery.specs.Opening.{IsOther, IsFull, HasHeader, HasLayout, CountsSummary, IsReadFrom, IsCause, refusal_of}
+use Rattle.crash_recovery.specs.Opening.{IsOther, IsFull, HasHeader, HasLayout, CountsSummary, IsReadFrom}
+use Rattle.crash_recovery.specs.Opening.{IsCause, refusal_of}
 use Rattle.crash_recovery.specs.declared.failure.OpenNo.{OpenNo}
-use Rattle.crash_recovery.specs.declared.failure.OpenNo.TheVariants.{DeviceFault, Damaged, OtherTag, Full, WantOfMemory}
+use Rattle.crash_recovery.specs.declared.failure.OpenNo.TheVariants.{DeviceFault, Damaged, OtherTag, Full}
+use Rattle.crash_recovery.specs.declared.failure.OpenNo.TheVariants.{WantOfMemory}
 use Rattle.archive_file.specs.declared.failure.ScanNo.{ScanNo}
 use Rattle.archive_file.specs.declared.failure.ScanNo.TheVariants as scan
 use Rattle.disk_model.specs.Traces.{Trace}
@@ -55,7 +58,8 @@ cause_before def o p a b n (Full records) same le cause =
 cause_before def o p a b n WantOfMemory same le cause = tt
 
 -- the cause of a scan's refusal
-pub cause_of_scan : (def : TagDef) (o : Option Trace) (a n : ℕ) (why : ScanNo) (result : OpenNo) → result ≡ refusal_of why
+pub cause_of_scan : (def : TagDef) (o : Option Trace) (a n : ℕ) (why : ScanNo) (result : OpenNo)
+    → result ≡ refusal_of why
     → (why ≡ scan.DeviceFault → Rose a n) → ((at : ℕ) (byte : Option ℕ) → why ≡ scan.Damaged at byte
     → Shows o (λ c. IsTagDamage def c at byte)) → IsCause def o a n result
 cause_of_scan def o a n scan.DeviceFault result is fault damage = subst (IsCause def o a n) (sym is) (fault refl)
@@ -85,7 +89,8 @@ here_128 : (bytes : List ℕ) (at : ℕ) (c : List ℕ) → length bytes ≡ 128
 here_128 bytes at c size here = ap (λ n. take n (drop at c)) (sym size) ∙ sym here
 
 -- the byte there that has number k among those read
-pub byte_here : (bytes : List ℕ) (at : ℕ) (c : List ℕ) (k : ℕ) → k < length bytes → bytes ≡ take (length bytes) (drop at c)
+pub byte_here : (bytes : List ℕ) (at : ℕ) (c : List ℕ) (k : ℕ) → k < length bytes → bytes ≡ take (length bytes)
+    (drop at c)
     → get_or c (at + k) 0 ≡ get_or bytes k 0
 byte_here bytes at c k within here =
     sym (ap (λ l. get_or l k 0) here ∙ get_or-take (length bytes) (drop at c) k 0 within ∙ get_or-drop at c k 0)
@@ -131,7 +136,8 @@ of_tag def c h opened has name step = record {
 }
 
 pub has_layout : (def : TagDef) (c : List ℕ) (h : Header) (len : ℕ) → length c ≡ len → lane_end h.slots ≤ len
-    → IsOpen 0 c → HasHeader h c → h.def.name ≡ def.name → h.def.step ≡ def.step → HasLayout def h.slots h.def.tuning c
+    → IsOpen 0 c → HasHeader h c → h.def.name ≡ def.name → h.def.step ≡ def.step
+    → HasLayout def h.slots h.def.tuning c
 has_layout def c h len size long opened has name step = record {
   tag = of_tag def c h opened has name step;
   long = subst (λ n. n ≤ length c) (ap lane_end has.slots_are) (omega (arith, size, long));
@@ -156,9 +162,11 @@ layout_short def c h len size low opened has name step = BadLayout (record {
 taken_read : (i : Slot) (c bytes : List ℕ) → length bytes ≡ 8 → bytes ≡ take (length bytes) (drop (summary_place i) c)
     → taken_in c i ≡ from_be_bytes w64 bytes
 taken_read i c bytes size here = ap (from_be_bytes w64)
-    (take-take 8 128 (drop (summary_place i) c) (omega arith) ∙ ap (λ n. take n (drop (summary_place i) c)) (sym size) ∙ sym here)
+    (take-take 8 128 (drop (summary_place i) c) (omega arith) ∙ ap (λ n. take n (drop (summary_place i) c))
+    (sym size) ∙ sym here)
 
-pub counting_read : (c first second gates : List ℕ) (m n : ℕ) (result : Option Slot) → length first ≡ 8 → length second ≡ 8
+pub counting_read : (c first second gates : List ℕ) (m n : ℕ) (result : Option Slot) → length first ≡ 8
+    → length second ≡ 8
     → length gates ≡ 2 → first ≡ take (length first) (drop 128 c) → second ≡ take (length second) (drop 256 c)
     → gates ≡ take (length gates) (drop 384 c) → m ≡ from_be_bytes w64 first → n ≡ from_be_bytes w64 second
     → result ≡ chosen (nat_eq (get_or gates 0 0) open_byte) (nat_eq (get_or gates 1 0) open_byte) (nat_le n m)
@@ -184,7 +192,8 @@ slot_end Second = omega arith
 front_end : (slots : ℕ) → 400 ≤ lane_end slots
 front_end slots = omega arith
 
-pub summary_broken : (def : TagDef) (slots : ℕ) (made : Tuning) (i : Slot) (bytes c : List ℕ) (at : ℕ) → length bytes ≡ 128
+pub summary_broken : (def : TagDef) (slots : ℕ) (made : Tuning) (i : Slot) (bytes c : List ℕ) (at : ℕ)
+    → length bytes ≡ 128
     → bytes ≡ take (length bytes) (drop (summary_place i) c) → at < 128 → IsSlotBroken bytes at
     → HasLayout def slots made c → counting c ≡ Some i
     → IsTagDamage def c (summary_place i + at) (Some (get_or bytes at 0))
@@ -203,7 +212,8 @@ summary_broken def slots made i bytes c at size here within broken has counts =
 
 -- ---- the records
 
-pub records_broken : (def : TagDef) (slots : ℕ) (i : Slot) (s : Summary) (u : Tuning) (c : List ℕ) (a : ℕ) (byte : Option ℕ)
+pub records_broken : (def : TagDef) (slots : ℕ) (i : Slot) (s : Summary) (u : Tuning) (c : List ℕ) (a : ℕ)
+    (byte : Option ℕ)
     → IsDamage c (lane_end slots) s.records a byte → CountsSummary def slots i s u c → IsTagDamage def c a byte
 records_broken def slots i s u c a byte damage has = BadLog s (record {
   tag = has.tag;
@@ -212,7 +222,8 @@ records_broken def slots i s u c a byte damage has = BadLog s (record {
   broken = subst (λ n. IsDamage c (lane_end n) s.records a byte) has.slots_are damage;
 })
 
-pub parts_broken : (def : TagDef) (slots : ℕ) (i : Slot) (s : Summary) (u : Tuning) (step : Bool) (rs : List Rec) (first c : List ℕ)
+pub parts_broken : (def : TagDef) (slots : ℕ) (i : Slot) (s : Summary) (u : Tuning) (step : Bool)
+    (rs : List Rec) (first c : List ℕ)
     → def.step ≡ step → HasRecords c (lane_end slots) s.records rs → (ArePartsOk u step rs s → ⊥) → length first ≡ 1
     → first ≡ take (length first) (drop (summary_place i) c) → CountsSummary def slots i s u c
     → IsTagDamage def c (summary_place i) (Some (get_or first 0 0))
@@ -222,11 +233,13 @@ parts_broken def slots i s u step rs first c same_step records broken size here 
   counts = has.counts;
   summary = has.summary;
   records = subst (λ n. HasRecords c (lane_end n) s.records rs) has.slots_are records;
-  broken = λ ok. broken (subst (λ k. ArePartsOk u k rs s) same_step (subst (λ t. ArePartsOk t def.step rs s) (sym has.tuning) ok));
+  broken = λ ok. broken (subst (λ k. ArePartsOk u k rs s) same_step (subst (λ t. ArePartsOk t def.step rs s)
+      (sym has.tuning) ok));
   place = refl;
   there = record {
     within = omega (arith, has.long, front_end (slots_in (header_of c)), slot_end i);
-    byte_there = ap Some (sym (ap (λ k. get_or c k 0) (omega arith) ∙ byte_here first (summary_place i) c 0 (omega (arith, size)) here));
+    byte_there = ap Some (sym (ap (λ k. get_or c k 0) (omega arith) ∙ byte_here first (summary_place i) c 0
+        (omega (arith, size)) here));
   };
 })
 
@@ -246,7 +259,8 @@ stored_none def slots made x c has none slot summary recs tuning = record {
     summary = subst (λ i. HasSummary c i x.summary) (sym none) summary;
     records = subst (λ n. HasRecords c (log_place c) n x.recs.items) (sym (ap (λ s. s.records) summary))
         (subst (λ l. HasRecords c (log_place c) 0 l) (sym recs) (no_records c (log_place c)));
-    parts = subst (λ s. ArePartsOk (in_force (tuning_in (header_of c)) s.tuning) def.step x.recs.items s) (sym summary)
+    parts = subst (λ s. ArePartsOk (in_force (tuning_in (header_of c)) s.tuning) def.step x.recs.items s)
+        (sym summary)
         (subst (λ l. ArePartsOk (tuning_in (header_of c)) def.step l no_summary) (sym recs)
         (no_parts (tuning_in (header_of c)) def.step));
   };
@@ -268,7 +282,8 @@ counts_summary def slots made i s u c has counts whole bytes tuning = record {
   tuning = tuning ∙ ap (λ t. in_force t s.tuning) has.made_with;
 }
 
-pub stored_some : (def : TagDef) (slots : ℕ) (i : Slot) (s : Summary) (u : Tuning) (step : Bool) (x : Stored) (c : List ℕ)
+pub stored_some : (def : TagDef) (slots : ℕ) (i : Slot) (s : Summary) (u : Tuning) (step : Bool) (x : Stored)
+    (c : List ℕ)
     → def.step ≡ step → CountsSummary def slots i s u c → HasRecords c (lane_end slots) s.records x.recs.items
     → ArePartsOk u step x.recs.items s → x.slot ≡ Some i → x.summary ≡ s → x.tuning ≡ u → IsReadFrom def slots x c
 stored_some def slots i s u step x c same_step has records ok slot summary tuning = record {
@@ -279,7 +294,8 @@ stored_some def slots i s u step x c same_step has records ok slot summary tunin
         (subst (λ y. HasSummary c (Some i) y) (sym summary) has.summary);
     records = subst (λ y. HasRecords c (log_place c) y.records x.recs.items) (sym summary)
         (subst (λ n. HasRecords c (lane_end n) s.records x.recs.items) has.slots_are records);
-    parts = subst (λ y. ArePartsOk (in_force (tuning_in (header_of c)) y.tuning) def.step x.recs.items y) (sym summary)
+    parts = subst (λ y. ArePartsOk (in_force (tuning_in (header_of c)) y.tuning) def.step x.recs.items y)
+        (sym summary)
         (subst (λ t. ArePartsOk t def.step x.recs.items s) has.tuning
         (subst (λ k. ArePartsOk u k x.recs.items s) (sym same_step) ok));
   };

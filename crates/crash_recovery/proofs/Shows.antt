@@ -33,7 +33,8 @@ pub if_ok : {T E : Type 0} (r : Result T E) (P Q : T → Type 0) → ((x : T) �
 if_ok (Ok x) P Q follows p = follows x p
 if_ok (Err e) P Q follows p = tt
 
-pub if_ok₂ : {T E : Type 0} (r : Result T E) (P Q R : T → Type 0) → ((x : T) → P x → Q x → R x) → IfOk r P → IfOk r Q → IfOk r R
+pub if_ok₂ : {T E : Type 0} (r : Result T E) (P Q R : T → Type 0) → ((x : T) → P x → Q x → R x) → IfOk r P
+    → IfOk r Q → IfOk r R
 if_ok₂ (Ok x) P Q R follows p q = follows x p q
 if_ok₂ (Err e) P Q R follows p q = tt
 

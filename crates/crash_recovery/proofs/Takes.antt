@@ -1,5 +1,6 @@
 -- Values that are taken one after the other.
-use Rattle.std.proofs.Common.{◌≡◌, ℕ, zero, suc, ◌+◌, ◌*◌, ◌<◌, ◌≤◌, Bool, List, [], ◌∷◌, ◌++◌, length, take, map, get_or}
+use Rattle.std.proofs.Common.{◌≡◌, ℕ, zero, suc, ◌+◌, ◌*◌, ◌<◌, ◌≤◌, Bool, List, [], ◌∷◌, ◌++◌, length, take}
+use Rattle.std.proofs.Common.{map, get_or}
 use Rattle.std.proofs.Common.{refl, sym, ◌∙◌, ap, subst, arith, rules, true, false, ⊎_elim}
 use Rattle.std.proofs.lemmas.Bool.{cases_lt}
 use Rattle.std.proofs.lemmas.List.{take_more, map-append}
@@ -24,7 +25,8 @@ fit_more step s (x ∷ es) e fit room = (fit.0, fit_more step (after step s x) e
 
 -- where too many are refused and this many are not, they are few enough
 pub few_enough : (n : ℕ) → (MAX_RECORDS < n → false ≡ true) → n ≤ MAX_RECORDS
-few_enough n never = ⊎_elim (λ more. let bad = never more in search rules) (λ few. omega (arith, few)) (cases_lt MAX_RECORDS n)
+few_enough n never = ⊎_elim (λ more. let bad = never more in search rules) (λ few. omega (arith, few))
+    (cases_lt MAX_RECORDS n)
 
 -- the first n of these values were taken
 pub record IsTakenTo (points : List Point) (n : ℕ) (start now : Core) : Type 0 where

@@ -1,5 +1,6 @@
 -- Where a tag's device first breaks the layout: eleven rules, each tested where all before it hold.
-use Rattle.std.specs.Prelude.{◌≡◌, ◌⊎◌, ℕ, ◌+◌, ◌*◌, ◌<◌, ◌≤◌, Bool, List, length, take, map, slice_index, Option, None, Some}
+use Rattle.std.specs.Prelude.{◌≡◌, ◌⊎◌, ℕ, ◌+◌, ◌*◌, ◌<◌, ◌≤◌, Bool, List, length, take, map, slice_index}
+use Rattle.std.specs.Prelude.{Option, None, Some}
 use Rattle.trend_num.specs.declared.archive.TheConstants.{MAX_RECORDS}
 use Rattle.trend_num.specs.declared.archive.Rec.{Rec}
 use Rattle.trend_num.specs.declared.archive.Summary.{Summary}
@@ -15,7 +16,8 @@ use Rattle.event_queue.specs.Damages.{IsLaneDamage}
 use Rattle.crash_recovery.specs.declared.slot.Slot.{Slot}
 use Rattle.crash_recovery.specs.Headers.{tuning_in, slots_in, IsHeader, IsHeaderBroken}
 use Rattle.crash_recovery.specs.SlotFields.{IsSlotBroken}
-use Rattle.crash_recovery.specs.Recovery.{header_of, log_place, summary_place, slot_bytes, counting, HasSummary, in_force, start_of, AllFit, IsOfTag, IsStored}
+use Rattle.crash_recovery.specs.Recovery.{header_of, log_place, summary_place, slot_bytes, counting, HasSummary}
+use Rattle.crash_recovery.specs.Recovery.{in_force, start_of, AllFit, IsOfTag, IsStored}
 
 -- the device ends before n bytes
 pub record EndsBefore (n : ℕ) (c : List ℕ) (a : ℕ) (byte : Option ℕ) : Type 0 where
@@ -56,7 +58,8 @@ pub record IsLogDamage (def : TagDef) (c : List ℕ) (a : ℕ) (byte : Option �
   pub broken : IsDamage c (log_place c) s.records a byte
 
 -- the records and the summary can't be those of a tag, which is told at the summary's beginning
-pub record ArePartsDamaged (def : TagDef) (c : List ℕ) (a : ℕ) (byte : Option ℕ) (rs : List Rec) (s : Summary) (i : Slot) : Type 0 where
+pub record ArePartsDamaged (def : TagDef) (c : List ℕ) (a : ℕ) (byte : Option ℕ) (rs : List Rec) (s : Summary)
+    (i : Slot) : Type 0 where
   pub tag : IsOfTag def c
   pub long : log_place c ≤ length c
   pub counts : counting c ≡ Some i
@@ -67,7 +70,8 @@ pub record ArePartsDamaged (def : TagDef) (c : List ℕ) (a : ℕ) (byte : Optio
   pub there : StandsThere c a byte
 
 -- the lane is broken
-pub record IsQueueDamage (def : TagDef) (c : List ℕ) (a : ℕ) (byte : Option ℕ) (rs : List Rec) (s : Summary) : Type 0 where
+pub record IsQueueDamage (def : TagDef) (c : List ℕ) (a : ℕ) (byte : Option ℕ) (rs : List Rec)
+    (s : Summary) : Type 0 where
   pub stored : IsStored def c rs s
   pub broken : IsLaneDamage (slots_in (header_of c)) c s.taken a byte
 
@@ -80,7 +84,8 @@ pub record IsValuePlace (slots : ℕ) (c : List ℕ) (taken n a j i : ℕ) : Typ
   pub place : a ≡ place_of slots j + (10 + 16 * i)
 
 -- value number n of the lane finds no room, after others that do
-pub record IsValueDamage (def : TagDef) (c : List ℕ) (a : ℕ) (byte : Option ℕ) (rs : List Rec) (s : Summary) (n j i : ℕ) : Type 0 where
+pub record IsValueDamage (def : TagDef) (c : List ℕ) (a : ℕ) (byte : Option ℕ) (rs : List Rec) (s : Summary)
+    (n j i : ℕ) : Type 0 where
   pub stored : IsStored def c rs s
   pub lane : IsLane (slots_in (header_of c)) c s.taken (slots_in (header_of c))
   pub fit : AllFit def.step (start_of c rs s) (map Raw (take n (lane_points (slots_in (header_of c)) c s.taken)))
@@ -98,4 +103,5 @@ pub data IsTagDamage (def : TagDef) (c : List ℕ) (a : ℕ) (byte : Option ℕ)
   BadLog : (s : Summary) → IsLogDamage def c a byte s → IsTagDamage def c a byte
   BadParts : (rs : List Rec) (s : Summary) (i : Slot) → ArePartsDamaged def c a byte rs s i → IsTagDamage def c a byte
   BadQueue : (rs : List Rec) (s : Summary) → IsQueueDamage def c a byte rs s → IsTagDamage def c a byte
-  BadValue : (rs : List Rec) (s : Summary) (n j i : ℕ) → IsValueDamage def c a byte rs s n j i → IsTagDamage def c a byte
+  BadValue : (rs : List Rec) (s : Summary) (n j i : ℕ) → IsValueDamage def c a byte rs s n j i
+      → IsTagDamage def c a byte

@@ -1,5 +1,6 @@
 -- What a journal shows, and how it stands to its device.
-use Rattle.std.specs.Prelude.{◌≡◌, ◌⊎◌, ℕ, ◌+◌, ◌*◌, ◌-◌, ◌<◌, ◌≤◌, Bool, true, false, cond, List, length, Option, None, Some}
+use Rattle.std.specs.Prelude.{◌≡◌, ◌⊎◌, ℕ, ◌+◌, ◌*◌, ◌-◌, ◌<◌, ◌≤◌, Bool, true, false, cond, List, length}
+use Rattle.std.specs.Prelude.{Option, None, Some}
 use Rattle.trend_num.specs.declared.tag_def.TagDef.{TagDef}
 use Rattle.trend_model.specs.History.{Event}
 use Rattle.trend_model.specs.State.{State, replay}
@@ -16,7 +17,8 @@ use Rattle.crash_recovery.specs.Recovery.{header_of, taken_in, records_in, count
 
 -- ---- what it shows
 
--- a journal on a device of this type: how many events are acknowledged, how many lane slots there are and how many are free,
+-- a journal on a device of this type: how many events are acknowledged, how many lane slots there are and how
+-- many are free,
 -- and whether a call of the device has failed
 pub record Logged (D : Type 0) : Type 0 where
   pub dev : D

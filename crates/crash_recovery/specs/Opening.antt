@@ -1,5 +1,6 @@
 -- What opening a tag's device gives, and why it is refused.
-use Rattle.std.specs.Prelude.{◌≡◌, ◌≢◌, ◌⊎◌, ℕ, ◌+◌, ◌^◌, ◌<◌, ◌≤◌, Bool, true, false, List, length, Option, Some, IfSome}
+use Rattle.std.specs.Prelude.{◌≡◌, ◌≢◌, ◌⊎◌, ℕ, ◌+◌, ◌^◌, ◌<◌, ◌≤◌, Bool, true, false, List, length, Option}
+use Rattle.std.specs.Prelude.{Some, IfSome}
 use Rattle.trend_num.specs.declared.archive.TheConstants.{MAX_RECORDS}
 use Rattle.trend_num.specs.declared.archive.Rec.{Rec}
 use Rattle.trend_num.specs.declared.archive.Summary.{Summary}
@@ -15,7 +16,8 @@ use Rattle.disk_model.specs.Moments.{During}
 use Rattle.disk_model.specs.Calls.{Rose}
 use Rattle.disk_model.specs.Gates.{IsOpen}
 use Rattle.crash_recovery.specs.declared.failure.OpenNo.{OpenNo}
-use Rattle.crash_recovery.specs.declared.failure.OpenNo.TheVariants.{DeviceFault, Damaged, OtherTag, Full, WantOfMemory}
+use Rattle.crash_recovery.specs.declared.failure.OpenNo.TheVariants.{DeviceFault, Damaged, OtherTag, Full}
+use Rattle.crash_recovery.specs.declared.failure.OpenNo.TheVariants.{WantOfMemory}
 use Rattle.event_queue.specs.Places.{IsFilled}
 use Rattle.archive_file.specs.declared.failure.PutNo.{PutNo}
 use Rattle.archive_file.specs.declared.failure.PutNo.TheVariants as put
@@ -25,7 +27,8 @@ use Rattle.crash_recovery.specs.Headers.{def_in, tuning_in, slots_in, IsHeader}
 use Rattle.crash_recovery.specs.declared.header.Header.{Header}
 use Rattle.crash_recovery.specs.declared.slot.Slot.{Slot}
 use Rattle.crash_recovery.specs.declared.layout_reader.Stored.{Stored}
-use Rattle.crash_recovery.specs.Recovery.{header_of, log_place, counting, HasSummary, in_force, IsOfTag, IsStored, Recovers}
+use Rattle.crash_recovery.specs.Recovery.{header_of, log_place, counting, HasSummary, in_force, IsOfTag}
+use Rattle.crash_recovery.specs.Recovery.{IsStored, Recovers}
 use Rattle.crash_recovery.specs.Journals.{AllRecover}
 use Rattle.crash_recovery.specs.Damages.{StandsThere, IsValuePlace, IsTagDamage}
 
@@ -98,7 +101,8 @@ pub record HasLayout (def : TagDef) (slots : ℕ) (made : Tuning) (c : List ℕ)
   pub made_with : made ≡ tuning_in (header_of c)
 
 -- this summary counts, and this tuning is in force
-pub record CountsSummary (def : TagDef) (slots : ℕ) (slot : Slot) (s : Summary) (u : Tuning) (c : List ℕ) : Type 0 where
+pub record CountsSummary (def : TagDef) (slots : ℕ) (slot : Slot) (s : Summary) (u : Tuning)
+    (c : List ℕ) : Type 0 where
   pub tag : IsOfTag def c
   pub long : log_place c ≤ length c
   pub slots_are : slots ≡ slots_in (header_of c)
@@ -134,7 +138,8 @@ OpensAs def true s r = (s.summary.tuning ≢ Some def.tuning) × (r ≡ after de
 
 -- what a device shows at first is recovered of it now, and this is that state as it is opened
 abbrev pub IsReadAs : TagDef → Option Trace → Option Trace → Bool → State → Type 0
-IsReadAs def old new retuned r = Shows old (λ c. (s : State) × Recovers def c s × AllRecover def new s × OpensAs def retuned s r)
+IsReadAs def old new retuned r = Shows old (λ c. (s : State) × Recovers def c s × AllRecover def new s
+    × OpensAs def retuned s r)
 
 -- the refusal to open where a checkpoint or a layout was not written
 abbrev pub refusal_of_put : PutNo → OpenNo

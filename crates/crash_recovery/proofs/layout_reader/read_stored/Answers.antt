@@ -12,7 +12,8 @@ use Rattle.crash_recovery.proofs.layout_reader.read_stored.Goals as goal
 pub returns-in-Err-counted-clause-cause : goal.returns-in-Err-counted-clause-cause
 returns-in-Err-counted-clause-cause g c def same_step layout =
     let same = c.in-Ok.ensures.same in
-    let counts = shows _ _ (λ c'. counting c' ≡ Some c.in-Some.slot) (λ c' is. is ∙ c.in-Some.is) c.in-Ok.ensures.slot in
+    let counts = shows _ _ (λ c'. counting c' ≡ Some c.in-Some.slot) (λ c' is. is
+    ∙ c.in-Some.is) c.in-Ok.ensures.slot in
     cause_before def _ _ _ _ _ _ same c.in-Ok.ensures.faults
     (c.in-Err-counted.ensures.cause def c.args.header.now.slots c.args.header.now.def.tuning
     (shows_after _ _ (HasLayout def c.args.header.now.slots c.args.header.now.def.tuning) same layout)

@@ -5,7 +5,8 @@ use Rattle.crash_recovery.specs.Recovery.{Recovers}
 use Rattle.crash_recovery.specs.Journals.{AllRecover, GoesOnFrom}
 use Rattle.crash_recovery.specs.Opening.{Shows, IsLeftOrSame, IsOpenedAs, StaysSame, RecoversThen, IsReadAs}
 use Rattle.crash_recovery.proofs.Shows.{if_ok, if_ok₂, if_err}
-use Rattle.crash_recovery.proofs.Openings.{Promises, during_same, opened_shown, recovers_read, stays_retuned, recovers_retuned}
+use Rattle.crash_recovery.proofs.Openings.{Promises, during_same, opened_shown, recovers_read, stays_retuned}
+use Rattle.crash_recovery.proofs.Openings.{recovers_retuned}
 use Rattle.crash_recovery.proofs.opening.open_tag.Goals as goal
 
 pub returns-then-read-clause-any_moment : goal.returns-then-read-clause-any_moment
@@ -60,8 +61,10 @@ returns-then-read-clause-recovers g c =
     let same = ap (λ j. g.D.Disk.trace j.dev) c.new-2.ensures in
     let core = c.in-Ok.read.core in
     let read = subst (λ b. IsReadAs def o mid b core.state) c.if-read.true c.in-Ok.ensures.opened in
-    if_ok₂ c.with_checkpoint.result (λ x. core.state.summary.taken < 10 ^ 18 → (d : TagDef) (s : State) → AllRecover d put s
-    → GoesOnFrom d s core.step core.state → AllRecover d (g.D.Disk.trace x.journal.dev) core.state) (λ x. x.core ≡ core)
+    if_ok₂ c.with_checkpoint.result (λ x. core.state.summary.taken < 10 ^ 18 → (d : TagDef) (s : State)
+    → AllRecover d put s
+    → GoesOnFrom d s core.step core.state → AllRecover d (g.D.Disk.trace x.journal.dev) core.state)
+    (λ x. x.core ≡ core)
     (λ x. RecoversThen def o (g.D.Disk.trace x.journal.dev) x.core.state)
     (λ x durable kept. subst (λ k. RecoversThen def o (g.D.Disk.trace x.journal.dev) k.state) (sym kept)
     (recovers_retuned def o put (g.D.Disk.trace x.journal.dev) core.step core.state c.in-Ok.ensures.step

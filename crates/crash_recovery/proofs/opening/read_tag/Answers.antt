@@ -15,7 +15,8 @@ returns-in-Ok-true-clause-any_moment g c =
     let same = c.in-Ok-true.ensures.same in
     let blank = shows_after _ _ IsNew same (c.in-Ok-true.ensures.new c.in-Ok-true.field-0-test) in
     made_during def _ _ _ (same ∙ c.in-Ok.ensures.noted) blank
-    (during_same _ _ _ (IsLeftOrSame def _) same (synced_during _ def _ _ c.sync.ensures.noted)) c.made.ensures.any_moment
+    (during_same _ _ _ (IsLeftOrSame def _) same
+    (synced_during _ def _ _ c.sync.ensures.noted)) c.made.ensures.any_moment
 
 pub returns-in-Ok-true-clause-opened : goal.returns-in-Ok-true-clause-opened
 returns-in-Ok-true-clause-opened g c =
@@ -24,8 +25,10 @@ returns-in-Ok-true-clause-opened g c =
     let blank = shows_after _ _ IsNew same (c.in-Ok-true.ensures.new c.in-Ok-true.field-0-test) in
     if_ok₂ c.made.result (λ r. r.core.state ≡ nothing_taken def.tuning) (λ r. r.retuned ≡ false)
     (λ r. IsReadAs def (g.D.Disk.trace c.args.dev.now) (g.D.Disk.trace c.made.new.dev) r.retuned r.core.state)
-    (λ r core retuned. subst (λ b. IsReadAs def (g.D.Disk.trace c.args.dev.now) (g.D.Disk.trace c.made.new.dev) b r.core.state)
-    (sym retuned) (made_as def _ _ _ r.core.state (same ∙ c.in-Ok.ensures.noted) blank c.made.ensures.any_moment core))
+    (λ r core retuned. subst (λ b. IsReadAs def (g.D.Disk.trace c.args.dev.now)
+    (g.D.Disk.trace c.made.new.dev) b r.core.state)
+    (sym retuned) (made_as def _ _ _ r.core.state (same
+    ∙ c.in-Ok.ensures.noted) blank c.made.ensures.any_moment core))
     c.made.ensures.core c.made.ensures.retuned
 
 pub returns-in-Ok-false-clause-any_moment : goal.returns-in-Ok-false-clause-any_moment
@@ -56,7 +59,8 @@ returns-in-Ok-false-clause-cause g c =
     if_err c.read_back.result (IsCause def mid (faults c.is_new.new.dev) (faults c.read_back.new.dev))
     (IsCause def o (faults c.args.dev.now) (faults c.read_back.new.dev))
     (λ why. cause_synced def o mid (faults c.args.dev.now) (faults c.is_new.new.dev) (faults c.read_back.new.dev) why
-    (c.in-Ok-false.ensures.same ∙ c.in-Ok.ensures.noted) (omega (arith, c.in-Ok-false.ensures.faults, c.sync.ensures.cause.later)))
+    (c.in-Ok-false.ensures.same ∙ c.in-Ok.ensures.noted) (omega
+    (arith, c.in-Ok-false.ensures.faults, c.sync.ensures.cause.later)))
     c.read_back.ensures.cause
 
 pub returns-clause-any_moment : goal.returns-clause-any_moment

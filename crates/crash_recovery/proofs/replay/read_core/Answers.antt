@@ -35,7 +35,8 @@ returns-in-Err-replay-clause-cause g c def same_step read =
     (g.D.Disk.fault_count c.overfull.new.dev) c.overfull.result) scan.same
     (c.overfull.ensures.value c.args.stored.summary.taken
     (shows_after _ _ (HoldsValue c.args.slots c.args.stored.summary.taken s.lane.used n) scan.same
-    (holds_shown def _ c.args.slots c.args.stored s n scan.within read scan.ok (subst (λ l. n < length l) points no.within)))))
+    (holds_shown def _ c.args.slots c.args.stored s n scan.within read scan.ok (subst
+    (λ l. n < length l) points no.within)))))
 
 pub returns-clause-recovered : goal.returns-clause-recovered
 returns-clause-recovered g c def same_step read =

@@ -26,12 +26,16 @@ loop-j-preserved g c =
       same = read.same ∙ so_far.same;
       untimed = read.untimed ∙ so_far.untimed;
       later = omega (arith, read.faults, so_far.later);
-      counted = λ taken holds. shows _ _ (IsCountedTo slots taken c.args.number (j + 1) (c.loop-j.rest - c.from-count.result))
-          (λ c' so. subst (λ k. IsCountedTo slots taken c.args.number (j + 1) k c') (ap (λ k. c.loop-j.rest - k) (sym c.from-count.ensures)) so)
-          (more_shown _ slots taken c.args.used c.args.number j c.loop-j.rest m c.requires.within (omega arith) holds count
+      counted = λ taken holds. shows _ _ (IsCountedTo slots taken c.args.number (j + 1)
+          (c.loop-j.rest - c.from-count.result))
+          (λ c' so. subst (λ k. IsCountedTo slots taken c.args.number (j + 1) k c') (ap (λ k. c.loop-j.rest - k)
+          (sym c.from-count.ensures)) so)
+          (more_shown _ slots taken c.args.used c.args.number j c.loop-j.rest m c.requires.within
+          (omega arith) holds count
           (omega (arith, c.if-rest-count.false, c.from-count.ensures)) (so_far.counted taken holds));
     }
 
 pub returns-clause-place : goal.returns-clause-place
-returns-clause-place g c taken holds = never_shown _ c.args.slots taken c.args.used c.args.number c.loop-j.j c.loop-j.rest _
+returns-clause-place g c taken holds =
+    never_shown _ c.args.slots taken c.args.used c.args.number c.loop-j.j c.loop-j.rest _
     c.requires.within c.loop-j-test.false (omega arith) holds (c.loop-j.invariant.counted taken holds)
