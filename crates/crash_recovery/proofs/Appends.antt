@@ -2,8 +2,9 @@
 use Rattle.crash_recovery.specs.Opening.{Shows}
 use Rattle.std.proofs.Common.{◌≡◌, ◌≢◌, ◌⊎◌, inl, inr, ⊎_elim, ℕ, ◌+◌, ◌^◌, ◌<◌, ◌≤◌, false, List, [], ◌∷◌}
 use Rattle.std.proofs.Common.{◌++◌, length, get_or, map, Option, refl, sym, ◌∙◌, ap, subst, arith}
+use Rattle.std.proofs.Common.{◌-◌, cond, true}
 use Rattle.std.specs.List.{All}
-use Rattle.std.proofs.lemmas.Bool.{cases_eq}
+use Rattle.std.proofs.lemmas.Bool.{cases_eq, cases_Bool}
 use Rattle.std.proofs.lemmas.List.{map-append}
 use Rattle.trend_num.specs.declared.point.Point.{Point}
 use Rattle.trend_num.specs.declared.tag_def.TagDef.{TagDef}
@@ -22,8 +23,8 @@ use Rattle.event_queue.proofs.Batches.{length-batch_bytes}
 use Rattle.event_queue.proofs.Filled.{absent, whole}
 use Rattle.crash_recovery.specs.declared.seat.Seat.{Seat}
 use Rattle.crash_recovery.specs.Recovery.{AllFit, IsReplayed, Recovers}
-use Rattle.crash_recovery.specs.Journals.{AllRecover, RecoversEither, SeatedOn}
-use Rattle.crash_recovery.specs.Seats.{IsLaid, LaidOn}
+use Rattle.crash_recovery.specs.Journals.{AllRecover, RecoversEither, SeatedOn, free_in}
+use Rattle.crash_recovery.specs.Seats.{IsLaid, LaidOn, restarted}
 use Rattle.crash_recovery.proofs.Replays.{replay_append, fit_append}
 use Rattle.crash_recovery.proofs.Stored.{KeepsStored, lane_replayed, replays, recovers_kept, recovers_same}
 use Rattle.crash_recovery.proofs.SettledDevices.{now_shown, shown_now, shown_both, during_from, shown_from}
@@ -45,6 +46,25 @@ filled_of p c laid fresh =
       number = lane.number;
     }
 
+-- the place once the gates of an overtaken lane are closed: a slot is free where one was, and the same number
+-- is next
+pub record IsCleared (p q : Seat) : Type 0 where
+  pub free : q.lane.used < q.lane.slots
+  pub number : q.lane.next ≡ p.lane.next
+
+pub cleared : (p q : Seat) → p.lane.used ≤ p.lane.slots → free_in p ≢ 0 → (p.stale ≡ false → q ≡ p)
+    → (p.stale ≡ true → q ≡ restarted p) → IsCleared p q
+cleared p q within free kept anew = elim (cases_Bool p.stale) [
+  | inl stale ↦
+      let some : free_in p ≡ p.lane.slots = ap (λ b. cond b p.lane.slots (p.lane.slots - p.lane.used)) stale
+      in
+      subst (IsCleared p) (sym (anew stale)) (record { free = omega (arith, some, free); number = refl })
+  | inr fresh ↦
+      let some : free_in p ≡ p.lane.slots - p.lane.used =
+      ap (λ b. cond b p.lane.slots (p.lane.slots - p.lane.used)) fresh in
+      subst (IsCleared p) (sym (kept fresh)) (record { free = omega (arith, some, free); number = refl })
+]
+
 -- a batch and its gate lie in the lane
 guarded_lane : (slots used next : ℕ) (points : List Point) (a b : List ℕ) → used < slots → length points ≤ 64
     → IsGuarded (place_of slots used) (batch_bytes next points) (gate_of used) a b → OnlyLane slots a b
@@ -62,132 +82,150 @@ guarded_lane slots used next points a b free few guarded = record {
     apart i (inl below) = λ is. absurd (omega (arith, below, is))
     apart i (inr above) = λ is. absurd (omega (arith, above, is, free))
 
-module _ (p : Seat) (points : List Point) (fresh : p.stale ≡ false) (free : p.lane.used < p.lane.slots)
-    (some : 1 ≤ length points)
-    (few : length points ≤ 64) (inside : All InRange points) (small : p.lane.next + length points < 2 ^ 64)
-  where
-    module _ (a b : List ℕ) (laid : IsLaid p a)
-        (guarded : IsGuarded (place_of p.lane.slots p.lane.used) (batch_bytes p.lane.next points)
-        (gate_of p.lane.used) a b) where
-      -- what is stored was kept
-      append_keeps : KeepsStored p a b
-      append_keeps = only_lane p a b laid (guarded_lane p.lane.slots p.lane.used p.lane.next points a b free
-          few guarded)
+-- a batch that the place takes
+pub record IsTaken (p : Seat) (points : List Point) : Type 0 where
+  pub fresh : p.stale ≡ false
+  pub free : p.lane.used < p.lane.slots
+  pub some : 1 ≤ length points
+  pub few : length points ≤ 64
+  pub inside : All InRange points
+  pub small : p.lane.next + length points < 2 ^ 64
 
-      -- the gate is closed: the lane is as it was
-      left_out : get_or b (gate_of p.lane.used) 0 ≢ open_byte
-          → IsFilled p.lane.slots p.taken p.lane.used p.lane.next b (lane_points p.lane.slots a p.taken)
-      left_out shut = absent p.lane.slots p.taken p.lane.used p.lane.next (lane_points p.lane.slots a p.taken)
-          points a b free some few
-          inside small (filled_of p a laid fresh) guarded shut
+-- one that it took before these gates were closed
+pub taken_cleared : (p q : Seat) (points : List Point) → IsCleared p q → q.stale ≡ false → 1 ≤ length points
+    → length points ≤ 64 → All InRange points → p.lane.next + length points < 2 ^ 64 → IsTaken q points
+taken_cleared p q points clear fresh some few inside small = record {
+  fresh = fresh;
+  free = clear.free;
+  some = some;
+  few = few;
+  inside = inside;
+  small = omega (arith, small, clear.number);
+}
 
-      -- it is open: the batch stands there too
-      put_in : IsOpen (gate_of p.lane.used) b
-          → IsFilled p.lane.slots p.taken (p.lane.used + 1) (p.lane.next + length points) b
-          (lane_points p.lane.slots a p.taken ++ points)
-      put_in opened = whole p.lane.slots p.taken p.lane.used p.lane.next (lane_points p.lane.slots a p.taken)
-          points a b free some few
-          inside small (filled_of p a laid fresh) guarded opened
+module _ (p : Seat) (points : List Point) (batch : IsTaken p points) where
+  module _ (a b : List ℕ) (laid : IsLaid p a)
+      (guarded : IsGuarded (place_of p.lane.slots p.lane.used) (batch_bytes p.lane.next points)
+      (gate_of p.lane.used) a b) where
+    -- what is stored was kept
+    append_keeps : KeepsStored p a b
+    append_keeps = only_lane p a b laid (guarded_lane p.lane.slots p.lane.used p.lane.next points a b
+        batch.free batch.few guarded)
 
-      -- so it recovers what it recovered
-      recovers_less : (def : TagDef) (s : State) → Recovers def a s
-          → get_or b (gate_of p.lane.used) 0 ≢ open_byte → Recovers def b s
-      recovers_less def s recovers shut = recovers_same def p a b s laid append_keeps
-          (record { lane = λ lane. (left_out shut).lane; points = λ lane. (left_out shut).points }) recovers
+    -- the gate is closed: the lane is as it was
+    left_out : get_or b (gate_of p.lane.used) 0 ≢ open_byte
+        → IsFilled p.lane.slots p.taken p.lane.used p.lane.next b (lane_points p.lane.slots a p.taken)
+    left_out shut = absent p.lane.slots p.taken p.lane.used p.lane.next (lane_points p.lane.slots a p.taken)
+        points a b batch.free
+        batch.some batch.few batch.inside batch.small (filled_of p a laid batch.fresh) guarded shut
 
-      -- so it recovers that and the batch
-      recovers_more : (def : TagDef) (s : State) → Recovers def a s → AllFit def.step s (map Raw points)
-          → IsOpen (gate_of p.lane.used) b → Recovers def b (replay def.step s (map Raw points))
-      recovers_more def s recovers fits opened =
-          recovers_kept def p a laid b append_keeps s (replay def.step s (map Raw points)) moves recovers
-        where
-          all : map Raw (lane_points p.lane.slots b p.taken) ≡ map Raw (lane_points p.lane.slots a p.taken) ++
-              map Raw points
-          all = ap (map Raw) (put_in opened).points ∙ map-append Raw (lane_points p.lane.slots a p.taken) points
+    -- it is open: the batch stands there too
+    put_in : IsOpen (gate_of p.lane.used) b
+        → IsFilled p.lane.slots p.taken (p.lane.used + 1) (p.lane.next + length points) b
+        (lane_points p.lane.slots a p.taken ++ points)
+    put_in opened = whole p.lane.slots p.taken p.lane.used p.lane.next (lane_points p.lane.slots a p.taken)
+        points a b batch.free
+        batch.some batch.few batch.inside batch.small (filled_of p a laid batch.fresh) guarded opened
 
-          moves : (start : State) → IsReplayed def.step a start p.taken s
-              → IsReplayed def.step b start p.taken (replay def.step s (map Raw points))
-          moves start replayed =
-              let was = lane_replayed p a def.step start s laid replayed in
-              let before = map Raw (lane_points p.lane.slots a p.taken) in
-              replays def p a laid b append_keeps def.step b start p.taken (replay def.step s (map Raw points))
-              append_keeps.header
-              (put_in opened).lane
-              (subst (AllFit def.step start) (sym all)
-              (fit_append def.step start before (map Raw points) was.fits
-              (subst (λ x. AllFit def.step x (map Raw points)) was.state fits)))
-              (ap (λ x. replay def.step x (map Raw points)) was.state
-              ∙ sym (replay_append def.step start before (map Raw points))
-              ∙ ap (replay def.step start) (sym all))
+    -- so it recovers what it recovered
+    recovers_less : (def : TagDef) (s : State) → Recovers def a s
+        → get_or b (gate_of p.lane.used) 0 ≢ open_byte → Recovers def b s
+    recovers_less def s recovers shut = recovers_same def p a b s laid append_keeps
+        (record { lane = λ lane. (left_out shut).lane; points = λ lane. (left_out shut).points }) recovers
 
-      -- so it recovers one or the other
-      recovers_either : (def : TagDef) (s : State) → Recovers def a s → AllFit def.step s (map Raw points)
-          → RecoversEither def s (replay def.step s (map Raw points)) b
-      recovers_either def s recovers fits = ⊎_elim (λ opened. inr (recovers_more def s recovers fits opened))
-          (λ shut. inl (recovers_less def s recovers shut))
-          (cases_eq (get_or b (gate_of p.lane.used) 0) open_byte)
+    -- so it recovers that and the batch
+    recovers_more : (def : TagDef) (s : State) → Recovers def a s → AllFit def.step s (map Raw points)
+        → IsOpen (gate_of p.lane.used) b → Recovers def b (replay def.step s (map Raw points))
+    recovers_more def s recovers fits opened =
+        recovers_kept def p a laid b append_keeps s (replay def.step s (map Raw points)) moves recovers
+      where
+        all : map Raw (lane_points p.lane.slots b p.taken) ≡ map Raw (lane_points p.lane.slots a p.taken) ++
+            map Raw points
+        all = ap (map Raw) (put_in opened).points ∙ map-append Raw (lane_points p.lane.slots a p.taken) points
 
-      -- and the place is one behind
-      laid_behind : IsOpen (gate_of p.lane.used) b
-          → IsLaid (moved p false (p.lane.used + 1) (p.lane.next + length points)) b
-      laid_behind opened =
-          let filled = put_in opened in
-          laid_moved p false (p.lane.used + 1) (p.lane.next + length points) a b laid append_keeps filled.room
-          (λ e. record {
-            lane = filled.lane;
-            opened = filled.opened;
-            beyond = filled.beyond;
-            number = omega (arith, filled.number, ap length filled.points);
-          }) (λ e. absurd (cc (e)))
+        moves : (start : State) → IsReplayed def.step a start p.taken s
+            → IsReplayed def.step b start p.taken (replay def.step s (map Raw points))
+        moves start replayed =
+            let was = lane_replayed p a def.step start s laid replayed in
+            let before = map Raw (lane_points p.lane.slots a p.taken) in
+            replays def p a laid b append_keeps def.step b start p.taken (replay def.step s (map Raw points))
+            append_keeps.header
+            (put_in opened).lane
+            (subst (AllFit def.step start) (sym all)
+            (fit_append def.step start before (map Raw points) was.fits
+            (subst (λ x. AllFit def.step x (map Raw points)) was.state fits)))
+            (ap (λ x. replay def.step x (map Raw points)) was.state
+            ∙ sym (replay_append def.step start before (map Raw points))
+            ∙ ap (replay def.step start) (sym all))
 
-    module _ (o new : Option Trace) (laid : LaidOn p o)
-        (during : During o new (FromOld o (IsGuarded (place_of p.lane.slots p.lane.used)
-        (batch_bytes p.lane.next points) (gate_of p.lane.used)))) where
-      -- what is known of what a read gave before
-      known : (def : TagDef) (s : State) → AllRecover def o s → Shows o (λ c. IsLaid p c × Recovers def c s)
-      known def s all = shown_both o (IsLaid p) (λ c. Recovers def c s) (laid_shown p o laid)
-          (shown_now o (λ c. Recovers def c s) all)
+    -- so it recovers one or the other
+    recovers_either : (def : TagDef) (s : State) → Recovers def a s → AllFit def.step s (map Raw points)
+        → RecoversEither def s (replay def.step s (map Raw points)) b
+    recovers_either def s recovers fits = ⊎_elim (λ opened. inr (recovers_more def s recovers fits opened))
+        (λ shut. inl (recovers_less def s recovers shut))
+        (cases_eq (get_or b (gate_of p.lane.used) 0) open_byte)
 
-      -- each image recovers one or the other
-      pub append_moments : (def : TagDef) (s : State) → AllRecover def o s → AllFit def.step s (map Raw points)
-          → During o new (RecoversEither def s (replay def.step s (map Raw points)))
-      append_moments def s all fits =
-          during_from o new (IsGuarded (place_of p.lane.slots p.lane.used) (batch_bytes p.lane.next points)
+    -- and the place is one behind
+    laid_behind : IsOpen (gate_of p.lane.used) b
+        → IsLaid (moved p false (p.lane.used + 1) (p.lane.next + length points)) b
+    laid_behind opened =
+        let filled = put_in opened in
+        laid_moved p false (p.lane.used + 1) (p.lane.next + length points) a b laid append_keeps filled.room
+        (λ e. record {
+          lane = filled.lane;
+          opened = filled.opened;
+          beyond = filled.beyond;
+          number = omega (arith, filled.number, ap length filled.points);
+        }) (λ e. absurd (cc (e)))
+
+  module _ (o new : Option Trace) (laid : LaidOn p o)
+      (during : During o new (FromOld o (IsGuarded (place_of p.lane.slots p.lane.used)
+      (batch_bytes p.lane.next points) (gate_of p.lane.used)))) where
+    -- what is known of what a read gave before
+    known : (def : TagDef) (s : State) → AllRecover def o s → Shows o (λ c. IsLaid p c × Recovers def c s)
+    known def s all = shown_both o (IsLaid p) (λ c. Recovers def c s) (laid_shown p o laid)
+        (shown_now o (λ c. Recovers def c s) all)
+
+    -- each image recovers one or the other
+    pub append_moments : (def : TagDef) (s : State) → AllRecover def o s → AllFit def.step s (map Raw points)
+        → During o new (RecoversEither def s (replay def.step s (map Raw points)))
+    append_moments def s all fits =
+        during_from o new (IsGuarded (place_of p.lane.slots p.lane.used) (batch_bytes p.lane.next points)
+        (gate_of p.lane.used))
+        (λ c. IsLaid p c × Recovers def c s) (RecoversEither def s (replay def.step s (map Raw points)))
+        (settled_on p o laid) (known def s all) (λ a b q guarded. recovers_either a b q.0 guarded def s q.1
+        fits) during
+
+    module _ (settled : IsSettled new) (reads : Sees new
+        (written (written (seen o) (place_of p.lane.slots p.lane.used)
+        (batch_bytes p.lane.next points)) (gate_of p.lane.used) (open_byte ∷ []))) where
+      -- once all was done, the gate reads open
+      opened : Shows new (IsOpen (gate_of p.lane.used))
+      opened = opened_after o new _ (place_of p.lane.slots p.lane.used) (batch_bytes p.lane.next points)
+          (gate_of p.lane.used)
+          (reaches_on p o (place_of p.lane.slots p.lane.used) laid (omega (arith, batch.free)))
+          (reaches_on p o (gate_of p.lane.used) laid (omega (arith, batch.free))) during reads
+
+      -- each image recovers that and the batch
+      pub append_durable : (def : TagDef) (s : State) → AllRecover def o s
+          → AllFit def.step s (map Raw points)
+          → AllRecover def new (replay def.step s (map Raw points))
+      append_durable def s all fits =
+          now_shown new (λ c. Recovers def c (replay def.step s (map Raw points))) settled
+          (shown_from o new (IsGuarded (place_of p.lane.slots p.lane.used) (batch_bytes p.lane.next points)
           (gate_of p.lane.used))
-          (λ c. IsLaid p c × Recovers def c s) (RecoversEither def s (replay def.step s (map Raw points)))
-          (settled_on p o laid) (known def s all) (λ a b q guarded. recovers_either a b q.0 guarded def s q.1
-          fits) during
+          (λ c. IsLaid p c × Recovers def c s) (IsOpen (gate_of p.lane.used))
+          (λ c. Recovers def c (replay def.step s (map Raw points)))
+          (settled_on p o laid) (known def s all) opened
+          (λ a b q guarded is_open. recovers_more a b q.0 guarded def s q.1 fits is_open) during)
 
-      module _ (settled : IsSettled new) (reads : Sees new
-          (written (written (seen o) (place_of p.lane.slots p.lane.used)
-          (batch_bytes p.lane.next points)) (gate_of p.lane.used) (open_byte ∷ []))) where
-        -- once all was done, the gate reads open
-        opened : Shows new (IsOpen (gate_of p.lane.used))
-        opened = opened_after o new _ (place_of p.lane.slots p.lane.used) (batch_bytes p.lane.next points)
-            (gate_of p.lane.used)
-            (reaches_on p o (place_of p.lane.slots p.lane.used) laid (omega (arith, free)))
-            (reaches_on p o (gate_of p.lane.used) laid (omega (arith, free))) during reads
-
-        -- each image recovers that and the batch
-        pub append_durable : (def : TagDef) (s : State) → AllRecover def o s
-            → AllFit def.step s (map Raw points)
-            → AllRecover def new (replay def.step s (map Raw points))
-        append_durable def s all fits =
-            now_shown new (λ c. Recovers def c (replay def.step s (map Raw points))) settled
-            (shown_from o new (IsGuarded (place_of p.lane.slots p.lane.used) (batch_bytes p.lane.next points)
-            (gate_of p.lane.used))
-            (λ c. IsLaid p c × Recovers def c s) (IsOpen (gate_of p.lane.used))
-            (λ c. Recovers def c (replay def.step s (map Raw points)))
-            (settled_on p o laid) (known def s all) opened
-            (λ a b q guarded is_open. recovers_more a b q.0 guarded def s q.1 fits is_open) during)
-
-        -- and the place stands
-        pub append_seated : SeatedOn (moved p false (p.lane.used + 1) (p.lane.next + length points)) new
-        append_seated =
-            let q = moved p false (p.lane.used + 1) (p.lane.next + length points) in
-            seated_on q new refl (laid_again q new settled
-            (shown_from o new (IsGuarded (place_of p.lane.slots p.lane.used) (batch_bytes p.lane.next points)
-            (gate_of p.lane.used))
-            (IsLaid p) (IsOpen (gate_of p.lane.used)) (IsLaid q) (settled_on p o laid) (laid_shown p o laid)
-            opened
-            (λ a b laid_a guarded is_open. laid_behind a b laid_a guarded is_open) during))
+      -- and the place stands
+      pub append_seated : SeatedOn (moved p false (p.lane.used + 1) (p.lane.next + length points)) new
+      append_seated =
+          let q = moved p false (p.lane.used + 1) (p.lane.next + length points) in
+          seated_on q new refl (laid_again q new settled
+          (shown_from o new (IsGuarded (place_of p.lane.slots p.lane.used) (batch_bytes p.lane.next points)
+          (gate_of p.lane.used))
+          (IsLaid p) (IsOpen (gate_of p.lane.used)) (IsLaid q) (settled_on p o laid) (laid_shown p o laid)
+          opened
+          (λ a b laid_a guarded is_open. laid_behind a b laid_a guarded is_open) during))

@@ -58,7 +58,8 @@ impl Seat {
         ensures still_seated { IsErrOf result NoMemory → SeatedOn self.new (D.trace dev.new) }
         ensures kept { IsErrOf result NoMemory → (def : TagDef) (s : State)
             → AllRecover def (D.trace dev.old) s → AllRecover def (D.trace dev.new) s }
-        ensures device_fault { IsErrOf result PutFault → Rose (D.fault_count dev.old) (D.fault_count dev.new) }
+        ensures device_fault { IsErrOf result PutFault
+            → Rose (D.fault_count dev.old) (D.fault_count dev.new) }
         ensures unmoved { OnErr result (self.new.lane.next ≡ self.old.lane.next) }
         ensures slots { self.new.lane.slots ≡ self.old.lane.slots }
         ensures within { self.new.lane.used ≤ self.new.lane.slots }
@@ -71,51 +72,6 @@ impl Seat {
         if core.taken() <= self.taken || core.taken() >= MOST_TAKEN {
             return Err(PutNo::WantOfMemory);
         }
-        self.make_checkpoint(alloc, dev, core)
-    }
-
-    // Whether the summary counts as many events as the core has taken, and no values are in the lane.
-    fn has_all_of(&self, core: &TagCore) -> bool
-        requires { self.now.lane.used ≤ self.now.lane.slots }
-        ensures { IsTrue result → (self.now.taken ≡ core.now.state.summary.taken)
-            × (self.now.lane.next ≡ self.now.taken)
-            × (free_in self.now ≡ self.now.lane.slots) }
-    {
-        core.taken() == self.taken
-            && self.lane.next == self.taken
-            && self.free_slots() == self.lane.slots
-    }
-
-    // Makes a checkpoint of a core that has taken more events than the summary counts.
-    fn make_checkpoint<D: Disk>(
-        &mut self,
-        alloc: Global,
-        dev: &mut D,
-        core: &TagCore,
-    ) -> Result<(), PutNo>
-        requires within { self.old.lane.used ≤ self.old.lane.slots }
-        requires seated { SeatedOn self.old (D.trace dev.old) }
-        requires more { self.old.taken < core.now.state.summary.taken }
-        requires countable { core.now.state.summary.taken < 10 ^ 18 }
-        ensures any_moment { (def : TagDef) (s : State) → AllRecover def (D.trace dev.old) s
-            → GoesOnFrom def s core.now.step core.now.state
-            → During (D.trace dev.old) (D.trace dev.new) (RecoversEither def s core.now.state) }
-        ensures durable { OnOk result ((def : TagDef) (s : State) → AllRecover def (D.trace dev.old) s
-            → GoesOnFrom def s core.now.step core.now.state
-            → AllRecover def (D.trace dev.new) core.now.state) }
-        ensures seated { OnOk result (SeatedOn self.new (D.trace dev.new)) }
-        ensures number { OnOk result (self.new.lane.next ≡ core.now.state.summary.taken) }
-        ensures free { OnOk result (free_in self.new ≡ self.new.lane.slots) }
-        ensures still_seated { IsErrOf result NoMemory → SeatedOn self.new (D.trace dev.new) }
-        ensures kept { IsErrOf result NoMemory → (def : TagDef) (s : State)
-            → AllRecover def (D.trace dev.old) s → AllRecover def (D.trace dev.new) s }
-        ensures device_fault { IsErrOf result PutFault → Rose (D.fault_count dev.old) (D.fault_count dev.new) }
-        ensures unmoved { OnErr result (self.new.lane.next ≡ self.old.lane.next) }
-        ensures slots { self.new.lane.slots ≡ self.old.lane.slots }
-        ensures within { self.new.lane.used ≤ self.new.lane.slots }
-        ensures faults { D.fault_count dev.old ≤ D.fault_count dev.new }
-        ensures later { D.ticks dev.old ≤ D.ticks dev.new }
-    {
         let Ok(()) = self.close_stale(dev) else {
             return Err(PutNo::DeviceFault);
         };
@@ -128,6 +84,18 @@ impl Seat {
         };
         *self = seat;
         Ok(())
+    }
+
+    // Whether the summary counts as many events as the core has taken, and no values are in the lane.
+    fn has_all_of(&self, core: &TagCore) -> bool
+        requires { self.now.lane.used ≤ self.now.lane.slots }
+        ensures { IsTrue result → (self.now.taken ≡ core.now.state.summary.taken)
+            × (self.now.lane.next ≡ self.now.taken)
+            × (free_in self.now ≡ self.now.lane.slots) }
+    {
+        core.taken() == self.taken
+            && self.lane.next == self.taken
+            && self.free_slots() == self.lane.slots
     }
 
     // Puts those records behind the log that the summary does not count, closes the gate of the slot that
@@ -143,7 +111,8 @@ impl Seat {
         ensures ready { OnOk result (ReadyOn self.now (summary_gate (spare_slot self.now.counts)) recs.now
             (D.trace dev.new)) }
         ensures unwritten { IsErrOf result NoMemory → dev.new ≡ dev.old }
-        ensures device_fault { IsErrOf result PutFault → Rose (D.fault_count dev.old) (D.fault_count dev.new) }
+        ensures device_fault { IsErrOf result PutFault
+            → Rose (D.fault_count dev.old) (D.fault_count dev.new) }
         ensures faults { D.fault_count dev.old ≤ D.fault_count dev.new }
         ensures later { D.ticks dev.old ≤ D.ticks dev.new }
     {
@@ -170,7 +139,8 @@ impl Seat {
             (written (seen (D.trace dev.old)) (log_end self.now)
             (recs_image (drop self.now.records recs.now)))) }
         ensures unwritten { IsErrOf result NoMemory → dev.new ≡ dev.old }
-        ensures device_fault { IsErrOf result PutFault → Rose (D.fault_count dev.old) (D.fault_count dev.new) }
+        ensures device_fault { IsErrOf result PutFault
+            → Rose (D.fault_count dev.old) (D.fault_count dev.new) }
         ensures faults { D.fault_count dev.old ≤ D.fault_count dev.new }
         ensures later { D.ticks dev.old ≤ D.ticks dev.new }
     {

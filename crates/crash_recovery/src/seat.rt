@@ -88,36 +88,6 @@ impl Seat {
         ensures cause { HasCause (D.fault_count dev.old) (D.fault_count dev.new) result }
     {
         self.close_stale(dev)?;
-        self.put_batch(dev, points)
-    }
-
-    // Puts 1 to 64 values into the next lane slot as one batch.
-    fn put_batch<D: Disk>(&mut self, dev: &mut D, points: &[Point]) -> Result<(), DeviceFault>
-        requires fresh { self.old.stale ≡ false }
-        requires within { self.old.lane.used < self.old.lane.slots }
-        requires laid { LaidOn self.old (D.trace dev.old) }
-        requires some { 1 ≤ length points.now }
-        requires few { length points.now ≤ 64 }
-        requires in_range { All InRange points.now }
-        requires number { self.old.lane.next + length points.now < 2 ^ 64 }
-        ensures any_moment { (def : TagDef) (s : State) → AllRecover def (D.trace dev.old) s
-            → AllFit def.step s (map Raw points.now)
-            → During (D.trace dev.old) (D.trace dev.new)
-            (RecoversEither def s (replay def.step s (map Raw points.now))) }
-        ensures durable { OnOk result ((def : TagDef) (s : State) → AllRecover def (D.trace dev.old) s
-            → AllFit def.step s (map Raw points.now)
-            → AllRecover def (D.trace dev.new) (replay def.step s (map Raw points.now))) }
-        ensures seated { OnOk result (SeatedOn self.new (D.trace dev.new)) }
-        ensures moved { OnOk result (self.new ≡ record self.old {
-          lane = record self.old.lane {
-            used = self.old.lane.used + 1;
-            next = self.old.lane.next + length points.now;
-          };
-        }) }
-        ensures unmoved { OnErr result (self.new ≡ self.old) }
-        ensures later { D.ticks dev.old ≤ D.ticks dev.new }
-        ensures cause { HasCause (D.fault_count dev.old) (D.fault_count dev.new) result }
-    {
         match self.lane.append_batch(dev, points) {
             Ok(()) => Ok(()),
             Err(LaneNo::LaneFull) => unreachable!(),

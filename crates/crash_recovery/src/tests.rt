@@ -1,3 +1,4 @@
 // Bytes by hand, and what no clause says.
+mod journal;
 mod layout;
 mod slot_field;

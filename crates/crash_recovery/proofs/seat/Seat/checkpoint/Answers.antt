@@ -1,5 +1,8 @@
+use Rattle.disk_model.proofs.Moments.{during_now}
+use Rattle.crash_recovery.specs.Recovery.{Recovers}
 use Rattle.crash_recovery.proofs.Done.{done_recovers}
-use Rattle.crash_recovery.proofs.Turns.{either_kept}
+use Rattle.crash_recovery.proofs.Places.{laid_on, overrun_on}
+use Rattle.crash_recovery.proofs.Turns.{either_kept, either_first, then_same, then_either, then_second}
 use Rattle.crash_recovery.proofs.seat.Seat.checkpoint.Goals as goal
 
 pub returns-then-has_all_of-clause-any_moment : goal.returns-then-has_all_of-clause-any_moment
@@ -9,7 +12,72 @@ pub returns-then-has_all_of-clause-durable : goal.returns-then-has_all_of-clause
 returns-then-has_all_of-clause-durable g c = λ small def s all goes.
     let is = c.has_all_of.ensures c.if-has_all_of.true in
     done_recovers c.args.self.now _ def s c.args.core.now.step c.args.core.now.state c.requires.seated is.0
-    is.1 goes all
+    is.1 goes
+    all
 
 pub returns-then-taken-self-clause-any_moment : goal.returns-then-taken-self-clause-any_moment
 returns-then-taken-self-clause-any_moment g c = λ small def s all goes. either_kept _ def s _ all
+
+pub close_stale-requires-clause-laid : goal.close_stale-requires-clause-laid
+close_stale-requires-clause-laid g c = laid_on c.args.self.now _ c.requires.seated
+
+pub returns-in_default-clause-any_moment : goal.returns-in_default-clause-any_moment
+returns-in_default-clause-any_moment g c = λ small def s all goes.
+    either_first _ _ def s _ (c.close_stale.ensures.any_moment def s all
+    (overrun_on c.args.self.now _ c.requires.seated))
+
+pub returns-in_err-log_records-clause-any_moment : goal.returns-in_err-log_records-clause-any_moment
+returns-in_err-log_records-clause-any_moment g c = λ small def s all goes.
+    let logged = then_same _ _ _ def s
+    (c.close_stale.ensures.any_moment def s all (overrun_on c.args.self.now _ c.requires.seated))
+    (λ now. c.log_records.ensures.any_moment def s now) in
+    either_first _ _ def s _ logged
+
+pub returns-in_err-log_records-clause-kept : goal.returns-in_err-log_records-clause-kept
+returns-in_err-log_records-clause-kept g c = λ is def s all.
+    let logged = then_same _ _ _ def s
+    (c.close_stale.ensures.any_moment def s all (overrun_on c.args.self.now _ c.requires.seated))
+    (λ now. c.log_records.ensures.any_moment def s now) in
+    during_now _ _ (λ x. Recovers def x s) logged
+
+pub returns-in_default-put_summary-clause-any_moment : goal.returns-in_default-put_summary-clause-any_moment
+returns-in_default-put_summary-clause-any_moment g c = λ small def s all goes.
+    let logged = then_same _ _ _ def s
+    (c.close_stale.ensures.any_moment def s all (overrun_on c.args.self.now _ c.requires.seated))
+    (λ now. c.log_records.ensures.any_moment def s now) in
+    then_either _ _ _ def s _ logged (λ now. c.put_summary.ensures.any_moment def s now goes)
+
+pub returns-in_default-close_stale-clause-any_moment : goal.returns-in_default-close_stale-clause-any_moment
+returns-in_default-close_stale-clause-any_moment g c = λ small def s all goes.
+    let logged = then_same _ _ _ def s
+    (c.close_stale.ensures.any_moment def s all (overrun_on c.args.self.now _ c.requires.seated))
+    (λ now. c.log_records.ensures.any_moment def s now) in
+    let now = during_now _ _ (λ x. Recovers def x s) logged in
+    let then = c.close_stale-2.ensures.any_moment def c.args.core.now.state
+    (c.in-Ok-put_summary.ensures.durable def s now goes)
+    (λ stale. c.in-Ok-put_summary.ensures.overrun def s now goes) in
+    then_second _ _ _ def s _ (then_either _ _ _ def s _ logged
+    (λ now. c.put_summary.ensures.any_moment def s now goes)) then
+
+pub returns-clause-any_moment : goal.returns-clause-any_moment
+returns-clause-any_moment g c = λ small def s all goes.
+    let logged = then_same _ _ _ def s
+    (c.close_stale.ensures.any_moment def s all (overrun_on c.args.self.now _ c.requires.seated))
+    (λ now. c.log_records.ensures.any_moment def s now) in
+    let now = during_now _ _ (λ x. Recovers def x s) logged in
+    let then = c.close_stale-2.ensures.any_moment def c.args.core.now.state
+    (c.in-Ok-put_summary.ensures.durable def s now goes)
+    (λ stale. c.in-Ok-put_summary.ensures.overrun def s now goes) in
+    then_second _ _ _ def s _ (then_either _ _ _ def s _ logged
+    (λ now. c.put_summary.ensures.any_moment def s now goes)) then
+
+pub returns-clause-durable : goal.returns-clause-durable
+returns-clause-durable g c = λ small def s all goes.
+    let logged = then_same _ _ _ def s
+    (c.close_stale.ensures.any_moment def s all (overrun_on c.args.self.now _ c.requires.seated))
+    (λ now. c.log_records.ensures.any_moment def s now) in
+    let now = during_now _ _ (λ x. Recovers def x s) logged in
+    let then = c.close_stale-2.ensures.any_moment def c.args.core.now.state
+    (c.in-Ok-put_summary.ensures.durable def s now goes)
+    (λ stale. c.in-Ok-put_summary.ensures.overrun def s now goes) in
+    during_now _ _ (λ x. Recovers def x c.args.core.now.state) then

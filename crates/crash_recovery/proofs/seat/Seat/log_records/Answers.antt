@@ -1,4 +1,4 @@
-use Rattle.std.proofs.Common.{◌≡◌, ◌∙◌, refl, ap, length, drop}
+use Rattle.std.proofs.Common.{◌≡◌, ◌∙◌, refl, ap, length, drop, rules}
 use Rattle.archive_file.specs.Records.{recs_image}
 use Rattle.crash_recovery.specs.Recovery.{summary_gate}
 use Rattle.crash_recovery.specs.Seats.{spare_slot}
@@ -9,52 +9,44 @@ pub returns-in_err-put_new_records-clause-any_moment : goal.returns-in_err-put_n
 returns-in_err-put_new_records-clause-any_moment g c = λ def s all.
     let p = c.args.self.now in
     put_moments p (length (recs_image (drop p.records c.args.recs.now))) (summary_gate (spare_slot p.counts))
-    refl _ _ c.requires.laid
-    c.put_new_records.ensures.any_moment def s all
+    refl _ _
+    c.requires.laid c.put_new_records.ensures.any_moment def s all
 
 pub close_gates-requires-clause-gates : goal.close_gates-requires-clause-gates
 close_gates-requires-clause-gates g c =
     let p = c.args.self.now in
-    let is_gate : c.gate.result ≡ summary_gate (spare_slot p.counts) = c.gate.ensures
-    ∙ ap summary_gate c.spare_slot.ensures in
-    gates_torn p (length (recs_image (drop p.records c.args.recs.now))) c.gate.result is_gate _ _
-    c.requires.laid
-    c.put_new_records.ensures.any_moment
+    let gate : c.gate.result ≡ summary_gate (spare_slot p.counts) =
+    c.gate.ensures ∙ ap summary_gate c.spare_slot.ensures in
+    let n = length (recs_image (drop p.records c.args.recs.now)) in
+    gates_torn p n c.gate.result gate _ _ c.requires.laid c.put_new_records.ensures.any_moment
 
-pub returns-in-Ok-clause-any_moment : goal.returns-in-Ok-clause-any_moment
-returns-in-Ok-clause-any_moment g c = λ def s all.
+pub returns-in-Ok : goal.returns-in-Ok
+returns-in-Ok g c =
     let p = c.args.self.now in
-    let is_gate : c.gate.result ≡ summary_gate (spare_slot p.counts) = c.gate.ensures
-    ∙ ap summary_gate c.spare_slot.ensures in
-    log_moments p (length (recs_image (drop p.records c.args.recs.now))) c.gate.result is_gate _ _
-    c.requires.laid
-    c.put_new_records.ensures.any_moment _ c.close_gates.ensures.any_moment def s all
+    let gate : c.gate.result ≡ summary_gate (spare_slot p.counts) =
+    c.gate.ensures ∙ ap summary_gate c.spare_slot.ensures in
+    let n = length (recs_image (drop p.records c.args.recs.now)) in
+    record {
+      any_moment = λ def s all. log_moments p n c.gate.result gate _ _ c.requires.laid
+          c.put_new_records.ensures.any_moment _
+          c.close_gates.ensures.any_moment def s all;
+      laid = log_laid p n c.gate.result gate _ _ c.requires.laid c.put_new_records.ensures.any_moment _
+          c.close_gates.ensures.any_moment c.requires.within c.in-Ok.ensures.settled;
+      ready = ready_on p c.gate.result c.args.recs.now _ _ _ _ _ gate c.requires.laid
+          c.put_new_records.ensures.any_moment c.close_gates.ensures.any_moment
+          c.in_ok-put_new_records.ensures.reads
+          c.in-Ok.ensures.reads c.in-Ok.ensures.shut;
+      unwritten = search rules;
+      device_fault = search rules;
+      faults = search rules;
+      later = search rules;
+    }
 
 pub returns-in-Err-clause-any_moment : goal.returns-in-Err-clause-any_moment
 returns-in-Err-clause-any_moment g c = λ def s all.
     let p = c.args.self.now in
-    let is_gate : c.gate.result ≡ summary_gate (spare_slot p.counts) = c.gate.ensures
-    ∙ ap summary_gate c.spare_slot.ensures in
-    log_moments p (length (recs_image (drop p.records c.args.recs.now))) c.gate.result is_gate _ _
-    c.requires.laid
-    c.put_new_records.ensures.any_moment _ c.close_gates.ensures.any_moment def s all
-
-pub returns-in-Ok-clause-laid : goal.returns-in-Ok-clause-laid
-returns-in-Ok-clause-laid g c =
-    let p = c.args.self.now in
-    let is_gate : c.gate.result ≡ summary_gate (spare_slot p.counts) = c.gate.ensures
-    ∙ ap summary_gate c.spare_slot.ensures in
-    log_laid p (length (recs_image (drop p.records c.args.recs.now))) c.gate.result is_gate _ _
-    c.requires.laid
-    c.put_new_records.ensures.any_moment _ c.close_gates.ensures.any_moment c.requires.within
-    c.in-Ok.ensures.settled
-
-pub returns-in-Ok-clause-ready : goal.returns-in-Ok-clause-ready
-returns-in-Ok-clause-ready g c =
-    let p = c.args.self.now in
-    let is_gate : c.gate.result ≡ summary_gate (spare_slot p.counts) = c.gate.ensures
-    ∙ ap summary_gate c.spare_slot.ensures in
-    ready_on p c.gate.result c.args.recs.now _ _ _ _ _ is_gate c.requires.laid
-    c.put_new_records.ensures.any_moment
-    c.close_gates.ensures.any_moment c.in_ok-put_new_records.ensures.reads c.in-Ok.ensures.reads
-    c.in-Ok.ensures.shut
+    let gate : c.gate.result ≡ summary_gate (spare_slot p.counts) =
+    c.gate.ensures ∙ ap summary_gate c.spare_slot.ensures in
+    let n = length (recs_image (drop p.records c.args.recs.now)) in
+    log_moments p n c.gate.result gate _ _ c.requires.laid c.put_new_records.ensures.any_moment _
+    c.close_gates.ensures.any_moment def s all
