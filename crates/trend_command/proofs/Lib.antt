@@ -1,0 +1,5 @@
+pub mod Held
+pub mod Listing
+pub mod Answering
+pub mod Numbering
+pub mod Asked

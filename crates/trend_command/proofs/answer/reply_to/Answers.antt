@@ -1,0 +1,23 @@
+use Rattle.std.proofs.Common.{◌∙◌, sym}
+use Rattle.trend_command.proofs.Answering.{snap_told, tag_told}
+use Rattle.trend_command.proofs.Listing.{content_there}
+use Rattle.trend_command.proofs.answer.reply_to.Goals as goal
+
+pub answer-requires-clause-content : goal.answer-requires-clause-content
+answer-requires-clause-content c =
+    let asked = rw c.in-Tag.is at c.requires.asked in
+    content_there c.args.cores.now c.args.contents.now c.in-Tag.tag c.index-cores-place.result
+    c.index-contents-place.result c.requires.contents asked.0 c.index-cores-place.is c.index-contents-place.is
+
+pub returns-in_ok-reply-in-Tag-clause-told : goal.returns-in_ok-reply-in-Tag-clause-told
+returns-in_ok-reply-in-Tag-clause-told c =
+    let asked = rw c.in-Tag.is at c.requires.asked in
+    rw c.in-Tag.is (c.in_ok-reply-in-Tag.ensures.told
+    ∙ sym (tag_told c.args.cores.now c.in-Tag.tag c.index-cores-place.result c.in-Tag.query asked.0
+    c.index-cores-place.is))
+
+pub returns-in-Snap-clause-told : goal.returns-in-Snap-clause-told
+returns-in-Snap-clause-told c =
+    let asked = rw c.in-Snap.is at c.requires.asked in
+    rw (c.in-Snap.is, c.snapshot.ensures.taken, c.snapshot.ensures.held)
+    (sym (snap_told c.args.cores.now c.in-Snap.tag c.index-cores-tag.result asked c.index-cores-tag.is))

@@ -1,0 +1,4 @@
+-- what readers are told
+pub mod Told
+-- what private functions alone cite
+pub mod Contents

@@ -1,0 +1,34 @@
+// The contents of tags.
+ghost use Rattle.std.specs.Prelude.{◌≡◌, IfOk};
+ghost use Rattle.trend_model.specs.Contents.{listed};
+ghost use Rattle.trend_command.specs.Contents.{AreContentsOf};
+
+use late_insert::Content;
+use std::alloc::Global;
+use tag_core::TagCore;
+use trend_num::WantOfMemory;
+
+/// The content of each tag.
+pub(crate) fn contents_of(alloc: Global, cores: &[TagCore]) -> Result<Vec<Content>, WantOfMemory>
+    ensures { IfOk result (λ contents. AreContentsOf cores.now contents.items) }
+{
+    let mut contents = Vec::new(alloc);
+    for core in cores {
+        let content = content_of(alloc, core)?;
+        contents.push(content).map_err(|_| WantOfMemory)?;
+    }
+    Ok(contents)
+}
+
+/// The content of a tag's records.
+fn content_of(alloc: Global, core: &TagCore) -> Result<Content, WantOfMemory>
+    ensures { IfOk result (λ content. content.records ≡ listed core.now.state.records) }
+{
+    let summary = core.summary();
+    let recs = core.recs();
+    let mut content = Content::new(alloc, summary.records)?;
+    for rec in recs {
+        content.put(*rec);
+    }
+    Ok(content)
+}
