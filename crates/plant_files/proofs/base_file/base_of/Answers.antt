@@ -1,0 +1,5 @@
+use Rattle.plant_files.proofs.Distinct.{names_apart}
+use Rattle.plant_files.proofs.base_file.base_of.Goals as goal
+
+pub returns-in-Ok-read_base-clause-distinct : goal.returns-in-Ok-read_base-clause-distinct
+returns-in-Ok-read_base-clause-distinct g c = names_apart c.deref.result.now c.in-Ok-read_base.base c.in-Ok-read_base.ensures.base

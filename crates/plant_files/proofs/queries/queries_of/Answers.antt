@@ -1,0 +1,41 @@
+use Rattle.std.proofs.Common.{◌≡◌, ◌∙◌, All, ap, sym, subst}
+use Rattle.std.specs.Prelude.{◌≢◌}
+use Rattle.std.proofs.lemmas.Result.{IfOk-weaker, IfErr-weaker}
+use Rattle.value_rows.specs.Asked.{IsQuery}
+use Rattle.plant_status.specs.declared.status.Status.TheVariants.{WantOfMemory}
+use Rattle.plant_files.specs.Texts.{tag_names}
+use Rattle.plant_files.specs.Asked.{AreNamed, IsFirstRefused, IsQueriesRefusal, IsQueryOf}
+use Rattle.plant_files.proofs.Named.{queries_of_base}
+use Rattle.plant_files.proofs.queries.queries_of.Goals as goal
+
+pub returns-clause-in_range : goal.returns-clause-in_range
+returns-clause-in_range g c =
+    let base = c.args.base.now in
+    let groups = c.deref-5.result.now in
+    let tags : c.deref-4.result.now ≡ tag_names base.tags.items =
+    c.deref-4.ensures.value ∙ c.in-Ok.ensures.names ∙ ap tag_names c.deref.ensures.value in
+    let named : AreNamed base.groups.items groups = subst (AreNamed base.groups.items) (sym c.deref-5.ensures.value)
+    (subst (λ gs. AreNamed gs c.in-Ok-names_of_groups.groups.items) c.deref-2.ensures.value c.in-Ok-names_of_groups.ensures.named) in
+    IfOk-weaker c.queries_over.result (λ lists. All (All (IsQuery c.deref-4.result.now groups)) lists.items)
+    (λ lists. All (All (IsQueryOf base)) lists.items)
+    (λ lists asked. queries_of_base base groups lists.items named (subst (λ ts. All (All (IsQuery ts groups)) lists.items) tags asked))
+    c.queries_over.ensures.in_range
+
+pub returns-clause-refused : goal.returns-clause-refused
+returns-clause-refused g c =
+    let base = c.args.base.now in
+    let told = g.F.Files.told c.args.files.now in
+    let groups = c.deref-5.result.now in
+    let tags : c.deref-4.result.now ≡ tag_names base.tags.items =
+    c.deref-4.ensures.value ∙ c.in-Ok.ensures.names ∙ ap tag_names c.deref.ensures.value in
+    let named : AreNamed base.groups.items groups = subst (AreNamed base.groups.items) (sym c.deref-5.ensures.value)
+    (subst (λ gs. AreNamed gs c.in-Ok-names_of_groups.groups.items) c.deref-2.ensures.value c.in-Ok-names_of_groups.ensures.named) in
+    IfErr-weaker c.queries_over.result (λ why. why ≢ WantOfMemory → IsFirstRefused c.deref-4.result.now groups told c.deref-3.result.now why)
+    (IsQueriesRefusal base told c.args.plan.now.readers.items)
+    (λ why first other. record {
+      groups = groups;
+      named = named;
+      first = subst (λ files. IsFirstRefused (tag_names base.tags.items) groups told files why) c.deref-3.ensures.value
+          (subst (λ ts. IsFirstRefused ts groups told c.deref-3.result.now why) tags (first other));
+    })
+    c.queries_over.ensures.refused

@@ -1,0 +1,43 @@
+-- Files that are read whole, within a limit, and why one is not.
+use Rattle.std.specs.Prelude.{◌≡◌, ℕ, ◌+◌, ◌≤◌, List, length, ⊤, Result, Ok, Err}
+use Rattle.byte_io.specs.Files.{FileTold, IsWhole, IsLongerThan}
+use Rattle.byte_io.specs.Outside.{next_count}
+use Rattle.trend_num.specs.declared.refusal.What.{What}
+use Rattle.plant_status.specs.declared.file.FileId.{FileId}
+use Rattle.plant_status.specs.declared.status.Status.{Status}
+use Rattle.plant_status.specs.declared.status.Status.TheVariants.{ReadFault, Limit, WantOfMemory}
+
+-- these are the bytes of a file of which this is told, and no more than so many
+pub record IsRead (told : FileTold) (most : ℕ) (bytes : List ℕ) : Type 0 where
+  pub whole : IsWhole told bytes
+  pub within : length bytes ≤ most
+
+-- the file was read whole, and its bytes are so
+pub record IsReadAs (told : FileTold) (most : ℕ) (IsSo : List ℕ → Type 0) : Type 0 where
+  pub bytes : List ℕ
+  pub read : IsRead told most bytes
+  pub so : IsSo bytes
+
+-- the file has more bytes than it may, and this is told of it: the quantity, and one more than the limit
+pub record IsTooLong (kind : What) (most : ℕ) (told : FileTold) (what : What) (number : ℕ) : Type 0 where
+  pub quantity : what ≡ kind
+  pub one_more : number ≡ most + 1
+  pub longer : IsLongerThan told most
+
+-- why a file is not read whole, by the status; its bytes are of this kind
+abbrev pub IsReadRefusal : FileId → What → ℕ → FileTold → Status → Type 0
+IsReadRefusal file kind most told (ReadFault which) = which ≡ file
+IsReadRefusal file kind most told (Limit what number) = IsTooLong kind most told what number
+IsReadRefusal file kind most told WantOfMemory = ⊤
+IsReadRefusal file kind most told other = ⊥
+
+-- ---- faults: a read failed where a read fault is told, and nowhere else
+
+abbrev pub faults_told : Status → ℕ → ℕ
+faults_told (ReadFault file) faults = next_count faults
+faults_told other faults = faults
+
+-- the count of faults after an answer
+abbrev pub faults_after : {A : Type 0} → Result A Status → ℕ → ℕ
+faults_after (Ok a) faults = faults
+faults_after (Err why) faults = faults_told why faults

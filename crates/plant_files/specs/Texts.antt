@@ -1,0 +1,66 @@
+-- The base and the plan of a plant, each the text of a file.
+use Rattle.std.specs.Prelude.{◌≡◌, ◌⊎◌, ℕ, List, map, ⊤, Ok, Err}
+use Rattle.byte_io.specs.Files.{FileTold}
+use Rattle.trend_num.specs.declared.refusal.What.TheVariants.{TextBytes}
+use Rattle.trend_num.specs.declared.tag_def.TagDef.{TagDef}
+use Rattle.tag_base.specs.Bases.{BaseRead}
+use Rattle.tag_base.specs.Plans.{plan_parts}
+use Rattle.tag_base.specs.Plans.{plan as plan_read}
+use Rattle.tag_base.specs.declared.definition.Base.{Base}
+use Rattle.tag_base.specs.declared.definition.GroupDef.{GroupDef}
+use Rattle.tag_base.specs.declared.schedule.Plan.{Plan}
+use Rattle.tag_base.specs.declared.refusal.TextNo.{TextNo}
+use Rattle.tag_base.specs.declared.refusal.TextNo.TheVariants as text_no
+use Rattle.plant_status.specs.declared.file.FileId.{FileId}
+use Rattle.plant_status.specs.declared.file.FileId.TheVariants as file_id
+use Rattle.plant_status.specs.declared.status.Status.{Status}
+use Rattle.plant_status.specs.declared.status.Status.TheVariants.{ReadFault, Limit, BadText, WantOfMemory}
+use Rattle.plant_files.specs.Reading.{IsReadAs, IsTooLong}
+
+-- the most bytes of a base or a plan
+abbrev pub most_text_bytes : ℕ
+most_text_bytes = 1048576
+
+-- ---- refusals
+
+-- the status of a file whose text is refused for this
+abbrev pub text_status : FileId → TextNo → Status
+text_status file (text_no.BadText rule place at) = BadText file rule place at
+text_status file (text_no.Limit what number) = Limit what number
+text_status file text_no.WantOfMemory = WantOfMemory
+
+-- why a text is not taken from its file, by the status; texts may be refused so
+abbrev pub IsTextRefusal : FileId → (List ℕ → TextNo → Type 0) → FileTold → Status → Type 0
+IsTextRefusal file IsRefused told (ReadFault which) = which ≡ file
+IsTextRefusal file IsRefused told (Limit what number) = IsTooLong TextBytes most_text_bytes told what number
+    ⊎ IsReadAs told most_text_bytes (λ bytes. IsRefused bytes (text_no.Limit what number))
+IsTextRefusal file IsRefused told (BadText which rule place at) =
+    (which ≡ file) × IsReadAs told most_text_bytes (λ bytes. IsRefused bytes (text_no.BadText rule place at))
+IsTextRefusal file IsRefused told WantOfMemory = ⊤
+IsTextRefusal file IsRefused told other = ⊥
+
+-- ---- the base
+
+-- the names of tags in order
+abbrev pub tag_names : List TagDef → List (List ℕ)
+tag_names tags = map (λ t. t.name) tags
+
+-- the base that a file spells
+abbrev pub IsBaseFile : FileTold → Base → Type 0
+IsBaseFile told base = IsReadAs told most_text_bytes (λ bytes. BaseRead bytes (Ok base))
+
+-- why a base is not read
+abbrev pub IsBaseRefusal : FileTold → Status → Type 0
+IsBaseRefusal told why = IsTextRefusal file_id.Base (λ bytes no. BaseRead bytes (Err no)) told why
+
+-- ---- the plan
+
+-- the plan that a file spells over the groups of a base
+abbrev pub IsPlanFile : List GroupDef → FileTold → Plan → Type 0
+IsPlanFile groups told plan =
+    IsReadAs told most_text_bytes (λ bytes. plan_read groups bytes ≡ Ok (plan_parts plan))
+
+-- why a plan is not read
+abbrev pub IsPlanRefusal : List GroupDef → FileTold → Status → Type 0
+IsPlanRefusal groups told why =
+    IsTextRefusal file_id.Plan (λ bytes no. plan_read groups bytes ≡ Err no) told why

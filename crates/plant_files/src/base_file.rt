@@ -1,0 +1,35 @@
+// The base of a plant.
+ghost use Rattle.std.specs.Prelude.{◌≡◌, ◌≢◌, All, length, IfOk, IfErr};
+ghost use Rattle.std.specs.List.{AllPairs};
+ghost use Rattle.trend_num.specs.Ranges.{IsTuned};
+ghost use Rattle.tag_base.specs.Groups.{IsSound};
+ghost use Rattle.plant_files.specs.Reading.{faults_after};
+ghost use Rattle.plant_files.specs.Texts.{IsBaseFile, IsBaseRefusal, tag_names};
+
+use crate::text::{MAX_TEXT_BYTES, text_status};
+use crate::whole::whole_of;
+use byte_io::Files;
+use plant_status::{FileId, Status, What};
+use std::alloc::Global;
+use tag_base::{Base, read_base};
+
+/// The base, read from the file of this name, which has at most 1,048,576 bytes. No two of its tags have one
+/// name.
+pub fn base_of<F: Files>(alloc: Global, files: &mut F, name: &str) -> Result<Base, Status>
+    ensures base { IfOk result (IsBaseFile (F.told files.old name.now)) }
+    ensures sound { IfOk result (λ base. All (IsSound (length base.tags.items)) base.groups.items) }
+    ensures tuned { IfOk result (λ base. All (λ tag. IsTuned tag.tuning) base.tags.items) }
+    ensures distinct { IfOk result (λ base. AllPairs (λ x y. x ≢ y) (tag_names base.tags.items)) }
+    ensures refused { IfErr result (IsBaseRefusal (F.told files.old name.now)) }
+    ensures stays { F.told files.new ≡ F.told files.old }
+    ensures faults { F.fault_count files.new ≡ faults_after result (F.fault_count files.old) }
+{
+    let file = FileId::Base;
+    match whole_of(alloc, files, name, file, What::TextBytes, MAX_TEXT_BYTES) {
+        Ok(bytes) => match read_base(alloc, &bytes) {
+            Ok(base) => Ok(base),
+            Err(why) => Err(text_status(file, why)),
+        },
+        Err(why) => Err(why),
+    }
+}

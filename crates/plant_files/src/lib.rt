@@ -1,0 +1,26 @@
+//! The files of a plant: its base, its plan and what its readers ask, each read from a file by its name.
+//!
+//! A file is read whole, within its limit, and what its bytes say is what `tag_base` and `value_rows` read in
+//! them. Each refusal is a [`Status`] that names the cause, and the file where the cause is its own: the file
+//! could not be read, it is too long, or its text breaks a rule first at this place. Want of memory may come at any time, and no other
+//! status comes. The files stay as they are, and a fault is counted where a read failed and nowhere else.
+#![tactic(auto)]
+
+mod base_file;
+mod names;
+mod plan_file;
+mod queries;
+mod reader_file;
+#[cfg(test)]
+mod tests;
+mod text;
+mod whole;
+
+pub use base_file::base_of;
+pub use byte_io::Files;
+pub use plan_file::plan_of;
+pub use plant_status::{FileId, Status, What};
+pub use queries::queries_of;
+pub use reader_file::ReaderQueries;
+pub use tag_base::{Base, Plan};
+pub use value_rows::Query;

@@ -1,0 +1,72 @@
+-- How the opening of tags ends.
+use Rattle.std.proofs.Common.{◌≢◌, inl, inr, ℕ, ◌^◌, ◌<◌, ◌≤◌, List, length, take, Option}
+use Rattle.std.proofs.Common.{sym, subst, arith}
+use Rattle.std.proofs.lemmas.List.{take_all}
+use Rattle.std.proofs.lemmas.List.Elements.{All-take}
+use Rattle.trend_num.specs.declared.tag_def.TagDef.{TagDef}
+use Rattle.tag_core.specs.Core.{Core}
+use Rattle.disk_model.specs.Traces.{Trace}
+use Rattle.crash_recovery.specs.declared.failure.OpenNo.{OpenNo}
+use Rattle.crash_recovery.specs.declared.failure.OpenNo.TheVariants.{DeviceFault, Damaged, OtherTag, Full}
+use Rattle.crash_recovery.specs.declared.failure.OpenNo.TheVariants.{WantOfMemory}
+use Rattle.crash_recovery.specs.Opening.{IsCause}
+use Rattle.tag_store.specs.declared.opening.TheConstants.{MAX_STORE_RECORDS}
+use Rattle.tag_store.specs.Tags.{device_name, trace_of, AreDistinct, AreOpened, AreOthersSame, records_in}
+use Rattle.tag_store.specs.Refusals.{status_of, IsRefusedAt, IsRefusal}
+use Rattle.tag_store.proofs.Turns.{IsSoFar, IsTag, IsTurn, unreached, touched}
+
+-- what no tag has, none of the first has
+pub of_all : (tags : List TagDef) (i : ℕ) (old new : List ℕ → Option Trace)
+    → AreOthersSame (take i tags) old new → AreOthersSame tags old new
+of_all tags i old new others n none =
+    others n (All-take (λ (def : TagDef). n ≢ device_name def.name) i tags none)
+
+-- all tags are opened
+pub all_opened : (tags : List TagDef) (i : ℕ) (old : List ℕ → Option Trace) (cores : List Core)
+    → length tags ≤ i
+    → AreOpened (take i tags) old cores → AreOpened tags old cores
+all_opened tags i old cores end opened =
+    subst (λ (l : List TagDef). AreOpened l old cores) (take_all i tags end) opened
+
+-- the next tag is the first that is refused
+pub refused_at : (tags : List TagDef) (i : ℕ) (def : TagDef) (old now new : List ℕ → Option Trace)
+    (cores : List Core)
+    (P : List Core → TagDef → Option Trace → Type 0) → IsSoFar tags i old now cores
+    → records_in cores ≤ MAX_STORE_RECORDS
+    → AreDistinct tags → IsTag tags i def → IsTurn def now new → P cores def (trace_of now def)
+    → IsRefusedAt tags old new i P
+refused_at tags i def old now new cores P so_far few distinct tag turn cause = record {
+  def = def;
+  cores = cores;
+  there = tag.there;
+  is_tag = sym tag.is;
+  front = so_far.opened distinct;
+  few = few;
+  cause = subst (λ (o : Option Trace). P cores def o)
+      (unreached tags i def old now cores so_far distinct tag) cause;
+  rest = touched tags i def old now new so_far.others tag turn;
+}
+
+-- the cause of its refusal is told, the faults being counted from earlier on
+pub told : (tags : List TagDef) (i : ℕ) (def : TagDef) (old now new : List ℕ → Option Trace)
+    (cores : List Core)
+    (before middle after : ℕ) (why : OpenNo) → IsSoFar tags i old now cores
+    → records_in cores ≤ MAX_STORE_RECORDS
+    → AreDistinct tags → IsTag tags i def → IsTurn def now new → (before < 2 ^ 64 → before ≤ middle)
+    → IsCause def (trace_of now def) middle after why → IsRefusal tags old new before after (status_of i why)
+told tags i def old now new cores before middle after DeviceFault so_far few distinct tag turn later cause =
+    refused_at tags i def old now new cores _ so_far few distinct tag turn (λ small. elim cause [
+      | inl rose ↦ inl (omega (arith, rose, later small))
+      | inr end ↦ inr end
+    ])
+told tags i def old now new cores before middle after
+    (Damaged at byte) so_far few distinct tag turn later cause =
+    refused_at tags i def old now new cores _ so_far few distinct tag turn cause
+told tags i def old now new cores before middle after
+    (OtherTag found wanted) so_far few distinct tag turn later cause =
+    refused_at tags i def old now new cores _ so_far few distinct tag turn cause
+told tags i def old now new cores before middle after
+    (Full records) so_far few distinct tag turn later cause =
+    (i, refused_at tags i def old now new cores _ so_far few distinct tag turn cause)
+told tags i def old now new cores before middle after WantOfMemory so_far few distinct tag turn later cause =
+    tt

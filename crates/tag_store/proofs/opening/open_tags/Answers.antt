@@ -1,0 +1,134 @@
+use Rattle.std.proofs.Common.{◌≡◌, ◌+◌, [], ◌∷◌, length, length-append, sym, ap, subst}
+use Rattle.std.proofs.Common.{arith}
+use Rattle.std.proofs.lemmas.List.Sums.{sum_by_push}
+use Rattle.trend_num.specs.declared.archive.Rec.{Rec}
+use Rattle.tag_core.specs.Core.{Core}
+use Rattle.tag_store.specs.Tags.{records_in}
+use Rattle.tag_store.specs.Refusals.{status_of, IsTooMuch, IsRefusal}
+use Rattle.tag_store.proofs.Turns.{IsSoFar, begun, touched, all_same, next}
+use Rattle.tag_store.proofs.Endings.{of_all, all_opened, refused_at, told}
+use Rattle.tag_store.proofs.opening.open_tags.Goals as goal
+
+pub returns-in-Err-clause-any_moment : goal.returns-in-Err-clause-any_moment
+returns-in-Err-clause-any_moment g c = λ distinct.
+    all_same c.args.tags.now c.loop-def.def-index c.def-item.result _ _ _ _ c.loop-def.invariant.so_far
+    distinct
+    (record { there = c.loop-def-test.true; is = c.def-item.is })
+    (record { others = c.open_device.ensures.others; same = c.open_device.ensures.same })
+
+pub returns-in-Err-clause-others : goal.returns-in-Err-clause-others
+returns-in-Err-clause-others g c = of_all c.args.tags.now (c.loop-def.def-index + 1) _ _
+    (touched c.args.tags.now c.loop-def.def-index c.def-item.result _ _ _ c.loop-def.invariant.so_far.others
+    (record { there = c.loop-def-test.true; is = c.def-item.is })
+    (record { others = c.open_device.ensures.others; same = c.open_device.ensures.same }))
+
+pub returns-in-Err-clause-refused : goal.returns-in-Err-clause-refused
+returns-in-Err-clause-refused g c = λ distinct.
+    let status : c.status_of.result ≡ status_of c.loop-def.def-index c.in-Err.why = cc in
+    subst (IsRefusal c.args.tags.now (g.S.Store.device_at c.args.store.now)
+    (g.S.Store.device_at c.open_device.new.store)
+    (g.S.Store.fault_count c.args.store.now) (g.S.Store.fault_count c.open_device.new.store)) (sym status)
+    (told c.args.tags.now c.loop-def.def-index c.def-item.result _ _ _ c.loop-def.cores.items _ _ _
+    c.in-Err.why c.loop-def.invariant.so_far
+    (omega (arith, c.loop-def.invariant.records, c.loop-def.invariant.few)) distinct
+    (record { there = c.loop-def-test.true; is = c.def-item.is })
+    (record { others = c.open_device.ensures.others; same = c.open_device.ensures.same })
+    c.loop-def.invariant.later c.in-Err.ensures.cause)
+
+pub returns-then-records-gt-MAX_STORE_RECORDS-clause-any_moment :
+    goal.returns-then-records-gt-MAX_STORE_RECORDS-clause-any_moment
+returns-then-records-gt-MAX_STORE_RECORDS-clause-any_moment g c = λ distinct.
+    all_same c.args.tags.now c.loop-def.def-index c.def-item.result _ _ _ _ c.loop-def.invariant.so_far
+    distinct
+    (record { there = c.loop-def-test.true; is = c.def-item.is })
+    (record { others = c.open_device.ensures.others; same = c.open_device.ensures.same })
+
+pub returns-then-records-gt-MAX_STORE_RECORDS-clause-others :
+    goal.returns-then-records-gt-MAX_STORE_RECORDS-clause-others
+returns-then-records-gt-MAX_STORE_RECORDS-clause-others g c =
+    of_all c.args.tags.now (c.loop-def.def-index + 1) _ _
+    (touched c.args.tags.now c.loop-def.def-index c.def-item.result _ _ _ c.loop-def.invariant.so_far.others
+    (record { there = c.loop-def-test.true; is = c.def-item.is })
+    (record { others = c.open_device.ensures.others; same = c.open_device.ensures.same }))
+
+pub returns-then-records-gt-MAX_STORE_RECORDS-clause-refused :
+    goal.returns-then-records-gt-MAX_STORE_RECORDS-clause-refused
+returns-then-records-gt-MAX_STORE_RECORDS-clause-refused g c = λ distinct.
+    subst (IsRefusal c.args.tags.now (g.S.Store.device_at c.args.store.now)
+    (g.S.Store.device_at c.open_device.new.store)
+    (g.S.Store.fault_count c.args.store.now) (g.S.Store.fault_count c.open_device.new.store))
+    (sym c.too_many.ensures) (
+      c.loop-def.def-index,
+      refused_at c.args.tags.now c.loop-def.def-index c.def-item.result _ _ _ c.loop-def.cores.items
+          (IsTooMuch _) c.loop-def.invariant.so_far
+          (omega (arith, c.loop-def.invariant.records, c.loop-def.invariant.few)) distinct
+          (record { there = c.loop-def-test.true; is = c.def-item.is })
+          (record { others = c.open_device.ensures.others; same = c.open_device.ensures.same })
+          (record {
+            core = c.in-Ok.core;
+            opened = c.in-Ok.ensures.opened;
+            number_is = omega (arith, c.loop-def.invariant.records, ap (length {A = Rec}) c.recs.ensures);
+            many = c.if-records-gt-MAX_STORE_RECORDS.true;
+          }),
+    )
+
+pub returns-in_default-clause-any_moment : goal.returns-in_default-clause-any_moment
+returns-in_default-clause-any_moment g c = λ distinct.
+    all_same c.args.tags.now c.loop-def.def-index c.def-item.result _ _ _ _ c.loop-def.invariant.so_far
+    distinct
+    (record { there = c.loop-def-test.true; is = c.def-item.is })
+    (record { others = c.open_device.ensures.others; same = c.open_device.ensures.same })
+
+pub returns-in_default-clause-others : goal.returns-in_default-clause-others
+returns-in_default-clause-others g c = of_all c.args.tags.now (c.loop-def.def-index + 1) _ _
+    (touched c.args.tags.now c.loop-def.def-index c.def-item.result _ _ _ c.loop-def.invariant.so_far.others
+    (record { there = c.loop-def-test.true; is = c.def-item.is })
+    (record { others = c.open_device.ensures.others; same = c.open_device.ensures.same }))
+
+pub loop-def-init : goal.loop-def-init
+loop-def-init g c = record {
+  so_far = subst (IsSoFar c.args.tags.now 0 (g.S.Store.device_at c.args.store.now)
+      (g.S.Store.device_at c.args.store.now))
+      (sym c.new-cores.ensures.items) (begun c.args.tags.now (g.S.Store.device_at c.args.store.now));
+  count = ap (length {A = Core}) c.new-cores.ensures.items;
+  records = sym (ap records_in c.new-cores.ensures.items);
+  few = omega arith;
+  later = λ small. omega arith;
+  counted = λ small. small;
+}
+
+pub loop-def-preserved : goal.loop-def-preserved
+loop-def-preserved g c = record {
+  so_far = subst (IsSoFar c.args.tags.now (c.loop-def.def-index + 1) (g.S.Store.device_at c.args.store.now)
+      (g.S.Store.device_at c.open_device.new.store)) (sym c.in-Ok-push.ensures.items)
+      (next c.args.tags.now c.loop-def.def-index c.def-item.result _ _ _ c.loop-def.cores.items c.in-Ok.core
+      c.loop-def.invariant.so_far
+      (record { there = c.loop-def-test.true; is = c.def-item.is })
+      (record { others = c.open_device.ensures.others; same = c.open_device.ensures.same })
+      c.in-Ok.ensures.opened);
+  count = omega (
+    arith,
+    ap (length {A = Core}) c.in-Ok-push.ensures.items,
+    length-append c.loop-def.cores.items (c.in-Ok.core ∷ []),
+    c.loop-def.invariant.count,
+  );
+  records = omega (
+    arith,
+    ap records_in c.in-Ok-push.ensures.items,
+    ap (length {A = Rec}) c.recs.ensures,
+    sum_by_push (λ (core : Core). length core.state.records) c.loop-def.cores.items c.in-Ok.core,
+    c.loop-def.invariant.records,
+  );
+  few = omega (arith, c.if-records-gt-MAX_STORE_RECORDS.false);
+  later = λ small. omega
+      (arith, c.loop-def.invariant.later small, c.in-Ok.ensures.faults (c.loop-def.invariant.counted small));
+  counted = λ small. c.in-Ok.ensures.counted;
+}
+
+pub returns-clause-opened : goal.returns-clause-opened
+returns-clause-opened g c = λ distinct. all_opened c.args.tags.now c.loop-def.def-index
+    (g.S.Store.device_at c.args.store.now) c.loop-def.cores.items (omega (arith, c.loop-def-test.false))
+    (c.loop-def.invariant.so_far.opened distinct)
+
+pub returns-clause-others : goal.returns-clause-others
+returns-clause-others g c = of_all c.args.tags.now c.loop-def.def-index _ _ c.loop-def.invariant.so_far.others

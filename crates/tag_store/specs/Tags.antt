@@ -1,0 +1,43 @@
+-- The tags of a base, opened over a store of devices.
+use Rattle.std.specs.Prelude.{◌≡◌, ◌≢◌, ℕ, List, ◌++◌, length, codes, Option, All, AllPairs}
+use Rattle.std.specs.List.{AllZip, sum_by}
+use Rattle.trend_num.specs.declared.tag_def.TagDef.{TagDef}
+use Rattle.trend_model.specs.State.{State}
+use Rattle.tag_core.specs.Core.{Core}
+use Rattle.disk_model.specs.Traces.{Trace}
+use Rattle.crash_recovery.specs.Recovery.{Recovers}
+use Rattle.crash_recovery.specs.Opening.{Shows, IsOpenedAs, StaysSame}
+
+-- what a tag's device is called
+abbrev pub device_name : List ℕ → List ℕ
+device_name name = name ++ codes ".tag"
+
+-- the trace of a tag's device, of these traces by name
+abbrev pub trace_of : (List ℕ → Option Trace) → TagDef → Option Trace
+trace_of traces def = traces (device_name def.name)
+
+-- no two places of the list have one name
+abbrev pub AreDistinct : List TagDef → Type 0
+AreDistinct tags = AllPairs (λ a b. a.name ≢ b.name) tags
+
+-- an opened tag has what its device recovers, as it is opened, and is of the wanted kind
+pub record IsOpened (def : TagDef) (o : Option Trace) (core : Core) : Type 0 where
+  pub state : Shows o (λ c. (s : State) × Recovers def c s × IsOpenedAs def s core.state)
+  pub step : core.step ≡ def.step
+
+-- there is one opened tag for each of these, in its place
+abbrev pub AreOpened : List TagDef → (List ℕ → Option Trace) → List Core → Type 0
+AreOpened tags traces cores = AllZip (λ def core. IsOpened def (trace_of traces def) core) tags cores
+
+-- each device but those of these tags is as it was
+abbrev pub AreOthersSame : List TagDef → (List ℕ → Option Trace) → (List ℕ → Option Trace) → Type 0
+AreOthersSame tags old new = (n : List ℕ) → All (λ def. n ≢ device_name def.name) tags → new n ≡ old n
+
+-- a crash at any moment since leaves, of the device of each of these tags, an image that one before might
+-- have left, or that recovers the same, or that as it is opened
+abbrev pub AllStaySame : List TagDef → (List ℕ → Option Trace) → (List ℕ → Option Trace) → Type 0
+AllStaySame tags old new = All (λ def. StaysSame def (trace_of old def) (trace_of new def)) tags
+
+-- how many records there are in all
+abbrev pub records_in : List Core → ℕ
+records_in cores = sum_by (λ core. length core.state.records) cores

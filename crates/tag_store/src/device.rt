@@ -1,0 +1,77 @@
+// The device of one tag.
+ghost use Rattle.std.specs.Prelude.{◌≡◌, ◌≢◌, ◌^◌, ◌<◌, ◌≤◌, ℕ, List, IfOk, IfErr, OnOk, string_bytes};
+ghost use Rattle.trend_num.specs.Ranges.{IsTuned};
+ghost use Rattle.crash_recovery.specs.Opening.{IsCause, StaysSame};
+ghost use Rattle.tag_store.specs.Tags.{device_name, trace_of, IsOpened};
+
+use crash_recovery::{OpenFail, OpenNo, Opened, open_tag};
+use disk_model::{Disk, Store};
+use std::alloc::{AllocError, Global};
+use std::str;
+use tag_core::TagCore;
+use trend_num::{Name, TagDef};
+
+// How many lane slots a new device gets.
+const LANE_SLOTS: u32 = 64;
+
+// Opens the device of a tag, which is made where it is not there, and gives it back whatever came.
+pub(crate) fn open_device<S: Store>(
+    alloc: Global,
+    store: &mut S,
+    def: &TagDef,
+) -> Result<TagCore, OpenNo>
+    requires tuned { IsTuned def.now.tuning }
+    ensures same { StaysSame def.now (trace_of (S.device_at store.old) def.now)
+        (trace_of (S.device_at store.new) def.now) }
+    ensures opened { IfOk result (IsOpened def.now (trace_of (S.device_at store.old) def.now)) }
+    ensures cause { IfErr result (IsCause def.now (trace_of (S.device_at store.old) def.now)
+        (S.fault_count store.old) (S.fault_count store.new)) }
+    ensures others { (n : List ℕ) → n ≢ device_name def.now.name
+        → S.device_at store.new n ≡ S.device_at store.old n }
+    ensures faults { S.fault_count store.old < 2 ^ 64 → S.fault_count store.old ≤ S.fault_count store.new }
+    ensures counted { OnOk result (S.fault_count store.new < 2 ^ 64) }
+{
+    let Ok(name) = device_name(alloc, &def.name) else {
+        return Err(OpenNo::WantOfMemory);
+    };
+    let Ok(dev) = store.device(name.as_str()) else {
+        return Err(OpenNo::DeviceFault);
+    };
+    let (dev, opened) = open_core(alloc, dev, def);
+    store.give_back(name.as_str(), dev);
+    opened
+}
+
+// What a tag's device is called.
+fn device_name(alloc: Global, name: &Name) -> Result<String, AllocError>
+    ensures { IfOk result (λ text. string_bytes text ≡ device_name name.now) }
+{
+    let name = name_text(name);
+    format!(in alloc; "{name}.tag")
+}
+
+// The text of a name.
+#[tactic(auto, using(trend_report::proofs::NameText::name_is_text))]
+fn name_text(name: &Name) -> &str
+    ensures { result.now ≡ name.now }
+{
+    match str::from_utf8(name.bytes()) {
+        Ok(text) => text,
+        Err(_) => unreachable!(),
+    }
+}
+
+// The tag that a device holds, or why it is not opened; and the device.
+fn open_core<D: Disk>(alloc: Global, dev: D, def: &TagDef) -> (D, Result<TagCore, OpenNo>)
+    requires tuned { IsTuned def.now.tuning }
+    ensures same { StaysSame def.now (D.trace dev) (D.trace result.0) }
+    ensures opened { IfOk result.1 (IsOpened def.now (D.trace dev)) }
+    ensures cause { IfErr result.1 (IsCause def.now (D.trace dev)
+        (D.fault_count dev) (D.fault_count result.0)) }
+    ensures faults { D.fault_count dev ≤ D.fault_count result.0 }
+{
+    match open_tag(alloc, dev, def, LANE_SLOTS, 0) {
+        Ok(Opened { journal, core }) => (journal.into_device(), Ok(core)),
+        Err(OpenFail { dev, why }) => (dev, Err(why)),
+    }
+}
