@@ -29,3 +29,30 @@ abbrev pub pack_tuning : List (List ℕ) → Option Tuning
 pack_tuning (verb ∷ exc_dev ∷ exc_max ∷ comp_dev ∷ comp_min ∷ comp_max ∷ []) =
     cond (bytes_eq verb (codes "pack")) (tuning_of exc_dev exc_max comp_dev comp_min comp_max) None
 pack_tuning words = None
+
+-- the name of the words `check BASE`
+abbrev pub check_base : List (List ℕ) → Option (List ℕ)
+check_base (verb ∷ base ∷ []) = cond (bytes_eq verb (codes "check")) (Some base) None
+check_base words = None
+
+-- the names of the words `trend BASE PLAN`
+abbrev pub trend_files : List (List ℕ) → Option (List ℕ × List ℕ)
+trend_files (verb ∷ base ∷ plan ∷ []) = cond (bytes_eq verb (codes "trend")) (Some (base, plan)) None
+trend_files words = None
+
+-- what a command line asks for
+pub data Form : Type 0 where
+  Pack : Tuning → Form
+  Check : List ℕ → Form
+  Trend : List ℕ → List ℕ → Form
+  Unknown : Form
+
+-- the form of words, by what each command makes of them
+abbrev pub chosen_form : Option (List ℕ) → Option (List ℕ × List ℕ) → Option Tuning → Form
+chosen_form (Some base) names tuning = Check base
+chosen_form None (Some names) tuning = Trend names.0 names.1
+chosen_form None None (Some tuning) = Pack tuning
+chosen_form None None None = Unknown
+
+abbrev pub form_of : List (List ℕ) → Form
+form_of words = chosen_form (check_base words) (trend_files words) (pack_tuning words)

@@ -1,5 +1,5 @@
--- How a run of the program ends: what it has read of its input, and what it has printed, in each status.
-use Rattle.std.specs.Prelude.{◌≡◌, ℕ, ◌⊎◌, List, None, Some}
+-- How a run of the program ends: what it has read and printed, and what became of the devices, in each status.
+use Rattle.std.specs.Prelude.{◌≡◌, ◌⊎◌, ℕ, List, None}
 use Rattle.trend_num.specs.declared.point.Point.{Point}
 use Rattle.trend_num.specs.declared.tuning.Tuning.{Tuning}
 use Rattle.trend_model.specs.Walk.{records, held}
@@ -9,43 +9,81 @@ use Rattle.point_text.specs.Text.{archive_text}
 use Rattle.plant_status.specs.Status.{code_of, line_of}
 use Rattle.plant_status.specs.declared.status.Status.{Status}
 use Rattle.plant_status.specs.declared.status.Status.TheVariants.{Done, BadWords, WriteFault, WantOfMemory}
+use Rattle.plant_files.specs.Asked.{ToldFiles}
+use Rattle.plant_files.specs.Reading.{faults_told}
 use Rattle.pack_command.specs.Pack.{IsRead, IsPackRefusal, first_full, history_of, origin_of}
-use Rattle.plant_run.specs.CommandLine.{pack_tuning}
+use Rattle.store_commands.specs.Commands.{Devices, IsChecked, IsCheckRefusal, IsTrend, IsTrendRefusal, AreKept}
+use Rattle.plant_run.specs.CommandLine.{Form, Pack, Check, Trend, Unknown, form_of}
 
--- the words ask for `pack` with a tuning; all of the input was read, and this is the text of what its history keeps. That is near
--- all values of the history.
-pub record IsPacked (words : List (List ℕ)) (before now : Outside) (text : List ℕ) : Type 0 where
-  pub tuning : Tuning
+-- all of the input was read, and this is the text of what its history keeps. That is near all values of the history.
+pub record IsPacked (tuning : Tuning) (before now : Outside) (text : List ℕ) : Type 0 where
   pub points : List Point
-  pub asked : pack_tuning words ≡ Some tuning
   pub read : IsRead before now points
   pub room : first_full (origin_of tuning) (history_of points) ≡ None
   pub same : text ≡ archive_text (records (origin_of tuning) (history_of points)) (held (origin_of tuning) (history_of points))
   pub bounded : IsBounded (origin_of tuning) (history_of points)
 
--- why a run of these words has no result, by its status: they are no form, and nothing was read; memory is wanted, and no read
--- has failed; or they ask for `pack` with a tuning, and it refuses the input so
-abbrev pub IsRunRefusal : List (List ℕ) → Outside → Outside → Status → Type 0
-IsRunRefusal words before now BadWords = (pack_tuning words ≡ None) × (now ≡ before)
-IsRunRefusal words before now WantOfMemory = CountsNoFault before now
-IsRunRefusal words before now status = (tuning : Tuning) × (pack_tuning words ≡ Some tuning) × IsPackRefusal tuning before now status
+-- why `pack` has no result: memory is wanted, and no read has failed; or it refuses the input so
+abbrev pub IsNotPacked : Tuning → Outside → Outside → Status → Type 0
+IsNotPacked tuning before now WantOfMemory = CountsNoFault before now
+IsNotPacked tuning before now status = IsPackRefusal tuning before now status
 
 -- the output gained the line of this status and nothing else, or a part of it where a write failed
 abbrev pub IsTold : Outside → Outside → Status → Type 0
 IsTold before now status = IsWritten before now (line_of status) ⊎ IsCutShort before now (line_of status)
 
--- the meanings of the input and of the output
-pub record Streams : Type 0 where
+-- a text was printed and the status is Done, or a part of it where a write failed
+abbrev pub IsPrintedSo : List ℕ → Outside → Outside → Status → Type 0
+IsPrintedSo text before now status = ((status ≡ Done) × IsWritten before now text)
+    ⊎ ((status ≡ WriteFault) × IsCutShort before now text)
+
+-- what a run finds outside: the meanings of the input and of the output, what is told of files by name and how often a read of
+-- them has failed, and the traces of devices by name and how often a call of the store has failed
+pub record World : Type 0 where
   pub input : Outside
   pub output : Outside
+  pub files : ToldFiles
+  pub file_faults : ℕ
+  pub devices : Devices
+  pub device_faults : ℕ
 
--- a run of these words ends in this status: it has printed its result, or a part of it where a write failed, or the line that
--- tells why there is none
-abbrev pub EndsIn : List (List ℕ) → Streams → Streams → Status → Type 0
-EndsIn words before now Done = (text : List ℕ) × IsPacked words before.input now.input text × IsWritten before.output now.output text
-EndsIn words before now WriteFault = (text : List ℕ) × IsPacked words before.input now.input text × IsCutShort before.output now.output text
-EndsIn words before now status = IsRunRefusal words before.input now.input status × IsTold before.output now.output status
+-- a text was printed, or a part of it where a write failed, or the line that tells why there is none
+abbrev pub PrintsSo : (List ℕ → Type 0) → (Status → Type 0) → Outside → Outside → Status → Type 0
+PrintsSo IsText IsRefusal before now Done = (text : List ℕ) × IsText text × IsWritten before now text
+PrintsSo IsText IsRefusal before now WriteFault = (text : List ℕ) × IsText text × IsCutShort before now text
+PrintsSo IsText IsRefusal before now status = IsRefusal status × IsTold before now status
+
+-- a run of words of this form ends in this status, and so many reads of files have failed as it tells. No memory may be found for
+-- the words themselves
+abbrev pub EndsFor : Form → World → World → Status → Type 0
+EndsFor (Pack tuning) before now status =
+    PrintsSo (IsPacked tuning before.input now.input) (IsNotPacked tuning before.input now.input)
+    before.output now.output status
+    × (now.file_faults ≡ before.file_faults)
+EndsFor (Check base) before now status =
+    PrintsSo (IsChecked base before.files before.devices)
+    (IsCheckRefusal base before.files before.devices now.devices before.device_faults now.device_faults)
+    before.output now.output status
+    × (now.file_faults ≡ faults_told status before.file_faults)
+EndsFor (Trend base plan) before now status =
+    PrintsSo (IsTrend base plan before.files before.devices)
+    (IsTrendRefusal base plan before.files before.devices now.devices before.device_faults now.device_faults)
+    before.output now.output status
+    × (now.file_faults ≡ faults_told status before.file_faults)
+EndsFor Unknown before now status =
+    ((status ≡ BadWords) ⊎ (status ≡ WantOfMemory)) × IsTold before.output now.output status
+    × (now.file_faults ≡ before.file_faults)
+
+-- a run of these words ends in this status
+abbrev pub EndsIn : List (List ℕ) → World → World → Status → Type 0
+EndsIn words = EndsFor (form_of words)
+
+-- the devices after a run of words of this form: a command over stored archives keeps them, and any other leaves them alone
+abbrev pub KeepsFor : Form → ToldFiles → Devices → Devices → Type 0
+KeepsFor (Check base) files old new = AreKept base files old new
+KeepsFor (Trend base plan) files old new = AreKept base files old new
+KeepsFor form files old new = new ≡ old
 
 -- it ends in a status of this exit code
-abbrev pub EndsWithCode : List (List ℕ) → Streams → Streams → ℕ → Type 0
+abbrev pub EndsWithCode : List (List ℕ) → World → World → ℕ → Type 0
 EndsWithCode words before now code = (status : Status) × (code ≡ code_of status) × EndsIn words before now status

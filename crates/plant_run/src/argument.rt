@@ -1,15 +1,16 @@
 // The arguments of the process, and its exit code.
-ghost use Rattle.std.specs.Prelude.{◌≡◌, ◌⊎◌, None, drop, map, string_bytes, IfOk, IfErr};
+ghost use Rattle.std.specs.Prelude.{◌≡◌, ◌⊎◌, drop, map, string_bytes, IfOk, IfErr};
 ghost use Rattle.std.specs.IoError.{error_kind};
 ghost use Rattle.std.specs.Process.{exit_status};
 ghost use Rattle.std.specs.Vec.Iter.{into_iter_items};
 ghost use Rattle.plant_status.specs.Status.{code_of};
 ghost use Rattle.plant_run.specs.Argument.{status_of_args};
-ghost use Rattle.plant_run.specs.Run.{EndsWithCode, IsTold};
-ghost use Rattle.plant_run.specs.CommandLine.{pack_tuning};
+ghost use Rattle.plant_run.specs.Run.{EndsWithCode, IsTold, KeepsFor};
+ghost use Rattle.plant_run.specs.CommandLine.{Unknown, form_of};
 
 use crate::top_call::{refuse, run};
-use byte_io::{Sink, Source};
+use byte_io::{Files, Sink, Source};
+use disk_model::Store;
 use plant_status::{Status, code};
 use std::alloc::{AllocError, Global};
 use std::env::Args;
@@ -21,29 +22,50 @@ use std::thread::Threads;
 /// Runs the program on the arguments of its process, of which the first is its name: what the others ask for is done, and
 /// the exit code is that of the status. Where the arguments are not to be had, since one of them is no text or there is no
 /// memory for them, nothing is read, and the line of that is printed.
-pub fn run_args<R: Threads + Wait + Sync, I: Source, O: Sink>(
+pub fn run_args<R: Threads + Wait + Sync, I: Source, F: Files, O: Sink, S: Store>(
     rt: &R,
     alloc: Global,
     args: io::Result<Args>,
     input: &mut I,
+    files: &mut F,
     out: &mut O,
+    store: &mut S,
 ) -> ExitCode
     // The words are the arguments after the first.
     ensures ends { IfOk args (λ given. EndsWithCode (map string_bytes (drop 1 (into_iter_items given)))
-        (record { input = I.meaning input.old; output = O.meaning out.old })
-        (record { input = I.meaning input.new; output = O.meaning out.new }) (exit_status result)) }
-    ensures bad_words { IfOk args (λ given. pack_tuning (map string_bytes (drop 1 (into_iter_items given))) ≡ None
+        (record {
+          input = I.meaning input.old;
+          output = O.meaning out.old;
+          files = F.told files.old;
+          file_faults = F.fault_count files.old;
+          devices = S.device_at store.old;
+          device_faults = S.fault_count store.old;
+        })
+        (record {
+          input = I.meaning input.new;
+          output = O.meaning out.new;
+          files = F.told files.new;
+          file_faults = F.fault_count files.new;
+          devices = S.device_at store.new;
+          device_faults = S.fault_count store.new;
+        }) (exit_status result)) }
+    ensures bad_words { IfOk args (λ given. form_of (map string_bytes (drop 1 (into_iter_items given))) ≡ Unknown
         → (exit_status result ≡ code_of Status.BadWords) ⊎ (exit_status result ≡ code_of Status.WantOfMemory)) }
+
+    // What a crash at any moment leaves of the devices.
+    ensures devices { IfOk args (λ given. KeepsFor (form_of (map string_bytes (drop 1 (into_iter_items given))))
+        (F.told files.old) (S.device_at store.old) (S.device_at store.new)) }
 
     // No arguments.
     ensures no_args_code { IfErr args (λ why. exit_status result ≡ code_of (status_of_args (error_kind why))) }
     ensures no_args_line { IfErr args (λ why.
         IsTold (O.meaning out.old) (O.meaning out.new) (status_of_args (error_kind why))) }
     ensures untouched { IfErr args (λ why. input.new ≡ input.old) }
+    ensures kept { IfErr args (λ why. store.new ≡ store.old) }
 {
     let status = match args {
         Ok(given) => match words_of(alloc, given) {
-            Ok(words) => run(rt, alloc, words.as_slice(), input, out),
+            Ok(words) => run(rt, alloc, words.as_slice(), input, files, out, store),
             Err(_) => refuse(Status::WantOfMemory, out),
         },
         Err(why) => refuse(status_of_args(why.kind()), out),

@@ -1,7 +1,7 @@
 // The words of a command line.
-ghost use Rattle.std.specs.Prelude.{◌≡◌, ◌≤◌, map, string_bytes, IfSome};
+ghost use Rattle.std.specs.Prelude.{◌≡◌, ◌≤◌, map, string_bytes, None, Some, IfSome, IfNone};
 ghost use Rattle.trend_num.specs.Ranges.{IsTuned};
-ghost use Rattle.plant_run.specs.CommandLine.{number_upto, tuning_of, pack_tuning};
+ghost use Rattle.plant_run.specs.CommandLine.{number_upto, tuning_of, pack_tuning, check_base, trend_files};
 
 use trend_num::{MAX_DEV, MAX_T, Tuning, numeral};
 
@@ -19,6 +19,28 @@ pub(crate) fn pack_tuning(words: &[String]) -> Option<Tuning>
                 comp_min.as_bytes(),
                 comp_max.as_bytes(),
             ),
+        _ => None,
+    }
+}
+
+/// The name of the words `check BASE`, or none where the words are no such form.
+pub(crate) fn check_base(words: &[String]) -> Option<&str>
+    ensures base { IfSome result (λ base. check_base (map string_bytes words.now) ≡ Some base.now) }
+    ensures none { IfNone result (check_base (map string_bytes words.now) ≡ None) }
+{
+    match words {
+        [verb, base] if verb.as_str() == "check" => Some(base.as_str()),
+        _ => None,
+    }
+}
+
+/// The names of the words `trend BASE PLAN`, or none where the words are no such form.
+pub(crate) fn trend_files(words: &[String]) -> Option<(&str, &str)>
+    ensures files { IfSome result (λ names. trend_files (map string_bytes words.now) ≡ Some (names.0.now, names.1.now)) }
+    ensures none { IfNone result (trend_files (map string_bytes words.now) ≡ None) }
+{
+    match words {
+        [verb, base, plan] if verb.as_str() == "trend" => Some((base.as_str(), plan.as_str())),
         _ => None,
     }
 }

@@ -2,7 +2,8 @@
 ghost use Rattle.std.specs.Prelude.{None};
 
 use crate::{FileId, Reason, Status, What, run, run_args};
-use byte_io::{Failed, MemSink, MemSource, Sink, Source};
+use byte_io::{Failed, MemFiles, MemSink, MemSource, Sink, Source};
+use disk_model::MemStore;
 use std::alloc::{AllocError, Global};
 use std::io;
 use std::process::{Abort, ExitCode};
@@ -17,6 +18,19 @@ fn words_of(alloc: Global, line: &str) -> Result<Vec<String>, AllocError> {
         .try_collect(alloc)
 }
 
+/// Runs words without files and devices.
+fn run_alone<R: Threads + Wait + Sync, I: Source, O: Sink>(
+    rt: &R,
+    alloc: Global,
+    words: &[String],
+    input: &mut I,
+    out: &mut O,
+) -> Status {
+    let mut files = MemFiles::new(Vec::new(alloc), Vec::new(alloc));
+    let mut store = MemStore::new(Vec::new(alloc));
+    run(rt, alloc, words, input, &mut files, out, &mut store)
+}
+
 /// Runs a line of words on a text; the calls of the source and of the sink whose numbers are listed fail.
 fn ran<R: Threads + Wait + Sync>(
     rt: &R,
@@ -29,7 +43,7 @@ fn ran<R: Threads + Wait + Sync>(
     let words = words_of(alloc, line)?;
     let mut input = MemSource::new(text.to_vec(alloc)?, reads.to_vec(alloc)?);
     let mut out = MemSink::new(alloc, writes.to_vec(alloc)?);
-    let status = run(rt, alloc, words.as_slice(), &mut input, &mut out);
+    let status = run_alone(rt, alloc, words.as_slice(), &mut input, &mut out);
     Ok((status, out.bytes().to_vec(alloc)?))
 }
 
@@ -258,11 +272,106 @@ fn other_words_are_refused(rt: HostRuntime) -> Result<(), Fail> {
         "pack 0 1000000 0 253402300800000 1000000",
         "pack 0 1000000 0 0 253402300800000",
         "pack 0 1e6 0 0 1000000",
+        "check",
+        "check base.toml plan.toml",
+        "Check base.toml",
+        "trend base.toml",
+        "trend base.toml plan.toml plan.toml",
     ];
     for line in lines {
         let (status, printed) = ran(&rt, rt.alloc(), line, b"0,0\n", &[], &[])?;
         assert_eq!(rt; status, Status::BadWords, "{line}");
         assert_eq!(rt; printed.as_slice(), b"fault: words\n".as_slice(), "{line}");
+    }
+    Ok(())
+}
+
+const TAGS: &str = "\
+[[tag]]\n\
+name = \"T1\"\n\
+exc_dev = 0\n\
+exc_max = 1000\n\
+comp_dev = 0\n\
+comp_min = 0\n\
+comp_max = 1000\n\
+";
+
+/// Runs a line of words over files and no device; the writes whose numbers are listed fail.
+fn ran_over<R: Threads + Wait + Sync>(
+    rt: &R,
+    alloc: Global,
+    line: &str,
+    texts: &[(&str, &str)],
+    writes: &[u64],
+) -> Result<(Status, Vec<u8>), AllocError> {
+    let words = words_of(alloc, line)?;
+    let mut files = Vec::new(alloc);
+    for (name, text) in texts {
+        let name = String::from_str(alloc, *name)?;
+        files.push((name, text.as_bytes().to_vec(alloc)?))?;
+    }
+    let mut files = MemFiles::new(files, Vec::new(alloc));
+    let mut store = MemStore::new(Vec::new(alloc));
+    let mut input = MemSource::new(Vec::new(alloc), Vec::new(alloc));
+    let mut out = MemSink::new(alloc, writes.to_vec(alloc)?);
+    let status = run(
+        rt,
+        alloc,
+        words.as_slice(),
+        &mut input,
+        &mut files,
+        &mut out,
+        &mut store,
+    );
+    Ok((status, out.bytes().to_vec(alloc)?))
+}
+
+#[test]
+fn archives_are_told_of(rt: HostRuntime) -> Result<(), Fail> {
+    let texts = [
+        ("base.toml", TAGS),
+        ("plan.toml", "[[reader]]\nfile = \"asked.csv\"\n"),
+        ("late.toml", "[[reader]]\nfile = \"none.csv\"\n"),
+        ("asked.csv", "snap,T1\nat,T1,5\n"),
+    ];
+    let missing = |file| Status::ReadFault { file };
+    let table: [(&str, &[u64], Status, &str); 6] = [
+        (
+            "check base.toml",
+            &[],
+            Status::Done,
+            "tag T1 taken=0 records=0 kept=0 late=0 held=none\n",
+        ),
+        ("check base.toml", &[0], Status::WriteFault, ""),
+        (
+            "check none.toml",
+            &[],
+            missing(FileId::Base),
+            "fault: read base\n",
+        ),
+        (
+            "trend base.toml plan.toml",
+            &[],
+            Status::Done,
+            "reply 1 1 snap 0 none\nreply 1 2 none\n",
+        ),
+        (
+            "trend base.toml none.toml",
+            &[],
+            missing(FileId::Plan),
+            "fault: read plan\n",
+        ),
+        (
+            "trend base.toml late.toml",
+            &[],
+            missing(FileId::Reader(0)),
+            "fault: read reader 1\n",
+        ),
+    ];
+    for (line, writes, want, text) in table {
+        let (status, printed) = ran_over(&rt, rt.alloc(), line, &texts, writes)?;
+        assert_eq!(rt; status, want, "{line}");
+        assert_eq!(rt; printed.as_slice(), text.as_bytes(), "{line}");
     }
     Ok(())
 }
@@ -379,7 +488,7 @@ fn dripped<R: Threads + Wait + Sync>(
         failing: write,
         faults: 0,
     };
-    let status = run(rt, alloc, words.as_slice(), &mut input, &mut out);
+    let status = run_alone(rt, alloc, words.as_slice(), &mut input, &mut out);
     let Drip { taken, .. } = out;
     Ok((status, taken))
 }
@@ -429,7 +538,7 @@ fn a_text_that_is_too_long_is_refused(rt: HostRuntime) -> Result<(), Fail> {
     let words = words_of(rt.alloc(), FOUR_WORDS)?;
     let mut input = MemSource::new(long, Vec::new(rt.alloc()));
     let mut out = MemSink::new(rt.alloc(), Vec::new(rt.alloc()));
-    let status = run(&rt, rt.alloc(), words.as_slice(), &mut input, &mut out);
+    let status = run_alone(&rt, rt.alloc(), words.as_slice(), &mut input, &mut out);
     assert_eq!(rt;
         status,
         Status::Limit {
@@ -485,9 +594,13 @@ fn exited<R: Threads + Wait + Sync>(
     writes: &[u64],
 ) -> Result<(ExitCode, Vec<u8>), AllocError> {
     let mut input = MemSource::new(text.to_vec(alloc)?, reads.to_vec(alloc)?);
+    let mut files = MemFiles::new(Vec::new(alloc), Vec::new(alloc));
     let mut out = MemSink::new(alloc, writes.to_vec(alloc)?);
+    let mut store = MemStore::new(Vec::new(alloc));
     let given = args.map(|words| words.into_iter());
-    let code = run_args(rt, alloc, given, &mut input, &mut out);
+    let code = run_args(
+        rt, alloc, given, &mut input, &mut files, &mut out, &mut store,
+    );
     Ok((code, out.bytes().to_vec(alloc)?))
 }
 

@@ -1,52 +1,103 @@
 // The top call, and the line of a refusal.
-ghost use Rattle.std.specs.Prelude.{◌≡◌, ◌↔◌, ◌⊎◌, None, map, string_bytes};
-ghost use Rattle.byte_io.specs.Outside.{IsWritten, IsCutShort};
-ghost use Rattle.plant_run.specs.CommandLine.{pack_tuning};
-ghost use Rattle.plant_run.specs.Run.{EndsIn, IsTold};
+ghost use Rattle.std.specs.Prelude.{◌≡◌, ◌↔◌, ◌⊎◌, ◌≢◌, map, string_bytes, IfOk, IfErr, OnOk, OnErr};
+ghost use Rattle.trend_num.specs.Ranges.{IsTuned};
+ghost use Rattle.plant_run.specs.CommandLine.{Unknown, form_of};
+ghost use Rattle.plant_run.specs.Run.{EndsIn, IsNotPacked, IsPacked, IsPrintedSo, IsTold, KeepsFor, PrintsSo};
 
-use crate::command_line::pack_tuning;
-use byte_io::{Sink, Source, write_all};
-use pack_command::{ArchiveText, pack};
+use crate::command_line::{check_base, pack_tuning, trend_files};
+use byte_io::{Files, Sink, Source, WriteFault, write_all};
+use disk_model::Store;
+use pack_command::pack;
 use plant_status::{Status, line};
 use std::alloc::Global;
 use std::sync::Wait;
 use std::thread::Threads;
+use store_commands::{check, trend};
+use trend_num::Tuning;
 
 /// Does what the words of a command line ask for, and tells how it went. `pack EXCDEV EXCMAX COMPDEV COMPMIN COMPMAX`
 /// reads lines `TIME,VALUE` from `input` to its end, and prints the records that the archive of one tag keeps of them,
-/// and the point that it holds. Each refusal but that of a write prints its one line instead.
-pub fn run<R: Threads + Wait + Sync, I: Source, O: Sink>(
+/// and the point that it holds. `check BASE` opens the tags of a base, and prints a line for each. `trend BASE PLAN` opens them
+/// too, and answers the queries of the plan's readers. Each refusal but that of a write prints its one line instead.
+pub fn run<R: Threads + Wait + Sync, I: Source, F: Files, O: Sink, S: Store>(
     _rt: &R,
     alloc: Global,
     words: &[String],
     input: &mut I,
+    files: &mut F,
     out: &mut O,
+    store: &mut S,
 ) -> Status
     // What was read and printed where it ends so. Want of memory alone has no other cause.
     ensures ends { EndsIn (map string_bytes words.now)
-        (record { input = I.meaning input.old; output = O.meaning out.old })
-        (record { input = I.meaning input.new; output = O.meaning out.new }) result }
+        (record {
+          input = I.meaning input.old;
+          output = O.meaning out.old;
+          files = F.told files.old;
+          file_faults = F.fault_count files.old;
+          devices = S.device_at store.old;
+          device_faults = S.fault_count store.old;
+        })
+        (record {
+          input = I.meaning input.new;
+          output = O.meaning out.new;
+          files = F.told files.new;
+          file_faults = F.fault_count files.new;
+          devices = S.device_at store.new;
+          device_faults = S.fault_count store.new;
+        }) result }
+
+    // What a crash at any moment leaves of the devices.
+    ensures devices { KeepsFor (form_of (map string_bytes words.now)) (F.told files.old) (S.device_at store.old)
+        (S.device_at store.new) }
+    ensures files { F.told files.new ≡ F.told files.old }
 
     // Words that are no form are refused as such, and nothing is read then.
-    ensures bad_words { (result ≡ Status.BadWords) ↔ (pack_tuning (map string_bytes words.now) ≡ None) }
+    ensures bad_words { (result ≡ Status.BadWords) ↔ (form_of (map string_bytes words.now) ≡ Unknown) }
     ensures untouched { result ≡ Status.BadWords → input.new ≡ input.old }
 {
-    let Some(tuning) = pack_tuning(words) else {
-        return refuse(Status::BadWords, out);
-    };
+    if let Some(base) = check_base(words) {
+        return finish(check(alloc, files, store, base), out);
+    }
+    if let Some((base, plan)) = trend_files(words) {
+        return finish(trend(alloc, files, store, base, plan), out);
+    }
+    match pack_tuning(words) {
+        Some(tuning) => run_pack(alloc, tuning, input, out),
+        None => refuse(Status::BadWords, out),
+    }
+}
+
+/// Packs the input, and prints what it keeps.
+fn run_pack<I: Source, O: Sink>(alloc: Global, tuning: Tuning, input: &mut I, out: &mut O) -> Status
+    requires { IsTuned tuning }
+    ensures ends { PrintsSo (IsPacked tuning (I.meaning input.old) (I.meaning input.new))
+        (IsNotPacked tuning (I.meaning input.old) (I.meaning input.new)) (O.meaning out.old) (O.meaning out.new) result }
+    ensures known { result ≢ Status.BadWords }
+{
     match pack(alloc, tuning, input) {
-        Ok(text) => print(&text, out),
+        Ok(text) => printed(text.print(out)),
         Err(status) => refuse(status, out),
     }
 }
 
-/// Prints a text: the status is Done where all of it went out.
-fn print<O: Sink>(text: &ArchiveText, out: &mut O) -> Status
-    ensures whole { result ≡ Status.Done → IsWritten (O.meaning out.old) (O.meaning out.new) text.now }
-    ensures cut_short { result ≡ Status.WriteFault → IsCutShort (O.meaning out.old) (O.meaning out.new) text.now }
-    ensures known { (result ≡ Status.Done) ⊎ (result ≡ Status.WriteFault) }
+/// Prints a text, or the line of a refusal.
+fn finish<O: Sink>(answer: Result<String, Status>, out: &mut O) -> Status
+    ensures text { IfOk answer (λ text. IsPrintedSo (string_bytes text) (O.meaning out.old) (O.meaning out.new) result) }
+    ensures refused { IfErr answer (λ why. (result ≡ why) × IsTold (O.meaning out.old) (O.meaning out.new) why) }
 {
-    match text.print(out) {
+    match answer {
+        Ok(text) => printed(write_all(out, text.as_bytes())),
+        Err(status) => refuse(status, out),
+    }
+}
+
+/// The status of a text that was printed.
+fn printed(answer: Result<(), WriteFault>) -> Status
+    ensures done { OnOk answer (result ≡ Status.Done) }
+    ensures fault { OnErr answer (result ≡ Status.WriteFault) }
+{
+    match answer {
         Ok(()) => Status::Done,
         Err(_) => Status::WriteFault,
     }

@@ -1,7 +1,9 @@
-use Rattle.std.proofs.Common.{◌≡◌, drop, ap, refl, ◌∙◌}
+use Rattle.std.proofs.Common.{◌≡◌, drop, map, string_bytes, ap, refl, ◌∙◌}
 use Rattle.std.specs.Vec.Iter.{into_iter_items}
 use Rattle.plant_status.specs.Status.{code_of}
 use Rattle.plant_status.specs.declared.status.Status.TheVariants.{WantOfMemory}
+use Rattle.plant_run.specs.CommandLine.{form_of}
+use Rattle.plant_run.proofs.Printing.{memory_ends, same_kept}
 use Rattle.plant_run.proofs.argument.run_args.Goals as goal
 use Rattle.plant_run.proofs.argument.run_args.Goals.{in-Ok+in-Ok-words_of, in-Ok+in-Err-words_of, in-Err}
 
@@ -15,13 +17,26 @@ returns-clause-ends g c =
           rw w.in-Ok.is (
             w.run.result,
             code ∙ ap code_of w.status-is,
-            rw (w.input-is, w.out-is, ← words) w.run.ensures.ends,
+            rw (w.input-is, w.files-is, w.out-is, w.store-is, ← words) w.run.ensures.ends,
           )
       | in-Ok+in-Err-words_of w ↦
           rw w.in-Ok.is (
             WantOfMemory,
             code ∙ ap code_of (w.status-is ∙ w.refuse.ensures.same),
-            rw (w.input-is, w.out-is) (refl, w.refuse.ensures.line),
+            rw (w.input-is, w.files-is, w.out-is, w.store-is)
+                (memory_ends (form_of (map string_bytes (drop 1 (into_iter_items w.in-Ok.given)))) _ _ refl w.refuse.ensures.line refl),
           )
       | in-Err w ↦ rw w.in-Err.is tt
     ]
+
+pub returns-clause-devices : goal.returns-clause-devices
+returns-clause-devices g c = elim c.match-args.branch [
+  | in-Ok+in-Ok-words_of w ↦
+      let words : w.as_slice.result.now ≡ drop 1 (into_iter_items w.in-Ok.given) =
+      w.as_slice.ensures.value ∙ w.in-Ok-words_of.ensures in
+      rw w.in-Ok.is (rw (w.store-is, ← words) w.run.ensures.devices)
+  | in-Ok+in-Err-words_of w ↦
+      rw w.in-Ok.is (rw w.store-is
+      (same_kept (form_of (map string_bytes (drop 1 (into_iter_items w.in-Ok.given)))) _ _))
+  | in-Err w ↦ rw w.in-Err.is tt
+]

@@ -1,35 +1,51 @@
-use Rattle.std.proofs.Common.{◌≡◌, ◌⊎◌, inl, inr, List, ℕ, map, string_bytes, sym, subst}
-use Rattle.byte_io.specs.Outside.{IsWritten, IsCutShort}
-use Rattle.plant_status.specs.declared.status.Status.{Status}
-use Rattle.plant_status.specs.declared.status.Status.TheVariants.{Done, WriteFault}
-use Rattle.trend_model.proofs.BoundLaw.{bounded}
-use Rattle.pack_command.specs.Pack.{history_of, origin_of}
-use Rattle.plant_run.specs.Run.{EndsIn, IsPacked, Streams}
+use Rattle.std.proofs.Common.{◌≡◌, map, string_bytes, sym, subst}
+use Rattle.store_commands.specs.Commands.{IsCheckRefusal, IsChecked, IsTrend, IsTrendRefusal}
+use Rattle.plant_run.specs.Run.{EndsFor, KeepsFor, World}
+use Rattle.plant_run.proofs.Printing.{answered_so, faults_so, check_no_fault, check_not_done, form_check, form_trend, trend_no_fault, trend_not_done}
 use Rattle.plant_run.proofs.top_call.run.Goals as goal
 
--- a text that was packed and printed, or cut short
-packed_ends : (words : List (List ℕ)) (before now : Streams) (text : List ℕ) (status : Status) → IsPacked words before.input now.input text
-    → (status ≡ Done) ⊎ (status ≡ WriteFault) → (status ≡ Done → IsWritten before.output now.output text)
-    → (status ≡ WriteFault → IsCutShort before.output now.output text) → EndsIn words before now status
-packed_ends words before now text status packed (inl done) whole cut_short =
-    subst (EndsIn words before now) (sym done) (text, packed, whole done)
-packed_ends words before now text status packed (inr fault) whole cut_short =
-    subst (EndsIn words before now) (sym fault) (text, packed, cut_short fault)
+pub returns-in-Some-clause-ends : goal.returns-in-Some-clause-ends
+returns-in-Some-clause-ends g c =
+    let base = c.in-Some.base.now in
+    let told = g.F.Files.told c.args.files.now in
+    let old = g.S.Store.device_at c.args.store.now in
+    let new = g.S.Store.device_at c.check.new.store in
+    let faults = g.S.Store.fault_count c.args.store.now in
+    let more = g.S.Store.fault_count c.check.new.store in
+    let before = g.O.Sink.meaning c.args.out.now in
+    let now = g.O.Sink.meaning c.finish.new.out in
+    rw (form_check (map string_bytes c.args.words.now) base c.in-Some.ensures.base) (
+      (answered_so (IsChecked base told old) (IsCheckRefusal base told old new faults more) before now c.check.result
+          c.finish.result c.check.ensures.text c.check.ensures.refused (check_not_done base base told old new faults more)
+          (check_no_fault base base told old new faults more) c.finish.ensures.text c.finish.ensures.refused),
+      faults_so before now c.check.result c.finish.result _ _ c.check.ensures.file_faults c.finish.ensures.text c.finish.ensures.refused,
+    )
 
-pub returns-in-Ok-clause-ends : goal.returns-in-Ok-clause-ends
-returns-in-Ok-clause-ends g c =
-    let answer = c.in-Ok.ensures.printed in
-    let text = c.in-Ok.text in
-    let before : Streams = record { input = g.I.Source.meaning c.args.input.now; output = g.O.Sink.meaning c.args.out.now } in
-    let now : Streams = record { input = g.I.Source.meaning c.pack.new.input; output = g.O.Sink.meaning c.print.new.out } in
-    let packed : IsPacked (map string_bytes c.args.words.now) before.input now.input text = record {
-      tuning = c.in-Some.tuning;
-      points = answer.points;
-      asked = sym c.in-Some.ensures.value;
-      read = answer.read;
-      room = answer.room;
-      same = answer.same;
-      bounded = bounded (origin_of c.in-Some.tuning) (history_of answer.points);
-    } in
-    packed_ends (map string_bytes c.args.words.now) before now text c.print.result packed c.print.ensures.known
-    c.print.ensures.whole c.print.ensures.cut_short
+pub returns-in-Some-clause-devices : goal.returns-in-Some-clause-devices
+returns-in-Some-clause-devices g c =
+    rw (form_check (map string_bytes c.args.words.now) c.in-Some.base.now c.in-Some.ensures.base) c.check.ensures.kept
+
+pub returns-in-Some-trend_files-clause-ends : goal.returns-in-Some-trend_files-clause-ends
+returns-in-Some-trend_files-clause-ends g c =
+    let base = c.in-Some-trend_files.base.now in
+    let plan = c.in-Some-trend_files.plan.now in
+    let told = g.F.Files.told c.args.files.now in
+    let old = g.S.Store.device_at c.args.store.now in
+    let new = g.S.Store.device_at c.trend.new.store in
+    let faults = g.S.Store.fault_count c.args.store.now in
+    let more = g.S.Store.fault_count c.trend.new.store in
+    let before = g.O.Sink.meaning c.args.out.now in
+    let now = g.O.Sink.meaning c.finish-in-Some-trend_files.new.out in
+    rw (form_trend (map string_bytes c.args.words.now) base plan c.in_default.ensures.none c.in-Some-trend_files.ensures.files) (
+      (answered_so (IsTrend base plan told old) (IsTrendRefusal base plan told old new faults more) before now c.trend.result
+          c.finish-in-Some-trend_files.result c.trend.ensures.text c.trend.ensures.refused
+          (trend_not_done base plan told old new faults more) (trend_no_fault base plan told old new faults more)
+          c.finish-in-Some-trend_files.ensures.text c.finish-in-Some-trend_files.ensures.refused),
+      faults_so before now c.trend.result c.finish-in-Some-trend_files.result _ _ c.trend.ensures.file_faults
+          c.finish-in-Some-trend_files.ensures.text c.finish-in-Some-trend_files.ensures.refused,
+    )
+
+pub returns-in-Some-trend_files-clause-devices : goal.returns-in-Some-trend_files-clause-devices
+returns-in-Some-trend_files-clause-devices g c =
+    rw (form_trend (map string_bytes c.args.words.now) c.in-Some-trend_files.base.now c.in-Some-trend_files.plan.now
+    c.in_default.ensures.none c.in-Some-trend_files.ensures.files) c.trend.ensures.kept

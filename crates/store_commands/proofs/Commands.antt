@@ -1,0 +1,71 @@
+-- What the commands over stored archives need of a base and of its queries.
+use Rattle.std.proofs.Common.{◌≡◌, ◌≢◌, ℕ, true, false, Vec, vec_len, ◌==◌, List, [], All, length, map, refl, sym, ◌∙◌, subst, arith, ap}
+use Rattle.std.specs.List.{AllPairs}
+use Rattle.std.proofs.lemmas.List.{nil_from_length, get_or-map, length-map}
+use Rattle.std.proofs.lemmas.Bool.{eqb-true, eqb-false}
+use Rattle.std.proofs.lemmas.List.Elements.{All-weaker}
+use Rattle.trend_num.specs.declared.tag_def.TagDef.{TagDef}
+use Rattle.tag_base.specs.declared.definition.Base.{Base}
+use Rattle.value_rows.specs.declared.asked.Query.{Query}
+use Rattle.value_rows.specs.declared.asked.Query.TheVariants.{Tag, Snap, Row}
+use Rattle.plant_files.specs.Texts.{tag_names}
+use Rattle.plant_files.specs.Asked.{IsQueryOf}
+use Rattle.plant_status.specs.declared.status.Status.{Status}
+use Rattle.plant_status.specs.declared.status.Status.TheVariants.{Done, BadWords, BadText, BadRow, ReadFault, WriteFault, DeviceFault}
+use Rattle.plant_status.specs.declared.status.Status.TheVariants.{Damaged, OtherTag, Limit, Mismatch, Halted, WantOfMemory, NotYet}
+use Rattle.plant_files.specs.Reading.{faults_told}
+use Rattle.disk_model.specs.Traces.{Trace}
+use Rattle.tag_store.specs.Tags.{AreDistinct}
+use Rattle.tag_store.specs.Refusals.{IsRefusal}
+use Rattle.trend_command.specs.Told.{IsAsked}
+use Rattle.std.proofs.Common.{Option}
+
+-- a fact of each image of a list is one of each element
+pub all_of_map : {X Y : Type 0} (f : X → Y) (P : Y → Type 0) (xs : List X) → All P (map f xs) → All (λ x. P (f x)) xs
+all_of_map f P xs all k d below =
+    subst P (get_or-map f xs k d (f d) below) (all k (f d) (omega (arith, below, length-map xs f)))
+
+-- tags of distinct names are distinct
+pub distinct_tags : (tags : List TagDef) → AllPairs (λ x y. x ≢ y) (tag_names tags) → AreDistinct tags
+distinct_tags tags all i j d less below same =
+    let named = λ (t : TagDef). t.name in
+    all i j d.name less (omega (arith, below, length-map tags named)) (
+    get_or-map named tags i d d.name (omega (arith, less, below)) ∙ same
+    ∙ sym (get_or-map named tags j d d.name below))
+
+-- a query of a base that has no groups is asked of one of its tags
+asked_one : (base : Base) (n : ℕ) → base.groups.items ≡ [] → n ≡ length base.tags.items → (q : Query) → IsQueryOf base q → IsAsked n q
+asked_one base n none as_many (Tag tag query) is = (omega (arith, is.0, as_many), is.1)
+asked_one base n none as_many (Snap tag) is = omega (arith, is, as_many)
+asked_one base n none as_many (Row group calc k) is = absurd (omega (arith, ap length none, is.0))
+
+pub asked_lists : (base : Base) (n : ℕ) (lists : List (List Query)) → base.groups.items ≡ [] → n ≡ length base.tags.items
+    → All (All (IsQueryOf base)) lists → All (All (IsAsked n)) lists
+asked_lists base n lists none as_many all =
+    All-weaker (All (IsQueryOf base)) (All (IsAsked n))
+    (λ qs each. All-weaker (IsQueryOf base) (IsAsked n) (asked_one base n none as_many) qs each) lists all
+
+-- the refusal of a tag is no fault of a file
+pub no_file_fault : (tags : List TagDef) (old new : List ℕ → Option Trace) (before now : ℕ) (why : Status)
+    → IsRefusal tags old new before now why → (n : ℕ) → n ≡ faults_told why n
+no_file_fault tags old new before now Done is n = refl
+no_file_fault tags old new before now BadWords is n = refl
+no_file_fault tags old new before now (BadText file rule place at) is n = refl
+no_file_fault tags old new before now (BadRow file row reason) is n = refl
+no_file_fault tags old new before now (ReadFault file) is n = absurd is
+no_file_fault tags old new before now WriteFault is n = refl
+no_file_fault tags old new before now (DeviceFault unit) is n = refl
+no_file_fault tags old new before now (Damaged unit at byte) is n = refl
+no_file_fault tags old new before now (OtherTag tag found wanted) is n = refl
+no_file_fault tags old new before now (Limit what number) is n = refl
+no_file_fault tags old new before now (Mismatch place kept told) is n = refl
+no_file_fault tags old new before now (Halted worker) is n = refl
+no_file_fault tags old new before now WantOfMemory is n = refl
+no_file_fault tags old new before now NotYet is n = refl
+
+-- a vector that is found empty has no item, and one that is not found so has one
+pub found_empty : {X Z : Type 0} (v : Vec X Z) → (vec_len v == 0) ≡ true → v.items ≡ []
+found_empty v found = nil_from_length v.items (omega (arith, v.ok, eqb-true (vec_len v) 0 found))
+
+pub found_some : {X Z : Type 0} (v : Vec X Z) → (vec_len v == 0) ≡ false → v.items ≢ []
+found_some v found same = eqb-false (vec_len v) 0 found (omega (arith, v.ok, ap length same))

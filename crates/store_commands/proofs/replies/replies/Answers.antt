@@ -1,0 +1,9 @@
+use Rattle.std.proofs.Common.{All, length, sym, subst}
+use Rattle.trend_command.specs.Told.{IsAsked}
+use Rattle.store_commands.proofs.Commands.{all_of_map}
+use Rattle.store_commands.proofs.replies.replies.Goals as goal
+
+pub trend_text-requires-clause-asked : goal.trend_text-requires-clause-asked
+trend_text-requires-clause-asked c = rw c.deref.ensures.value
+    (all_of_map (λ list. list.items) (All (IsAsked (length c.args.cores.now))) c.in-Ok.lists.items
+    (subst (All (All (IsAsked (length c.args.cores.now)))) (sym c.in-Ok.ensures.lists) c.requires.asked))

@@ -1,0 +1,73 @@
+-- What the commands over stored archives print, and why they print nothing.
+use Rattle.std.specs.Prelude.{◌≡◌, ◌≢◌, ◌⊎◌, ℕ, List, [], Option}
+use Rattle.disk_model.specs.Traces.{Trace}
+use Rattle.tag_core.specs.Core.{Core}
+use Rattle.tag_base.specs.declared.definition.Base.{Base}
+use Rattle.tag_base.specs.declared.schedule.Plan.{Plan}
+use Rattle.value_rows.specs.declared.asked.Query.{Query}
+use Rattle.plant_status.specs.declared.status.Status.{Status}
+use Rattle.plant_status.specs.declared.status.Status.TheVariants.{NotYet, WantOfMemory}
+use Rattle.plant_files.specs.Texts.{IsBaseFile, IsBaseRefusal, IsPlanFile, IsPlanRefusal}
+use Rattle.plant_files.specs.Asked.{ToldFiles, AreQueries, IsQueriesRefusal}
+use Rattle.tag_store.specs.Tags.{AreOpened, AllStaySame, AreOthersSame}
+use Rattle.tag_store.specs.Lines.{check_text}
+use Rattle.tag_store.specs.Refusals.{IsRefusal}
+use Rattle.trend_command.specs.Told.{trend_text}
+
+-- the traces of a store's devices by name
+abbrev pub Devices : Type 0
+Devices = List ℕ → Option Trace
+
+-- ---- check
+
+-- the base was read of the file of this name, its tags are opened, and this is a line for each
+pub record IsChecked (name : List ℕ) (told : ToldFiles) (old : Devices) (text : List ℕ) : Type 0 where
+  pub base : Base
+  pub cores : List Core
+  pub read : IsBaseFile (told name) base
+  pub opened : AreOpened base.tags.items old cores
+  pub same : text ≡ check_text base.tags.items cores
+
+-- the base is refused, or its tags are. No memory may be found at any time
+abbrev pub IsCheckRefusal : List ℕ → ToldFiles → Devices → Devices → ℕ → ℕ → Status → Type 0
+IsCheckRefusal name told old new before now why = IsBaseRefusal (told name) why
+    ⊎ (((base : Base) × IsBaseFile (told name) base × IsRefusal base.tags.items old new before now why)
+    ⊎ (why ≡ WantOfMemory))
+
+-- ---- trend
+
+-- the base has no group, the plan and the files of its readers were read, the tags are opened, and these are the replies
+pub record IsTrend (name plan_name : List ℕ) (told : ToldFiles) (old : Devices) (text : List ℕ) : Type 0 where
+  pub base : Base
+  pub plan : Plan
+  pub lists : List (List Query)
+  pub cores : List Core
+  pub read : IsBaseFile (told name) base
+  pub no_group : base.groups.items ≡ []
+  pub planned : IsPlanFile base.groups.items (told plan_name) plan
+  pub asked : AreQueries base told plan.readers.items lists
+  pub opened : AreOpened base.tags.items old cores
+  pub same : text ≡ trend_text cores lists
+
+-- the refusals, in their order: of the base, of a group, of the plan, of a reader's file, of a tag
+pub data IsTrendRefusal (name plan_name : List ℕ) (told : ToldFiles) (old new : Devices) (before now : ℕ) (why : Status) : Type 0 where
+  OfBase : IsBaseRefusal (told name) why → IsTrendRefusal name plan_name told old new before now why
+  OfGroup : (base : Base) → IsBaseFile (told name) base → base.groups.items ≢ [] → why ≡ NotYet
+      → IsTrendRefusal name plan_name told old new before now why
+  OfPlan : (base : Base) → IsBaseFile (told name) base → base.groups.items ≡ []
+      → IsPlanRefusal base.groups.items (told plan_name) why → IsTrendRefusal name plan_name told old new before now why
+  OfReader : (base : Base) (plan : Plan) → IsBaseFile (told name) base → base.groups.items ≡ []
+      → IsPlanFile base.groups.items (told plan_name) plan → IsQueriesRefusal base told plan.readers.items why
+      → IsTrendRefusal name plan_name told old new before now why
+  OfTag : (base : Base) (plan : Plan) (lists : List (List Query)) → IsBaseFile (told name) base → base.groups.items ≡ []
+      → IsPlanFile base.groups.items (told plan_name) plan → AreQueries base told plan.readers.items lists
+      → IsRefusal base.tags.items old new before now why → IsTrendRefusal name plan_name told old new before now why
+  OfMemory : why ≡ WantOfMemory → IsTrendRefusal name plan_name told old new before now why
+
+-- ---- devices
+
+-- no device has changed; or those of the base's tags alone have, and a crash at any moment since leaves of each an image that one
+-- before might have left, or that recovers the same
+abbrev pub AreKept : List ℕ → ToldFiles → Devices → Devices → Type 0
+AreKept name told old new = ((n : List ℕ) → new n ≡ old n)
+    ⊎ ((base : Base) × IsBaseFile (told name) base × AllStaySame base.tags.items old new × AreOthersSame base.tags.items old new)

@@ -1,0 +1,16 @@
+//! The commands over stored archives: `check` and `trend`.
+//!
+//! Both read the base of a plant, and open its tags over a store of devices, one after the other. [`check`] prints a line for
+//! each tag. [`trend`] reads a plan and the files of its readers first, and prints the answer to each query. Neither starts a
+//! worker, nor waits. A refusal is the first one in the order base, groups, plan, readers' files, tags. A crash at any moment
+//! leaves of each device what one before might have left, or what recovers the same.
+#![tactic(auto)]
+
+mod replies;
+mod tag_lines;
+#[cfg(test)]
+mod tests;
+
+pub use plant_status::Status;
+pub use replies::trend;
+pub use tag_lines::check;

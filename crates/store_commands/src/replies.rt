@@ -1,0 +1,88 @@
+// The command `trend`.
+ghost use Rattle.std.specs.Prelude.{◌^◌, ◌<◌, ◌≤◌, ◌≡◌, length, map, string_bytes, All, IfOk, IfErr};
+ghost use Rattle.trend_command.specs.Told.{IsAsked, trend_text};
+ghost use Rattle.plant_files.specs.Reading.{faults_after};
+ghost use Rattle.store_commands.specs.Commands.{AreKept, IsTrend, IsTrendRefusal};
+
+use byte_io::Files;
+use disk_model::Store;
+use plant_files::{ReaderQueries, base_of, plan_of, queries_of};
+use plant_status::Status;
+use std::alloc::{AllocError, Global};
+use tag_core::TagCore;
+use tag_store::open_tags;
+use trend_command::trend_text;
+use trend_num::WantOfMemory;
+use value_rows::Query;
+
+/// What `trend` prints: the answers to the queries of the readers of the plan in the file of that name, over the base in the
+/// file of this name. The device of each tag is opened, and made where there is none. A base with groups is not answered yet.
+pub fn trend<F: Files, S: Store>(
+    alloc: Global,
+    files: &mut F,
+    store: &mut S,
+    name: &str,
+    plan_name: &str,
+) -> Result<String, Status>
+    ensures text { IfOk result (λ text. IsTrend name.now plan_name.now (F.told files.old) (S.device_at store.old)
+        (string_bytes text)) }
+    ensures refused { IfErr result (IsTrendRefusal name.now plan_name.now (F.told files.old) (S.device_at store.old)
+        (S.device_at store.new) (S.fault_count store.old) (S.fault_count store.new)) }
+    ensures kept { AreKept name.now (F.told files.old) (S.device_at store.old) (S.device_at store.new) }
+    ensures stays { F.told files.new ≡ F.told files.old }
+    ensures file_faults { F.fault_count files.new ≡ faults_after result (F.fault_count files.old) }
+    ensures store_faults { S.fault_count store.old < 2 ^ 64 → S.fault_count store.old ≤ S.fault_count store.new }
+{
+    let base = match base_of(alloc, files, name) {
+        Ok(base) => base,
+        Err(why) => return Err(why),
+    };
+    if !base.groups.is_empty() {
+        return Err(Status::NotYet);
+    }
+    let plan = match plan_of(alloc, files, plan_name, &base) {
+        Ok(plan) => plan,
+        Err(why) => return Err(why),
+    };
+    let readers = match queries_of(alloc, files, &plan, &base) {
+        Ok(readers) => readers,
+        Err(why) => return Err(why),
+    };
+    let cores = match open_tags(alloc, store, &base.tags) {
+        Ok(cores) => cores,
+        Err(why) => return Err(why),
+    };
+    match replies(alloc, &cores, &readers) {
+        Ok(text) => Ok(text),
+        Err(_) => Err(Status::WantOfMemory),
+    }
+}
+
+/// The answers to the queries of these readers. More of them than can be numbered are refused as memory that is not there.
+fn replies(
+    alloc: Global,
+    cores: &[TagCore],
+    readers: &[ReaderQueries],
+) -> Result<String, WantOfMemory>
+    requires asked { All (All (IsAsked (length cores.now))) readers.now }
+    ensures { IfOk result (λ text. string_bytes text ≡ trend_text cores.now readers.now) }
+{
+    if readers.len() > u32::MAX as usize {
+        return Err(WantOfMemory);
+    }
+    let Ok(lists) = lists_of(alloc, readers) else {
+        return Err(WantOfMemory);
+    };
+    trend_text(alloc, cores, &lists)
+}
+
+/// The queries of each reader.
+fn lists_of(alloc: Global, readers: &[ReaderQueries]) -> Result<Vec<Vec<Query>>, AllocError>
+    ensures lists { IfOk result (λ lists. map (λ list. list.items) lists.items ≡ readers.now) }
+{
+    let mut lists = Vec::with_capacity(alloc, readers.len())?;
+    for reader in readers {
+        lists.push(reader.rows().to_vec(alloc)?)?;
+    }
+    Ok(lists)
+}

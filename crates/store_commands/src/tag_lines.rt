@@ -1,0 +1,41 @@
+// The command `check`.
+ghost use Rattle.std.specs.Prelude.{◌^◌, ◌<◌, ◌≤◌, ◌≡◌, string_bytes, IfOk, IfErr};
+ghost use Rattle.plant_files.specs.Reading.{faults_after};
+ghost use Rattle.store_commands.specs.Commands.{AreKept, IsCheckRefusal, IsChecked};
+
+use byte_io::Files;
+use disk_model::Store;
+use plant_files::base_of;
+use plant_status::Status;
+use std::alloc::Global;
+use tag_store::{check_text, open_tags};
+
+/// What `check` prints: a line for each tag of the base that the file of this name holds. The device of each tag is opened,
+/// and made where there is none.
+pub fn check<F: Files, S: Store>(
+    alloc: Global,
+    files: &mut F,
+    store: &mut S,
+    name: &str,
+) -> Result<String, Status>
+    ensures text { IfOk result (λ text. IsChecked name.now (F.told files.old) (S.device_at store.old) (string_bytes text)) }
+    ensures refused { IfErr result (IsCheckRefusal name.now (F.told files.old) (S.device_at store.old)
+        (S.device_at store.new) (S.fault_count store.old) (S.fault_count store.new)) }
+    ensures kept { AreKept name.now (F.told files.old) (S.device_at store.old) (S.device_at store.new) }
+    ensures stays { F.told files.new ≡ F.told files.old }
+    ensures file_faults { F.fault_count files.new ≡ faults_after result (F.fault_count files.old) }
+    ensures store_faults { S.fault_count store.old < 2 ^ 64 → S.fault_count store.old ≤ S.fault_count store.new }
+{
+    let base = match base_of(alloc, files, name) {
+        Ok(base) => base,
+        Err(why) => return Err(why),
+    };
+    let cores = match open_tags(alloc, store, &base.tags) {
+        Ok(cores) => cores,
+        Err(why) => return Err(why),
+    };
+    match check_text(alloc, &base.tags, &cores) {
+        Ok(text) => Ok(text),
+        Err(_) => Err(Status::WantOfMemory),
+    }
+}
