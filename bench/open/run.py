@@ -1,0 +1,83 @@
+#!/usr/bin/env python3
+"""run.py: times the opening of a device of a million records, and one average over its whole span.
+
+Runs `trend` of the program that `rt run` left in crates/historian (or of the program that is named) beside `cat` of the device's
+file, seven times each in turn, with the file in the page cache. It tells medians, the ratio of the two, what was aimed at, and the
+peak memory for each record. It runs by hand, never as a test."""
+import os
+import statistics
+import struct
+import subprocess
+import sys
+import tempfile
+import time
+
+HERE = os.path.dirname(os.path.abspath(__file__))
+PROGRAM = os.path.join(os.path.dirname(os.path.dirname(HERE)), "crates", "historian", "out", "historian")
+RUNS = 7
+RECORDS = 1_000_000
+SLOTS = 64
+OPEN = b"\xa5"
+TUNING = (0, 1_000_000, 0, 0, 1_000_000)
+
+
+def points():
+    """Points of a line that goes up and down, so that each is kept."""
+    return ((1000 * k, k * 7919 % 20011 - 10000) for k in range(RECORDS))
+
+
+def summary():
+    """The summary of all records: the last one is held, and a new span hangs at it."""
+    last = struct.pack(">Qq", 1000 * (RECORDS - 1), (RECORDS - 1) * 7919 % 20011 - 10000)
+    numbers = b"".join(n.to_bytes(size, "big") for n, size in zip(TUNING, (7, 6, 7, 6, 6)))
+    return struct.pack(">QIB3x", RECORDS, RECORDS, 0x15) + last + bytes(16) + last + bytes(32) + numbers
+
+
+def lay(folder):
+    header = b"PHT1" + bytes([2]) + b"T1".ljust(64, b"\0") + struct.pack(">5QI14x", *TUNING, SLOTS)
+    path = os.path.join(folder, "historian.d", "T1.tag")
+    os.makedirs(os.path.dirname(path))
+    with open(path, "wb") as out:
+        out.write(OPEN + header + summary() + bytes(128) + OPEN + bytes(15) + bytes(1035 * SLOTS))
+        out.write(b"".join(b"K" + struct.pack(">Qq", t, v) for t, v in points()))
+    keys = zip(("exc_dev", "exc_max", "comp_dev", "comp_min", "comp_max"), TUNING)
+    texts = {
+        "base.toml": '[[tag]]\nname = "T1"\n' + "".join("%s = %d\n" % pair for pair in keys),
+        "plan.toml": '[[reader]]\nfile = "asked.csv"\n',
+        "asked.csv": "avg,T1,0,%d\n" % (1000 * (RECORDS - 1)),
+    }
+    for name, text in texts.items():
+        with open(os.path.join(folder, name), "w") as out:
+            out.write(text)
+    return path
+
+
+def run(folder, words):
+    """The seconds that the words took, the peak memory in kilobytes, and what was printed."""
+    start = time.perf_counter()
+    child = subprocess.run(["/usr/bin/time", "-f", "%M"] + words, cwd=folder, capture_output=True)
+    took = time.perf_counter() - start
+    if child.returncode != 0:
+        sys.exit("%s: %s" % (words, child.stdout[:200]))
+    return took, int(child.stderr), child.stdout
+
+
+def main():
+    program = os.path.abspath(sys.argv[1]) if len(sys.argv) > 1 else PROGRAM
+    with tempfile.TemporaryDirectory() as folder:
+        path = lay(folder)
+        size = os.path.getsize(path)
+        print("load", os.getloadavg())
+        trend = [program, "trend", "base.toml", "plan.toml"]
+        told = {"trend": [], "cat": []}
+        for _ in range(RUNS):
+            told["trend"].append(run(folder, trend))
+            told["cat"].append(run(folder, ["sh", "-c", "cat %s >/dev/null" % path]))
+        print(told["trend"][0][2].decode().strip())
+        ours, cat = (statistics.median(took for took, _, _ in told[name]) for name in ("trend", "cat"))
+        print("opened and asked: %.3f s, cat %.3f s, %.2f of its speed, aim 0.50" % (ours, cat, cat / ours))
+        peak = max(memory for _, memory, _ in told["trend"])
+        print("peak memory: %.1f bytes a record of %.1f bytes, aim 48" % (peak * 1024 / RECORDS, size / RECORDS))
+
+
+main()
