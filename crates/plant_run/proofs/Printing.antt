@@ -1,8 +1,7 @@
 -- What is printed of a text or of a refusal, and what words ask for.
-use Rattle.std.proofs.Common.{◌≡◌, ◌⊎◌, inl, inr, ℕ, List, Option, None, Some, Result, Ok, Err, IfOk, IfErr, OnOk, OnErr, ◌≢◌, String, Global, string_bytes, refl, sym, subst, ap, ◌∙◌}
+use Rattle.std.proofs.Common.{◌≡◌, inl, inr, ℕ, List, None, Some, Result, Ok, Err, IfOk, IfErr, OnOk, OnErr, ◌≢◌, String, Global, string_bytes, refl, sym, subst, ap, ◌∙◌}
 use Rattle.byte_io.specs.Outside.{Outside, CountsNoFault, IsWritten, IsCutShort}
-use Rattle.disk_model.specs.Traces.{Trace}
-use Rattle.plant_files.specs.Asked.{ToldFiles, IsQueriesRefusal}
+use Rattle.plant_files.specs.Asked.{ToldFiles}
 use Rattle.plant_files.specs.Reading.{faults_after, faults_told}
 use Rattle.store_commands.specs.Commands.{Devices, IsCheckRefusal, IsTrendRefusal, OfBase, OfGroup, OfPlan, OfReader, OfTag, OfMemory}
 use Rattle.trend_num.specs.declared.tuning.Tuning.{Tuning}
@@ -118,11 +117,12 @@ module _ (name plan_name : List ℕ) (told : ToldFiles) (old new : Devices) (bef
 -- ---- a run for whose words no memory was found
 
 pub memory_ends : (form : Form) (before now : World) → CountsNoFault before.input now.input
-    → IsTold before.output now.output WantOfMemory → now.file_faults ≡ before.file_faults → EndsFor form before now WantOfMemory
-memory_ends (Pack tuning) before now same told faults = ((same, told), faults)
-memory_ends (Check base) before now same told faults = ((inr (inr refl), told), faults)
-memory_ends (Trend base plan) before now same told faults = ((OfMemory refl, told), faults)
-memory_ends Unknown before now same told faults = (inr refl, told, faults)
+    → IsTold before.output now.output WantOfMemory → now.file_faults ≡ before.file_faults → now.input ≡ before.input
+    → EndsFor form before now WantOfMemory
+memory_ends (Pack tuning) before now same told faults left = ((same, told), faults)
+memory_ends (Check base) before now same told faults left = ((inr (inr refl), told), faults, left)
+memory_ends (Trend base plan) before now same told faults left = ((OfMemory refl, told), faults, left)
+memory_ends Unknown before now same told faults left = (inr refl, told, faults, left)
 
 -- devices that are as they were are kept
 pub same_kept : (form : Form) (told : ToldFiles) (devices : Devices) → KeepsFor form told devices devices

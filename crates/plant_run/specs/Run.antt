@@ -53,8 +53,8 @@ PrintsSo IsText IsRefusal before now Done = (text : List ℕ) × IsText text × 
 PrintsSo IsText IsRefusal before now WriteFault = (text : List ℕ) × IsText text × IsCutShort before now text
 PrintsSo IsText IsRefusal before now status = IsRefusal status × IsTold before now status
 
--- a run of words of this form ends in this status, and so many reads of files have failed as it tells. No memory may be found for
--- the words themselves
+-- a run of words of this form ends in this status, and so many reads of files have failed as it tells; `pack` alone reads the
+-- input. No memory may be found for the words themselves
 abbrev pub EndsFor : Form → World → World → Status → Type 0
 EndsFor (Pack tuning) before now status =
     PrintsSo (IsPacked tuning before.input now.input) (IsNotPacked tuning before.input now.input)
@@ -65,14 +65,17 @@ EndsFor (Check base) before now status =
     (IsCheckRefusal base before.files before.devices now.devices before.device_faults now.device_faults)
     before.output now.output status
     × (now.file_faults ≡ faults_told status before.file_faults)
+    × (now.input ≡ before.input)
 EndsFor (Trend base plan) before now status =
     PrintsSo (IsTrend base plan before.files before.devices)
     (IsTrendRefusal base plan before.files before.devices now.devices before.device_faults now.device_faults)
     before.output now.output status
     × (now.file_faults ≡ faults_told status before.file_faults)
+    × (now.input ≡ before.input)
 EndsFor Unknown before now status =
     ((status ≡ BadWords) ⊎ (status ≡ WantOfMemory)) × IsTold before.output now.output status
     × (now.file_faults ≡ before.file_faults)
+    × (now.input ≡ before.input)
 
 -- a run of these words ends in this status
 abbrev pub EndsIn : List (List ℕ) → World → World → Status → Type 0

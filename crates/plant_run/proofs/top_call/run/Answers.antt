@@ -1,6 +1,5 @@
-use Rattle.std.proofs.Common.{◌≡◌, map, string_bytes, sym, subst}
+use Rattle.std.proofs.Common.{refl, map, string_bytes}
 use Rattle.store_commands.specs.Commands.{IsCheckRefusal, IsChecked, IsTrend, IsTrendRefusal}
-use Rattle.plant_run.specs.Run.{EndsFor, KeepsFor, World}
 use Rattle.plant_run.proofs.Printing.{answered_so, faults_so, check_no_fault, check_not_done, form_check, form_trend, trend_no_fault, trend_not_done}
 use Rattle.plant_run.proofs.top_call.run.Goals as goal
 
@@ -19,6 +18,7 @@ returns-in-Some-clause-ends g c =
           c.finish.result c.check.ensures.text c.check.ensures.refused (check_not_done base base told old new faults more)
           (check_no_fault base base told old new faults more) c.finish.ensures.text c.finish.ensures.refused),
       faults_so before now c.check.result c.finish.result _ _ c.check.ensures.file_faults c.finish.ensures.text c.finish.ensures.refused,
+      refl,
     )
 
 pub returns-in-Some-clause-devices : goal.returns-in-Some-clause-devices
@@ -43,6 +43,7 @@ returns-in-Some-trend_files-clause-ends g c =
           c.finish-in-Some-trend_files.ensures.text c.finish-in-Some-trend_files.ensures.refused),
       faults_so before now c.trend.result c.finish-in-Some-trend_files.result _ _ c.trend.ensures.file_faults
           c.finish-in-Some-trend_files.ensures.text c.finish-in-Some-trend_files.ensures.refused,
+      refl,
     )
 
 pub returns-in-Some-trend_files-clause-devices : goal.returns-in-Some-trend_files-clause-devices

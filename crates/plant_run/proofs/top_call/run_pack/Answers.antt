@@ -1,4 +1,3 @@
-use Rattle.std.proofs.Common.{◌≡◌}
 use Rattle.trend_model.proofs.BoundLaw.{bounded}
 use Rattle.pack_command.specs.Pack.{history_of, origin_of}
 use Rattle.plant_run.specs.Run.{IsNotPacked, IsPacked}
