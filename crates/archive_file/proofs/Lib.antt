@@ -3,3 +3,4 @@ mod Flags
 mod Parts
 pub mod Joins
 pub mod Logs
+pub mod Spellings

@@ -12,6 +12,7 @@ pub mod LayoutMoments
 pub mod Logged
 pub mod Made
 pub mod MadeSeats
+pub mod OneState
 pub mod Openings
 pub mod Pieces
 pub mod Places

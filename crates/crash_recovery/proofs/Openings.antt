@@ -1,29 +1,30 @@
 -- What each image recovers while a tag's device is opened.
 use Rattle.std.proofs.Common.{◌≡◌, ◌≢◌, ◌⊎◌, inl, inr, ⊎_elim, ℕ, ◌+◌, ◌^◌, ◌<◌, ◌≤◌, Bool, true, false, List}
 use Rattle.std.proofs.Common.{[], ◌∷◌, length}
-use Rattle.std.proofs.Common.{Option, None, Some, IfSome, Result, refl, sym, ◌∙◌, ap, subst, arith}
+use Rattle.std.proofs.Common.{Option, None, Some, Result, refl, sym, ◌∙◌, ap, subst, arith}
 use Rattle.trend_num.specs.declared.tuning.Tuning.{Tuning}
 use Rattle.trend_num.specs.declared.tag_def.TagDef.{TagDef}
 use Rattle.trend_model.specs.History.{Event, Tune, Origin, in_force}
 use Rattle.trend_model.specs.State.{Stands}
 use Rattle.trend_model.proofs.StateLaw.{stands_after}
-use Rattle.trend_model.specs.State.{State, nothing_taken, after, after_under, replay}
+use Rattle.trend_model.specs.State.{State, nothing_taken, after, after_under}
 use Rattle.disk_model.specs.Traces.{Trace, Synced, Idle, seen, noted}
-use Rattle.disk_model.specs.Images.{MayLeave, Now, IsSettled}
+use Rattle.disk_model.specs.Images.{MayLeave, IsSettled}
 use Rattle.disk_model.specs.Moments.{During}
 use Rattle.disk_model.specs.Calls.{IsNoted}
-use Rattle.disk_model.specs.Gates.{IsOpen}
 use Rattle.disk_model.proofs.Images.{synced_now, settled}
 use Rattle.disk_model.proofs.Moments.{started, goes_on, weaker, in_turn, during_now}
 use Rattle.crash_recovery.specs.declared.seat.Seat.{Seat}
 use Rattle.crash_recovery.specs.Recovery.{IsNew, IsRecovered, Recovers, in_force as in_force_of}
 use Rattle.crash_recovery.specs.Journals.{AllRecover, GoesOnFrom, RecoversEither, IsSeat, SeatedOn}
 use Rattle.crash_recovery.specs.Opening.{Shows, IsOpenedAs, IsCountable, RecoversSame, IsLeftOrSame, StaysSame}
-use Rattle.crash_recovery.specs.Opening.{RecoversThen, OpensAs, IsReadAs, IsFull, IsOther, IsCause}
+use Rattle.crash_recovery.specs.Opening.{RecoversThen, OpensAs, HasSlots, IsReadAs, IsFull, IsOther, IsCause}
 use Rattle.crash_recovery.specs.declared.failure.OpenNo.{OpenNo}
 use Rattle.crash_recovery.specs.declared.failure.OpenNo.TheVariants.{DeviceFault, Damaged, OtherTag, Full}
 use Rattle.crash_recovery.specs.declared.failure.OpenNo.TheVariants.{WantOfMemory}
 use Rattle.crash_recovery.specs.Damages.{IsTagDamage}
+use Rattle.crash_recovery.specs.Standing.{ImageStands, StandsOpened}
+use Rattle.crash_recovery.proofs.OneState.{one_state}
 use Rattle.crash_recovery.proofs.Reading.{rose_before}
 use Rattle.trend_num.specs.declared.archive.TheConstants.{MAX_RECORDS}
 
@@ -188,6 +189,28 @@ recovers_retuned def (Some t) mid new step r kind read promise = λ countable.
     promise (few def t mid new step r kind read countable) def read.0 read.2
     (goes def t mid new step r kind read countable)
 
+-- ---- how many lane slots there are
+
+pub slots_made : (o mid : Option Trace) (wanted slots : ℕ) → mid ≡ noted Synced o → slots ≡ wanted → Shows mid IsNew
+    → Shows o (HasSlots wanted slots)
+slots_made o mid wanted slots is same new = shown_before o mid (HasSlots wanted slots) is (made mid new)
+  where
+    made : (m : Option Trace) → Shows m IsNew → Shows m (HasSlots wanted slots)
+    made None shows = tt
+    made (Some t) shows = inl (shows, same)
+
+pub slots_kept : (o mid : Option Trace) (wanted : ℕ) (p : Seat) → mid ≡ noted Synced o → Shows mid (IsSeat p)
+    → Shows o (HasSlots wanted p.lane.slots)
+slots_kept o mid wanted p is seat = shown_before o mid (HasSlots wanted p.lane.slots) is (kept mid seat)
+  where
+    not_new : (c : List ℕ) → IsSeat p c → IsNew c → ⊥
+    not_new c stands (inl short) = absurd (omega (arith, short, stands.long))
+    not_new c stands (inr shut) = shut stands.opened
+
+    kept : (m : Option Trace) → Shows m (IsSeat p) → Shows m (HasSlots wanted p.lane.slots)
+    kept None shows = tt
+    kept (Some t) shows = inr (not_new _ shows, shows.slots)
+
 -- ---- a tag that has to be retuned and is full
 
 pub full_shown : (def : TagDef) (o : Option Trace) (n : ℕ) (s : State) → Shows o (λ c. IsRecovered def c s)
@@ -204,15 +227,46 @@ tuning_after step s u w is = ap (λ t. (after_under step s (Tune w) t).summary.t
 
 -- ---- for which history it stands
 
-pub stands_same : (def : TagDef) (o : Origin) (h : List Event) (s r : State) → o.step ≡ def.step → Stands o h s
-    → IsOpenedAs def s r → in_force o h ≡ def.tuning → Stands o h r
-stands_same def o h s r step stands (inl opened) tuned = subst (Stands o h) (sym opened.1) stands
-stands_same def o h s r step stands (inr opened) tuned = absurd (opened.0 (stands.tuned ∙ ap Some tuned))
+-- what is opened of a state that stands for it
+stands_opened : (def : TagDef) (o : Origin) (h : List Event) (s r : State) → o.step ≡ def.step → Stands o h s
+    → IsOpenedAs def s r → StandsOpened def o h r
+stands_opened def o h s r step stands (inl opened) =
+    inl (ap (λ t. in_force_of (in_force o h) t) (sym stands.tuned ∙ opened.0), subst (Stands o h) (sym opened.1) stands)
+stands_opened def o h s r step stands (inr opened) =
+    inr (
+      λ tuned. opened.0 (stands.tuned ∙ ap Some tuned),
+      subst (Stands o (Tune def.tuning ∷ h)) (sym opened.1)
+          (subst (λ k. Stands o (Tune def.tuning ∷ h) (after k s (Tune def.tuning))) step (stands_after o h
+          (Tune def.tuning) s stands)),
+    )
 
-pub stands_retuned : (def : TagDef) (o : Origin) (h : List Event) (s r : State) → o.step ≡ def.step → Stands o h s
-    → IsOpenedAs def s r → in_force o h ≢ def.tuning → Stands o (Tune def.tuning ∷ h) r
-stands_retuned def o h s r step stands (inl opened) other =
-    absurd (other (ap (λ t. in_force_of (in_force o h) t) (sym stands.tuned ∙ opened.0)))
-stands_retuned def o h s r step stands (inr opened) other = subst (Stands o (Tune def.tuning ∷ h)) (sym opened.1)
-    (subst (λ k. Stands o (Tune def.tuning ∷ h) (after k s (Tune def.tuning))) step (stands_after o h
-    (Tune def.tuning) s stands))
+-- what the image recovers stands for it, since that is one state
+recovered_stands : (def : TagDef) (o : Origin) (h : List Event) (c : List ℕ) (s : State) → ImageStands def o h c
+    → Recovers def c s → Stands o h s
+recovered_stands def o h c s image recovered =
+    subst (Stands o h) (one_state def c image.state s image.recovered recovered) image.stands
+
+pub opened_stands : (def : TagDef) (o : Origin) (h : List Event) (c : List ℕ) (s r : State) → ImageStands def o h c
+    → Recovers def c s → IsOpenedAs def s r → StandsOpened def o h r
+opened_stands def o h c s r image recovered opened =
+    stands_opened def o h s r image.same_step (recovered_stands def o h c s image recovered) opened
+
+pub image_stands : (def : TagDef) (o : Origin) (h : List Event) (before c : List ℕ) → ImageStands def o h before
+    → RecoversSame def before c → ImageStands def o h c ⊎ ImageStands def o (Tune def.tuning ∷ h) c
+image_stands def o h before c image (s, r, recovered, opened, inl same) = inl (record {
+  state = s;
+  same_step = image.same_step;
+  recovered = same;
+  stands = recovered_stands def o h before s image recovered;
+})
+image_stands def o h before c image (s, r, recovered, opened, inr later) =
+    ⊎_elim (λ both. inl (stood h both.1)) (λ both. inr (stood (Tune def.tuning ∷ h) both.1))
+    (opened_stands def o h before s r image recovered opened)
+  where
+    stood : (l : List Event) → Stands o l r → ImageStands def o l c
+    stood l stands = record {
+      state = r;
+      same_step = image.same_step;
+      recovered = later;
+      stands = stands;
+    }

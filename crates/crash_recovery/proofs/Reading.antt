@@ -1,6 +1,6 @@
 -- What was read of a device stands on it: the header, the slot that counts, its summary, and where they are broken.
-use Rattle.std.proofs.Common.{◌≡◌, ◌≢◌, ◌⊎◌, inl, inr, ℕ, ◌+◌, ◌*◌, ◌<◌, ◌≤◌, Bool, List, [], length, take, drop}
-use Rattle.std.proofs.Common.{get_or, Option, None, Some, refl, sym, ◌∙◌, ap, subst, arith, cond, nat_le, nat_eq}
+use Rattle.std.proofs.Common.{◌≡◌, inl, inr, ℕ, ◌+◌, ◌<◌, ◌≤◌, Bool, List, [], length, take, drop}
+use Rattle.std.proofs.Common.{get_or, Option, None, Some, refl, sym, ◌∙◌, ap, subst, arith, nat_le, nat_eq}
 use Rattle.std.proofs.lemmas.List.{take-take, get_or-take, get_or-drop}
 use Rattle.std.specs.Int.{w64, from_be_bytes}
 use Rattle.trend_num.specs.declared.archive.Summary.{Summary}
@@ -19,11 +19,10 @@ use Rattle.crash_recovery.specs.declared.slot.Slot.{Slot}
 use Rattle.crash_recovery.specs.declared.slot.Slot.TheVariants.{First, Second}
 use Rattle.crash_recovery.specs.Headers.{def_in, tuning_in, slots_in, IsHeader, IsHeaderBroken}
 use Rattle.crash_recovery.specs.SlotFields.{IsSlotBroken}
-use Rattle.crash_recovery.specs.Recovery.{header_of, log_place, summary_place, summary_gate, slot_bytes}
+use Rattle.crash_recovery.specs.Recovery.{header_of, log_place, summary_place, slot_bytes}
 use Rattle.crash_recovery.specs.Recovery.{is_open, taken_in, chosen}
-use Rattle.crash_recovery.specs.Recovery.{counting, HasSummary, in_force, no_summary, IsOfTag, IsStored}
-use Rattle.crash_recovery.specs.Damages.{EndsBefore, StandsThere, IsHeaderDamage, IsLayoutDamage, IsSummaryDamage}
-use Rattle.crash_recovery.specs.Damages.{IsLogDamage, ArePartsDamaged, IsTagDamage}
+use Rattle.crash_recovery.specs.Recovery.{counting, HasSummary, in_force, no_summary, IsOfTag}
+use Rattle.crash_recovery.specs.Damages.{IsTagDamage}
 use Rattle.crash_recovery.specs.Damages.IsTagDamage.{EndsShort, BadHeader, BadLayout, BadSummary, BadLog, BadParts}
 use Rattle.crash_recovery.specs.Opening.{IsOther, IsFull, HasHeader, HasLayout, CountsSummary, IsReadFrom}
 use Rattle.crash_recovery.specs.Opening.{IsCause, refusal_of}

@@ -1,20 +1,20 @@
 -- Where a tag's device first breaks the layout: eleven rules, each tested where all before it hold.
-use Rattle.std.specs.Prelude.{◌≡◌, ◌⊎◌, ℕ, ◌+◌, ◌*◌, ◌<◌, ◌≤◌, Bool, List, length, take, map, slice_index}
+use Rattle.std.specs.Prelude.{◌≡◌, ℕ, ◌+◌, ◌*◌, ◌<◌, ◌≤◌, List, length, take, map, slice_index}
 use Rattle.std.specs.Prelude.{Option, None, Some}
 use Rattle.trend_num.specs.declared.archive.TheConstants.{MAX_RECORDS}
 use Rattle.trend_num.specs.declared.archive.Rec.{Rec}
 use Rattle.trend_num.specs.declared.archive.Summary.{Summary}
 use Rattle.trend_num.specs.declared.tag_def.TagDef.{TagDef}
-use Rattle.trend_model.specs.History.{Event, Raw}
+use Rattle.trend_model.specs.History.{Raw}
 use Rattle.trend_model.specs.Parts.{ArePartsOk}
-use Rattle.trend_model.specs.State.{State, replay}
+use Rattle.trend_model.specs.State.{replay}
 use Rattle.disk_model.specs.Gates.{IsOpen}
 use Rattle.archive_file.specs.Places.{HasRecords, IsDamage}
 use Rattle.event_queue.specs.Slots.{gate_of, place_of, batch_at}
 use Rattle.event_queue.specs.Lanes.{lane_points, points_before, points_beyond, IsLane}
 use Rattle.event_queue.specs.Damages.{IsLaneDamage}
 use Rattle.crash_recovery.specs.declared.slot.Slot.{Slot}
-use Rattle.crash_recovery.specs.Headers.{tuning_in, slots_in, IsHeader, IsHeaderBroken}
+use Rattle.crash_recovery.specs.Headers.{tuning_in, slots_in, IsHeaderBroken}
 use Rattle.crash_recovery.specs.SlotFields.{IsSlotBroken}
 use Rattle.crash_recovery.specs.Recovery.{header_of, log_place, summary_place, slot_bytes, counting, HasSummary}
 use Rattle.crash_recovery.specs.Recovery.{in_force, start_of, AllFit, IsOfTag, IsStored}

@@ -3,7 +3,7 @@
 -- its length, the five numbers of the tuning with which the tag was made, how many lane slots there are, and
 -- whether it is a
 -- step tag. The rest is zeros.
-use Rattle.std.specs.Prelude.{◌≡◌, ℕ, ◌+◌, ◌-◌, ◌<◌, ◌≤◌, ◌&&◌, Bool, true, List, ◌++◌, ◌∷◌, [], length, take}
+use Rattle.std.specs.Prelude.{◌≡◌, ℕ, ◌+◌, ◌-◌, ◌&&◌, Bool, true, List, ◌++◌, ◌∷◌, length, take}
 use Rattle.std.specs.Prelude.{drop, replicate}
 use Rattle.std.specs.Prelude.{slice_index, codes, nat_le, nat_eq, if◌then◌else◌, cond}
 use Rattle.std.specs.Int.{w32, w64, from_be_bytes}

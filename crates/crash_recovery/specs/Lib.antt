@@ -7,3 +7,4 @@ pub mod Journals
 pub mod Seats
 pub mod Layouts
 pub mod Opening
+pub mod Standing

@@ -2,13 +2,11 @@
 use Rattle.std.specs.Prelude.{◌≡◌, ◌≢◌, ◌⊎◌, ℕ, ◌+◌, ◌^◌, ◌<◌, ◌≤◌, Bool, true, false, List, length, Option}
 use Rattle.std.specs.Prelude.{Some, IfSome}
 use Rattle.trend_num.specs.declared.archive.TheConstants.{MAX_RECORDS}
-use Rattle.trend_num.specs.declared.archive.Rec.{Rec}
 use Rattle.trend_num.specs.declared.archive.Summary.{Summary}
 use Rattle.trend_num.specs.declared.point.Point.{Point}
 use Rattle.trend_num.specs.declared.tuning.Tuning.{Tuning}
 use Rattle.trend_num.specs.declared.tag_def.TagDef.{TagDef}
-use Rattle.trend_model.specs.History.{Event, Raw, Tune}
-use Rattle.trend_model.specs.Parts.{ArePartsOk}
+use Rattle.trend_model.specs.History.{Tune}
 use Rattle.trend_model.specs.State.{State, after}
 use Rattle.disk_model.specs.Traces.{Trace, seen}
 use Rattle.disk_model.specs.Images.{MayLeave}
@@ -27,7 +25,7 @@ use Rattle.crash_recovery.specs.Headers.{def_in, tuning_in, slots_in, IsHeader}
 use Rattle.crash_recovery.specs.declared.header.Header.{Header}
 use Rattle.crash_recovery.specs.declared.slot.Slot.{Slot}
 use Rattle.crash_recovery.specs.declared.layout_reader.Stored.{Stored}
-use Rattle.crash_recovery.specs.Recovery.{header_of, log_place, counting, HasSummary, in_force, IsOfTag}
+use Rattle.crash_recovery.specs.Recovery.{IsNew, header_of, log_place, counting, HasSummary, in_force, IsOfTag}
 use Rattle.crash_recovery.specs.Recovery.{IsStored, Recovers}
 use Rattle.crash_recovery.specs.Journals.{AllRecover}
 use Rattle.crash_recovery.specs.Damages.{StandsThere, IsValuePlace, IsTagDamage}
@@ -135,6 +133,10 @@ IsOverfull o slots taken n before now why = ⊥
 abbrev pub OpensAs : TagDef → Bool → State → State → Type 0
 OpensAs def false s r = (s.summary.tuning ≡ Some def.tuning) × (r ≡ s)
 OpensAs def true s r = (s.summary.tuning ≢ Some def.tuning) × (r ≡ after def.step s (Tune def.tuning))
+
+-- a new device gets the wanted number of lane slots, and any other keeps those that its header tells
+abbrev pub HasSlots : ℕ → ℕ → List ℕ → Type 0
+HasSlots wanted slots c = (IsNew c × (slots ≡ wanted)) ⊎ ((IsNew c → ⊥) × (slots ≡ slots_in (header_of c)))
 
 -- what a device shows at first is recovered of it now, and this is that state as it is opened
 abbrev pub IsReadAs : TagDef → Option Trace → Option Trace → Bool → State → Type 0

@@ -1,15 +1,23 @@
-// What an opened tag stands for.
-ghost use Rattle.std.specs.Prelude.{◌≡◌, ◌≢◌, ◌⊎◌, List, ◌∷◌};
+// What a device recovers, and what that stands for.
+ghost use Rattle.std.specs.Prelude.{◌≡◌, ◌⊎◌, ℕ, List, ◌∷◌};
 ghost use Rattle.trend_num.specs.declared.tag_def.TagDef.{TagDef};
-ghost use Rattle.trend_model.specs.History.{Event, Origin, Tune, in_force};
-ghost use Rattle.trend_model.specs.State.{Stands, State};
-ghost use Rattle.crash_recovery.specs.Opening.{IsOpenedAs};
+ghost use Rattle.trend_model.specs.History.{Event, Origin, Tune};
+ghost use Rattle.trend_model.specs.State.{State};
+ghost use Rattle.crash_recovery.specs.Recovery.{Recovers};
+ghost use Rattle.crash_recovery.specs.Opening.{IsOpenedAs, RecoversSame};
+ghost use Rattle.crash_recovery.specs.Standing.{ImageStands, StandsOpened};
+
+/// An image of a tag's device recovers one state at most: no records, no summary and no value are spelled in two ways.
+pub fn one_state_is_recovered()
+    ensures { (def : TagDef) (c : List ℕ) (s r : State) → Recovers def c s → Recovers def c r → s ≡ r }
+{}
 
 /// For each history for which a tag's device stood, what is opened of it stands for that history where the wanted tuning is
-/// in force after it, and else for that history and a retuning.
+/// in force after it, and else for that history and a retuning. So does each image that recovers the same, or that as it is
+/// opened.
 pub fn an_opened_tag_stands()
-    ensures same { (def : TagDef) (o : Origin) (h : List Event) (s r : State) → o.step ≡ def.step → Stands o h s
-        → IsOpenedAs def s r → in_force o h ≡ def.tuning → Stands o h r }
-    ensures retuned { (def : TagDef) (o : Origin) (h : List Event) (s r : State) → o.step ≡ def.step → Stands o h s
-        → IsOpenedAs def s r → in_force o h ≢ def.tuning → Stands o (Tune def.tuning ∷ h) r }
+    ensures opened { (def : TagDef) (o : Origin) (h : List Event) (c : List ℕ) (s r : State) → ImageStands def o h c
+        → Recovers def c s → IsOpenedAs def s r → StandsOpened def o h r }
+    ensures images { (def : TagDef) (o : Origin) (h : List Event) (seen c : List ℕ) → ImageStands def o h seen
+        → RecoversSame def seen c → ImageStands def o h c ⊎ ImageStands def o (Tune def.tuning ∷ h) c }
 {}

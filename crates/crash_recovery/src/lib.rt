@@ -28,7 +28,7 @@ mod slot_field;
 
 pub use failure::{OpenFail, OpenNo};
 pub use journal::Journal;
-pub use law::an_opened_tag_stands;
+pub use law::{an_opened_tag_stands, one_state_is_recovered};
 pub use opening::{Opened, open_tag};
 pub use slot::Slot;
 

@@ -13,7 +13,7 @@ ghost use Rattle.crash_recovery.specs.declared.failure.OpenNo.TheVariants.{Devic
 ghost use Rattle.crash_recovery.specs.Recovery.{IsNew, IsRecovered, Recovers};
 ghost use Rattle.crash_recovery.specs.Journals.{AllRecover, GoesOnFrom, RecoversEither, IsSeat, SeatedOn};
 ghost use Rattle.crash_recovery.specs.Opening.{Shows, IsOpenedAs, OpensAs, StaysSame, RecoversThen};
-ghost use Rattle.crash_recovery.specs.Opening.{IsLeftOrSame, IsReadAs};
+ghost use Rattle.crash_recovery.specs.Opening.{HasSlots, IsLeftOrSame, IsReadAs};
 ghost use Rattle.crash_recovery.specs.Opening.{IsCause, refusal_of_put};
 
 use crate::layout::make_layout;
@@ -64,6 +64,7 @@ pub fn open_tag<D: Disk>(
         × IsOpenedAs def.now s o.core.state)) }
     ensures recovers { IfOk result (λ o. RecoversThen def.now (D.trace dev) (D.trace o.journal.dev) o.core.state) }
     ensures acked { IfOk result (λ o. o.journal.acked ≡ o.core.state.summary.taken) }
+    ensures slots { IfOk result (λ o. Shows (D.trace dev) (HasSlots lane_slots o.journal.slots)) }
     ensures usable { IfOk result (λ o. o.journal.failed ≡ false) }
     ensures step { IfOk result (λ o. o.core.step ≡ def.now.step) }
     ensures tuning { IfOk result (λ o. o.core.state.summary.tuning ≡ Some def.now.tuning) }
@@ -106,6 +107,7 @@ impl<D: Disk> Opened<D> {
             → AllRecover def (D.trace o.journal.dev) self.core.state) }
         ensures core { IfOk result (λ o. o.core ≡ self.core) }
         ensures acked { IfOk result (λ o. o.journal.acked ≡ self.core.state.summary.taken) }
+        ensures slots { IfOk result (λ o. o.journal.slots ≡ self.journal.slots) }
         ensures usable { IfOk result (λ o. o.journal.failed ≡ false) }
         ensures cause { IfErr result (λ e. (e.why ≡ DeviceFault)
             ⊎ (e.why ≡ WantOfMemory)) }
@@ -153,6 +155,7 @@ fn read_tag<L: Ledger, D: Disk>(
         IsReadAs def.now (D.trace dev.old) (D.trace dev.new) r.retuned r.core.state) }
     ensures seated { IfOk result (λ r. SeatedOn r.seat (D.trace dev.new)) }
     ensures slots { IfOk result (λ r. (1 ≤ r.seat.lane.slots) × (r.seat.lane.slots ≤ 65536)) }
+    ensures lane { IfOk result (λ r. Shows (D.trace dev.old) (HasSlots lane_slots r.seat.lane.slots)) }
     ensures used { IfOk result (λ r. r.seat.lane.used ≤ r.seat.lane.slots) }
     ensures acked { IfOk result (λ r. r.retuned ≡ false → r.seat.lane.next ≡ r.core.state.summary.taken) }
     ensures step { IfOk result (λ r. r.core.step ≡ def.now.step) }

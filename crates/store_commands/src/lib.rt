@@ -6,6 +6,7 @@
 //! leaves of each device what one before might have left, or what recovers the same.
 #![tactic(auto)]
 
+mod opened;
 mod replies;
 mod tag_lines;
 #[cfg(test)]

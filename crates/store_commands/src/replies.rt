@@ -4,13 +4,13 @@ ghost use Rattle.trend_command.specs.Told.{IsAsked, trend_text};
 ghost use Rattle.plant_files.specs.Reading.{faults_after};
 ghost use Rattle.store_commands.specs.Commands.{AreKept, IsTrend, IsTrendRefusal};
 
+use crate::opened::open_base;
 use byte_io::Files;
 use disk_model::Store;
 use plant_files::{ReaderQueries, base_of, plan_of, queries_of};
 use plant_status::Status;
 use std::alloc::{AllocError, Global};
 use tag_core::TagCore;
-use tag_store::open_tags;
 use trend_command::trend_text;
 use trend_num::WantOfMemory;
 use value_rows::Query;
@@ -48,7 +48,7 @@ pub fn trend<F: Files, S: Store>(
         Ok(readers) => readers,
         Err(why) => return Err(why),
     };
-    let cores = match open_tags(alloc, store, &base.tags) {
+    let cores = match open_base(alloc, store, &base) {
         Ok(cores) => cores,
         Err(why) => return Err(why),
     };

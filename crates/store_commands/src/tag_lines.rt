@@ -3,12 +3,13 @@ ghost use Rattle.std.specs.Prelude.{◌^◌, ◌<◌, ◌≤◌, ◌≡◌, stri
 ghost use Rattle.plant_files.specs.Reading.{faults_after};
 ghost use Rattle.store_commands.specs.Commands.{AreKept, IsCheckRefusal, IsChecked};
 
+use crate::opened::open_base;
 use byte_io::Files;
 use disk_model::Store;
 use plant_files::base_of;
 use plant_status::Status;
 use std::alloc::Global;
-use tag_store::{check_text, open_tags};
+use tag_store::check_text;
 
 /// What `check` prints: a line for each tag of the base that the file of this name holds. The device of each tag is opened,
 /// and made where there is none.
@@ -30,7 +31,7 @@ pub fn check<F: Files, S: Store>(
         Ok(base) => base,
         Err(why) => return Err(why),
     };
-    let cores = match open_tags(alloc, store, &base.tags) {
+    let cores = match open_base(alloc, store, &base) {
         Ok(cores) => cores,
         Err(why) => return Err(why),
     };

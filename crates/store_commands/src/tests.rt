@@ -1,4 +1,6 @@
 // The commands over files and devices in memory, and which of several refusals is told.
+mod sessions;
+
 use crate::{check, trend};
 use byte_io::MemFiles;
 use disk_model::{MemDisk, MemStore};

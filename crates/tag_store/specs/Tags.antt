@@ -2,11 +2,13 @@
 use Rattle.std.specs.Prelude.{◌≡◌, ◌≢◌, ℕ, List, ◌++◌, length, codes, Option, All, AllPairs}
 use Rattle.std.specs.List.{AllZip, sum_by}
 use Rattle.trend_num.specs.declared.tag_def.TagDef.{TagDef}
+use Rattle.trend_model.specs.History.{Event, Origin}
 use Rattle.trend_model.specs.State.{State}
 use Rattle.tag_core.specs.Core.{Core}
 use Rattle.disk_model.specs.Traces.{Trace}
 use Rattle.crash_recovery.specs.Recovery.{Recovers}
 use Rattle.crash_recovery.specs.Opening.{Shows, IsOpenedAs, StaysSame}
+use Rattle.crash_recovery.specs.Standing.{ImageStands, StandsOpened}
 
 -- what a tag's device is called
 abbrev pub device_name : List ℕ → List ℕ
@@ -20,9 +22,11 @@ trace_of traces def = traces (device_name def.name)
 abbrev pub AreDistinct : List TagDef → Type 0
 AreDistinct tags = AllPairs (λ a b. a.name ≢ b.name) tags
 
--- an opened tag has what its device recovers, as it is opened, and is of the wanted kind
+-- an opened tag has what its device recovers, as it is opened; for each history for which the device stood it stands for that, or
+-- for that and a retuning; and it is of the wanted kind
 pub record IsOpened (def : TagDef) (o : Option Trace) (core : Core) : Type 0 where
   pub state : Shows o (λ c. (s : State) × Recovers def c s × IsOpenedAs def s core.state)
+  pub stands : (p : Origin) (h : List Event) → Shows o (λ c. ImageStands def p h c → StandsOpened def p h core.state)
   pub step : core.step ≡ def.step
 
 -- there is one opened tag for each of these, in its place

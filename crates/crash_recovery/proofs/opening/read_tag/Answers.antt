@@ -1,9 +1,10 @@
-use Rattle.std.proofs.Common.{◌≡◌, ◌∙◌, arith, false, sym, subst}
+use Rattle.std.proofs.Common.{◌≡◌, ◌∙◌, ap, arith, false, sym, subst}
 use Rattle.trend_model.specs.State.{State, nothing_taken}
 use Rattle.crash_recovery.specs.Recovery.{IsNew, IsRecovered}
-use Rattle.crash_recovery.specs.Opening.{Shows, OpensAs, IsLeftOrSame, IsReadAs, IsCause}
+use Rattle.crash_recovery.specs.Opening.{Shows, HasSlots, OpensAs, IsLeftOrSame, IsReadAs, IsCause}
+use Rattle.crash_recovery.specs.Journals.{IsSeat}
 use Rattle.crash_recovery.proofs.Shows.{shows_after, if_ok, if_ok₂, if_err}
-use Rattle.crash_recovery.proofs.Openings.{synced_during, during_same, made_during, made_as, read_as, cause_synced}
+use Rattle.crash_recovery.proofs.Openings.{synced_during, during_same, made_during, made_as, read_as, slots_made, slots_kept, cause_synced}
 use Rattle.crash_recovery.proofs.opening.read_tag.Goals as goal
 
 pub returns-in_default-clause-any_moment : goal.returns-in_default-clause-any_moment
@@ -31,6 +32,16 @@ returns-in-Ok-true-clause-opened g c =
     ∙ c.in-Ok.ensures.noted) blank c.made.ensures.any_moment core))
     c.made.ensures.core c.made.ensures.retuned
 
+pub returns-in-Ok-true-clause-lane : goal.returns-in-Ok-true-clause-lane
+returns-in-Ok-true-clause-lane g c =
+    let o = g.D.Disk.trace c.args.dev.now in
+    let mid = g.D.Disk.trace c.is_new.new.dev in
+    let same = c.in-Ok-true.ensures.same in
+    let blank = shows_after _ _ IsNew same (c.in-Ok-true.ensures.new c.in-Ok-true.field-0-test) in
+    if_ok c.made.result (λ r. r.seat.lane ≡ record { slots = c.args.lane_slots; used = 0; next = 0 })
+    (λ r. Shows o (HasSlots c.args.lane_slots r.seat.lane.slots))
+    (λ r lane. slots_made o mid _ _ (same ∙ c.in-Ok.ensures.noted) (ap (λ l. l.slots) lane) blank) c.made.ensures.lane
+
 pub returns-in-Ok-false-clause-any_moment : goal.returns-in-Ok-false-clause-any_moment
 returns-in-Ok-false-clause-any_moment g c =
     let def = c.args.def.now in
@@ -49,6 +60,15 @@ returns-in-Ok-false-clause-opened g c =
     (λ r. IsReadAs def o new r.retuned r.core.state)
     (λ r opened. subst (λ x. IsReadAs def o x r.retuned r.core.state) (sym c.read_back.ensures.same)
     (read_as def o mid r.retuned r.core.state is opened)) c.read_back.ensures.opened
+
+pub returns-in-Ok-false-clause-lane : goal.returns-in-Ok-false-clause-lane
+returns-in-Ok-false-clause-lane g c =
+    let o = g.D.Disk.trace c.args.dev.now in
+    let mid = g.D.Disk.trace c.is_new.new.dev in
+    let is = c.in-Ok-false.ensures.same ∙ c.in-Ok.ensures.noted in
+    if_ok c.read_back.result (λ r. Shows mid (IsSeat r.seat))
+    (λ r. Shows o (HasSlots c.args.lane_slots r.seat.lane.slots))
+    (λ r seat. slots_kept o mid _ r.seat is seat) c.read_back.ensures.seat
 
 pub returns-in-Ok-false-clause-cause : goal.returns-in-Ok-false-clause-cause
 returns-in-Ok-false-clause-cause g c =
