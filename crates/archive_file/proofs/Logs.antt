@@ -1,12 +1,13 @@
 -- Records read and written one after the other.
 use Rattle.std.proofs.Common.{◌≡◌, ⊎_elim, inl, inr, ℕ, ◌+◌, ◌*◌, ◌-◌, ◌<◌, ◌≤◌, List, [], ◌∷◌, ◌++◌, length}
-use Rattle.std.proofs.Common.{get_or, take, drop, Option, None, Some, unsigned_abs, sym, ap, ◌∙◌, subst}
-use Rattle.std.proofs.Common.{arith, zero-add, IfSome}
+use Rattle.std.proofs.Common.{get_or, take, drop, Option, None, Some, unsigned_abs, refl, sym, ap, ◌∙◌, subst}
+use Rattle.std.proofs.Common.{arith, zero-add, IfSome, length-append}
 use Rattle.disk_model.specs.Traces.{Trace, seen}
 use Rattle.disk_model.specs.Calls.{HasLength, Reaches, Reads}
 use Rattle.std.proofs.Math.Seq.{take-add}
 use Rattle.std.proofs.lemmas.Bool.{cases_lt}
-use Rattle.std.proofs.lemmas.List.{take_more, flat_map_more, get_or-take, get_or-drop, take-take, drop-take}
+use Rattle.std.proofs.lemmas.Grind.{flat_map-append}
+use Rattle.std.proofs.lemmas.List.{append-nil, get_or-take, get_or-drop, take-take, take_all, drop-take}
 use Rattle.std.proofs.lemmas.List.{drop-drop}
 use Rattle.trend_num.specs.declared.archive.Kind.{Kind}
 use Rattle.trend_num.specs.declared.archive.Rec.{Rec}
@@ -15,26 +16,59 @@ use Rattle.archive_file.specs.declared.failure.ScanNo.{ScanNo}
 use Rattle.archive_file.specs.declared.failure.ScanNo.TheVariants.{Damaged}
 use Rattle.archive_file.specs.Fields.{point_at}
 use Rattle.archive_file.specs.Records.{kind_byte, rec_image, recs_image}
-use Rattle.archive_file.specs.Places.{AreInRange, AreRecords, BreaksAt, IsBroken, IsDamage}
+use Rattle.archive_file.specs.Places.{Adds, AreInRange, AreRecords, BreaksAt, HasRecords, IsBroken, IsDamage}
 use Rattle.archive_file.proofs.Points.{IsBytes, rec_spelled}
-use Rattle.archive_file.proofs.Joins.{images_push}
+use Rattle.archive_file.proofs.Joins.{joined}
 
-in_range-push : (rs : List Rec) (r : Rec) → AreInRange rs → InRange r.point → AreInRange (rs ++ r ∷ [])
-in_range-push [] r each one = (one, tt)
-in_range-push (x ∷ rs) r each one = (each.0, in_range-push rs r each.1 one)
+-- records in range behind records in range
+in_range_joined : (rs qs : List Rec) → AreInRange rs → AreInRange qs → AreInRange (rs ++ qs)
+in_range_joined [] qs first second = second
+in_range_joined (r ∷ rs) qs first second = (first.0, in_range_joined rs qs first.1 second)
 
--- one more record read of the next 17 bytes
-pub records-push : (bytes b : List ℕ) (k : ℕ) (rs : List Rec) (r : Rec) → AreRecords rs (take (17 * k) bytes)
-    → b ≡ take 17 (drop (17 * k) bytes) → InRange r.point → b ≡ rec_image r
-    → AreRecords (rs ++ r ∷ []) (take (17 * (k + 1)) bytes)
-records-push bytes b k rs r before here inside is =
-    let longer : 17 * (k + 1) ≡ 17 * k + 17 = omega arith in
+-- records of the next bytes behind records
+records_joined : (s : List ℕ) (at k m : ℕ) (rs qs : List Rec) → AreRecords rs (take (17 * k) (drop at s))
+    → AreRecords qs (take (17 * m) (drop (at + 17 * k) s)) → AreRecords (rs ++ qs) (take (17 * (k + m)) (drop at s))
+records_joined s at k m rs qs first second =
+    let longer : 17 * (k + m) ≡ 17 * k + 17 * m = omega arith in
     record {
-      in_range = in_range-push rs r before.in_range inside;
-      image = images_push rec_image rs r ∙ ap (λ l. l ++ rec_image r) before.image
-          ∙ ap (λ l. take (17 * k) bytes ++ l) (sym is ∙ here)
-          ∙ sym (take-add (17 * k) 17 bytes) ∙ ap (λ n. take n bytes) (sym longer);
+      in_range = in_range_joined rs qs first.in_range second.in_range;
+      image = flat_map-append rec_image rs qs ∙ ap (λ l. l ++ recs_image qs) first.image
+          ∙ ap (λ l. take (17 * k) (drop at s) ++ l) (second.image ∙ ap (take (17 * m)) (sym (drop-drop (17 * k) at s)))
+          ∙ sym (take-add (17 * k) (17 * m) (drop at s)) ∙ ap (λ n. take n (drop at s)) (sym longer);
     }
+
+-- at first no record is added
+pub adds_none : (s : List ℕ) (at : ℕ) (old : List Rec) → Adds s at 0 old old
+adds_none s at old = record {
+  added = [];
+  behind = sym (append-nil old);
+  there = record { counted = refl; records = record { in_range = tt; image = refl } };
+}
+
+-- k records and then m records are k + m records
+adds_joined : (s : List ℕ) (at k m : ℕ) (old mid new : List Rec) → Adds s at k old mid
+    → Adds s (at + 17 * k) m mid new → Adds s at (k + m) old new
+adds_joined s at k m old mid new first second = record {
+  added = first.added ++ second.added;
+  behind = joined old mid new first.added second.added first.behind second.behind;
+  there = record {
+    counted = omega (arith, length-append first.added second.added, first.there.counted, second.there.counted);
+    records = records_joined s at k m first.added second.added first.there.records second.there.records;
+  };
+}
+
+-- one more, read of the next 17 bytes
+pub adds_more : (bytes b : List ℕ) (k : ℕ) (old mid new : List Rec) (r : Rec) → Adds bytes 0 k old mid
+    → b ≡ take 17 (drop (17 * k) bytes) → InRange r.point → b ≡ rec_image r → new ≡ mid ++ r ∷ []
+    → Adds bytes 0 (k + 1) old new
+adds_more bytes b k old mid new r before here inside is more =
+    let image : recs_image (r ∷ []) ≡ take 17 (drop (0 + 17 * k) bytes) = append-nil (rec_image r) ∙ sym is ∙ here
+    ∙ ap (λ n. take 17 (drop n bytes)) (sym (zero-add (17 * k))) in
+    adds_joined bytes 0 k 1 old mid new before (record {
+      added = r ∷ [];
+      behind = more;
+      there = record { counted = refl; records = record { in_range = (inside, tt); image = image } };
+    })
 
 -- where the kind and the time are those of a record and the bytes spell none, the value is out of range
 pub value_breaks : (b : List ℕ) (k : Kind) → length b ≡ 17 → IsBytes b → get_or b 0 0 ≡ kind_byte k
@@ -125,6 +159,66 @@ damage_at (Some t) at count a byte part room long reads broken =
         byte_there = b.byte_there ∙ ap Some (ap (λ l. get_or l p 0) is
             ∙ byte_of s at (17 * count) p (omega (arith, b.place, b.before, below))
             ∙ ap (λ n. get_or s n 0) (sym broken.1));
+      },
+    )
+
+-- what is added of a part of a device is added of the device
+pub added_at : (o : Option Trace) (at count : ℕ) (part : List ℕ) (old new : List Rec) → length part ≡ 17 * count
+    → Reads o at part → Adds part 0 count old new → IfSome o (λ t. Adds (seen (Some t)) at count old new)
+added_at None at count part old new long reads adds = tt
+added_at (Some t) at count part old new long reads adds =
+    let s = seen (Some t) in
+    let is : take (17 * count) part ≡ take (17 * count) (drop at s) =
+    take_all (17 * count) part (omega (arith, long)) ∙ reads ∙ ap (λ n. take n (drop at s)) long in
+    record {
+      added = adds.added;
+      behind = adds.behind;
+      there = record {
+        counted = adds.there.counted;
+        records = subst (AreRecords adds.added) is adds.there.records;
+      };
+    }
+
+-- the next piece of a device behind those before
+pub added_next : (o : Option Trace) (at k m : ℕ) (old mid new : List Rec)
+    → IfSome o (λ t. Adds (seen (Some t)) at k old mid) → IfSome o (λ t. Adds (seen (Some t)) (at + 17 * k) m mid new)
+    → IfSome o (λ t. Adds (seen (Some t)) at (k + m) old new)
+added_next None at k m old mid new first second = tt
+added_next (Some t) at k m old mid new first second = adds_joined (seen (Some t)) at k m old mid new first second
+
+-- all that is added to an empty list
+pub added_all : (o : Option Trace) (at count : ℕ) (old new : List Rec) → old ≡ []
+    → IfSome o (λ t. Adds (seen (Some t)) at count old new) → IfSome o (λ t. HasRecords (seen (Some t)) at count new)
+added_all None at count old new none adds = tt
+added_all (Some t) at count old new none adds =
+    subst (HasRecords (seen (Some t)) at count) (sym (adds.behind ∙ ap (λ l. l ++ adds.added) none)) adds.there
+
+-- damage in a piece behind whole records is damage of the whole
+pub damage_behind : (o : Option Trace) (at k m count a : ℕ) (byte : Option ℕ) (old mid : List Rec)
+    → Reaches o (at + 17 * count) → k + m ≤ count → IfSome o (λ t. Adds (seen (Some t)) at k old mid)
+    → IfSome o (λ t. IsDamage (seen (Some t)) (at + 17 * k) m a byte)
+    → IfSome o (λ t. IsDamage (seen (Some t)) at count a byte)
+damage_behind None at k m count a byte old mid room fits before damage = tt
+damage_behind (Some t) at k m count a byte old mid room fits before (inl short) =
+    absurd (omega (arith, short.short, room, fits))
+damage_behind (Some t) at k m count a byte old mid room fits before (inr broken) =
+    let s = seen (Some t) in
+    let rs = before.added in
+    let qs = broken.0 in
+    let b = broken.2 in
+    let long : k + length qs ≡ length (rs ++ qs) = omega (arith, length-append rs qs, before.there.counted) in
+    let place : at + 17 * k + 17 * length qs ≡ at + 17 * length (rs ++ qs) = omega (arith, long) in
+    inr (
+      rs ++ qs,
+      broken.1,
+      record {
+        within = room;
+        before = omega (arith, long, b.before, fits);
+        records = subst (λ n. AreRecords (rs ++ qs) (take (17 * n) (drop at s))) long
+            (records_joined s at k (length qs) rs qs before.there.records b.records);
+        breaks = subst (λ n. BreaksAt (take 17 (drop n s)) broken.1) place b.breaks;
+        place = omega (arith, b.place, place);
+        byte_there = b.byte_there;
       },
     )
 

@@ -1,5 +1,5 @@
 -- Records at a place of a device, and where they first break the layout.
-use Rattle.std.specs.Prelude.{◌≡◌, ◌≢◌, ◌⊎◌, ℕ, ◌+◌, ◌*◌, ◌<◌, ◌≤◌, List, [], ◌∷◌, length, take, drop}
+use Rattle.std.specs.Prelude.{◌≡◌, ◌≢◌, ◌⊎◌, ℕ, ◌+◌, ◌*◌, ◌<◌, ◌≤◌, List, [], ◌∷◌, ◌++◌, length, take, drop}
 use Rattle.std.specs.Prelude.{slice_index, Option, None, Some, unsigned_abs}
 use Rattle.trend_num.specs.declared.archive.Kind.{Kind}
 use Rattle.trend_num.specs.declared.archive.Rec.{Rec}
@@ -21,6 +21,12 @@ pub record AreRecords (rs : List Rec) (bytes : List ℕ) : Type 0 where
 pub record HasRecords (bytes : List ℕ) (at count : ℕ) (rs : List Rec) : Type 0 where
   pub counted : length rs ≡ count
   pub records : AreRecords rs (take (17 * count) (drop at bytes))
+
+-- so many records that stand at the place were added at a list's end
+pub record Adds (bytes : List ℕ) (at count : ℕ) (old new : List Rec) : Type 0 where
+  pub added : List Rec
+  pub behind : new ≡ old ++ added
+  pub there : HasRecords bytes at count added
 
 -- the k-th of 17 bytes is the first of the first field that breaks a record's layout: its kind, its time, or
 -- its value

@@ -1,5 +1,6 @@
 // Records on a device.
-ghost use Rattle.std.specs.Prelude.{◌≡◌, ◌+◌, ◌*◌, ◌^◌, ◌<◌, ◌≤◌, ℕ, Option, length, take, drop, slice_index, Some, IfOk, IfSome, OnErr, IsErrOf};
+ghost use Rattle.std.specs.Prelude.{◌≡◌, ◌+◌, ◌*◌, ◌^◌, ◌<◌, ◌≤◌, ℕ, Option, min, length, take, drop, slice_index, Some, IfOk};
+ghost use Rattle.std.specs.Prelude.{IfSome, OnOk, OnErr, IsErrOf, vec_len, vec_capacity};
 ghost use Rattle.disk_model.specs.Traces.{Wrote, WroteInPart, seen};
 ghost use Rattle.disk_model.specs.Calls.{IsNoted, Reaches, Reads, Rose};
 ghost use Rattle.archive_file.specs.declared.failure.ScanNo.TheVariants.{DeviceFault, Damaged};
@@ -7,7 +8,7 @@ ghost use Rattle.archive_file.specs.declared.failure.PutNo.TheVariants.{DeviceFa
 ghost use Rattle.archive_file.specs.Records.{rec_image, recs_image};
 ghost use Rattle.trend_num.specs.declared.archive.Rec.{Rec};
 ghost use Rattle.trend_num.specs.Ranges.{InRange};
-ghost use Rattle.archive_file.specs.Places.{HasRecords, BreaksAt, IsDamage, IsBroken};
+ghost use Rattle.archive_file.specs.Places.{Adds, HasRecords, BreaksAt, IsDamage, IsBroken};
 
 use crate::field::take_point;
 use crate::record::{REC_LEN, kind_of, read_rec, rec_bytes};
@@ -15,6 +16,9 @@ use crate::{PutNo, ScanNo};
 use disk_model::Disk;
 use std::alloc::{AllocError, Global};
 use trend_num::{MAX_T, Rec};
+
+// The most records that are read in one piece, which has 65,535 bytes.
+const PIECE_MOST: u32 = 3_855;
 
 /// Writes records at a place, in one write. Want of memory comes before the write. `at` counts bytes.
 pub fn put_records<D: Disk>(alloc: Global, dev: &mut D, at: u64, recs: &[Rec]) -> Result<(), PutNo>
@@ -47,7 +51,7 @@ fn bytes_of(alloc: Global, recs: &[Rec]) -> Result<Vec<u8>, AllocError>
 }
 
 /// Reads `count` records at a place, or names the first byte of the first field that breaks the layout, or the end of a
-/// device that is too short. `at` counts bytes.
+/// device that is too short. `at` counts bytes. The records' memory is taken once, and 65,535 bytes at most beside it.
 pub fn read_records<D: Disk>(
     alloc: Global,
     dev: &mut D,
@@ -72,10 +76,75 @@ pub fn read_records<D: Disk>(
             byte: None,
         });
     }
-    match read_bytes(alloc, dev, at, size as usize) {
-        Ok(bytes) => parse(alloc, at, count, &bytes),
-        Err(why) => Err(why),
+    let Ok(mut recs) = Vec::with_capacity(alloc, count as usize) else {
+        return Err(ScanNo::WantOfMemory);
+    };
+    let Ok(mut buf) = vec![in alloc; 0; REC_LEN * count.min(PIECE_MOST) as usize] else {
+        return Err(ScanNo::WantOfMemory);
+    };
+    read_pieces(dev, at, count, &mut buf, &mut recs)?;
+    Ok(recs)
+}
+
+// Reads records at a place, piece by piece through a buffer of the first piece's size, and adds them.
+fn read_pieces<D: Disk>(
+    dev: &mut D,
+    at: u64,
+    count: u32,
+    buf: &mut [u8],
+    recs: &mut Vec<Rec>,
+) -> Result<(), ScanNo>
+    requires there { Reaches (D.trace dev.old) (at + 17 * count) }
+    requires end { at + 17 * count < 2 ^ 64 }
+    requires whole { length buf.old ≡ 17 * min count PIECE_MOST }
+    requires room { vec_len recs.old + count ≤ vec_capacity recs.old }
+    ensures ok { OnOk result (IfSome (D.trace dev.old)
+        (λ t. Adds (seen (Option.Some t)) at count recs.old.items recs.new.items)) }
+    ensures damaged { (a : ℕ) (byte : Option ℕ) → IsErrOf result (Damaged a byte) →
+        IfSome (D.trace dev.old) (λ t. IsDamage (seen (Option.Some t)) at count a byte) }
+    ensures device_fault { IsErrOf result DeviceFault → Rose (D.fault_count dev.old) (D.fault_count dev.new) }
+    ensures same { D.trace dev.new ≡ D.trace dev.old }
+    ensures untimed { D.ticks dev.new ≡ D.ticks dev.old }
+    ensures faults { D.fault_count dev.old ≤ D.fault_count dev.new }
+{
+    let mut done = 0;
+    while done < count {
+        let next = (count - done).min(PIECE_MOST);
+        let place = at + REC_LEN as u64 * u64::from(done);
+        let part = &mut buf[..REC_LEN * next as usize];
+        read_piece(dev, place, next, part, recs)?;
+        done += next;
     }
+    Ok(())
+}
+
+// Reads so many records at a place, through a buffer of their size, and adds them.
+fn read_piece<D: Disk>(
+    dev: &mut D,
+    at: u64,
+    count: u32,
+    buf: &mut [u8],
+    recs: &mut Vec<Rec>,
+) -> Result<(), ScanNo>
+    requires there { Reaches (D.trace dev.old) (at + 17 * count) }
+    requires end { at + 17 * count < 2 ^ 64 }
+    requires whole { length buf.old ≡ 17 * count }
+    requires room { vec_len recs.old + count ≤ vec_capacity recs.old }
+    ensures ok { OnOk result (IfSome (D.trace dev.old)
+        (λ t. Adds (seen (Option.Some t)) at count recs.old.items recs.new.items)) }
+    ensures damaged { (a : ℕ) (byte : Option ℕ) → IsErrOf result (Damaged a byte) →
+        IfSome (D.trace dev.old) (λ t. IsDamage (seen (Option.Some t)) at count a byte) }
+    ensures device_fault { IsErrOf result DeviceFault → Rose (D.fault_count dev.old) (D.fault_count dev.new) }
+    ensures same { D.trace dev.new ≡ D.trace dev.old }
+    ensures untimed { D.ticks dev.new ≡ D.ticks dev.old }
+    ensures faults { D.fault_count dev.old ≤ D.fault_count dev.new }
+    ensures len { OnOk result (vec_len recs.new ≡ vec_len recs.old + count) }
+    ensures capacity { vec_capacity recs.new ≡ vec_capacity recs.old }
+{
+    let Ok(()) = dev.read(at, buf) else {
+        return Err(ScanNo::DeviceFault);
+    };
+    parse(at, count, buf, recs)
 }
 
 /// So many bytes of a device, from `at` on.
@@ -103,27 +172,27 @@ pub fn read_bytes<D: Disk>(
     Ok(bytes)
 }
 
-// The records that the bytes spell, which stand at a place of a device.
-fn parse(alloc: Global, at: u64, count: u32, bytes: &[u8]) -> Result<Vec<Rec>, ScanNo>
+// Adds the records that the bytes spell, which stand at a place of a device.
+fn parse(at: u64, count: u32, bytes: &[u8], recs: &mut Vec<Rec>) -> Result<(), ScanNo>
     requires whole { length bytes.now ≡ 17 * count }
     requires end { at + 17 * count < 2 ^ 64 }
-    ensures ok { IfOk result (λ v. HasRecords bytes.now 0 count v.items) }
+    requires room { vec_len recs.old + count ≤ vec_capacity recs.old }
+    ensures ok { OnOk result (Adds bytes.now 0 count recs.old.items recs.new.items) }
     ensures damaged { (a : ℕ) (byte : Option ℕ) → IsErrOf result (Damaged a byte) →
         (p : ℕ) × (a ≡ at + p) × (rs : _) × (k : ℕ) × IsBroken bytes.now 0 count p byte rs k }
     ensures device_fault { IsErrOf result DeviceFault → ⊥ }
+    ensures len { OnOk result (vec_len recs.new ≡ vec_len recs.old + count) }
+    ensures capacity { vec_capacity recs.new ≡ vec_capacity recs.old }
 {
-    let mut recs = Vec::new(alloc);
     for k in 0..count {
         let place = REC_LEN * k as usize;
         let b = piece(bytes, place);
         let Some(r) = read_rec(b) else {
             return Err(damage(at + place as u64, b));
         };
-        let Ok(()) = recs.push(r) else {
-            return Err(ScanNo::WantOfMemory);
-        };
+        recs.push_reserved(r);
     }
-    Ok(recs)
+    Ok(())
 }
 
 // The bytes of the record at a place.

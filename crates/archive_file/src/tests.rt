@@ -148,6 +148,27 @@ fn records_are_written_and_read(rt: HostRuntime) -> Result<(), Fail> {
     Ok(())
 }
 
+// Records of both kinds, more than are read in one piece.
+fn many(alloc: Global) -> Result<Vec<Rec>, AllocError> {
+    let mut recs = Vec::new(alloc);
+    for t in 0..1_950 {
+        recs.push(rec(Kind::Kept, 2 * t, 5))?;
+        recs.push(rec(Kind::Late, 2 * t + 1, -7))?;
+    }
+    Ok(recs)
+}
+
+#[test]
+fn records_of_two_pieces_are_read(rt: HostRuntime) -> Result<(), Fail> {
+    let alloc = rt.alloc();
+    let recs = many(alloc)?;
+    let mut disk = MemDisk::new(b"abc".to_vec(alloc)?, Vec::new(alloc));
+    assert_eq!(rt; put_records(alloc, &mut disk, 3, &recs), Ok(()));
+    let again = read_records(alloc, &mut disk, 3, 3_900).map_err(|_| "refused")?;
+    assert_eq!(rt; again.as_slice(), recs.as_slice());
+    Ok(())
+}
+
 #[test]
 fn the_first_bad_byte_is_told(rt: HostRuntime) -> Result<(), Fail> {
     let alloc = rt.alloc();
