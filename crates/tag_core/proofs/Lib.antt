@@ -1,4 +1,3 @@
 pub mod Taking
 pub mod Counts
-pub mod Scans
 pub mod Slopes

@@ -1,5 +1,5 @@
 // The records, the hinge and the doors of a tag.
-ghost use Rattle.std.specs.Prelude.{◌≡◌, ◌+◌, ◌<◌, ◌≤◌, [], ◌∷◌, ◌++◌, IfOk, None, Some, length};
+ghost use Rattle.std.specs.Prelude.{◌≡◌, ◌+◌, ◌^◌, ◌<◌, ◌≤◌, [], ◌∷◌, ◌++◌, IfOk, None, Some, vec_capacity};
 ghost use Rattle.std.specs.Option.{option_or};
 ghost use Rattle.trend_num.specs.Ranges.{InRange, IsTuned};
 ghost use Rattle.trend_model.specs.History.{InOrder, Tuned};
@@ -79,40 +79,34 @@ impl Compressor {
         })
     }
 
-    /// One of these records, this hinge and these doors, and of this many places for records.
-    pub(crate) fn from_parts(
-        alloc: Global,
+    /// One that takes over these records, in the places that they have, of this hinge and these doors.
+    pub(crate) fn from_records(
         tuning: Tuning,
         step: bool,
-        recs: &[Rec],
+        recs: Vec<Rec>,
         hinge: Option<Point>,
         doors: Option<Doors>,
-        places: u32,
-    ) -> Result<Compressor, AllocError>
+    ) -> Compressor
         requires tuned { IsTuned tuning }
         requires hang { HangAt tuning.comp_dev hinge doors }
-        requires room { length recs.now ≤ places }
-        ensures { IfOk result (λ c. c ≡ record {
+        requires places { vec_capacity recs < 2 ^ 32 }
+        ensures { result ≡ record {
           tuning = tuning;
           step = step;
-          records = recs.now;
+          records = recs.items;
           hinge = hinge;
           upper = upper_of doors;
           lower = lower_of doors;
-          places = places;
-        }) }
+          places = vec_capacity recs;
+        } }
     {
-        let mut copied = Vec::with_capacity(alloc, places as usize)?;
-        for rec in recs {
-            copied.push_reserved(*rec);
-        }
-        Ok(Compressor {
+        Compressor {
             tuning,
             step,
-            recs: copied,
+            recs,
             hinge,
             doors,
-        })
+        }
     }
 
     /// How many places for records are free.

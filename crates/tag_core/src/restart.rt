@@ -1,5 +1,6 @@
 // The test of records and a summary from which a tag is to go on.
-ghost use Rattle.std.specs.Prelude.{◌≡◌, ◌↔◌, ◌*◌, ◌^◌, ◌<◌, ◌≤◌, IsTrue, length, pos};
+ghost use Rattle.std.specs.Prelude.{◌≡◌, ◌↔◌, ◌*◌, ◌^◌, ◌<◌, ◌≤◌, ◌∷◌, IsTrue, Some, false, length, pos};
+ghost use Rattle.trend_model.specs.Content.{is_late_record};
 ghost use Rattle.trend_model.specs.Doors.{IsNotSteeper, down};
 ghost use Rattle.trend_num.specs.declared.archive.Rec.{Rec};
 ghost use Rattle.trend_num.specs.declared.tuning.Tuning.{Tuning};
@@ -20,7 +21,6 @@ pub fn parts_ok(tuning: &Tuning, step: bool, recs: &[Rec], summary: &Summary) ->
 {
     counts_ok(recs, summary)
         && is_of_tuning(tuning, summary.tuning)
-        && recs_in_range(recs)
         && places_in_range(summary)
         && whole_ok(tuning.comp_dev, step, recs, summary)
         && pending_fits(tuning, summary.held, summary.pending)
@@ -52,18 +52,6 @@ fn is_of_tuning(tuning: &Tuning, other: Option<Tuning>) -> bool
     }
 }
 
-/// Whether each record's point is in range.
-fn recs_in_range(recs: &[Rec]) -> bool
-    ensures { IsTrue result ↔ Each (λ (r : Rec). InRange r.point) recs.now }
-{
-    for rec in recs {
-        if !in_range(rec.point) {
-            return false;
-        }
-    }
-    true
-}
-
 /// Whether each point of the summary is in range.
 fn places_in_range(summary: &Summary) -> bool
     ensures { IsTrue result ↔ (IfThere InRange summary.now.held
@@ -89,7 +77,7 @@ fn place_in_range(place: Option<Point>) -> bool
     }
 }
 
-/// Whether a tag that has begun is so throughout, and one that has not begun is blank.
+/// Whether a tag that has begun is so throughout, and one that has not begun is blank, each record in range.
 fn whole_ok(dev: u64, step: bool, recs: &[Rec], summary: &Summary) -> bool
     requires deviation { dev ≤ largest_value }
     requires held { IfThere InRange summary.now.held }
@@ -97,7 +85,8 @@ fn whole_ok(dev: u64, step: bool, recs: &[Rec], summary: &Summary) -> bool
     requires upper { IfThere InRange summary.now.upper }
     requires lower { IfThere InRange summary.now.lower }
     ensures { IsTrue result
-        ↔ IsBegunOrBlank step dev recs.now summary.now.held summary.now.hinge summary.now.upper summary.now.lower }
+        ↔ (IsBegunOrBlank step dev recs.now summary.now.held summary.now.hinge summary.now.upper summary.now.lower
+        × Each (λ (r : Rec). InRange r.point) recs.now) }
 {
     match (summary.held, summary.hinge) {
         (None, None) => is_blank(recs, summary),
@@ -113,7 +102,7 @@ fn is_blank(recs: &[Rec], summary: &Summary) -> bool
     recs.is_empty() && summary.upper.is_none() && summary.lower.is_none()
 }
 
-/// Whether a tag with this held point and this hinge is so throughout.
+/// Whether a tag with this held point and this hinge is so throughout, each record in range.
 fn is_begun(
     dev: u64,
     step: bool,
@@ -127,84 +116,65 @@ fn is_begun(
     requires hinge { InRange hinge }
     requires upper { IfThere InRange summary.now.upper }
     requires lower { IfThere InRange summary.now.lower }
-    ensures { IsTrue result ↔ IsBegun step dev recs.now held hinge summary.now.upper summary.now.lower }
+    ensures { IsTrue result ↔ (IsBegun step dev recs.now held hinge summary.now.upper summary.now.lower
+        × Each (λ (r : Rec). InRange r.point) recs.now) }
 {
-    begins_kept(recs)
-        && kept_rise(recs)
-        && last_kept(recs) == Some(hinge)
-        && late_before(recs, held)
+    records_fit(recs, hinge, held)
         && doors_fit(dev, step, hinge, held, summary.upper, summary.lower)
 }
 
-/// Whether there is a first record, and it is a kept one.
-fn begins_kept(recs: &[Rec]) -> bool
-    ensures { IsTrue result ↔ BeginsKept recs.now }
+/// Whether the first record is a kept one, the kept ones rise to the hinge, no late one is after the held point, and each
+/// is in range.
+fn records_fit(recs: &[Rec], hinge: Point, held: Point) -> bool
+    ensures { IsTrue result ↔ (BeginsKept recs.now
+        × PointsRise (kept_points recs.now)
+        × (last_point (kept_points recs.now) ≡ Some hinge)
+        × Each (IsLateBefore held) recs.now
+        × Each (λ (r : Rec). InRange r.point) recs.now) }
 {
-    match recs.first() {
+    match recs.split_first() {
         None => false,
-        Some(rec) => rec.kind == Kind::Kept,
-    }
-}
-
-/// Whether the kept records rise in time.
-fn kept_rise(recs: &[Rec]) -> bool
-    ensures { IsTrue result ↔ PointsRise (kept_points recs.now) }
-{
-    let mut last: Option<Point> = None;
-    for rec in recs {
-        if let Kind::Kept = rec.kind {
-            if !is_after(last, rec.point) {
-                return false;
-            }
-            last = Some(rec.point);
+        Some((first, rest)) => {
+            first.kind == Kind::Kept
+                && in_range(first.point)
+                && rest_fits(first.point, rest, hinge, held)
         }
     }
-    true
 }
 
-/// Whether p is later than the point before it, if there is one.
-fn is_after(before: Option<Point>, p: Point) -> bool
-    ensures { IsTrue result ↔ IfThere (λ (q : Point). q.t < p.t) before }
+/// Whether the records after this kept point do so: the kept ones rise from it to the hinge, no late one is after the held
+/// point, and each is in range. It stands apart from its caller, so that all that its loop reads stays in registers.
+#[inline(never)]
+fn rest_fits(from: Point, recs: &[Rec], hinge: Point, held: Point) -> bool
+    ensures { IsTrue result ↔ (PointsRise (from ∷ kept_points recs.now)
+        × (last_point (from ∷ kept_points recs.now) ≡ Some hinge)
+        × Each (IsLateBefore held) recs.now
+        × Each (λ (r : Rec). InRange r.point) recs.now) }
 {
-    match before {
-        None => true,
-        Some(q) => q.t < p.t,
-    }
-}
-
-/// The point of the last kept record.
-fn last_kept(recs: &[Rec]) -> Option<Point>
-    ensures { result ≡ last_point (kept_points recs.now) }
-{
-    let mut last = None;
+    let mut last = from;
     for rec in recs {
-        if let Kind::Kept = rec.kind {
-            last = Some(rec.point);
-        }
-    }
-    last
-}
-
-/// Whether no late record is after the held point.
-fn late_before(recs: &[Rec], held: Point) -> bool
-    ensures { IsTrue result ↔ Each (IsLateBefore held) recs.now }
-{
-    for rec in recs {
-        if !is_late_before(held, rec) {
+        if !may_follow(last, rec, held) {
             return false;
         }
+        if let Kind::Kept = rec.kind {
+            last = rec.point;
+        }
     }
-    true
+    last == hinge
 }
 
-/// Whether a record is no late one, or not after the held point.
-fn is_late_before(held: Point, rec: &Rec) -> bool
-    ensures { IsTrue result ↔ IsLateBefore held rec.now }
+/// Whether a record is in range, and, a kept one, after the last kept point or, a late one, not after the held point.
+#[inline]
+fn may_follow(last: Point, rec: &Rec, held: Point) -> bool
+    ensures { IsTrue result ↔ (InRange rec.now.point
+        × (is_late_record rec.now.kind ≡ false → last.t < rec.now.point.t)
+        × IsLateBefore held rec.now) }
 {
-    match rec.kind {
-        Kind::Kept => true,
-        Kind::Late => rec.point.t <= held.t,
-    }
+    in_range(rec.point)
+        && match rec.kind {
+            Kind::Kept => last.t < rec.point.t,
+            Kind::Late => rec.point.t <= held.t,
+        }
 }
 
 /// Whether a pending value is one that the exception test would not have sent.

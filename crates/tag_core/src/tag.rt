@@ -1,5 +1,5 @@
 // The core of a tag: the gate before the compressor.
-ghost use Rattle.std.specs.Prelude.{◌≡◌, ◌↔◌, ◌+◌, ◌-◌, ◌*◌, ◌^◌, ◌<◌, ◌≤◌, List, [], ◌∷◌, ◌++◌, IfOk, IfErr, OnOk, OnErr, IsErr, None, Some, length, true};
+ghost use Rattle.std.specs.Prelude.{◌≡◌, ◌↔◌, ◌+◌, ◌-◌, ◌*◌, ◌^◌, ◌<◌, ◌≤◌, List, [], ◌∷◌, ◌++◌, IfOk, IfErr, OnOk, OnErr, IsErr, None, Some, length, true, vec_capacity};
 ghost use Rattle.trend_num.specs.declared.archive.Rec.{Rec};
 ghost use Rattle.trend_num.specs.declared.point.Point.{Point};
 ghost use Rattle.trend_num.specs.declared.tuning.Tuning.{Tuning};
@@ -99,20 +99,52 @@ impl TagCore {
         ensures step { IfOk result (λ core. core.step ≡ step) }
         ensures spare { IfOk result (λ core. core.spare ≡ 2 * room) }
     {
-        let free = room.checked_mul(2).ok_or(WantOfMemory)?;
-        let places = free.checked_add(recs.len() as u32).ok_or(WantOfMemory)?;
-        let doors = doors_of(&tuning, step, recs, summary);
-        let compressor = Compressor::from_parts(
-            alloc,
-            tuning,
-            step,
-            recs,
-            summary.hinge,
-            doors,
-            places,
-        ).map_err(|_| WantOfMemory)?;
+        let copied = copied(alloc, recs, recs.len() + 2 * room as usize)?;
+        Self::resumed(tuning, step, copied, summary)
+    }
+
+    /// The same, of records that it takes over, in their own memory and what that lacks of room. Records that have 2^32
+    /// places or more are refused as memory that is not there.
+    pub fn from_records(
+        tuning: Tuning,
+        step: bool,
+        mut recs: Vec<Rec>,
+        summary: &Summary,
+        room: u32,
+    ) -> Result<TagCore, WantOfMemory>
+        requires tuned { IsTuned tuning }
+        requires parts { ArePartsOk tuning step recs.items summary.now }
+        ensures records { IfOk result (λ core. core.state.records ≡ recs.items) }
+        ensures summary { IfOk result (λ core. core.state.summary ≡ record summary.now { tuning = Some tuning }) }
+        ensures step { IfOk result (λ core. core.step ≡ step) }
+        ensures room { IfOk result (λ core. 2 * room ≤ core.spare) }
+    {
+        recs.reserve_exact(2 * room as usize)
+            .map_err(|_| WantOfMemory)?;
+        Self::resumed(tuning, step, recs, summary)
+    }
+
+    /// A tag that goes on from these records, in the places that they have, and this summary; unless the places are too
+    /// many.
+    fn resumed(
+        tuning: Tuning,
+        step: bool,
+        recs: Vec<Rec>,
+        summary: &Summary,
+    ) -> Result<TagCore, WantOfMemory>
+        requires tuned { IsTuned tuning }
+        requires parts { ArePartsOk tuning step recs.items summary.now }
+        ensures records { IfOk result (λ core. core.state.records ≡ recs.items) }
+        ensures summary { IfOk result (λ core. core.state.summary ≡ record summary.now { tuning = Some tuning }) }
+        ensures step { IfOk result (λ core. core.step ≡ step) }
+        ensures spare { IfOk result (λ core. core.spare ≡ vec_capacity recs - length recs.items) }
+    {
+        if recs.capacity() > u32::MAX as usize {
+            return Err(WantOfMemory);
+        }
+        let doors = doors_of(&tuning, step, &recs, summary);
         Ok(TagCore {
-            compressor,
+            compressor: Compressor::from_records(tuning, step, recs, summary.hinge, doors),
             gate: Gate {
                 last: summary.held,
                 pending: summary.pending,
@@ -324,6 +356,19 @@ fn counted(taken: &mut u64, before: u32, recs: &[Rec]) -> Took
     Took {
         added: (recs.len() - before as usize) as u8,
     }
+}
+
+/// A copy of these records, in this many places.
+fn copied(alloc: Global, recs: &[Rec], places: usize) -> Result<Vec<Rec>, WantOfMemory>
+    requires room { length recs.now ≤ places }
+    ensures records { IfOk result (λ v. v.items ≡ recs.now) }
+    ensures places { IfOk result (λ v. vec_capacity v ≡ places) }
+{
+    let mut copied = Vec::with_capacity(alloc, places).map_err(|_| WantOfMemory)?;
+    for rec in recs {
+        copied.push_reserved(*rec);
+    }
+    Ok(copied)
 }
 
 /// The doors of a summary, where it has them.

@@ -134,7 +134,11 @@ fn made_again(rt: &impl Abort, alloc: Global, core: TagCore) -> Result<TagCore, 
     assert_eq!(rt; again.spare(), 8);
     assert_eq!(rt; again.recs(), recs.as_slice());
     assert_eq!(rt; again.summary(), summary);
-    Ok(again)
+    let over = TagCore::from_records(tuning, step, recs, &untuned, 4)?;
+    assert!(rt; over.spare() >= 8);
+    assert_eq!(rt; over.recs(), again.recs());
+    assert_eq!(rt; over.summary(), summary);
+    Ok(over)
 }
 
 /// How a tag was made, what happened to it, and the records and the summary in which that ends.

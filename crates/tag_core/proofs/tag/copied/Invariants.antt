@@ -1,5 +1,5 @@
 use Rattle.std.proofs.Common.{◌≡◌, take, vec_capacity}
-use Rattle.tag_core.proofs.compressor.Compressor.from_parts.Given as goal
+use Rattle.tag_core.proofs.tag.copied.Given as goal
 
 abbrev pub invariant-loop-rec : goal.invariant-loop-rec
 invariant-loop-rec l = record {
