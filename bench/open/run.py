@@ -1,9 +1,10 @@
 #!/usr/bin/env python3
 """run.py: times the opening of a device of a million records, and one average over its whole span.
 
-Runs `trend` of the program that `rt run` left in crates/historian (or of the program that is named) beside `cat` of the device's
-file, seven times each in turn, with the file in the page cache. It tells medians, the ratio of the two, what was aimed at, and the
-peak memory for each record. It runs by hand, never as a test."""
+Runs `trend` of the program that `rt run` left in crates/historian (or of the program that is named) beside a plain program
+(`plain.c`, `cc` at its fastest) that keeps the same records and tests nothing, and beside `cat` of the device's file, seven times
+each in turn, with the file in the page cache. It tells medians, their ratios, what was aimed at, and the peak memory for each record.
+It runs by hand, never as a test."""
 import os
 import statistics
 import struct
@@ -17,6 +18,7 @@ PROGRAM = os.path.join(os.path.dirname(os.path.dirname(HERE)), "crates", "histor
 RUNS = 7
 RECORDS = 1_000_000
 SLOTS = 64
+LOG = 400 + 1035 * SLOTS
 OPEN = b"\xa5"
 TUNING = (0, 1_000_000, 0, 0, 1_000_000)
 
@@ -62,20 +64,35 @@ def run(folder, words):
     return took, int(child.stderr), child.stdout
 
 
+def build(folder):
+    plain = os.path.join(folder, "plain")
+    subprocess.run(["cc", "-O3", "-o", plain, os.path.join(HERE, "plain.c")], check=True)
+    return plain
+
+
 def main():
     program = os.path.abspath(sys.argv[1]) if len(sys.argv) > 1 else PROGRAM
     with tempfile.TemporaryDirectory() as folder:
         path = lay(folder)
         size = os.path.getsize(path)
         print("load", os.getloadavg())
-        trend = [program, "trend", "base.toml", "plan.toml"]
-        told = {"trend": [], "cat": []}
+        words = {
+            "trend": [program, "trend", "base.toml", "plan.toml"],
+            "plain": [build(folder), path, str(RECORDS), str(LOG)],
+            "cat": ["sh", "-c", "cat %s >/dev/null" % path],
+        }
+        told = {name: [] for name in words}
         for _ in range(RUNS):
-            told["trend"].append(run(folder, trend))
-            told["cat"].append(run(folder, ["sh", "-c", "cat %s >/dev/null" % path]))
-        print(told["trend"][0][2].decode().strip())
-        ours, cat = (statistics.median(took for took, _, _ in told[name]) for name in ("trend", "cat"))
-        print("opened and asked: %.3f s, cat %.3f s, %.2f of its speed, aim 0.50" % (ours, cat, cat / ours))
+            for name in words:
+                told[name].append(run(folder, words[name]))
+        answers = {told[name][0][2] for name in ("trend", "plain")}
+        if len(answers) != 1:
+            sys.exit("the answers differ: %s" % answers)
+        print(answers.pop().decode().strip())
+        ours, plain, cat = (statistics.median(took for took, _, _ in told[name]) for name in words)
+        print("opened and asked: %.4f s" % ours)
+        print("the plain program: %.4f s, %.2f of its speed" % (plain, plain / ours))
+        print("cat: %.4f s, %.2f of its speed, aim 0.50; the plain program has %.2f" % (cat, cat / ours, cat / plain))
         peak = max(memory for _, memory, _ in told["trend"])
         print("peak memory: %.1f bytes a record of %.1f bytes, aim 48" % (peak * 1024 / RECORDS, size / RECORDS))
 

@@ -173,14 +173,13 @@ pub(crate) fn read_core<L: Ledger, D: Disk>(
         Err(why) => return Err(refusal_of(why)),
     };
     let events = (scanned.points.len() as u32 + 1).saturating_add(room);
-    let Ok(mut core) = TagCore::from_parts(
-        alloc,
-        stored.tuning,
-        step,
-        &stored.recs,
-        &stored.summary,
-        events,
-    ) else {
+    let Stored {
+        slot,
+        summary,
+        recs,
+        tuning,
+    } = stored;
+    let Ok(mut core) = TagCore::from_records(tuning, step, recs, &summary, events) else {
         return Err(OpenNo::WantOfMemory);
     };
     if let Err(number) = replay(&mut core, &scanned.points, steps) {
@@ -189,9 +188,9 @@ pub(crate) fn read_core<L: Ledger, D: Disk>(
     let seat = Seat {
         lane: scanned.lane,
         stale: scanned.stale,
-        counts: stored.slot,
-        taken: stored.summary.taken,
-        records: stored.summary.records,
+        counts: slot,
+        taken: summary.taken,
+        records: summary.records,
     };
     Ok((seat, core))
 }

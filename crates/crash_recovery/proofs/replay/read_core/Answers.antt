@@ -19,13 +19,13 @@ pub returns-in-Err-replay-clause-cause : goal.returns-in-Err-replay-clause-cause
 returns-in-Err-replay-clause-cause g c def same_step read =
     let scan = c.in-Ok.ensures in
     let s = c.in-Ok.scanned in
-    let made = c.in-Ok-from_parts.ensures in
-    let core = c.in-Ok-from_parts.core in
+    let made = c.in-Ok-from_records.ensures in
+    let core = c.in-Ok-from_records.core in
     let no = c.in-Err-replay.ensures in
     let n = c.in-Err-replay.number in
-    let points = c.deref-2.ensures.value in
+    let points = c.deref.ensures.value in
     overfull_cause def _ c.args.slots c.args.stored s c.args.step core.state n _ _ _ c.overfull.result scan.within read
-    scan.ok same_step (made.records ∙ c.deref.ensures.value) made.summary
+    scan.ok same_step made.records made.summary
     (subst (λ k. AllFit k core.state (map Raw (take n s.points.items))) made.step
     (subst (λ l. AllFit core.step core.state (map Raw (take n l))) points no.fit_before))
     (subst (λ k. MAX_RECORDS < length (replay k core.state (map Raw (take n s.points.items))).records + 2) made.step
@@ -41,12 +41,12 @@ returns-in-Err-replay-clause-cause g c def same_step read =
 pub returns-clause-recovered : goal.returns-clause-recovered
 returns-clause-recovered g c def same_step read =
     let s = c.in-Ok.scanned in
-    let made = c.in-Ok-from_parts.ensures in
-    let core = c.in-Ok-from_parts.core in
+    let made = c.in-Ok-from_records.ensures in
+    let core = c.in-Ok-from_records.core in
     let done = c.in_default-replay.ensures in
-    let points = c.deref-2.ensures.value in
+    let points = c.deref.ensures.value in
     recovered_shown def _ c.args.slots c.args.stored s c.args.step core.state c.replay.new.core.state c.in-Ok.ensures.within read
-    c.in-Ok.ensures.ok same_step (made.records ∙ c.deref.ensures.value) made.summary
+    c.in-Ok.ensures.ok same_step made.records made.summary
     (subst (λ k. AllFit k core.state (map Raw s.points.items)) made.step
     (subst (λ l. AllFit core.step core.state (map Raw l)) points done.fit))
     (done.state ∙ ap₂ (λ k l. replay k core.state (map Raw l)) made.step points)
