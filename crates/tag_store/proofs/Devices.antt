@@ -1,5 +1,5 @@
 -- What the opening of one device does to a store, and for which histories the opened tag stands.
-use Rattle.std.proofs.Common.{◌≡◌, inl, Option, None, Some, subst, sym, tt}
+use Rattle.std.proofs.Common.{◌≡◌, inl, Option, None, Some, subst, sym}
 use Rattle.trend_num.specs.declared.tag_def.TagDef.{TagDef}
 use Rattle.disk_model.specs.Traces.{Trace}
 use Rattle.disk_model.proofs.Moments.{started}
