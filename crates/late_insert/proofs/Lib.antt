@@ -16,3 +16,4 @@ pub mod Ranges
 pub mod Walking
 pub mod Nearest
 pub mod Keeping
+pub mod Filling

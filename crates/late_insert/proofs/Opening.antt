@@ -1,5 +1,5 @@
 -- A page in a frame that was taken: the first one, and one behind all others.
-use Rattle.std.proofs.Common.{◌≡◌, ◌≢◌, true, ℕ, ℤ, pos, suc, ◌+◌, ◌-◌, ◌≤◌, inl, inr, List, [], ◌∷◌, ◌++◌}
+use Rattle.std.proofs.Common.{◌≡◌, ◌≢◌, true, ℕ, ℤ, pos, suc, ◌+◌, ◌-◌, ◌<◌, ◌≤◌, inl, inr, List, [], ◌∷◌, ◌++◌}
 use Rattle.std.proofs.Common.{length, get_or, set}
 use Rattle.std.proofs.Common.{Option, Some, None, All, refl, sym, ap, ap₂, ◌∙◌, subst, arith, append-nil}
 use Rattle.std.proofs.Common.{length-append}
@@ -12,12 +12,12 @@ use Rattle.trend_num.specs.Ranges.{InRange}
 use Rattle.page_pool.specs.declared.frame.Frame.{Frame}
 use Rattle.page_pool.specs.Pool.{frame_at, Takes, empty_frame}
 use Rattle.late_insert.specs.declared.directory.Page.{Page}
-use Rattle.trend_model.specs.Contents.{IsRising, placed, points_of}
+use Rattle.trend_model.specs.Contents.{IsRising, points_of}
 use Rattle.trend_model.specs.Windows.{area}
 use Rattle.late_insert.specs.Pages.{AreApart, ids_of, records_in, records_at, page_in, records_of, IsPage}
 use Rattle.late_insert.specs.Pages.{IsPageAt}
 use Rattle.late_insert.specs.Pages.{ArePagesFrom, ArePages, AreHalves}
-use Rattle.trend_model.proofs.Placing.{time, AllBefore, placed_behind, rising_nil, rising_placed}
+use Rattle.trend_model.proofs.Placing.{rising_nil}
 use Rattle.late_insert.proofs.Finding.{HasSome}
 use Rattle.late_insert.proofs.Joining.{Agree, records-agree, pages_agree, records-append, pages_join}
 use Rattle.late_insert.proofs.Joining.{apart_insert, each_id}
@@ -100,11 +100,6 @@ taken_empty pool new id f takes there =
     takes.within in
     cc
 
--- with one record it has that one
-pub only_record : (f g : Frame) (r : Rec) → f ≡ empty_frame → records_in g ≡ records_in f ++ r ∷ []
-    → records_in g ≡ r ∷ []
-only_record f g r is records = records ∙ ap (λ l. l ++ r ∷ []) (ap records_in is ∙ empty_records)
-
 -- behind pages of which the last is half full another one may come
 halves_end : (pool new : List (Option Frame)) (pages : List Page) (q : Page) → Agree pool new pages
     → AreHalves pool pages
@@ -123,13 +118,13 @@ halves_end pool new (p ∷ o ∷ ps) q agree halves last =
       halves_end pool new (o ∷ ps) q rest halves.1 (λ k d is. last (suc k) d (omega arith)),
     )
 
--- what is left where a frame was taken and written with one record, and its page put behind the others
-module _ (pool taken : List (Option Frame)) (pages : List Page) (id first : ℕ) (g : Frame) (r : Rec)
+-- what is left where a frame was taken and written with a run of records, and its page put behind the others
+module _ (pool taken : List (Option Frame)) (pages : List Page) (id first : ℕ) (g : Frame) (run : List Rec)
     (paged : ArePages pool pages)
     (takes : Takes pool id taken) (page : IsPage g) (stair : ℤ)
     (stair_is : stair ≡ area true (points_of (records_in g)))
-    (records : records_in g ≡ r ∷ []) (counted : first ≡ length (records_of pool pages))
-    (before : AllBefore (records_of pool pages) (time r))
+    (records : records_in g ≡ run) (counted : first ≡ length (records_of pool pages)) (some : 0 < length run)
+    (rising : IsRising (records_of pool pages ++ run))
     (full : (d : Page) → length (page_in pool (get_or pages (length pages - 1) d)) ≡ 128) where
   -- the page
   abbrev pub opened_page : Page
@@ -156,13 +151,11 @@ module _ (pool taken : List (Option Frame)) (pages : List Page) (id first : ℕ)
       let long = length-set pool id (Some empty_frame) in
       get_or-set_same (set pool id (Some empty_frame)) id (Some g) None (omega (arith, takes.within))
 
-  records_there : records_of opened_pool (pages ++ opened_page ∷ []) ≡ placed r (records_of pool pages)
+  records_there : records_of opened_pool (pages ++ opened_page ∷ []) ≡ records_of pool pages ++ run
   records_there =
       records-append opened_pool pages (opened_page ∷ [])
-      ∙ (ap₂ (λ xs ys. xs ++ ys) (records-agree pool opened_pool pages agree)
+      ∙ ap₂ (λ xs ys. xs ++ ys) (records-agree pool opened_pool pages agree)
       (append-nil (page_in opened_pool opened_page) ∙ (ap records_at there ∙ records))
-      ∙ sym (ap (placed r) (sym (append-nil (records_of pool pages)))
-      ∙ placed_behind r (records_of pool pages) [] before))
 
   all_some : All (HasSome pool) pages
   all_some = elim (cases_lt 1 (length pages)) [
@@ -190,14 +183,14 @@ module _ (pool taken : List (Option Frame)) (pages : List Page) (id first : ℕ)
       (each_id (λ i. i ≢ id) pages others) (All-nil (λ i. i ≢ id)))
 
   some_there : HasSome opened_pool opened_page
-  some_there = omega (arith, ap length (ap records_at there), ap length records)
+  some_there = omega (arith, ap length (ap records_at there), ap length records, some)
 
   pages_there : ArePages opened_pool (pages ++ opened_page ∷ [])
   pages_there = record {
     each = pages_join opened_pool 0 pages (opened_page ∷ [])
         (pages_agree pool opened_pool 0 pages agree paged.each) (at_end, tt);
     apart = apart_there;
-    rising = subst IsRising (sym records_there) (rising_placed r (records_of pool pages) paged.rising);
+    rising = subst IsRising (sym records_there) rising;
     some = omega (arith, length-append pages (opened_page ∷ []));
     halves = halves_end pool opened_pool pages opened_page agree paged.halves
         (λ k d is. let same : k ≡ length pages - 1 = omega arith in let long = full d in rw same
@@ -210,14 +203,5 @@ module _ (pool taken : List (Option Frame)) (pages : List Page) (id first : ℕ)
   pub pages_opened : ArePages (set taken id (Some g)) (pages ++ opened_page ∷ [])
   pages_opened = subst (λ ps. ArePages ps (pages ++ opened_page ∷ [])) (sym pool_is) pages_there
 
-  pub records-opened : records_of (set taken id (Some g)) (pages ++ opened_page ∷ []) ≡ placed r
-      (records_of pool pages)
+  pub records-opened : records_of (set taken id (Some g)) (pages ++ opened_page ∷ []) ≡ records_of pool pages ++ run
   records-opened = ap (λ ps. records_of ps (pages ++ opened_page ∷ [])) pool_is ∙ records_there
-
-  pub len-opened : length (records_of (set taken id (Some g)) (pages ++ opened_page ∷ [])) ≡ length
-      (records_of pool pages) + 1
-  len-opened =
-      let is : placed r (records_of pool pages) ≡ records_of pool pages ++ r ∷ [] =
-      ap (placed r) (sym (append-nil (records_of pool pages)))
-      ∙ placed_behind r (records_of pool pages) [] before in
-      omega (arith, ap length records-opened, ap length is, length-append (records_of pool pages) (r ∷ []))

@@ -1,17 +1,18 @@
 // A content, in pages.
 ghost use Rattle.std.specs.Prelude.{◌≡◌, ◌↔◌, ℕ, ◌+◌, ◌-◌, ◌^◌, ◌<◌, ◌≤◌, List, [], ◌∷◌, ◌++◌, IfNone, IfOk};
 ghost use Rattle.std.specs.Prelude.{IfSome, IsTrue, IsSome, length, count_by, nat_lt, take, drop};
-ghost use Rattle.std.specs.Prelude.{slice_index_or, slice_get, slice_range, map, All};
+ghost use Rattle.std.specs.Prelude.{slice_index_or, slice_get, slice_range, map, All, fold};
 ghost use Rattle.trend_num.specs.declared.archive.Rec.{Rec};
 ghost use Rattle.trend_num.specs.Ranges.{InRange};
 ghost use Rattle.trend_model.specs.Content.{is_late_record, late_at};
 ghost use Rattle.trend_model.specs.Parts.{last_point};
-ghost use Rattle.trend_model.specs.Contents.{IsCeil, IsContentOf, IsFloor, IsRising, placed, points_of};
+ghost use Rattle.trend_model.specs.Contents.{IsCeil, IsContentOf, IsFloor, IsRising, listed, placed, points_of};
 ghost use Rattle.late_insert.specs.Standing.{StandsAt};
 ghost use Rattle.late_insert.specs.PageTotals.{IsPageOf};
 
 use crate::directory::{Page, page_of};
 use crate::gap::{Around, around_in, gap_in, rec_in};
+use crate::page::run_len;
 use crate::shelf::{first_page, is_full_before, make_room, open_page, put_at};
 use crate::walk::{Runs, runs_in};
 use page_pool::Pool;
@@ -74,6 +75,22 @@ impl Content {
         })
     }
 
+    /// The content of these records, the oldest first, with no room for more. Runs of records in order go into
+    /// whole pages at once. More than 2^32 - 1 records are refused, as memory that is not there.
+    pub fn from_records(alloc: Global, recs: &[Rec]) -> Result<Content, WantOfMemory>
+        requires range { All (λ r. InRange r.point) recs.now }
+        ensures records { IfOk result (λ content. content.records ≡ listed recs.now) }
+        ensures room { IfOk result (λ content. content.spare + length content.records ≡ length recs.now) }
+    {
+        let points = u32::try_from(recs.len()).map_err(|_| WantOfMemory)?;
+        let mut content = Content::new(alloc, points)?;
+        let mut done = 0;
+        while done < recs.len() {
+            done += content.put_front(&recs[done..]);
+        }
+        Ok(content)
+    }
+
     /// Puts one more record in. A Late one takes the place of what is at its time, a Kept one that of a Kept
     /// one.
     pub fn put(&mut self, rec: Rec)
@@ -86,13 +103,31 @@ impl Content {
         ensures spare { self.old.spare ≤ self.new.spare + 1 }
         ensures room { length self.new.records + self.new.spare ≡ length self.old.records + self.old.spare }
     {
+        self.put_front(&[rec]);
+    }
+
+    // Puts the first of these records in: a run of them in a page of its own where they are behind all others
+    // and the last page is full, else one. Returns how many.
+    fn put_front(&mut self, recs: &[Rec]) -> usize
+        requires some { 0 < length recs.now }
+        requires spare { length recs.now ≤ self.old.spare }
+        requires range { All (λ r. InRange r.point) recs.now }
+        ensures some { 0 < result }
+        ensures within { result ≤ length recs.now }
+        ensures records { self.new.records ≡ fold (λ l r. placed r l) self.old.records (take result recs.now) }
+        ensures spare { self.old.spare ≤ self.new.spare + result }
+        ensures room { length self.new.records + self.new.spare ≡ length self.old.records + self.old.spare }
+    {
+        let rec = recs[0];
         if is_full_before(&self.pool, self.pages.as_slice(), rec.point.t) {
-            open_page(&mut self.pool, &mut self.pages, self.len, rec);
-            self.len += 1;
-            return;
+            let n = run_len(recs);
+            open_page(&mut self.pool, &mut self.pages, self.len, &recs[..n]);
+            self.len += n as u32;
+            return n;
         }
         let k = make_room(&mut self.pool, &mut self.pages, rec.point.t);
         self.len += put_at(&mut self.pool, &mut self.pages, k, rec);
+        1
     }
 
     /// For how many more points there is room.

@@ -4,8 +4,9 @@
 //! is one, else the last Kept one. That list is defined in `trend_model`, where a law says that it reads as
 //! the records do. It is kept in pages of up to 128 records, each in a frame of a pool. A record behind all
 //! others goes into the last page, or into a fresh one where that is full, so pages that are filled in order
-//! are full. Any other full page is split into two halves with one new frame, so a value goes into the middle
-//! of a million as fast as into the middle of a page. All memory is taken when a content is made.
+//! are full. A content that is made of a list of records fills a fresh page with a run of them at once. Any
+//! other full page is split into two halves with one new frame, so a value goes into the middle of a million
+//! as fast as into the middle of a page. All memory is taken when a content is made.
 //!
 //! Each page keeps totals of its points: the areas under their line and under their stair, the least value
 //! and the greatest. The list of pages keeps the place and the time of each one's first record, so every

@@ -1,6 +1,6 @@
 // The records of a page, in its frame.
 ghost use Rattle.std.specs.Prelude.{◌≡◌, ℕ, ◌+◌, ◌<◌, ◌≤◌, pos, true, slice_index, slice_index_or, length};
-ghost use Rattle.std.specs.Prelude.{◌++◌, ◌∷◌, [], insert, slice_set, take, drop};
+ghost use Rattle.std.specs.Prelude.{◌++◌, ◌∷◌, [], insert, slice_set, take, drop, All};
 ghost use Rattle.trend_num.specs.Ranges.{InRange};
 ghost use Rattle.trend_model.specs.Contents.{IsRising, over, placed, points_of};
 ghost use Rattle.trend_model.specs.Windows.{area};
@@ -11,6 +11,23 @@ use crate::mark::{kind_at, mark_inserted, mark_put};
 use crate::total::{piece, point_at, refresh};
 use page_pool::Frame;
 use trend_num::{Kind, Rec};
+
+/// How many of these records, the first ones, make a run that rises in time and fits a page.
+pub(crate) fn run_len(recs: &[Rec]) -> usize
+    requires some { 0 < length recs.now }
+    ensures some { 0 < result }
+    ensures within { result ≤ length recs.now }
+    ensures few { result ≤ 128 }
+    ensures rising { IsRising (take result recs.now) }
+{
+    let most = recs.len().min(128);
+    for i in 1..most {
+        if recs[i].point.t <= recs[i - 1].point.t {
+            return i;
+        }
+    }
+    most
+}
 
 /// How many records of a page are before t.
 pub(crate) fn below_in(frame: &Frame, t: u64) -> usize
@@ -78,6 +95,28 @@ fn store(frame: &mut Frame, i: usize, rec: Rec)
     insert_at(&mut frame.values, n, i, rec.point.v);
     frame.late = mark_inserted(frame.late, n, i, rec.kind);
     frame.len += 1;
+}
+
+/// Stores records of their own in a page, in place of what is there, and leaves the totals.
+pub(crate) fn store_run(frame: &mut Frame, run: &[Rec])
+    requires recorded { IsRecorded frame.old }
+    requires few { length run.now ≤ 128 }
+    requires range { All (λ r. InRange r.point) run.now }
+    ensures recorded { IsRecorded frame.new }
+    ensures records { records_in frame.new ≡ run.now }
+{
+    frame.late = 0;
+    for i in 0..run.len() {
+        let rec = run[i];
+        frame.times[i] = rec.point.t;
+        frame.values[i] = rec.point.v;
+        // Most records are Kept, and write no mark.
+        match rec.kind {
+            Kind::Kept => {}
+            Kind::Late => frame.late = mark_put(frame.late, i + 1, i, Kind::Late),
+        }
+    }
+    frame.len = run.len() as u32;
 }
 
 /// Which of two records at one time stands there: the newer one, but no Kept one in place of a Late one.

@@ -1,14 +1,16 @@
-// Pages in the frames of a pool: one that is full is split, and one record more is put in.
-ghost use Rattle.std.specs.Prelude.{◌≡◌, ℕ, ◌+◌, ◌-◌, ◌^◌, ◌<◌, ◌≤◌, [], IsTrue, length, vec_len};
+// Pages in the frames of a pool: one that is full is split, one record more is put in, and a run of records is
+// put behind all others.
+ghost use Rattle.std.specs.Prelude.{◌≡◌, ℕ, ◌+◌, ◌-◌, ◌^◌, ◌<◌, ◌≤◌, [], ◌++◌, IsTrue, length, vec_len};
 ghost use Rattle.std.specs.Prelude.{vec_capacity, slice_index_or, insert, All};
 ghost use Rattle.trend_num.specs.Ranges.{InRange};
 ghost use Rattle.page_pool.specs.Pool.{spare_of};
 ghost use Rattle.late_insert.specs.declared.directory.Page.{Page};
-ghost use Rattle.trend_model.specs.Contents.{placed};
+ghost use Rattle.trend_model.specs.Contents.{IsRising, placed};
 ghost use Rattle.late_insert.specs.Pages.{ArePages, IsFor, IsSplit, page_in, records_of};
 
 use crate::directory::{Page, move_on, page_for};
-use crate::page::{cut, push, put_rec};
+use crate::page::{cut, put_rec, store_run};
+use crate::total::refresh;
 use page_pool::Pool;
 use trend_num::Rec;
 
@@ -43,25 +45,27 @@ pub(crate) fn is_full_before(pool: &Pool, pages: &[Page], t: u64) -> bool
     frame.len == 128 && frame.times[127] < t
 }
 
-/// Puts a record behind all others, in a page of its own. So pages that are filled in order are full.
-pub(crate) fn open_page(pool: &mut Pool, pages: &mut Vec<Page>, len: u32, rec: Rec)
+/// Puts a run of records behind all others, in a page of its own. So pages that are filled in order are full.
+pub(crate) fn open_page(pool: &mut Pool, pages: &mut Vec<Page>, len: u32, run: &[Rec])
     requires pages { ArePages pool.old pages.old.items }
     requires counted { len ≡ length (records_of pool.old pages.old.items) }
-    requires before { All (λ r. r.point.t < rec.point.t) (records_of pool.old pages.old.items) }
     requires full { (d : Page)
         → length (page_in pool.old (slice_index_or pages.old.items (length pages.old.items - 1) d)) ≡ 128 }
     requires spare { 0 < spare_of pool.old }
     requires room { vec_len pages.old < vec_capacity pages.old }
-    requires range { InRange rec.point }
+    requires some { 0 < length run.now }
+    requires few { length run.now ≤ 128 }
+    requires range { All (λ r. InRange r.point) run.now }
+    requires rising { IsRising (records_of pool.old pages.old.items ++ run.now) }
     ensures pages { ArePages pool.new pages.new.items }
-    ensures records { records_of pool.new pages.new.items ≡ placed rec (records_of pool.old pages.old.items) }
-    ensures grown { length (records_of pool.new pages.new.items) ≡ length (records_of pool.old pages.old.items) + 1 }
+    ensures records { records_of pool.new pages.new.items ≡ records_of pool.old pages.old.items ++ run.now }
     ensures frames { vec_len pages.new + spare_of pool.new ≡ vec_len pages.old + spare_of pool.old }
     ensures capacity { vec_capacity pages.new ≡ vec_capacity pages.old }
 {
     let id = pool.take_frame().unwrap();
     let frame = pool.frame_mut(&id);
-    let stair = push(frame, 0, rec);
+    store_run(frame, run);
+    let stair = refresh(frame);
     let start = frame.times[0];
     pages.push_reserved(Page {
         id,

@@ -1,5 +1,6 @@
 // Outside examples of contents, and a plain sorted list beside the pages.
-ghost use Rattle.std.specs.Prelude.{◌≡◌};
+ghost use Rattle.std.specs.Prelude.{◌≡◌, IsTrue, All};
+ghost use Rattle.trend_num.specs.Ranges.{InRange};
 
 use crate::{Around, Content, Kind, Point, Rec};
 use std::alloc::{AllocError, Global};
@@ -21,6 +22,18 @@ fn put(rt: &impl Abort, content: &mut Content, rec: Rec) {
     assert!(rt; content.spare() > 0);
     assert!(rt; in_range(rec.point));
     content.put(rec);
+}
+
+/// Whether the points of all these records are in range.
+fn all_in_range(recs: &[Rec]) -> bool
+    ensures { IsTrue result → All (λ r. InRange r.point) recs.now }
+{
+    for i in 0..recs.len() {
+        if !in_range(recs[i].point) {
+            return false;
+        }
+    }
+    true
 }
 
 /// The point at a place.
@@ -78,6 +91,26 @@ fn pages_filled_in_order_are_full(rt: HostRuntime) -> Result<(), Fail> {
         let page = content.page(i);
         assert_eq!(rt; (page.first, page.len), (first, len));
     }
+    Ok(())
+}
+
+#[test]
+fn records_in_order_are_put_in_whole_pages(rt: HostRuntime) -> Result<(), Fail> {
+    let mut recs = Vec::new(rt.alloc());
+    for i in 0..300u64 {
+        recs.push(rec(Kind::Kept, 2 * i, i as i64))?;
+    }
+    recs.push(rec(Kind::Late, 301, -1))?;
+    assert!(rt; all_in_range(recs.as_slice()));
+    let content = Content::from_records(rt.alloc(), recs.as_slice())?;
+    assert_eq!(rt; (content.len(), content.spare()), (301, 0));
+    assert_eq!(rt; point(&rt, &content, 151), Point { t: 301, v: -1 });
+    assert!(rt; content.len() > 127);
+    let page = content.page(127);
+    assert_eq!(rt;
+        (page.len, page.area, page.low, page.high),
+        (128, 32258, 0, 127)
+    );
     Ok(())
 }
 

@@ -1,6 +1,7 @@
 // Totals over the records of a page.
-ghost use Rattle.std.specs.Prelude.{◌≡◌, ℕ, ◌<◌, ◌≤◌, pos, true, slice_index_or, slice_range, length};
-ghost use Rattle.trend_num.specs.Ranges.{InRange};
+ghost use Rattle.std.specs.Prelude.{◌≡◌, ℕ, ◌<◌, ◌≤◌, pos, true, false, slice_index_or, slice_range, length};
+ghost use Rattle.std.specs.Prelude.{◌*◌, ◌*ℤ◌, unsigned_abs};
+ghost use Rattle.trend_num.specs.Ranges.{InRange, largest_value, last_time};
 ghost use Rattle.trend_model.specs.Contents.{points_of};
 ghost use Rattle.late_insert.specs.Pages.{IsPage, IsRecorded, rec_in, records_in};
 ghost use Rattle.trend_model.specs.Windows.{area, piece};
@@ -22,6 +23,16 @@ pub(crate) fn point_at(frame: &Frame, i: usize) -> Point
     }
 }
 
+/// A length of time times a sum of two values.
+fn product(length: u64, sum: i64) -> i128
+    requires length { length ≤ last_time }
+    requires sum { unsigned_abs sum ≤ 2 * largest_value }
+    ensures { result ≡ pos length *ℤ sum }
+{
+    // Signed words, since one multiplication of them then does.
+    i128::from(length as i64) * i128::from(sum)
+}
+
 /// Twice the area between two neighbours: a line goes from the one value to the other, a stair keeps the
 /// first.
 pub fn piece(step: bool, p: Point, q: Point) -> i128
@@ -29,11 +40,11 @@ pub fn piece(step: bool, p: Point, q: Point) -> i128
     requires second { InRange q }
     ensures { result ≡ piece step p q }
 {
-    let width = i128::from(q.t.saturating_sub(p.t));
+    let length = q.t.saturating_sub(p.t);
     if step {
-        return width * (i128::from(p.v) + i128::from(p.v));
+        return product(length, p.v + p.v);
     }
-    width * (i128::from(p.v) + i128::from(q.v))
+    product(length, p.v + q.v)
 }
 
 /// Twice the area under the line or the stair through the points from a place on, before another.
@@ -81,6 +92,42 @@ pub(crate) fn high_between(frame: &Frame, start: usize, end: usize) -> i64
     high
 }
 
+/// Totals of all points of a page.
+#[derive(Clone, Copy)]
+struct Totals {
+    line: i128,
+    stair: i128,
+    low: i64,
+    high: i64,
+}
+
+/// The totals of all points of a page, by one pass over them.
+fn totals_of(frame: &Frame) -> Totals
+    requires recorded { IsRecorded frame.now }
+    requires some { 0 < frame.now.len }
+    ensures line { result.line ≡ area false (points_of (records_in frame.now)) }
+    ensures stair { result.stair ≡ area true (points_of (records_in frame.now)) }
+    ensures low { result.low ≡ least_of (points_of (records_in frame.now)) }
+    ensures high { result.high ≡ greatest_of (points_of (records_in frame.now)) }
+{
+    let mut before = point_at(frame, 0);
+    let mut all = Totals {
+        line: 0,
+        stair: 0,
+        low: before.v,
+        high: before.v,
+    };
+    for i in 1..frame.len as usize {
+        let p = point_at(frame, i);
+        all.line += piece(false, before, p);
+        all.stair += piece(true, before, p);
+        all.low = all.low.min(p.v);
+        all.high = all.high.max(p.v);
+        before = p;
+    }
+    all
+}
+
 /// Counts the totals of a page again. Returns twice the area under its stair.
 pub(crate) fn refresh(frame: &mut Frame) -> i128
     requires recorded { IsRecorded frame.old }
@@ -89,9 +136,9 @@ pub(crate) fn refresh(frame: &mut Frame) -> i128
     ensures page { IsPage frame.new }
     ensures stair { result ≡ area true (points_of (records_in frame.old)) }
 {
-    let n = frame.len as usize;
-    frame.area = area_between(frame, false, 0, n);
-    frame.low = low_between(frame, 0, n);
-    frame.high = high_between(frame, 0, n);
-    area_between(frame, true, 0, n)
+    let all = totals_of(frame);
+    frame.area = all.line;
+    frame.low = all.low;
+    frame.high = all.high;
+    all.stair
 }

@@ -1,19 +1,16 @@
-use Rattle.std.proofs.Common.{true, false, ap, ◌∙◌, rules}
+use Rattle.std.proofs.Common.{◌∙◌, rules}
 use Rattle.std.specs.Prelude.{FitsSigned}
 use Rattle.std.specs.Int.{w64, w128}
 use Rattle.std.proofs.lemmas.Int.{to_z-of_z}
-use Rattle.trend_model.specs.Windows.{area}
-use Rattle.late_insert.specs.Totals.{least_of, greatest_of}
-use Rattle.late_insert.proofs.Summing.{whole_range}
 use Rattle.late_insert.proofs.total.refresh.Goals as goal
 
 pub returns-clause-page : goal.returns-clause-page
 returns-clause-page c =
     let kept = c.requires.recorded in
-    let all = whole_range c.args.frame.now in
-    let line : FitsSigned w128 c.area_between-frame.result = search rules in
-    let low : FitsSigned w64 c.low_between-frame.result = search rules in
-    let high : FitsSigned w64 c.high_between-frame.result = search rules in
+    let all = c.totals_of-all.result in
+    let line : FitsSigned w128 all.line = search rules in
+    let low : FitsSigned w64 all.low = search rules in
+    let high : FitsSigned w64 all.high = search rules in
     record {
       recorded = record {
         few = kept.few;
@@ -22,15 +19,7 @@ returns-clause-page c =
         marks = kept.marks;
         range = kept.range;
       };
-      area = to_z-of_z w128 c.area_between-frame.result line
-          ∙ (c.area_between-frame.ensures ∙ ap (area false) all);
-      low = to_z-of_z w64 c.low_between-frame.result low ∙ (c.low_between-frame.ensures ∙ ap least_of all);
-      high = to_z-of_z w64 c.high_between-frame.result high
-          ∙ (c.high_between-frame.ensures ∙ ap greatest_of all);
+      area = to_z-of_z w128 all.line line ∙ c.totals_of-all.ensures.line;
+      low = to_z-of_z w64 all.low low ∙ c.totals_of-all.ensures.low;
+      high = to_z-of_z w64 all.high high ∙ c.totals_of-all.ensures.high;
     }
-
-pub returns-clause-stair : goal.returns-clause-stair
-returns-clause-stair c =
-    let stair : FitsSigned w128 c.area_between.result = search rules in
-    to_z-of_z w128 c.area_between.result stair
-    ∙ (c.area_between.ensures ∙ ap (area true) (whole_range c.args.frame.now))

@@ -1,0 +1,14 @@
+use Rattle.std.proofs.Common.{◌≡◌, ◌+◌, ◌-◌, ◌≤◌, length, take}
+use Rattle.trend_model.specs.Contents.{listed}
+use Rattle.late_insert.proofs.content.Content.from_records.Given as goal
+
+abbrev pub invariant-loop-done : goal.invariant-loop-done
+invariant-loop-done l = record {
+  records : l.content.records ≡ listed (take l.done l.recs);
+  within : l.done ≤ length l.recs;
+  spare : length l.recs ≤ l.content.spare + l.done;
+  room : length l.content.records + l.content.spare ≡ length l.recs;
+}
+
+abbrev pub decreases-loop-done : goal.decreases-loop-done
+decreases-loop-done l = length l.recs - l.done
