@@ -24,11 +24,6 @@ pub(crate) fn contents_of(alloc: Global, cores: &[TagCore]) -> Result<Vec<Conten
 fn content_of(alloc: Global, core: &TagCore) -> Result<Content, WantOfMemory>
     ensures { IfOk result (λ content. content.records ≡ listed core.now.state.records) }
 {
-    let summary = core.summary();
-    let recs = core.recs();
-    let mut content = Content::new(alloc, summary.records)?;
-    for rec in recs {
-        content.put(*rec);
-    }
-    Ok(content)
+    let _summary = core.summary();
+    Content::from_records(alloc, core.recs())
 }
