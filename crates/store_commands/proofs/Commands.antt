@@ -47,7 +47,7 @@ asked_lists base n lists none as_many all =
 
 -- the refusal of a tag is no fault of a file
 pub no_file_fault : (tags : List TagDef) (old new : List ℕ → Option Trace) (before now : ℕ) (why : Status)
-    → IsRefusal tags old new before now why → (n : ℕ) → n ≡ faults_told why n
+    → IsRefusal tags old new before now why → (n : ℕ) → faults_told why n ≡ n
 no_file_fault tags old new before now Done is n = refl
 no_file_fault tags old new before now BadWords is n = refl
 no_file_fault tags old new before now (BadText file rule place at) is n = refl

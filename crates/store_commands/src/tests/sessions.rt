@@ -48,7 +48,9 @@ fn tag(exc_dev: u64, comp_dev: u64) -> Option<TagDef> {
 
 // The base of the tag with this CompDev.
 fn base(alloc: Global, comp_dev: u64) -> Result<String, AllocError> {
-    format!(in alloc; "[[tag]]\nname = \"T1\"\nexc_dev = 0\nexc_max = 1000000\ncomp_dev = {comp_dev}\ncomp_min = 0\ncomp_max = 1000000\n")
+    format!(in alloc;
+        "[[tag]]\nname = \"T1\"\nexc_dev = 0\nexc_max = 1000000\ncomp_dev = {comp_dev}\ncomp_min = 0\ncomp_max = 1000000\n"
+    )
 }
 
 // The device after one more session, of which each value is acknowledged.
@@ -74,7 +76,9 @@ fn stored(alloc: Global, sessions: &[Session<'_>]) -> Option<MemStore> {
         dev = after(alloc, dev, *session)?;
     }
     let mut devices = Vec::new(alloc);
-    devices.push((String::from_str(alloc, "T1.tag").ok()?, dev)).ok()?;
+    devices
+        .push((String::from_str(alloc, "T1.tag").ok()?, dev))
+        .ok()?;
     Some(MemStore::new(devices))
 }
 
