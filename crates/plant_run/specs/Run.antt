@@ -47,6 +47,16 @@ pub record World : Type 0 where
   pub devices : Devices
   pub device_faults : ℕ
 
+abbrev pub world : Outside → Outside → ToldFiles → ℕ → Devices → ℕ → World
+world input output files file_faults devices device_faults = record {
+  input = input;
+  output = output;
+  files = files;
+  file_faults = file_faults;
+  devices = devices;
+  device_faults = device_faults;
+}
+
 -- a text was printed, or a part of it where a write failed, or the line that tells why there is none
 abbrev pub PrintsSo : (List ℕ → Type 0) → (Status → Type 0) → Outside → Outside → Status → Type 0
 PrintsSo IsText IsRefusal before now Done = (text : List ℕ) × IsText text × IsWritten before now text

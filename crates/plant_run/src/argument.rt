@@ -5,7 +5,7 @@ ghost use Rattle.std.specs.Process.{exit_status};
 ghost use Rattle.std.specs.Vec.Iter.{into_iter_items};
 ghost use Rattle.plant_status.specs.Status.{code_of};
 ghost use Rattle.plant_run.specs.Argument.{status_of_args};
-ghost use Rattle.plant_run.specs.Run.{EndsWithCode, IsTold, KeepsFor};
+ghost use Rattle.plant_run.specs.Run.{EndsWithCode, IsTold, KeepsFor, world};
 ghost use Rattle.plant_run.specs.CommandLine.{Unknown, form_of};
 
 use crate::top_call::{refuse, run};
@@ -33,22 +33,10 @@ pub fn run_args<R: Threads + Wait + Sync, I: Source, F: Files, O: Sink, S: Store
 ) -> ExitCode
     // The words are the arguments after the first.
     ensures ends { IfOk args (λ given. EndsWithCode (map string_bytes (drop 1 (into_iter_items given)))
-        (record {
-          input = I.meaning input.old;
-          output = O.meaning out.old;
-          files = F.told files.old;
-          file_faults = F.fault_count files.old;
-          devices = S.device_at store.old;
-          device_faults = S.fault_count store.old;
-        })
-        (record {
-          input = I.meaning input.new;
-          output = O.meaning out.new;
-          files = F.told files.new;
-          file_faults = F.fault_count files.new;
-          devices = S.device_at store.new;
-          device_faults = S.fault_count store.new;
-        }) (exit_status result)) }
+        (world (I.meaning input.old) (O.meaning out.old) (F.told files.old) (F.fault_count files.old)
+        (S.device_at store.old) (S.fault_count store.old))
+        (world (I.meaning input.new) (O.meaning out.new) (F.told files.new) (F.fault_count files.new)
+        (S.device_at store.new) (S.fault_count store.new)) (exit_status result)) }
     ensures bad_words { IfOk args (λ given. form_of (map string_bytes (drop 1 (into_iter_items given))) ≡ Unknown
         → (exit_status result ≡ code_of Status.BadWords) ⊎ (exit_status result ≡ code_of Status.WantOfMemory)) }
 

@@ -2,7 +2,7 @@
 ghost use Rattle.std.specs.Prelude.{◌≡◌, ◌↔◌, ◌⊎◌, ◌≢◌, map, string_bytes, IfOk, IfErr, OnOk, OnErr};
 ghost use Rattle.trend_num.specs.Ranges.{IsTuned};
 ghost use Rattle.plant_run.specs.CommandLine.{Unknown, form_of};
-ghost use Rattle.plant_run.specs.Run.{EndsIn, IsNotPacked, IsPacked, IsPrintedSo, IsTold, KeepsFor, PrintsSo};
+ghost use Rattle.plant_run.specs.Run.{EndsIn, IsNotPacked, IsPacked, IsPrintedSo, IsTold, KeepsFor, PrintsSo, world};
 
 use crate::command_line::{check_base, pack_tuning, trend_files};
 use byte_io::{Files, Sink, Source, WriteFault, write_all};
@@ -30,22 +30,10 @@ pub fn run<R: Threads + Wait + Sync, I: Source, F: Files, O: Sink, S: Store>(
 ) -> Status
     // What was read and printed where it ends so. Want of memory alone has no other cause.
     ensures ends { EndsIn (map string_bytes words.now)
-        (record {
-          input = I.meaning input.old;
-          output = O.meaning out.old;
-          files = F.told files.old;
-          file_faults = F.fault_count files.old;
-          devices = S.device_at store.old;
-          device_faults = S.fault_count store.old;
-        })
-        (record {
-          input = I.meaning input.new;
-          output = O.meaning out.new;
-          files = F.told files.new;
-          file_faults = F.fault_count files.new;
-          devices = S.device_at store.new;
-          device_faults = S.fault_count store.new;
-        }) result }
+        (world (I.meaning input.old) (O.meaning out.old) (F.told files.old) (F.fault_count files.old)
+        (S.device_at store.old) (S.fault_count store.old))
+        (world (I.meaning input.new) (O.meaning out.new) (F.told files.new) (F.fault_count files.new)
+        (S.device_at store.new) (S.fault_count store.new)) result }
 
     // What a crash at any moment leaves of the devices.
     ensures devices { KeepsFor (form_of (map string_bytes words.now)) (F.told files.old) (S.device_at store.old)
