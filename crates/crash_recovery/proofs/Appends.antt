@@ -23,8 +23,8 @@ use Rattle.event_queue.proofs.Batches.{length-batch_bytes}
 use Rattle.event_queue.proofs.Filled.{absent, whole}
 use Rattle.crash_recovery.specs.declared.seat.Seat.{Seat}
 use Rattle.crash_recovery.specs.Recovery.{AllFit, IsReplayed, Recovers}
-use Rattle.crash_recovery.specs.Journals.{AllRecover, RecoversEither, SeatedOn, free_in}
-use Rattle.crash_recovery.specs.Seats.{IsLaid, LaidOn, restarted}
+use Rattle.crash_recovery.specs.Journals.{AllRecover, RecoversEither, SeatedOn, free_in, IsLaid}
+use Rattle.crash_recovery.specs.Seats.{LaidOn, restarted}
 use Rattle.crash_recovery.proofs.Replays.{replay_append, fit_append}
 use Rattle.crash_recovery.proofs.Stored.{KeepsStored, lane_replayed, replays, recovers_kept, recovers_same}
 use Rattle.crash_recovery.proofs.SettledDevices.{now_shown, shown_now, shown_both, during_from, shown_from}

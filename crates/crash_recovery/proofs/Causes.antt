@@ -1,6 +1,6 @@
 -- What was read and why it was refused, of a device that may not tell its calls.
-use Rattle.std.proofs.Common.{◌≡◌, ℕ, ◌+◌, ◌*◌, ◌<◌, ◌≤◌, Bool, List, [], length, take, drop, get_or, nat_eq, nat_le}
-use Rattle.std.proofs.Common.{Option, None, Some, refl, sym, ◌∙◌, ap, subst, arith}
+use Rattle.std.proofs.Common.{◌≡◌, ℕ, ◌<◌, ◌≤◌, Bool, List, [], length, get_or, nat_eq, nat_le}
+use Rattle.std.proofs.Common.{Option, None, Some, subst, arith}
 use Rattle.std.specs.Int.{w64, from_be_bytes}
 use Rattle.trend_num.specs.declared.archive.Summary.{Summary}
 use Rattle.trend_num.specs.declared.archive.Rec.{Rec}
@@ -8,7 +8,7 @@ use Rattle.trend_num.specs.declared.tuning.Tuning.{Tuning}
 use Rattle.trend_num.specs.declared.tag_def.TagDef.{TagDef}
 use Rattle.trend_model.specs.Parts.{ArePartsOk}
 use Rattle.disk_model.specs.Traces.{Trace, seen}
-use Rattle.disk_model.specs.Calls.{Reads, Reaches, HasLength}
+use Rattle.disk_model.specs.Calls.{Reads, HasLength}
 use Rattle.disk_model.specs.Gates.{open_byte, IsOpen}
 use Rattle.archive_file.specs.Places.{HasRecords, IsDamage}
 use Rattle.archive_file.specs.Summaries.{summary_image, IsSummary}
@@ -16,16 +16,14 @@ use Rattle.event_queue.specs.Slots.{lane_end}
 use Rattle.crash_recovery.specs.declared.header.Header.{Header}
 use Rattle.crash_recovery.specs.declared.layout_reader.Stored.{Stored}
 use Rattle.crash_recovery.specs.declared.slot.Slot.{Slot}
-use Rattle.crash_recovery.specs.Headers.{def_in, slots_in, IsHeader, IsHeaderBroken}
-use Rattle.crash_recovery.specs.SlotFields.{IsSlotBroken}
-use Rattle.crash_recovery.specs.Recovery.{summary_place, summary_gate, slot_bytes, chosen, counting, in_force}
+use Rattle.crash_recovery.specs.Headers.{IsHeaderBroken}
+use Rattle.crash_recovery.specs.Recovery.{summary_place, slot_bytes, chosen, counting, in_force}
 use Rattle.crash_recovery.specs.Recovery.{no_summary}
 use Rattle.crash_recovery.specs.Damages.{IsTagDamage}
 use Rattle.crash_recovery.specs.Opening.{Shows, IsOther, HasHeader, HasLayout, CountsSummary, IsReadFrom}
-use Rattle.crash_recovery.proofs.Reading.{has_header, header_broken, counting_read, here_at, records_broken}
+use Rattle.crash_recovery.proofs.Reading.{header_broken, counting_read, here_at, records_broken}
 use Rattle.crash_recovery.proofs.Reading.{parts_broken}
-use Rattle.crash_recovery.proofs.Reading.{is_other, counts_summary, stored_none, stored_some, layout_short}
-use Rattle.crash_recovery.proofs.Reading.{has_layout}
+use Rattle.crash_recovery.proofs.Reading.{is_other, counts_summary, stored_none, stored_some}
 
 -- the same bytes were read before some calls that changed nothing
 pub reads_before : (o p : Option Trace) (at : ℕ) (bytes : List ℕ) → p ≡ o → Reads p at bytes → Reads o at bytes

@@ -40,8 +40,8 @@ use Rattle.crash_recovery.specs.Recovery.{header_of, log_place, summary_place, s
 use Rattle.crash_recovery.specs.Recovery.{taken_in, records_in, counting}
 use Rattle.crash_recovery.specs.Recovery.{HasSummary, in_force, start_of, AllFit, IsOfTag, IsStored}
 use Rattle.crash_recovery.specs.Recovery.{values_beyond, IsReplayed, Recovers}
-use Rattle.crash_recovery.specs.Journals.{AllRecover, GoesOnFrom, RecoversEither, IsInUse}
-use Rattle.crash_recovery.specs.Seats.{log_end, spare_slot, IsLaid, LaidOn, IsOverrun, OverrunOn, IsReady}
+use Rattle.crash_recovery.specs.Journals.{AllRecover, GoesOnFrom, RecoversEither, IsInUse, log_end, IsLaid, IsOverrun}
+use Rattle.crash_recovery.specs.Seats.{spare_slot, LaidOn, OverrunOn, IsReady}
 use Rattle.crash_recovery.specs.Seats.{ReadyOn}
 use Rattle.crash_recovery.proofs.Pieces.{same_piece}
 use Rattle.crash_recovery.proofs.Counting.{counting_new}

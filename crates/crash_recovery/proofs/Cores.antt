@@ -1,41 +1,36 @@
 -- What was read of a device is what it recovers, and where its lane is broken.
-use Rattle.std.proofs.Common.{◌≡◌, ◌≢◌, inl, inr, ⊎_elim, ℕ, zero, suc, ◌+◌, ◌*◌, ◌<◌, ◌≤◌, min, Bool, true}
-use Rattle.std.proofs.Common.{false, List, [], ◌∷◌, ◌++◌, length, take, drop, map}
-use Rattle.std.proofs.Common.{get_or, Option, None, Some, refl, sym, ◌∙◌, ap, ap₂, subst, arith, length-append}
+use Rattle.std.proofs.Common.{◌≡◌, inl, inr, ℕ, ◌+◌, ◌*◌, ◌<◌, ◌≤◌, Bool}
+use Rattle.std.proofs.Common.{false, List, [], ◌∷◌, length, take, drop, map}
+use Rattle.std.proofs.Common.{Option, None, Some, refl, sym, ◌∙◌, ap, ap₂, subst, arith, length-append}
 use Rattle.std.proofs.Common.{length-take, length-drop}
 use Rattle.std.proofs.lemmas.Bool.{cases_Bool}
 use Rattle.trend_num.specs.declared.archive.TheConstants.{MAX_RECORDS}
 use Rattle.trend_num.specs.declared.archive.Rec.{Rec}
 use Rattle.trend_num.specs.declared.archive.Summary.{Summary}
-use Rattle.trend_num.specs.declared.point.Point.{Point}
-use Rattle.trend_num.specs.declared.tuning.Tuning.{Tuning}
 use Rattle.trend_num.specs.declared.tag_def.TagDef.{TagDef}
 use Rattle.trend_model.specs.History.{Event, Raw}
 use Rattle.trend_model.specs.State.{State, replay}
 use Rattle.disk_model.specs.Traces.{Trace, seen}
-use Rattle.disk_model.specs.Calls.{Rose}
 use Rattle.disk_model.specs.Gates.{IsOpen}
 use Rattle.archive_file.specs.Records.{recs_image, rec_image}
 use Rattle.archive_file.specs.Places.{HasRecords}
 use Rattle.event_queue.specs.declared.reader.Scanned.{Scanned}
-use Rattle.event_queue.specs.Slots.{lane_end}
-use Rattle.event_queue.specs.Lanes.{IsLane, lane_points}
+use Rattle.event_queue.specs.Slots.{lane_end, gate_of, batch_at}
+use Rattle.event_queue.specs.Lanes.{IsLane, IsStale, lane_points}
 use Rattle.event_queue.specs.Damages.{IsLaneDamage}
-use Rattle.event_queue.specs.Places.{HasRoom, IsFilled, IsOvertaken}
+use Rattle.event_queue.specs.Places.{IsFilled}
 use Rattle.event_queue.specs.Scans.{IsWithin, IsRead}
 use Rattle.event_queue.proofs.Found.{scanned_overtaken, scanned_filled}
 use Rattle.crash_recovery.specs.declared.failure.OpenNo.{OpenNo}
 use Rattle.crash_recovery.specs.declared.failure.OpenNo.TheVariants.{DeviceFault, Damaged, OtherTag, Full}
 use Rattle.crash_recovery.specs.declared.failure.OpenNo.TheVariants.{WantOfMemory}
 use Rattle.crash_recovery.specs.declared.layout_reader.Stored.{Stored}
-use Rattle.crash_recovery.specs.declared.seat.Seat.{Seat}
-use Rattle.crash_recovery.specs.declared.slot.Slot.{Slot}
-use Rattle.crash_recovery.specs.Headers.{slots_in, tuning_in}
-use Rattle.crash_recovery.specs.Recovery.{header_of, log_place, start_of, state_of, in_force, HasSummary}
-use Rattle.crash_recovery.specs.Recovery.{AllFit, IsStored, IsReplayed, IsRecovered}
+use Rattle.crash_recovery.specs.Headers.{slots_in}
+use Rattle.crash_recovery.specs.Recovery.{header_of, start_of, HasSummary}
+use Rattle.crash_recovery.specs.Recovery.{AllFit, IsRecovered}
 use Rattle.crash_recovery.specs.Damages.{IsValuePlace, StandsThere, IsTagDamage}
 use Rattle.crash_recovery.specs.Damages.IsTagDamage.{BadQueue, BadValue}
-use Rattle.crash_recovery.specs.Journals.{IsInUse, IsLeftBehind, LaneStands, IsSeat}
+use Rattle.crash_recovery.specs.Journals.{IsInUse, IsSeat}
 use Rattle.crash_recovery.specs.Opening.{Shows, IsReadFrom, HoldsValue, IsOverfull, IsCause}
 use Rattle.crash_recovery.proofs.Reading.{rose_before}
 use Rattle.crash_recovery.proofs.Stored.{taken_stored, records_stored}
@@ -93,16 +88,12 @@ module _ (def : TagDef) (slots : ℕ) (x : Stored) (c : List ℕ) (read : IsRead
   filled untold = scanned_filled slots x.summary.taken c s scanned inside
       (subst (λ n. lane_end n ≤ length c) (sym read.slots_are) read.stored.long) untold
 
-  lane_stands : (stale : Bool) → s.stale ≡ stale → LaneStands stale slots x.summary.taken s.lane.used s.lane.next c
-  lane_stands false is = let f = filled is in record {
+  in_use : s.stale ≡ false → IsInUse slots x.summary.taken s.lane.used s.lane.next c
+  in_use fresh = let f = filled fresh in record {
     lane = f.lane;
     opened = f.opened;
     beyond = f.beyond;
     number = f.number ∙ ap (λ l. x.summary.taken + length l) (sym f.points);
-  }
-  lane_stands true is = record {
-    stale = (scanned_overtaken slots x.summary.taken c s scanned inside is).stale;
-    number = inside.number ∙ ap (λ l. x.summary.taken + length l) (inside.none_stale is) ∙ omega arith;
   }
 
   pub seated : IsSeat (record {
@@ -118,25 +109,32 @@ module _ (def : TagDef) (slots : ℕ) (x : Stored) (c : List ℕ) (read : IsRead
       let summary_there : HasSummary c x.slot x.summary = subst
       (λ o. HasSummary c o x.summary) read.slot read.stored.summary in
       record {
-        opened = read.stored.tag.opened;
-        header = read.stored.tag.header;
-        slots = slots_same;
-        room = record {
-          long = subst (λ n. lane_end n ≤ length c) (sym slots_same) read.stored.long;
-          shut = λ k low there. scanned.none_behind k low (omega (arith, there, inside.slots_same));
+        laid = record {
+          opened = read.stored.tag.opened;
+          header = read.stored.tag.header;
+          slots = slots_same;
+          room = record {
+            long = subst (λ n. lane_end n ≤ length c) (sym slots_same) read.stored.long;
+            shut = λ k low there. scanned.none_behind k low (omega (arith, there, inside.slots_same));
+          };
+          counts = sym read.slot;
+          taken = sym (taken_stored c x.slot x.summary summary_there);
+          records = sym (records_stored c x.slot x.summary summary_there);
+          long = omega (
+            arith,
+            log_long c (lane_end s.lane.slots) x.summary.records x.recs.items
+                (subst (λ n. lane_end n ≤ length c) (sym slots_same) read.stored.long)
+                (subst (λ n. HasRecords c (lane_end n) x.summary.records x.recs.items)
+                (sym slots_same) read.stored.records),
+          );
+          in_use = λ fresh. subst (λ n. IsInUse n x.summary.taken s.lane.used s.lane.next c) (sym inside.slots_same)
+              (in_use fresh);
+          number = λ is. inside.number ∙ ap (λ l. x.summary.taken + length l) (inside.none_stale is) ∙ omega arith;
         };
-        counts = sym read.slot;
-        taken = sym (taken_stored c x.slot x.summary summary_there);
-        records = sym (records_stored c x.slot x.summary summary_there);
-        long = omega (
-          arith,
-          log_long c (lane_end s.lane.slots) x.summary.records x.recs.items
-              (subst (λ n. lane_end n ≤ length c) (sym slots_same) read.stored.long)
-              (subst (λ n. HasRecords c (lane_end n) x.summary.records x.recs.items)
-              (sym slots_same) read.stored.records),
-        );
-        lane = subst (λ n. LaneStands s.stale n x.summary.taken s.lane.used s.lane.next c) (sym inside.slots_same)
-            (lane_stands s.stale refl);
+        overrun = λ is. record {
+          stale = subst (λ n. (k : ℕ) → k < n → IsOpen (gate_of k) c → IsStale x.summary.taken (batch_at n c k))
+              (sym inside.slots_same) (scanned_overtaken slots x.summary.taken c s scanned inside is).stale;
+        };
       }
 
   -- a value that finds no room

@@ -1,16 +1,13 @@
 -- Where the values of a lane stand.
-use Rattle.std.proofs.Common.{◌≡◌, inl, inr, ⊎_elim, ℕ, ◌+◌, ◌-◌, ◌*◌, ◌<◌, ◌≤◌, min, List, [], ◌++◌, length}
+use Rattle.std.proofs.Common.{◌≡◌, ℕ, ◌+◌, ◌-◌, ◌*◌, ◌<◌, ◌≤◌, min, List, ◌++◌, length}
 use Rattle.std.proofs.Common.{take, drop}
-use Rattle.std.proofs.Common.{get_or, Option, None, Some, refl, sym, ◌∙◌, ap, subst, arith, length-append}
-use Rattle.std.proofs.lemmas.List.{append-nil}
+use Rattle.std.proofs.Common.{get_or, Option, None, Some, sym, ◌∙◌, ap, subst, arith, length-append}
 use Rattle.std.specs.Int.{w16, from_be_bytes}
-use Rattle.trend_num.specs.declared.point.Point.{Point}
 use Rattle.disk_model.specs.Traces.{Trace, seen}
 use Rattle.disk_model.specs.Calls.{Reads}
 use Rattle.archive_file.proofs.Logs.{part_of}
-use Rattle.event_queue.specs.Slots.{gate_of, place_of, slot_at, batch_at, count_in, points_in, lane_end}
-use Rattle.event_queue.specs.Lanes.{points_beyond, points_of, points_before, lane_points}
-use Rattle.event_queue.specs.Places.{IsFilled}
+use Rattle.event_queue.specs.Slots.{place_of, slot_at, batch_at, count_in}
+use Rattle.event_queue.specs.Lanes.{points_beyond, points_before}
 use Rattle.event_queue.proofs.Batches.{length-points_in}
 use Rattle.event_queue.proofs.Steps.{points_open, points_more, beyond_all}
 use Rattle.event_queue.proofs.Filled.{lane_points_used}

@@ -24,8 +24,8 @@ use Rattle.crash_recovery.specs.declared.seat.Seat.{Seat}
 use Rattle.crash_recovery.specs.declared.slot.Slot.{Slot}
 use Rattle.crash_recovery.specs.declared.slot.Slot.TheVariants.{First, Second}
 use Rattle.crash_recovery.specs.Recovery.{summary_place, summary_gate, slot_bytes, Recovers}
-use Rattle.crash_recovery.specs.Journals.{AllRecover, IsInUse}
-use Rattle.crash_recovery.specs.Seats.{log_end, spare_slot, IsLaid, LaidOn, IsLogged, ReadyOn}
+use Rattle.crash_recovery.specs.Journals.{AllRecover, IsInUse, log_end, IsLaid}
+use Rattle.crash_recovery.specs.Seats.{spare_slot, LaidOn, IsLogged, ReadyOn}
 use Rattle.crash_recovery.proofs.Pieces.{same_piece}
 use Rattle.crash_recovery.proofs.Stored.{KeepsStored, KeepsLane, recovers_same}
 use Rattle.crash_recovery.proofs.SettledDevices.{now_shown, shown_now, shown_both, during_from, shown_from}

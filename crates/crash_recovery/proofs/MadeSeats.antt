@@ -1,12 +1,11 @@
 -- The place of a journal on a device whose layout was just made.
-use Rattle.std.proofs.Common.{◌≡◌, ℕ, ◌+◌, ◌*◌, ◌<◌, ◌≤◌, false, List, length, Option, None, Some, IfSome, refl}
+use Rattle.std.proofs.Common.{ℕ, ◌≤◌, false, List, length, Option, None, Some, IfSome, refl}
 use Rattle.std.proofs.Common.{sym, ap, arith}
 use Rattle.trend_num.specs.declared.tag_def.TagDef.{TagDef}
 use Rattle.trend_num.specs.Names.{IsName}
 use Rattle.trend_num.specs.Ranges.{IsTuned}
 use Rattle.disk_model.specs.Traces.{Trace, seen}
 use Rattle.disk_model.specs.Images.{IsSettled}
-use Rattle.event_queue.specs.declared.lane.Lane.{Lane}
 use Rattle.crash_recovery.specs.declared.seat.Seat.{Seat}
 use Rattle.crash_recovery.specs.Journals.{IsSeat, SeatedOn}
 use Rattle.crash_recovery.specs.Layouts.{IsMade}
@@ -25,20 +24,24 @@ first_seat slots = record {
 made_seat : (def : TagDef) (slots : ℕ) (c : List ℕ) → IsMade def slots c → IsTuned def.tuning → IsName def.name
     → 1 ≤ slots → slots ≤ 65536 → IsSeat (first_seat slots) c
 made_seat def slots c made tuned name some few = record {
-  opened = made.opened;
-  header = made_header def slots c made tuned name some few;
-  slots = sym (made_slots def slots c made tuned name some few);
-  room = made_room def slots c made;
-  counts = sym (made_counting def slots c made tuned name some few);
-  taken = refl;
-  records = refl;
-  long = omega (arith, made.long);
-  lane = record {
-    lane = made_lane def slots c made 0;
-    opened = λ k below. absurd (omega (arith, below));
-    beyond = λ k below. absurd (omega (arith, below));
-    number = omega (arith, ap length (made_points def slots c made 0));
+  laid = record {
+    opened = made.opened;
+    header = made_header def slots c made tuned name some few;
+    slots = sym (made_slots def slots c made tuned name some few);
+    room = made_room def slots c made;
+    counts = sym (made_counting def slots c made tuned name some few);
+    taken = refl;
+    records = refl;
+    long = omega (arith, made.long);
+    in_use = λ fresh. record {
+      lane = made_lane def slots c made 0;
+      opened = λ k below. absurd (omega (arith, below));
+      beyond = λ k below. absurd (omega (arith, below));
+      number = omega (arith, ap length (made_points def slots c made 0));
+    };
+    number = λ stale. refl;
   };
+  overrun = λ stale. absurd (cc (stale));
 }
 
 -- the same of a device

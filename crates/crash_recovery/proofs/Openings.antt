@@ -204,12 +204,12 @@ pub slots_kept : (o mid : Option Trace) (wanted : ℕ) (p : Seat) → mid ≡ no
 slots_kept o mid wanted p is seat = shown_before o mid (HasSlots wanted p.lane.slots) is (kept mid seat)
   where
     not_new : (c : List ℕ) → IsSeat p c → IsNew c → ⊥
-    not_new c stands (inl short) = absurd (omega (arith, short, stands.long))
-    not_new c stands (inr shut) = shut stands.opened
+    not_new c stands (inl short) = absurd (omega (arith, short, stands.laid.long))
+    not_new c stands (inr shut) = shut stands.laid.opened
 
     kept : (m : Option Trace) → Shows m (IsSeat p) → Shows m (HasSlots wanted p.lane.slots)
     kept None shows = tt
-    kept (Some t) shows = inr (not_new _ shows, shows.slots)
+    kept (Some t) shows = inr (not_new _ shows, shows.laid.slots)
 
 -- ---- a tag that has to be retuned and is full
 

@@ -13,8 +13,8 @@ use Rattle.crash_recovery.specs.declared.slot.Slot.{Slot}
 use Rattle.crash_recovery.specs.declared.slot.Slot.TheVariants.{First, Second}
 use Rattle.crash_recovery.specs.Headers.{slots_in, IsHeader}
 use Rattle.crash_recovery.specs.Recovery.{summary_place, summary_gate, slot_bytes}
-use Rattle.crash_recovery.specs.Journals.{IsInUse, LaneStands, IsSeat, SeatedOn}
-use Rattle.crash_recovery.specs.Seats.{log_end, spare_slot, IsLaid, LaidOn, OverrunOn}
+use Rattle.crash_recovery.specs.Journals.{log_end, IsInUse, IsLaid, SeatedOn}
+use Rattle.crash_recovery.specs.Seats.{spare_slot, LaidOn, OverrunOn}
 use Rattle.crash_recovery.proofs.Pieces.{same_piece}
 use Rattle.crash_recovery.proofs.Counting.{same_counting, counting_left}
 use Rattle.crash_recovery.proofs.Stored.{KeepsStored, taken_kept, records_kept}
@@ -185,57 +185,22 @@ laid_moved p stale used next a b laid keeps room in_use number = record {
 }
 
 -- what a journal keeps is more
-laid_of : (p : Seat) (c : List ℕ) → IsSeat p c → IsLaid p c
-laid_of p c seat = record {
-  opened = seat.opened;
-  header = seat.header;
-  slots = seat.slots;
-  room = seat.room;
-  counts = seat.counts;
-  taken = seat.taken;
-  records = seat.records;
-  long = seat.long;
-  in_use = λ is. subst (λ b. LaneStands b p.lane.slots p.taken p.lane.used p.lane.next c) is seat.lane;
-  number = λ is. (subst (λ b. LaneStands b p.lane.slots p.taken p.lane.used p.lane.next c) is
-      seat.lane).number;
-}
-
--- and it is this where the lane is not overtaken
-seat_of : (p : Seat) (c : List ℕ) → IsLaid p c → p.stale ≡ false → IsSeat p c
-seat_of p c laid fresh = record {
-  opened = laid.opened;
-  header = laid.header;
-  slots = laid.slots;
-  room = laid.room;
-  counts = laid.counts;
-  taken = laid.taken;
-  records = laid.records;
-  long = laid.long;
-  lane = subst (λ b. LaneStands b p.lane.slots p.taken p.lane.used p.lane.next c) (sym fresh)
-      (laid.in_use fresh);
-}
-
--- the same of devices
 pub laid_on : (p : Seat) (o : Option Trace) → SeatedOn p o → LaidOn p o
 laid_on p None seated = tt
-laid_on p (Some t) seated = record { settled = seated.settled; laid = laid_of p (seen (Some t)) seated.seat }
+laid_on p (Some t) seated = record { settled = seated.settled; laid = seated.seat.laid }
 
 -- a place that is not overtaken
 pub seated_on : (p : Seat) (o : Option Trace) → p.stale ≡ false → LaidOn p o → SeatedOn p o
 seated_on p None fresh laid = tt
 seated_on p (Some t) fresh laid = record {
   settled = laid.settled;
-  seat = seat_of p (seen (Some t)) laid.laid
-      fresh;
+  seat = record { laid = laid.laid; overrun = λ stale. absurd (cc (fresh, stale)) };
 }
 
 -- an overtaken one
 pub overrun_on : (p : Seat) (o : Option Trace) → SeatedOn p o → p.stale ≡ true → OverrunOn p o
 overrun_on p None seated is = tt
-overrun_on p (Some t) seated is =
-    let lane = subst (λ b. LaneStands b p.lane.slots p.taken p.lane.used p.lane.next (seen (Some t))) is
-    seated.seat.lane in
-    record { stale = lane.stale }
+overrun_on p (Some t) seated is = seated.seat.overrun is
 
 -- its parts
 pub settled_on : (p : Seat) (o : Option Trace) → LaidOn p o → IsSettled o

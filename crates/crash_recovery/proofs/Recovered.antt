@@ -19,8 +19,7 @@ use Rattle.event_queue.proofs.Steps.{beyond_all, points_open, points_more}
 use Rattle.event_queue.proofs.Overtaken.{overtaken_none}
 use Rattle.crash_recovery.specs.declared.seat.Seat.{Seat}
 use Rattle.crash_recovery.specs.Recovery.{start_of, IsReplayed, Recovers}
-use Rattle.crash_recovery.specs.Journals.{GoesOnFrom}
-use Rattle.crash_recovery.specs.Seats.{IsLaid, IsOverrun}
+use Rattle.crash_recovery.specs.Journals.{GoesOnFrom, IsLaid, IsOverrun}
 use Rattle.crash_recovery.proofs.Replays.{IsCounted, replay_counted, replay_more}
 use Rattle.crash_recovery.proofs.Stored.{taken_known, not_new, lane_replayed}
 

@@ -15,8 +15,8 @@ use Rattle.event_queue.proofs.Overtaken.{overtaken_none, overtaken_closing}
 use Rattle.event_queue.proofs.Filled.{lane_points_used}
 use Rattle.crash_recovery.specs.declared.seat.Seat.{Seat}
 use Rattle.crash_recovery.specs.Recovery.{Recovers}
-use Rattle.crash_recovery.specs.Journals.{AllRecover, IsInUse}
-use Rattle.crash_recovery.specs.Seats.{IsLaid, LaidOn, IsOverrun, OverrunOn, restarted}
+use Rattle.crash_recovery.specs.Journals.{AllRecover, IsInUse, IsLaid, IsOverrun}
+use Rattle.crash_recovery.specs.Seats.{LaidOn, OverrunOn, restarted}
 use Rattle.crash_recovery.proofs.Stored.{KeepsLane, recovers_same}
 use Rattle.crash_recovery.proofs.SettledDevices.{shown_now, shown_both, during_from, shown_from}
 use Rattle.crash_recovery.proofs.Places.{OnlyLane, only_lane, laid_moved, settled_on, laid_shown, laid_again}

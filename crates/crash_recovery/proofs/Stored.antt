@@ -17,8 +17,7 @@ use Rattle.crash_recovery.specs.Headers.{name_in, tuning_in, slots_in, is_step_i
 use Rattle.crash_recovery.specs.Recovery.{IsNew, header_of, log_place, slot_bytes, counting}
 use Rattle.crash_recovery.specs.Recovery.{HasSummary, in_force, state_of, start_of, AllFit, IsOfTag, IsStored}
 use Rattle.crash_recovery.specs.Recovery.{IsReplayed, Recovers}
-use Rattle.crash_recovery.specs.Journals.{taken_of, records_of}
-use Rattle.crash_recovery.specs.Seats.{IsLaid}
+use Rattle.crash_recovery.specs.Journals.{taken_of, records_of, IsLaid}
 use Rattle.crash_recovery.proofs.SlotNumbers.{taken_spelled, records_spelled}
 
 -- all bytes on which what is stored depends are as they were

@@ -57,17 +57,12 @@ pub record IsInUse (slots taken used next : ℕ) (c : List ℕ) : Type 0 where
   pub beyond : (k : ℕ) → k < used → taken < (batch_at slots c k).first + (batch_at slots c k).count
   pub number : next ≡ taken + length (lane_points slots c taken)
 
--- the summary has overtaken each open lane slot
-pub record IsLeftBehind (slots taken next : ℕ) (c : List ℕ) : Type 0 where
-  pub stale : (k : ℕ) → k < slots → IsOpen (gate_of k) c → IsStale taken (batch_at slots c k)
-  pub number : next ≡ taken
+-- where the records end that the summary counts
+abbrev pub log_end : Seat → ℕ
+log_end p = lane_end p.lane.slots + 17 * p.records
 
-abbrev pub LaneStands : Bool → ℕ → ℕ → ℕ → ℕ → List ℕ → Type 0
-LaneStands false slots taken used next c = IsInUse slots taken used next c
-LaneStands true slots taken used next c = IsLeftBehind slots taken next c
-
--- it is a place on a device of these bytes
-pub record IsSeat (p : Seat) (c : List ℕ) : Type 0 where
+-- a place on a device of these bytes; where a summary has overtaken the lane, nothing is said of that
+pub record IsLaid (p : Seat) (c : List ℕ) : Type 0 where
   pub opened : IsOpen 0 c
   pub header : IsHeader (header_of c)
   pub slots : p.lane.slots ≡ slots_in (header_of c)
@@ -75,8 +70,18 @@ pub record IsSeat (p : Seat) (c : List ℕ) : Type 0 where
   pub counts : p.counts ≡ counting c
   pub taken : p.taken ≡ taken_of c p.counts
   pub records : p.records ≡ records_of c p.counts
-  pub long : lane_end p.lane.slots + 17 * p.records ≤ length c
-  pub lane : LaneStands p.stale p.lane.slots p.taken p.lane.used p.lane.next c
+  pub long : log_end p ≤ length c
+  pub in_use : p.stale ≡ false → IsInUse p.lane.slots p.taken p.lane.used p.lane.next c
+  pub number : p.stale ≡ true → p.lane.next ≡ p.taken
+
+-- the summary has overtaken each open lane slot
+pub record IsOverrun (p : Seat) (c : List ℕ) : Type 0 where
+  pub stale : (k : ℕ) → k < p.lane.slots → IsOpen (gate_of k) c → IsStale p.taken (batch_at p.lane.slots c k)
+
+-- a place on a device of these bytes, where each open lane slot of an overtaken lane is stale
+pub record IsSeat (p : Seat) (c : List ℕ) : Type 0 where
+  pub laid : IsLaid p c
+  pub overrun : p.stale ≡ true → IsOverrun p c
 
 -- a device on which that is a place, and of which a crash leaves what a read gives
 pub record IsSeated (p : Seat) (t : Trace) : Type 0 where

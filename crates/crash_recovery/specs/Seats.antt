@@ -1,44 +1,22 @@
 -- What the steps of a journal keep true of its place, between one and the next, and what they make of the
 -- device.
-use Rattle.std.specs.Prelude.{◌≡◌, ◌≢◌, ◌⊎◌, ℕ, ◌+◌, ◌*◌, ◌<◌, ◌≤◌, true, false, List, length, drop}
+use Rattle.std.specs.Prelude.{◌≡◌, ◌≢◌, ◌⊎◌, ℕ, ◌<◌, ◌≤◌, false, List, length, drop}
 use Rattle.std.specs.Prelude.{slice_index, Option, None, Some, IfSome}
 use Rattle.trend_num.specs.declared.archive.Rec.{Rec}
 use Rattle.disk_model.specs.Traces.{Trace, seen}
 use Rattle.disk_model.specs.Images.{IsSettled}
-use Rattle.disk_model.specs.Gates.{open_byte, IsOpen, IsShut, Holds}
+use Rattle.disk_model.specs.Gates.{open_byte, IsShut, Holds}
 use Rattle.archive_file.specs.Records.{recs_image}
-use Rattle.event_queue.specs.Slots.{gate_of, lane_end, batch_at}
-use Rattle.event_queue.specs.Lanes.{IsStale}
-use Rattle.event_queue.specs.Places.{HasRoom}
-use Rattle.crash_recovery.specs.Headers.{slots_in, IsHeader}
 use Rattle.crash_recovery.specs.declared.seat.Seat.{Seat}
 use Rattle.crash_recovery.specs.declared.slot.Slot.{Slot}
 use Rattle.crash_recovery.specs.declared.slot.Slot.TheVariants.{First, Second}
-use Rattle.crash_recovery.specs.Recovery.{header_of, counting}
-use Rattle.crash_recovery.specs.Journals.{taken_of, records_of, IsInUse}
-
--- where the records end that the summary counts
-abbrev pub log_end : Seat → ℕ
-log_end p = lane_end p.lane.slots + 17 * p.records
+use Rattle.crash_recovery.specs.Journals.{log_end, IsLaid, IsOverrun}
 
 -- the slot into which the next summary goes: one that does not count
 abbrev pub spare_slot : Option Slot → Slot
 spare_slot None = First
 spare_slot (Some First) = Second
 spare_slot (Some Second) = First
-
--- a place on a device of these bytes; where a summary has overtaken the lane, nothing is said of that
-pub record IsLaid (p : Seat) (c : List ℕ) : Type 0 where
-  pub opened : IsOpen 0 c
-  pub header : IsHeader (header_of c)
-  pub slots : p.lane.slots ≡ slots_in (header_of c)
-  pub room : HasRoom p.lane.slots p.lane.used c
-  pub counts : p.counts ≡ counting c
-  pub taken : p.taken ≡ taken_of c p.counts
-  pub records : p.records ≡ records_of c p.counts
-  pub long : log_end p ≤ length c
-  pub in_use : p.stale ≡ false → IsInUse p.lane.slots p.taken p.lane.used p.lane.next c
-  pub number : p.stale ≡ true → p.lane.next ≡ p.taken
 
 -- a device on which that is a place, and of which a crash leaves what a read gives
 pub record IsLaidOut (p : Seat) (t : Trace) : Type 0 where
@@ -49,10 +27,6 @@ pub record IsLaidOut (p : Seat) (t : Trace) : Type 0 where
 abbrev pub LaidOn : Seat → Option Trace → Type 0
 LaidOn p None = Unit {0}
 LaidOn p (Some t) = IsLaidOut p t
-
--- the summary has overtaken each open lane slot
-pub record IsOverrun (p : Seat) (c : List ℕ) : Type 0 where
-  pub stale : (k : ℕ) → k < p.lane.slots → IsOpen (gate_of k) c → IsStale p.taken (batch_at p.lane.slots c k)
 
 -- the same where the device tells its calls
 abbrev pub OverrunOn : Seat → Option Trace → Type 0

@@ -12,8 +12,8 @@ ghost use Rattle.archive_file.specs.declared.failure.PutNo.TheVariants.{DeviceFa
 ghost use Rattle.archive_file.specs.declared.failure.PutNo.TheVariants.{WantOfMemory as NoMemory};
 ghost use Rattle.event_queue.specs.Slots.{lane_end};
 ghost use Rattle.crash_recovery.specs.Recovery.{summary_gate, Recovers};
-ghost use Rattle.crash_recovery.specs.Journals.{AllRecover, GoesOnFrom, RecoversEither, SeatedOn, free_in};
-ghost use Rattle.crash_recovery.specs.Seats.{log_end, spare_slot, LaidOn, OverrunOn, ReadyOn};
+ghost use Rattle.crash_recovery.specs.Journals.{AllRecover, GoesOnFrom, RecoversEither, SeatedOn, free_in, log_end};
+ghost use Rattle.crash_recovery.specs.Seats.{spare_slot, LaidOn, OverrunOn, ReadyOn};
 
 use crate::layout_reader::log_start;
 use crate::seat::Seat;

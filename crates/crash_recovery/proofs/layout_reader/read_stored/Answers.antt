@@ -1,4 +1,4 @@
-use Rattle.std.proofs.Common.{◌≡◌, ◌∙◌, Some, refl, sym, arith}
+use Rattle.std.proofs.Common.{◌≡◌, ◌∙◌, Some, refl, arith}
 use Rattle.crash_recovery.specs.Recovery.{counting, slot_bytes}
 use Rattle.archive_file.specs.Places.{HasRecords}
 use Rattle.archive_file.specs.Summaries.{summary_image}

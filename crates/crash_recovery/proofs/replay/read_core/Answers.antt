@@ -1,4 +1,4 @@
-use Rattle.std.proofs.Common.{◌<◌, ◌+◌, ap, ap₂, Err, ◌∙◌, sym, subst, length, take, map}
+use Rattle.std.proofs.Common.{◌<◌, ◌+◌, ap, ap₂, Err, ◌∙◌, subst, length, take, map}
 use Rattle.trend_num.specs.declared.archive.TheConstants.{MAX_RECORDS}
 use Rattle.trend_model.specs.History.{Raw}
 use Rattle.trend_model.specs.State.{replay}

@@ -1,5 +1,4 @@
-use Rattle.std.proofs.Common.{◌≡◌, ◌≤◌, ◌+◌, ℕ, length, Option, IfSome}
-use Rattle.disk_model.specs.Traces.{seen}
+use Rattle.std.proofs.Common.{◌≡◌, ◌≤◌, ℕ}
 use Rattle.crash_recovery.specs.Opening.{Shows, HoldsValue}
 use Rattle.crash_recovery.proofs.LanePlaces.{IsCountedTo}
 use Rattle.crash_recovery.proofs.replay.value_place.Given as goal

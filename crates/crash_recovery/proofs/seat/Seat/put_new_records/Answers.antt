@@ -2,7 +2,7 @@ use Rattle.std.proofs.Common.{◌-◌, length, take, drop, subst}
 use Rattle.disk_model.specs.Images.{FromOld, IsTorn}
 use Rattle.disk_model.specs.Moments.{During}
 use Rattle.archive_file.specs.Records.{recs_image}
-use Rattle.crash_recovery.specs.Seats.{log_end}
+use Rattle.crash_recovery.specs.Journals.{log_end}
 use Rattle.crash_recovery.proofs.Logged.{new_records, torn_kept, torn_moments}
 use Rattle.crash_recovery.proofs.seat.Seat.put_new_records.Goals as goal
 
