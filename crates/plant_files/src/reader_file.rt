@@ -41,13 +41,6 @@ impl ReaderQueries {
     {
         self.rows.as_slice()
     }
-
-    /// The queries in order, moved out.
-    pub fn into_rows(self) -> Vec<Query>
-        ensures { result.items ≡ self }
-    {
-        self.rows
-    }
 }
 
 // The file of the reader at a place. The number stays at the end of its type.

@@ -18,6 +18,10 @@ use Rattle.trend_command.specs.Told.{trend_text}
 abbrev pub Devices : Type 0
 Devices = List ℕ → Option Trace
 
+-- no device has changed
+abbrev pub AreUntouched : Devices → Devices → Type 0
+AreUntouched old new = (n : List ℕ) → new n ≡ old n
+
 -- ---- check
 
 -- the base was read of the file of this name, its tags are opened, and this is a line for each
@@ -28,9 +32,9 @@ pub record IsChecked (name : List ℕ) (told : ToldFiles) (old : Devices) (text 
   pub opened : AreOpened base.tags.items old cores
   pub same : text ≡ check_text base.tags.items cores
 
--- the base is refused, or its tags are. No memory may be found at any time
+-- the base is refused, and no device has changed; or its tags are. No memory may be found at any time
 abbrev pub IsCheckRefusal : List ℕ → ToldFiles → Devices → Devices → ℕ → ℕ → Status → Type 0
-IsCheckRefusal name told old new before now why = IsBaseRefusal (told name) why
+IsCheckRefusal name told old new before now why = (IsBaseRefusal (told name) why × AreUntouched old new)
     ⊎ (((base : Base) × IsBaseFile (told name) base × IsRefusal base.tags.items old new before now why)
     ⊎ (why ≡ WantOfMemory))
 
@@ -49,16 +53,17 @@ pub record IsTrend (name plan_name : List ℕ) (told : ToldFiles) (old : Devices
   pub opened : AreOpened base.tags.items old cores
   pub same : text ≡ trend_text cores lists
 
--- the refusals, in their order: of the base, of a group, of the plan, of a reader's file, of a tag
+-- the refusals, in their order: of the base, of a group, of the plan, of a reader's file, of a tag. Before that of a tag no device
+-- has changed
 pub data IsTrendRefusal (name plan_name : List ℕ) (told : ToldFiles) (old new : Devices) (before now : ℕ) (why : Status) : Type 0 where
-  OfBase : IsBaseRefusal (told name) why → IsTrendRefusal name plan_name told old new before now why
+  OfBase : IsBaseRefusal (told name) why → AreUntouched old new → IsTrendRefusal name plan_name told old new before now why
   OfGroup : (base : Base) → IsBaseFile (told name) base → base.groups.items ≢ [] → why ≡ NotYet
-      → IsTrendRefusal name plan_name told old new before now why
+      → AreUntouched old new → IsTrendRefusal name plan_name told old new before now why
   OfPlan : (base : Base) → IsBaseFile (told name) base → base.groups.items ≡ []
-      → IsPlanRefusal base.groups.items (told plan_name) why → IsTrendRefusal name plan_name told old new before now why
+      → IsPlanRefusal base.groups.items (told plan_name) why → AreUntouched old new → IsTrendRefusal name plan_name told old new before now why
   OfReader : (base : Base) (plan : Plan) → IsBaseFile (told name) base → base.groups.items ≡ []
       → IsPlanFile base.groups.items (told plan_name) plan → IsQueriesRefusal base told plan.readers.items why
-      → IsTrendRefusal name plan_name told old new before now why
+      → AreUntouched old new → IsTrendRefusal name plan_name told old new before now why
   OfTag : (base : Base) (plan : Plan) (lists : List (List Query)) → IsBaseFile (told name) base → base.groups.items ≡ []
       → IsPlanFile base.groups.items (told plan_name) plan → AreQueries base told plan.readers.items lists
       → IsRefusal base.tags.items old new before now why → IsTrendRefusal name plan_name told old new before now why
@@ -67,7 +72,7 @@ pub data IsTrendRefusal (name plan_name : List ℕ) (told : ToldFiles) (old new 
 -- ---- devices
 
 -- no device has changed; or those of the base's tags alone have, and a crash at any moment since leaves of each an image that one
--- before might have left, or that recovers the same
+-- before might have left, or that recovers the same, or that as it is opened
 abbrev pub AreKept : List ℕ → ToldFiles → Devices → Devices → Type 0
-AreKept name told old new = ((n : List ℕ) → new n ≡ old n)
+AreKept name told old new = AreUntouched old new
     ⊎ ((base : Base) × IsBaseFile (told name) base × AllStaySame base.tags.items old new × AreOthersSame base.tags.items old new)

@@ -2,8 +2,9 @@
 //!
 //! Both read the base of a plant, and open its tags over a store of devices, one after the other. [`check`] prints a line for
 //! each tag. [`trend`] reads a plan and the files of its readers first, and prints the answer to each query. Neither starts a
-//! worker, nor waits. A refusal is the first one in the order base, groups, plan, readers' files, tags. A crash at any moment
-//! leaves of each device what one before might have left, or what recovers the same.
+//! worker, nor waits. A refusal is the first one in the order base, groups, plan, readers' files, tags; before that of a tag no
+//! device has changed. A crash at any moment leaves of each device what one before might have left, or what recovers the same,
+//! or that as it is opened: of a device that tells its calls, and of fewer than 10^18 events.
 #![tactic(auto)]
 
 mod opened;

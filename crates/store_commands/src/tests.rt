@@ -66,14 +66,18 @@ fn store(alloc: Global, name: &str, bytes: &[u8]) -> Result<MemStore, AllocError
 #[test]
 fn each_tag_has_a_line(rt: HostRuntime) -> Result<(), Fail> {
     let alloc = rt.alloc();
-    let mut files = files(alloc, &[("base.toml", TAGS)])?;
-    let mut store = MemStore::new(Vec::new(alloc));
-    let text = check(alloc, &mut files, &mut store, "base.toml").expect(&rt, "opened tags");
-    assert_eq!(rt;
-        text.as_str(),
-        "tag T1 taken=0 records=0 kept=0 late=0 held=none\n\
-         tag T2 taken=0 records=0 kept=0 late=0 held=none\n",
-    );
+    let mut grouped = String::from_str(alloc, TAGS)?;
+    grouped.push_str(GROUP)?;
+    for base in [TAGS, grouped.as_str()] {
+        let mut files = files(alloc, &[("base.toml", base)])?;
+        let mut store = MemStore::new(Vec::new(alloc));
+        let text = check(alloc, &mut files, &mut store, "base.toml").expect(&rt, "opened tags");
+        assert_eq!(rt;
+            text.as_str(),
+            "tag T1 taken=0 records=0 kept=0 late=0 held=none\n\
+             tag T2 taken=0 records=0 kept=0 late=0 held=none\n",
+        );
+    }
     Ok(())
 }
 

@@ -10,7 +10,7 @@ use Rattle.crash_recovery.specs.declared.failure.OpenNo.{OpenNo}
 use Rattle.crash_recovery.specs.declared.failure.OpenNo.TheVariants.{DeviceFault, Damaged, OtherTag, Full}
 use Rattle.crash_recovery.specs.declared.failure.OpenNo.TheVariants.{WantOfMemory}
 use Rattle.crash_recovery.specs.Opening.{IsCause}
-use Rattle.tag_store.specs.declared.opening.TheConstants.{MAX_STORE_RECORDS}
+use Rattle.tag_store.specs.Tags.{most_store_records}
 use Rattle.tag_store.specs.Tags.{device_name, trace_of, AreDistinct, AreOpened, AreOthersSame, records_in}
 use Rattle.tag_store.specs.Refusals.{status_of, IsRefusedAt, IsRefusal}
 use Rattle.tag_store.proofs.Turns.{IsSoFar, IsTag, IsTurn, unreached, touched}
@@ -32,7 +32,7 @@ all_opened tags i old cores end opened =
 pub refused_at : (tags : List TagDef) (i : ℕ) (def : TagDef) (old now new : List ℕ → Option Trace)
     (cores : List Core)
     (P : List Core → TagDef → Option Trace → Type 0) → IsSoFar tags i old now cores
-    → records_in cores ≤ MAX_STORE_RECORDS
+    → records_in cores ≤ most_store_records
     → AreDistinct tags → IsTag tags i def → IsTurn def now new → P cores def (trace_of now def)
     → IsRefusedAt tags old new i P
 refused_at tags i def old now new cores P so_far few distinct tag turn cause = record {
@@ -51,7 +51,7 @@ refused_at tags i def old now new cores P so_far few distinct tag turn cause = r
 pub told : (tags : List TagDef) (i : ℕ) (def : TagDef) (old now new : List ℕ → Option Trace)
     (cores : List Core)
     (before middle after : ℕ) (why : OpenNo) → IsSoFar tags i old now cores
-    → records_in cores ≤ MAX_STORE_RECORDS
+    → records_in cores ≤ most_store_records
     → AreDistinct tags → IsTag tags i def → IsTurn def now new → (before < 2 ^ 64 → before ≤ middle)
     → IsCause def (trace_of now def) middle after why → IsRefusal tags old new before after (status_of i why)
 told tags i def old now new cores before middle after DeviceFault so_far few distinct tag turn later cause =

@@ -14,8 +14,7 @@ use Rattle.plant_status.specs.declared.unit.Unit.TheVariants.{Tag}
 use Rattle.plant_status.specs.declared.status.Status.{Status}
 use Rattle.plant_status.specs.declared.status.Status.TheVariants.{DeviceFault, Damaged, OtherTag, Limit}
 use Rattle.plant_status.specs.declared.status.Status.TheVariants.{WantOfMemory}
-use Rattle.tag_store.specs.declared.opening.TheConstants.{MAX_STORE_RECORDS}
-use Rattle.tag_store.specs.Tags.{trace_of, IsOpened, AreOpened, AreOthersSame, records_in}
+use Rattle.tag_store.specs.Tags.{trace_of, IsOpened, AreOpened, AreOthersSame, records_in, most_store_records}
 
 -- what a tag that is not opened is answered with
 abbrev pub status_of : ℕ → OpenNo → Status
@@ -34,7 +33,7 @@ pub record IsRefusedAt (tags : List TagDef) (old new : List ℕ → Option Trace
   pub there : i < length tags
   pub is_tag : slice_index_or tags i def ≡ def
   pub front : AreOpened (take i tags) old cores
-  pub few : records_in cores ≤ MAX_STORE_RECORDS
+  pub few : records_in cores ≤ most_store_records
   pub cause : P cores def (trace_of old def)
   pub rest : AreOthersSame (take (i + 1) tags) old new
 
@@ -43,7 +42,7 @@ pub record IsTooMuch (number : ℕ) (cores : List Core) (def : TagDef) (o : Opti
   pub core : Core
   pub opened : IsOpened def o core
   pub number_is : number ≡ records_in cores + length core.state.records
-  pub many : MAX_STORE_RECORDS < number
+  pub many : most_store_records < number
 
 -- why the tags are not opened, where the store counted so many faults before and so many now
 abbrev pub IsRefusal : List TagDef → (List ℕ → Option Trace) → (List ℕ → Option Trace) → ℕ → ℕ → Status

@@ -45,3 +45,7 @@ AllStaySame tags old new = All (λ def. StaysSame def (trace_of old def) (trace_
 -- how many records there are in all
 abbrev pub records_in : List Core → ℕ
 records_in cores = sum_by (λ core. length core.state.records) cores
+
+-- that many there may be: eight tags of the most that one may have
+abbrev pub most_store_records : ℕ
+most_store_records = 8388608

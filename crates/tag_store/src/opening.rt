@@ -1,7 +1,7 @@
 // Opening the tags of a base.
 ghost use Rattle.std.specs.Prelude.{◌≡◌, ◌^◌, ◌<◌, ◌≤◌, length, All, IfOk, IfErr};
 ghost use Rattle.trend_num.specs.Ranges.{IsTuned};
-ghost use Rattle.tag_store.specs.Tags.{AreDistinct, AreOpened, AreOthersSame, AllStaySame, records_in};
+ghost use Rattle.tag_store.specs.Tags.{AreDistinct, AreOpened, AreOthersSame, AllStaySame, most_store_records, records_in};
 ghost use Rattle.tag_store.specs.Refusals.{status_of, IsRefusal};
 
 use crate::device::open_device;
@@ -30,7 +30,7 @@ pub fn open_tags<S: Store>(
     ensures opened { AreDistinct tags.now
         → IfOk result (λ cores. AreOpened tags.now (S.device_at store.old) cores.items) }
     ensures as_many { IfOk result (λ cores. length cores.items ≡ length tags.now) }
-    ensures few_records { IfOk result (λ cores. records_in cores.items ≤ MAX_STORE_RECORDS) }
+    ensures few_records { IfOk result (λ cores. records_in cores.items ≤ most_store_records) }
 
     // A crash at any moment leaves of each device what one before might have left, or what recovers the same.
     ensures any_moment { AreDistinct tags.now

@@ -7,13 +7,13 @@ use Rattle.store_commands.proofs.replies.trend.Goals as goal
 pub returns-then-not-is_empty-clause-refused : goal.returns-then-not-is_empty-clause-refused
 returns-then-not-is_empty-clause-refused g c =
     let base = c.in-Ok.base in
-    OfGroup base c.in-Ok.ensures.base (found_some base.groups (sym c.is_empty.ensures ∙ c.if-not-is_empty.true)) refl
+    OfGroup base c.in-Ok.ensures.base (found_some base.groups (sym c.is_empty.ensures ∙ c.if-not-is_empty.true)) refl (λ n. refl)
 
 pub returns-in-Err-plan_of-clause-refused : goal.returns-in-Err-plan_of-clause-refused
 returns-in-Err-plan_of-clause-refused g c =
     let base = c.in-Ok.base in
     let none = found_empty base.groups (sym c.is_empty.ensures ∙ c.if-not-is_empty.false) in
-    OfPlan base c.in-Ok.ensures.base none (rw (← c.in-Ok.ensures.stays) c.in-Err-plan_of.ensures.refused)
+    OfPlan base c.in-Ok.ensures.base none (rw (← c.in-Ok.ensures.stays) c.in-Err-plan_of.ensures.refused) (λ n. refl)
 
 pub returns-in-Err-queries_of-clause-refused : goal.returns-in-Err-queries_of-clause-refused
 returns-in-Err-queries_of-clause-refused g c =
@@ -22,7 +22,7 @@ returns-in-Err-queries_of-clause-refused g c =
     let none = found_empty base.groups (sym c.is_empty.ensures ∙ c.if-not-is_empty.false) in
     let stays = c.in-Ok-plan_of.ensures.stays ∙ c.in-Ok.ensures.stays in
     OfReader base plan c.in-Ok.ensures.base none (rw (← c.in-Ok.ensures.stays) c.in-Ok-plan_of.ensures.plan)
-    (rw (← stays) c.in-Err-queries_of.ensures.refused)
+    (rw (← stays) c.in-Err-queries_of.ensures.refused) (λ n. refl)
 
 pub returns-in-Err-open_base-clause-refused : goal.returns-in-Err-open_base-clause-refused
 returns-in-Err-open_base-clause-refused g c =
