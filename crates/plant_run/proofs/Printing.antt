@@ -83,12 +83,12 @@ form_unknown words none no_trend is = ap (λ b. chosen_form b (trend_files words
 
 module _ (name plan_name : List ℕ) (told : ToldFiles) (old new : Devices) (before now : ℕ) where
   pub check_not_done : IsCheckRefusal name told old new before now Done → ⊥
-  check_not_done (inl base) = base
+  check_not_done (inl base) = base.0
   check_not_done (inr (inl tags)) = tags.2
   check_not_done (inr (inr memory)) = cc
 
   pub check_no_fault : IsCheckRefusal name told old new before now WriteFault → ⊥
-  check_no_fault (inl base) = base
+  check_no_fault (inl base) = base.0
   check_no_fault (inr (inl tags)) = tags.2
   check_no_fault (inr (inr memory)) = cc
 
@@ -99,18 +99,18 @@ module _ (name plan_name : List ℕ) (told : ToldFiles) (old new : Devices) (bef
   fault_is_not_memory same = cc
 
   pub trend_not_done : IsTrendRefusal name plan_name told old new before now Done → ⊥
-  trend_not_done (OfBase refused) = refused
-  trend_not_done (OfGroup base read some same) = cc
-  trend_not_done (OfPlan base read none refused) = refused
-  trend_not_done (OfReader base plan read none planned refused) = (refused done_is_not_memory).first.refused
+  trend_not_done (OfBase refused same) = refused
+  trend_not_done (OfGroup base read some is same) = cc
+  trend_not_done (OfPlan base read none refused same) = refused
+  trend_not_done (OfReader base plan read none planned refused same) = (refused done_is_not_memory).first.refused
   trend_not_done (OfTag base plan lists read none planned asked refused) = refused
   trend_not_done (OfMemory same) = cc
 
   pub trend_no_fault : IsTrendRefusal name plan_name told old new before now WriteFault → ⊥
-  trend_no_fault (OfBase refused) = refused
-  trend_no_fault (OfGroup base read some same) = cc
-  trend_no_fault (OfPlan base read none refused) = refused
-  trend_no_fault (OfReader base plan read none planned refused) = (refused fault_is_not_memory).first.refused
+  trend_no_fault (OfBase refused same) = refused
+  trend_no_fault (OfGroup base read some is same) = cc
+  trend_no_fault (OfPlan base read none refused same) = refused
+  trend_no_fault (OfReader base plan read none planned refused same) = (refused fault_is_not_memory).first.refused
   trend_no_fault (OfTag base plan lists read none planned asked refused) = refused
   trend_no_fault (OfMemory same) = cc
 
