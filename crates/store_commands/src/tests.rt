@@ -3,7 +3,7 @@ mod sessions;
 
 use crate::{check, trend};
 use byte_io::MemFiles;
-use disk_model::{MemDisk, MemStore};
+use disk_model::{MemDisk, MemStore, Store};
 use plant_status::{FileId, Status, Unit};
 use std::alloc::{AllocError, Global};
 use std::test::Fail;
@@ -77,6 +77,11 @@ fn each_tag_has_a_line(rt: HostRuntime) -> Result<(), Fail> {
             "tag T1 taken=0 records=0 kept=0 late=0 held=none\n\
              tag T2 taken=0 records=0 kept=0 late=0 held=none\n",
         );
+        // Each device has a layout of 64 lane slots now.
+        for name in ["T1.tag", "T2.tag"] {
+            let dev = store.device(name).expect(&rt, "a device");
+            assert_eq!(rt; dev.bytes().len(), 66_640);
+        }
     }
     Ok(())
 }
