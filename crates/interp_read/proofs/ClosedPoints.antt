@@ -18,7 +18,8 @@ use Rattle.trend_model.specs.Parts.{PointsRise, last_point}
 use Rattle.trend_model.specs.Walk.{kept}
 use Rattle.trend_model.proofs.ReadLaw.{among_middle, points_rise, read_at_point, read_content}
 use Rattle.trend_model.proofs.WindowLaw.{before_middle}
-use Rattle.interp_read.specs.Closing.{IsAfterAll, IsNotBefore, points_closed_by}
+use Rattle.trend_model.specs.Contents.{IsNotBefore}
+use Rattle.interp_read.specs.Closing.{IsAfterAll, points_closed_by}
 use Rattle.interp_read.specs.NextTo.{AreNeighbours}
 use Rattle.interp_read.proofs.RisingPoints.{Before, From, IsGapAt, among_all, all_among, first_drop}
 use Rattle.interp_read.proofs.RisingPoints.{first_parts, gap_at, last_parts, last_push, no_last, rises_push}

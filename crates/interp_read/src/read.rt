@@ -4,7 +4,8 @@ ghost use Rattle.trend_num.specs.declared.point.Point.{Point};
 ghost use Rattle.trend_num.specs.Ranges.{InRange};
 ghost use Rattle.trend_model.specs.Lists.{IfThere};
 ghost use Rattle.trend_model.specs.Reads.{between, read_at};
-ghost use Rattle.interp_read.specs.Closing.{IsNotBefore, points_closed_by};
+ghost use Rattle.trend_model.specs.Contents.{IsNotBefore};
+ghost use Rattle.interp_read.specs.Closing.{points_closed_by};
 ghost use Rattle.interp_read.specs.NextTo.{AreNeighbours};
 
 use crate::closing::{Neighbours, neighbours_at};

@@ -4,6 +4,7 @@ ghost use Rattle.trend_num.specs.declared.archive.Rec.{Rec};
 ghost use Rattle.trend_num.specs.declared.point.Point.{Point};
 ghost use Rattle.trend_num.specs.declared.tuning.Tuning.{Tuning};
 ghost use Rattle.trend_num.specs.Ranges.{InRange, IsTuned};
+ghost use Rattle.trend_num.specs.Limits.{most_records};
 ghost use Rattle.trend_model.specs.History.{Event, Origin, Raw, Tune};
 ghost use Rattle.trend_model.specs.Parts.{ArePartsOk};
 ghost use Rattle.trend_model.specs.State.{Stands, after, nothing_taken};
@@ -174,7 +175,7 @@ impl TagCore {
         ensures room { self.new.spare + length self.new.state.records ≡ self.old.spare + length self.old.state.records }
 
         // Refused, and unchanged, exactly where two more records would be too many.
-        ensures full { IsErr result ↔ (MAX_RECORDS < length self.old.state.records + 2) }
+        ensures full { IsErr result ↔ (most_records < length self.old.state.records + 2) }
         ensures full_records { IfErr result (λ full. full.records ≡ length self.old.state.records) }
         ensures unchanged { OnErr result (self.new ≡ self.old) }
         ensures uncounted { OnErr result (steps.new ≡ steps.old) }
@@ -216,7 +217,7 @@ impl TagCore {
         ensures room { self.new.spare + length self.new.state.records ≡ self.old.spare + length self.old.state.records }
 
         // Refused, and unchanged, exactly where two more records would be too many.
-        ensures full { IsErr result ↔ (MAX_RECORDS < length self.old.state.records + 2) }
+        ensures full { IsErr result ↔ (most_records < length self.old.state.records + 2) }
         ensures full_records { IfErr result (λ full. full.records ≡ length self.old.state.records) }
         ensures unchanged { OnErr result (self.new ≡ self.old) }
         ensures uncounted { OnErr result (steps.new ≡ steps.old) }
@@ -242,8 +243,8 @@ impl TagCore {
     #[inline(always)]
     fn records_unless_full(&self) -> Result<u32, Full>
         ensures value { IfOk result (λ n. n ≡ length self.now.state.records) }
-        ensures room { OnOk result (length self.now.state.records + 2 ≤ MAX_RECORDS) }
-        ensures full { IsErr result ↔ (MAX_RECORDS < length self.now.state.records + 2) }
+        ensures room { OnOk result (length self.now.state.records + 2 ≤ most_records) }
+        ensures full { IsErr result ↔ (most_records < length self.now.state.records + 2) }
         ensures full_records { IfErr result (λ full. full.records ≡ length self.now.state.records) }
     {
         let records = self.record_count();
@@ -257,7 +258,7 @@ impl TagCore {
     #[inline]
     fn record_count(&self) -> u32
         ensures value { result ≡ length self.now.state.records }
-        ensures few { result ≤ MAX_RECORDS }
+        ensures few { result ≤ most_records }
     {
         self.compressor.recs().len() as u32
     }

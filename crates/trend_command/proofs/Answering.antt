@@ -9,11 +9,12 @@ use Rattle.trend_model.specs.Contents.{IsRising, points_of}
 use Rattle.trend_model.specs.Lists.{IfThere}
 use Rattle.trend_model.specs.Reads.{read_at}
 use Rattle.trend_model.proofs.ReadLaw.{points_rise}
-use Rattle.interp_read.specs.declared.query.TagQuery.{TagQuery}
-use Rattle.interp_read.specs.Closing.{IsNotBefore, points_closed_by}
+use Rattle.trend_num.specs.declared.query.TagQuery.{TagQuery}
+use Rattle.trend_model.specs.Contents.{IsNotBefore}
+use Rattle.interp_read.specs.Closing.{points_closed_by}
 use Rattle.interp_read.proofs.ClosedPoints.{closed, closed_in_range, closed_rise}
-use Rattle.weighted_total.specs.Readable.{IsReadable}
-use Rattle.weighted_total.proofs.Readable.{readable}
+use Rattle.interp_read.specs.Readable.{IsReadable}
+use Rattle.interp_read.proofs.Readable.{readable}
 use Rattle.value_rows.specs.declared.asked.Query.TheVariants.{Tag, Snap}
 use Rattle.tag_core.specs.Core.{Core}
 use Rattle.trend_command.specs.Told.{answer_in, snapshot_in, told}

@@ -1,6 +1,6 @@
 -- What stands for a history keeps the rules of records and summaries.
 use Rattle.std.proofs.Common.{◌≡◌, ℕ, ◌^◌, ◌<◌, ◌≤◌, inl, inr, Bool, true, false, List, [], ◌∷◌, ◌++◌, length, Option, None, Some, refl, sym, ap, ◌∙◌, subst, arith, append_assoc, append-nil}
-use Rattle.trend_num.specs.declared.archive.TheConstants.{MAX_RECORDS}
+use Rattle.trend_num.specs.Limits.{most_records}
 use Rattle.trend_num.specs.declared.point.Point.{Point}
 use Rattle.trend_num.specs.declared.archive.Rec.{Rec}
 use Rattle.trend_num.specs.declared.tuning.Tuning.{Tuning}
@@ -302,7 +302,7 @@ history_ruled P o h s each stands =
 
 -- and is a tag's, where its points are in range and there are not too many of anything
 pub history_parts : (o : Origin) (h : List Event) (s : State) → AllPoints InRange h → length h < 10 ^ 18
-    → length s.records ≤ MAX_RECORDS → Stands o h s → ArePartsOk (in_force o h) o.step s.records s.summary
+    → length s.records ≤ most_records → Stands o h s → ArePartsOk (in_force o h) o.step s.records s.summary
 history_parts o h s each short few stands = record {
   ruled = history_ruled InRange o h s each stands;
   few = few;

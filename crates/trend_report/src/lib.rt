@@ -12,7 +12,6 @@ mod tag_line;
 #[cfg(test)]
 mod tests;
 
-pub use calc_eval::{Bad, CalcValue};
 pub use interp_read::{PointList, Reading, Reply};
 pub use reply_line::{ReplyText, reply_text};
 pub use tag_line::{TagLine, tag_text};

@@ -4,9 +4,9 @@ use Rattle.std.specs.List.{list_any}
 use Rattle.std.specs.Option.{option_map, option_or}
 use Rattle.std.specs.Str.{bytes_eq}
 use Rattle.calc_parser.specs.Tree.{Tree, tree_of, num, window, calc, neg, abs, two, compare, choose}
-use Rattle.calc_eval.specs.declared.definition.CalcDef.{CalcDef}
-use Rattle.calc_eval.specs.declared.refusal.CheckNo.{CheckNo}
-use Rattle.calc_eval.specs.declared.refusal.CheckNo.TheVariants.{UnknownName, Forward, WantOfMemory}
+use Rattle.calc_check.specs.declared.definition.CalcDef.{CalcDef}
+use Rattle.calc_check.specs.declared.refusal.CheckNo.{CheckNo}
+use Rattle.calc_check.specs.declared.refusal.CheckNo.TheVariants.{UnknownName, Forward, WantOfMemory}
 
 -- a calculation: its name, and the tree of its formula
 pub record Calculation : Type 0 where

@@ -1,6 +1,6 @@
 // Checked calculations.
 ghost use Rattle.std.specs.Prelude.{◌≡◌, ◌↔◌, ◌^◌, ◌<◌, map, vec_len, IfOk, IfErr, IsTrue, None};
-ghost use Rattle.calc_eval.specs.Group.{Group, calculation, group_of, fault_of, IsToldOf};
+ghost use Rattle.calc_check.specs.Group.{Group, calculation, group_of, fault_of, IsToldOf};
 
 use crate::definition::{CalcDef, copied_defs, is_same_defs, is_same_names};
 use crate::naming::first_fault;
@@ -19,8 +19,8 @@ pub struct Checked {
 
 impl Model for Checked {
     ghost use Rattle.std.specs.Prelude.{◌≡◌, None};
-    ghost use Rattle.calc_eval.specs.Group.{Group, group_of, fault_of};
-    ghost use Rattle.calc_eval.specs.Code.{group_code};
+    ghost use Rattle.calc_check.specs.Group.{Group, group_of, fault_of};
+    ghost use Rattle.calc_check.specs.Code.{group_code};
 
     ghost Value = { Group };
 
@@ -60,7 +60,7 @@ impl Checked {
     }
 
     /// The names of the inputs in order.
-    pub(crate) fn inputs(&self) -> &[Name]
+    pub fn inputs(&self) -> &[Name]
         ensures { result.now ≡ self.now.inputs }
     {
         &self.inputs

@@ -1,6 +1,6 @@
 // The definition of a calculation.
 ghost use Rattle.std.specs.Prelude.{◌≡◌, ◌↔◌, map, IfOk, IsTrue};
-ghost use Rattle.calc_eval.specs.Group.{calculation};
+ghost use Rattle.calc_check.specs.Group.{calculation};
 
 use crate::tree::{copied, is_same};
 use calc_parser::Expr;

@@ -14,7 +14,7 @@ use Rattle.trend_model.specs.Lists.{Each, IfThere}
 use Rattle.trend_model.specs.Parts.{DoorsFit, IsBegun, IsBegunOrBlank, IsLateBefore, IsRuled, RisesAfter}
 use Rattle.trend_model.specs.Parts.{PointsRise, kept_points, last_point}
 use Rattle.trend_model.proofs.Placing.{all_placed, time}
-use Rattle.interp_read.specs.Closing.{IsNotBefore}
+use Rattle.trend_model.specs.Contents.{IsNotBefore}
 
 -- a point is not after q
 abbrev Until : Point → Point → Type 0

@@ -1,9 +1,9 @@
 use Rattle.std.proofs.Common.{◌≡◌, ◌-◌, Some, length, map, take, drop, length-drop, sym, ap, ◌∙◌, arith}
 use Rattle.std.proofs.Math.Seq.{take-length}
 use Rattle.calc_parser.specs.Tree.{tree_of}
-use Rattle.calc_eval.specs.Group.{calculation, names_of, first_unknown, told}
-use Rattle.calc_eval.proofs.Name.{fault_told}
-use Rattle.calc_eval.proofs.naming.first_fault.Goals as goal
+use Rattle.calc_check.specs.Group.{calculation, names_of, first_unknown, told}
+use Rattle.calc_check.proofs.Name.{fault_told}
+use Rattle.calc_check.proofs.naming.first_fault.Goals as goal
 
 pub returns-in-Some : goal.returns-in-Some
 returns-in-Some c =

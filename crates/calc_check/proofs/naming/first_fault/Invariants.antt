@@ -1,6 +1,6 @@
 use Rattle.std.proofs.Common.{◌≡◌, [], map, take, drop}
-use Rattle.calc_eval.specs.Group.{calculation, names_of, first_fault}
-use Rattle.calc_eval.proofs.naming.first_fault.Given as goal
+use Rattle.calc_check.specs.Group.{calculation, names_of, first_fault}
+use Rattle.calc_check.proofs.naming.first_fault.Given as goal
 
 abbrev pub invariant-loop-i : goal.invariant-loop-i
 invariant-loop-i l =

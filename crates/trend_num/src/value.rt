@@ -1,4 +1,4 @@
-// The value of a formula.
+// The value of a calculation.
 
 /// Why there is no number.
 #[derive(Clone, Copy, Debug, PartialEq, Eq)]

@@ -7,7 +7,7 @@ use Rattle.trend_num.specs.contracts.measure.Measure as measure
 use Rattle.calc_parser.specs.contracts.tree.Op as op
 use Rattle.calc_parser.specs.contracts.tree.Cmp as cmp
 use Rattle.calc_parser.specs.Tree.{Tree, num, window, calc, neg, abs, two, compare, choose}
-use Rattle.calc_eval.specs.Group.{Calculation, Group}
+use Rattle.calc_check.specs.Group.{Calculation, Group}
 
 abbrev name_code : Coded (List ℕ)
 name_code = coded_list coded_ℕ

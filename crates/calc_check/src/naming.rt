@@ -3,7 +3,7 @@ ghost use Rattle.std.specs.Prelude.{◌≡◌, ◌^◌, ◌<◌, [], map, length
 ghost use Rattle.std.specs.List.{list_any};
 ghost use Rattle.std.specs.Str.{bytes_eq};
 ghost use Rattle.calc_parser.specs.Tree.{tree_of};
-ghost use Rattle.calc_eval.specs.Group.{calculation, names_of, is_among, first_unknown, first_fault, told};
+ghost use Rattle.calc_check.specs.Group.{calculation, names_of, is_among, first_unknown, first_fault, told};
 
 use crate::definition::CalcDef;
 use crate::refusal::CheckNo;
@@ -17,8 +17,8 @@ pub(crate) fn is_same_name(a: &Name, b: &Name) -> bool
     a.bytes() == b.bytes()
 }
 
-/// The place of a name among the inputs.
-pub(crate) fn input_place(inputs: &[Name], name: &Name) -> Option<usize>
+/// The place of a name among the inputs. None where it is none of them.
+pub fn input_place(inputs: &[Name], name: &Name) -> Option<usize>
     ensures { result ≡ position (bytes_eq name.now) inputs.now }
 {
     inputs.iter().position(|input| is_same_name(name, input))
@@ -31,8 +31,8 @@ fn def_place(defs: &[CalcDef], name: &Name) -> Option<usize>
     defs.iter().position(|def| is_same_name(name, &def.name))
 }
 
-/// The place of the calculation of a name.
-pub(crate) fn calc_place(calcs: &[CalcDef], name: &Name) -> Option<usize>
+/// The place of the first calculation of a name. None where there is none.
+pub fn calc_place(calcs: &[CalcDef], name: &Name) -> Option<usize>
     ensures { result ≡ position (bytes_eq name.now) (names_of (map calculation calcs.now)) }
 {
     def_place(calcs, name)

@@ -18,7 +18,7 @@ use Rattle.trend_model.specs.Reads.{between, read_at, read_from, rounded, value_
 use Rattle.trend_model.specs.Windows.{greater, lesser}
 use Rattle.trend_model.proofs.ReadLaw.{line_between, rounded_between}
 use Rattle.trend_model.proofs.Rounding.{rounded_only}
-use Rattle.weighted_total.specs.Readable.{IsReadable, IsRoundable}
+use Rattle.interp_read.specs.Readable.{IsReadable, IsRoundable}
 use mir.Syntax.{w64, w128}
 use mir.Val.{of_z, to_z}
 
