@@ -13,8 +13,6 @@ mod evaluation;
 mod law;
 mod naming;
 mod refusal;
-#[cfg(test)]
-mod tests;
 mod tree;
 mod value;
 

@@ -19,8 +19,6 @@ mod refusal;
 mod sending;
 mod slope;
 mod tag_def;
-#[cfg(test)]
-mod tests;
 mod tuning;
 
 pub use archive::{Kind, MAX_RECORDS, Rec, Snap, Summary};
