@@ -8,8 +8,6 @@
 mod arithmetic;
 mod evaluation;
 mod law;
-#[cfg(test)]
-mod tests;
 
 pub use calc_check::{CalcDef, CheckNo, Checked, check};
 pub use evaluation::eval;

@@ -9,8 +9,6 @@ mod closing;
 mod list;
 mod query;
 mod read;
-#[cfg(test)]
-mod tests;
 
 pub use closing::{Neighbours, neighbours_at};
 pub use list::{MOST_LISTED, PointList, points};

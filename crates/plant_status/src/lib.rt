@@ -15,8 +15,6 @@ mod file;
 mod mismatch;
 mod pass;
 mod status;
-#[cfg(test)]
-mod tests;
 mod unit;
 mod word;
 

@@ -19,8 +19,6 @@ mod plan;
 mod refusal;
 mod schedule;
 mod tag;
-#[cfg(test)]
-mod tests;
 
 pub use base::read_base;
 pub use calc_check::Checked;

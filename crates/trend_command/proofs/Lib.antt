@@ -2,4 +2,3 @@ pub mod Held
 pub mod Listing
 pub mod Answering
 pub mod Numbering
-pub mod Asked

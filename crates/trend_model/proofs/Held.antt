@@ -1,20 +1,21 @@
 -- No record of a tag is after its held point.
 use Rattle.std.proofs.Common.{◌≡◌, ℕ, ◌<◌, ◌≤◌, Bool, true, false, cond, List, [], ◌∷◌, Option, None, Some}
-use Rattle.std.proofs.Common.{All, refl, ap, arith}
+use Rattle.std.proofs.Common.{All, refl, ap, subst, arith}
 use Rattle.std.specs.Prelude.{fold}
 use Rattle.std.proofs.lemmas.List.Elements.{All-nil, All-cons, All-head, All-tail, All-weaker}
 use Rattle.trend_num.specs.declared.archive.Rec.{Rec}
 use Rattle.trend_num.specs.declared.archive.Summary.{Summary}
 use Rattle.trend_num.specs.declared.point.Point.{Point}
 use Rattle.trend_num.specs.declared.tuning.Tuning.{Tuning}
-use Rattle.trend_num.specs.Ranges.{InRange}
 use Rattle.trend_model.specs.Content.{is_late_record}
-use Rattle.trend_model.specs.Contents.{listed, placed}
+use Rattle.trend_model.specs.Contents.{IsNotBefore, listed, placed}
+use Rattle.trend_model.specs.History.{Event, Origin, in_force}
+use Rattle.trend_model.specs.Walk.{records, held}
 use Rattle.trend_model.specs.Lists.{Each, IfThere}
 use Rattle.trend_model.specs.Parts.{DoorsFit, IsBegun, IsBegunOrBlank, IsLateBefore, IsRuled, RisesAfter}
 use Rattle.trend_model.specs.Parts.{PointsRise, kept_points, last_point}
 use Rattle.trend_model.proofs.Placing.{all_placed, time}
-use Rattle.trend_model.specs.Contents.{IsNotBefore}
+use Rattle.trend_model.proofs.HistoryLaw.{all_points, state_of, state_ruled, state_stands}
 
 -- a point is not after q
 abbrev Until : Point → Point → Type 0
@@ -84,7 +85,17 @@ begun_until step d rs (Some q) (Some a) u l begun =
     (records_until rs q begun_is.late_before points)
 
 -- the held point of a tag is not before any point of its content
-pub held_last : (u : Tuning) (step : Bool) (rs : List Rec) (s : Summary) → IsRuled InRange u step rs s
+pub held_last : (P : Point → Type 0) (u : Tuning) (step : Bool) (rs : List Rec) (s : Summary) → IsRuled P u step rs s
     → IfThere (IsNotBefore (listed rs)) s.held
-held_last u step rs s ruled =
+held_last P u step rs s ruled =
     begun_until step u.comp_dev rs s.held s.hinge s.upper s.lower ruled.whole
+
+-- nor is that of a history
+pub history_held_last : (o : Origin) (h : List Event) → IfThere (IsNotBefore (listed (records o h))) (held o h)
+history_held_last o h =
+    let s = state_of o h in
+    let stands = state_stands o h in
+    let ruled = state_ruled (λ p. Unit {0}) o h (all_points h) in
+    subst (λ q. IfThere (IsNotBefore (listed (records o h))) q) stands.same_held
+    (subst (λ rs. IfThere (IsNotBefore (listed rs)) s.summary.held) stands.same_records
+    (held_last (λ p. Unit {0}) (in_force o h) o.step s.records s.summary ruled))

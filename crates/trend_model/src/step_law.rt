@@ -5,7 +5,7 @@ ghost use Rattle.trend_num.specs.declared.tuning.Tuning.{Tuning};
 ghost use Rattle.trend_num.specs.Ranges.{InRange};
 ghost use Rattle.trend_model.specs.History.{Event, Origin, in_force};
 ghost use Rattle.trend_model.specs.Parts.{ArePartsOk};
-ghost use Rattle.trend_model.specs.State.{Stands, State, after, followed, nothing_taken, replay};
+ghost use Rattle.trend_model.specs.State.{Stands, StandsAsStored, State, after, followed, nothing_taken, replay};
 ghost use Rattle.trend_model.specs.Orders.{AllPoints, tuned_by};
 
 /// What stands for a history goes by one more event to what stands for the history and that event, and by any list of
@@ -28,8 +28,9 @@ pub fn after_keeps_parts()
 {}
 
 /// What stands for a history of values in range meets the rules of records and summaries, where there are not too many of
-/// either.
+/// either; so does a summary without a tuning, where nothing was retuned.
 pub fn history_parts_are_ok()
     ensures { (o : Origin) (h : List Event) (s : State) → AllPoints InRange h → length h < 10 ^ 18
-        → length s.records ≤ most_records → Stands o h s → ArePartsOk (in_force o h) o.step s.records s.summary }
+        → length s.records ≤ most_records → StandsAsStored o h s
+        → ArePartsOk (in_force o h) o.step s.records s.summary }
 {}

@@ -20,8 +20,6 @@ mod refusal;
 mod sending;
 mod slope;
 mod tag_def;
-#[cfg(test)]
-mod tests;
 mod tuning;
 mod value;
 

@@ -9,8 +9,6 @@ mod name_text;
 mod point_text;
 mod reply_line;
 mod tag_line;
-#[cfg(test)]
-mod tests;
 
 pub use interp_read::{PointList, Reading, Reply};
 pub use reply_line::{ReplyText, reply_text};

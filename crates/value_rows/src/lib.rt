@@ -23,8 +23,6 @@ mod places;
 mod plain;
 mod raw;
 mod reading;
-#[cfg(test)]
-mod tests;
 mod verb;
 
 pub use asked::{GroupNames, Query, query_rows};

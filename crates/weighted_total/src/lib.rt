@@ -11,7 +11,5 @@
 mod inside;
 mod measure;
 mod shape;
-#[cfg(test)]
-mod tests;
 
 pub use measure::{window, window_step};
