@@ -1,5 +1,6 @@
 // Checked calculations.
-ghost use Rattle.std.specs.Prelude.{◌≡◌, ◌↔◌, ◌^◌, ◌<◌, map, vec_len, IfOk, IfErr, IsTrue, None};
+ghost use Rattle.std.specs.Prelude.{◌≡◌, ◌↔◌, ◌^◌, ◌<◌, map, vec_len, Err, IfOk, IfErr, IsTrue, None, Some};
+ghost use Rattle.calc_check.specs.declared.refusal.CheckNo.{CheckNo};
 ghost use Rattle.calc_check.specs.Group.{Group, calculation, group_of, fault_of, IsToldOf};
 
 use crate::definition::{CalcDef, copied_defs, is_same_defs, is_same_names};
@@ -37,6 +38,9 @@ pub fn check(alloc: Global, inputs: &[Name], calcs: Vec<CalcDef>) -> Result<Chec
     requires { vec_len calcs < 2 ^ 32 }
     ensures kept { IfOk result (λ checked. checked ≡ group_of inputs.now calcs.items) }
     ensures known { IfOk result (λ checked. fault_of checked ≡ None) }
+
+    // The first fault is told whatever memory there is.
+    ensures first { (why : CheckNo) → fault_of (group_of inputs.now calcs.items) ≡ Some why → result ≡ Err why }
     ensures fault { IfErr result (IsToldOf (fault_of (group_of inputs.now calcs.items))) }
 {
     if let Some(fault) = first_fault(inputs, &calcs) {

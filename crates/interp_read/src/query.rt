@@ -1,6 +1,10 @@
 // What is answered to a question about a tag.
+ghost use Rattle.std.specs.Prelude.{IfOk};
+ghost use Rattle.interp_read.specs.Replies.{AreAlike};
+
 use crate::list::PointList;
-use trend_num::Reading;
+use std::alloc::Global;
+use trend_num::{Reading, WantOfMemory};
 
 /// The answer to a question of the same name.
 #[derive(Drop)]
@@ -9,4 +13,21 @@ pub enum Reply {
     Points(PointList),
     /// None where the window is not covered by the points.
     Window(Option<i128>),
+}
+
+impl Reply {
+    /// The same answer again.
+    pub fn copy(&self, alloc: Global) -> Result<Reply, WantOfMemory>
+        ensures { IfOk result (λ copy. AreAlike self.now copy) }
+    {
+        match self {
+            Reply::At(reading) => Ok(Reply::At(*reading)),
+            Reply::Window(value) => Ok(Reply::Window(*value)),
+            Reply::Points(points) => {
+                let list = Vec::from_slice(alloc, &points.list).map_err(|_| WantOfMemory)?;
+                let more = points.more;
+                Ok(Reply::Points(PointList { list, more }))
+            }
+        }
+    }
 }

@@ -6,7 +6,7 @@ use Rattle.trend_num.specs.Limits.{most_records}
 use Rattle.trend_num.specs.declared.sending.Sending.{Sending}
 use Rattle.trend_num.specs.declared.tuning.Tuning.{Tuning}
 use Rattle.trend_num.specs.Ranges.{InRange, IsTuned}
-use Rattle.trend_model.specs.History.{Event, Origin, Raw, Sent}
+use Rattle.trend_model.specs.History.{Event, Origin, Raw, Tune, Tuned, Sent}
 use Rattle.trend_model.specs.State.{State, Stands, pushed_out, gained, offered, turned, archive_on, archived, state_with, after_under, after}
 use Rattle.trend_model.specs.Orders.{AllPoints, tuned_by}
 use Rattle.trend_model.proofs.Following.{held_after, held_archived, grows_archived}
@@ -77,6 +77,18 @@ value_turns old new taken then last waiting last_then waiting_then u p first sec
       pending_is = waits ∙ ap (λ t. (offer t).pending) same;
       counted = counted;
     }
+
+-- a gate that is flushed for a retuning turns the parts
+pub tune_turns : (old new : Compressed) (taken then : ℕ) (last waiting last_then waiting_then first : Option Point) (u : Tuning)
+    → first ≡ waiting → new ≡ compressed_after old last (Tuned u ∷ pushed_out first)
+    → last_then ≡ option_or waiting last → waiting_then ≡ None → then ≡ taken + 1
+    → Turns old new taken then last waiting last_then waiting_then (Tune u)
+tune_turns old new taken then last waiting last_then waiting_then first u same compressed lasts waits counted = record {
+  compressed = compressed ∙ ap (λ q. compressed_after old last (Tuned u ∷ pushed_out q)) same;
+  last_is = lasts;
+  pending_is = waits;
+  counted = counted;
+}
 
 -- the state of parts that turned is the state after the event
 pub turned_state : (old new : Compressed) (taken then : ℕ) (last waiting last_then waiting_then : Option Point) (e : Event)

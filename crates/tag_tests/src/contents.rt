@@ -102,7 +102,7 @@ fn records_in_order_are_put_in_whole_pages(rt: HostRuntime) -> Result<(), Fail> 
     }
     recs.push(rec(Kind::Late, 301, -1))?;
     assert!(rt; all_in_range(recs.as_slice()));
-    let content = Content::from_records(rt.alloc(), recs.as_slice())?;
+    let content = Content::from_records(rt.alloc(), recs.as_slice(), 0)?;
     assert_eq!(rt; (content.len(), content.spare()), (301, 0));
     assert_eq!(rt; point(&rt, &content, 151), Point { t: 301, v: -1 });
     assert!(rt; content.len() > 127);
