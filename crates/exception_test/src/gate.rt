@@ -1,7 +1,9 @@
 // The gate of a tag's exception test.
-ghost use Rattle.std.specs.Prelude.{◌≡◌, ◌↔◌, IsTrue, List, [], ◌∷◌, ◌++◌};
-ghost use Rattle.trend_model.specs.History.{Event, Origin, Raw, in_force, is_far, sent};
-ghost use Rattle.trend_model.specs.State.{gained, offered, offered_in_order};
+ghost use Rattle.std.specs.Prelude.{◌≡◌, ◌↔◌, IsTrue, List, [], ◌∷◌, ◌++◌, None};
+ghost use Rattle.std.specs.Option.{option_or};
+ghost use Rattle.trend_num.specs.declared.tuning.Tuning.{Tuning};
+ghost use Rattle.trend_model.specs.History.{Event, Origin, Raw, Tune, Tuned, in_force, is_far, sent};
+ghost use Rattle.trend_model.specs.State.{gained, offered, offered_in_order, pushed_out};
 ghost use Rattle.exception_test.specs.Gate.{GateStands};
 
 use trend_num::{Point, Sending, Tuning};
@@ -58,6 +60,27 @@ impl Gate {
             → GateStands o self.old h → sent o (Raw p ∷ h) ≡ gained result.first result.second ++ sent o h }
     {
         self.advance(tuning, p)
+    }
+
+    /// Empties the pending place for a retuning, and hands on the value that was pending: it is now sent in order, under
+    /// the old tuning.
+    #[inline]
+    pub fn flush(&mut self) -> Option<Point>
+        ensures last { self.new.last ≡ option_or self.old.pending self.old.last }
+        ensures pending { self.new.pending ≡ None }
+        ensures first { result ≡ self.old.pending }
+
+        // Over any history of any tag, whatever tuning comes.
+        ensures stands { (o : Origin) (h : List Event) (u : Tuning) → GateStands o self.old h → GateStands o self.new (Tune u ∷ h) }
+        ensures sends { (o : Origin) (h : List Event) (u : Tuning)
+            → GateStands o self.old h → sent o (Tune u ∷ h) ≡ Tuned u ∷ pushed_out result ++ sent o h }
+    {
+        let first = self.pending;
+        *self = Gate {
+            last: first.or(self.last),
+            pending: None,
+        };
+        first
     }
 
     /// Goes on to the gate after one more value, in place, and hands on what is sent.

@@ -7,9 +7,7 @@ use std::process::Abort;
 use std::str::SplitWhitespace;
 use std::sync::ledger::{Blank, Ledger};
 use std::test::Fail;
-use trend_num::{
-    Point, Steps, deviates, in_range, line_at, name_from, numeral, round_half_up, slope_cmp,
-};
+use trend_num::{Point, Steps, deviates, in_range, line_at, name_from, numeral, slope_cmp};
 
 // A sign and 1 to 20 digits are a numeral.
 const NUMERALS: &str = "\
@@ -39,13 +37,11 @@ const POINTS: &str = "\
 0 1000000000000001 => false
 0 -1000000000000001 => false";
 
-// The ends of a line and a time, and what the line reads there, before and after it is rounded.
+// The ends of a line and a time, and what the line reads there.
 const LINES: &str = "\
-0 0 2 -1 1 => -1/2 0
-0 0 2 1 1 => 1/2 1
-0 0 2 -3 1 => -3/2 -1
-10 5 20 25 15 => 150/10 15
-0 0 3 7 1 => 7/3 2";
+0 0 2 -1 1 => -1/2
+0 0 2 1 2 => 2/2
+10 5 20 25 15 => 150/10";
 
 // The time that stands next in a row.
 fn time(rt: &impl Abort, fields: &mut SplitWhitespace) -> u64 {
@@ -106,8 +102,7 @@ fn a_line_reads_between_its_ends(rt: HostRuntime) -> Result<(), Fail> {
         assert!(rt; in_range(b));
         assert!(rt; a.t <= t && t <= b.t && a.t < b.t);
         let f = line_at(a, b, t);
-        let rounded = round_half_up(f.num, f.den);
-        let told = format!(in rt.alloc(); "{}/{} {rounded}", f.num, f.den)?;
+        let told = format!(in rt.alloc(); "{}/{}", f.num, f.den)?;
         assert_eq!(rt; told.as_str(), want, "{given}");
     }
     Ok(())

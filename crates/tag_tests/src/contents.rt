@@ -79,7 +79,7 @@ fn rising(alloc: Global, count: u32) -> Result<Vec<Rec>, AllocError>
 #[test]
 fn many_records_in_order_fill_pages(rt: HostRuntime) -> Result<(), Fail> {
     let recs = rising(rt.alloc(), 130_000)?;
-    let content = Content::from_records(rt.alloc(), recs.as_slice())?;
+    let content = Content::from_records(rt.alloc(), recs.as_slice(), 0)?;
     assert_eq!(rt; (content.len(), content.spare()), (130_000, 0));
     assert_eq!(rt;
         content.floor(259_999),

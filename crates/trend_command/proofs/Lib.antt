@@ -1,4 +1,4 @@
-pub mod Held
 pub mod Listing
 pub mod Answering
 pub mod Numbering
+pub mod Asked

@@ -10,7 +10,6 @@ mod point_text;
 mod reply_line;
 mod tag_line;
 
-pub use calc_eval::{Bad, CalcValue};
 pub use interp_read::{PointList, Reading, Reply};
 pub use reply_line::{ReplyText, reply_text};
 pub use tag_line::{TagLine, tag_text};
