@@ -1,5 +1,5 @@
 // Contents worked by hand: of few records, and of as many as fill pages.
-ghost use Rattle.std.specs.Prelude.{All, IfOk};
+ghost use Rattle.std.specs.Prelude.{IsTrue, All};
 ghost use Rattle.trend_num.specs.Ranges.{InRange};
 
 use crate::spelled::{content, number};
@@ -7,6 +7,7 @@ use late_insert::{Content, Kind, Point, Rec};
 use std::alloc::{AllocError, Global};
 use std::fmt::Write;
 use std::test::Fail;
+use trend_num::in_range;
 
 // Records in the order in which they come, and what is listed. A late one, before which stands a star, takes the place
 // of a kept one, and no kept one takes its place.
@@ -60,9 +61,7 @@ fn the_points_around_a_time_are_found(rt: HostRuntime) -> Result<(), Fail> {
 }
 
 // So many kept points (2i,i).
-fn rising(alloc: Global, count: u32) -> Result<Vec<Rec>, AllocError>
-    ensures range { IfOk result (λ v. All (λ r. InRange r.point) v.items) }
-{
+fn rising(alloc: Global, count: u32) -> Result<Vec<Rec>, AllocError> {
     let mut recs = Vec::new(alloc);
     for i in 0..count {
         recs.push(Rec {
@@ -76,9 +75,22 @@ fn rising(alloc: Global, count: u32) -> Result<Vec<Rec>, AllocError>
     Ok(recs)
 }
 
+// Whether the points of all these records are in range.
+fn all_in_range(recs: &[Rec]) -> bool
+    ensures { IsTrue result → All (λ r. InRange r.point) recs.now }
+{
+    for i in 0..recs.len() {
+        if !in_range(recs[i].point) {
+            return false;
+        }
+    }
+    true
+}
+
 #[test]
 fn many_records_in_order_fill_pages(rt: HostRuntime) -> Result<(), Fail> {
     let recs = rising(rt.alloc(), 130_000)?;
+    assert!(rt; all_in_range(recs.as_slice()));
     let content = Content::from_records(rt.alloc(), recs.as_slice(), 0)?;
     assert_eq!(rt; (content.len(), content.spare()), (130_000, 0));
     assert_eq!(rt;
