@@ -1,7 +1,7 @@
 -- What opening a tag's device gives, and why it is refused.
 use Rattle.std.specs.Prelude.{◌≡◌, ◌≢◌, ◌⊎◌, ℕ, ◌+◌, ◌^◌, ◌<◌, ◌≤◌, Bool, true, false, List, length, Option}
 use Rattle.std.specs.Prelude.{Some, IfSome, Err}
-use Rattle.trend_num.specs.declared.archive.TheConstants.{MAX_RECORDS}
+use Rattle.trend_num.specs.Limits.{most_records}
 use Rattle.trend_num.specs.declared.archive.Summary.{Summary}
 use Rattle.trend_num.specs.declared.point.Point.{Point}
 use Rattle.trend_num.specs.declared.tuning.Tuning.{Tuning}
@@ -37,7 +37,7 @@ Shows o P = IfSome o (λ t. P (seen (Some t)))
 -- another tuning than the wanted one is in force in s, which has room for two records more, and r is s retuned
 abbrev pub IsRetuned : TagDef → State → State → Type 0
 IsRetuned def s r = (s.summary.tuning ≢ Some def.tuning) × (r ≡ after def.step s (Tune def.tuning))
-    × (length s.records + 2 ≤ MAX_RECORDS)
+    × (length s.records + 2 ≤ most_records)
 
 -- what is opened of a tag that recovers s: s itself where the wanted tuning is in force, and else s retuned
 abbrev pub IsOpenedAs : TagDef → State → State → Type 0
@@ -80,7 +80,7 @@ pub record IsFull (def : TagDef) (c : List ℕ) (records : ℕ) (s : State) : Ty
   pub recovered : Recovers def c s
   pub other : s.summary.tuning ≢ Some def.tuning
   pub records_are : records ≡ length s.records
-  pub full : MAX_RECORDS < length s.records + 2
+  pub full : most_records < length s.records + 2
 
 -- why a device is not opened, where it tells its calls
 abbrev pub IsCause : TagDef → Option Trace → OpenNo → Type 0

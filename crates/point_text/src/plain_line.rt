@@ -12,7 +12,6 @@ ghost use Rattle.trend_num.specs.Numerals.{digits_value};
 ghost use Rattle.trend_num.specs.Ranges.{InRange, largest_value, last_time};
 ghost use Rattle.point_text.specs.FirstPoint.{EndsAt, IsField, IsFirstPoint};
 
-use core::dec2flt::ten_to;
 use trend_num::{MAX_T, MAX_V, Point};
 
 /// The most digits of a number in a plain line.
@@ -180,9 +179,31 @@ fn digits(bytes: &[u8], at: usize) -> (u64, usize)
     }
     let (more, low) = digits_of_word(word_at(bytes, at + 8));
     (
-        high.wrapping_mul(ten_to(more as u64)).wrapping_add(low),
+        high.wrapping_mul(ten_to(more)).wrapping_add(low),
         at + 8 + more,
     )
+}
+
+/// The powers of ten that shift a number by up to eight digits.
+const TENS: [u64; 9] = [
+    1,
+    10,
+    100,
+    1_000,
+    10_000,
+    100_000,
+    1_000_000,
+    10_000_000,
+    100_000_000,
+];
+
+/// A power of ten.
+#[inline(always)]
+fn ten_to(n: usize) -> u64
+    requires { n ≤ 8 }
+    ensures { result ≡ 10 ^ n }
+{
+    TENS[n]
 }
 
 /// How many digits a word's bytes begin with, and the number that they spell.
@@ -264,48 +285,4 @@ fn value_of_eight(word: u64) -> u64
     let first = (pairs & 0x0000_00ff_0000_00ff).wrapping_mul(100 + (1_000_000 << 32));
     let second = ((pairs >> 16) & 0x0000_00ff_0000_00ff).wrapping_mul(1 + (10_000 << 32));
     first.wrapping_add(second) >> 32
-}
-
-#[cfg(test)]
-mod tests {
-    use super::*;
-
-    #[test]
-    fn a_front_serves_the_lines_that_begin_alike(rt: HostRuntime) {
-        let table: [(&[u8], u64, i64); 6] = [
-            (b"0000000000007,8\n--------------------------------", 7, 8),
-            (
-                b"1700000000986,5005\n--------------------------------",
-                1_700_000_000_986,
-                5005,
-            ),
-            (
-                b"1700000001518,-4\r\n--------------------------------",
-                1_700_000_001_518,
-                -4,
-            ),
-            (
-                b"17000000,-4\n--------------------------------",
-                17_000_000,
-                -4,
-            ),
-            (
-                b"170000000012,0\n--------------------------------",
-                170_000_000_012,
-                0,
-            ),
-            (
-                b"1800000001518,7\n--------------------------------",
-                1_800_000_001_518,
-                7,
-            ),
-        ];
-        let mut front = Front::new();
-        for (text, t, v) in table {
-            match plain_point(text, &mut front) {
-                Some((point, _)) => assert_eq!(rt; point, Point { t, v }),
-                None => assert!(rt; false),
-            }
-        }
-    }
 }
