@@ -3,7 +3,8 @@ ghost use Rattle.std.specs.Prelude.{◌<◌, ◌^◌, length};
 ghost use Rattle.std.specs.List.{All};
 ghost use Rattle.trend_num.specs.Ranges.{IsTuned};
 
-use tag_store::*;
+use store_commands::check_text;
+use tag_store::open_tags;
 use crash_recovery::open_tag;
 use disk_model::{MemDisk, MemStore, Store};
 use plant_status::{Status, Unit};
