@@ -138,6 +138,11 @@ fn keep<L: Ledger>(
     }
 }
 
+// Does so on a ledger of its own.
+fn put(rt: &impl Abort, alloc: Global, tag: &mut Opened<MemDisk>, p: Point) -> Result<(), Fail> {
+    keep::<Brand>(rt, alloc, tag, p, Blank::new(1))
+}
+
 // A story to its end, and the clock of its device when that was opened last.
 fn stored(
     rt: &impl Abort,
@@ -160,7 +165,7 @@ fn stored(
         } else if event == "check" {
             check(alloc, &mut now)?;
         } else {
-            keep::<Brand>(rt, alloc, &mut now, point(rt, event), Blank::new(1))?;
+            put(rt, alloc, &mut now, point(rt, event))?;
         }
     }
     Ok((now, start))

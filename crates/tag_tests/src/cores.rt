@@ -113,11 +113,16 @@ fn kept(alloc: Global, core: &TagCore) -> Result<String, Fail> {
     Ok(told)
 }
 
+// What is told of a row's history, on a ledger of its own.
+fn compressed(rt: &impl Abort, alloc: Global, given: &str) -> Result<String, Fail> {
+    told::<Brand>(rt, alloc, given, Blank::new(1))
+}
+
 #[test]
 fn cores_keep_what_is_worked_by_hand(rt: HostRuntime) -> Result<(), Fail> {
     for row in HISTORIES.lines() {
         let (given, want) = row.split_once(" =>").ok_or("row")?;
-        let told = told::<Brand>(&rt, rt.alloc(), given, Blank::new(1))?;
+        let told = compressed(&rt, rt.alloc(), given)?;
         assert_eq!(rt; told.as_str(), want, "{given}");
     }
     Ok(())

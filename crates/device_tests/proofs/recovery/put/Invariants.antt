@@ -1,4 +1,4 @@
-use Rattle.device_tests.proofs.recovery.stored.Given as goal
+use Rattle.device_tests.proofs.recovery.put.Given as goal
 
 -- the ledger is that of the blank
 abbrev pub ghosts-keep : goal.ghosts-keep
