@@ -37,7 +37,7 @@ opened_of def (Some t) core state step = record {
 -- ---- faults
 
 -- why a device is not opened
-why_of : {T : Type 0} → Result T OpenNo → OpenNo
+abbrev why_of : {T : Type 0} → Result T OpenNo → OpenNo
 why_of (Ok x) = WantOfMemory
 why_of (Err why) = why
 

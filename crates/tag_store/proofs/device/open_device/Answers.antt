@@ -11,5 +11,5 @@ returns-in_default-device-clause-same g c = untouched _ _ _ (c.in_default-device
 
 pub returns-clause-counts : goal.returns-clause-counts
 returns-clause-counts g c = λ small.
-    given_back _ _ _ _ _ c.in-Ok-device.ensures.faultless c.open_core.ensures.counts
+    given_back _ _ _ _ _ c.in-Ok-device.ensures.faultless c.open_core-dev.ensures.counts
     (c.give_back.ensures.counted ∙ ap (λ n. sum_of_counts n _) c.in-Ok-device.ensures.cause.passed) small
