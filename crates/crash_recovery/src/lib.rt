@@ -18,7 +18,9 @@ mod opening;
 mod replay;
 mod seat;
 
-pub use device_layout::{OpenNo, Slot, one_state_is_recovered, what_recovers_is_not_damaged};
+pub use device_layout::{
+    OpenNo, Slot, one_damage_is_told, one_state_is_recovered, what_recovers_is_not_damaged,
+};
 pub use failure::OpenFail;
 pub use journal::Journal;
 pub use law::an_opened_tag_stands;

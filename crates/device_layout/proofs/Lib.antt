@@ -14,3 +14,4 @@ pub mod SlotPieces
 pub mod SlotTests
 pub mod SlotWhole
 pub mod Undamaged
+pub mod OneDamage

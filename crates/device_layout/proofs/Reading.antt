@@ -1,5 +1,5 @@
 -- What was read of a device stands on it: the header, the slot that counts, its summary, and where they are broken.
-use Rattle.std.proofs.Common.{◌≡◌, inl, inr, ℕ, ◌+◌, ◌<◌, ◌≤◌, Bool, List, [], length, take, drop}
+use Rattle.std.proofs.Common.{◌≡◌, ℕ, ◌+◌, ◌<◌, ◌≤◌, Bool, List, [], length, take, drop}
 use Rattle.std.proofs.Common.{get_or, Option, None, Some, refl, sym, ◌∙◌, ap, subst, arith, nat_le, nat_eq}
 use Rattle.std.proofs.lemmas.List.{take-take, get_or-take, get_or-drop}
 use Rattle.std.specs.Int.{w64, from_be_bytes}
@@ -8,7 +8,6 @@ use Rattle.trend_num.specs.declared.archive.Rec.{Rec}
 use Rattle.trend_num.specs.declared.tuning.Tuning.{Tuning}
 use Rattle.trend_num.specs.declared.tag_def.TagDef.{TagDef}
 use Rattle.trend_model.specs.Parts.{ArePartsOk}
-use Rattle.trend_model.specs.State.{State}
 use Rattle.disk_model.specs.Gates.{open_byte, IsOpen, IsBegun}
 use Rattle.archive_file.specs.Places.{HasRecords, IsDamage}
 use Rattle.archive_file.specs.Summaries.{summary_image, IsSummary}
@@ -24,11 +23,9 @@ use Rattle.device_layout.specs.Recovery.{is_open, taken_in, chosen}
 use Rattle.device_layout.specs.Recovery.{counting, HasSummary, in_force, no_summary, IsOfTag}
 use Rattle.device_layout.specs.Damages.{IsTagDamage}
 use Rattle.device_layout.specs.Damages.IsTagDamage.{EndsShort, BadHeader, BadLayout, BadSummary, BadLog, BadParts}
-use Rattle.device_layout.specs.Readings.{IsOther, IsFull, HasHeader, HasLayout, CountsSummary, IsReadFrom}
+use Rattle.device_layout.specs.Readings.{IsOther, HasHeader, HasLayout, CountsSummary, IsReadFrom}
 use Rattle.device_layout.specs.Readings.{IsCause, refusal_of}
 use Rattle.device_layout.specs.declared.failure.OpenNo.{OpenNo}
-use Rattle.device_layout.specs.declared.failure.OpenNo.TheVariants.{DeviceFault, Damaged, OtherTag, Full}
-use Rattle.device_layout.specs.declared.failure.OpenNo.TheVariants.{WantOfMemory}
 use Rattle.archive_file.specs.declared.failure.ScanNo.{ScanNo}
 use Rattle.archive_file.specs.declared.failure.ScanNo.TheVariants as scan
 use Rattle.disk_model.specs.Traces.{Trace}

@@ -1,34 +1,32 @@
 -- What recovers is not damaged.
-use Rattle.std.proofs.Common.{◌≡◌, ◌≢◌, ◌⊎◌, inl, inr, ⊎_elim, ℕ, zero, suc, ◌+◌, ◌-◌, ◌*◌, ◌<◌, ◌≤◌, min, Bool, true, false}
-use Rattle.std.proofs.Common.{List, [], ◌∷◌, ◌++◌, length, get_or, take, drop, map, Option, None, Some, refl, sym, ◌∙◌, ap}
+use Rattle.std.proofs.Common.{◌≡◌, inl, inr, ℕ, zero, suc, ◌+◌, ◌-◌, ◌*◌, ◌<◌, ◌≤◌, min, Bool, true, false}
+use Rattle.std.proofs.Common.{List, [], ◌∷◌, length, get_or, take, drop, map, Option, refl, sym, ◌∙◌, ap}
 use Rattle.std.proofs.Common.{subst, arith, add-zero, unsigned_abs, length-take, length-drop, length-append}
-use Rattle.std.specs.List.{All}
 use Rattle.std.proofs.lemmas.List.{append-nil, drop-drop}
 use Rattle.trend_num.specs.Limits.{most_records}
 use Rattle.trend_num.specs.declared.archive.Rec.{Rec}
 use Rattle.trend_num.specs.declared.archive.Summary.{Summary}
 use Rattle.trend_num.specs.declared.point.Point.{Point}
 use Rattle.trend_num.specs.declared.tag_def.TagDef.{TagDef}
-use Rattle.trend_num.specs.Ranges.{InRange, last_time, largest_value}
+use Rattle.trend_num.specs.Ranges.{InRange}
 use Rattle.trend_model.specs.History.{Raw}
 use Rattle.trend_model.specs.Parts.{ArePartsOk}
 use Rattle.trend_model.specs.State.{State, after, replay}
-use Rattle.disk_model.specs.Gates.{IsOpen, IsNew, IsBegun}
+use Rattle.disk_model.specs.Gates.{IsNew, IsBegun}
 use Rattle.archive_file.specs.Fields.{point_bytes, point_at}
 use Rattle.archive_file.specs.Records.{rec_image, recs_image}
 use Rattle.archive_file.specs.Places.{AreInRange, HasRecords, BreaksAt, IsDamage}
 use Rattle.archive_file.proofs.Points.{point_at-bytes}
 use Rattle.archive_file.proofs.Logs.{part_of}
-use Rattle.event_queue.specs.Slots.{gate_of, slot_at, batch_at, points_in}
-use Rattle.event_queue.specs.Lanes.{points_beyond, points_of, points_before, lane_points, IsSound, IsLane}
-use Rattle.event_queue.specs.Damages.{IsCountBroken, BreaksAt as SlotBreaksAt, IsLaneDamage}
+use Rattle.event_queue.specs.Slots.{slot_at, batch_at, points_in}
+use Rattle.event_queue.specs.Lanes.{points_of, points_before, lane_points, IsSound, IsLane}
+use Rattle.event_queue.specs.Damages.{BreaksAt as SlotBreaksAt, IsLaneDamage}
 use Rattle.event_queue.proofs.Batches.{length-points_in}
 use Rattle.event_queue.proofs.Steps.{points_open, points_more}
-use Rattle.device_layout.specs.declared.slot.Slot.{Slot}
 use Rattle.device_layout.specs.Headers.{is_field_ok, slots_in, tuning_in}
 use Rattle.device_layout.specs.Recovery.{header_of, log_place, counting, slot_bytes, HasSummary, start_of, AllFit, in_force}
-use Rattle.device_layout.specs.Recovery.{IsOfTag, IsStored, IsReplayed, IsRecovered, Recovers}
-use Rattle.device_layout.specs.Damages.{IsTagDamage, IsValuePlace, IsValueDamage}
+use Rattle.device_layout.specs.Recovery.{IsOfTag, IsStored, IsReplayed, Recovers}
+use Rattle.device_layout.specs.Damages.{IsTagDamage, IsValuePlace}
 use Rattle.device_layout.specs.Damages.IsTagDamage.{EndsShort, BadHeader, BadLayout, BadSummary, BadLog, BadParts}
 use Rattle.device_layout.specs.Damages.IsTagDamage.{BadQueue, BadValue}
 use Rattle.device_layout.proofs.SlotExact.{spelled_not_broken}
@@ -86,7 +84,7 @@ spelled_holds r k inside (inr (inr value)) =
     omega (arith, value.3, ap (λ p. unsigned_abs p.v) (point_same r inside), inside.value)
 
 -- so a log with all of its records is not damaged
-log_undamaged : (c : List ℕ) (at count a : ℕ) (byte : Option ℕ) (rs : List Rec) → at ≤ length c
+pub log_undamaged : (c : List ℕ) (at count a : ℕ) (byte : Option ℕ) (rs : List Rec) → at ≤ length c
     → HasRecords c at count rs → IsDamage c at count a byte → ⊥
 log_undamaged c at count a byte rs within has (inl short) =
     let size : length (recs_image rs) ≡ length (take (17 * count) (drop at c)) = ap length has.records.image in
@@ -102,7 +100,7 @@ log_undamaged c at count a byte rs within has (inr (front, k, broken)) =
 -- ---- the lane
 
 -- a point of several stands among their bytes
-point_there : (n i : ℕ) (bytes : List ℕ) (d : Point) → i < n
+pub point_there : (n i : ℕ) (bytes : List ℕ) (d : Point) → i < n
     → get_or (points_in n bytes) i d ≡ point_at (drop (16 * i) bytes)
 point_there zero i bytes d below = absurd (omega (arith, below))
 point_there (suc n) zero bytes d below = refl
@@ -112,7 +110,7 @@ point_there (suc n) (suc i) bytes d below =
     ∙ ap point_at (drop-drop (16 * i) 16 bytes ∙ ap (λ m. drop m bytes) place)
 
 -- an open slot that keeps the layout breaks it nowhere
-slot_holds : (slots : ℕ) (c : List ℕ) (taken k o : ℕ) → IsSound slots c taken k → SlotBreaksAt slots c taken k o → ⊥
+pub slot_holds : (slots : ℕ) (c : List ℕ) (taken k o : ℕ) → IsSound slots c taken k → SlotBreaksAt slots c taken k o → ⊥
 slot_holds slots c taken k o sound (inl count) = count.broken sound.counted
 slot_holds slots c taken k o sound (inr (inl first)) = first.broken sound.follows
 slot_holds slots c taken k o sound (inr (inr (i, point))) =
@@ -125,7 +123,7 @@ slot_holds slots c taken k o sound (inr (inr (i, point))) =
     ∙ ap point_at (drop-drop (16 * i) 10 (slot_at slots c k)) in
     point.broken (subst InRange there (sound.in_range i d below))
 
-lane_undamaged : (slots : ℕ) (c : List ℕ) (taken a : ℕ) (byte : Option ℕ) → IsLane slots c taken slots
+pub lane_undamaged : (slots : ℕ) (c : List ℕ) (taken a : ℕ) (byte : Option ℕ) → IsLane slots c taken slots
     → IsLaneDamage slots c taken a byte → ⊥
 lane_undamaged slots c taken a byte lane (k, o, broken) =
     slot_holds slots c taken k o (lane.sound k broken.within broken.opened) broken.breaks
@@ -133,14 +131,14 @@ lane_undamaged slots c taken a byte lane (k, o, broken) =
 -- ---- the values of the lane
 
 -- each of those that find room finds it
-fits_at : (step : Bool) (s : State) (ps : List Point) (n : ℕ) → AllFit step s (map Raw ps) → n < length ps
+pub fits_at : (step : Bool) (s : State) (ps : List Point) (n : ℕ) → AllFit step s (map Raw ps) → n < length ps
     → length (replay step s (map Raw (take n ps))).records + 2 ≤ most_records
 fits_at step s [] n fits below = absurd (omega (arith, below))
 fits_at step s (p ∷ ps) zero fits below = fits.0
 fits_at step s (p ∷ ps) (suc n) fits below = fits_at step (after step s (Raw p)) ps n fits.1 (omega (arith, below))
 
 -- slots hold no fewer values than those before them
-grows : (slots taken : ℕ) (c : List ℕ) (m more : ℕ)
+pub grows : (slots taken : ℕ) (c : List ℕ) (m more : ℕ)
     → length (points_before slots c taken m) ≤ length (points_before slots c taken (m + more))
 grows slots taken c m zero = omega (arith, ap (λ k. length (points_before slots c taken k)) (add-zero m))
 grows slots taken c m (suc more) =
@@ -152,19 +150,27 @@ grows slots taken c m (suc more) =
       length-append (points_before slots c taken (m + more)) (points_of slots c taken (m + more)),
     )
 
--- a value that has a place is one of the lane's
-value_among : (slots : ℕ) (c : List ℕ) (taken n a j i : ℕ) → IsValuePlace slots c taken n a j i
+-- a value that has a place is one of those up to its slot
+pub before_and_at : (slots : ℕ) (c : List ℕ) (taken n a j i : ℕ) → IsValuePlace slots c taken n a j i
+    → n < length (points_before slots c taken (j + 1))
+before_and_at slots c taken n a j i at = omega (
+  arith,
+  at.number,
+  at.within,
+  ap length (points_open slots taken c j at.opened),
+  ap length (points_more slots taken c j),
+  length-append (points_before slots c taken j) (points_of slots c taken j),
+)
+
+-- and so of the lane's
+pub value_among : (slots : ℕ) (c : List ℕ) (taken n a j i : ℕ) → IsValuePlace slots c taken n a j i
     → n < length (lane_points slots c taken)
 value_among slots c taken n a j i at =
     let rest = slots - (j + 1) in
     let whole : j + 1 + rest ≡ slots = omega (arith, at.slot) in
     omega (
       arith,
-      at.number,
-      at.within,
-      ap length (points_open slots taken c j at.opened),
-      ap length (points_more slots taken c j),
-      length-append (points_before slots c taken j) (points_of slots c taken j),
+      before_and_at slots c taken n a j i at,
       grows slots taken c (j + 1) rest,
       ap (λ k. length (points_before slots c taken k)) whole,
     )

@@ -1,7 +1,7 @@
 -- What an image of a tag's device recovers: the records of its log, the summary that counts, and what the lane
 -- holds beyond
 -- that summary. All of it is read of bytes at places, so it is said of each image that a crash may leave.
-use Rattle.std.specs.Prelude.{◌≡◌, ◌≢◌, ◌⊎◌, ℕ, ◌+◌, ◌≤◌, Bool, true, false, List, [], ◌∷◌}
+use Rattle.std.specs.Prelude.{◌≡◌, ◌⊎◌, ℕ, ◌+◌, ◌≤◌, Bool, true, false, List, [], ◌∷◌}
 use Rattle.std.specs.Prelude.{length, take, drop, map}
 use Rattle.std.specs.Prelude.{slice_index, nat_eq, nat_le, Option, None, Some}
 use Rattle.std.specs.Int.{w32, w64, from_be_bytes}

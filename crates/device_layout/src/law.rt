@@ -15,3 +15,9 @@ pub fn what_recovers_is_not_damaged()
     ensures { (def : TagDef) (c : List ℕ) (s : State) (a : ℕ) (byte : Option ℕ) → Recovers def c s
         → IsTagDamage def c a byte → ⊥ }
 {}
+
+/// A device has one damage at most: one place, and the byte there.
+pub fn one_damage_is_told()
+    ensures { (def : TagDef) (c : List ℕ) (a b : ℕ) (byte other : Option ℕ) → IsTagDamage def c a byte
+        → IsTagDamage def c b other → (a ≡ b) × (byte ≡ other) }
+{}

@@ -21,7 +21,7 @@ mod slot_field;
 
 pub use failure::OpenNo;
 pub use header::Header;
-pub use law::{one_state_is_recovered, what_recovers_is_not_damaged};
+pub use law::{one_damage_is_told, one_state_is_recovered, what_recovers_is_not_damaged};
 pub use layout::make_layout;
 pub use layout_reader::{LANE, Stored, damaged, log_start, read_layout, read_stored, refusal_of};
 pub use slot::Slot;

@@ -37,7 +37,7 @@ opened_of def (Some t) core state step = record {
 -- ---- faults
 
 -- why a device is not opened
-why_of : {T : Type 0} → Result T OpenNo → OpenNo
+abbrev why_of : {T : Type 0} → Result T OpenNo → OpenNo
 why_of (Ok x) = WantOfMemory
 why_of (Err why) = why
 
@@ -52,18 +52,18 @@ counts_of why before now counts = record {
 }
 
 -- those of a device that had none count for the store that it is given back to
-pub given_back : {T : Type 0} (r : Result T OpenNo) (first last before now : ℕ) → first ≡ 0
-    → CountsFault r DeviceFault first last → now ≡ sum_of_counts before last → before < 2 ^ 64
+pub given_back : {T : Type 0} (r : Result T OpenNo) (first last before mid now : ℕ) → first ≡ 0
+    → CountsFault r DeviceFault first last → mid ≡ before → now ≡ sum_of_counts mid last → before < 2 ^ 64
     → CountsFault r DeviceFault before now
-given_back (Ok x) first last before now none counts sum small = record {
-  later = omega (arith, sum, small);
-  passed = omega (arith, sum, small, none, counts.passed);
+given_back (Ok x) first last before mid now none counts same sum small = record {
+  later = omega (arith, sum, same, small);
+  passed = omega (arith, sum, same, small, none, counts.passed);
   failed = λ is. absurd (cc (is));
   refused = tt;
 }
-given_back (Err why) first last before now none counts sum small = record {
-  later = omega (arith, sum, small);
+given_back (Err why) first last before mid now none counts same sum small = record {
+  later = omega (arith, sum, same, small);
   passed = tt;
-  failed = λ is. let rose = counts.failed is in omega (arith, sum, small, none, rose);
-  refused = λ other. let same = counts.refused other in omega (arith, sum, small, none, same);
+  failed = λ is. let rose = counts.failed is in omega (arith, sum, same, small, none, rose);
+  refused = λ other. let kept = counts.refused other in omega (arith, sum, same, small, none, kept);
 }

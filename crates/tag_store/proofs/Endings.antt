@@ -78,10 +78,10 @@ told tags i def old now new cores before after WantOfMemory so_far few distinct 
     tt
 
 -- the faults that were counted until a tag is refused
-pub counted : {T U : Type 0} (i before after : ℕ) (why : OpenNo)
+pub counted : {T : Type 0} (U : Type 0) (i before after : ℕ) (why : OpenNo)
     → CountsFault {T = T} (Err why) DeviceFault before after → CountsStore {T = U} (Err (status_of i why)) before after
-counted i before after DeviceFault counts = inr (i, refl, counts.failed refl)
-counted i before after (Damaged at byte) counts = inl (counts.refused (λ is. absurd (cc (is))))
-counted i before after (OtherTag found wanted) counts = inl (counts.refused (λ is. absurd (cc (is))))
-counted i before after (Full records) counts = inl (counts.refused (λ is. absurd (cc (is))))
-counted i before after WantOfMemory counts = inl (counts.refused (λ is. absurd (cc (is))))
+counted U i before after DeviceFault counts = inr (i, refl, counts.failed refl)
+counted U i before after (Damaged at byte) counts = inl (counts.refused (λ is. absurd (cc (is))))
+counted U i before after (OtherTag found wanted) counts = inl (counts.refused (λ is. absurd (cc (is))))
+counted U i before after (Full records) counts = inl (counts.refused (λ is. absurd (cc (is))))
+counted U i before after WantOfMemory counts = inl (counts.refused (λ is. absurd (cc (is))))

@@ -1,5 +1,3 @@
-use Rattle.std.proofs.Common.{sym, subst}
-use Rattle.tag_store.specs.Tags.{IsLeft}
 use Rattle.tag_store.proofs.Devices.{opened_of, counts_of}
 use Rattle.tag_store.proofs.device.open_core.Goals as goal
 

@@ -1,5 +1,3 @@
-use Rattle.std.proofs.Common.{◌≡◌, ◌∙◌, ap}
-use Rattle.disk_model.specs.Calls.{sum_of_counts}
 use Rattle.tag_store.proofs.Devices.{still, untouched, given_back}
 use Rattle.tag_store.proofs.device.open_device.Goals as goal
 
@@ -11,5 +9,5 @@ returns-in_default-device-clause-same g c = untouched _ _ _ (c.in_default-device
 
 pub returns-clause-counts : goal.returns-clause-counts
 returns-clause-counts g c = λ small.
-    given_back _ _ _ _ _ c.in-Ok-device.ensures.faultless c.open_core.ensures.counts
-    (c.give_back.ensures.counted ∙ ap (λ n. sum_of_counts n _) c.in-Ok-device.ensures.cause.passed) small
+    given_back _ _ _ _ _ _ c.in-Ok-device.ensures.faultless c.open_core-dev.ensures.counts
+    c.in-Ok-device.ensures.cause.passed c.give_back.ensures.counted small

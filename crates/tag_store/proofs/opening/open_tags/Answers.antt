@@ -51,7 +51,7 @@ returns-in-Err-clause-counts g c = λ small.
     let status : c.status_of.result ≡ status_of c.loop-def.def-index c.in-Err.why = cc in
     subst (λ why. CountsStore {T = Vec Core Global} (Err why) (g.S.Store.fault_count c.args.store.now)
     (g.S.Store.fault_count c.open_device.new.store)) (sym status)
-    (counted c.loop-def.def-index _ _ c.in-Err.why
+    (counted (Vec Core Global) c.loop-def.def-index _ _ c.in-Err.why
     (counted_since _ _ _ (Err c.in-Err.why) (c.loop-def.invariant.faults small) small c.in-Err.ensures.counts))
 
 pub returns-then-records-gt-MAX_STORE_RECORDS-clause-any_moment :
