@@ -9,7 +9,8 @@ use Rattle.tag_base.specs.declared.definition.Base.{Base}
 use Rattle.value_rows.specs.declared.asked.Query.{Query}
 use Rattle.value_rows.specs.declared.asked.Query.TheVariants.{Tag, Snap, Row}
 use Rattle.plant_files.specs.Texts.{tag_names}
-use Rattle.plant_files.specs.Asked.{IsQueryOf}
+use Rattle.plant_files.specs.Asked.{IsQueryOf, ToldFiles, AreReaderFiles}
+use Rattle.value_rows.specs.declared.asked.GroupNames.{GroupNames}
 use Rattle.plant_status.specs.declared.status.Status.{Status}
 use Rattle.plant_status.specs.declared.status.Status.TheVariants.{Done, BadWords, BadText, BadRow, ReadFault, WriteFault, DeviceFault}
 use Rattle.plant_status.specs.declared.status.Status.TheVariants.{Damaged, OtherTag, Limit, Mismatch, Halted, WantOfMemory, NotYet}
@@ -18,7 +19,7 @@ use Rattle.disk_model.specs.Traces.{Trace}
 use Rattle.tag_store.specs.Tags.{AreDistinct}
 use Rattle.tag_store.specs.Refusals.{CountsStore, IsRefusal}
 use Rattle.trend_command.specs.Told.{IsAsked}
-use Rattle.std.proofs.Common.{Option, Result, Ok, Err, IfErr, inl, inr, ◌^◌, ◌<◌, ◌≤◌}
+use Rattle.std.proofs.Common.{Option, Result, Ok, Err, IfErr, inl, inr, ◌∷◌, ◌^◌, ◌<◌, ◌≤◌}
 
 -- a fact of each image of a list is one of each element
 pub all_of_map : {X Y : Type 0} (f : X → Y) (P : Y → Type 0) (xs : List X) → All P (map f xs) → All (λ x. P (f x)) xs
@@ -81,3 +82,12 @@ pub counts_on : {T : Type 0} (r : Result T Status) (before now : ℕ) → before
 counts_on (Ok x) before now small counts = omega (arith, counts)
 counts_on (Err why) before now small (inl same) = omega (arith, same)
 counts_on (Err why) before now small (inr more) = let rose = more.2 in omega (arith, rose, small)
+
+-- there is one list of queries for each file
+pub as_many_lists : (tags : List (List ℕ)) (groups : List GroupNames) (told : ToldFiles) (files : List (List ℕ))
+    (lists : List (List Query)) → AreReaderFiles tags groups told files lists → length lists ≡ length files
+as_many_lists tags groups told [] [] are = refl
+as_many_lists tags groups told [] (q ∷ qs) are = absurd are
+as_many_lists tags groups told (f ∷ fs) [] are = absurd are
+as_many_lists tags groups told (f ∷ fs) (q ∷ qs) are =
+    omega (arith, as_many_lists tags groups told fs qs are.1)
