@@ -52,9 +52,11 @@ pub fn told<R: Threads + Wait + Sync>(
     let mut out = MemSink::new(alloc, only(alloc, fail.1)?);
     let args = Ok(words.into_iter());
     let exit = run_args(rt, alloc, args, &mut input, files, &mut out, store);
-    let mut code = 0;
-    while code < 100 && ExitCode::from(code) != exit {
-        code += 1;
+    let mut code = u8::MAX;
+    for c in 0..100u8 {
+        if ExitCode::from(c) == exit {
+            code = c;
+        }
     }
     let printed = str::from_utf8(out.bytes()).map_err(|_| "text")?;
     Ok(format!(in alloc; "{code} {printed}")?)
