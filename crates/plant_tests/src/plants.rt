@@ -34,7 +34,8 @@ pub fn only(alloc: Global, number: u64) -> Result<Vec<u64>, AllocError> {
     Ok(vec![in alloc; number]?)
 }
 
-// Runs a line of words, of which the first is the program's name: the exit code, a space, and what is printed. The read of the input and the write with these numbers fail.
+// Runs a line of words, of which the first is the program's name: the exit code, a space, and what is printed. The read of
+// the input and the write with these numbers fail.
 pub fn told<R: Threads + Wait + Sync>(
     rt: &R,
     alloc: Global,
