@@ -34,7 +34,8 @@ pub fn only(alloc: Global, number: u64) -> Result<Vec<u64>, AllocError> {
     Ok(vec![in alloc; number]?)
 }
 
-// Runs a line of words, of which the first is the program's name: the exit code, a space, and what is printed. The read of the input and the write with these numbers fail.
+// Runs a line of words, of which the first is the program's name: the exit code, a space, and what is printed. The read of
+// the input and the write with these numbers fail.
 pub fn told<R: Threads + Wait + Sync>(
     rt: &R,
     alloc: Global,
@@ -52,9 +53,11 @@ pub fn told<R: Threads + Wait + Sync>(
     let mut out = MemSink::new(alloc, only(alloc, fail.1)?);
     let args = Ok(words.into_iter());
     let exit = run_args(rt, alloc, args, &mut input, files, &mut out, store);
-    let mut code = 0;
-    while code < 100 && ExitCode::from(code) != exit {
-        code += 1;
+    let mut code = u8::MAX;
+    for c in 0..100u8 {
+        if ExitCode::from(c) == exit {
+            code = c;
+        }
     }
     let printed = str::from_utf8(out.bytes()).map_err(|_| "text")?;
     Ok(format!(in alloc; "{code} {printed}")?)

@@ -55,30 +55,36 @@ fn tuning_of(name: &str) -> Option<Tuning> {
 }
 
 // What a core keeps of a row's history, and what the core that is made of its parts holds.
-fn told<L: Ledger>(
+fn compressed<L: Ledger>(
     rt: &impl Abort,
     alloc: Global,
     given: &str,
-    blank: Blank,
-) -> Result<String, Fail>
-    requires name { blank.name ≡ L.name }
-    requires parts { blank.parts ≡ L.parts }
-    requires some { 0 < L.parts }
-{
-    let mut steps: Steps<L> = Steps::new(blank);
+    steps: &mut Steps<L>,
+) -> Result<String, Fail> {
     let (kind, events) = given.split_once(' ').ok_or("kind")?;
     let (first, events) = events.split_once(' ').ok_or("tuning")?;
     let tuning = tuning_of(first).ok_or("tuning")?;
     assert!(rt; tuning_ok(&tuning));
     let mut core = TagCore::new(alloc, tuning, kind == "step", 4)?;
-    for event in events.split_whitespace() {
-        happen(rt, &mut core, event, &mut steps)?;
-    }
+    take_all(rt, &mut core, events, steps)?;
     let (tuning, step) = (core.tuning(), core.step());
     let (recs, summary) = core.into_parts();
     assert!(rt; tuning_ok(&tuning) && parts_ok(&tuning, step, &recs, &summary));
     let again = TagCore::from_records(tuning, step, recs, &summary, 4)?;
     kept(alloc, &again)
+}
+
+// Lets these events happen.
+fn take_all<L: Ledger>(
+    rt: &impl Abort,
+    core: &mut TagCore,
+    events: &str,
+    steps: &mut Steps<L>,
+) -> Result<(), Full> {
+    for event in events.split_whitespace() {
+        happen(rt, core, event, steps)?;
+    }
+    Ok(())
 }
 
 // Lets one event happen.
@@ -113,17 +119,22 @@ fn kept(alloc: Global, core: &TagCore) -> Result<String, Fail> {
     Ok(told)
 }
 
-// What is told of a row's history, on a ledger of its own.
-fn compressed(rt: &impl Abort, alloc: Global, given: &str) -> Result<String, Fail> {
-    told::<Brand>(rt, alloc, given, Blank::new(1))
+// Each row ends as it says; counts on the ledger of the blank.
+fn all_told<L: Ledger>(rt: &impl Abort, alloc: Global, blank: Blank) -> Result<(), Fail>
+    requires name { blank.name ≡ L.name }
+    requires parts { blank.parts ≡ L.parts }
+    requires some { 0 < L.parts }
+{
+    let mut steps = Steps::<L>::new(blank);
+    for row in HISTORIES.lines() {
+        let (given, want) = row.split_once(" =>").ok_or("row")?;
+        let told = compressed(rt, alloc, given, &mut steps)?;
+        assert_eq!(rt; told.as_str(), want, "{given}");
+    }
+    Ok(())
 }
 
 #[test]
 fn cores_keep_what_is_worked_by_hand(rt: HostRuntime) -> Result<(), Fail> {
-    for row in HISTORIES.lines() {
-        let (given, want) = row.split_once(" =>").ok_or("row")?;
-        let told = compressed(&rt, rt.alloc(), given)?;
-        assert_eq!(rt; told.as_str(), want, "{given}");
-    }
-    Ok(())
+    all_told::<Brand>(&rt, rt.alloc(), Blank::new(1))
 }
