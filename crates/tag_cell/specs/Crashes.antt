@@ -1,10 +1,14 @@
 -- What a crash leaves of a cell's device.
-use Rattle.std.specs.Prelude.{◌≡◌, ℕ, ◌+◌, ◌-◌, ◌^◌, ◌<◌, ◌≤◌, Bool, List, length, take, map}
+use Rattle.std.specs.Prelude.{◌≡◌, ℕ, ◌+◌, ◌-◌, ◌^◌, ◌<◌, ◌≤◌, Bool, List, length, take, map, min, nat_eq, if◌then◌else◌}
 use Rattle.trend_num.specs.declared.point.Point.{Point}
 use Rattle.trend_num.specs.declared.tag_def.TagDef.{TagDef}
 use Rattle.trend_model.specs.History.{Raw}
 use Rattle.trend_model.specs.State.{State, replay}
 use Rattle.crash_recovery.specs.Recovery.{AllFit, Recovers}
+use Rattle.archive_file.specs.declared.failure.PutNo.{PutNo}
+use Rattle.archive_file.specs.declared.failure.PutNo.TheVariants as put
+use Rattle.tag_cell.specs.declared.entry.CommitNo.{CommitNo}
+use Rattle.tag_cell.specs.declared.entry.CommitNo.TheVariants as commit
 use Rattle.tag_cell.specs.declared.entry.Entry.{Entry}
 use Rattle.tag_cell.specs.declared.history.TagOpening.{TagOpening}
 use Rattle.tag_cell.specs.Tapes.{acked_at, opened, taken}
@@ -31,3 +35,12 @@ pub record GoesOnBy (def : TagDef) (s : State) (step : Bool) (r : State) (points
   pub same_step : step ≡ def.step
   pub fits : AllFit def.step s (map Raw points)
   pub state : r ≡ replay def.step s (map Raw points)
+
+-- how many of so many waiting values a commit writes: 64 at most where a lane slot is free, else all
+abbrev pub count_written : ℕ → ℕ → ℕ
+count_written free waiting = if nat_eq free 0 then waiting else min 64 waiting
+
+-- the refusal of a commit whose checkpoint was refused
+abbrev pub refusal_of : PutNo → CommitNo
+refusal_of put.DeviceFault = commit.DeviceFault
+refusal_of put.WantOfMemory = commit.WantOfMemory
