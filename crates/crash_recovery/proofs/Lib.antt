@@ -13,6 +13,7 @@ pub mod Logged
 pub mod Made
 pub mod MadeSeats
 pub mod OneState
+pub mod Numbered
 pub mod Openings
 pub mod Pieces
 pub mod Places

@@ -32,39 +32,23 @@ use Rattle.crash_recovery.specs.declared.failure.OpenNo.TheVariants.{WantOfMemor
 use Rattle.archive_file.specs.declared.failure.ScanNo.{ScanNo}
 use Rattle.archive_file.specs.declared.failure.ScanNo.TheVariants as scan
 use Rattle.disk_model.specs.Traces.{Trace}
-use Rattle.disk_model.specs.Calls.{Rose}
 use Rattle.crash_recovery.specs.Opening.{Shows}
 use Rattle.crash_recovery.proofs.Made.{no_parts}
-use Rattle.crash_recovery.proofs.Shows.{shows_before}
 
 -- ---- causes
 
--- a count of faults that has risen since has risen since before
-pub rose_before : (a b n : ℕ) → a ≤ b → Rose b n → Rose a n
-rose_before a b n le (inl less) = inl (omega (arith, le, less))
-rose_before a b n le (inr end) = inr end
-
 -- the cause of a refusal is one since before some calls that changed nothing
-pub cause_before : (def : TagDef) (o p : Option Trace) (a b n : ℕ) (why : OpenNo) → p ≡ o → a ≤ b
-    → IsCause def p b n why → IsCause def o a n why
-cause_before def o p a b n DeviceFault same le cause = rose_before a b n le cause
-cause_before def o p a b n (Damaged at byte) same le cause =
-    shows_before o p (λ c. IsTagDamage def c at byte) same cause
-cause_before def o p a b n (OtherTag found wanted) same le cause =
-    shows_before o p (λ c. IsOther def c found wanted) same cause
-cause_before def o p a b n (Full records) same le cause =
-    shows_before o p (λ c. (s : State) × IsFull def c records s) same cause
-cause_before def o p a b n WantOfMemory same le cause = tt
+pub cause_before : (def : TagDef) (o p : Option Trace) (why : OpenNo) → p ≡ o → IsCause def p why → IsCause def o why
+cause_before def o p why same cause = subst (λ x. IsCause def x why) same cause
 
 -- the cause of a scan's refusal
-pub cause_of_scan : (def : TagDef) (o : Option Trace) (a n : ℕ) (why : ScanNo) (result : OpenNo)
-    → result ≡ refusal_of why
-    → (why ≡ scan.DeviceFault → Rose a n) → ((at : ℕ) (byte : Option ℕ) → why ≡ scan.Damaged at byte
-    → Shows o (λ c. IsTagDamage def c at byte)) → IsCause def o a n result
-cause_of_scan def o a n scan.DeviceFault result is fault damage = subst (IsCause def o a n) (sym is) (fault refl)
-cause_of_scan def o a n (scan.Damaged at byte) result is fault damage =
-    subst (IsCause def o a n) (sym is) (damage at byte refl)
-cause_of_scan def o a n scan.WantOfMemory result is fault damage = subst (IsCause def o a n) (sym is) tt
+pub cause_of_scan : (def : TagDef) (o : Option Trace) (why : ScanNo) (result : OpenNo) → result ≡ refusal_of why
+    → ((at : ℕ) (byte : Option ℕ) → why ≡ scan.Damaged at byte → Shows o (λ c. IsTagDamage def c at byte))
+    → IsCause def o result
+cause_of_scan def o scan.DeviceFault result is damage = subst (IsCause def o) (sym is) tt
+cause_of_scan def o (scan.Damaged at byte) result is damage =
+    subst (IsCause def o) (sym is) (damage at byte refl)
+cause_of_scan def o scan.WantOfMemory result is damage = subst (IsCause def o) (sym is) tt
 
 -- another tag's device
 pub is_other : (def : TagDef) (c : List ℕ) (h : Header) → IsOpen 0 c → HasHeader h c

@@ -1,6 +1,6 @@
 -- What opening a tag's device gives, and why it is refused.
 use Rattle.std.specs.Prelude.{◌≡◌, ◌≢◌, ◌⊎◌, ℕ, ◌+◌, ◌^◌, ◌<◌, ◌≤◌, Bool, true, false, List, length, Option}
-use Rattle.std.specs.Prelude.{Some, IfSome}
+use Rattle.std.specs.Prelude.{Some, IfSome, Err}
 use Rattle.trend_num.specs.Limits.{most_records}
 use Rattle.trend_num.specs.declared.archive.Summary.{Summary}
 use Rattle.trend_num.specs.declared.point.Point.{Point}
@@ -11,7 +11,7 @@ use Rattle.trend_model.specs.State.{State, after}
 use Rattle.disk_model.specs.Traces.{Trace, seen}
 use Rattle.disk_model.specs.Images.{MayLeave}
 use Rattle.disk_model.specs.Moments.{During}
-use Rattle.disk_model.specs.Calls.{Rose}
+use Rattle.disk_model.specs.Calls.{CountsFault}
 use Rattle.disk_model.specs.Gates.{IsOpen}
 use Rattle.crash_recovery.specs.declared.failure.OpenNo.{OpenNo}
 use Rattle.crash_recovery.specs.declared.failure.OpenNo.TheVariants.{DeviceFault, Damaged, OtherTag, Full}
@@ -34,10 +34,15 @@ use Rattle.crash_recovery.specs.Damages.{StandsThere, IsValuePlace, IsTagDamage}
 abbrev pub Shows : Option Trace → (List ℕ → Type 0) → Type 0
 Shows o P = IfSome o (λ t. P (seen (Some t)))
 
+-- another tuning than the wanted one is in force in s, which has room for two records more, and r is s retuned
+abbrev pub IsRetuned : TagDef → State → State → Type 0
+IsRetuned def s r = (s.summary.tuning ≢ Some def.tuning) × (r ≡ after def.step s (Tune def.tuning))
+    × (length s.records + 2 ≤ MAX_RECORDS)
+
 -- what is opened of a tag that recovers s: s itself where the wanted tuning is in force, and else s retuned
 abbrev pub IsOpenedAs : TagDef → State → State → Type 0
 IsOpenedAs def s r = ((s.summary.tuning ≡ Some def.tuning) × (r ≡ s))
-    ⊎ ((s.summary.tuning ≢ Some def.tuning) × (r ≡ after def.step s (Tune def.tuning)))
+    ⊎ IsRetuned def s r
 
 -- what is recovered is not to be retuned, or it has not taken 10^18 events with that
 abbrev pub IsCountable : TagDef → List ℕ → Type 0
@@ -77,13 +82,17 @@ pub record IsFull (def : TagDef) (c : List ℕ) (records : ℕ) (s : State) : Ty
   pub records_are : records ≡ length s.records
   pub full : most_records < length s.records + 2
 
--- why a device is not opened; of a device that does not tell its calls only its failures are known
-abbrev pub IsCause : TagDef → Option Trace → ℕ → ℕ → OpenNo → Type 0
-IsCause def o before now DeviceFault = Rose before now
-IsCause def o before now (Damaged a byte) = Shows o (λ c. IsTagDamage def c a byte)
-IsCause def o before now (OtherTag found wanted) = Shows o (λ c. IsOther def c found wanted)
-IsCause def o before now (Full records) = Shows o (λ c. (s : State) × IsFull def c records s)
-IsCause def o before now WantOfMemory = Unit {0}
+-- why a device is not opened, where it tells its calls
+abbrev pub IsCause : TagDef → Option Trace → OpenNo → Type 0
+IsCause def o DeviceFault = Unit {0}
+IsCause def o (Damaged a byte) = Shows o (λ c. IsTagDamage def c a byte)
+IsCause def o (OtherTag found wanted) = Shows o (λ c. IsOther def c found wanted)
+IsCause def o (Full records) = Shows o (λ c. (s : State) × IsFull def c records s)
+IsCause def o WantOfMemory = Unit {0}
+
+-- the faults that are counted until a device is not opened
+abbrev pub CountsRefusal : OpenNo → ℕ → ℕ → Type 0
+CountsRefusal why before now = CountsFault {T = Unit {0}} (Err why) DeviceFault before now
 
 -- this is what the header says
 pub record HasHeader (h : Header) (c : List ℕ) : Type 0 where
@@ -123,16 +132,16 @@ pub record HoldsValue (slots taken used n : ℕ) (c : List ℕ) : Type 0 where
   pub there : n < length held
 
 -- value n of the lane is told as one that finds no room, or a call of the device has failed
-abbrev pub IsOverfull : Option Trace → ℕ → ℕ → ℕ → ℕ → ℕ → OpenNo → Type 0
-IsOverfull o slots taken n before now (Damaged a byte) =
+abbrev pub IsOverfull : Option Trace → ℕ → ℕ → ℕ → OpenNo → Type 0
+IsOverfull o slots taken n (Damaged a byte) =
     Shows o (λ c. (j : ℕ) × (i : ℕ) × IsValuePlace slots c taken n a j i × StandsThere c a byte)
-IsOverfull o slots taken n before now DeviceFault = Rose before now
-IsOverfull o slots taken n before now why = ⊥
+IsOverfull o slots taken n DeviceFault = Unit {0}
+IsOverfull o slots taken n why = ⊥
 
 -- this state is s as it is opened, retuned or not
 abbrev pub OpensAs : TagDef → Bool → State → State → Type 0
 OpensAs def false s r = (s.summary.tuning ≡ Some def.tuning) × (r ≡ s)
-OpensAs def true s r = (s.summary.tuning ≢ Some def.tuning) × (r ≡ after def.step s (Tune def.tuning))
+OpensAs def true s r = IsRetuned def s r
 
 -- a new device gets the wanted number of lane slots, and any other keeps those that its header tells
 abbrev pub HasSlots : ℕ → ℕ → List ℕ → Type 0

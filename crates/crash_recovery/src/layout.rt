@@ -6,7 +6,7 @@ ghost use Rattle.trend_model.specs.State.{nothing_taken};
 ghost use Rattle.disk_model.specs.Traces.{seen};
 ghost use Rattle.disk_model.specs.Images.{Now, IsSettled};
 ghost use Rattle.disk_model.specs.Moments.{During};
-ghost use Rattle.disk_model.specs.Calls.{HasCause, Rose};
+ghost use Rattle.disk_model.specs.Calls.{CountsFault, HasCause};
 ghost use Rattle.disk_model.specs.Gates.{IsShut};
 ghost use Rattle.archive_file.specs.declared.failure.PutNo.TheVariants.{DeviceFault, WantOfMemory};
 ghost use Rattle.crash_recovery.specs.Headers.{header_image};
@@ -50,9 +50,7 @@ pub(crate) fn make_layout<D: Disk>(
     ensures named { OnOk result (IsName def.now.name) }
     ensures settled { OnOk result (IsSettled (D.trace dev.new)) }
     ensures no_memory { IsErrOf result WantOfMemory → dev.new ≡ dev.old }
-    ensures device_fault { IsErrOf result DeviceFault → Rose (D.fault_count dev.old) (D.fault_count dev.new) }
-    ensures faultless { OnOk result (D.fault_count dev.new ≡ D.fault_count dev.old) }
-    ensures faults { D.fault_count dev.old ≤ D.fault_count dev.new }
+    ensures cause { CountsFault result DeviceFault (D.fault_count dev.old) (D.fault_count dev.new) }
     ensures later { D.ticks dev.old ≤ D.ticks dev.new }
 {
     let Ok(bytes) = layout_bytes(alloc, def, slots) else {

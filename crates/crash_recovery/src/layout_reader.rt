@@ -5,7 +5,7 @@ ghost use Rattle.trend_num.specs.declared.tuning.Tuning.{Tuning};
 ghost use Rattle.trend_num.specs.declared.tag_def.TagDef.{TagDef};
 ghost use Rattle.trend_num.specs.Ranges.{IsTuned};
 ghost use Rattle.trend_model.specs.Parts.{ArePartsOk};
-ghost use Rattle.disk_model.specs.Calls.{HasLength, Reaches, Reads, Rose};
+ghost use Rattle.disk_model.specs.Calls.{CountsFault, HasCause, HasLength, Reaches, Reads};
 ghost use Rattle.disk_model.specs.Gates.{IsOpen};
 ghost use Rattle.archive_file.specs.Places.{HasRecords};
 ghost use Rattle.event_queue.specs.Slots.{lane_end};
@@ -55,10 +55,10 @@ pub(crate) fn read_part<const N: usize, D: Disk>(dev: &mut D, at: u64) -> Result
     requires { Reaches (D.trace dev.old) (at + N) }
     ensures bytes { IfOk result (λ b. Reads (D.trace dev.old) at b) }
     ensures len { IfOk result (λ b. length b ≡ N) }
-    ensures fault { OnErr result ((result ≡ Err DeviceFault) × Rose (D.fault_count dev.old) (D.fault_count dev.new)) }
+    ensures fault { OnErr result (result ≡ Err DeviceFault) }
+    ensures counts { HasCause (D.fault_count dev.old) (D.fault_count dev.new) result }
     ensures same { D.trace dev.new ≡ D.trace dev.old }
     ensures untimed { D.ticks dev.new ≡ D.ticks dev.old }
-    ensures faults { D.fault_count dev.old ≤ D.fault_count dev.new }
 {
     let mut bytes = [0; N];
     let Ok(()) = dev.read(at, &mut bytes) else {
@@ -73,10 +73,10 @@ pub(crate) fn read_layout<D: Disk>(dev: &mut D, def: &TagDef) -> Result<Header, 
     ensures layout { IfOk result (λ h. Shows (D.trace dev.old) (HasLayout def.now h.slots h.def.tuning)) }
     ensures tuned { IfOk result (λ h. IsTuned h.def.tuning) }
     ensures slots { IfOk result (λ h. (1 ≤ h.slots) × (h.slots ≤ 65536)) }
-    ensures cause { IfErr result (IsCause def.now (D.trace dev.old) (D.fault_count dev.old) (D.fault_count dev.new)) }
+    ensures cause { IfErr result (IsCause def.now (D.trace dev.old)) }
     ensures same { D.trace dev.new ≡ D.trace dev.old }
     ensures untimed { D.ticks dev.new ≡ D.ticks dev.old }
-    ensures faults { D.fault_count dev.old ≤ D.fault_count dev.new }
+    ensures counts { CountsFault result DeviceFault (D.fault_count dev.old) (D.fault_count dev.new) }
 {
     let Ok(len) = dev.len() else {
         return Err(OpenNo::DeviceFault);
@@ -101,10 +101,10 @@ fn header_of<D: Disk>(dev: &mut D, len: u64) -> Result<Header, OpenNo>
     ensures tuned { IfOk result (λ h. IsTuned h.def.tuning) }
     ensures slots { IfOk result (λ h. (1 ≤ h.slots) × (h.slots ≤ 65536)) }
     ensures cause { (def : TagDef) → Shows (D.trace dev.old) (IsOpen 0)
-        → IfErr result (IsCause def (D.trace dev.old) (D.fault_count dev.old) (D.fault_count dev.new)) }
+        → IfErr result (IsCause def (D.trace dev.old)) }
     ensures same { D.trace dev.new ≡ D.trace dev.old }
     ensures untimed { D.ticks dev.new ≡ D.ticks dev.old }
-    ensures faults { D.fault_count dev.old ≤ D.fault_count dev.new }
+    ensures counts { CountsFault result DeviceFault (D.fault_count dev.old) (D.fault_count dev.new) }
 {
     if len < HEADER_LEN as u64 {
         return Err(ends_at(len));
@@ -153,10 +153,10 @@ fn ends_at(len: u64) -> OpenNo
 fn counting_slot<D: Disk>(dev: &mut D) -> Result<Option<Slot>, OpenNo>
     requires { Reaches (D.trace dev.old) 400 }
     ensures slot { IfOk result (λ x. Shows (D.trace dev.old) (λ c. counting c ≡ x)) }
-    ensures fault { OnErr result ((result ≡ Err DeviceFault) × Rose (D.fault_count dev.old) (D.fault_count dev.new)) }
+    ensures fault { OnErr result (result ≡ Err DeviceFault) }
+    ensures counts { HasCause (D.fault_count dev.old) (D.fault_count dev.new) result }
     ensures same { D.trace dev.new ≡ D.trace dev.old }
     ensures untimed { D.ticks dev.new ≡ D.ticks dev.old }
-    ensures faults { D.fault_count dev.old ≤ D.fault_count dev.new }
 {
     let first = u64::from_be_bytes(read_part::<8, D>(dev, Slot::First.place())?);
     let second = u64::from_be_bytes(read_part::<8, D>(dev, Slot::Second.place())?);
@@ -184,10 +184,10 @@ fn counted<D: Disk>(dev: &mut D, slot: Slot) -> Result<Summary, OpenNo>
     ensures whole { IfOk result IsSummary }
     ensures cause { (def : TagDef) (slots : ℕ) (made : Tuning) → Shows (D.trace dev.old) (HasLayout def slots made)
         → Shows (D.trace dev.old) (λ c. counting c ≡ Some slot)
-        → IfErr result (IsCause def (D.trace dev.old) (D.fault_count dev.old) (D.fault_count dev.new)) }
+        → IfErr result (IsCause def (D.trace dev.old)) }
     ensures same { D.trace dev.new ≡ D.trace dev.old }
     ensures untimed { D.ticks dev.new ≡ D.ticks dev.old }
-    ensures faults { D.fault_count dev.old ≤ D.fault_count dev.new }
+    ensures counts { CountsFault result DeviceFault (D.fault_count dev.old) (D.fault_count dev.new) }
 {
     let bytes = read_part::<SUMMARY_LEN, D>(dev, slot.place())?;
     match read_summary(&bytes) {
@@ -213,10 +213,10 @@ fn records_of<D: Disk>(
     ensures parts { IfOk result (λ rs. ArePartsOk tuning.now step rs.items summary.now) }
     ensures cause { (def : TagDef) → def.step ≡ step
         → Shows (D.trace dev.old) (CountsSummary def slots slot summary.now tuning.now)
-        → IfErr result (IsCause def (D.trace dev.old) (D.fault_count dev.old) (D.fault_count dev.new)) }
+        → IfErr result (IsCause def (D.trace dev.old)) }
     ensures same { D.trace dev.new ≡ D.trace dev.old }
     ensures untimed { D.ticks dev.new ≡ D.ticks dev.old }
-    ensures faults { D.fault_count dev.old ≤ D.fault_count dev.new }
+    ensures counts { CountsFault result DeviceFault (D.fault_count dev.old) (D.fault_count dev.new) }
 {
     let recs = match read_records(alloc, dev, log_start(slots), summary.records) {
         Ok(recs) => recs,
@@ -265,10 +265,10 @@ pub(crate) fn read_stored<D: Disk>(
     ensures parts { IfOk result (λ x. ArePartsOk x.tuning step x.recs.items x.summary) }
     ensures cause { (def : TagDef) → def.step ≡ step
         → Shows (D.trace dev.old) (HasLayout def header.now.slots header.now.def.tuning)
-        → IfErr result (IsCause def (D.trace dev.old) (D.fault_count dev.old) (D.fault_count dev.new)) }
+        → IfErr result (IsCause def (D.trace dev.old)) }
     ensures same { D.trace dev.new ≡ D.trace dev.old }
     ensures untimed { D.ticks dev.new ≡ D.ticks dev.old }
-    ensures faults { D.fault_count dev.old ≤ D.fault_count dev.new }
+    ensures counts { CountsFault result DeviceFault (D.fault_count dev.old) (D.fault_count dev.new) }
 {
     let counting = match counting_slot(dev) {
         Ok(counting) => counting,

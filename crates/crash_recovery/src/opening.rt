@@ -7,14 +7,14 @@ ghost use Rattle.trend_num.specs.Ranges.{IsTuned};
 ghost use Rattle.trend_model.specs.State.{State, nothing_taken};
 ghost use Rattle.disk_model.specs.Images.{IsSettled};
 ghost use Rattle.disk_model.specs.Moments.{During};
-ghost use Rattle.disk_model.specs.Calls.{Rose};
+ghost use Rattle.disk_model.specs.Calls.{CountsFault, HasCause};
 ghost use Rattle.disk_model.specs.Gates.{IsOpen};
 ghost use Rattle.crash_recovery.specs.declared.failure.OpenNo.TheVariants.{DeviceFault, WantOfMemory, Full as TooFull};
 ghost use Rattle.crash_recovery.specs.Recovery.{IsNew, IsRecovered, Recovers};
-ghost use Rattle.crash_recovery.specs.Journals.{AllRecover, GoesOnFrom, RecoversEither, IsSeat, SeatedOn};
+ghost use Rattle.crash_recovery.specs.Journals.{AllRecover, GoesOnFrom, RecoversEither, IsNumbered, IsSeat, SeatedOn};
 ghost use Rattle.crash_recovery.specs.Opening.{Shows, IsOpenedAs, OpensAs, StaysSame, RecoversThen};
 ghost use Rattle.crash_recovery.specs.Opening.{HasSlots, IsLeftOrSame, IsReadAs};
-ghost use Rattle.crash_recovery.specs.Opening.{IsCause, refusal_of_put};
+ghost use Rattle.crash_recovery.specs.Opening.{IsCause, CountsRefusal, refusal_of_put};
 
 use crate::layout::make_layout;
 use crate::layout_reader::{read_layout, read_part, read_stored};
@@ -63,15 +63,20 @@ pub fn open_tag<D: Disk>(
     ensures opened { IfOk result (λ o. Shows (D.trace dev) (λ c. (s : State) × Recovers def.now c s
         × IsOpenedAs def.now s o.core.state)) }
     ensures recovers { IfOk result (λ o. RecoversThen def.now (D.trace dev) (D.trace o.journal.dev) o.core.state) }
+    ensures recovers_now { IfOk result (λ o. o.core.state.summary.taken < 10 ^ 18
+        → AllRecover def.now (D.trace o.journal.dev) o.core.state) }
     ensures acked { IfOk result (λ o. o.journal.acked ≡ o.core.state.summary.taken) }
     ensures slots { IfOk result (λ o. Shows (D.trace dev) (HasSlots lane_slots o.journal.slots)) }
     ensures usable { IfOk result (λ o. o.journal.failed ≡ false) }
     ensures step { IfOk result (λ o. o.core.step ≡ def.now.step) }
     ensures tuning { IfOk result (λ o. o.core.state.summary.tuning ≡ Some def.now.tuning) }
     ensures room { IfOk result (λ o. 2 * room ≤ o.core.spare) }
-    ensures cause { IfErr result (λ e. IsCause def.now (D.trace dev) (D.fault_count dev) (D.fault_count e.dev) e.why) }
-    ensures faults { IfOk result (λ o. D.fault_count dev ≤ D.fault_count o.journal.dev) }
-    ensures faults_refused { IfErr result (λ e. D.fault_count dev ≤ D.fault_count e.dev) }
+    ensures countable { IfOk result (λ o. o.core.state.summary.taken < 2 ^ 63) }
+
+    // A refusal tells its cause. One fault is counted where a call of the device has failed, and else none.
+    ensures cause { IfErr result (λ e. IsCause def.now (D.trace dev) e.why) }
+    ensures faultless { IfOk result (λ o. D.fault_count o.journal.dev ≡ D.fault_count dev) }
+    ensures counts { IfErr result (λ e. CountsRefusal e.why (D.fault_count dev) (D.fault_count e.dev)) }
 {
     let mut dev = dev;
     let read = match read_tag::<Brand, D>(alloc, &mut dev, def, lane_slots, room, Blank::new(1)) {
@@ -111,10 +116,9 @@ impl<D: Disk> Opened<D> {
         ensures usable { IfOk result (λ o. o.journal.failed ≡ false) }
         ensures cause { IfErr result (λ e. (e.why ≡ DeviceFault)
             ⊎ (e.why ≡ WantOfMemory)) }
-        ensures device_fault { IfErr result (λ e. e.why ≡ DeviceFault
-            → Rose (D.fault_count self.journal.dev) (D.fault_count e.dev)) }
-        ensures faults { IfOk result (λ o. D.fault_count self.journal.dev ≤ D.fault_count o.journal.dev) }
-        ensures faults_refused { IfErr result (λ e. D.fault_count self.journal.dev ≤ D.fault_count e.dev) }
+        ensures faultless { IfOk result (λ o. D.fault_count o.journal.dev ≡ D.fault_count self.journal.dev) }
+        ensures counts { IfErr result (λ e. CountsRefusal e.why (D.fault_count self.journal.dev)
+            (D.fault_count e.dev)) }
     {
         let Opened { mut journal, core } = self;
         match journal.checkpoint(alloc, &core) {
@@ -157,13 +161,15 @@ fn read_tag<L: Ledger, D: Disk>(
     ensures slots { IfOk result (λ r. (1 ≤ r.seat.lane.slots) × (r.seat.lane.slots ≤ 65536)) }
     ensures lane { IfOk result (λ r. Shows (D.trace dev.old) (HasSlots lane_slots r.seat.lane.slots)) }
     ensures used { IfOk result (λ r. r.seat.lane.used ≤ r.seat.lane.slots) }
+    ensures numbered { IfOk result (λ r. IsNumbered r.seat) }
+    ensures countable { IfOk result (λ r. r.core.state.summary.taken < 2 ^ 63) }
     ensures acked { IfOk result (λ r. r.retuned ≡ false → r.seat.lane.next ≡ r.core.state.summary.taken) }
     ensures step { IfOk result (λ r. r.core.step ≡ def.now.step) }
     ensures tuning { IfOk result (λ r. r.core.state.summary.tuning ≡ Some def.now.tuning) }
     ensures room { IfOk result (λ r. 2 * room ≤ r.core.spare) }
     ensures cause { IfErr result
-        (IsCause def.now (D.trace dev.old) (D.fault_count dev.old) (D.fault_count dev.new)) }
-    ensures faults { D.fault_count dev.old ≤ D.fault_count dev.new }
+        (IsCause def.now (D.trace dev.old)) }
+    ensures counts { CountsFault result DeviceFault (D.fault_count dev.old) (D.fault_count dev.new) }
 {
     let Ok(()) = dev.sync() else {
         return Err(OpenNo::DeviceFault);
@@ -180,10 +186,10 @@ fn read_tag<L: Ledger, D: Disk>(
 fn is_new<D: Disk>(dev: &mut D) -> Result<bool, OpenNo>
     ensures new { IfOk result (λ b. b ≡ true → Shows (D.trace dev.old) IsNew) }
     ensures begun { IfOk result (λ b. b ≡ false → Shows (D.trace dev.old) (IsOpen 0)) }
-    ensures fault { OnErr result ((result ≡ Err DeviceFault) × Rose (D.fault_count dev.old) (D.fault_count dev.new)) }
+    ensures fault { OnErr result (result ≡ Err DeviceFault) }
+    ensures counts { HasCause (D.fault_count dev.old) (D.fault_count dev.new) result }
     ensures same { D.trace dev.new ≡ D.trace dev.old }
     ensures untimed { D.ticks dev.new ≡ D.ticks dev.old }
-    ensures faults { D.fault_count dev.old ≤ D.fault_count dev.new }
 {
     let Ok(len) = dev.len() else {
         return Err(OpenNo::DeviceFault);
@@ -213,12 +219,13 @@ fn made<D: Disk>(
     ensures core { IfOk result (λ r. r.core.state ≡ nothing_taken def.now.tuning) }
     ensures seated { IfOk result (λ r. SeatedOn r.seat (D.trace dev.new)) }
     ensures lane { IfOk result (λ r. r.seat.lane ≡ record { slots = lane_slots; used = 0; next = 0 }) }
+    ensures numbered { IfOk result (λ r. IsNumbered r.seat) }
     ensures retuned { IfOk result (λ r. r.retuned ≡ false) }
     ensures step { IfOk result (λ r. r.core.step ≡ def.now.step) }
     ensures room { IfOk result (λ r. r.core.spare ≡ 2 * room) }
     ensures cause { IfErr result
-        (IsCause def.now (D.trace dev.old) (D.fault_count dev.old) (D.fault_count dev.new)) }
-    ensures faults { D.fault_count dev.old ≤ D.fault_count dev.new }
+        (IsCause def.now (D.trace dev.old)) }
+    ensures counts { CountsFault result DeviceFault (D.fault_count dev.old) (D.fault_count dev.new) }
 {
     let Ok(core) = TagCore::new(alloc, def.tuning, def.step, room) else {
         return Err(OpenNo::WantOfMemory);
@@ -259,15 +266,17 @@ fn read_back<L: Ledger, D: Disk>(
     ensures seat { IfOk result (λ r. Shows (D.trace dev.old) (IsSeat r.seat)) }
     ensures slots { IfOk result (λ r. (1 ≤ r.seat.lane.slots) × (r.seat.lane.slots ≤ 65536)) }
     ensures used { IfOk result (λ r. r.seat.lane.used ≤ r.seat.lane.slots) }
+    ensures numbered { IfOk result (λ r. IsNumbered r.seat) }
+    ensures countable { IfOk result (λ r. r.core.state.summary.taken < 2 ^ 63) }
     ensures acked { IfOk result (λ r. r.retuned ≡ false → r.seat.lane.next ≡ r.core.state.summary.taken) }
     ensures step { IfOk result (λ r. r.core.step ≡ def.now.step) }
     ensures tuning { IfOk result (λ r. r.core.state.summary.tuning ≡ Some def.now.tuning) }
     ensures room { IfOk result (λ r. 2 * room ≤ r.core.spare) }
     ensures cause { IfErr result
-        (IsCause def.now (D.trace dev.old) (D.fault_count dev.old) (D.fault_count dev.new)) }
+        (IsCause def.now (D.trace dev.old)) }
     ensures same { D.trace dev.new ≡ D.trace dev.old }
     ensures untimed { D.ticks dev.new ≡ D.ticks dev.old }
-    ensures faults { D.fault_count dev.old ≤ D.fault_count dev.new }
+    ensures counts { CountsFault result DeviceFault (D.fault_count dev.old) (D.fault_count dev.new) }
 {
     let header = match read_layout(dev, def) {
         Ok(header) => header,
@@ -299,6 +308,7 @@ fn tuned<L: Ledger>(
     ensures step { IfOk result (λ r. r.core.step ≡ def.now.step) }
     ensures tuning { IfOk result (λ r. r.core.state.summary.tuning ≡ Some def.now.tuning) }
     ensures room { IfOk result (λ r. core.spare ≤ r.core.spare + 2) }
+    ensures counted { IfOk result (λ r. r.core.state.summary.taken ≤ core.state.summary.taken + 1) }
     ensures full { IfErr result (λ why. why ≡ TooFull (length core.state.records)) }
     ensures many { OnErr result (most_records < length core.state.records + 2) }
     ensures other { OnErr result (core.state.summary.tuning ≢ Some def.now.tuning) }

@@ -7,7 +7,7 @@ use Rattle.crash_recovery.proofs.layout_reader.read_layout.Goals as goal
 
 pub returns-in-Err-clause-cause : goal.returns-in-Err-clause-cause
 returns-in-Err-clause-cause g c =
-    cause_before c.args.def.now _ _ _ _ _ _ c.in-Ok.ensures.same c.in-Ok.ensures.cause.later
+    cause_before c.args.def.now _ _ _ c.in-Ok.ensures.same
     (c.in-Err.ensures.cause c.args.def.now (shows_after _ _ (IsOpen 0) c.in-Ok.ensures.same c.requires))
 
 pub returns-in-Err-check_tag-clause-cause : goal.returns-in-Err-check_tag-clause-cause

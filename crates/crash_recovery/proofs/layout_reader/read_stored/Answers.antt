@@ -1,4 +1,4 @@
-use Rattle.std.proofs.Common.{◌≡◌, ◌∙◌, Some, refl, arith}
+use Rattle.std.proofs.Common.{◌≡◌, ◌∙◌, Some, refl}
 use Rattle.crash_recovery.specs.Recovery.{counting, slot_bytes}
 use Rattle.archive_file.specs.Places.{HasRecords}
 use Rattle.archive_file.specs.Summaries.{summary_image}
@@ -14,7 +14,7 @@ returns-in-Err-counted-clause-cause g c def same_step layout =
     let same = c.in-Ok.ensures.same in
     let counts = shows _ _ (λ c'. counting c' ≡ Some c.in-Some.slot) (λ c' is. is
     ∙ c.in-Some.is) c.in-Ok.ensures.slot in
-    cause_before def _ _ _ _ _ _ same c.in-Ok.ensures.faults
+    cause_before def _ _ _ same
     (c.in-Err-counted.ensures.cause def c.args.header.now.slots c.args.header.now.def.tuning
     (shows_after _ _ (HasLayout def c.args.header.now.slots c.args.header.now.def.tuning) same layout)
     (shows_after _ _ (λ c'. counting c' ≡ Some c.in-Some.slot) same counts))
@@ -43,6 +43,6 @@ returns-in-Err-records_of-clause-cause g c def same_step layout =
     let counts = shows _ _ (λ c'. counting c' ≡ Some slot) (λ c' is. is ∙ c.in-Some.is) c.in-Ok.ensures.slot in
     let bytes = shows_before _ _ (λ c'. slot_bytes c' slot ≡ summary_image s) same c.in-Ok-counted.ensures.bytes in
     let has = counts_shown def _ slots _ slot s c.in_force-tuning.result layout counts c.in-Ok-counted.ensures.whole bytes c.in_force-tuning.ensures in
-    cause_before def _ _ _ _ _ _ both (omega (arith, c.in-Ok.ensures.faults, c.in-Ok-counted.ensures.faults))
+    cause_before def _ _ _ both
     (c.in-Err-records_of.ensures.cause def same_step
     (shows_after _ _ (CountsSummary def slots slot s c.in_force-tuning.result) both has))

@@ -7,7 +7,7 @@ use Rattle.crash_recovery.proofs.layout_reader.records_of.Goals as goal
 pub returns-in-Err-clause-cause : goal.returns-in-Err-clause-cause
 returns-in-Err-clause-cause g c def same_step counts =
     let read = c.in-Err.ensures in
-    cause_of_scan def _ _ _ _ _ c.refusal_of.ensures (λ is. read.device_fault (ap Err is))
+    cause_of_scan def _ _ _ c.refusal_of.ensures
     (λ at byte is. records_cause def _ _ _ _ _ _ at byte c.log_start.ensures (read.damaged at byte
     (ap Err is)) counts)
 

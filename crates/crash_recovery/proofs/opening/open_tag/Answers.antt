@@ -6,7 +6,8 @@ use Rattle.crash_recovery.specs.Journals.{AllRecover, GoesOnFrom}
 use Rattle.crash_recovery.specs.Opening.{Shows, IsLeftOrSame, IsOpenedAs, StaysSame, RecoversThen, IsReadAs}
 use Rattle.crash_recovery.proofs.Shows.{if_ok, if_ok₂, if_err}
 use Rattle.crash_recovery.proofs.Openings.{Promises, during_same, opened_shown, recovers_read, stays_retuned}
-use Rattle.crash_recovery.proofs.Openings.{recovers_retuned}
+use Rattle.crash_recovery.proofs.Openings.{recovers_retuned, stays_read, now_read, now_retuned}
+use Rattle.disk_model.specs.Moments.{ComesAfter}
 use Rattle.crash_recovery.proofs.opening.open_tag.Goals as goal
 
 pub returns-then-read-clause-any_moment : goal.returns-then-read-clause-any_moment
@@ -81,3 +82,50 @@ returns-else-read-clause-recovers g c =
     let state = c.in-Ok.read.core.state in
     recovers_read def o put state (subst (λ x. IsReadAs def o x false state) (sym same)
     (subst (λ b. IsReadAs def o mid b state) c.if-read.false c.in-Ok.ensures.opened))
+
+pub returns-then-read-clause-recovers_now : goal.returns-then-read-clause-recovers_now
+returns-then-read-clause-recovers_now g c =
+    let def = c.args.def.now in
+    let o = g.D.Disk.trace c.args.dev in
+    let mid = g.D.Disk.trace c.read_tag.new.dev in
+    let put = g.D.Disk.trace c.new-2.result.dev in
+    let same = ap (λ j. g.D.Disk.trace j.dev) c.new-2.ensures in
+    let core = c.in-Ok.read.core in
+    let read = subst (λ b. IsReadAs def o mid b core.state) c.if-read.true c.in-Ok.ensures.opened in
+    if_ok₂ c.with_checkpoint.result (λ x. core.state.summary.taken < 10 ^ 18 → (d : TagDef) (s : State)
+    → AllRecover d put s
+    → GoesOnFrom d s core.step core.state → AllRecover d (g.D.Disk.trace x.journal.dev) core.state)
+    (λ x. x.core ≡ core)
+    (λ x. x.core.state.summary.taken < 10 ^ 18 → AllRecover def (g.D.Disk.trace x.journal.dev) x.core.state)
+    (λ x durable kept. subst
+    (λ k. k.state.summary.taken < 10 ^ 18 → AllRecover def (g.D.Disk.trace x.journal.dev) k.state) (sym kept)
+    (λ small. now_retuned def o put (g.D.Disk.trace x.journal.dev) core.step core.state c.in-Ok.ensures.step
+    (subst (ComesAfter o) (sym same) c.in-Ok.ensures.any_moment.later)
+    (subst (λ m. IsReadAs def o m true core.state) (sym same) read) (durable small)))
+    c.with_checkpoint.ensures.durable c.with_checkpoint.ensures.core
+
+pub returns-else-read-clause-recovers_now : goal.returns-else-read-clause-recovers_now
+returns-else-read-clause-recovers_now g c =
+    let def = c.args.def.now in
+    let o = g.D.Disk.trace c.args.dev in
+    let mid = g.D.Disk.trace c.read_tag.new.dev in
+    let put = g.D.Disk.trace c.new-2.result.dev in
+    let same = ap (λ j. g.D.Disk.trace j.dev) c.new-2.ensures in
+    let state = c.in-Ok.read.core.state in
+    λ small. now_read def o put state (subst (ComesAfter o) (sym same) c.in-Ok.ensures.any_moment.later)
+    (subst (λ x. IsReadAs def o x false state) (sym same)
+    (subst (λ b. IsReadAs def o mid b state) c.if-read.false c.in-Ok.ensures.opened))
+
+pub returns-else-read-clause-any_moment : goal.returns-else-read-clause-any_moment
+returns-else-read-clause-any_moment g c =
+    let def = c.args.def.now in
+    let o = g.D.Disk.trace c.args.dev in
+    let mid = g.D.Disk.trace c.read_tag.new.dev in
+    let put = g.D.Disk.trace c.new-2.result.dev in
+    let same = ap (λ j. g.D.Disk.trace j.dev) c.new-2.ensures in
+    stays_read def o put (during_same o mid put (IsLeftOrSame def o) same c.in-Ok.ensures.any_moment)
+
+pub returns-else-read-clause-opened : goal.returns-else-read-clause-opened
+returns-else-read-clause-opened g c =
+    opened_shown c.args.def.now (g.D.Disk.trace c.args.dev) (g.D.Disk.trace c.read_tag.new.dev)
+    c.in-Ok.read.retuned c.in-Ok.read.core.state c.in-Ok.ensures.opened

@@ -75,12 +75,8 @@ returns-in-Ok-false-clause-cause g c =
     let def = c.args.def.now in
     let o = g.D.Disk.trace c.args.dev.now in
     let mid = g.D.Disk.trace c.is_new.new.dev in
-    let faults = g.D.Disk.fault_count in
-    if_err c.read_back.result (IsCause def mid (faults c.is_new.new.dev) (faults c.read_back.new.dev))
-    (IsCause def o (faults c.args.dev.now) (faults c.read_back.new.dev))
-    (λ why. cause_synced def o mid (faults c.args.dev.now) (faults c.is_new.new.dev) (faults c.read_back.new.dev) why
-    (c.in-Ok-false.ensures.same ∙ c.in-Ok.ensures.noted) (omega
-    (arith, c.in-Ok-false.ensures.faults, c.sync.ensures.cause.later)))
+    if_err c.read_back.result (IsCause def mid) (IsCause def o)
+    (λ why. cause_synced def o mid why (c.in-Ok-false.ensures.same ∙ c.in-Ok.ensures.noted))
     c.read_back.ensures.cause
 
 pub returns-clause-any_moment : goal.returns-clause-any_moment

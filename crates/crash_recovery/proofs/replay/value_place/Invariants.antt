@@ -7,7 +7,7 @@ abbrev pub invariant-loop-j : goal.invariant-loop-j
 invariant-loop-j g l = record {
   same : g.D.Disk.trace l.dev ≡ g.D.Disk.trace l.fn.dev;
   untimed : g.D.Disk.ticks l.dev ≡ g.D.Disk.ticks l.fn.dev;
-  later : g.D.Disk.fault_count l.fn.dev ≤ g.D.Disk.fault_count l.dev;
+  faults : g.D.Disk.fault_count l.dev ≡ g.D.Disk.fault_count l.fn.dev;
   counted : (taken : ℕ) → Shows (g.D.Disk.trace l.fn.dev) (HoldsValue l.slots taken l.used l.number)
       → Shows (g.D.Disk.trace l.fn.dev) (IsCountedTo l.slots taken l.number l.j l.rest);
 }

@@ -10,7 +10,7 @@ returns-then-has_all_of-clause-any_moment g c = λ small def s all goes. either_
 
 pub returns-then-has_all_of-clause-durable : goal.returns-then-has_all_of-clause-durable
 returns-then-has_all_of-clause-durable g c = λ small def s all goes.
-    let is = c.has_all_of.ensures c.if-has_all_of.true in
+    let is = c.has_all_of.ensures.0 c.if-has_all_of.true in
     done_recovers c.args.self.now _ def s c.args.core.now.step c.args.core.now.state c.requires.seated is.0
     is.1 goes
     all

@@ -37,8 +37,7 @@ returns-in-Ok g c =
           c.in_ok-put_new_records.ensures.reads
           c.in-Ok.ensures.reads c.in-Ok.ensures.shut;
       unwritten = search rules;
-      device_fault = search rules;
-      faults = search rules;
+      cause = search rules;
       later = search rules;
     }
 

@@ -63,6 +63,8 @@ returns g c =
       number = ap (λ x. x.taken) value;
       same_lane = search rules;
       stale = none_used p.lane.used;
+      taken = ap (λ x. x.taken) value;
+      ticked = search rules;
       later = search rules;
       cause = search rules;
     }
