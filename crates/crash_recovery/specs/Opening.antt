@@ -37,7 +37,7 @@ Shows o P = IfSome o (λ t. P (seen (Some t)))
 -- another tuning than the wanted one is in force in s, which has room for two records more, and r is s retuned
 abbrev pub IsRetuned : TagDef → State → State → Type 0
 IsRetuned def s r = (s.summary.tuning ≢ Some def.tuning) × (r ≡ after def.step s (Tune def.tuning))
-    × (length s.records + 2 ≤ MAX_RECORDS)
+    × (length s.records + 2 ≤ most_records)
 
 -- what is opened of a tag that recovers s: s itself where the wanted tuning is in force, and else s retuned
 abbrev pub IsOpenedAs : TagDef → State → State → Type 0

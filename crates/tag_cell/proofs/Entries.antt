@@ -102,7 +102,7 @@ kept_entry def o tape tape' e next failed trace ticks faults call within is long
       (is.recovers fine (countable_before o tape tape' (e ∷ []) longer few));
   past = omega (arith, is.past, ap (λ l. (walked (start o) l).moment) longer, ap (λ (w : Walk). w.moment) (walked-push (start o) tape e), moment-call (walked (start o) tape) e call);
   opened_before = is.opened_before;
-  faults_since = is.faults_since;
+  faultless = is.faultless;
   cause = is.cause;
 }
 

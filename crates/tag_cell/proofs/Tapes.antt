@@ -1,6 +1,6 @@
 -- One more entry on a tape.
-use Rattle.std.proofs.Common.{◌≡◌, ℕ, ◌+◌, ◌≤◌, Bool, true, false, List, [], ◌∷◌, ◌++◌, length, map, take, refl, sym, ◌∙◌, ap, subst, arith, append_assoc, length-append}
-use Rattle.std.proofs.lemmas.List.{append-nil, map_push}
+use Rattle.std.proofs.Common.{◌≡◌, ℕ, ◌+◌, ◌≤◌, Bool, true, false, List, [], ◌∷◌, ◌++◌, length, map, take, nat_le, if◌then◌else◌, get_or, ◌<◌, refl, sym, ◌∙◌, ap, subst, arith, append_assoc, length-append}
+use Rattle.std.proofs.lemmas.List.{append-nil, map_push, take_more}
 use Rattle.trend_num.specs.declared.point.Point.{Point}
 use Rattle.trend_model.specs.History.{Event, Raw}
 use Rattle.trend_model.specs.State.{State, after, replay}
@@ -77,4 +77,25 @@ acked_at-call t n [] (Commit moment acked) call = absurd call
 acked_at-call t n (Take collector row p h k ∷ es) e call = acked_at-call t n es e call
 acked_at-call t n (Ask reader row q a ∷ es) e call = acked_at-call t n es e call
 acked_at-call t n (Pull group first upto ∷ es) e call = acked_at-call t n es e call
-acked_at-call t n (Commit moment acked ∷ es) e call = acked_at-call t _ es e call
+acked_at-call t n (Commit moment acked ∷ es) e call = acked_at-call t (if nat_le moment t then acked else n) es e call
+
+-- ---- the first entries of a tape
+
+-- one entry more
+pub taken-more : (es : List Entry) (i : ℕ) (e : Entry) → i < length es → e ≡ get_or es i e
+    → taken (take (i + 1) es) ≡ taken (take i es) ++ taken (e ∷ [])
+taken-more es i e within is = ap taken (take_more es i e within ∙ ap (λ x. take i es ++ x ∷ []) (sym is)) ∙ taken-append (take i es) (e ∷ [])
+
+-- the records after two parts of a tape
+pub last_records-append : (n : ℕ) (xs ys : List Entry) → last_records n (xs ++ ys) ≡ last_records (last_records n xs) ys
+last_records-append n [] ys = refl
+last_records-append n (Take collector row p h k ∷ xs) ys = last_records-append k xs ys
+last_records-append n (Ask reader row q a ∷ xs) ys = last_records-append n xs ys
+last_records-append n (Pull group first upto ∷ xs) ys = last_records-append n xs ys
+last_records-append n (Commit m a ∷ xs) ys = last_records-append n xs ys
+
+-- and after one entry more
+pub last_records-more : (n : ℕ) (es : List Entry) (i : ℕ) (e : Entry) → i < length es → e ≡ get_or es i e
+    → last_records n (take (i + 1) es) ≡ last_records (last_records n (take i es)) (e ∷ [])
+last_records-more n es i e within is =
+    ap (last_records n) (take_more es i e within ∙ ap (λ x. take i es ++ x ∷ []) (sym is)) ∙ last_records-append n (take i es) (e ∷ [])

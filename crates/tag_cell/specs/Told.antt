@@ -1,5 +1,5 @@
 -- What a cell is seen as, and what its type keeps.
-use Rattle.std.specs.Prelude.{◌≡◌, ℕ, ◌+◌, ◌-◌, ◌*◌, ◌^◌, ◌<◌, ◌≤◌, Bool, true, false, List, [], ◌∷◌, ◌++◌, All, length, take, map, Option, None, Some, slice_get, nat_eq, nat_le, nat_lt, MatchBool, if◌then◌else◌}
+use Rattle.std.specs.Prelude.{◌≡◌, ◌⊎◌, ℕ, ◌+◌, ◌-◌, ◌*◌, ◌^◌, ◌<◌, ◌≤◌, Bool, true, false, List, [], ◌∷◌, ◌++◌, All, length, take, map, Option, None, Some, slice_get, nat_eq, nat_le, nat_lt, MatchBool, if◌then◌else◌}
 use Rattle.atomic_table.specs.Seated.{TableId}
 use Rattle.trend_num.specs.declared.archive.Rec.{Rec}
 use Rattle.trend_num.specs.declared.point.Point.{Point}
@@ -72,7 +72,7 @@ pub record IsKept (def : TagDef) (o : TagOpening) (tape : List Entry) (next : �
       → AllRecover def trace (state_after def.step o (taken (take next tape)))
   pub past : (walked (start o) tape).moment ≤ ticks
   pub opened_before : o.moment ≤ ticks
-  pub faults_since : o.faults ≤ faults
+  pub faultless : failed ≡ false → faults ≡ o.faults
   pub cause : failed ≡ true → Rose o.faults faults
 
 -- the poster has posted what the tag shows now
@@ -144,4 +144,4 @@ pub record IsHistory (t : TagHistory) (trace : Option Trace) (ticks faults : ℕ
   pub safe : IsSafe t.def t.opening t.tape.items (LeftSince trace)
   pub past : (walked (start t.opening) t.tape.items).moment ≤ ticks
   pub opened_before : t.opening.moment ≤ ticks
-  pub faults_since : t.opening.faults ≤ faults
+  pub faults_since : (faults ≡ t.opening.faults) ⊎ Rose t.opening.faults faults

@@ -1,10 +1,10 @@
 // What a commit writes to the device.
-ghost use Rattle.std.specs.Prelude.{◌≡◌, ◌≢◌, ◌+◌, ◌^◌, ◌<◌, ◌≤◌, All, IfOk, IsErrOf, OnErr, OnOk, false, length, map, min, take, true};
+ghost use Rattle.std.specs.Prelude.{◌≡◌, ◌≢◌, ◌+◌, ◌-◌, ◌^◌, ◌<◌, ◌≤◌, ◌++◌, [], ◌∷◌, All, IfOk, IsErrOf, OnErr, OnOk, false, length, map, min, take, true};
 ghost use Rattle.trend_num.specs.declared.tag_def.TagDef.{TagDef};
 ghost use Rattle.trend_num.specs.Ranges.{InRange};
 ghost use Rattle.trend_model.specs.History.{Raw};
 ghost use Rattle.trend_model.specs.State.{State, replay};
-ghost use Rattle.disk_model.specs.Calls.{Rose};
+ghost use Rattle.disk_model.specs.Calls.{CountsFault};
 ghost use Rattle.disk_model.specs.Moments.{During};
 ghost use Rattle.crash_recovery.specs.Journals.{AllRecover};
 ghost use Rattle.tag_cell.specs.declared.entry.CommitNo.TheVariants.{DeviceFault, WantOfMemory as NoMemory, Broken as WasBroken};
@@ -36,11 +36,30 @@ impl From<PutNo> for CommitNo {
     }
 }
 
-// The values that have waited longest, and how many entries have been gone over for them.
+// The values that have waited longest, and how many entries were gone over for them.
+#[derive(Drop)]
 pub(crate) struct Batch {
     pub points: [Point; MOST_IN_BATCH],
     pub count: usize,
     pub entries: usize,
+}
+
+impl Batch {
+    // Goes over one more entry.
+    fn add(&mut self, entry: &Entry)
+        requires room { self.old.count < 64 }
+        requires few { self.old.entries < 2 ^ 64 - 1 }
+        ensures entries { self.new.entries ≡ self.old.entries + 1 }
+        ensures points { take self.new.count self.new.points ≡ take self.old.count self.old.points ++ taken (entry.now ∷ []) }
+        ensures count { self.new.count ≡ self.old.count + length (taken (entry.now ∷ [])) }
+        ensures most { self.new.count ≤ 64 }
+    {
+        if let Entry::Take { point, .. } = entry {
+            self.points[self.count] = *point;
+            self.count += 1;
+        }
+        self.entries += 1;
+    }
 }
 
 // The oldest values of these entries, 64 at most.
@@ -54,15 +73,9 @@ pub(crate) fn oldest(rest: &[Entry]) -> Batch
         count: 0,
         entries: 0,
     };
-    for entry in rest {
-        if batch.count == MOST_IN_BATCH {
-            break;
-        }
-        if let Entry::Take { point, .. } = entry {
-            batch.points[batch.count] = *point;
-            batch.count += 1;
-        }
-        batch.entries += 1;
+    while batch.count < MOST_IN_BATCH && batch.entries < rest.len() {
+        let next = batch.entries;
+        batch.add(&rest[next]);
     }
     batch
 }
@@ -113,9 +126,8 @@ pub(crate) fn write_waiting<D: Disk>(
     ensures unbroken { IsErrOf result WasBroken → ⊥ }
     ensures untouched { IsErrOf result NoMemory → journal.new ≡ journal.old }
     ensures failed { IsErrOf result DeviceFault → journal.new.failed ≡ true }
-    ensures device_fault { IsErrOf result DeviceFault → Rose (D.fault_count journal.old.dev) (D.fault_count journal.new.dev) }
     ensures unmoved { OnErr result (journal.new.acked ≡ journal.old.acked) }
-    ensures faults { D.fault_count journal.old.dev ≤ D.fault_count journal.new.dev }
+    ensures cause { CountsFault result DeviceFault (D.fault_count journal.old.dev) (D.fault_count journal.new.dev) }
     ensures later { D.ticks journal.old.dev ≤ D.ticks journal.new.dev }
 {
     if journal.free_slots() == 0 {

@@ -1,6 +1,6 @@
 // Values are acknowledged.
 ghost use Rattle.std.specs.Prelude.{◌≡◌, ◌↔◌, Err, Ok, IfOk, IsErrOf, OnErr, false, true};
-ghost use Rattle.disk_model.specs.Calls.{Rose};
+ghost use Rattle.disk_model.specs.Calls.{CountsFault};
 ghost use Rattle.tag_cell.specs.declared.entry.CommitNo.TheVariants.{Broken, DeviceFault, WantOfMemory as NoMemory};
 ghost use Rattle.tag_cell.specs.Told.{IsCommitted, IsFaulted, waits};
 
@@ -31,8 +31,8 @@ impl<D: Disk> Cell<D> {
         ensures idle { self.old.journal.failed ≡ false → waits self.old ≡ 0
             → (result ≡ Ok (record { acked = self.old.journal.acked; waiting = 0 })) × (self.new ≡ self.old) }
         ensures committed { IfOk result (λ a. IsCommitted (D.ticks self.old.journal.dev) (D.ticks self.new.journal.dev) a self.old self.new) }
-        ensures faulted { IsErrOf result DeviceFault → IsFaulted self.old self.new
-            × Rose (D.fault_count self.old.journal.dev) (D.fault_count self.new.journal.dev) }
+        ensures faulted { IsErrOf result DeviceFault → IsFaulted self.old self.new }
+        ensures cause { CountsFault result DeviceFault (D.fault_count self.old.journal.dev) (D.fault_count self.new.journal.dev) }
         ensures untouched { IsErrOf result NoMemory → self.new ≡ self.old }
         ensures still_broken { IsErrOf result Broken → self.new ≡ self.old }
     {

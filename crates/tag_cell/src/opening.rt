@@ -6,7 +6,7 @@ ghost use Rattle.trend_model.specs.State.{State};
 ghost use Rattle.trend_model.specs.Contents.{listed};
 ghost use Rattle.crash_recovery.specs.declared.failure.OpenNo.TheVariants.{WantOfMemory as NoMemory};
 ghost use Rattle.crash_recovery.specs.Recovery.{Recovers};
-ghost use Rattle.crash_recovery.specs.Opening.{IsCause, IsOpenedAs, RecoversThen, Shows, StaysSame};
+ghost use Rattle.crash_recovery.specs.Opening.{CountsRefusal, IsCause, IsOpenedAs, RecoversThen, Shows, StaysSame};
 ghost use Rattle.snapshot_table.specs.Boards.{PostsTo};
 ghost use Rattle.snapshot_table.specs.Snaps.{nothing};
 ghost use Rattle.tag_cell.specs.Tapes.{opened};
@@ -52,9 +52,9 @@ pub fn open_cell<D: Disk, R: Wait>(
     ensures room { IfOk result (λ c. c.room ≡ room) }
     ensures moment { IfOk result (λ c. c.opening.moment ≡ D.ticks c.journal.dev) }
     ensures faults_told { IfOk result (λ c. c.opening.faults ≡ D.fault_count c.journal.dev) }
-    ensures cause { IfErr result (λ e. IsCause def.now (D.trace dev) (D.fault_count dev) (D.fault_count e.dev) e.why) }
-    ensures faults { IfOk result (λ c. D.fault_count dev ≤ D.fault_count c.journal.dev) }
-    ensures faults_refused { IfErr result (λ e. D.fault_count dev ≤ D.fault_count e.dev) }
+    ensures cause { IfErr result (λ e. IsCause def.now (D.trace dev) e.why) }
+    ensures faultless { IfOk result (λ c. D.fault_count c.journal.dev ≡ D.fault_count dev) }
+    ensures counts { IfErr result (λ e. CountsRefusal e.why (D.fault_count dev) (D.fault_count e.dev)) }
 {
     let Opened { journal, core } = open_tag(alloc, dev, def, lane_slots, room)?;
     let Ok((content, recs)) = copies(alloc, &core, room) else {
