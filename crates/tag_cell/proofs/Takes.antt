@@ -85,6 +85,15 @@ entry_in_step def o tape tape' core content is same = record {
   fits = subst (λ ps. AllFit def.step (opened o) (map Raw ps)) (sym same) is.fits;
 }
 
+-- the poster has posted what the tag shows now
+pub take_posted : (board : List TableId) (p p' : Posting) (n : ℕ) (h : Point) (s s' : State) → IsPosted board p s
+    → p' ≡ record p { last = record { taken = n; held = Some h } } → n ≡ s'.summary.taken → s'.summary.held ≡ Some h
+    → IsPosted board p' s'
+take_posted board p p' n h s s' is posted count held = subst (λ (q : Posting). IsPosted board q s') (sym posted) (record {
+  here = is.here;
+  last_is = λ i. record { taken = count i; held = sym held i };
+})
+
 -- ---- a content has no more points than there are records
 
 length-placed : (r : Rec) (l : List Rec) → length (placed r l) ≤ length l + 1
@@ -99,4 +108,4 @@ length-folded l [] = omega arith
 length-folded l (r ∷ rs) = omega (arith, length-folded (placed r l) rs, length-placed r l)
 
 pub length-listed : (rs : List Rec) → length (listed rs) ≤ length rs
-length-listed rs = length-folded [] rs
+length-listed rs = omega (arith, let e : length (fold (λ m r. placed r m) [] rs) ≤ 0 + length rs = length-folded [] rs in e)
