@@ -1,5 +1,5 @@
 // Questions about a tag, and records for a group.
-ghost use Rattle.std.specs.Prelude.{◌≡◌, ◌↔◌, ◌+◌, ◌<◌, ◌≤◌, [], ◌∷◌, ◌++◌, drop, Err, IfOk, OnErr, OnOk, length, vec_len, vec_capacity};
+ghost use Rattle.std.specs.Prelude.{◌≡◌, ◌↔◌, ◌+◌, ◌-◌, ◌<◌, ◌≤◌, [], ◌∷◌, ◌++◌, drop, take, Err, IfOk, OnErr, OnOk, length, vec_len, vec_capacity};
 ghost use Rattle.trend_num.specs.Queries.{IsTagQuery};
 ghost use Rattle.trend_model.specs.Contents.{closed_points};
 ghost use Rattle.interp_read.specs.Replies.{Answers};
@@ -11,7 +11,8 @@ use crate::cell::Cell;
 use crate::entry::{Entry, PullNo, Pulled, Receipt};
 use disk_model::Disk;
 use interp_read::Reply;
-use trend_num::{TagQuery, WantOfMemory};
+use std::alloc::Global;
+use trend_num::{Rec, TagQuery, WantOfMemory};
 use weighted_total::answer;
 
 impl From<WantOfMemory> for PullNo {
@@ -70,8 +71,7 @@ impl<D: Disk> Cell<D> {
         }
         let takes_to_come = self.room - self.takes;
         make_places(&mut self.tape, takes_to_come)?;
-        let handed = &self.core.recs()[from as usize..upto as usize];
-        let recs = Vec::from_slice(self.alloc, handed).map_err(|_| PullNo::WantOfMemory)?;
+        let recs = copied(self.alloc, self.core.recs(), from, upto)?;
         self.tape.push_reserved(Entry::Pull { group, from, upto });
         Ok(Pulled { upto, recs })
     }
@@ -85,4 +85,13 @@ pub(crate) fn make_places(tape: &mut Vec<Entry>, takes_to_come: u32) -> Result<(
 {
     tape.reserve(takes_to_come as usize + 1)
         .map_err(|_| WantOfMemory)
+}
+
+// The records from one place on, before another.
+fn copied(alloc: Global, recs: &[Rec], from: u32, upto: u32) -> Result<Vec<Rec>, WantOfMemory>
+    requires order { from ≤ upto }
+    requires within { upto ≤ length recs.now }
+    ensures { IfOk result (λ v. v.items ≡ take (upto - from) (drop from recs.now)) }
+{
+    Vec::from_slice(alloc, &recs[from as usize..upto as usize]).map_err(|_| WantOfMemory)
 }

@@ -1,6 +1,7 @@
-use Rattle.std.proofs.Common.{◌≡◌, ◌∙◌, ℕ, List, ◌++◌, [], ◌∷◌, ap, sym, length, take, drop, arith, length-append}
-use Rattle.std.proofs.lemmas.List.{take_all, take-append-drop}
+use Rattle.std.proofs.Common.{◌≡◌, ◌∙◌, ℕ, List, ◌++◌, ◌≤◌, [], ◌∷◌, ap, sym, length, take, drop, arith, length-append}
+use Rattle.std.proofs.lemmas.List.{take-append-drop}
 use Rattle.trend_num.specs.declared.point.Point.{Point}
+use Rattle.tag_cell.specs.declared.entry.Entry.{Entry}
 use Rattle.tag_cell.specs.Tapes.{taken}
 use Rattle.tag_cell.proofs.Tapes.{taken-more, taken-append}
 use Rattle.tag_cell.proofs.batch.oldest.Goals as goal
@@ -20,5 +21,9 @@ loop-batch-preserved c =
       most = c.add.ensures.most;
     }
 
+-- the first entries have no more values than all
+front_most : (rest : List Entry) (n : ℕ) → length (taken (take n rest)) ≤ length (taken rest)
+front_most rest n = omega (arith, ap length (ap taken (sym (take-append-drop n rest)) ∙ taken-append (take n rest) (drop n rest)), length-append (taken (take n rest)) (taken (drop n rest)))
+
 pub returns-after-loop-batch-clause-count : goal.returns-after-loop-batch-clause-count
-returns-after-loop-batch-clause-count c = ?
+returns-after-loop-batch-clause-count c = omega (arith, front_most c.args.rest.now c.loop-batch.batch.entries, c.loop-batch.invariant.count, c.loop-batch.invariant.most, c.loop-batch-test.false)
