@@ -17,6 +17,9 @@ use Rattle.crash_recovery.specs.Recovery.{AllFit}
 use Rattle.crash_recovery.proofs.Replays.{replay_append}
 use Rattle.trend_num.specs.Ranges.{InRange}
 use Rattle.tag_core.specs.Core.{Core}
+use Rattle.std.proofs.lemmas.Bool.Decides.{nat_tests}
+use Rattle.std.specs.Prelude.{MatchBool}
+use Rattle.tag_cell.specs.declared.entry.Acked.{Acked}
 use Rattle.tag_cell.specs.declared.entry.CommitNo.{CommitNo}
 use Rattle.tag_cell.specs.declared.entry.CommitNo.TheVariants as no
 use Rattle.trend_num.specs.declared.archive.Rec.{Rec}
@@ -26,7 +29,7 @@ use Rattle.tag_cell.specs.declared.history.TagOpening.{TagOpening}
 use Rattle.tag_cell.specs.Tapes.{Walk, start, after_entry, walked, taken, last_records, acked_at, opened, state_after}
 use Rattle.tag_cell.specs.Replays.{Fits, FitAll, IsCommit, replayed, IsReplayed}
 use Rattle.tag_cell.specs.Crashes.{GoesOnBy, IsCountable, IsSafe, RecoversPart, count_written}
-use Rattle.tag_cell.specs.Told.{IsInStep, IsKept, Waits}
+use Rattle.tag_cell.specs.Told.{IsAcknowledged, IsCommitted, IsInStep, IsKept, Told, Waits, waits}
 use Rattle.tag_cell.proofs.Tapes.{taken-append, walked-push, fit-push, points-walked, last_records-append}
 use Rattle.tag_cell.proofs.Entries.{countable_before, points-end}
 use Rattle.tag_cell.proofs.Crashes.{acked_at-most, part_behind, safe_commit, taken-take}
@@ -253,3 +256,25 @@ commit_safe def o tape tape' trace next n m acked' safe longer within are counte
         counted
         (λ few. subst (λ (ps : List Point). AllRecover def trace (state_after def.step o ps)) values
             (recovers (omega (arith, few, ap length same))))
+
+-- ---- what a commit tells
+
+abbrev pub told : {D : Type 0} → TagDef → TagOpening → State → Logged D → ℕ → List Entry → Told D
+told def o state journal room tape = record { def = def; opening = o; tape = tape; state = state; journal = journal; room = room }
+
+-- something waited, and was acknowledged
+pub is_committed : {D : Type 0} (before now : ℕ) (a : Acked) (old new : Told D) → 0 < waits old → IsAcknowledged before now a old new
+    → IsCommitted before now a old new
+is_committed before now a old new some acked = go (nat_eq (waits old) 0) refl
+  where
+    not_none : (n : ℕ) → 0 < n → nat_eq n 0 ≡ true → ⊥
+    not_none n less e = grind (arith, nat_tests)
+    go : (b : Bool) → nat_eq (waits old) 0 ≡ b
+        → MatchBool b ((new ≡ old) × (a ≡ record { acked = old.journal.acked; waiting = 0 })) (IsAcknowledged before now a old new)
+    go true is = absurd (not_none (waits old) some is)
+    go false is = acked
+
+-- a cell with another tape
+pub with_tape : {D : Type 0} (def : TagDef) (o : TagOpening) (state : State) (journal : Logged D) (room : ℕ) (tape tape' : List Entry)
+    → tape' ≡ tape → told def o state journal room tape' ≡ told def o state journal room tape
+with_tape def o state journal room tape tape' same = ap (told def o state journal room) same

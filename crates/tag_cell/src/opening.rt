@@ -20,7 +20,7 @@ use snapshot_table::{Board, Poster};
 use std::alloc::Global;
 use std::sync::{Arc, Wait};
 use tag_core::TagCore;
-use trend_num::{Rec, Snap, TagDef, WantOfMemory};
+use trend_num::{Snap, TagDef, WantOfMemory};
 
 /// Opens the device of a tag, with room for so many takes, and posts what the tag shows then. The poster is one of this
 /// board's, and has posted nothing. What a device is opened as, and why it is refused, is as `open_tag` says.
@@ -57,7 +57,10 @@ pub fn open_cell<D: Disk, R: Wait>(
     ensures counts { IfErr result (λ e. CountsRefusal e.why (D.fault_count dev) (D.fault_count e.dev)) }
 {
     let Opened { journal, core } = open_tag(alloc, dev, def, lane_slots, room)?;
-    let Ok((content, recs)) = copies(alloc, &core, room) else {
+    let Ok(content) = content_of(alloc, &core, room) else {
+        return Err(refused(journal.into_device()));
+    };
+    let Ok(recs) = Vec::from_slice(alloc, core.recs()) else {
         return Err(refused(journal.into_device()));
     };
     let Ok(tape) = Vec::with_capacity(alloc, room as usize) else {
@@ -105,16 +108,13 @@ fn refused<D: Disk>(dev: D) -> OpenFail<D>
     }
 }
 
-// The content of a core's records, with room for those of so many takes more, and a copy of the records.
-fn copies(alloc: Global, core: &TagCore, room: u32) -> Result<(Content, Vec<Rec>), WantOfMemory>
+// The content of a core's records, with room for those of so many takes more.
+fn content_of(alloc: Global, core: &TagCore, room: u32) -> Result<Content, WantOfMemory>
     requires { 2 * room ≤ core.now.spare }
-    ensures content { IfOk result (λ made. made.0.records ≡ listed core.now.state.records) }
-    ensures room { IfOk result (λ made. 2 * room ≤ made.0.spare) }
-    ensures records { IfOk result (λ made. made.1.items ≡ core.now.state.records) }
+    ensures content { IfOk result (λ content. content.records ≡ listed core.now.state.records) }
+    ensures room { IfOk result (λ content. 2 * room ≤ content.spare) }
 {
     let recs = core.recs();
     let _spare = core.spare();
-    let content = Content::from_records(alloc, recs, 2 * room)?;
-    let copy = Vec::from_slice(alloc, recs).map_err(|_| WantOfMemory)?;
-    Ok((content, copy))
+    Content::from_records(alloc, recs, 2 * room)
 }
