@@ -24,7 +24,11 @@ struct Small {
 fn small(rt: &impl Wait, alloc: Global) -> Result<Small, WantOfMemory> {
     let (board, mut posters, mut lookers) = new_board(rt, alloc, 1, 1)?;
     match (posters.pop(), lookers.pop()) {
-        (Some(poster), Some(looker)) => Ok(Small { board, poster, looker }),
+        (Some(poster), Some(looker)) => Ok(Small {
+            board,
+            poster,
+            looker,
+        }),
         _ => Err(WantOfMemory),
     }
 }
@@ -46,7 +50,10 @@ fn snap_of(row: &str) -> Option<Snap> {
     let (taken, held) = row.split_once(' ')?;
     let taken = taken.parse().ok()?;
     let held = match held.split_once(' ') {
-        Some((t, v)) => Some(Point { t: t.parse().ok()?, v: v.parse().ok()? }),
+        Some((t, v)) => Some(Point {
+            t: t.parse().ok()?,
+            v: v.parse().ok()?,
+        }),
         None => None,
     };
     Some(Snap { taken, held })
@@ -54,7 +61,12 @@ fn snap_of(row: &str) -> Option<Snap> {
 
 #[test]
 fn a_look_shows_what_was_posted_last(rt: HostRuntime) -> Result<(), Fail> {
-    let Small { board, mut poster, mut looker, .. } = small(&rt, rt.alloc())?;
+    let Small {
+        board,
+        mut poster,
+        mut looker,
+        ..
+    } = small(&rt, rt.alloc())?;
     for row in ROWS.lines() {
         let snap = snap_of(row).ok_or(WantOfMemory)?;
         if snap.taken > 0 {

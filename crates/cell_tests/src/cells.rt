@@ -24,7 +24,11 @@ fn tag(step: bool, comp_dev: u64) -> Option<TagDef> {
         comp_min: 0,
         comp_max: 1_000_000,
     };
-    Some(TagDef { name: name_from(b"T1")?, tuning, step })
+    Some(TagDef {
+        name: name_from(b"T1")?,
+        tuning,
+        step,
+    })
 }
 
 // A board of one tag and its poster.
@@ -70,14 +74,24 @@ fn new_cell(
     room: u32,
     fail: Vec<u64>,
 ) -> Option<Cell<MemDisk>> {
-    opened(rt, alloc, MemDisk::new(Vec::new(alloc), fail), def, slots, room)
+    opened(
+        rt,
+        alloc,
+        MemDisk::new(Vec::new(alloc), fail),
+        def,
+        slots,
+        room,
+    )
 }
 
 // Takes the values of a text such as `0,0 10,10`, as rows from 1 on of collector 0.
 fn take_all(rt: &impl Wait, cell: &mut Cell<MemDisk>, values: &str) -> Option<()> {
     for (row, value) in values.split(' ').enumerate() {
         let (t, v) = value.split_once(',')?;
-        let p = Point { t: t.parse().ok()?, v: v.parse().ok()? };
+        let p = Point {
+            t: t.parse().ok()?,
+            v: v.parse().ok()?,
+        };
         if !in_range(p) {
             return None;
         }
@@ -97,7 +111,10 @@ fn pulled(cell: &mut Cell<MemDisk>) -> Option<Vec<Rec>> {
 }
 
 fn kept(t: u64, v: i64) -> Rec {
-    Rec { kind: Kind::Kept, point: Point { t, v } }
+    Rec {
+        kind: Kind::Kept,
+        point: Point { t, v },
+    }
 }
 
 #[test]
@@ -107,19 +124,37 @@ fn a_batch_is_two_writes_and_two_syncs(rt: HostRuntime) -> Result<(), Fail> {
     let mut cell = new_cell(&rt, alloc, &def, 64, 4, Vec::new(alloc)).ok_or("refused")?;
     take_all(&rt, &mut cell, "0,0 10,10 20,20").ok_or("refused")?;
     assert_eq!(rt; pulled(&mut cell).ok_or("memory")?.len(), 0);
-    assert_eq!(rt; cell.commit(), Ok(Acked { acked: 3, waiting: 0 }));
-    assert_eq!(rt; cell.commit(), Ok(Acked { acked: 3, waiting: 0 }));
+    assert_eq!(rt;
+        cell.commit(),
+        Ok(Acked {
+            acked: 3,
+            waiting: 0
+        })
+    );
+    assert_eq!(rt;
+        cell.commit(),
+        Ok(Acked {
+            acked: 3,
+            waiting: 0
+        })
+    );
     // Three takes, a pull and a commit; the second commit left nothing.
     assert_eq!(rt; cell.tape().len(), 5);
     let opening = cell.opening().moment;
     match cell.tape().last() {
-        Some(Entry::Commit { moment, acked }) => assert_eq!(rt; (*moment, *acked), (opening.wrapping_add(4), 3)),
+        Some(Entry::Commit { moment, acked }) => assert_eq!(rt;
+            (*moment, *acked),
+            (opening.wrapping_add(4), 3)
+        ),
         _ => return Err("no commit".into()),
     }
     let (dev, _) = cell.into_history();
     assert_eq!(rt; dev.bytes().get(400).copied(), Some(0xa5));
     // The slot begins with the number of its first value, in eight bytes, and the count of its values, in two.
-    assert_eq!(rt; dev.bytes().get(464..474).ok_or("short")?, [0, 0, 0, 0, 0, 0, 0, 0, 0, 3].as_slice());
+    assert_eq!(rt;
+        dev.bytes().get(464..474).ok_or("short")?,
+        [0, 0, 0, 0, 0, 0, 0, 0, 0, 3].as_slice()
+    );
     Ok(())
 }
 
@@ -129,10 +164,19 @@ fn records_are_handed_out_once_they_are_acknowledged(rt: HostRuntime) -> Result<
     let def = tag(false, 0).ok_or("name")?;
     let mut cell = new_cell(&rt, alloc, &def, 64, 4, Vec::new(alloc)).ok_or("refused")?;
     take_all(&rt, &mut cell, "0,0 10,10 20,0").ok_or("refused")?;
-    assert_eq!(rt; ahead(&mut cell, 1), Some(PullNo::Ahead { from: 1, acked: 0 }));
+    assert_eq!(rt;
+        ahead(&mut cell, 1),
+        Some(PullNo::Ahead { from: 1, acked: 0 })
+    );
     assert!(rt; cell.commit().is_ok());
-    assert_eq!(rt; pulled(&mut cell).ok_or("memory")?.as_slice(), [kept(0, 0), kept(10, 10)].as_slice());
-    assert_eq!(rt; ahead(&mut cell, 5), Some(PullNo::Ahead { from: 5, acked: 2 }));
+    assert_eq!(rt;
+        pulled(&mut cell).ok_or("memory")?.as_slice(),
+        [kept(0, 0), kept(10, 10)].as_slice()
+    );
+    assert_eq!(rt;
+        ahead(&mut cell, 5),
+        Some(PullNo::Ahead { from: 5, acked: 2 })
+    );
     Ok(())
 }
 
@@ -142,16 +186,34 @@ fn a_full_lane_goes_by_a_checkpoint(rt: HostRuntime) -> Result<(), Fail> {
     let def = tag(false, 0).ok_or("name")?;
     let mut cell = new_cell(&rt, alloc, &def, 1, 2, Vec::new(alloc)).ok_or("refused")?;
     take_all(&rt, &mut cell, "0,0").ok_or("refused")?;
-    assert_eq!(rt; cell.commit(), Ok(Acked { acked: 1, waiting: 0 }));
+    assert_eq!(rt;
+        cell.commit(),
+        Ok(Acked {
+            acked: 1,
+            waiting: 0
+        })
+    );
     take_all(&rt, &mut cell, "10,10").ok_or("refused")?;
-    assert_eq!(rt; cell.commit(), Ok(Acked { acked: 2, waiting: 0 }));
+    assert_eq!(rt;
+        cell.commit(),
+        Ok(Acked {
+            acked: 2,
+            waiting: 0
+        })
+    );
     let third = cell.take(&rt, 0, 3, Point { t: 20, v: 0 });
     assert_eq!(rt; third, Err(TakeNo::RoomFull { room: 2 }));
     Ok(())
 }
 
 // A cell whose device stops after so many calls.
-fn stopping(rt: &impl Wait, alloc: Global, def: &TagDef, slots: u32, calls: u64) -> Option<Cell<MemDisk>> {
+fn stopping(
+    rt: &impl Wait,
+    alloc: Global,
+    def: &TagDef,
+    slots: u32,
+    calls: u64,
+) -> Option<Cell<MemDisk>> {
     let mut dev = MemDisk::new(Vec::new(alloc), Vec::new(alloc));
     dev.stop_after(calls);
     opened(rt, alloc, dev, def, slots, 8)
@@ -176,7 +238,10 @@ fn a_broken_cell_answers_and_hands_out(rt: HostRuntime) -> Result<(), Fail> {
     assert!(rt; cell.broken() && cell.device_faults() > cell.opening().faults);
     assert_eq!(rt; cell.commit(), Err(CommitNo::Broken));
     // It is told to be broken before it is told to be full.
-    assert_eq!(rt; cell.take(&rt, 0, 2, Point { t: 1, v: 1 }), Err(TakeNo::Broken));
+    assert_eq!(rt;
+        cell.take(&rt, 0, 2, Point { t: 1, v: 1 }),
+        Err(TakeNo::Broken)
+    );
     assert_eq!(rt; reading(&mut cell, 3), Some(Reading::Flat(7)));
     assert_eq!(rt; pulled(&mut cell).ok_or("memory")?.len(), 0);
     Ok(())
@@ -198,7 +263,11 @@ fn measured(cell: &mut Cell<MemDisk>, measure: Measure, from: u64, to: u64) -> O
     if from >= to || to > trend_num::MAX_T {
         return None;
     }
-    match cell.ask(0, 2, TagQuery::Window { measure, from, to }).ok()?.1 {
+    match cell
+        .ask(0, 2, TagQuery::Window { measure, from, to })
+        .ok()?
+        .1
+    {
         Reply::Window(value) => value,
         _ => None,
     }
@@ -237,7 +306,14 @@ fn session(rt: &impl Wait, cell: Cell<MemDisk>) -> (u64, u64, MemDisk) {
 }
 
 // Whether a device that is opened has some of the values, and so many at least.
-fn recovers(rt: &impl Wait, alloc: Global, dev: MemDisk, def: &TagDef, least: u64, most: u64) -> Option<bool> {
+fn recovers(
+    rt: &impl Wait,
+    alloc: Global,
+    dev: MemDisk,
+    def: &TagDef,
+    least: u64,
+    most: u64,
+) -> Option<bool> {
     let mut dev = dev;
     dev.stop_after(u64::MAX);
     let cell = opened(rt, alloc, dev, def, 1, 8)?;

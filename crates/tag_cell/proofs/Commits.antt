@@ -47,7 +47,7 @@ pub take-parts : (tape tape' rest more : List Entry) (next n : ℕ) → rest ≡
 take-parts tape tape' rest more next n is within few longer =
     let reach : next + n ≤ length tape = omega (arith, ap length is, length-drop next tape, few, within) in
     ap (take (next + n)) longer ∙ (take-append-le (next + n) tape more reach
-        ∙ (take-add next n tape ∙ ap (λ l. take next tape ++ take n l) (sym is)))
+    ∙ (take-add next n tape ∙ ap (λ l. take next tape ++ take n l) (sym is)))
 
 -- the state after the acknowledged values, from which the waiting ones go on
 abbrev pub acked_state : TagDef → TagOpening → List Entry → ℕ → State
@@ -64,7 +64,7 @@ pub goes_by : (def : TagDef) (o : TagOpening) (tape rest : List Entry) (next : �
     → GoesOnBy def (acked_state def o tape next) core.step core.state (taken rest)
 goes_by def o tape rest next core content s acked is in_step from =
     let all : map Raw (taken tape) ≡ map Raw (taken (take next tape)) ++ map Raw (taken rest) =
-        ap (map Raw) (taken-parts tape rest next from) ∙ map-append Raw (taken (take next tape)) (taken rest) in
+    ap (map Raw) (taken-parts tape rest next from) ∙ map-append Raw (taken (take next tape)) (taken rest) in
     record {
       same_step = in_step.same_step;
       fits = fit_behind def.step (opened o) (map Raw (taken (take next tape))) (map Raw (taken rest))
@@ -100,7 +100,7 @@ pub commit_waits : (o : TagOpening) (tape tape' rest more : List Entry) (next n 
 commit_waits o tape tape' rest more next n durable durable' acked acked' is from few longer acks durables =
     let parts = take-parts tape tape' rest more next n from is.within few longer in
     let all : taken (take (next + n) tape') ≡ taken (take next tape) ++ taken (take n rest) =
-        ap taken parts ∙ taken-append (take next tape) (take n rest) in
+    ap taken parts ∙ taken-append (take next tape) (take n rest) in
     record {
       within = omega (arith, is.within, ap length from, length-drop next tape, few, ap length longer, length-append tape more);
       acked_are = omega (arith, acks, is.acked_are, ap length all, length-append (taken (take next tape)) (taken (take n rest)));
@@ -115,9 +115,9 @@ pub acked_after : (def : TagDef) (o : TagOpening) (tape tape' rest more : List E
     → replay def.step (acked_state def o tape next) (map Raw (taken (take n rest))) ≡ acked_state def o tape' (next + n)
 acked_after def o tape tape' rest more next n from within few longer =
     let all : taken (take (next + n) tape') ≡ taken (take next tape) ++ taken (take n rest) =
-        ap taken (take-parts tape tape' rest more next n from within few longer) ∙ taken-append (take next tape) (take n rest) in
+    ap taken (take-parts tape tape' rest more next n from within few longer) ∙ taken-append (take next tape) (take n rest) in
     sym (ap (state_after def.step o) all ∙ (ap (replay def.step (opened o)) (map-append Raw (taken (take next tape)) (taken (take n rest)))
-        ∙ replay_append def.step (opened o) (map Raw (taken (take next tape))) (map Raw (taken (take n rest)))))
+    ∙ replay_append def.step (opened o) (map Raw (taken (take next tape))) (map Raw (taken (take n rest)))))
 
 -- a crash during the calls of a commit leaves some of all values, and all that were acknowledged
 pub during_commit : (def : TagDef) (o : TagOpening) (tape rest : List Entry) (next durable acked : ℕ) (old new : Option Trace)
@@ -127,9 +127,9 @@ pub during_commit : (def : TagDef) (o : TagOpening) (tape rest : List Entry) (ne
 during_commit def o tape rest next durable acked old new is from during =
     let least : length (taken (take next tape)) ≡ acked - o.summary.taken = omega (arith, is.acked_are) in
     weaker old new (RecoversPart def (acked_state def o tape next) (taken rest) 0) (RecoversPart def (opened o) (taken tape) (acked - o.summary.taken))
-        (λ c part. subst (λ (n : ℕ). RecoversPart def (opened o) (taken tape) n c) least
-        (subst (λ (ps : List Point). RecoversPart def (opened o) ps (length (taken (take next tape))) c) (sym (taken-parts tape rest next from))
-        (part_behind def (opened o) (taken (take next tape)) (taken rest) c part))) during
+    (λ c part. subst (λ (n : ℕ). RecoversPart def (opened o) (taken tape) n c) least
+    (subst (λ (ps : List Point). RecoversPart def (opened o) ps (length (taken (take next tape))) c) (sym (taken-parts tape rest next from))
+    (part_behind def (opened o) (taken (take next tape)) (taken rest) c part))) during
 
 -- ---- what a commit finds
 
@@ -155,14 +155,17 @@ pub rest_range : (def : TagDef) (o : TagOpening) (tape rest : List Entry) (next 
 rest_range def o tape rest next core content in_step from =
     let front : List Point = taken (take next tape) in
     subst (All InRange) (drop-append_seam front (taken rest))
-        (All-drop InRange (length front) (front ++ taken rest)
-        (subst (All InRange) (taken-parts tape rest next from) in_step.in_range))
+    (All-drop InRange (length front) (front ++ taken rest)
+    (subst (All InRange) (taken-parts tape rest next from) in_step.in_range))
 
 -- at no moment more is acknowledged than now
 pub most_acked : (def : TagDef) (o : TagOpening) (tape : List Entry) (s : State) (acked : ℕ) → IsReplayed def o tape s acked
     → (t : ℕ) → acked_at t o.summary.taken tape ≤ acked
-most_acked def o tape s acked is t = omega (arith, is.acked_are,
-    acked_at-most (replayed def.step o) def.step o (start o) tape t o.summary.taken (le_refl o.summary.taken) is.entries)
+most_acked def o tape s acked is t = omega (
+  arith,
+  is.acked_are,
+  acked_at-most (replayed def.step o) def.step o (start o) tape t o.summary.taken (le_refl o.summary.taken) is.entries,
+)
 
 -- a crash during the device work of a commit
 pub commit_during : (def : TagDef) (o : TagOpening) (tape rest : List Entry) (next durable acked : ℕ) (core : Core) (content : List Rec)
@@ -170,12 +173,12 @@ pub commit_during : (def : TagDef) (o : TagOpening) (tape rest : List Entry) (ne
     → IsReplayed def o tape core.state acked → IsInStep def o tape core content → Waits o tape next durable acked
     → IsKept def o tape next failed old ticks faults → failed ≡ false → rest ≡ drop next tape
     → (core.state.summary.taken < 10 ^ 18 → (d : TagDef) (s : State) → AllRecover d old s
-        → GoesOnBy d s core.step core.state (taken rest) → During old new (RecoversPart d s (taken rest) 0))
+    → GoesOnBy d s core.step core.state (taken rest) → During old new (RecoversPart d s (taken rest) 0))
     → IsCountable o tape → During old new (RecoversPart def (opened o) (taken tape) (acked - o.summary.taken))
 commit_during def o tape rest next durable acked core content failed old new ticks faults replays in_step waits kept fine from work few =
     during_commit def o tape rest next durable acked old new waits from
-        (work (omega (arith, few, in_step.counted)) def (acked_state def o tape next) (kept.recovers fine few)
-        (goes_by def o tape rest next core content core.state acked replays in_step from))
+    (work (omega (arith, few, in_step.counted)) def (acked_state def o tape next) (kept.recovers fine few)
+    (goes_by def o tape rest next core content core.state acked replays in_step from))
 
 -- ---- a refused commit
 
@@ -223,14 +226,14 @@ pub commit_kept : (def : TagDef) (o : TagOpening) (tape tape' rest : List Entry)
     → IsReplayed def o tape core.state acked → IsInStep def o tape core content → next ≤ length tape
     → IsKept def o tape next failed old ticks faults → failed ≡ false → failed' ≡ false → rest ≡ drop next tape → n ≤ length rest
     → (core.state.summary.taken < 10 ^ 18 → (d : TagDef) (s : State) → AllRecover d old s
-        → GoesOnBy d s core.step core.state (taken rest) → AllRecover d new (replay d.step s (map Raw (taken (take n rest)))))
+    → GoesOnBy d s core.step core.state (taken rest) → AllRecover d new (replay d.step s (map Raw (taken (take n rest)))))
     → ticks < m → faults' ≡ faults → tape' ≡ tape ++ Commit m acked' ∷ [] → IsKept def o tape' (next + n) failed' new m faults'
 commit_kept def o tape tape' rest next n m acked' failed failed' old new ticks faults faults' core content acked replays in_step within kept fine fine' from few_entries work later same longer = record {
   recovers = λ _ few.
-    let few' : IsCountable o tape = countable_before o tape tape' (Commit m acked' ∷ []) longer few in
-    subst (AllRecover def new) (acked_after def o tape tape' rest (Commit m acked' ∷ []) next n from within few_entries longer)
-        (work (omega (arith, few', in_step.counted)) def (acked_state def o tape next) (kept.recovers fine few')
-        (goes_by def o tape rest next core content core.state acked replays in_step from));
+      let few' : IsCountable o tape = countable_before o tape tape' (Commit m acked' ∷ []) longer few in
+      subst (AllRecover def new) (acked_after def o tape tape' rest (Commit m acked' ∷ []) next n from within few_entries longer)
+      (work (omega (arith, few', in_step.counted)) def (acked_state def o tape next) (kept.recovers fine few')
+      (goes_by def o tape rest next core content core.state acked replays in_step from));
   past = let e : (walked (start o) tape').moment ≡ m =
       ap (λ l. (walked (start o) l).moment) longer ∙ ap (λ (w : Walk). w.moment) (walked-push (start o) tape (Commit m acked')) in omega (arith, e);
   opened_before = omega (arith, kept.opened_before, later);
@@ -251,11 +254,11 @@ commit_safe def o tape tape' trace next n m acked' safe longer within are counte
     let count : ℕ = length (taken (take k tape)) in
     let values : taken (take k tape') ≡ take count (taken tape) = ap taken front ∙ taken-take tape k in
     safe_commit def o tape tape' trace m acked' count safe longer
-        (omega (arith, are, ap (λ l. length (taken l)) front))
-        (omega (arith, ap length (ap taken (sym (take-append-drop k tape)) ∙ taken-append (take k tape) (drop k tape)), length-append (taken (take k tape)) (taken (drop k tape))))
-        counted
-        (λ few. subst (λ (ps : List Point). AllRecover def trace (state_after def.step o ps)) values
-            (recovers (omega (arith, few, ap length same))))
+    (omega (arith, are, ap (λ l. length (taken l)) front))
+    (omega (arith, ap length (ap taken (sym (take-append-drop k tape)) ∙ taken-append (take k tape) (drop k tape)), length-append (taken (take k tape)) (taken (drop k tape))))
+    counted
+    (λ few. subst (λ (ps : List Point). AllRecover def trace (state_after def.step o ps)) values
+    (recovers (omega (arith, few, ap length same))))
 
 -- ---- what a commit tells
 
@@ -269,6 +272,7 @@ is_committed before now a old new some acked = go (nat_eq (waits old) 0) refl
   where
     not_none : (n : ℕ) → 0 < n → nat_eq n 0 ≡ true → ⊥
     not_none n less e = grind (arith, nat_tests)
+
     go : (b : Bool) → nat_eq (waits old) 0 ≡ b
         → MatchBool b ((new ≡ old) × (a ≡ record { acked = old.journal.acked; waiting = 0 })) (IsAcknowledged before now a old new)
     go true is = absurd (not_none (waits old) some is)

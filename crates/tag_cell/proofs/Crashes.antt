@@ -72,7 +72,7 @@ acked_at-most show step o w (Ask reader row q a ∷ es) t n le all = acked_at-mo
 acked_at-most show step o w (Pull group first upto ∷ es) t n le all = acked_at-most show step o w es t n le all.1
 acked_at-most show step o w (Commit m acked ∷ es) t n le all =
     acked_at-most show step o (after_entry w (Commit m acked)) es t (if nat_le m t then acked else n)
-        (either_most (nat_le m t) acked n (le_trans le (omega (arith, all.0.more)))) all.1
+    (either_most (nat_le m t) acked n (le_trans le (omega (arith, all.0.more)))) all.1
   where
     either_most : (b : Bool) (a k : ℕ) → k ≤ a → (if b then a else k) ≤ a
     either_most true a k h = le_refl a
@@ -95,7 +95,7 @@ pub safe_more : (def : TagDef) (o : TagOpening) (tape : List Entry) (old new : O
 safe_more def o tape old new acked most safe during = record {
   images = λ few t c since left. ⊎_elim
       (λ now. part_least def (opened o) (taken tape) (acked - o.summary.taken) (acked_at t o.summary.taken tape - o.summary.taken) c
-          (omega (arith, most t)) ((during few).each c now))
+      (omega (arith, most t)) ((during few).each c now))
       (λ before. safe.images few t c since before)
       (parted old new t c (during few).later left);
 }
@@ -115,11 +115,11 @@ safe_commit def o tape tape' trace m acked count safe longer are within counted 
     let all : taken tape' ≡ taken tape = ap taken longer ∙ (taken-append tape (Commit m acked ∷ []) ∙ append-nil (taken tape)) in
     record {
       images = λ few t c since left.
-        let few' : IsCountable o tape = omega (arith, few, ap length all) in
-        subst (λ (ps : List Point). RecoversPart def (opened o) ps (acked_at t o.summary.taken tape' - o.summary.taken) c) (sym all)
-        (subst (λ (n : ℕ). RecoversPart def (opened o) (taken tape) (n - o.summary.taken) c)
-        (sym (ap (acked_at t o.summary.taken) longer ∙ acked_at-commit t o.summary.taken tape m acked))
-        (by_moment few' t c since left (nat_le m t) refl));
+          let few' : IsCountable o tape = omega (arith, few, ap length all) in
+          subst (λ (ps : List Point). RecoversPart def (opened o) ps (acked_at t o.summary.taken tape' - o.summary.taken) c) (sym all)
+          (subst (λ (n : ℕ). RecoversPart def (opened o) (taken tape) (n - o.summary.taken) c)
+          (sym (ap (acked_at t o.summary.taken) longer ∙ acked_at-commit t o.summary.taken tape m acked))
+          (by_moment few' t c since left (nat_le m t) refl));
     }
   where
     by_moment : (few : IsCountable o tape) (t : ℕ) (c : List ℕ) → o.moment ≤ t → LeftSince trace t c → (b : Bool) → nat_le m t ≡ b
@@ -151,7 +151,7 @@ pub batch_fits : (def : TagDef) (s r : State) (step : Bool) (rest : List Entry) 
     → GoesOnBy def s step r (taken rest) → AllFit def.step s (map Raw sent)
 batch_fits def s r step rest n sent is goes =
     subst (λ (ps : List Point). AllFit def.step s (map Raw ps)) (sym (is ∙ taken-take rest n))
-        (fit_take def.step s (length (taken (take n rest))) (taken rest) goes.fits)
+    (fit_take def.step s (length (taken (take n rest))) (taken rest) goes.fits)
 
 -- a crash during a batch leaves some of the values
 pub during_batch : (def : TagDef) (s : State) (rest : List Entry) (n : ℕ) (sent : List Point) (old new : Option Trace)
@@ -160,18 +160,18 @@ pub during_batch : (def : TagDef) (s : State) (rest : List Entry) (n : ℕ) (sen
 during_batch def s rest n sent old new is during =
     let count : ℕ = length (taken (take n rest)) in
     let within : count ≤ length (taken rest) =
-        omega (arith, ap length (ap taken (sym (take-append-drop n rest)) ∙ taken-append (take n rest) (drop n rest)), length-append (taken (take n rest)) (taken (drop n rest))) in
+    omega (arith, ap length (ap taken (sym (take-append-drop n rest)) ∙ taken-append (take n rest) (drop n rest)), length-append (taken (take n rest)) (taken (drop n rest))) in
     weaker old new (RecoversEither def s (replay def.step s (map Raw sent))) (RecoversPart def s (taken rest) 0)
-        (λ c either. part_either def s (replay def.step s (map Raw sent)) (taken rest) count c within
-            (ap (λ (ps : List Point). replay def.step s (map Raw ps)) (is ∙ taken-take rest n)) either) during
+    (λ c either. part_either def s (replay def.step s (map Raw sent)) (taken rest) count c within
+    (ap (λ (ps : List Point). replay def.step s (map Raw ps)) (is ∙ taken-take rest n)) either) during
 
 -- a crash during a checkpoint leaves none or all of them
 pub during_all : (def : TagDef) (s r : State) (step : Bool) (points : List Point) (old new : Option Trace)
     → GoesOnBy def s step r points → During old new (RecoversEither def s r) → During old new (RecoversPart def s points 0)
 during_all def s r step points old new goes during =
     weaker old new (RecoversEither def s r) (RecoversPart def s points 0)
-        (λ c either. part_either def s r points (length points) c (le_refl (length points))
-            (goes.state ∙ ap (λ (ps : List Point). replay def.step s (map Raw ps)) (sym (take-length points))) either) during
+    (λ c either. part_either def s r points (length points) c (le_refl (length points))
+    (goes.state ∙ ap (λ (ps : List Point). replay def.step s (map Raw ps)) (sym (take-length points))) either) during
 
 -- a core that goes on by values goes on by events
 pub goes_from : (def : TagDef) (s r : State) (step : Bool) (points : List Point) → GoesOnBy def s step r points → GoesOnFrom def s step r

@@ -33,8 +33,8 @@ pub take_replayed : (def : TagDef) (o : TagOpening) (tape tape' : List Entry) (s
 take_replayed def o tape tape' s s' acked collector row p h n is next held count longer =
     let e : Entry = Take collector row p h n in
     let goes : (ps : List Point) → ps ≡ taken tape → state_after def.step o (ps ++ p ∷ []) ≡ s' =
-        λ ps same. state_after-push def.step o ps p
-            ∙ (ap (λ (x : State). after def.step x (Raw p)) (ap (state_after def.step o) same ∙ sym is.stands) ∙ sym next) in
+    λ ps same. state_after-push def.step o ps p
+    ∙ (ap (λ (x : State). after def.step x (Raw p)) (ap (state_after def.step o) same ∙ sym is.stands) ∙ sym next) in
     let here : state_after def.step o ((walked (start o) tape).points ++ p ∷ []) ≡ s' = goes _ (points-end o tape) in
     subst (λ t. IsReplayed def o t s' acked) (sym longer) (record {
       tuning = is.tuning;
@@ -124,11 +124,11 @@ pub safe_entry : (def : TagDef) (o : TagOpening) (tape tape' : List Entry) (e : 
     → IsSafe def o tape left → tape' ≡ tape ++ e ∷ [] → IsSafe def o tape' left
 safe_entry def o tape tape' e left call is longer = record {
   images = λ few t c since was.
-    let before = is.images (countable_before o tape tape' (e ∷ []) longer few) t c since was in
-    let at : acked_at t o.summary.taken tape' ≡ acked_at t o.summary.taken tape =
-        ap (acked_at t o.summary.taken) longer ∙ acked_at-call t o.summary.taken tape e call in
-    let all : taken tape' ≡ taken tape ++ taken (e ∷ []) = ap taken longer ∙ taken-append tape (e ∷ []) in
-    subst (λ (n : ℕ). RecoversPart def (opened o) (taken tape') (n - o.summary.taken) c) (sym at)
-    (subst (λ (ps : List Point). RecoversPart def (opened o) ps (acked_at t o.summary.taken tape - o.summary.taken) c) (sym all)
-    (part_more def (opened o) (taken tape) (taken (e ∷ [])) (acked_at t o.summary.taken tape - o.summary.taken) c before));
+      let before = is.images (countable_before o tape tape' (e ∷ []) longer few) t c since was in
+      let at : acked_at t o.summary.taken tape' ≡ acked_at t o.summary.taken tape =
+      ap (acked_at t o.summary.taken) longer ∙ acked_at-call t o.summary.taken tape e call in
+      let all : taken tape' ≡ taken tape ++ taken (e ∷ []) = ap taken longer ∙ taken-append tape (e ∷ []) in
+      subst (λ (n : ℕ). RecoversPart def (opened o) (taken tape') (n - o.summary.taken) c) (sym at)
+      (subst (λ (ps : List Point). RecoversPart def (opened o) ps (acked_at t o.summary.taken tape - o.summary.taken) c) (sym all)
+      (part_more def (opened o) (taken tape) (taken (e ∷ [])) (acked_at t o.summary.taken tape - o.summary.taken) c before));
 }

@@ -39,8 +39,8 @@ pub legal : (org : Origin) (h : List Event) (def : TagDef) (o : TagOpening) (tap
     → org.step ≡ def.step → Stands org h (opened o) → IsReplayed def o tape s acked → IsLegal org h def o tape s acked
 legal org h def o tape s acked step stands is =
     let at : (ps : List Point) → Stands org (followed h (map Raw ps)) (state_after def.step o ps) =
-        λ ps. subst (λ (b : Bool). Stands org (followed h (map Raw ps)) (replay b (opened o) (map Raw ps))) step
-            (stands_followed org h (map Raw ps) (opened o) stands) in
+    λ ps. subst (λ (b : Bool). Stands org (followed h (map Raw ps)) (replay b (opened o) (map Raw ps))) step
+    (stands_followed org h (map Raw ps) (opened o) stands) in
     record {
       tuning = same_there o.summary.tuning def.tuning (in_force org h) is.tuning stands.tuned;
       entries = subst (λ (b : Bool). FitAll (shown_after org h) b o (start o) tape) (sym step)

@@ -5,3 +5,4 @@ pub mod Crashes
 pub mod Commits
 pub mod Pulls
 pub mod Takes
+pub mod Openings

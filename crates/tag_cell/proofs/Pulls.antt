@@ -72,10 +72,10 @@ pub done_are : (def : TagDef) (o : TagOpening) (tape : List Entry) (s : State) (
     → done o (walked (start o) tape) ≡ taken (take next tape)
 done_are def o tape s next durable acked is waits =
     let count : (walked (start o) tape).acked - o.summary.taken ≡ length (taken (take next tape)) =
-        omega (arith, is.acked_are, waits.acked_are) in
+    omega (arith, is.acked_are, waits.acked_are) in
     ap (λ (n : ℕ). take n (walked (start o) tape).points) count
-        ∙ (ap (take (length (taken (take next tape)))) (points-end o tape ∙ taken-parts tape (drop next tape) next refl)
-        ∙ take-append_seam (taken (take next tape)) (taken (drop next tape)))
+    ∙ (ap (take (length (taken (take next tape)))) (points-end o tape ∙ taken-parts tape (drop next tape) next refl)
+    ∙ take-append_seam (taken (take next tape)) (taken (drop next tape)))
 
 -- so many records are durable
 pub durable_are : (def : TagDef) (o : TagOpening) (tape : List Entry) (s : State) (next durable acked : ℕ)
@@ -83,11 +83,11 @@ pub durable_are : (def : TagDef) (o : TagOpening) (tape : List Entry) (s : State
     → durable ≡ length (state_after def.step o (done o (walked (start o) tape))).records
 durable_are def o tape s next durable acked is waits =
     let front : FitAll (replayed def.step o) def.step o (start o) (take next tape) =
-        fit_front (replayed def.step o) def.step o (start o) (take next tape) (drop next tape)
-            (subst (FitAll (replayed def.step o) def.step o (start o)) (sym (take-append-drop next tape)) is.entries) in
+    fit_front (replayed def.step o) def.step o (start o) (take next tape) (drop next tape)
+    (subst (FitAll (replayed def.step o) def.step o (start o)) (sym (take-append-drop next tape)) is.entries) in
     waits.durable_are ∙ (last_records-are def.step o (start o) (take next tape) (length o.recs.items) front refl
-        ∙ ap (λ ps. length (state_after def.step o ps).records)
-            (points-walked (start o) (take next tape) ∙ sym (done_are def o tape s next durable acked is waits)))
+    ∙ ap (λ ps. length (state_after def.step o ps).records)
+    (points-walked (start o) (take next tape) ∙ sym (done_are def o tape s next durable acked is waits)))
 
 -- a pull hands them out
 pub is_pull : (def : TagDef) (o : TagOpening) (tape : List Entry) (s : State) (next durable acked first : ℕ)
@@ -103,12 +103,14 @@ pub durable_front : (def : TagDef) (o : TagOpening) (tape : List Entry) (s : Sta
 durable_front def o tape s next durable acked is waits =
     let front : State = state_after def.step o (taken (take next tape)) in
     let goes : s ≡ replay def.step front (map Raw (taken (drop next tape))) =
-        is.stands ∙ (ap (λ ps. replay def.step (opened o) (map Raw ps)) (taken-parts tape (drop next tape) next refl)
-        ∙ (ap (replay def.step (opened o)) (map-append Raw (taken (take next tape)) (taken (drop next tape)))
-        ∙ replay_append def.step (opened o) (map Raw (taken (take next tape))) (map Raw (taken (drop next tape))))) in
-    let more = replay_more def.step front (map Raw (taken (drop next tape))) in
-    (more.0, ap (λ (x : State). x.records) goes ∙ (more.1
-        ∙ ap (λ ps. (state_after def.step o ps).records ++ more.0) (sym (done_are def o tape s next durable acked is waits))))
+    is.stands ∙ (ap (λ ps. replay def.step (opened o) (map Raw ps)) (taken-parts tape (drop next tape) next refl)
+    ∙ (ap (replay def.step (opened o)) (map-append Raw (taken (take next tape)) (taken (drop next tape)))
+    ∙ replay_append def.step (opened o) (map Raw (taken (take next tape))) (map Raw (taken (drop next tape))))) in
+    let more = replay_more def.step front (map Raw (taken (drop next tape))) in (
+      more.0,
+      ap (λ (x : State). x.records) goes ∙ (more.1
+          ∙ ap (λ ps. (state_after def.step o ps).records ++ more.0) (sym (done_are def o tape s next durable acked is waits))),
+    )
 
 -- the elements from one place up to where a first list ends
 pub handed : {A : Type 0} (xs ys : List A) (first upto : ℕ) → upto ≡ length xs → first ≤ upto
@@ -116,4 +118,4 @@ pub handed : {A : Type 0} (xs ys : List A) (first upto : ℕ) → upto ≡ lengt
 handed xs ys first upto is le =
     let within : first ≤ length xs = omega (arith, is, le) in
     ap (take (upto - first)) (drop-append-le first xs ys within)
-        ∙ (ap (λ (n : ℕ). take n (drop first xs ++ ys)) (omega (arith, is, length-drop first xs)) ∙ take-append_seam (drop first xs) ys)
+    ∙ (ap (λ (n : ℕ). take n (drop first xs ++ ys)) (omega (arith, is, length-drop first xs)) ∙ take-append_seam (drop first xs) ys)

@@ -101,7 +101,7 @@ length-placed r [] = omega arith
 length-placed r (x ∷ xs) = cond_by (λ (l : List Rec). length l ≤ suc (length xs) + 1) (nat_lt r.point.t x.point.t) (r ∷ x ∷ xs)
     (cond (nat_lt x.point.t r.point.t) (x ∷ placed r xs) (over r x ∷ xs)) (λ _. omega arith)
     (λ _. cond_by (λ (l : List Rec). length l ≤ suc (length xs) + 1) (nat_lt x.point.t r.point.t) (x ∷ placed r xs) (over r x ∷ xs)
-        (λ _. omega (arith, length-placed r xs)) (λ _. omega arith))
+    (λ _. omega (arith, length-placed r xs)) (λ _. omega arith))
 
 length-folded : (l rs : List Rec) → length (fold (λ m r. placed r m) l rs) ≤ length l + length rs
 length-folded l [] = omega arith

@@ -58,7 +58,7 @@ impl<D: Disk> Model for Cell<D> {
         × HasRoom c.opening c.tape.items (vec_capacity c.tape) c.takes c.room c.core.spare c.content.spare
         × Waits c.opening c.tape.items c.next c.durable c.journal.acked
         × IsKept c.def c.opening c.tape.items c.next c.journal.failed
-          (D.trace c.journal.dev) (D.ticks c.journal.dev) (D.fault_count c.journal.dev)
+        (D.trace c.journal.dev) (D.ticks c.journal.dev) (D.fault_count c.journal.dev)
         × IsSafe c.def c.opening c.tape.items (LeftSince (D.trace c.journal.dev))
         × IsPosted (arc_value c.board) c.poster c.core.state };
 }

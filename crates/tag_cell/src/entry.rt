@@ -74,23 +74,16 @@ pub enum TakeNo {
     /// A commit answered DeviceFault.
     Broken,
     /// The tape has as many takes as it has room for.
-    RoomFull {
-        room: u32,
-    },
+    RoomFull { room: u32 },
     /// One more event could bring too many records.
-    Full {
-        records: u32,
-    },
+    Full { records: u32 },
 }
 
 /// Why no records are handed out.
 #[derive(Clone, Copy, Debug, PartialEq, Eq)]
 pub enum PullNo {
     /// The place is beyond the records of the values that are acknowledged.
-    Ahead {
-        from: u32,
-        acked: u32,
-    },
+    Ahead { from: u32, acked: u32 },
     WantOfMemory,
 }
 

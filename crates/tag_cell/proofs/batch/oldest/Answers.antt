@@ -13,7 +13,7 @@ loop-batch-preserved c =
     let e = c.index-rest-next.result in
     let more = taken-more rest i e c.if-batch-rest.true c.index-rest-next.is in
     let next : taken (take c.add.new.self.entries rest) ≡ taken (take i rest) ++ taken (e ∷ []) =
-        ap (λ (k : ℕ). taken (take k rest)) c.add.ensures.entries ∙ more in
+    ap (λ (k : ℕ). taken (take k rest)) c.add.ensures.entries ∙ more in
     record {
       within = omega (arith, c.add.ensures.entries, c.if-batch-rest.true);
       points = c.add.ensures.points ∙ (ap (λ (ps : List Point). ps ++ taken (e ∷ [])) c.loop-batch.invariant.points ∙ sym next);

@@ -21,7 +21,7 @@ loop-entry-preserved c =
     let e : Entry = c.entry-item.result in
     let before : ℕ = last_records c.args.records (take i es) in
     let more : last_records c.args.records (take (i + 1) es) ≡ last_records before (e ∷ []) =
-        last_records-more c.args.records es i e c.loop-entry-test.true c.entry-item.is in
+    last_records-more c.args.records es i e c.loop-entry-test.true c.entry-item.is in
     elim c.match-entry.branch [
       | in-Take w ↦ w.last-is ∙ (sym (ap (λ (x : Entry). last_records before (x ∷ [])) w.in-Take.is) ∙ sym more)
       | in_default w ↦ w.last-is ∙ (c.loop-entry.invariant ∙ (sym (quiet before e w.in_default.not-Take) ∙ sym more))

@@ -26,14 +26,13 @@ invariant_of-self-2 g c =
     let reply = c.in_ok-reply.reply in
     let e : Entry = Ask c.args.reader c.args.row query reply in
     let longer : tape' ≡ tape ++ e ∷ [] =
-        c.push_reserved.ensures.items ∙ ap (λ (l : List Entry). l ++ e ∷ []) c.make_places.ensures.same in
+    c.push_reserved.ensures.items ∙ ap (λ (l : List Entry). l ++ e ∷ []) c.make_places.ensures.same in
     let none : taken tape' ≡ taken tape = ap taken longer ∙ (taken-append tape (e ∷ []) ∙ append-nil (taken tape)) in
     let answer : IsAnswer s.def.step (shown_of s.core.state) query reply = record {
       answers = subst (λ (l : List Rec). Answers s.def.step (points_closed_by s.core.state.summary.held l) query reply) was.1.content_is
           (subst (λ (q : Option Point). Answers s.def.step (points_closed_by q s.content.records) query reply) c.held-held.ensures.value
           c.in_ok-reply.ensures.answers);
-    } in
-    (
+    } in (
       ask_replayed s.def s.opening tape tape' s.core.state s.journal.acked c.args.reader c.args.row query reply was.0 answer longer,
       entry_in_step s.def s.opening tape tape' s.core s.content.records was.1 none,
       entry_has_room s.opening tape tape' (vec_capacity s.tape) (vec_capacity c.push_reserved.new.self) s.takes s.room s.core.spare

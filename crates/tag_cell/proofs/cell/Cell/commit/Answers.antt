@@ -38,13 +38,13 @@ pub write_waiting-requires-clause-number : goal.write_waiting-requires-clause-nu
 write_waiting-requires-clause-number g c =
     let s = c.self.inside in
     waiting s.def s.opening s.tape.items _ s.next s.durable s.journal.acked s.core s.content.records c.self.invariant.1 c.self.invariant.3
-        (rest_is c.deref.result.now s.tape.items s.next (c.deref.ensures.value ∙ c.make_places.ensures.same))
+    (rest_is c.deref.result.now s.tape.items s.next (c.deref.ensures.value ∙ c.make_places.ensures.same))
 
 pub write_waiting-requires-clause-in_range : goal.write_waiting-requires-clause-in_range
 write_waiting-requires-clause-in_range g c =
     let s = c.self.inside in
     rest_range s.def s.opening s.tape.items _ s.next s.core s.content.records c.self.invariant.1
-        (rest_is c.deref.result.now s.tape.items s.next (c.deref.ensures.value ∙ c.make_places.ensures.same))
+    (rest_is c.deref.result.now s.tape.items s.next (c.deref.ensures.value ∙ c.make_places.ensures.same))
 
 pub invariant_of-self-in_err-entries : goal.invariant_of-self-in_err-entries
 invariant_of-self-in_err-entries g c =
@@ -61,8 +61,7 @@ invariant_of-self-in_err-entries g c =
     let from : rest ≡ drop s.next tape = rest_is c.deref.result.now tape s.next (c.deref.ensures.value ∙ same) in
     let fine : s.journal.failed ≡ false = sym c.failed.ensures ∙ c.if-failed.false in
     let refused = c.in_err-entries.ensures in
-    let acked : journal'.acked ≡ s.journal.acked = refused.unmoved in
-    (
+    let acked : journal'.acked ≡ s.journal.acked = refused.unmoved in (
       subst (λ (l : List Entry). IsReplayed s.def o l s.core.state journal'.acked) (sym same)
           (subst (λ (a : ℕ). IsReplayed s.def o tape s.core.state a) (sym acked) was.0),
       entry_in_step s.def o tape tape' s.core s.content.records was.1 (ap taken same),
@@ -126,9 +125,9 @@ invariant_of-self-2 g c =
     let fine : s.journal.failed ≡ false = sym c.failed.ensures ∙ c.if-failed.false in
     let e : Entry = Commit ticks' journal'.acked in
     let longer : tape' ≡ tape ++ e ∷ [] = c.push_reserved.ensures.items
-        ∙ (ap (λ (l : List Entry). l ++ Commit c.clock.result c.acked-acked-2.result ∷ []) same
-        ∙ (ap (λ (k : ℕ). tape ++ Commit k c.acked-acked-2.result ∷ []) c.clock.ensures
-        ∙ ap (λ (k : ℕ). tape ++ Commit ticks' k ∷ []) c.acked-acked-2.ensures)) in
+    ∙ (ap (λ (l : List Entry). l ++ Commit c.clock.result c.acked-acked-2.result ∷ []) same
+    ∙ (ap (λ (k : ℕ). tape ++ Commit k c.acked-acked-2.result ∷ []) c.clock.ensures
+    ∙ ap (λ (k : ℕ). tape ++ Commit ticks' k ∷ []) c.acked-acked-2.ensures)) in
     let none : taken tape' ≡ taken tape = ap taken longer ∙ (taken-append tape (e ∷ []) ∙ append-nil (taken tape)) in
     let count = waiting s.def o tape rest s.next s.durable s.journal.acked s.core s.content.records was.1 was.3 from in
     let some : 0 < length (taken rest) = omega (arith, count, c.if-acked-taken.false, c.acked-acked.ensures, c.taken-taken.ensures) in
@@ -136,19 +135,18 @@ invariant_of-self-2 g c =
     let most = written_most s.journal.free (length (taken rest)) in
     let reach : s.next + n ≤ length tape = omega (arith, wrote.within, ap length from, length-drop s.next tape, was.3.within) in
     let durable : c.records_after-self-inside.result ≡ last_records s.durable (take n rest) = c.records_after-self-inside.ensures
-        ∙ ap (last_records s.durable) (part_is c.deref-2.result.now tape s.next n (s.next + n) (c.deref-2.ensures.value ∙ same) refl
-        ∙ ap (take n) (sym from)) in
+    ∙ ap (last_records s.durable) (part_is c.deref-2.result.now tape s.next n (s.next + n) (c.deref-2.ensures.value ∙ same) refl
+    ∙ ap (take n) (sym from)) in
     let waits' = commit_waits o tape tape' rest (e ∷ []) s.next n s.durable c.records_after-self-inside.result s.journal.acked journal'.acked
-        was.3 from wrote.within longer wrote.acked durable in
+    was.3 from wrote.within longer wrote.acked durable in
     let kept' = commit_kept s.def o tape tape' rest s.next n ticks' journal'.acked s.journal.failed journal'.failed old new
-        (g.D.Disk.ticks s.journal.dev) (g.D.Disk.fault_count s.journal.dev) (g.D.Disk.fault_count journal'.dev) s.core s.content.records
-        s.journal.acked was.0 was.1 was.3.within was.4 fine wrote.usable from wrote.within wrote.durable wrote.ticked wrote.cause.passed
-        longer in
+    (g.D.Disk.ticks s.journal.dev) (g.D.Disk.fault_count s.journal.dev) (g.D.Disk.fault_count journal'.dev) s.core s.content.records
+    s.journal.acked was.0 was.1 was.3.within was.4 fine wrote.usable from wrote.within wrote.durable wrote.ticked wrote.cause.passed
+    longer in
     let safe = safe_more s.def o tape old new s.journal.acked (most_acked s.def o tape s.core.state s.journal.acked was.0) was.5
-        (commit_during s.def o tape rest s.next s.durable s.journal.acked s.core s.content.records s.journal.failed old new
-        (g.D.Disk.ticks s.journal.dev) (g.D.Disk.fault_count s.journal.dev) was.0 was.1 was.3 was.4 fine from
-        c.write_waiting.ensures.any_moment) in
-    (
+    (commit_during s.def o tape rest s.next s.durable s.journal.acked s.core s.content.records s.journal.failed old new
+    (g.D.Disk.ticks s.journal.dev) (g.D.Disk.fault_count s.journal.dev) was.0 was.1 was.3 was.4 fine from
+    c.write_waiting.ensures.any_moment) in (
       commit_replayed s.def o tape tape' s.core.state s.journal.acked journal'.acked ticks' was.0
           (omega (arith, wrote.acked, wrote.count, least)) (omega (arith, wrote.acked, wrote.count, most, count, was.1.counted))
           (omega (arith, was.4.past, wrote.ticked)) longer,
@@ -185,20 +183,20 @@ returns-clause-committed g c =
     let from : rest ≡ drop s.next tape = rest_is c.deref.result.now tape s.next (c.deref.ensures.value ∙ same) in
     let count = waiting s.def s.opening tape rest s.next s.durable s.journal.acked s.core s.content.records was.1 was.3 from in
     let longer : c.push_reserved.new.self.items ≡ tape ++ Commit ticks' acked' ∷ [] = c.push_reserved.ensures.items
-        ∙ (ap (λ (l : List Entry). l ++ Commit c.clock.result acked' ∷ []) same
-        ∙ ap (λ (k : ℕ). tape ++ Commit k acked' ∷ []) c.clock.ensures) in
+    ∙ (ap (λ (l : List Entry). l ++ Commit c.clock.result acked' ∷ []) same
+    ∙ ap (λ (k : ℕ). tape ++ Commit k acked' ∷ []) c.clock.ensures) in
     let waited : length (taken rest) ≡ s.core.state.summary.taken - s.journal.acked = omega (arith, count) in
     subst (λ (t : Told _). IsCommitted (g.D.Disk.ticks t.journal.dev) ticks' (record { acked = acked'; waiting = c.taken-taken.result - acked' }) t
-        (told s.def s.opening s.core.state journal' s.room c.push_reserved.new.self.items)) c.self.view_is
+    (told s.def s.opening s.core.state journal' s.room c.push_reserved.new.self.items)) c.self.view_is
     (is_committed (g.D.Disk.ticks s.journal.dev) ticks' (record { acked = acked'; waiting = c.taken-taken.result - acked' })
-        (told s.def s.opening s.core.state s.journal s.room tape)
-        (told s.def s.opening s.core.state journal' s.room c.push_reserved.new.self.items)
-        (omega (arith, count, c.if-acked-taken.false, c.acked-acked.ensures, c.taken-taken.ensures))
-        (record {
-          acked_are = wrote.acked ∙ ap (λ (k : ℕ). s.journal.acked + k) (wrote.count ∙ ap (count_written s.journal.free) waited);
-          told_acked = c.acked-acked-2.ensures;
-          told_waiting = omega (arith, c.taken-taken.ensures, c.acked-acked-2.ensures);
-          usable = wrote.usable;
-          later = wrote.ticked;
-          same = with_tape s.def s.opening s.core.state journal' s.room _ _ longer;
-        }))
+    (told s.def s.opening s.core.state s.journal s.room tape)
+    (told s.def s.opening s.core.state journal' s.room c.push_reserved.new.self.items)
+    (omega (arith, count, c.if-acked-taken.false, c.acked-acked.ensures, c.taken-taken.ensures))
+    (record {
+      acked_are = wrote.acked ∙ ap (λ (k : ℕ). s.journal.acked + k) (wrote.count ∙ ap (count_written s.journal.free) waited);
+      told_acked = c.acked-acked-2.ensures;
+      told_waiting = omega (arith, c.taken-taken.ensures, c.acked-acked-2.ensures);
+      usable = wrote.usable;
+      later = wrote.ticked;
+      same = with_tape s.def s.opening s.core.state journal' s.room _ _ longer;
+    }))

@@ -26,7 +26,7 @@ returns-then-from-upto-clause-ahead g c =
     let s = c.self.inside in
     let are = durable_are s.def s.opening s.tape.items s.core.state s.next s.durable s.journal.acked c.self.invariant.0 c.self.invariant.3 in
     let now : s.durable ≡ length (durable_records c.args.self.now) =
-        are ∙ ap (λ (t : Told _). length (durable_records t)) c.self.view_is in
+    are ∙ ap (λ (t : Told _). length (durable_records t)) c.self.view_is in
     (λ _. ap (λ (n : ℕ). Err (Ahead c.args.from n)) now, λ _. omega (arith, now, c.if-from-upto.true))
 
 pub returns-in_err-make_places-clause-ahead : goal.returns-in_err-make_places-clause-ahead
@@ -34,7 +34,7 @@ returns-in_err-make_places-clause-ahead g c =
     let s = c.self.inside in
     let are = durable_are s.def s.opening s.tape.items s.core.state s.next s.durable s.journal.acked c.self.invariant.0 c.self.invariant.3 in
     let now : s.durable ≡ length (durable_records c.args.self.now) =
-        are ∙ ap (λ (t : Told _). length (durable_records t)) c.self.view_is in
+    are ∙ ap (λ (t : Told _). length (durable_records t)) c.self.view_is in
     (λ less. absurd (omega (arith, now, less, c.if-from-upto.false)), λ e. absurd (not_ahead c.from_residual.result c.args.from _ c.from_residual.ensures.1 e))
 
 pub returns-in_err-recs-clause-ahead : goal.returns-in_err-recs-clause-ahead
@@ -42,7 +42,7 @@ returns-in_err-recs-clause-ahead g c =
     let s = c.self.inside in
     let are = durable_are s.def s.opening s.tape.items s.core.state s.next s.durable s.journal.acked c.self.invariant.0 c.self.invariant.3 in
     let now : s.durable ≡ length (durable_records c.args.self.now) =
-        are ∙ ap (λ (t : Told _). length (durable_records t)) c.self.view_is in
+    are ∙ ap (λ (t : Told _). length (durable_records t)) c.self.view_is in
     (λ less. absurd (omega (arith, now, less, c.if-from-upto.false)), λ e. absurd (not_ahead c.from_residual-in_err-recs.result c.args.from _ c.from_residual-in_err-recs.ensures.1 e))
 
 pub returns-clause-ahead : goal.returns-clause-ahead
@@ -50,14 +50,14 @@ returns-clause-ahead g c =
     let s = c.self.inside in
     let are = durable_are s.def s.opening s.tape.items s.core.state s.next s.durable s.journal.acked c.self.invariant.0 c.self.invariant.3 in
     let now : s.durable ≡ length (durable_records c.args.self.now) =
-        are ∙ ap (λ (t : Told _). length (durable_records t)) c.self.view_is in
+    are ∙ ap (λ (t : Told _). length (durable_records t)) c.self.view_is in
     (λ less. absurd (omega (arith, now, less, c.if-from-upto.false)), λ e. absurd cc)
 
 pub returns-clause-upto : goal.returns-clause-upto
 returns-clause-upto g c =
     let s = c.self.inside in
     durable_are s.def s.opening s.tape.items s.core.state s.next s.durable s.journal.acked c.self.invariant.0 c.self.invariant.3
-        ∙ ap (λ (t : Told _). length (durable_records t)) c.self.view_is
+    ∙ ap (λ (t : Told _). length (durable_records t)) c.self.view_is
 
 pub returns-clause-records : goal.returns-clause-records
 returns-clause-records g c =
@@ -66,8 +66,8 @@ returns-clause-records g c =
     let front = durable_front s.def s.opening s.tape.items s.core.state s.next s.durable s.journal.acked c.self.invariant.0 c.self.invariant.3 in
     let durable : List Rec = (state_after s.def.step s.opening (done s.opening (walked (start s.opening) s.tape.items))).records in
     c.in_ok-recs.ensures ∙ (ap (λ (l : List Rec). take (s.durable - c.args.from) (drop c.args.from l)) (c.recs.ensures.value ∙ front.1)
-        ∙ (handed durable front.0 c.args.from s.durable are c.if-from-upto.false
-        ∙ ap (λ (t : Told _). drop c.args.from (durable_records t)) c.self.view_is))
+    ∙ (handed durable front.0 c.args.from s.durable are c.if-from-upto.false
+    ∙ ap (λ (t : Told _). drop c.args.from (durable_records t)) c.self.view_is))
 
 pub copied-requires-clause-within : goal.copied-requires-clause-within
 copied-requires-clause-within g c =
@@ -86,9 +86,8 @@ invariant_of-self-2 g c =
     let tape' = c.push_reserved.new.self.items in
     let e : Entry = Pull c.args.group c.args.from s.durable in
     let longer : tape' ≡ tape ++ e ∷ [] =
-        c.push_reserved.ensures.items ∙ ap (λ (l : List Entry). l ++ e ∷ []) c.make_places.ensures.same in
-    let none : taken tape' ≡ taken tape = ap taken longer ∙ (taken-append tape (e ∷ []) ∙ append-nil (taken tape)) in
-    (
+    c.push_reserved.ensures.items ∙ ap (λ (l : List Entry). l ++ e ∷ []) c.make_places.ensures.same in
+    let none : taken tape' ≡ taken tape = ap taken longer ∙ (taken-append tape (e ∷ []) ∙ append-nil (taken tape)) in (
       pull_replayed s.def s.opening tape tape' s.core.state s.journal.acked c.args.group c.args.from s.durable was.0
           (is_pull s.def s.opening tape s.core.state s.next s.durable s.journal.acked c.args.from was.0 was.3 c.if-from-upto.false) longer,
       entry_in_step s.def s.opening tape tape' s.core s.content.records was.1 none,

@@ -30,10 +30,9 @@ invariant_of-self-2 g c =
     let longer : tape' ≡ tape ++ e ∷ [] = c.push_reserved.ensures.items in
     let one : taken tape' ≡ taken tape ++ p ∷ [] = taken-take tape tape' c.args.collector c.args.row p held n longer in
     let next : core'.state ≡ after s.def.step s.core.state (Raw p) =
-        took.after ∙ ap (λ (b : Bool). after b s.core.state (Raw p)) was.1.same_step in
+    took.after ∙ ap (λ (b : Bool). after b s.core.state (Raw p)) was.1.same_step in
     let room : length s.core.state.records + 2 ≤ most_records = few_enough (length s.core.state.records + 2) took.full.1 in
-    let places : vec_capacity c.push_reserved.new.self ≡ vec_capacity s.tape = c.push_reserved.ensures.capacity in
-    (
+    let places : vec_capacity c.push_reserved.new.self ≡ vec_capacity s.tape = c.push_reserved.ensures.capacity in (
       take_replayed s.def s.opening tape tape' s.core.state core'.state s.journal.acked c.args.collector c.args.row p held n
           was.0 next took.held c.record_count.ensures.value longer,
       take_in_step s.def s.opening tape tape' s.core core' s.content.records c.take_value.new.content.records s.journal.acked p
