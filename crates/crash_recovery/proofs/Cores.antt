@@ -21,17 +21,19 @@ use Rattle.event_queue.specs.Damages.{IsLaneDamage}
 use Rattle.event_queue.specs.Places.{IsFilled}
 use Rattle.event_queue.specs.Scans.{IsWithin, IsRead}
 use Rattle.event_queue.proofs.Found.{scanned_overtaken, scanned_filled}
-use Rattle.crash_recovery.specs.declared.failure.OpenNo.{OpenNo}
-use Rattle.crash_recovery.specs.declared.failure.OpenNo.TheVariants.{DeviceFault, Damaged, OtherTag, Full}
-use Rattle.crash_recovery.specs.declared.failure.OpenNo.TheVariants.{WantOfMemory}
-use Rattle.crash_recovery.specs.declared.layout_reader.Stored.{Stored}
-use Rattle.crash_recovery.specs.Headers.{slots_in}
-use Rattle.crash_recovery.specs.Recovery.{header_of, start_of, HasSummary}
-use Rattle.crash_recovery.specs.Recovery.{AllFit, IsRecovered}
-use Rattle.crash_recovery.specs.Damages.{IsValuePlace, StandsThere, IsTagDamage}
-use Rattle.crash_recovery.specs.Damages.IsTagDamage.{BadQueue, BadValue}
+use Rattle.device_layout.specs.declared.failure.OpenNo.{OpenNo}
+use Rattle.device_layout.specs.declared.failure.OpenNo.TheVariants.{DeviceFault, Damaged, OtherTag, Full}
+use Rattle.device_layout.specs.declared.failure.OpenNo.TheVariants.{WantOfMemory}
+use Rattle.device_layout.specs.declared.layout_reader.Stored.{Stored}
+use Rattle.device_layout.specs.Headers.{slots_in}
+use Rattle.device_layout.specs.Recovery.{header_of, start_of, HasSummary}
+use Rattle.device_layout.specs.Recovery.{AllFit, IsRecovered}
+use Rattle.device_layout.specs.Damages.{IsValuePlace, StandsThere, IsTagDamage}
+use Rattle.device_layout.specs.Damages.IsTagDamage.{BadQueue, BadValue}
 use Rattle.crash_recovery.specs.Journals.{IsInUse, IsSeat}
-use Rattle.crash_recovery.specs.Opening.{Shows, IsReadFrom, HoldsValue, IsOverfull, IsCause}
+use Rattle.disk_model.specs.Calls.{Shows}
+use Rattle.device_layout.specs.Readings.{IsReadFrom, IsCause}
+use Rattle.crash_recovery.specs.Opening.{HoldsValue, IsOverfull}
 use Rattle.crash_recovery.proofs.Stored.{taken_stored, records_stored}
 
 -- a record has 17 bytes

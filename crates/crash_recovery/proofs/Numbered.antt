@@ -3,7 +3,7 @@ use Rattle.std.proofs.Common.{◌≡◌, inl, inr, ℕ, ◌-◌, ◌≤◌, true
 use Rattle.std.proofs.lemmas.Bool.{cases_Bool}
 use Rattle.event_queue.specs.declared.reader.Scanned.{Scanned}
 use Rattle.event_queue.specs.Scans.{IsWithin}
-use Rattle.crash_recovery.specs.declared.slot.Slot.{Slot}
+use Rattle.device_layout.specs.declared.slot.Slot.{Slot}
 use Rattle.crash_recovery.specs.Journals.{IsNumbered}
 
 -- so it is of a lane that was read

@@ -15,16 +15,19 @@ use Rattle.disk_model.specs.Calls.{IsNoted}
 use Rattle.disk_model.proofs.Images.{synced_now, settled}
 use Rattle.disk_model.proofs.Moments.{started, goes_on, weaker, in_turn, during_now}
 use Rattle.crash_recovery.specs.declared.seat.Seat.{Seat}
-use Rattle.crash_recovery.specs.Recovery.{IsNew, IsRecovered, Recovers, in_force as in_force_of}
+use Rattle.disk_model.specs.Gates.{IsNew}
+use Rattle.device_layout.specs.Recovery.{IsRecovered, Recovers, in_force as in_force_of}
 use Rattle.crash_recovery.specs.Journals.{AllRecover, GoesOnFrom, RecoversEither, IsSeat, SeatedOn}
-use Rattle.crash_recovery.specs.Opening.{Shows, IsOpenedAs, IsCountable, RecoversSame, IsLeftOrSame, StaysSame}
-use Rattle.crash_recovery.specs.Opening.{RecoversThen, OpensAs, HasSlots, IsReadAs, IsFull, IsOther, IsCause}
-use Rattle.crash_recovery.specs.declared.failure.OpenNo.{OpenNo}
-use Rattle.crash_recovery.specs.declared.failure.OpenNo.TheVariants.{DeviceFault, Damaged, OtherTag, Full}
-use Rattle.crash_recovery.specs.declared.failure.OpenNo.TheVariants.{WantOfMemory}
-use Rattle.crash_recovery.specs.Damages.{IsTagDamage}
+use Rattle.disk_model.specs.Calls.{Shows}
+use Rattle.crash_recovery.specs.Opening.{IsOpenedAs, IsCountable, RecoversSame, IsLeftOrSame, StaysSame}
+use Rattle.device_layout.specs.Readings.{IsFull, IsOther, IsCause}
+use Rattle.crash_recovery.specs.Opening.{RecoversThen, OpensAs, HasSlots, IsReadAs}
+use Rattle.device_layout.specs.declared.failure.OpenNo.{OpenNo}
+use Rattle.device_layout.specs.declared.failure.OpenNo.TheVariants.{DeviceFault, Damaged, OtherTag, Full}
+use Rattle.device_layout.specs.declared.failure.OpenNo.TheVariants.{WantOfMemory}
+use Rattle.device_layout.specs.Damages.{IsTagDamage}
 use Rattle.crash_recovery.specs.Standing.{ImageStands, StandsOpened}
-use Rattle.crash_recovery.proofs.OneState.{one_state}
+use Rattle.device_layout.proofs.OneState.{one_state}
 use Rattle.trend_num.specs.Limits.{most_records}
 
 -- ---- the sync at the beginning

@@ -11,10 +11,10 @@ use Rattle.disk_model.specs.Gates.{IsOpen}
 use Rattle.event_queue.specs.Slots.{gate_of, lane_end, batch_at}
 use Rattle.event_queue.specs.Lanes.{IsStale, lane_points, IsLane}
 use Rattle.event_queue.specs.Places.{HasRoom}
-use Rattle.crash_recovery.specs.Headers.{slots_in, IsHeader}
+use Rattle.device_layout.specs.Headers.{slots_in, IsHeader}
 use Rattle.crash_recovery.specs.declared.seat.Seat.{Seat}
-use Rattle.crash_recovery.specs.declared.slot.Slot.{Slot}
-use Rattle.crash_recovery.specs.Recovery.{header_of, taken_in, records_in, counting, Recovers}
+use Rattle.device_layout.specs.declared.slot.Slot.{Slot}
+use Rattle.device_layout.specs.Recovery.{header_of, taken_in, records_in, counting, Recovers}
 
 -- ---- what it shows
 

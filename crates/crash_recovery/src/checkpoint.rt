@@ -11,15 +11,14 @@ ghost use Rattle.archive_file.specs.Records.{recs_image};
 ghost use Rattle.archive_file.specs.declared.failure.PutNo.TheVariants.{DeviceFault as PutFault};
 ghost use Rattle.archive_file.specs.declared.failure.PutNo.TheVariants.{WantOfMemory as NoMemory};
 ghost use Rattle.event_queue.specs.Slots.{lane_end};
-ghost use Rattle.crash_recovery.specs.Recovery.{summary_gate, Recovers};
+ghost use Rattle.device_layout.specs.Recovery.{summary_gate, Recovers};
 ghost use Rattle.crash_recovery.specs.Journals.{AllRecover, GoesOnFrom, RecoversEither, SeatedOn, IsNumbered};
 ghost use Rattle.crash_recovery.specs.Journals.{free_in, log_end};
 ghost use Rattle.crash_recovery.specs.Seats.{spare_slot, LaidOn, OverrunOn, ReadyOn};
 
-use crate::layout_reader::log_start;
 use crate::seat::Seat;
-use crate::slot::Slot;
 use archive_file::{DeviceFault, PutNo, REC_LEN, put_records, summary_bytes};
+use device_layout::{Slot, log_start};
 use disk_model::{Disk, close_gates, write_guarded};
 use event_queue::Lane;
 use std::alloc::Global;

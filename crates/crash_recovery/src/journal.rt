@@ -45,7 +45,7 @@ impl<D: Disk> Model for Journal<D> {
 impl<D: Disk> Journal<D> {
     ghost use Rattle.crash_recovery.specs.Journals.{AllRecover, GoesOnFrom, LeavesEither, IsCommitted, IsCheckpointed};
     ghost use Rattle.crash_recovery.specs.Journals.{StaysAs, SeatedOn, IsNumbered, free_in};
-    ghost use Rattle.crash_recovery.specs.Recovery.{AllFit};
+    ghost use Rattle.device_layout.specs.Recovery.{AllFit};
 
     /// The journal of a device that was opened.
     pub(crate) fn new(dev: D, seat: Seat) -> Journal<D>

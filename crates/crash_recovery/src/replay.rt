@@ -9,16 +9,17 @@ ghost use Rattle.trend_model.specs.Parts.{ArePartsOk};
 ghost use Rattle.trend_model.specs.State.{replay};
 ghost use Rattle.disk_model.specs.Calls.{CountsFault, HasCause, Reaches};
 ghost use Rattle.event_queue.specs.Slots.{place_of, slot_at, count_in};
-ghost use Rattle.crash_recovery.specs.declared.failure.OpenNo.TheVariants.{DeviceFault};
-ghost use Rattle.crash_recovery.specs.Recovery.{AllFit, IsRecovered};
-ghost use Rattle.crash_recovery.specs.Damages.{IsValuePlace};
-ghost use Rattle.crash_recovery.specs.Opening.{Shows, IsCause, CountsRefusal, IsReadFrom, HoldsValue, IsOverfull};
+ghost use Rattle.device_layout.specs.declared.failure.OpenNo.TheVariants.{DeviceFault};
+ghost use Rattle.device_layout.specs.Recovery.{AllFit, IsRecovered};
+ghost use Rattle.device_layout.specs.Damages.{IsValuePlace};
+ghost use Rattle.disk_model.specs.Calls.{Shows};
+ghost use Rattle.device_layout.specs.Readings.{IsCause, CountsRefusal, IsReadFrom};
+ghost use Rattle.crash_recovery.specs.Opening.{HoldsValue, IsOverfull};
 ghost use Rattle.crash_recovery.specs.Journals.{IsSeat, IsNumbered};
 
-use crate::OpenNo;
-use crate::layout_reader::{LANE, Stored, damaged, read_part, refusal_of};
 use crate::seat::Seat;
-use disk_model::Disk;
+use device_layout::{LANE, OpenNo, Stored, damaged, refusal_of};
+use disk_model::{Disk, read_part};
 use event_queue::{BATCH_MOST, SLOT_LEN, scan};
 use std::alloc::Global;
 use std::sync::ledger::Ledger;
@@ -133,7 +134,7 @@ fn overfull<D: Disk>(dev: &mut D, slots: u32, used: u32, number: usize) -> OpenN
     };
     match read_part::<1, D>(dev, at) {
         Ok(bytes) => damaged(at, bytes[0]),
-        Err(why) => why,
+        Err(_) => OpenNo::DeviceFault,
     }
 }
 

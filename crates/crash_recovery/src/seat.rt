@@ -8,11 +8,11 @@ ghost use Rattle.trend_model.specs.History.{Raw};
 ghost use Rattle.trend_model.specs.State.{State, replay};
 ghost use Rattle.disk_model.specs.Moments.{During};
 ghost use Rattle.disk_model.specs.Calls.{HasCause};
-ghost use Rattle.crash_recovery.specs.Recovery.{AllFit, Recovers};
+ghost use Rattle.device_layout.specs.Recovery.{AllFit, Recovers};
 ghost use Rattle.crash_recovery.specs.Journals.{AllRecover, RecoversEither, SeatedOn, IsNumbered, free_in};
 ghost use Rattle.crash_recovery.specs.Seats.{LaidOn, OverrunOn, restarted};
 
-use crate::slot::Slot;
+use device_layout::Slot;
 use disk_model::Disk;
 use event_queue::{DeviceFault, Lane, LaneNo};
 use trend_num::Point;

@@ -35,6 +35,10 @@ pub record IsTimed {T E : Type 0} (before now : ℕ) (result : Result T E) : Typ
   pub counted : now ≡ next_count before
   pub in_time : OnOk result (before < 2 ^ 64 - 1)
 
+-- where the device tells its calls, what a read gives of it has P
+abbrev pub Shows : Option Trace → (List ℕ → Type 0) → Type 0
+Shows o P = IfSome o (λ t. P (seen (Option.Some t)))
+
 -- where the device tells its calls, a read gives these bytes in all
 abbrev pub Sees : Option Trace → List ℕ → Type 0
 Sees o bytes = IfSome o (λ t. seen (Option.Some t) ≡ bytes)

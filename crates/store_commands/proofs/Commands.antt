@@ -16,9 +16,9 @@ use Rattle.plant_status.specs.declared.status.Status.TheVariants.{Damaged, Other
 use Rattle.plant_files.specs.Reading.{faults_told}
 use Rattle.disk_model.specs.Traces.{Trace}
 use Rattle.tag_store.specs.Tags.{AreDistinct}
-use Rattle.tag_store.specs.Refusals.{IsRefusal}
+use Rattle.tag_store.specs.Refusals.{CountsStore, IsRefusal}
 use Rattle.trend_command.specs.Told.{IsAsked}
-use Rattle.std.proofs.Common.{Option}
+use Rattle.std.proofs.Common.{Option, Result, Ok, Err, IfErr, inl, inr, ◌^◌, ◌<◌, ◌≤◌}
 
 -- a fact of each image of a list is one of each element
 pub all_of_map : {X Y : Type 0} (f : X → Y) (P : Y → Type 0) (xs : List X) → All P (map f xs) → All (λ x. P (f x)) xs
@@ -69,3 +69,15 @@ found_empty v found = nil_from_length v.items (omega (arith, v.ok, eqb-true (vec
 
 pub found_some : {X Z : Type 0} (v : Vec X Z) → (vec_len v == 0) ≡ false → v.items ≢ []
 found_some v found same = eqb-false (vec_len v) 0 found (omega (arith, v.ok, ap length same))
+
+-- a fact of a refusal follows from another
+pub if_err : {T E : Type 0} (r : Result T E) (P Q : E → Type 0) → ((e : E) → P e → Q e) → IfErr r P → IfErr r Q
+if_err (Ok x) P Q follows p = tt
+if_err (Err e) P Q follows p = follows e p
+
+-- one fault more is not fewer
+pub counts_on : {T : Type 0} (r : Result T Status) (before now : ℕ) → before < 2 ^ 64 → CountsStore r before now
+    → before ≤ now
+counts_on (Ok x) before now small counts = omega (arith, counts)
+counts_on (Err why) before now small (inl same) = omega (arith, same)
+counts_on (Err why) before now small (inr more) = let rose = more.2 in omega (arith, rose, small)

@@ -13,7 +13,7 @@ use Rattle.disk_model.specs.Calls.{CountsFault, Rose}
 use Rattle.disk_model.specs.Moments.{During, LeftSince}
 use Rattle.disk_model.proofs.Moments.{weaker}
 use Rattle.crash_recovery.specs.Journals.{AllRecover, Logged}
-use Rattle.crash_recovery.specs.Recovery.{AllFit}
+use Rattle.device_layout.specs.Recovery.{AllFit}
 use Rattle.crash_recovery.proofs.Replays.{replay_append}
 use Rattle.trend_num.specs.Ranges.{InRange}
 use Rattle.tag_core.specs.Core.{Core}

@@ -13,7 +13,7 @@ use Rattle.disk_model.specs.Images.{MayLeave, Now}
 use Rattle.disk_model.specs.Moments.{During, LeftSince}
 use Rattle.disk_model.proofs.Moments.{parted, only_since, weaker}
 use Rattle.crash_recovery.specs.Journals.{AllRecover, GoesOnFrom, RecoversEither}
-use Rattle.crash_recovery.specs.Recovery.{AllFit, Recovers}
+use Rattle.device_layout.specs.Recovery.{AllFit, Recovers}
 use Rattle.crash_recovery.proofs.Replays.{replay_append}
 use Rattle.tag_cell.specs.declared.entry.Entry.{Entry}
 use Rattle.tag_cell.specs.declared.entry.Entry.TheVariants.{Take, Ask, Pull, Commit}

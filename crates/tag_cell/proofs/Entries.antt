@@ -9,7 +9,7 @@ use Rattle.trend_model.specs.History.{Event, Raw}
 use Rattle.trend_model.specs.State.{State, after, replay}
 use Rattle.disk_model.specs.Traces.{Trace}
 use Rattle.crash_recovery.specs.Journals.{AllRecover}
-use Rattle.crash_recovery.specs.Recovery.{Recovers}
+use Rattle.device_layout.specs.Recovery.{Recovers}
 use Rattle.interp_read.specs.declared.query.Reply.{Reply}
 use Rattle.tag_cell.specs.declared.entry.Entry.{Entry}
 use Rattle.tag_cell.specs.declared.entry.Entry.TheVariants.{Take, Ask, Pull, Commit}

@@ -13,7 +13,7 @@ use Rattle.trend_model.specs.Contents.{listed, over, placed}
 use Rattle.trend_model.proofs.Following.{cond_by}
 use Rattle.trend_model.specs.History.{Event, Raw}
 use Rattle.trend_model.specs.State.{State, after, replay}
-use Rattle.crash_recovery.specs.Recovery.{AllFit}
+use Rattle.device_layout.specs.Recovery.{AllFit}
 use Rattle.crash_recovery.proofs.Replays.{fit_append}
 use Rattle.snapshot_table.specs.Boards.{Posting, PostsTo}
 use Rattle.tag_core.specs.Core.{Core}

@@ -4,7 +4,7 @@ use Rattle.trend_num.specs.declared.point.Point.{Point}
 use Rattle.trend_num.specs.declared.tag_def.TagDef.{TagDef}
 use Rattle.trend_model.specs.History.{Raw}
 use Rattle.trend_model.specs.State.{State, replay}
-use Rattle.crash_recovery.specs.Recovery.{AllFit, Recovers}
+use Rattle.device_layout.specs.Recovery.{AllFit, Recovers}
 use Rattle.archive_file.specs.declared.failure.PutNo.{PutNo}
 use Rattle.archive_file.specs.declared.failure.PutNo.TheVariants as put
 use Rattle.tag_cell.specs.declared.entry.CommitNo.{CommitNo}

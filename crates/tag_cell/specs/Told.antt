@@ -16,7 +16,7 @@ use Rattle.disk_model.specs.Traces.{Trace}
 use Rattle.interp_read.specs.declared.query.Reply.{Reply}
 use Rattle.interp_read.specs.Replies.{AreAlike}
 use Rattle.crash_recovery.specs.Journals.{AllRecover, Logged}
-use Rattle.crash_recovery.specs.Recovery.{AllFit}
+use Rattle.device_layout.specs.Recovery.{AllFit}
 use Rattle.snapshot_table.specs.Boards.{Posting, PostsTo}
 use Rattle.tag_core.specs.Core.{Core}
 use Rattle.tag_cell.specs.declared.entry.Acked.{Acked}

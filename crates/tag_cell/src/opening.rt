@@ -4,9 +4,11 @@ ghost use Rattle.std.specs.Arc.{arc_value};
 ghost use Rattle.trend_num.specs.Ranges.{IsTuned};
 ghost use Rattle.trend_model.specs.State.{State};
 ghost use Rattle.trend_model.specs.Contents.{listed};
-ghost use Rattle.crash_recovery.specs.declared.failure.OpenNo.TheVariants.{WantOfMemory as NoMemory};
-ghost use Rattle.crash_recovery.specs.Recovery.{Recovers};
-ghost use Rattle.crash_recovery.specs.Opening.{CountsRefusal, IsCause, IsOpenedAs, RecoversThen, Shows, StaysSame};
+ghost use Rattle.device_layout.specs.declared.failure.OpenNo.TheVariants.{WantOfMemory as NoMemory};
+ghost use Rattle.device_layout.specs.Recovery.{Recovers};
+ghost use Rattle.crash_recovery.specs.Opening.{GainsSync, HasSlots, IsOpenedAs, LeavesFree, MakesLayout, RecoversThen, StaysSame};
+ghost use Rattle.device_layout.specs.Readings.{CountsRefusal, IsCause};
+ghost use Rattle.disk_model.specs.Calls.{Shows};
 ghost use Rattle.snapshot_table.specs.Boards.{PostsTo};
 ghost use Rattle.snapshot_table.specs.Snaps.{nothing};
 ghost use Rattle.tag_cell.specs.Tapes.{opened};
@@ -44,6 +46,10 @@ pub fn open_cell<D: Disk, R: Wait>(
     ensures opened { IfOk result (λ c. Shows (D.trace dev) (λ seen. (s : State) × Recovers def.now seen s
         × IsOpenedAs def.now s (opened c.opening))) }
     ensures recovers { IfOk result (λ c. RecoversThen def.now (D.trace dev) (D.trace c.journal.dev) (opened c.opening)) }
+    ensures slots { IfOk result (λ c. Shows (D.trace dev) (HasSlots lane_slots c.journal.slots)) }
+    ensures free { IfOk result (λ c. Shows (D.trace dev) (LeavesFree def.now c.journal.slots c.journal.free)) }
+    ensures made { IfOk result (λ c. MakesLayout def.now lane_slots (D.trace dev) (D.trace c.journal.dev)) }
+    ensures synced { IfOk result (λ c. GainsSync def.now (D.trace dev) (D.trace c.journal.dev)) }
     ensures def { IfOk result (λ c. c.def ≡ def.now) }
     ensures state { IfOk result (λ c. c.state ≡ opened c.opening) }
     ensures tape { IfOk result (λ c. c.tape ≡ []) }

@@ -2,10 +2,10 @@ use Rattle.std.proofs.Common.{◌<◌, ◌+◌, ap, ap₂, Err, ◌∙◌, subst
 use Rattle.trend_num.specs.Limits.{most_records}
 use Rattle.trend_model.specs.History.{Raw}
 use Rattle.trend_model.specs.State.{replay}
-use Rattle.crash_recovery.specs.Recovery.{AllFit}
+use Rattle.device_layout.specs.Recovery.{AllFit}
 use Rattle.crash_recovery.specs.Opening.{HoldsValue, IsOverfull}
-use Rattle.crash_recovery.proofs.Shows.{shows_after}
-use Rattle.crash_recovery.proofs.Reading.{cause_of_scan}
+use Rattle.device_layout.proofs.Shows.{shows_after}
+use Rattle.device_layout.proofs.Reading.{cause_of_scan}
 use Rattle.crash_recovery.proofs.Cores.{queue_shown, holds_shown, overfull_cause, recovered_shown, seated_shown}
 use Rattle.crash_recovery.proofs.Numbered.{numbered_read}
 use Rattle.crash_recovery.proofs.replay.read_core.Goals as goal

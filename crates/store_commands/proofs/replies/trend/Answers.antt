@@ -61,3 +61,12 @@ returns-in-Ok-replies-clause-kept g c =
 
 pub returns-clause-kept : goal.returns-clause-kept
 returns-clause-kept g c = inr (c.in-Ok.base, c.in-Ok.ensures.base, c.open_base.ensures.same, c.open_base.ensures.others)
+
+pub returns-in-Ok-replies-clause-durable : goal.returns-in-Ok-replies-clause-durable
+returns-in-Ok-replies-clause-durable g c = record {
+  base = c.in-Ok.base;
+  cores = c.in-Ok-open_base.cores.items;
+  read = c.in-Ok.ensures.base;
+  opened = c.in-Ok-open_base.ensures.opened;
+  left = c.in-Ok-open_base.ensures.left;
+}

@@ -4,8 +4,9 @@ use Rattle.std.specs.Arc.{arc_value}
 use Rattle.trend_num.specs.declared.archive.Summary.{Summary}
 use Rattle.trend_model.specs.State.{State}
 use Rattle.crash_recovery.specs.Journals.{AllRecover}
-use Rattle.crash_recovery.specs.Recovery.{Recovers}
-use Rattle.crash_recovery.specs.Opening.{IsOpenedAs, Shows}
+use Rattle.device_layout.specs.Recovery.{Recovers}
+use Rattle.crash_recovery.specs.Opening.{IsOpenedAs}
+use Rattle.disk_model.specs.Calls.{Shows}
 use Rattle.tag_cell.specs.declared.history.TagOpening.{TagOpening}
 use Rattle.tag_cell.specs.Tapes.{opened}
 use Rattle.tag_cell.proofs.Openings.{same_state, open_replayed, open_in_step, open_has_room, open_waits, open_kept, open_safe, open_posted}

@@ -1,5 +1,5 @@
 use Rattle.disk_model.proofs.Moments.{during_now}
-use Rattle.crash_recovery.specs.Recovery.{Recovers}
+use Rattle.device_layout.specs.Recovery.{Recovers}
 use Rattle.crash_recovery.proofs.Done.{done_recovers}
 use Rattle.crash_recovery.proofs.Places.{laid_on, overrun_on}
 use Rattle.crash_recovery.proofs.Turns.{either_kept, either_first, then_same, then_either, then_second}

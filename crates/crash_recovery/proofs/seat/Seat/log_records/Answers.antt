@@ -1,6 +1,6 @@
 use Rattle.std.proofs.Common.{◌≡◌, ◌∙◌, refl, ap, length, drop, rules}
 use Rattle.archive_file.specs.Records.{recs_image}
-use Rattle.crash_recovery.specs.Recovery.{summary_gate}
+use Rattle.device_layout.specs.Recovery.{summary_gate}
 use Rattle.crash_recovery.specs.Seats.{spare_slot}
 use Rattle.crash_recovery.proofs.Logged.{put_moments, gates_torn, log_moments, log_laid, ready_on}
 use Rattle.crash_recovery.proofs.seat.Seat.log_records.Goals as goal
