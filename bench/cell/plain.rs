@@ -13,9 +13,25 @@ struct Point {
 }
 
 #[allow(dead_code)]
-#[derive(Clone, Copy)]
+enum Query {
+    At { t: u64 },
+    Points { from: u64, to: u64 },
+    Window { measure: u8, from: u64, to: u64 },
+}
+
+#[allow(dead_code)]
+enum Reply {
+    Exact(i64),
+    Line { num: i128, den: u64 },
+    Points { list: Vec<Point>, more: bool },
+    Window(Option<i128>),
+}
+
+#[allow(dead_code)]
 enum Entry {
     Take { collector: u32, row: u64, point: Point, held: Point, records: u32 },
+    Ask { reader: u32, row: u64, query: Query, reply: Reply },
+    Pull { group: u32, from: u32, upto: u32 },
     Commit { moment: u64, acked: u64 },
 }
 

@@ -1,34 +1,23 @@
 // What no clause says of a board: that it is made, and that posters and lookers may be in different threads.
-ghost use Rattle.std.specs.Prelude.{◌≡◌, ◌≤◌, ◌<◌, ◌×◌, length};
+ghost use Rattle.std.specs.Prelude.{◌≡◌, IfOk, length};
+ghost use Rattle.std.specs.Thread.{IsSync};
 ghost use Rattle.snapshot_table.specs.Boards.{LooksAt, PostsTo};
-ghost use Rattle.snapshot_table.specs.Snaps.{nothing};
 
 use snapshot_table::{Board, Looker, Point, Poster, Snap, WantOfMemory, new_board};
 use std::alloc::Global;
-use std::process::Abort;
 use std::sync::Wait;
 use std::test::Fail;
 use std::thread::{Threads, join};
 
 // A board of one tag, its poster and a looker.
-struct Small {
-    board: Board,
-    poster: Poster,
-    looker: Looker,
-    ghost one: { length board ≡ 1 },
-    ghost posts: { PostsTo board poster },
-    ghost unposted: { poster.last ≡ nothing },
-    ghost looks: { LooksAt board looker },
-}
-
-fn small(rt: &impl Wait, alloc: Global) -> Result<Small, WantOfMemory> {
+fn small(rt: &impl Wait, alloc: Global) -> Result<(Board, Poster, Looker), WantOfMemory>
+    ensures one { IfOk result (λ made. length made.0 ≡ 1) }
+    ensures posts { IfOk result (λ made. PostsTo made.0 made.1) }
+    ensures looks { IfOk result (λ made. LooksAt made.0 made.2) }
+{
     let (board, mut posters, mut lookers) = new_board(rt, alloc, 1, 1)?;
     match (posters.pop(), lookers.pop()) {
-        (Some(poster), Some(looker)) => Ok(Small {
-            board,
-            poster,
-            looker,
-        }),
+        (Some(poster), Some(looker)) => Ok((board, poster, looker)),
         _ => Err(WantOfMemory),
     }
 }
@@ -75,5 +64,56 @@ fn a_look_shows_what_was_posted_last(rt: HostRuntime) -> Result<(), Fail> {
         }
         assert_eq!(&rt; board.look(&rt, &mut looker, 0), snap, "{row}");
     }
+    Ok(())
+}
+
+// Posts so many snapshots, each of one event more.
+fn post_all<R: Wait>(rt: &R, board: &Board, poster: Poster, count: u64)
+    requires { PostsTo board.now poster }
+{
+    let mut poster = poster;
+    for _ in 0..count {
+        let last = poster.last();
+        let taken = last.taken.saturating_add(1);
+        board.post(rt, &mut poster, Snap { taken, held: Some(Point { t: taken, v: -1 }) });
+    }
+}
+
+// Whether none of so many looks shows fewer events than the one before, and each shows a whole snapshot.
+fn looks_rise<R: Wait>(rt: &R, board: &Board, looker: Looker, count: u64) -> bool
+    requires one { length board.now ≡ 1 }
+    requires looks { LooksAt board.now looker }
+{
+    let mut looker = looker;
+    let mut last = 0;
+    let mut rise = true;
+    for _ in 0..count {
+        let snap = board.look(rt, &mut looker, 0);
+        let whole = snap.held.is_none_or(|p| p.t == snap.taken && p.v == -1);
+        rise = rise && whole && last <= snap.taken;
+        last = snap.taken;
+    }
+    rise
+}
+
+// A poster and a looker at work beside each other.
+fn beside<R: Threads + Wait + Sync>(rt: &R, alloc: Global) -> Result<bool, WantOfMemory> {
+    let (board, poster, looker) = small(rt, alloc)?;
+    let shown = &board;
+    let (_, rise) = join(
+        rt,
+        move ||
+            requires { IsSync R.row × PostsTo shown.now poster }
+        { post_all(rt, shown, poster, 1000) },
+        move || -> bool
+            requires { IsSync R.row × (length shown.now ≡ 1) × LooksAt shown.now looker }
+        { looks_rise(rt, shown, looker, 1000) },
+    );
+    Ok(rise)
+}
+
+#[test]
+fn a_board_is_posted_to_and_looked_at_by_two_threads(rt: HostRuntime) -> Result<(), Fail> {
+    assert!(&rt; beside(&rt, rt.alloc())?);
     Ok(())
 }

@@ -1,5 +1,5 @@
 // Cells on devices in memory: rows by hand, refusals, and a crash after each call.
-ghost use Rattle.std.specs.Prelude.{◌≡◌, ◌≤◌, length};
+ghost use Rattle.std.specs.Prelude.{◌≡◌, IfOk};
 ghost use Rattle.snapshot_table.specs.Boards.{PostsTo};
 ghost use Rattle.snapshot_table.specs.Snaps.{nothing};
 
@@ -7,9 +7,9 @@ use disk_model::{Disk, MemDisk, Pick};
 use interp_read::Reply;
 use snapshot_table::{Board, Poster, new_board};
 use std::alloc::Global;
-use std::process::Abort;
-use std::sync::{Arc, Wait};
+use std::sync::{Arc, Mutex, Wait};
 use std::test::Fail;
+use std::thread::{Threads, join};
 use tag_cell::{Acked, Cell, CommitNo, Entry, PullNo, TakeNo, open_cell};
 use trend_num::{
     Kind, Measure, Point, Reading, Rec, TagDef, TagQuery, Tuning, WantOfMemory, in_range, name_from,
@@ -31,19 +31,14 @@ fn tag(step: bool, comp_dev: u64) -> Option<TagDef> {
     })
 }
 
-// A board of one tag and its poster.
-struct Alone {
-    board: Board,
-    poster: Poster,
-    ghost one: { length board ≡ 1 },
-    ghost posts: { PostsTo board poster },
-    ghost unposted: { poster.last ≡ nothing },
-}
-
-fn alone(rt: &impl Wait, alloc: Global) -> Result<Alone, WantOfMemory> {
+// A board of one tag and its poster, who has posted nothing.
+fn alone(rt: &impl Wait, alloc: Global) -> Result<(Board, Poster), WantOfMemory>
+    ensures posts { IfOk result (λ made. PostsTo made.0 made.1) }
+    ensures unposted { IfOk result (λ made. made.1.last ≡ nothing) }
+{
     let (board, mut posters, _) = new_board(rt, alloc, 1, 0)?;
     match posters.pop() {
-        Some(poster) => Ok(Alone { board, poster }),
+        Some(poster) => Ok((board, poster)),
         None => Err(WantOfMemory),
     }
 }
@@ -57,7 +52,7 @@ fn opened(
     slots: u32,
     room: u32,
 ) -> Option<Cell<MemDisk>> {
-    let Alone { board, poster, .. } = alone(rt, alloc).ok()?;
+    let (board, poster) = alone(rt, alloc).ok()?;
     let board = Arc::new(alloc, board).ok()?;
     if !trend_num::tuning_ok(&def.tuning) || slots < 1 || slots > 64 {
         return None;
@@ -335,5 +330,45 @@ fn a_crash_after_any_call_leaves_what_was_acknowledged(rt: HostRuntime) -> Resul
             assert!(rt; stands, "after {calls} calls");
         }
     }
+    Ok(())
+}
+
+// Takes so many values as rows of a collector, each under the lock; tells how many were taken.
+fn take_under_lock<R: Wait>(
+    rt: &R,
+    cell: &Mutex<Cell<MemDisk>>,
+    collector: u32,
+    count: u32,
+) -> u32 {
+    let mut taken = 0u32;
+    for row in 0..count {
+        let p = Point { t: u64::from(row), v: i64::from(collector) };
+        if in_range(p) && cell.lock(rt).take(rt, collector, u64::from(row), p).is_ok() {
+            taken = taken.saturating_add(1);
+        }
+    }
+    taken
+}
+
+// Two collectors beside each other.
+fn beside<R: Threads + Wait + Sync>(rt: &R, cell: &Mutex<Cell<MemDisk>>) -> (u32, u32) {
+    join(
+        rt,
+        || take_under_lock(rt, cell, 0, 50),
+        || take_under_lock(rt, cell, 1, 50),
+    )
+}
+
+#[test]
+fn two_collectors_take_beside_each_other(rt: HostRuntime) -> Result<(), Fail> {
+    let alloc = rt.alloc();
+    let def = tag(false, 0).ok_or("name")?;
+    let cell = new_cell(&rt, alloc, &def, 64, 80, Vec::new(alloc)).ok_or("refused")?;
+    let cell = Mutex::new(cell);
+    let (first, second) = beside(&rt, &cell);
+    assert_eq!(rt; first.wrapping_add(second), 80);
+    let (_, history) = cell.into_inner().into_history();
+    assert_eq!(rt; history.tape.len(), 80);
+    assert_eq!(rt; history.summary.taken, 80);
     Ok(())
 }
