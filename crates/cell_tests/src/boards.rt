@@ -50,12 +50,7 @@ fn snap_of(row: &str) -> Option<Snap> {
 
 #[test]
 fn a_look_shows_what_was_posted_last(rt: HostRuntime) -> Result<(), Fail> {
-    let Small {
-        board,
-        mut poster,
-        mut looker,
-        ..
-    } = small(&rt, rt.alloc())?;
+    let (board, mut poster, mut looker) = small(&rt, rt.alloc())?;
     for row in ROWS.lines() {
         let snap = snap_of(row).ok_or(WantOfMemory)?;
         if snap.taken > 0 {
