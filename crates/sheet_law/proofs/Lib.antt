@@ -1,0 +1,4 @@
+pub mod Alike
+pub mod Stretch
+pub mod Stay
+pub mod Complete
