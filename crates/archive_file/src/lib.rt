@@ -19,6 +19,3 @@ pub use log::{put_records, read_bytes, read_records};
 pub use record::{REC_LEN, rec_bytes, rec_of};
 pub use summary::{SUMMARY_LEN, summary_bytes, summary_of};
 pub use trend_num::{Kind, Point, Rec, Summary, Tuning};
-
-#[cfg(test)]
-mod tests;

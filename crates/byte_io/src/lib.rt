@@ -38,6 +38,3 @@ pub use sink::Sink;
 pub use source::Source;
 pub use standard::{StdSink, StdSource};
 pub use transfer::{read_all, write_all};
-
-#[cfg(test)]
-mod tests;

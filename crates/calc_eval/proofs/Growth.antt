@@ -7,9 +7,9 @@ use Rattle.std.proofs.lemmas.Option.{slice_get-map, slice_get-get_or, slice_get_
 use Rattle.std.proofs.Math.Seq.{take-append_seam}
 use Rattle.trend_num.specs.declared.point.Point.{Point}
 use Rattle.calc_parser.specs.Tree.{tree_of}
-use Rattle.calc_eval.specs.declared.definition.CalcDef.{CalcDef}
-use Rattle.calc_eval.specs.declared.value.CalcValue.{CalcValue}
-use Rattle.calc_eval.specs.Group.{Calculation, Group, calculation, group_of}
+use Rattle.calc_check.specs.declared.definition.CalcDef.{CalcDef}
+use Rattle.trend_num.specs.declared.value.CalcValue.{CalcValue}
+use Rattle.calc_check.specs.Group.{Calculation, Group, calculation, group_of}
 use Rattle.calc_eval.specs.Value.{scope, value, values}
 
 -- a list with elements added, each made of those before it and of one of xs

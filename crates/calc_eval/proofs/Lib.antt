@@ -1,5 +1,4 @@
 pub mod Quotient
-pub mod Name
 pub mod Growth
 pub mod Range
 pub mod Window

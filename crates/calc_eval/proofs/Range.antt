@@ -13,11 +13,11 @@ use Rattle.calc_parser.specs.declared.tree.Op.TheVariants.{Add, Sub, Mul, Div, R
 use Rattle.calc_parser.specs.declared.tree.Cmp.{Cmp}
 use Rattle.calc_parser.specs.Tokens.{largest_number}
 use Rattle.calc_parser.specs.Tree.{Tree, num, window, calc, neg, abs, two, compare, choose}
-use Rattle.calc_eval.specs.declared.value.Bad.TheVariants.{NoData, DivZero, Range}
-use Rattle.calc_eval.specs.declared.value.CalcValue.{CalcValue}
-use Rattle.calc_eval.specs.declared.value.CalcValue.TheVariants.{Num, Bad}
+use Rattle.trend_num.specs.declared.value.Bad.TheVariants.{NoData, DivZero, Range}
+use Rattle.trend_num.specs.declared.value.CalcValue.{CalcValue}
+use Rattle.trend_num.specs.declared.value.CalcValue.TheVariants.{Num, Bad}
 use Rattle.calc_eval.specs.Number.{bounded, IsInRange, measured_value, after, floor_div, floor_rem, operated, holds, compared}
-use Rattle.calc_eval.specs.Group.{Group, Calculation, names_of}
+use Rattle.calc_check.specs.Group.{Group, Calculation, names_of}
 use Rattle.calc_eval.specs.Value.{Scope, value, at_name, scope, values}
 
 -- either of two values that are in the range

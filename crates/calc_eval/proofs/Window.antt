@@ -10,11 +10,11 @@ use Rattle.calc_parser.specs.Formulas.{IsFormula, IsTree}
 use Rattle.calc_parser.specs.Tree.{Tree, num, window, calc, neg, abs, two, compare, choose}
 use Rattle.calc_parser.proofs.Builds.{one_tree}
 use Rattle.calc_parser.proofs.RoundTrip.{round_trip}
-use Rattle.calc_eval.specs.declared.value.Bad.TheVariants.{NoData}
-use Rattle.calc_eval.specs.declared.value.CalcValue.{CalcValue}
-use Rattle.calc_eval.specs.declared.value.CalcValue.TheVariants.{Bad}
+use Rattle.trend_num.specs.declared.value.Bad.TheVariants.{NoData}
+use Rattle.trend_num.specs.declared.value.CalcValue.{CalcValue}
+use Rattle.trend_num.specs.declared.value.CalcValue.TheVariants.{Bad}
 use Rattle.calc_eval.specs.Number.{bounded, measured_value, after, operated, compared}
-use Rattle.calc_eval.specs.Group.{Group, Calculation}
+use Rattle.calc_check.specs.Group.{Group, Calculation}
 use Rattle.calc_eval.specs.Value.{Scope, measure_of, scope, value, values}
 
 -- two scopes in which each input measures the same, with the same earlier values

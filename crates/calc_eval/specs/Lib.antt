@@ -1,4 +1,2 @@
 pub mod Number
-pub mod Code
-pub mod Group
 pub mod Value

@@ -8,9 +8,9 @@ use Rattle.calc_parser.specs.declared.tree.Cmp.{Cmp}
 use Rattle.calc_parser.specs.declared.tree.Cmp.TheVariants.{Le, Ge, Ne, Lt, Gt, Eq}
 use Rattle.calc_parser.specs.Tokens.{largest_number}
 use Rattle.trend_model.specs.Windows.{lesser, greater}
-use Rattle.calc_eval.specs.declared.value.Bad.TheVariants.{NoData, DivZero, Range}
-use Rattle.calc_eval.specs.declared.value.CalcValue.{CalcValue}
-use Rattle.calc_eval.specs.declared.value.CalcValue.TheVariants.{Num, Bad}
+use Rattle.trend_num.specs.declared.value.Bad.TheVariants.{NoData, DivZero, Range}
+use Rattle.trend_num.specs.declared.value.CalcValue.{CalcValue}
+use Rattle.trend_num.specs.declared.value.CalcValue.TheVariants.{Num, Bad}
 
 -- a number as a value: one outside the range is Bad
 abbrev pub bounded : ℤ → CalcValue

@@ -7,10 +7,10 @@ use Rattle.trend_num.specs.declared.point.Point.{Point}
 use Rattle.trend_model.specs.Contents.{ContentState, points_of}
 use Rattle.trend_model.specs.Windows.{window_value}
 use Rattle.calc_parser.specs.Tree.{Tree, num, window, calc, neg, abs, two, compare, choose}
-use Rattle.calc_eval.specs.declared.value.Bad.TheVariants.{NoData}
-use Rattle.calc_eval.specs.declared.value.CalcValue.{CalcValue}
-use Rattle.calc_eval.specs.declared.value.CalcValue.TheVariants.{Bad}
-use Rattle.calc_eval.specs.Group.{Group, names_of}
+use Rattle.trend_num.specs.declared.value.Bad.TheVariants.{NoData}
+use Rattle.trend_num.specs.declared.value.CalcValue.{CalcValue}
+use Rattle.trend_num.specs.declared.value.CalcValue.TheVariants.{Bad}
+use Rattle.calc_check.specs.Group.{Group, names_of}
 use Rattle.calc_eval.specs.Number.{bounded, measured_value, after, operated, compared}
 
 -- what names stand for: inputs for points that rise in time, earlier calculations for values

@@ -2,7 +2,6 @@
 ghost use Rattle.std.specs.Prelude.{◌≡◌, ◌≢◌, pos, IsTrue};
 ghost use Rattle.calc_eval.specs.Number.{bounded, measured_value, floor_div, floor_rem, divided, operated, holds, compared};
 
-use crate::value::{Bad, CalcValue};
 use calc_parser::{Cmp, Op};
 
 /// The greatest amount of a value.

@@ -2,18 +2,15 @@
 ghost use Rattle.std.specs.Prelude.{◌≡◌, ◌+◌, ◌<◌, ◌≤◌, length, slice_get, take, Some};
 ghost use Rattle.trend_num.specs.Ranges.{last_time};
 ghost use Rattle.calc_parser.specs.Tree.{tree_of, window, calc};
-ghost use Rattle.calc_eval.specs.Group.{group_of};
+ghost use Rattle.calc_check.specs.Group.{group_of};
 ghost use Rattle.calc_eval.specs.Value.{points_in, scope, value, values};
 
 use crate::arithmetic::{bounded, compared, measured_value, operated};
-use crate::checked::Checked;
-use crate::definition::CalcDef;
-use crate::naming::{calc_place, input_place};
-use crate::value::{Bad, CalcValue};
+use calc_check::{CalcDef, Checked, calc_place, input_place};
 use calc_parser::Expr;
 use late_insert::Content;
 use std::sync::ledger::Ledger;
-use trend_num::{Measure, Name, Steps};
+use trend_num::{Bad, CalcValue, Measure, Name, Steps};
 use weighted_total::window;
 
 /// What the names of a group stand for in a window.

@@ -6,7 +6,7 @@ ghost use Rattle.trend_num.specs.declared.point.Point.{Point};
 ghost use Rattle.calc_parser.specs.Canonical.{text_of};
 ghost use Rattle.calc_parser.specs.Formulas.{IsFormula, IsTree};
 ghost use Rattle.calc_parser.specs.Tree.{Tree};
-ghost use Rattle.calc_eval.specs.Group.{Group};
+ghost use Rattle.calc_check.specs.Group.{Group};
 ghost use Rattle.calc_eval.specs.Value.{Scope, measure_of, value, values};
 
 /// The divisor times the quotient, and the remainder, make up the dividend. The remainder is 0 or has the divisor's

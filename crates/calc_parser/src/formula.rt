@@ -1,7 +1,8 @@
 // From a text to its tree.
 
-ghost use Rattle.std.specs.Prelude.{◌≡◌, ◌-◌, ◌≤◌, ◌<◌, length, drop, slice_index_or, IfOk, IfErr};
-ghost use Rattle.calc_parser.specs.Formulas.{IsFormula, HasCause, Gives, kind_of};
+ghost use Rattle.std.specs.Prelude.{◌≡◌, ◌-◌, ◌≤◌, ◌<◌, Err, length, drop, slice_index_or, IfOk, IfErr};
+ghost use Rattle.calc_parser.specs.Formulas.{most_bytes, IsFormula, HasCause, Gives, kind_of};
+ghost use Rattle.calc_parser.specs.declared.refusal.ParseNo.TheVariants.{Long};
 ghost use Rattle.calc_parser.specs.Scan.{refusal_of};
 ghost use Rattle.calc_parser.specs.Tree.{Tree, tree_of};
 
@@ -20,6 +21,8 @@ pub fn parse(alloc: Global, text: &str) -> Result<Expr, ParseNo>
     ensures tree { IfOk result (λ e. IsFormula text.now (tree_of e)) }
     // Such a text's tree is given, unless no memory is found.
     ensures only { (t : Tree) → IsFormula text.now t → Gives result t }
+    // A text that is too long is told as such, whatever memory there is.
+    ensures long { most_bytes < length text.now → result ≡ Err (Long (length text.now)) }
     // What each refusal means.
     ensures refused { IfErr result (HasCause text.now) }
 {

@@ -13,8 +13,6 @@ mod lexer;
 mod parser;
 mod printer;
 mod refusal;
-#[cfg(test)]
-mod tests;
 mod token;
 mod tree;
 

@@ -4,7 +4,7 @@ use Rattle.std.proofs.Common.{false, List, [], ◌∷◌, length, take, drop, ma
 use Rattle.std.proofs.Common.{Option, None, Some, refl, sym, ◌∙◌, ap, ap₂, subst, arith, length-append}
 use Rattle.std.proofs.Common.{length-take, length-drop}
 use Rattle.std.proofs.lemmas.Bool.{cases_Bool}
-use Rattle.trend_num.specs.declared.archive.TheConstants.{MAX_RECORDS}
+use Rattle.trend_num.specs.Limits.{most_records}
 use Rattle.trend_num.specs.declared.archive.Rec.{Rec}
 use Rattle.trend_num.specs.declared.archive.Summary.{Summary}
 use Rattle.trend_num.specs.declared.tag_def.TagDef.{TagDef}
@@ -141,7 +141,7 @@ module _ (def : TagDef) (slots : ℕ) (x : Stored) (c : List ℕ) (read : IsRead
   pub value_broken : (step : Bool) (core : State) (n a j i : ℕ) (byte : Option ℕ) → def.step ≡ step
       → core.records ≡ x.recs.items → core.summary ≡ record x.summary { tuning = Some x.tuning }
       → AllFit step core (map Raw (take n s.points.items))
-      → MAX_RECORDS < length (replay step core (map Raw (take n s.points.items))).records + 2
+      → most_records < length (replay step core (map Raw (take n s.points.items))).records + 2
       → IsValuePlace slots c x.summary.taken n a j i → StandsThere c a byte → IsTagDamage def c a byte
   value_broken step core n a j i byte same_step records summary fit full place there =
       let points = lane_points (slots_in (header_of c)) c x.summary.taken in
@@ -151,11 +151,11 @@ module _ (def : TagDef) (slots : ℕ) (x : Stored) (c : List ℕ) (read : IsRead
         fit = subst (λ k. AllFit k (start_of c x.recs.items x.summary) (map Raw (take n points))) (sym same_step)
             (subst (λ st. AllFit step st (map Raw (take n points))) (start_same core records summary)
             (subst (λ l. AllFit step core (map Raw (take n l))) points_same fit));
-        full = subst (λ k. MAX_RECORDS < length (replay k (start_of c x.recs.items x.summary) (map Raw
+        full = subst (λ k. most_records < length (replay k (start_of c x.recs.items x.summary) (map Raw
             (take n points))).records + 2)
-            (sym same_step) (subst (λ st. MAX_RECORDS < length (replay step st (map Raw (take n points))).records + 2)
+            (sym same_step) (subst (λ st. most_records < length (replay step st (map Raw (take n points))).records + 2)
             (start_same core records summary)
-            (subst (λ l. MAX_RECORDS < length (replay step core (map Raw (take n l))).records + 2) points_same full));
+            (subst (λ l. most_records < length (replay step core (map Raw (take n l))).records + 2) points_same full));
         at = subst (λ k. IsValuePlace k c x.summary.taken n a j i) read.slots_are place;
         there = there;
       })
@@ -216,7 +216,7 @@ pub overfull_cause : (def : TagDef) (o : Option Trace) (slots : ℕ) (x : Stored
     (why : OpenNo) → IsWithin slots x.summary.taken slots s → Shows o (IsReadFrom def slots x)
     → Shows o (λ c. IsRead slots x.summary.taken c slots s) → def.step ≡ step → core.records ≡ x.recs.items
     → core.summary ≡ record x.summary { tuning = Some x.tuning } → AllFit step core (map Raw (take n s.points.items))
-    → MAX_RECORDS < length (replay step core (map Raw (take n s.points.items))).records + 2 → a ≤ b
+    → most_records < length (replay step core (map Raw (take n s.points.items))).records + 2 → a ≤ b
     → IsOverfull o slots x.summary.taken n b m why → IsCause def o a m why
 overfull_cause def o slots x s step core n a b m DeviceFault inside read scanned same_step records summary fit full le over =
     rose_before a b m le over

@@ -26,7 +26,7 @@ use Rattle.crash_recovery.specs.Damages.{IsTagDamage}
 use Rattle.crash_recovery.specs.Standing.{ImageStands, StandsOpened}
 use Rattle.crash_recovery.proofs.OneState.{one_state}
 use Rattle.crash_recovery.proofs.Reading.{rose_before}
-use Rattle.trend_num.specs.declared.archive.TheConstants.{MAX_RECORDS}
+use Rattle.trend_num.specs.Limits.{most_records}
 
 -- ---- the sync at the beginning
 
@@ -214,7 +214,7 @@ slots_kept o mid wanted p is seat = shown_before o mid (HasSlots wanted p.lane.s
 -- ---- a tag that has to be retuned and is full
 
 pub full_shown : (def : TagDef) (o : Option Trace) (n : ℕ) (s : State) → Shows o (λ c. IsRecovered def c s)
-    → s.summary.tuning ≢ Some def.tuning → n ≡ length s.records → MAX_RECORDS < length s.records + 2
+    → s.summary.tuning ≢ Some def.tuning → n ≡ length s.records → most_records < length s.records + 2
     → Shows o (λ c. (x : State) × IsFull def c n x)
 full_shown def None n s recovered other is full = tt
 full_shown def (Some t) n s recovered other is full =

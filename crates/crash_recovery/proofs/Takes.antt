@@ -4,7 +4,7 @@ use Rattle.std.proofs.Common.{map, get_or}
 use Rattle.std.proofs.Common.{refl, sym, ◌∙◌, ap, subst, arith, rules, true, false, ⊎_elim}
 use Rattle.std.proofs.lemmas.Bool.{cases_lt}
 use Rattle.std.proofs.lemmas.List.{take_more, map-append}
-use Rattle.trend_num.specs.declared.archive.TheConstants.{MAX_RECORDS}
+use Rattle.trend_num.specs.Limits.{most_records}
 use Rattle.trend_num.specs.declared.point.Point.{Point}
 use Rattle.trend_model.specs.History.{Event, Raw}
 use Rattle.trend_model.specs.State.{State, after, replay}
@@ -19,14 +19,14 @@ replay_more step s (x ∷ es) e = replay_more step (after step s x) es e
 
 -- finds room where all before it did
 pub fit_more : (step : Bool) (s : State) (es : List Event) (e : Event) → AllFit step s es
-    → length (replay step s es).records + 2 ≤ MAX_RECORDS → AllFit step s (es ++ e ∷ [])
+    → length (replay step s es).records + 2 ≤ most_records → AllFit step s (es ++ e ∷ [])
 fit_more step s [] e fit room = (room, tt)
 fit_more step s (x ∷ es) e fit room = (fit.0, fit_more step (after step s x) es e fit.1 room)
 
 -- where too many are refused and this many are not, they are few enough
-pub few_enough : (n : ℕ) → (MAX_RECORDS < n → false ≡ true) → n ≤ MAX_RECORDS
+pub few_enough : (n : ℕ) → (most_records < n → false ≡ true) → n ≤ most_records
 few_enough n never = ⊎_elim (λ more. let bad = never more in search rules) (λ few. omega (arith, few))
-    (cases_lt MAX_RECORDS n)
+    (cases_lt most_records n)
 
 -- the first n of these values were taken
 pub record IsTakenTo (points : List Point) (n : ℕ) (start now : Core) : Type 0 where
@@ -49,7 +49,7 @@ taken_to_none points c = record {
 -- one more was
 pub taken_to_more : (points : List Point) (n : ℕ) (p : Point) (start now new : Core) → IsTakenTo points n start now
     → n < length points → p ≡ get_or points n p → new.state ≡ after now.step now.state (Raw p) → new.step ≡ now.step
-    → new.state.summary.taken ≡ now.state.summary.taken + 1 → length now.state.records + 2 ≤ MAX_RECORDS
+    → new.state.summary.taken ≡ now.state.summary.taken + 1 → length now.state.records + 2 ≤ most_records
     → now.spare ≤ new.spare + 2 → IsTakenTo points (n + 1) start new
 taken_to_more points n p start now new so_far there is state step taken room spare =
     let more : map Raw (take (n + 1) points) ≡ map Raw (take n points) ++ Raw p ∷ [] =
@@ -59,7 +59,7 @@ taken_to_more points n p start now new so_far there is state step taken room spa
       same_step = step ∙ so_far.same_step;
       fit = subst (AllFit start.step start.state) (sym more)
           (fit_more start.step start.state (map Raw (take n points)) (Raw p) so_far.fit
-          (subst (λ s. length s.records + 2 ≤ MAX_RECORDS) so_far.state room));
+          (subst (λ s. length s.records + 2 ≤ most_records) so_far.state room));
       state = state ∙ ap (λ k. after k now.state (Raw p)) so_far.same_step
           ∙ ap (λ s. after start.step s (Raw p)) so_far.state
           ∙ sym (replay_more start.step start.state (map Raw (take n points)) (Raw p))

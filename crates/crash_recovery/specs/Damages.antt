@@ -1,7 +1,7 @@
 -- Where a tag's device first breaks the layout: eleven rules, each tested where all before it hold.
 use Rattle.std.specs.Prelude.{◌≡◌, ℕ, ◌+◌, ◌*◌, ◌<◌, ◌≤◌, List, length, take, map, slice_index}
 use Rattle.std.specs.Prelude.{Option, None, Some}
-use Rattle.trend_num.specs.declared.archive.TheConstants.{MAX_RECORDS}
+use Rattle.trend_num.specs.Limits.{most_records}
 use Rattle.trend_num.specs.declared.archive.Rec.{Rec}
 use Rattle.trend_num.specs.declared.archive.Summary.{Summary}
 use Rattle.trend_num.specs.declared.tag_def.TagDef.{TagDef}
@@ -89,7 +89,7 @@ pub record IsValueDamage (def : TagDef) (c : List ℕ) (a : ℕ) (byte : Option 
   pub stored : IsStored def c rs s
   pub lane : IsLane (slots_in (header_of c)) c s.taken (slots_in (header_of c))
   pub fit : AllFit def.step (start_of c rs s) (map Raw (take n (lane_points (slots_in (header_of c)) c s.taken)))
-  pub full : MAX_RECORDS < length (replay def.step (start_of c rs s)
+  pub full : most_records < length (replay def.step (start_of c rs s)
       (map Raw (take n (lane_points (slots_in (header_of c)) c s.taken)))).records + 2
   pub at : IsValuePlace (slots_in (header_of c)) c s.taken n a j i
   pub there : StandsThere c a byte

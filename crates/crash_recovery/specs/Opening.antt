@@ -1,7 +1,7 @@
 -- What opening a tag's device gives, and why it is refused.
 use Rattle.std.specs.Prelude.{◌≡◌, ◌≢◌, ◌⊎◌, ℕ, ◌+◌, ◌^◌, ◌<◌, ◌≤◌, Bool, true, false, List, length, Option}
 use Rattle.std.specs.Prelude.{Some, IfSome}
-use Rattle.trend_num.specs.declared.archive.TheConstants.{MAX_RECORDS}
+use Rattle.trend_num.specs.Limits.{most_records}
 use Rattle.trend_num.specs.declared.archive.Summary.{Summary}
 use Rattle.trend_num.specs.declared.point.Point.{Point}
 use Rattle.trend_num.specs.declared.tuning.Tuning.{Tuning}
@@ -75,7 +75,7 @@ pub record IsFull (def : TagDef) (c : List ℕ) (records : ℕ) (s : State) : Ty
   pub recovered : Recovers def c s
   pub other : s.summary.tuning ≢ Some def.tuning
   pub records_are : records ≡ length s.records
-  pub full : MAX_RECORDS < length s.records + 2
+  pub full : most_records < length s.records + 2
 
 -- why a device is not opened; of a device that does not tell its calls only its failures are known
 abbrev pub IsCause : TagDef → Option Trace → ℕ → ℕ → OpenNo → Type 0

@@ -5,7 +5,7 @@ use Rattle.std.specs.Prelude.{◌≡◌, ◌≢◌, ◌⊎◌, ℕ, ◌+◌, ◌
 use Rattle.std.specs.Prelude.{length, take, drop, map}
 use Rattle.std.specs.Prelude.{slice_index, nat_eq, nat_le, Option, None, Some}
 use Rattle.std.specs.Int.{w32, w64, from_be_bytes}
-use Rattle.trend_num.specs.declared.archive.TheConstants.{MAX_RECORDS}
+use Rattle.trend_num.specs.Limits.{most_records}
 use Rattle.trend_num.specs.declared.archive.Rec.{Rec}
 use Rattle.trend_num.specs.declared.archive.Summary.{Summary}
 use Rattle.trend_num.specs.declared.tuning.Tuning.{Tuning}
@@ -99,7 +99,7 @@ in_force made (Some u) = u
 -- two more records find room at each of these events
 abbrev pub AllFit : Bool → State → List Event → Type 0
 AllFit step s [] = Unit {0}
-AllFit step s (e ∷ events) = (length s.records + 2 ≤ MAX_RECORDS) × AllFit step (after step s e) events
+AllFit step s (e ∷ events) = (length s.records + 2 ≤ most_records) × AllFit step (after step s e) events
 
 -- the state of these records and this summary, in which that tuning is in force
 abbrev pub state_of : List Rec → Summary → Tuning → State

@@ -31,6 +31,3 @@ pub use journal::Journal;
 pub use law::{an_opened_tag_stands, one_state_is_recovered};
 pub use opening::{Opened, open_tag};
 pub use slot::Slot;
-
-#[cfg(test)]
-mod tests;

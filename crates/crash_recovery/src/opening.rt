@@ -1,7 +1,7 @@
 // Opening a tag's device.
 ghost use Rattle.std.specs.Prelude.{◌≡◌, ◌≢◌, ◌⊎◌, ◌+◌, ◌-◌, ◌*◌, ◌^◌, ◌<◌, ◌≤◌, ℕ, Some, Err, true, false};
 ghost use Rattle.std.specs.Prelude.{length, IfOk, IfErr, OnErr};
-ghost use Rattle.trend_num.specs.declared.archive.TheConstants.{MAX_RECORDS};
+ghost use Rattle.trend_num.specs.Limits.{most_records};
 ghost use Rattle.trend_num.specs.declared.tag_def.TagDef.{TagDef};
 ghost use Rattle.trend_num.specs.Ranges.{IsTuned};
 ghost use Rattle.trend_model.specs.State.{State, nothing_taken};
@@ -300,7 +300,7 @@ fn tuned<L: Ledger>(
     ensures tuning { IfOk result (λ r. r.core.state.summary.tuning ≡ Some def.now.tuning) }
     ensures room { IfOk result (λ r. core.spare ≤ r.core.spare + 2) }
     ensures full { IfErr result (λ why. why ≡ TooFull (length core.state.records)) }
-    ensures many { OnErr result (MAX_RECORDS < length core.state.records + 2) }
+    ensures many { OnErr result (most_records < length core.state.records + 2) }
     ensures other { OnErr result (core.state.summary.tuning ≢ Some def.now.tuning) }
 {
     let mut core = core;

@@ -1,7 +1,7 @@
 // The values of a lane, taken after what its device stores.
 ghost use Rattle.std.specs.Prelude.{◌≡◌, ◌+◌, ◌*◌, ◌^◌, ◌<◌, ◌≤◌, ℕ, length, min, take, map, Err, IfOk, IfErr, OnOk, OnErr};
 ghost use Rattle.std.specs.List.{All};
-ghost use Rattle.trend_num.specs.declared.archive.TheConstants.{MAX_RECORDS};
+ghost use Rattle.trend_num.specs.Limits.{most_records};
 ghost use Rattle.trend_num.specs.declared.tag_def.TagDef.{TagDef};
 ghost use Rattle.trend_num.specs.Ranges.{InRange, IsTuned};
 ghost use Rattle.trend_model.specs.History.{Raw};
@@ -50,7 +50,7 @@ pub(crate) fn replay<L: Ledger>(
     ensures step { core.new.step ≡ core.old.step }
     ensures within { IfErr result (λ n. n < length points.now) }
     ensures fit_before { IfErr result (λ n. AllFit core.old.step core.old.state (map Raw (take n points.now))) }
-    ensures full { IfErr result (λ n. MAX_RECORDS
+    ensures full { IfErr result (λ n. most_records
         < length (replay core.old.step core.old.state (map Raw (take n points.now))).records + 2) }
 {
     for (n, p) in points.iter().enumerate() {

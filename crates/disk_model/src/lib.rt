@@ -35,6 +35,3 @@ pub use law::{
 };
 pub use memory_disk::{MemDisk, Pick};
 pub use memory_store::MemStore;
-
-#[cfg(test)]
-mod tests;

@@ -10,8 +10,6 @@
 #![tactic(auto)]
 
 mod doors;
-#[cfg(test)]
-mod tests;
 
 pub use doors::{Doors, same_doors};
 pub use trend_num::{Point, Steps};

@@ -26,6 +26,3 @@ pub use law::{
 pub use reader::{Scanned, scan};
 pub use slot::{BATCH_MOST, SLOT_LEN};
 pub use trend_num::Point;
-
-#[cfg(test)]
-mod tests;

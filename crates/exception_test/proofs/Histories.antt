@@ -1,12 +1,13 @@
 -- A gate that follows the rules stands for one history after another.
-use Rattle.std.proofs.Common.{◌≡◌, List, ◌∷◌, ◌++◌, Option, sym, ap, ap₂, ◌∙◌}
+use Rattle.std.proofs.Common.{◌≡◌, List, ◌∷◌, ◌++◌, Option, None, sym, ap, ap₂, ◌∙◌}
+use Rattle.std.specs.Option.{option_or}
 use Rattle.trend_num.specs.declared.point.Point.{Point}
 use Rattle.trend_num.specs.declared.sending.Sending.{Sending}
 use Rattle.trend_num.specs.declared.tuning.Tuning.{Tuning}
-use Rattle.trend_model.specs.History.{Event, Origin, Raw, in_force, sent, prior, pending}
-use Rattle.trend_model.specs.State.{offered, gained}
+use Rattle.trend_model.specs.History.{Event, Origin, Raw, Tune, Tuned, in_force, sent, prior, pending}
+use Rattle.trend_model.specs.State.{offered, gained, pushed_out}
 use Rattle.trend_model.proofs.Offers.{offered_follows}
-use Rattle.trend_model.proofs.Sent.{last_in_order_is}
+use Rattle.trend_model.proofs.Sent.{last_in_order_is, newest_is, tune_sends}
 use Rattle.exception_test.specs.declared.gate.Gate.{Gate}
 use Rattle.exception_test.specs.Gate.{GateStands}
 
@@ -40,3 +41,19 @@ sends_on u old p first second one two o h same stands =
     let firsts = one ∙ ap (λ f. f.first) there in
     let seconds = two ∙ ap (λ f. f.second) there in
     follows.sends ∙ ap (λ more. more ++ sent o h) (sym (ap₂ gained firsts seconds))
+
+-- a gate whose pending value is handed on stands for the history with a retuning
+pub stands_flushed : (old new : Gate) → new.last ≡ option_or old.pending old.last → new.pending ≡ None
+    → (o : Origin) (h : List Event) (u : Tuning) → GateStands o old h → GateStands o new (Tune u ∷ h)
+stands_flushed old new last waits o h u stands = record {
+  last = last ∙ ap₂ option_or stands.pending (stands.last ∙ last_in_order_is o h) ∙ sym (newest_is o h)
+      ∙ sym (last_in_order_is o (Tune u ∷ h));
+  pending = waits;
+}
+
+-- what it hands on is what that history sends before the tuning
+pub sends_flushed : (old : Gate) (first : Option Point) → first ≡ old.pending
+    → (o : Origin) (h : List Event) (u : Tuning) → GateStands o old h
+    → sent o (Tune u ∷ h) ≡ Tuned u ∷ pushed_out first ++ sent o h
+sends_flushed old first is o h u stands =
+    tune_sends o u h ∙ ap (λ q. Tuned u ∷ pushed_out q ++ sent o h) (sym (is ∙ stands.pending))

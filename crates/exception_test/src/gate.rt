@@ -1,7 +1,9 @@
 // The gate of a tag's exception test.
-ghost use Rattle.std.specs.Prelude.{◌≡◌, ◌↔◌, IsTrue, List, [], ◌∷◌, ◌++◌};
-ghost use Rattle.trend_model.specs.History.{Event, Origin, Raw, in_force, is_far, sent};
-ghost use Rattle.trend_model.specs.State.{gained, offered, offered_in_order};
+ghost use Rattle.std.specs.Prelude.{◌≡◌, ◌↔◌, IsTrue, List, [], ◌∷◌, ◌++◌, None};
+ghost use Rattle.std.specs.Option.{option_or};
+ghost use Rattle.trend_num.specs.declared.tuning.Tuning.{Tuning};
+ghost use Rattle.trend_model.specs.History.{Event, Origin, Raw, Tune, Tuned, in_force, is_far, sent};
+ghost use Rattle.trend_model.specs.State.{gained, offered, offered_in_order, pushed_out};
 ghost use Rattle.exception_test.specs.Gate.{GateStands};
 
 use trend_num::{Point, Sending, Tuning};
@@ -58,6 +60,27 @@ impl Gate {
             → GateStands o self.old h → sent o (Raw p ∷ h) ≡ gained result.first result.second ++ sent o h }
     {
         self.advance(tuning, p)
+    }
+
+    /// Empties the pending place for a retuning, and hands on the value that was pending: it is now sent in order, under
+    /// the old tuning.
+    #[inline]
+    pub fn flush(&mut self) -> Option<Point>
+        ensures last { self.new.last ≡ option_or self.old.pending self.old.last }
+        ensures pending { self.new.pending ≡ None }
+        ensures first { result ≡ self.old.pending }
+
+        // Over any history of any tag, whatever tuning comes.
+        ensures stands { (o : Origin) (h : List Event) (u : Tuning) → GateStands o self.old h → GateStands o self.new (Tune u ∷ h) }
+        ensures sends { (o : Origin) (h : List Event) (u : Tuning)
+            → GateStands o self.old h → sent o (Tune u ∷ h) ≡ Tuned u ∷ pushed_out result ++ sent o h }
+    {
+        let first = self.pending;
+        *self = Gate {
+            last: first.or(self.last),
+            pending: None,
+        };
+        first
     }
 
     /// Goes on to the gate after one more value, in place, and hands on what is sent.
@@ -158,60 +181,4 @@ fn is_far(tuning: &Tuning, last: Point, p: Point) -> bool
 {
     let lasted = last.t <= p.t && p.t - last.t >= tuning.exc_max;
     p.v.abs_diff(last.v) > tuning.exc_dev || lasted
-}
-
-#[cfg(test)]
-mod tests {
-    use super::*;
-
-    const TUNING: Tuning = Tuning {
-        exc_dev: 5,
-        exc_max: 100,
-        comp_dev: 0,
-        comp_min: 0,
-        comp_max: 0,
-    };
-
-    fn at(t: u64, v: i64) -> Point {
-        Point { t, v }
-    }
-
-    #[test]
-    fn offers_in_turn(rt: HostRuntime) {
-        let rows = [
-            // the first value
-            (at(10, 0), None, Some(Sending::InOrder(at(10, 0)))),
-            // as much as ExcDev is not far
-            (at(20, 5), None, None),
-            // far, after the pending value
-            (
-                at(30, -6),
-                Some(at(20, 5)),
-                Some(Sending::InOrder(at(30, -6))),
-            ),
-            // late with nothing pending
-            (at(30, 9), None, Some(Sending::Late(at(30, 9)))),
-            (at(40, -8), None, None),
-            // a newer value takes the place of the pending one
-            (at(50, -9), None, None),
-            // late with a value pending
-            (at(45, 9), Some(at(50, -9)), Some(Sending::Late(at(45, 9)))),
-            (at(149, -9), None, None),
-            // as long as ExcMax is far
-            (
-                at(150, -9),
-                Some(at(149, -9)),
-                Some(Sending::InOrder(at(150, -9))),
-            ),
-        ];
-        let mut gate = Gate::new();
-        for (p, first, second) in rows {
-            assert_eq!(rt;
-                gate.offer(&TUNING, p),
-                Sent { first, second },
-                "at {}",
-                p.t
-            );
-        }
-    }
 }

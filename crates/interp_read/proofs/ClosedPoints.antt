@@ -12,14 +12,17 @@ use Rattle.trend_num.specs.declared.archive.Rec.{Rec}
 use Rattle.trend_num.specs.declared.point.Point.{Point}
 use Rattle.trend_num.specs.Ranges.{InRange}
 use Rattle.trend_model.specs.Content.{content_at, is_late_record, kept_at, late_at}
-use Rattle.trend_model.specs.Contents.{IsRising, placed, points_of}
+use Rattle.trend_model.specs.Contents.{IsNotBefore, IsRising, placed, points_of}
+use Rattle.trend_model.specs.Reads.{read_at}
 use Rattle.trend_model.specs.Lists.{IfThere, IsAmong}
 use Rattle.trend_model.specs.Parts.{PointsRise, last_point}
 use Rattle.trend_model.specs.Walk.{kept}
 use Rattle.trend_model.proofs.ReadLaw.{among_middle, points_rise, read_at_point, read_content}
 use Rattle.trend_model.proofs.WindowLaw.{before_middle}
-use Rattle.interp_read.specs.Closing.{IsAfterAll, IsNotBefore, points_closed_by}
+use Rattle.interp_read.specs.Closing.{IsAfterAll, points_closed_by}
 use Rattle.interp_read.specs.NextTo.{AreNeighbours}
+use Rattle.interp_read.specs.Readable.{IsReadable}
+use Rattle.interp_read.proofs.Readable.{readable}
 use Rattle.interp_read.proofs.RisingPoints.{Before, From, IsGapAt, among_all, all_among, first_drop}
 use Rattle.interp_read.proofs.RisingPoints.{first_parts, gap_at, last_parts, last_push, no_last, rises_push}
 
@@ -319,3 +322,14 @@ past_all l n none =
           cc
       | inr past ↦ past
     ]
+
+-- what a closed content reads as can be rounded, to a value in range
+pub closed_readable : (step : Bool) (held : Option Point) (l : List Rec) (t : ℕ) → IsRising l
+    → All InRange (points_of l) → IfThere InRange held → IfThere (IsNotBefore l) held
+    → IsReadable (read_at step (points_closed_by held l) t)
+closed_readable step held l t rises each range last =
+    let cs = points_closed_by held l in
+    let closing = closed held l rises last in
+    let own = points_rise l rises in
+    let rising = closed_rise cs (points_of l) closing.more own closing.whole closing.later in
+    readable step cs t rising (closed_in_range held cs (points_of l) closing range each)

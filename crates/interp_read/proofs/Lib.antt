@@ -1,4 +1,5 @@
 pub mod RisingPoints
+pub mod Readable
 pub mod ClosedPoints
 pub mod ReadsNextTo
 pub mod Listing

@@ -1,2 +1,4 @@
 pub mod Closing
 pub mod NextTo
+pub mod Readable
+pub mod Replies

@@ -6,7 +6,8 @@ ghost use Rattle.trend_model.specs.Contents.{points_of};
 ghost use Rattle.trend_model.specs.Lists.{IfThere};
 ghost use Rattle.interp_read.specs.NextTo.{AreNeighbours};
 ghost use Rattle.trend_model.specs.Parts.{last_point};
-ghost use Rattle.interp_read.specs.Closing.{IsAfterAll, IsNotBefore, points_closed_by};
+ghost use Rattle.trend_model.specs.Contents.{IsNotBefore};
+ghost use Rattle.interp_read.specs.Closing.{IsAfterAll, points_closed_by};
 
 use late_insert::Content;
 use trend_num::Point;

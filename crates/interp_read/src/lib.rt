@@ -9,11 +9,9 @@ mod closing;
 mod list;
 mod query;
 mod read;
-#[cfg(test)]
-mod tests;
 
 pub use closing::{Neighbours, neighbours_at};
 pub use list::{MOST_LISTED, PointList, points};
-pub use query::{Reply, TagQuery};
+pub use query::Reply;
 pub use read::{at, at_step, reading_of};
-pub use trend_num::Reading;
+pub use trend_num::{Reading, TagQuery};

@@ -4,10 +4,12 @@ ghost use Rattle.std.specs.Prelude.{slice_range, take};
 ghost use Rattle.std.specs.Option.{option_to_list};
 ghost use Rattle.trend_num.specs.declared.point.Point.{Point};
 ghost use Rattle.trend_num.specs.Ranges.{InRange};
+ghost use Rattle.trend_num.specs.Limits.{most_listed};
 ghost use Rattle.trend_model.specs.Contents.{points_of};
 ghost use Rattle.trend_model.specs.Lists.{IfThere};
 ghost use Rattle.trend_model.specs.Reads.{points_from_to};
-ghost use Rattle.interp_read.specs.Closing.{IsNotBefore, points_closed_by};
+ghost use Rattle.trend_model.specs.Contents.{IsNotBefore};
+ghost use Rattle.interp_read.specs.Closing.{points_closed_by};
 
 use crate::closing::added;
 use late_insert::Content;
@@ -37,9 +39,9 @@ pub fn points(
     requires range { IfThere InRange held }
     requires last { IfThere (IsNotBefore content.now.records) held }
     ensures list { IfOk result (λ p. p.list.items
-        ≡ take MOST_LISTED (points_from_to (points_closed_by held content.now.records) from to)) }
+        ≡ take most_listed (points_from_to (points_closed_by held content.now.records) from to)) }
     ensures more { IfOk result (λ p. IsTrue p.more
-        ↔ (MOST_LISTED < length (points_from_to (points_closed_by held content.now.records) from to))) }
+        ↔ (most_listed < length (points_from_to (points_closed_by held content.now.records) from to))) }
 {
     let places = places_from_to(content, from, to);
     let stop = places.end.min(places.start.saturating_add(MOST_LISTED));
@@ -103,10 +105,10 @@ fn held_from_to(content: &Content, held: Option<Point>, from: u64, to: u64) -> O
 
 /// The first of some points and of a last one, from the first of those points.
 fn completed(first: Vec<Point>, more: bool, last: Option<Point>) -> Result<PointList, WantOfMemory>
-    ensures list { (all : List Point) → first.items ≡ take MOST_LISTED all → (IsTrue more ↔ (MOST_LISTED < length all))
-        → IfOk result (λ p. p.list.items ≡ take MOST_LISTED (all ++ option_to_list last)) }
-    ensures more { (all : List Point) → first.items ≡ take MOST_LISTED all → (IsTrue more ↔ (MOST_LISTED < length all))
-        → IfOk result (λ p. IsTrue p.more ↔ (MOST_LISTED < length (all ++ option_to_list last))) }
+    ensures list { (all : List Point) → first.items ≡ take most_listed all → (IsTrue more ↔ (most_listed < length all))
+        → IfOk result (λ p. p.list.items ≡ take most_listed (all ++ option_to_list last)) }
+    ensures more { (all : List Point) → first.items ≡ take most_listed all → (IsTrue more ↔ (most_listed < length all))
+        → IfOk result (λ p. IsTrue p.more ↔ (most_listed < length (all ++ option_to_list last))) }
 {
     let mut list = first;
     match last {

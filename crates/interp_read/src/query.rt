@@ -1,26 +1,10 @@
-// What is asked of a tag, and what is answered.
-use crate::list::PointList;
-use trend_num::{Measure, Reading};
+// What is answered to a question about a tag.
+ghost use Rattle.std.specs.Prelude.{IfOk};
+ghost use Rattle.interp_read.specs.Replies.{AreAlike};
 
-/// A question about a tag's closed content. Times are milliseconds from 1970.
-#[derive(Clone, Copy, Debug, PartialEq, Eq)]
-pub enum TagQuery {
-    /// What stands at a time.
-    At {
-        t: u64,
-    },
-    /// The points from one time to another, both included.
-    Points {
-        from: u64,
-        to: u64,
-    },
-    /// A measure of the window from one time to a later one.
-    Window {
-        measure: Measure,
-        from: u64,
-        to: u64,
-    },
-}
+use crate::list::PointList;
+use std::alloc::Global;
+use trend_num::{Reading, WantOfMemory};
 
 /// The answer to a question of the same name.
 #[derive(Drop)]
@@ -29,4 +13,21 @@ pub enum Reply {
     Points(PointList),
     /// None where the window is not covered by the points.
     Window(Option<i128>),
+}
+
+impl Reply {
+    /// The same answer again.
+    pub fn copy(&self, alloc: Global) -> Result<Reply, WantOfMemory>
+        ensures { IfOk result (λ copy. AreAlike self.now copy) }
+    {
+        match self {
+            Reply::At(reading) => Ok(Reply::At(*reading)),
+            Reply::Window(value) => Ok(Reply::Window(*value)),
+            Reply::Points(points) => {
+                let list = Vec::from_slice(alloc, &points.list).map_err(|_| WantOfMemory)?;
+                let more = points.more;
+                Ok(Reply::Points(PointList { list, more }))
+            }
+        }
+    }
 }

@@ -4,8 +4,10 @@ ghost use Rattle.trend_num.specs.declared.point.Point.{Point};
 ghost use Rattle.trend_num.specs.Ranges.{InRange};
 ghost use Rattle.trend_model.specs.Lists.{IfThere};
 ghost use Rattle.trend_model.specs.Reads.{between, read_at};
-ghost use Rattle.interp_read.specs.Closing.{IsNotBefore, points_closed_by};
+ghost use Rattle.trend_model.specs.Contents.{IsNotBefore};
+ghost use Rattle.interp_read.specs.Closing.{points_closed_by};
 ghost use Rattle.interp_read.specs.NextTo.{AreNeighbours};
+ghost use Rattle.interp_read.specs.Readable.{IsReadable};
 
 use crate::closing::{Neighbours, neighbours_at};
 use late_insert::Content;
@@ -17,7 +19,8 @@ use trend_num::{Point, Reading, line_at};
 pub fn at(content: &Content, held: Option<Point>, t: u64) -> Reading
     requires range { IfThere InRange held }
     requires last { IfThere (IsNotBefore content.now.records) held }
-    ensures { result ≡ read_at false (points_closed_by held content.now.records) t }
+    ensures value { result ≡ read_at false (points_closed_by held content.now.records) t }
+    ensures readable { IsReadable result }
 {
     read(content, held, false, t)
 }
@@ -27,7 +30,8 @@ pub fn at(content: &Content, held: Option<Point>, t: u64) -> Reading
 pub fn at_step(content: &Content, held: Option<Point>, t: u64) -> Reading
     requires range { IfThere InRange held }
     requires last { IfThere (IsNotBefore content.now.records) held }
-    ensures { result ≡ read_at true (points_closed_by held content.now.records) t }
+    ensures value { result ≡ read_at true (points_closed_by held content.now.records) t }
+    ensures readable { IsReadable result }
 {
     read(content, held, true, t)
 }
@@ -36,8 +40,11 @@ pub fn at_step(content: &Content, held: Option<Point>, t: u64) -> Reading
 fn read(content: &Content, held: Option<Point>, step: bool, t: u64) -> Reading
     requires range { IfThere InRange held }
     requires last { IfThere (IsNotBefore content.now.records) held }
-    ensures { result ≡ read_at step (points_closed_by held content.now.records) t }
+    ensures value { result ≡ read_at step (points_closed_by held content.now.records) t }
+    ensures readable { IsReadable result }
 {
+    // The points rise, and are in range.
+    let _len = content.len();
     reading_of(neighbours_at(content, held, t), step, t)
 }
 

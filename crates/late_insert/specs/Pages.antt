@@ -1,5 +1,5 @@
 -- How a content is kept in pages, each in a frame.
-use Rattle.std.specs.Prelude.{◌≡◌, ◌≢◌, true, false, ℕ, ℤ, zero, suc, pos, ◌+◌, ◌*◌, ◌^◌, ◌<◌, ◌≤◌, List, []}
+use Rattle.std.specs.Prelude.{◌≡◌, ◌≢◌, true, false, ℕ, ℤ, zero, suc, pos, ◌+◌, ◌*◌, ◌/◌, ◌^◌, ◌<◌, ◌≤◌, List, []}
 use Rattle.std.specs.Prelude.{◌∷◌, Option, None, Some, length, map, slice_index, slice_index_or, take, drop}
 use Rattle.std.specs.Prelude.{insert, slice_set, All}
 use Rattle.std.specs.Int.{bit_at}
@@ -145,3 +145,5 @@ pub record IsKept (pool : List (Option Frame)) (pages : List Page) (places len r
   -- a frame is spare for each page that may be split
   pub frames : room + 65 ≤ 64 * (length pages + spare_of pool)
   pub reserved : length pages + spare_of pool ≤ places
+  -- and the list of pages has as many places as were made for this room, so that it never grows
+  pub exact : places ≡ room / 64 + 2

@@ -75,14 +75,16 @@ impl Content {
         })
     }
 
-    /// The content of these records, the oldest first, with no room for more. Runs of records in order go into
-    /// whole pages at once. More than 2^32 - 1 records are refused, as memory that is not there.
-    pub fn from_records(alloc: Global, recs: &[Rec]) -> Result<Content, WantOfMemory>
+    /// The content of these records, the oldest first, with room for so many points more. Runs of records in
+    /// order go into whole pages at once. Room for more than 2^32 - 1 points is refused, as memory that is not
+    /// there.
+    pub fn from_records(alloc: Global, recs: &[Rec], more: u32) -> Result<Content, WantOfMemory>
         requires range { All (λ r. InRange r.point) recs.now }
         ensures records { IfOk result (λ content. content.records ≡ listed recs.now) }
-        ensures room { IfOk result (λ content. content.spare + length content.records ≡ length recs.now) }
+        ensures room { IfOk result (λ content. content.spare + length content.records ≡ length recs.now + more) }
     {
         let points = u32::try_from(recs.len()).map_err(|_| WantOfMemory)?;
+        let points = points.checked_add(more).ok_or(WantOfMemory)?;
         let mut content = Content::new(alloc, points)?;
         let mut done = 0;
         while done < recs.len() {

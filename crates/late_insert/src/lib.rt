@@ -21,8 +21,6 @@ mod gap;
 mod mark;
 mod page;
 mod shelf;
-#[cfg(test)]
-mod tests;
 mod total;
 mod walk;
 

@@ -84,7 +84,7 @@ pub(crate) fn make_room(pool: &mut Pool, pages: &mut Vec<Page>, t: u64) -> usize
     ensures pages { ArePages pool.new pages.new.items }
     ensures records { records_of pool.new pages.new.items ≡ records_of pool.old pages.old.items }
     ensures frames { vec_len pages.new + spare_of pool.new ≡ vec_len pages.old + spare_of pool.old }
-    ensures capacity { vec_capacity pages.old ≤ vec_capacity pages.new }
+    ensures capacity { vec_capacity pages.new ≡ vec_capacity pages.old }
     ensures found { IsFor pool.new pages.new.items result t }
     ensures not_full { (d : Page) → length (page_in pool.new (slice_index_or pages.new.items result d)) < 128 }
 {
@@ -110,7 +110,7 @@ fn split(pool: &mut Pool, pages: &mut Vec<Page>, k: usize)
     ensures lower { (d : Page) → length (page_in pool.new (slice_index_or pages.new.items k d)) ≡ 64 }
     ensures upper { (d : Page) → length (page_in pool.new (slice_index_or pages.new.items (k + 1) d)) ≡ 64 }
     ensures frames { spare_of pool.new + 1 ≡ spare_of pool.old }
-    ensures capacity { vec_capacity pages.old ≤ vec_capacity pages.new }
+    ensures capacity { vec_capacity pages.new ≡ vec_capacity pages.old }
 {
     let halves = cut(pool.frame_mut(&pages[k].id));
     let page = &mut pages[k];
@@ -132,7 +132,7 @@ fn insert_page(pages: &mut Vec<Page>, at: usize, page: Page)
     requires within { at ≤ vec_len pages.old }
     requires room { vec_len pages.old < vec_capacity pages.old }
     ensures list { pages.new.items ≡ insert pages.old.items at page }
-    ensures capacity { vec_capacity pages.old ≤ vec_capacity pages.new }
+    ensures capacity { vec_capacity pages.new ≡ vec_capacity pages.old }
 {
     let _ = pages.insert(at, page);
 }

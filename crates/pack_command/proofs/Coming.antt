@@ -2,7 +2,7 @@
 use Rattle.std.proofs.Common.{◌≡◌, ◌≢◌, ℕ, ◌+◌, ◌<◌, ◌≤◌, Bool, true, false, cond, min, ◌-◌, List, [], ◌∷◌, ◌++◌, length, map, drop, nat_eq, Result, Ok, Err, IfOk, arith, refl, sym, ap, ◌∙◌, subst, append-nil, append_assoc, length-append}
 use Rattle.std.proofs.lemmas.Bool.{eqb-true, eqb-false}
 use Rattle.std.proofs.lemmas.List.{drop_at, drop-drop, map-append}
-use Rattle.trend_num.specs.declared.archive.TheConstants.{MAX_RECORDS}
+use Rattle.trend_num.specs.Limits.{most_records}
 use Rattle.trend_num.specs.Ranges.{InRange}
 use Rattle.trend_num.specs.declared.point.Point.{Point}
 use Rattle.trend_num.specs.declared.refusal.Reason.{Reason}
@@ -182,7 +182,7 @@ count_more found rows p count few other = omega (arith, length-append found (p �
 pub row_taken : (further : Bool) (o : Origin) (bytes rest after : List ℕ) (old new : Core) (rows : ℕ) (read : Result Point Reason) (p : Point)
     → HasCome further o bytes rest old rows Taken → IsNextRow further rest after read → rows ≤ most_rows → point_of_row rows read ≡ Ok p
     → new.step ≡ old.step → ((h : List Event) → o.step ≡ old.step → Stands o h old.state → Stands o (Raw p ∷ h) new.state)
-    → (MAX_RECORDS < length old.state.records + 2 → ⊥) → HasCome further o bytes after new (min (rows + 1) most_rows) Taken
+    → (most_records < length old.state.records + 2 → ⊥) → HasCome further o bytes after new (min (rows + 1) most_rows) Taken
 row_taken further o bytes rest after old new rows read p come next few is kind stands fits =
     let found = come.0 in
     let row = row_read rows read p is in (
@@ -195,7 +195,7 @@ row_taken further o bytes rest after old new rows read p come next few is kind s
 -- it finds no room
 pub row_full : (further : Bool) (o : Origin) (bytes rest after : List ℕ) (old new : Core) (rows : ℕ) (read : Result Point Reason) (p : Point) (stood : ℕ)
     → HasCome further o bytes rest old rows Taken → IsNextRow further rest after read → rows ≤ most_rows → point_of_row rows read ≡ Ok p
-    → MAX_RECORDS < length old.state.records + 2 → stood ≡ length old.state.records
+    → most_records < length old.state.records + 2 → stood ≡ length old.state.records
     → HasCome further o bytes after new (min (rows + 1) most_rows) (Full stood)
 row_full further o bytes rest after old new rows read p stood come next few is full stood_is =
     let found = come.0 in
@@ -222,7 +222,7 @@ row_after_full further o bytes rest after old new rows read p stood come next fe
 -- a core with room, after one row more
 pub ready_more : (old new : Core) (rows added : ℕ) → IsReady old rows → rows ≢ most_rows
     → new.state.summary.taken ≡ old.state.summary.taken + 1 → length new.state.records ≡ length old.state.records + added → added ≤ 2
-    → (MAX_RECORDS < length old.state.records + 2 → ⊥)
+    → (most_records < length old.state.records + 2 → ⊥)
     → new.spare + length new.state.records ≡ old.spare + length old.state.records → IsReady new (min (rows + 1) most_rows)
 ready_more old new rows added ready other counted grown few fits places = record {
   few = omega arith;

@@ -5,7 +5,7 @@ use Rattle.std.proofs.lemmas.Bool.Decides.{nat_tests}
 use Rattle.std.proofs.lemmas.List.{reverse-append}
 use Rattle.trend_num.specs.declared.point.Point.{Point}
 use Rattle.trend_num.specs.declared.archive.Rec.{Rec}
-use Rattle.trend_num.specs.declared.archive.TheConstants.{MAX_RECORDS}
+use Rattle.trend_num.specs.Limits.{most_records}
 use Rattle.trend_model.specs.Walk.{records}
 use Rattle.trend_model.specs.History.{Event, Raw, Origin}
 use Rattle.trend_model.specs.State.{Stands}
@@ -18,7 +18,7 @@ pub full_stays : (o : Origin) (later h : List Event) (n : ℕ) → first_full o 
 full_stays o [] h n full = full
 full_stays o (e ∷ later) h n full =
     let stood = length (records o (later ++ h)) in
-    ap (λ before. option_or before (cond (nat_lt MAX_RECORDS (stood + 2)) (Some stood) None)) (full_stays o later h n full)
+    ap (λ before. option_or before (cond (nat_lt most_records (stood + 2)) (Some stood) None)) (full_stays o later h n full)
 
 -- one more event of a history with room
 full_by : (test : Bool) (n : ℕ) (before : Option ℕ) → before ≡ None → test ≡ true
@@ -36,16 +36,16 @@ not_below : (m n : ℕ) → (m < n → ⊥) → nat_lt m n ≡ false
 not_below m n h = grind (arith, nat_tests)
 
 -- the event that finds no room
-pub full_here : (o : Origin) (e : Event) (h : List Event) → first_full o h ≡ None → MAX_RECORDS < length (records o h) + 2
+pub full_here : (o : Origin) (e : Event) (h : List Event) → first_full o h ≡ None → most_records < length (records o h) + 2
     → first_full o (e ∷ h) ≡ Some (length (records o h))
 full_here o e h room full =
-    full_by _ (length (records o h)) (first_full o h) room (below MAX_RECORDS (length (records o h) + 2) full)
+    full_by _ (length (records o h)) (first_full o h) room (below most_records (length (records o h) + 2) full)
 
 -- one that finds room
 pub room_here : (o : Origin) (e : Event) (h : List Event) → first_full o h ≡ None
-    → (MAX_RECORDS < length (records o h) + 2 → ⊥) → first_full o (e ∷ h) ≡ None
+    → (most_records < length (records o h) + 2 → ⊥) → first_full o (e ∷ h) ≡ None
 room_here o e h room fits =
-    room_by _ (length (records o h)) (first_full o h) room (not_below MAX_RECORDS (length (records o h) + 2) fits)
+    room_by _ (length (records o h)) (first_full o h) room (not_below most_records (length (records o h) + 2) fits)
 
 -- the history of one point more
 pub history_more : (points : List Point) (p : Point) → history_of (points ++ p ∷ []) ≡ Raw p ∷ history_of points
@@ -53,23 +53,23 @@ history_more points p = ap (map Raw) (reverse-append points (p ∷ []))
 
 -- the values are taken with one more
 pub taken_more : (o : Origin) (points : List Point) (p : Point) (old new : Core) → AreTaken o old points → new.step ≡ old.step
-    → Stands o (Raw p ∷ history_of points) new.state → (MAX_RECORDS < length old.state.records + 2 → ⊥) → AreTaken o new (points ++ p ∷ [])
+    → Stands o (Raw p ∷ history_of points) new.state → (most_records < length old.state.records + 2 → ⊥) → AreTaken o new (points ++ p ∷ [])
 taken_more o points p old new t kind stands fits =
     let longer = history_more points p in
     record {
       kind = kind ∙ t.kind;
       stands = subst (λ l. Stands o l new.state) (sym longer) stands;
       room = ap (first_full o) longer ∙ room_here o (Raw p) (history_of points) t.room
-          (λ full. fits (subst (λ (rs : List Rec). MAX_RECORDS < length rs + 2) (sym t.stands.same_records) full));
+          (λ full. fits (subst (λ (rs : List Rec). most_records < length rs + 2) (sym t.stands.same_records) full));
     }
 
 -- or it finds no room
 pub full_at : (o : Origin) (points : List Point) (p : Point) (core : Core) (stood : ℕ) → AreTaken o core points
-    → MAX_RECORDS < length core.state.records + 2 → stood ≡ length core.state.records → first_full o (history_of (points ++ p ∷ [])) ≡ Some stood
+    → most_records < length core.state.records + 2 → stood ≡ length core.state.records → first_full o (history_of (points ++ p ∷ [])) ≡ Some stood
 full_at o points p core stood t full records_are =
     let same : length core.state.records ≡ length (records o (history_of points)) = ap length t.stands.same_records in
     ap (first_full o) (history_more points p)
-    ∙ full_here o (Raw p) (history_of points) t.room (subst (λ (rs : List Rec). MAX_RECORDS < length rs + 2) t.stands.same_records full)
+    ∙ full_here o (Raw p) (history_of points) t.room (subst (λ (rs : List Rec). most_records < length rs + 2) t.stands.same_records full)
     ∙ ap Some (sym (records_are ∙ same))
 
 -- and what was full stays so

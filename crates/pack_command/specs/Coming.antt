@@ -1,6 +1,6 @@
 -- What the lines of an input have come to so far. For private functions: no public call cites it.
 use Rattle.std.specs.Prelude.{◌≡◌, ℕ, ◌+◌, ◌≤◌, Bool, false, cond, List, [], ◌∷◌, ◌++◌, length, map, take, None, Some, nat_eq, Result, Ok, Err}
-use Rattle.trend_num.specs.declared.archive.TheConstants.{MAX_RECORDS}
+use Rattle.trend_num.specs.Limits.{most_records}
 use Rattle.trend_num.specs.declared.point.Point.{Point}
 use Rattle.trend_num.specs.declared.refusal.Reason.{Reason}
 use Rattle.trend_model.specs.History.{Origin}
@@ -50,8 +50,8 @@ HasCome further o bytes rest core rows (Refused why) = AreRefused further bytes 
 pub record IsReady (core : Core) (rows : ℕ) : Type 0 where
   pub few : rows ≤ most_rows
   pub counted : core.state.summary.taken ≤ rows
-  pub records : length core.state.records ≤ MAX_RECORDS
-  pub places : core.spare + length core.state.records ≡ MAX_RECORDS + 2
+  pub records : length core.state.records ≤ most_records
+  pub places : core.spare + length core.state.records ≡ most_records + 2
 
 -- the point of the row after so many, or why the rows are refused
 abbrev pub numbered : ℕ → Result Point Reason → Result Point RowNo

@@ -2,7 +2,7 @@
 use Rattle.std.specs.Prelude.{◌≡◌, ℕ, ◌+◌, ◌<◌, ◌≤◌, ◌⊎◌, cond, false, List, [], ◌∷◌, length, map, reverse, Option, None, Some, nat_lt, Result, Ok, Err}
 use Rattle.std.specs.Io.KnownBytes.{IsAtEnd}
 use Rattle.std.specs.Option.{option_or}
-use Rattle.trend_num.specs.declared.archive.TheConstants.{MAX_RECORDS}
+use Rattle.trend_num.specs.Limits.{most_records}
 use Rattle.trend_num.specs.declared.point.Point.{Point}
 use Rattle.trend_num.specs.declared.refusal.What.TheVariants.{FileBytes, Rows, Records}
 use Rattle.trend_num.specs.declared.tuning.Tuning.{Tuning}
@@ -17,7 +17,7 @@ use Rattle.plant_status.specs.declared.file.FileId.TheVariants.{Input}
 use Rattle.plant_status.specs.declared.status.Status.{Status}
 use Rattle.plant_status.specs.declared.status.Status.TheVariants.{BadRow, ReadFault, Limit, WantOfMemory}
 
--- the most bytes of standard input, and the most lines; `MAX_RECORDS` is the most records of a tag
+-- the most bytes of standard input, and the most lines; `most_records` is the most records of a tag
 abbrev pub most_bytes : ℕ
 most_bytes = 67108864
 
@@ -43,7 +43,7 @@ history_of points = map Raw (reverse points)
 abbrev pub first_full : Origin → List Event → Option ℕ
 first_full o [] = None
 first_full o (e ∷ h) =
-    option_or (first_full o h) (cond (nat_lt MAX_RECORDS (length (records o h) + 2)) (Some (length (records o h))) None)
+    option_or (first_full o h) (cond (nat_lt most_records (length (records o h) + 2)) (Some (length (records o h))) None)
 
 -- the text of a history that had room throughout
 abbrev pub answer_full : Origin → List Event → Option ℕ → Answer

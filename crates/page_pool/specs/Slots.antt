@@ -15,12 +15,12 @@ places_of slots size = map held_in slots ++ replicate (size - length slots) None
 abbrev pub IsFree : List Slot → ℕ → Type 0
 IsFree slots id = (id < length slots) × (slice_index_or (map held_in slots) id None ≡ None)
 
--- slots and free ids in vectors of this room
+-- slots and free ids in vectors of this room: as many places each as frames, so that neither ever grows
 pub record IsStored (slots : List Slot) (free : List ℕ) (size slot_room free_room : ℕ) : Type 0 where
   pub within : length slots ≤ size
   pub small : size < 2 ^ 32
-  pub place_room : size ≤ slot_room
-  pub id_room : size ≤ free_room
+  pub place_room : slot_room ≡ size
+  pub id_room : free_room ≡ size
   -- each free id is of a spare slot, no two are of one, and each spare slot has one
   pub spare : All (IsFree slots) free
   pub once : AllPairs ◌≢◌ free

@@ -10,6 +10,3 @@ mod pool;
 
 pub use frame::Frame;
 pub use pool::{FrameId, NoFrame, Pool, WantOfMemory};
-
-#[cfg(test)]
-mod tests;

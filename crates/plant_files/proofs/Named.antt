@@ -2,8 +2,8 @@
 use Rattle.std.proofs.Common.{◌≡◌, ℕ, ◌<◌, List, [], ◌∷◌, ◌++◌, length, map, refl, suc, zero, ap, subst, ◌∙◌, All}
 use Rattle.std.proofs.lemmas.List.{length-map}
 use Rattle.std.specs.List.{slice_index_or}
-use Rattle.calc_eval.specs.Group.{calculation, names_of}
-use Rattle.calc_eval.specs.declared.definition.CalcDef.{CalcDef}
+use Rattle.calc_check.specs.Group.{calculation, names_of}
+use Rattle.calc_check.specs.declared.definition.CalcDef.{CalcDef}
 use Rattle.tag_base.specs.declared.definition.Base.{Base}
 use Rattle.tag_base.specs.declared.definition.GroupDef.{GroupDef}
 use Rattle.value_rows.specs.Asked.{IsQuery}

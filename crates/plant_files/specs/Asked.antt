@@ -3,12 +3,13 @@ use Rattle.std.specs.Prelude.{◌≡◌, ◌≢◌, ◌⊎◌, ℕ, ◌+◌, ◌
 use Rattle.std.specs.Option.{option_map_or}
 use Rattle.byte_io.specs.Files.{FileTold}
 use Rattle.trend_num.specs.declared.refusal.What.TheVariants.{FileBytes, Queries}
-use Rattle.calc_eval.specs.Group.{Calculation, names_of}
+use Rattle.calc_check.specs.Group.{Calculation, names_of}
 use Rattle.tag_base.specs.declared.definition.Base.{Base}
 use Rattle.tag_base.specs.declared.definition.GroupDef.{GroupDef}
 use Rattle.point_text.specs.declared.failure.RowNo.{RowNo}
 use Rattle.point_text.specs.declared.failure.RowNo.TheVariants as row_no
-use Rattle.value_rows.specs.Asked.{IsTagQuery, last_window, query_rows}
+use Rattle.trend_num.specs.Queries.{IsTagQuery}
+use Rattle.value_rows.specs.Asked.{last_window, query_rows}
 use Rattle.value_rows.specs.declared.asked.GroupNames.{GroupNames}
 use Rattle.value_rows.specs.declared.asked.Query.{Query}
 use Rattle.value_rows.specs.declared.asked.Query.TheVariants.{Tag, Snap, Row}

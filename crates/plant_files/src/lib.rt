@@ -11,8 +11,6 @@ mod names;
 mod plan_file;
 mod queries;
 mod reader_file;
-#[cfg(test)]
-mod tests;
 mod text;
 mod whole;
 

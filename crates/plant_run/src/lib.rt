@@ -9,8 +9,6 @@
 
 mod argument;
 mod command_line;
-#[cfg(test)]
-mod tests;
 mod top_call;
 
 pub use argument::run_args;

@@ -15,14 +15,12 @@ mod file;
 mod mismatch;
 mod pass;
 mod status;
-#[cfg(test)]
-mod tests;
 mod unit;
 mod word;
 
 pub use fault_line::Line;
 pub use file::FileId;
-pub use interp_read::TagQuery;
+pub use trend_num::TagQuery;
 pub use mismatch::{Place, Seen};
 pub use pass::{OpenPass, OpenPasses, Pass, Passes};
 pub use status::{Status, code, line};

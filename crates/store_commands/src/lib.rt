@@ -10,8 +10,6 @@
 mod opened;
 mod replies;
 mod tag_lines;
-#[cfg(test)]
-mod tests;
 
 pub use plant_status::Status;
 pub use replies::trend;

@@ -3,7 +3,7 @@ use Rattle.std.proofs.Common.{◌≡◌, ℕ, ◌+◌, ◌<◌, List, [], ◌∷
 use Rattle.std.proofs.lemmas.List.{drop_more, take_more, map_push, map-append}
 use Rattle.calc_parser.specs.declared.refusal.ParseNo.{ParseNo}
 use Rattle.calc_parser.specs.Formulas.{IsFormula, HasCause}
-use Rattle.calc_eval.specs.Group.{Calculation}
+use Rattle.calc_check.specs.Group.{Calculation}
 use Rattle.tag_base.specs.declared.calculation.CalcText.{CalcText}
 use Rattle.tag_base.specs.declared.refusal.TextNo.{TextNo}
 use Rattle.tag_base.specs.Groups.{CalcForm, text_of, told_of, Define, IsFirstRefused}

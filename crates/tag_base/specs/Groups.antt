@@ -8,7 +8,7 @@ use Rattle.trend_num.specs.declared.tag_def.TagDef.{TagDef}
 use Rattle.calc_parser.specs.declared.refusal.ParseNo.{ParseNo}
 use Rattle.calc_parser.specs.declared.refusal.ParseNo.TheVariants as parse_no
 use Rattle.calc_parser.specs.Formulas.{IsFormula, HasCause, most_bytes}
-use Rattle.calc_eval.specs.Group.{Calculation, Group, fault_of}
+use Rattle.calc_check.specs.Group.{Calculation, Group, fault_of}
 use Rattle.tag_base.specs.declared.calculation.CalcText.{CalcText}
 use Rattle.tag_base.specs.declared.definition.GroupDef.{GroupDef}
 use Rattle.tag_base.specs.declared.group.GroupText.{GroupText}

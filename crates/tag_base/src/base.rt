@@ -1,8 +1,9 @@
 // From bytes to a base.
-ghost use Rattle.std.specs.Prelude.{◌≡◌, ◌≤◌, vec_len, All, IfOk, option_map, length};
+ghost use Rattle.std.specs.Prelude.{◌≡◌, ◌≤◌, false, vec_len, All, Err, IfOk, None, option_map, length};
+ghost use Rattle.std.specs.Str.{is_utf8};
 ghost use Rattle.toml.specs.View.{table_view};
 ghost use Rattle.trend_num.specs.Ranges.{IsTuned};
-ghost use Rattle.tag_base.specs.Answers.{Answers, Reads};
+ghost use Rattle.tag_base.specs.Answers.{Answers, Reads, broken};
 ghost use Rattle.tag_base.specs.Bases.{tables_of, base_arrays, base_tables, BaseRead};
 ghost use Rattle.tag_base.specs.Groups.{IsSound};
 
@@ -51,6 +52,7 @@ fn base_arrays<'t>(alloc: Global, table: &'t Table) -> Result<Option<BaseTables<
 
 /// The tables of the tags and of the groups, of which there are not too many.
 fn base_tables<'t>(alloc: Global, document: &'t Option<Table>) -> Result<BaseTables<'t>, TextNo>
+    ensures none { document.now ≡ None → result ≡ Err (broken 1 0) }
     ensures tables { Answers tables_of result (base_tables (option_map table_view document.now)) }
     ensures few_tags { IfOk result (λ tables. vec_len tables.tags ≤ 1024) }
     ensures few_groups { IfOk result (λ tables. vec_len tables.groups ≤ 16) }
@@ -71,6 +73,9 @@ fn base_tables<'t>(alloc: Global, document: &'t Option<Table>) -> Result<BaseTab
 /// group in turn.
 pub fn read_base(alloc: Global, bytes: &[u8]) -> Result<Base, TextNo>
     ensures base { Reads (λ base. base) result (BaseRead bytes.now) }
+
+    // Bytes that are no text break the first rule, whatever memory there is.
+    ensures no_text { is_utf8 bytes.now ≡ false → result ≡ Err (broken 1 0) }
     ensures sound { IfOk result (λ base. All (IsSound (length base.tags.items)) base.groups.items) }
     ensures tuned { IfOk result (λ base. All (λ tag. IsTuned tag.tuning) base.tags.items) }
 {

@@ -2,13 +2,13 @@
 ghost use Rattle.std.specs.Prelude.{◌≡◌, ◌≢◌, ◌≤◌, [], map, length, vec_len, IfOk, IfErr, IfSome, option_map, bytes_eq};
 ghost use Rattle.std.specs.List.{list_any};
 ghost use Rattle.toml.specs.View.{table_view};
-ghost use Rattle.calc_eval.specs.Group.{calculation};
+ghost use Rattle.calc_check.specs.Group.{calculation};
 ghost use Rattle.tag_base.specs.Answers.{Reads};
 ghost use Rattle.tag_base.specs.Groups.{text_of, told_of, calc_text, calcs_after, calcs_at, Define, IsFirstRefused, CalcsRead};
 
 use crate::access::{has_keys, name_at, string_at, tables_at};
 use crate::refusal::TextNo;
-use calc_eval::{CalcDef, CheckNo, Checked, check};
+use calc_check::{CalcDef, CheckNo, Checked, check};
 use calc_parser::{ParseNo, parse};
 use std::alloc::Global;
 use toml::Table;

@@ -1,7 +1,7 @@
 // What a base is.
 ghost use Rattle.std.specs.Prelude.{◌≤◌, vec_len};
 
-use calc_eval::Checked;
+use calc_check::Checked;
 use trend_num::{Name, TagDef};
 
 /// A group of calculations over tags, whose windows follow one another from a start on.

@@ -1,5 +1,6 @@
 // The document that bytes are.
-ghost use Rattle.std.specs.Prelude.{◌≡◌, IfOk, option_map};
+ghost use Rattle.std.specs.Prelude.{◌≡◌, false, IfOk, None, Ok, option_map};
+ghost use Rattle.std.specs.Str.{is_utf8};
 ghost use Rattle.toml.specs.View.{table_view};
 ghost use Rattle.tag_base.specs.Tables.{document};
 
@@ -11,7 +12,8 @@ use trend_num::WantOfMemory;
 /// nesting.
 #[tactic(auto, using(crate::proofs::Documents::no_document, crate::proofs::Documents::document_of))]
 pub(crate) fn document(alloc: Global, bytes: &[u8]) -> Result<Option<Table>, WantOfMemory>
-    ensures { IfOk result (λ found. option_map table_view found ≡ document bytes.now) }
+    ensures value { IfOk result (λ found. option_map table_view found ≡ document bytes.now) }
+    ensures no_text { is_utf8 bytes.now ≡ false → result ≡ Ok None }
 {
     let Ok(text) = str::from_utf8(bytes) else {
         return Ok(None);

@@ -4,7 +4,7 @@
 //! model is the reading of a text by rules in a fixed order, stated in `specs/` over the document that
 //! `toml` gives: `read_base` and `read_plan` answer what it says, or the first rule that is broken with the
 //! place of its table, or the first count that is above its limit. A formula is read by `calc_parser`, and
-//! the calculations of a group are checked by `calc_eval`.
+//! the calculations of a group are checked by `calc_check`.
 #![tactic(auto)]
 
 mod access;
@@ -19,11 +19,9 @@ mod plan;
 mod refusal;
 mod schedule;
 mod tag;
-#[cfg(test)]
-mod tests;
 
 pub use base::read_base;
-pub use calc_eval::Checked;
+pub use calc_check::Checked;
 pub use definition::{Base, GroupDef};
 pub use file_name::FileName;
 pub use plan::read_plan;

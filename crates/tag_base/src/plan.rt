@@ -1,8 +1,9 @@
 // From bytes to a plan.
-ghost use Rattle.std.specs.Prelude.{◌≡◌, ◌≤◌, ◌<◌, [], map, length, IfOk, option_map, All, vec_len, IfSome};
+ghost use Rattle.std.specs.Prelude.{◌≡◌, ◌≤◌, ◌<◌, [], false, map, length, Err, IfOk, None, option_map, All, vec_len, IfSome};
+ghost use Rattle.std.specs.Str.{is_utf8};
 ghost use Rattle.toml.specs.View.{table_view};
-ghost use Rattle.tag_base.specs.Answers.{Answers};
-ghost use Rattle.tag_base.specs.Plans.{tables_of, plan_arrays, plan_tables, file_of, files_after, is_refreshed, new_group, refresher_of, refreshers_after, plan_parts, plan};
+ghost use Rattle.tag_base.specs.Answers.{Answers, broken};
+ghost use Rattle.tag_base.specs.Plans.{most_files, tables_of, plan_arrays, plan_tables, file_of, files_after, is_refreshed, new_group, refresher_of, refreshers_after, plan_parts, plan};
 
 use crate::access::{has_keys, number_at, string_at, tables_if_there};
 use crate::definition::{Base, GroupDef};
@@ -57,7 +58,10 @@ fn plan_arrays<'t>(alloc: Global, table: &'t Table) -> Result<Option<PlanTables<
 
 /// The tables of the collectors, the readers and the refreshers, of which the first two are not too many.
 fn plan_tables<'t>(alloc: Global, document: &'t Option<Table>) -> Result<PlanTables<'t>, TextNo>
-    ensures { Answers tables_of result (plan_tables (option_map table_view document.now)) }
+    ensures none { document.now ≡ None → result ≡ Err (broken 1 0) }
+    ensures tables { Answers tables_of result (plan_tables (option_map table_view document.now)) }
+    ensures few_collectors { IfOk result (λ tables. vec_len tables.collectors ≤ most_files) }
+    ensures few_readers { IfOk result (λ tables. vec_len tables.readers ≤ most_files) }
 {
     let Some(table) = document else {
         return Err(broken(1, 0));
@@ -89,8 +93,9 @@ fn file_of(alloc: Global, table: &Table) -> Result<Option<FileName>, WantOfMemor
 
 /// The files of tables, or the first table that breaks the rule.
 fn files_of(alloc: Global, rule: u8, tables: &[&Table]) -> Result<Vec<FileName>, TextNo>
-    ensures { Answers (λ files. files.items) result
+    ensures files { Answers (λ files. files.items) result
         (files_after rule [] (map (λ t. table_view t.now) tables.now)) }
+    ensures few { IfOk result (λ files. vec_len files ≤ length tables.now) }
 {
     let mut files = Vec::new(alloc);
     for table in tables {
@@ -171,6 +176,9 @@ fn refreshers_of(
 /// readers, each collector in turn, each reader in turn, each refresher in turn.
 pub fn read_plan(alloc: Global, bytes: &[u8], base: &Base) -> Result<Plan, TextNo>
     ensures plan { Answers plan_parts result (plan base.now.groups.items bytes.now) }
+
+    // Bytes that are no text break the first rule, whatever memory there is.
+    ensures no_text { is_utf8 bytes.now ≡ false → result ≡ Err (broken 1 0) }
     ensures groups { IfOk result (λ plan.
         All (λ r. r.group < vec_len base.now.groups) plan.refreshers.items) }
 {

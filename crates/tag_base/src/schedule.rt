@@ -1,4 +1,6 @@
 // What a plan is.
+ghost use Rattle.std.specs.Prelude.{◌≤◌, vec_len};
+
 use crate::file_name::FileName;
 
 /// How often the calculations of a group are brought up to date.
@@ -16,4 +18,6 @@ pub struct Plan {
     pub collectors: Vec<FileName>,
     pub readers: Vec<FileName>,
     pub refreshers: Vec<Refresher>,
+    ghost few_collectors: { vec_len collectors ≤ 16 },
+    ghost few_readers: { vec_len readers ≤ 16 },
 }

@@ -2,11 +2,11 @@
 use Rattle.std.proofs.Common.{◌≡◌, ℕ, ◌+◌, ◌≤◌, Bool, List, [], ◌∷◌, Option, None, Some, length, refl, sym, ap, ap₂, ◌∙◌, subst, arith, length-append}
 use Rattle.std.specs.Option.{option_or}
 use Rattle.trend_num.specs.declared.point.Point.{Point}
-use Rattle.trend_num.specs.declared.archive.TheConstants.{MAX_RECORDS}
+use Rattle.trend_num.specs.Limits.{most_records}
 use Rattle.trend_num.specs.declared.sending.Sending.{Sending}
 use Rattle.trend_num.specs.declared.tuning.Tuning.{Tuning}
 use Rattle.trend_num.specs.Ranges.{InRange, IsTuned}
-use Rattle.trend_model.specs.History.{Event, Origin, Raw, Sent}
+use Rattle.trend_model.specs.History.{Event, Origin, Raw, Tune, Tuned, Sent}
 use Rattle.trend_model.specs.State.{State, Stands, pushed_out, gained, offered, turned, archive_on, archived, state_with, after_under, after}
 use Rattle.trend_model.specs.Orders.{AllPoints, tuned_by}
 use Rattle.trend_model.proofs.Following.{held_after, held_archived, grows_archived}
@@ -78,6 +78,18 @@ value_turns old new taken then last waiting last_then waiting_then u p first sec
       counted = counted;
     }
 
+-- a gate that is flushed for a retuning turns the parts
+pub tune_turns : (old new : Compressed) (taken then : ℕ) (last waiting last_then waiting_then first : Option Point) (u : Tuning)
+    → first ≡ waiting → new ≡ compressed_after old last (Tuned u ∷ pushed_out first)
+    → last_then ≡ option_or waiting last → waiting_then ≡ None → then ≡ taken + 1
+    → Turns old new taken then last waiting last_then waiting_then (Tune u)
+tune_turns old new taken then last waiting last_then waiting_then first u same compressed lasts waits counted = record {
+  compressed = compressed ∙ ap (λ q. compressed_after old last (Tuned u ∷ pushed_out q)) same;
+  last_is = lasts;
+  pending_is = waits;
+  counted = counted;
+}
+
 -- the state of parts that turned is the state after the event
 pub turned_state : (old new : Compressed) (taken then : ℕ) (last waiting last_then waiting_then : Option Point) (e : Event)
     → Turns old new taken then last waiting last_then waiting_then e
@@ -86,7 +98,7 @@ turned_state old new taken then last waiting last_then waiting_then e t = rw (t.
 
 -- one more event keeps what is true of each core
 core_on : (u : Tuning) (step : Bool) (s : State) (e : Event) → IsCore u step s → AllPoints InRange (e ∷ []) → IsTuned (tuned_by u e)
-    → length s.records + 2 ≤ MAX_RECORDS → IsCore (tuned_by u e) step (after step s e)
+    → length s.records + 2 ≤ most_records → IsCore (tuned_by u e) step (after step s e)
 core_on u step s e core here tuned room = record {
   tuned = subst (λ t. (after_under step s e t).summary.tuning ≡ Some (tuned_by u e)) (sym core.tuned) (ap Some (tuning_is u step s e));
   tuned_ok = tuned;
@@ -97,7 +109,7 @@ core_on u step s e core here tuned room = record {
 -- so it does of the parts
 pub core_turned : (old new : Compressed) (taken then : ℕ) (last waiting last_then waiting_then : Option Point) (e : Event)
     → Turns old new taken then last waiting last_then waiting_then e → IsCore old.tuning old.step (state_of old taken last waiting)
-    → AllPoints InRange (e ∷ []) → IsTuned (tuned_by old.tuning e) → length old.records + 2 ≤ MAX_RECORDS
+    → AllPoints InRange (e ∷ []) → IsTuned (tuned_by old.tuning e) → length old.records + 2 ≤ most_records
     → IsCore new.tuning new.step (state_of new then last_then waiting_then)
 core_turned old new taken then last waiting last_then waiting_then e t core here tuned room =
     let s = state_of old taken last waiting in

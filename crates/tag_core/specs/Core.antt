@@ -1,6 +1,6 @@
 -- What a tag's core shows.
 use Rattle.std.specs.Prelude.{◌≡◌, ℕ, ◌+◌, ◌≤◌, pos, Bool, true, false, cond, List, [], ◌∷◌, Option, None, Some, length}
-use Rattle.trend_num.specs.declared.archive.TheConstants.{MAX_RECORDS}
+use Rattle.trend_num.specs.Limits.{most_records}
 use Rattle.trend_num.specs.declared.point.Point.{Point}
 use Rattle.trend_num.specs.declared.tuning.Tuning.{Tuning}
 use Rattle.trend_num.specs.Ranges.{InRange, IsTuned}
@@ -21,7 +21,7 @@ pub record IsCore (u : Tuning) (step : Bool) (s : State) : Type 0 where
   pub tuned : s.summary.tuning ≡ Some u
   pub tuned_ok : IsTuned u
   pub ruled : IsRuled InRange u step s.records s.summary
-  pub few : length s.records ≤ MAX_RECORDS
+  pub few : length s.records ≤ most_records
 
 -- ---- how many slopes are compared
 

@@ -18,6 +18,3 @@ mod tag;
 pub use restart::parts_ok;
 pub use tag::{Full, TagCore, Took};
 pub use trend_num::{Point, Rec, Steps, Summary, Tuning, WantOfMemory};
-
-#[cfg(test)]
-mod tests;

@@ -8,6 +8,7 @@ ghost use Rattle.trend_num.specs.Ranges.{InRange, IsTuned, largest_value};
 ghost use Rattle.trend_model.specs.Lists.{Each, IfThere};
 ghost use Rattle.trend_model.specs.Parts.{AreDoorsAt, ArePartsOk, BeginsKept, DoorsFit, IsBegun, IsBegunOrBlank, IsBlank, IsLateBefore, PendingFits, PointsRise, kept_points, last_point};
 ghost use Rattle.trend_num.specs.declared.point.Point.{Point};
+ghost use Rattle.trend_num.specs.Limits.{most_records};
 
 use door_slopes::{Doors, same_doors};
 use std::marker::Brand;
@@ -33,7 +34,7 @@ const TAKEN_END: u64 = 1_000_000_000_000_000_000;
 fn counts_ok(recs: &[Rec], summary: &Summary) -> bool
     ensures { IsTrue result ↔ ((summary.now.records ≡ length recs.now)
         × (length recs.now ≤ 2 * summary.now.taken)
-        × (length recs.now ≤ MAX_RECORDS)
+        × (length recs.now ≤ most_records)
         × (summary.now.taken < 10 ^ 18)) }
 {
     recs.len() <= MAX_RECORDS as usize

@@ -1,10 +1,13 @@
 // The core of a tag: the gate before the compressor.
-ghost use Rattle.std.specs.Prelude.{◌≡◌, ◌↔◌, ◌+◌, ◌-◌, ◌*◌, ◌^◌, ◌<◌, ◌≤◌, List, [], ◌∷◌, ◌++◌, IfOk, IfErr, OnOk, OnErr, IsErr, None, Some, length, true, vec_capacity};
+ghost use Rattle.std.specs.Prelude.{◌≡◌, ◌↔◌, ◌+◌, ◌-◌, ◌*◌, ◌^◌, ◌<◌, ◌≤◌, List, [], ◌∷◌, ◌++◌, IfOk, IfErr, OnOk, OnErr, IsErr, All, None, Some, length, true, vec_capacity};
 ghost use Rattle.trend_num.specs.declared.archive.Rec.{Rec};
 ghost use Rattle.trend_num.specs.declared.point.Point.{Point};
 ghost use Rattle.trend_num.specs.declared.tuning.Tuning.{Tuning};
 ghost use Rattle.trend_num.specs.Ranges.{InRange, IsTuned};
+ghost use Rattle.trend_num.specs.Limits.{most_records};
 ghost use Rattle.trend_model.specs.History.{Event, Origin, Raw, Tune};
+ghost use Rattle.trend_model.specs.Contents.{IsNotBefore, listed};
+ghost use Rattle.trend_model.specs.Lists.{IfThere};
 ghost use Rattle.trend_model.specs.Parts.{ArePartsOk};
 ghost use Rattle.trend_model.specs.State.{Stands, after, nothing_taken};
 ghost use Rattle.tag_core.specs.Compressed.{HangAt, lower_of, upper_of};
@@ -50,7 +53,7 @@ pub struct Took {
     pub added: u8,
 }
 
-/// A tag whose records one more event could bring above `MAX_RECORDS`.
+/// A tag whose records one more event could bring above [`MAX_RECORDS`](trend_num::MAX_RECORDS).
 #[derive(Clone, Copy, Debug, PartialEq, Eq)]
 pub struct Full {
     /// How many records it has.
@@ -174,7 +177,7 @@ impl TagCore {
         ensures room { self.new.spare + length self.new.state.records ≡ self.old.spare + length self.old.state.records }
 
         // Refused, and unchanged, exactly where two more records would be too many.
-        ensures full { IsErr result ↔ (MAX_RECORDS < length self.old.state.records + 2) }
+        ensures full { IsErr result ↔ (most_records < length self.old.state.records + 2) }
         ensures full_records { IfErr result (λ full. full.records ≡ length self.old.state.records) }
         ensures unchanged { OnErr result (self.new ≡ self.old) }
         ensures uncounted { OnErr result (steps.new ≡ steps.old) }
@@ -216,7 +219,7 @@ impl TagCore {
         ensures room { self.new.spare + length self.new.state.records ≡ self.old.spare + length self.old.state.records }
 
         // Refused, and unchanged, exactly where two more records would be too many.
-        ensures full { IsErr result ↔ (MAX_RECORDS < length self.old.state.records + 2) }
+        ensures full { IsErr result ↔ (most_records < length self.old.state.records + 2) }
         ensures full_records { IfErr result (λ full. full.records ≡ length self.old.state.records) }
         ensures unchanged { OnErr result (self.new ≡ self.old) }
         ensures uncounted { OnErr result (steps.new ≡ steps.old) }
@@ -229,12 +232,9 @@ impl TagCore {
         ensures none_waits { self.old.state.summary.pending ≡ None → steps.new ≡ steps.old }
     {
         let records = self.records_unless_full()?;
-        let Gate { last, pending } = self.gate;
-        self.compressor.retune(last, pending, tuning, steps);
-        self.gate = Gate {
-            last: pending.or(last),
-            pending: None,
-        };
+        let held = self.gate.last;
+        let waiting = self.gate.flush();
+        self.compressor.retune(held, waiting, tuning, steps);
         Ok(counted(&mut self.taken, records, self.compressor.recs()))
     }
 
@@ -242,8 +242,8 @@ impl TagCore {
     #[inline(always)]
     fn records_unless_full(&self) -> Result<u32, Full>
         ensures value { IfOk result (λ n. n ≡ length self.now.state.records) }
-        ensures room { OnOk result (length self.now.state.records + 2 ≤ MAX_RECORDS) }
-        ensures full { IsErr result ↔ (MAX_RECORDS < length self.now.state.records + 2) }
+        ensures room { OnOk result (length self.now.state.records + 2 ≤ most_records) }
+        ensures full { IsErr result ↔ (most_records < length self.now.state.records + 2) }
         ensures full_records { IfErr result (λ full. full.records ≡ length self.now.state.records) }
     {
         let records = self.record_count();
@@ -255,9 +255,9 @@ impl TagCore {
 
     /// How many records there are.
     #[inline]
-    fn record_count(&self) -> u32
+    pub fn record_count(&self) -> u32
         ensures value { result ≡ length self.now.state.records }
-        ensures few { result ≤ MAX_RECORDS }
+        ensures few { result ≤ most_records }
     {
         self.compressor.recs().len() as u32
     }
@@ -288,7 +288,8 @@ impl TagCore {
     /// The records, the oldest first.
     #[inline]
     pub fn recs(&self) -> &[Rec]
-        ensures { result.now ≡ self.now.state.records }
+        ensures value { result.now ≡ self.now.state.records }
+        ensures range { All (λ r. InRange r.point) result.now }
     {
         self.compressor.recs()
     }
@@ -296,7 +297,11 @@ impl TagCore {
     /// The last value sent in order, which closes the line.
     #[inline]
     pub fn held(&self) -> Option<Point>
-        ensures { result ≡ self.now.state.summary.held }
+        ensures value { result ≡ self.now.state.summary.held }
+        ensures range { IfThere InRange result }
+
+        // No record is after it.
+        ensures last { IfThere (IsNotBefore (listed self.now.state.records)) result }
     {
         self.gate.last
     }

@@ -12,8 +12,6 @@
 mod device;
 mod line;
 mod opening;
-#[cfg(test)]
-mod tests;
 
 pub use line::check_text;
 pub use opening::{MAX_STORE_RECORDS, open_tags};

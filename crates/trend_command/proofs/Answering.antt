@@ -1,33 +1,45 @@
 -- What a tag answers.
-use Rattle.std.proofs.Common.{◌≡◌, ℕ, ◌<◌, Bool, List, [], Option, All, length, get_or, refl, ap}
+use Rattle.std.proofs.Common.{◌≡◌, ℕ, ◌<◌, Bool, List, [], Option, length, get_or, nat_lt, refl, ap, ap₂, arith}
+use Rattle.std.specs.Prelude.{◌↔◌, IsTrue}
 use Rattle.std.specs.Option.{option_map_or}
+use Rattle.std.proofs.lemmas.Bool.Decides.{nat_tests}
 use Rattle.std.proofs.lemmas.Option.{slice_get_read}
-use Rattle.trend_num.specs.declared.archive.Rec.{Rec}
-use Rattle.trend_num.specs.declared.point.Point.{Point}
-use Rattle.trend_num.specs.Ranges.{InRange}
-use Rattle.trend_model.specs.Contents.{IsRising, points_of}
-use Rattle.trend_model.specs.Lists.{IfThere}
-use Rattle.trend_model.specs.Reads.{read_at}
-use Rattle.trend_model.proofs.ReadLaw.{points_rise}
-use Rattle.interp_read.specs.declared.query.TagQuery.{TagQuery}
-use Rattle.interp_read.specs.Closing.{IsNotBefore, points_closed_by}
-use Rattle.interp_read.proofs.ClosedPoints.{closed, closed_in_range, closed_rise}
-use Rattle.weighted_total.specs.Readable.{IsReadable}
-use Rattle.weighted_total.proofs.Readable.{readable}
+use Rattle.trend_num.specs.Limits.{most_listed}
+use Rattle.trend_num.specs.declared.query.TagQuery.{TagQuery}
+use Rattle.trend_num.specs.declared.query.TagQuery.TheVariants as ask
+use Rattle.trend_model.specs.Reads.{points_from_to}
+use Rattle.interp_read.specs.declared.query.Reply.{Reply}
+use Rattle.interp_read.specs.declared.query.Reply.TheVariants.{At, Points, Window}
+use Rattle.interp_read.specs.Replies.{Answers, IsReadableReply}
 use Rattle.value_rows.specs.declared.asked.Query.TheVariants.{Tag, Snap}
 use Rattle.tag_core.specs.Core.{Core}
-use Rattle.trend_command.specs.Told.{answer_in, snapshot_in, told}
+use Rattle.trend_report.specs.Lines.{HasText, answer_text, number_text, points_text, reading_text}
+use Rattle.trend_report.specs.declared.reply_line.ReplyText.TheVariants as reply_to
+use Rattle.trend_command.specs.Told.{answer_in, points_in, snapshot_in, told}
 
--- what a closed content reads as has a text
-pub closed_readable : (step : Bool) (held : Option Point) (l : List Rec) (t : ℕ) → IsRising l
-    → All InRange (points_of l) → IfThere InRange held → IfThere (IsNotBefore l) held
-    → IsReadable (read_at step (points_closed_by held l) t)
-closed_readable step held l t rises each range last =
-    let cs = points_closed_by held l in
-    let closing = closed held l rises last in
-    let own = points_rise l rises in
-    let rising = closed_rise cs (points_of l) closing.more own closing.whole closing.later in
-    readable step cs t rising (closed_in_range held cs (points_of l) closing range each)
+-- an answer is printed as what a tag answers
+pub answer_told : (core : Core) (query : TagQuery) (reply : Reply) → Answers core.step (points_in core) query reply
+    → answer_text reply ≡ answer_in core query
+answer_told core (ask.At t) (At r) is = ap reading_text is
+answer_told core (ask.Points start end) (Points l) is =
+    let ps = points_from_to (points_in core) start end in
+    ap₂ points_text is.list (told_more l.more (length ps) is.more)
+  where
+    told_more : (b : Bool) (n : ℕ) → (IsTrue b ↔ (most_listed < n)) → b ≡ nat_lt most_listed n
+    told_more b n more = grind (arith, nat_tests)
+answer_told core (ask.Window m start end) (Window v) is = ap number_text is
+answer_told core (ask.At t) (Points l) is = absurd is
+answer_told core (ask.At t) (Window v) is = absurd is
+answer_told core (ask.Points start end) (At r) is = absurd is
+answer_told core (ask.Points start end) (Window v) is = absurd is
+answer_told core (ask.Window m start end) (At r) is = absurd is
+answer_told core (ask.Window m start end) (Points l) is = absurd is
+
+-- and has a text
+pub answer_texts : (reply : Reply) → IsReadableReply reply → HasText (reply_to.Tag reply)
+answer_texts (At r) is = is
+answer_texts (Points l) is = tt
+answer_texts (Window v) is = tt
 
 -- the tag at a place answers
 pub tag_told : (cores : List Core) (i : ℕ) (core : Core) (query : TagQuery) → i < length cores

@@ -1,4 +1,3 @@
-pub mod Held
 pub mod Listing
 pub mod Answering
 pub mod Numbering

@@ -7,12 +7,12 @@ use Rattle.trend_model.specs.Contents.{closed_points}
 use Rattle.trend_model.specs.Reads.{points_from_to, read_at}
 use Rattle.trend_model.specs.Windows.{window_value}
 use Rattle.tag_core.specs.Core.{Core}
-use Rattle.interp_read.specs.declared.list.TheConstants.{MOST_LISTED}
-use Rattle.interp_read.specs.declared.query.TagQuery.{TagQuery}
-use Rattle.interp_read.specs.declared.query.TagQuery.TheVariants.{At, Points, Window}
+use Rattle.trend_num.specs.Limits.{most_listed}
+use Rattle.trend_num.specs.declared.query.TagQuery.{TagQuery}
+use Rattle.trend_num.specs.declared.query.TagQuery.TheVariants.{At, Points, Window}
 use Rattle.value_rows.specs.declared.asked.Query.{Query}
 use Rattle.value_rows.specs.declared.asked.Query.TheVariants.{Tag, Snap, Row}
-use Rattle.value_rows.specs.Asked.{IsTagQuery}
+use Rattle.trend_num.specs.Queries.{IsTagQuery}
 use Rattle.trend_report.specs.Lines.{held_text, number_text, points_text, reading_text}
 
 -- ---- one tag
@@ -23,7 +23,7 @@ points_in core = closed_points core.state.records core.state.summary.held
 
 -- the first of some points, and whether there are others
 abbrev pub first_points_text : List Point → List ℕ
-first_points_text ps = points_text (take MOST_LISTED ps) (nat_lt MOST_LISTED (length ps))
+first_points_text ps = points_text (take most_listed ps) (nat_lt most_listed (length ps))
 
 -- what a tag answers to a question
 abbrev pub answer_in : Core → TagQuery → List ℕ

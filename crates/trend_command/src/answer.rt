@@ -1,26 +1,20 @@
 // The answer to a query.
-ghost use Rattle.std.specs.Prelude.{◌≡◌, ◌<◌, ◌≤◌, IfOk, length};
-ghost use Rattle.trend_num.specs.Ranges.{InRange, last_time};
+ghost use Rattle.std.specs.Prelude.{◌≡◌, IfOk, length};
+ghost use Rattle.trend_num.specs.Queries.{IsTagQuery};
 ghost use Rattle.trend_model.specs.Contents.{listed};
-ghost use Rattle.trend_model.specs.Lists.{IfThere};
-ghost use Rattle.trend_model.specs.Reads.{read_at};
-ghost use Rattle.trend_model.specs.Windows.{window_value};
-ghost use Rattle.interp_read.specs.Closing.{IsNotBefore, points_closed_by};
-ghost use Rattle.weighted_total.specs.Readable.{IsReadable};
-ghost use Rattle.value_rows.specs.Asked.{IsTagQuery};
 ghost use Rattle.trend_report.specs.Lines.{HasText, answer_text, told_text};
 ghost use Rattle.trend_report.specs.declared.reply_line.ReplyText.TheVariants.{Tag};
 ghost use Rattle.trend_command.specs.Contents.{AreContentsOf};
 ghost use Rattle.trend_command.specs.Told.{IsAsked, answer_in, told};
 
-use interp_read::{Reading, Reply, TagQuery, at, at_step, points};
+use interp_read::{Reply, TagQuery};
 use late_insert::Content;
 use std::alloc::Global;
 use tag_core::TagCore;
-use trend_num::{Measure, Point, Snap, WantOfMemory};
+use trend_num::{Snap, WantOfMemory};
 use trend_report::ReplyText;
 use value_rows::Query;
-use weighted_total::{window, window_step};
+use weighted_total::answer;
 
 /// The answer to a query of one of these tags.
 pub(crate) fn reply_to(
@@ -37,7 +31,7 @@ pub(crate) fn reply_to(
     match query {
         Query::Tag { tag, query } => {
             let place = tag as usize;
-            let reply = answer(alloc, &cores[place], &contents[place], query)?;
+            let reply = answer_of(alloc, &cores[place], &contents[place], query)?;
             Ok(ReplyText::Tag(reply))
         }
         Query::Snap { tag } => Ok(ReplyText::Snap(snapshot(&cores[tag as usize]))),
@@ -57,7 +51,8 @@ fn snapshot(core: &TagCore) -> Snap
 }
 
 /// What a tag answers to a question.
-fn answer(
+#[tactic(auto, using(crate::proofs::Answering::answer_texts, crate::proofs::Answering::answer_told))]
+fn answer_of(
     alloc: Global,
     core: &TagCore,
     content: &Content,
@@ -68,64 +63,5 @@ fn answer(
     ensures has_text { IfOk result (λ reply. HasText (Tag reply)) }
     ensures told { IfOk result (λ reply. answer_text reply ≡ answer_in core.now query) }
 {
-    let held = held_of(core, content);
-    let step = core.step();
-    match query {
-        TagQuery::At { t } => Ok(Reply::At(reading(content, held, step, t))),
-        TagQuery::Points { from, to } => {
-            let list = points(alloc, content, held, from, to)?;
-            Ok(Reply::Points(list))
-        }
-        TagQuery::Window { measure, from, to } => {
-            let value = measured(content, held, step, measure, from, to);
-            Ok(Reply::Window(value))
-        }
-    }
-}
-
-/// The held point of a tag. None of its records is after it.
-fn held_of(core: &TagCore, content: &Content) -> Option<Point>
-    requires { content.now.records ≡ listed core.now.state.records }
-    ensures value { result ≡ core.now.state.summary.held }
-    ensures range { IfThere InRange result }
-    ensures last { IfThere (IsNotBefore content.now.records) result }
-{
-    core.summary().held
-}
-
-/// What a line or a stair reads at t.
-fn reading(content: &Content, held: Option<Point>, step: bool, t: u64) -> Reading
-    requires range { IfThere InRange held }
-    requires last { IfThere (IsNotBefore content.now.records) held }
-    ensures value { result ≡ read_at step (points_closed_by held content.now.records) t }
-    ensures readable { IsReadable result }
-{
-    let _len = content.len();
-    if step {
-        at_step(content, held, t)
-    } else {
-        at(content, held, t)
-    }
-}
-
-/// A measure of a window of a line or a stair.
-fn measured(
-    content: &Content,
-    held: Option<Point>,
-    step: bool,
-    measure: Measure,
-    from: u64,
-    to: u64,
-) -> Option<i128>
-    requires range { IfThere InRange held }
-    requires last { IfThere (IsNotBefore content.now.records) held }
-    requires order { from < to }
-    requires reach { to ≤ last_time }
-    ensures { result ≡ window_value step measure (points_closed_by held content.now.records) from to }
-{
-    if step {
-        window_step(content, held, measure, from, to)
-    } else {
-        window(content, held, measure, from, to)
-    }
+    answer(alloc, content, core.held(), core.step(), query)
 }

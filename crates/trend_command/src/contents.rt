@@ -24,6 +24,5 @@ pub(crate) fn contents_of(alloc: Global, cores: &[TagCore]) -> Result<Vec<Conten
 fn content_of(alloc: Global, core: &TagCore) -> Result<Content, WantOfMemory>
     ensures { IfOk result (λ content. content.records ≡ listed core.now.state.records) }
 {
-    let _summary = core.summary();
-    Content::from_records(alloc, core.recs())
+    Content::from_records(alloc, core.recs(), 0)
 }

@@ -10,8 +10,6 @@
 mod answer;
 mod contents;
 mod replies;
-#[cfg(test)]
-mod tests;
 
 pub use replies::trend_text;
 pub use tag_core::TagCore;

@@ -1,6 +1,6 @@
 -- What stands for a history keeps the rules of records and summaries.
 use Rattle.std.proofs.Common.{◌≡◌, ℕ, ◌^◌, ◌<◌, ◌≤◌, inl, inr, Bool, true, false, List, [], ◌∷◌, ◌++◌, length, Option, None, Some, refl, sym, ap, ◌∙◌, subst, arith, append_assoc, append-nil}
-use Rattle.trend_num.specs.declared.archive.TheConstants.{MAX_RECORDS}
+use Rattle.trend_num.specs.Limits.{most_records}
 use Rattle.trend_num.specs.declared.point.Point.{Point}
 use Rattle.trend_num.specs.declared.archive.Rec.{Rec}
 use Rattle.trend_num.specs.declared.tuning.Tuning.{Tuning}
@@ -9,7 +9,7 @@ use Rattle.trend_model.specs.Doors.{AreAfter}
 use Rattle.trend_model.specs.Lists.{IsAmong, Each, IfThere}
 use Rattle.trend_model.specs.History.{Event, Raw, Tune, Origin, Sent, InOrder, in_force, pending, sent}
 use Rattle.trend_model.specs.Walk.{walked, last_of, records, hinge, since, held}
-use Rattle.trend_model.specs.State.{State, nothing_taken, after, AreDoorsFor, DoorsStand, Stands}
+use Rattle.trend_model.specs.State.{State, nothing_taken, after, AreDoorsFor, DoorsStand, Stands, StandsAsStored, IsNeverRetuned, with_made}
 use Rattle.trend_model.specs.Parts.{kept_points, PointsRise, last_point, AreFitDoors, DoorsFit, PendingFits, IsBegunOrBlank, IsRuled, ArePartsOk}
 use Rattle.trend_model.specs.Orders.{AllPoints, tuned_by}
 use Rattle.trend_model.proofs.Doors.{under_of_within, over_of_within}
@@ -68,7 +68,7 @@ state_ruled P o (e ∷ h) each =
 -- ---- plain laws
 
 -- every point has a property of no content
-all_points : (h : List Event) → AllPoints (λ p. Unit {0}) h
+pub all_points : (h : List Event) → AllPoints (λ p. Unit {0}) h
 all_points [] = tt
 all_points (Raw p ∷ h) = (tt, all_points h)
 all_points (Tune u ∷ h) = all_points h
@@ -302,10 +302,35 @@ history_ruled P o h s each stands =
 
 -- and is a tag's, where its points are in range and there are not too many of anything
 pub history_parts : (o : Origin) (h : List Event) (s : State) → AllPoints InRange h → length h < 10 ^ 18
-    → length s.records ≤ MAX_RECORDS → Stands o h s → ArePartsOk (in_force o h) o.step s.records s.summary
+    → length s.records ≤ most_records → Stands o h s → ArePartsOk (in_force o h) o.step s.records s.summary
 history_parts o h s each short few stands = record {
   ruled = history_ruled InRange o h s each stands;
   few = few;
   countable = subst (λ n. n < 10 ^ 18) (sym stands.taken) short;
   same_tuning = subst (IfThere (λ t. t ≡ in_force o h)) (sym stands.tuned) refl;
 }
+
+-- so is what was kept without its tuning
+pub stored_parts : (o : Origin) (h : List Event) (s : State) → AllPoints InRange h → length h < 10 ^ 18
+    → length s.records ≤ most_records → StandsAsStored o h s
+    → ArePartsOk (in_force o h) o.step s.records s.summary
+stored_parts o h s each short few (inl stands) = history_parts o h s each short few stands
+stored_parts o h s each short few (inr stands) =
+    let parts = history_parts o h (with_made o s) each short few stands.stands in
+    record {
+      ruled = record {
+        counted = parts.ruled.counted;
+        at_most_two = parts.ruled.at_most_two;
+        whole = parts.ruled.whole;
+        waits = parts.ruled.waits;
+        records_are = parts.ruled.records_are;
+        held_is = parts.ruled.held_is;
+        pending_is = parts.ruled.pending_is;
+        hinge_is = parts.ruled.hinge_is;
+        upper_is = parts.ruled.upper_is;
+        lower_is = parts.ruled.lower_is;
+      };
+      few = parts.few;
+      countable = parts.countable;
+      same_tuning = subst (IfThere (λ t. t ≡ in_force o h)) (sym stands.untuned) tt;
+    }

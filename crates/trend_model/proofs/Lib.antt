@@ -19,6 +19,7 @@ pub mod Placing
 pub mod ContentList
 pub mod Rounding
 pub mod ReadLaw
+pub mod Held
 pub mod RawLaw
 pub mod BoundLaw
 pub mod PlainLaws

@@ -1,7 +1,7 @@
 -- One more event keeps the rules of records and summaries, whatever state it comes to, and whatever its points have.
 use Rattle.std.proofs.Common.{◌≡◌, ℕ, ◌+◌, ◌*◌, ◌^◌, ◌<◌, ◌≤◌, Bool, true, false, List, [], ◌∷◌, ◌++◌, length, Option, None, Some, nat_le, refl, sym, ap, ◌∙◌, subst, arith, length-append}
 use Rattle.std.proofs.lemmas.Bool.Decides.{nat_tests}
-use Rattle.trend_num.specs.declared.archive.TheConstants.{MAX_RECORDS}
+use Rattle.trend_num.specs.Limits.{most_records}
 use Rattle.trend_num.specs.declared.point.Point.{Point}
 use Rattle.trend_num.specs.declared.archive.Rec.{Rec}
 use Rattle.trend_num.specs.declared.sending.Sending.{Sending}
@@ -255,7 +255,7 @@ after_ruled P u step s e ruled tuned here =
 -- and parts that are ok
 under_parts : (u : Tuning) (step : Bool) (s : State) (e : Event) → ArePartsOk u step s.records s.summary
     → AllPoints InRange (e ∷ [])
-    → s.summary.taken + 1 < 10 ^ 18 → length (after_under step s e (Some u)).records ≤ MAX_RECORDS
+    → s.summary.taken + 1 < 10 ^ 18 → length (after_under step s e (Some u)).records ≤ most_records
     → ArePartsOk (tuned_by u e) step (after_under step s e (Some u)).records
     (after_under step s e (Some u)).summary
 under_parts u step s e parts here countable few = record {
@@ -268,10 +268,10 @@ under_parts u step s e parts here countable few = record {
 -- one event keeps parts that are ok, where there are not too many of anything
 pub after_parts : (u : Tuning) (step : Bool) (s : State) (e : Event) → s.summary.tuning ≡ Some u
     → ArePartsOk u step s.records s.summary
-    → AllPoints InRange (e ∷ []) → length (after step s e).records ≤ MAX_RECORDS → s.summary.taken + 1 < 10 ^ 18
+    → AllPoints InRange (e ∷ []) → length (after step s e).records ≤ most_records → s.summary.taken + 1 < 10 ^ 18
     → ArePartsOk (tuned_by u e) step (after step s e).records (after step s e).summary
 after_parts u step s e tuned parts here few countable =
-    subst (λ t. length (after_under step s e t).records ≤ MAX_RECORDS
+    subst (λ t. length (after_under step s e t).records ≤ most_records
     → ArePartsOk (tuned_by u e) step (after_under step s e t).records
     (after_under step s e t).summary) (sym tuned)
     (under_parts u step s e parts here countable) few

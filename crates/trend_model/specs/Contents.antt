@@ -48,6 +48,10 @@ abbrev pub closed_by : Option Point → List Rec → List Rec
 closed_by None l = l
 closed_by (Some q) l = cond (is_some (content_at l q.t)) l (placed (kept q) l)
 
+-- no record is after q
+abbrev pub IsNotBefore : List Rec → Point → Type 0
+IsNotBefore l q = All (λ r. r.point.t ≤ q.t) l
+
 -- the points of a content
 abbrev pub points_of : List Rec → List Point
 points_of l = map (λ r. r.point) l

@@ -1,6 +1,6 @@
 -- Which records and which summary can be those of a tag.
 use Rattle.std.specs.Prelude.{◌≡◌, ℕ, ◌+◌, ◌*◌, ◌^◌, ◌<◌, ◌≤◌, ◌-ℤ◌, pos, Bool, true, false, cond, List, [], ◌∷◌, length, Option, None, Some, unsigned_abs}
-use Rattle.trend_num.specs.declared.archive.TheConstants.{MAX_RECORDS}
+use Rattle.trend_num.specs.Limits.{most_records}
 use Rattle.trend_num.specs.declared.point.Point.{Point}
 use Rattle.trend_num.specs.declared.archive.Rec.{Rec}
 use Rattle.trend_num.specs.declared.archive.Summary.{Summary}
@@ -105,6 +105,6 @@ pub record IsRuled (P : Point → Type 0) (u : Tuning) (step : Bool) (rs : List 
 -- range, and there are not too many of anything; a summary that was written without its tuning may be any
 pub record ArePartsOk (u : Tuning) (step : Bool) (rs : List Rec) (s : Summary) : Type 0 where
   pub ruled : IsRuled InRange u step rs s
-  pub few : length rs ≤ MAX_RECORDS
+  pub few : length rs ≤ most_records
   pub countable : s.taken < 10 ^ 18
   pub same_tuning : IfThere (λ t. t ≡ u) s.tuning

@@ -1,6 +1,6 @@
 -- The state that a tag keeps, and what one more event makes of it: the rules in the words of the exception test's two
 -- places, its last and its pending value, and of two doors. That this follows the definitions over histories is a law.
-use Rattle.std.specs.Prelude.{◌≡◌, ℕ, ◌+◌, ◌&&◌, Bool, true, false, cond, List, [], ◌∷◌, ◌++◌, length, Option, None, Some, nat_le}
+use Rattle.std.specs.Prelude.{◌≡◌, ◌⊎◌, ℕ, ◌+◌, ◌&&◌, Bool, true, false, cond, List, [], ◌∷◌, ◌++◌, length, Option, None, Some, nat_le}
 use Rattle.std.specs.Option.{option_or}
 use Rattle.trend_num.specs.declared.point.Point.{Point}
 use Rattle.trend_num.specs.declared.archive.Rec.{Rec}
@@ -210,3 +210,25 @@ pub record Stands (o : Origin) (h : List Event) (s : State) : Type 0 where
   pub same_pending : s.summary.pending ≡ pending o h
   pub same_hinge : s.summary.hinge ≡ hinge o h
   pub doors : DoorsStand o.step (in_force o h).comp_dev (hinge o h) (since o h) s.summary.upper s.summary.lower
+
+-- ---- a state as a device may keep it
+
+-- nothing of the history is a retuning
+abbrev pub IsNeverRetuned : List Event → Type 0
+IsNeverRetuned [] = Unit {0}
+IsNeverRetuned (Raw p ∷ h) = IsNeverRetuned h
+IsNeverRetuned (Tune u ∷ h) = ⊥
+
+-- a state with the tuning with which a tag of this origin was made
+abbrev pub with_made : Origin → State → State
+with_made o s = record s { summary = record s.summary { tuning = Some o.tuning } }
+
+-- a state that was written before tags could be retuned: it has no tuning, and stands where nothing was retuned
+pub record StandsUntuned (o : Origin) (h : List Event) (s : State) : Type 0 where
+  pub untuned : s.summary.tuning ≡ None
+  pub never : IsNeverRetuned h
+  pub stands : Stands o h (with_made o s)
+
+-- records and a summary stand for a history, with the tuning in force or, where nothing was retuned, with none
+abbrev pub StandsAsStored : Origin → List Event → State → Type 0
+StandsAsStored o h s = Stands o h s ⊎ StandsUntuned o h s

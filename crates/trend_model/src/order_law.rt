@@ -1,14 +1,16 @@
 // Laws that tie the definitions to plain words.
-ghost use Rattle.std.specs.Prelude.{◌≡◌, ◌≤◌, ◌++◌, List, map};
+ghost use Rattle.std.specs.Prelude.{◌≡◌, ◌≤◌, ◌++◌, Bool, List, map};
 ghost use Rattle.trend_num.specs.declared.point.Point.{Point};
 ghost use Rattle.trend_num.specs.declared.archive.Rec.{Rec};
+ghost use Rattle.trend_num.specs.declared.archive.Summary.{Summary};
 ghost use Rattle.trend_num.specs.declared.tuning.Tuning.{Tuning};
-ghost use Rattle.trend_model.specs.Lists.{Each};
+ghost use Rattle.trend_model.specs.Lists.{Each, IfThere};
 ghost use Rattle.trend_model.specs.History.{Event, Origin, IsInOrder, last_in_order, prior, sent, tuning_at};
 ghost use Rattle.trend_model.specs.Walk.{held, hinge, passed, records};
 ghost use Rattle.trend_model.specs.Content.{IsCleanSpan};
+ghost use Rattle.trend_model.specs.Contents.{IsNotBefore, listed};
 ghost use Rattle.trend_model.specs.Bound.{IsNear};
-ghost use Rattle.trend_model.specs.Parts.{PointsRise, kept_points, last_point};
+ghost use Rattle.trend_model.specs.Parts.{ArePartsOk, PointsRise, kept_points, last_point};
 ghost use Rattle.trend_model.specs.Orders.{AllInOrder, RisesInTime, sent_plainly, tunings};
 
 /// The value that the exception test compares with is the last one marked in order among what was sent.
@@ -30,6 +32,13 @@ pub fn sent_in_order_rises()
 pub fn kept_points_rise()
     ensures rise { (o : Origin) (h : List Event) → PointsRise (kept_points (records o h)) }
     ensures last { (o : Origin) (h : List Event) → hinge o h ≡ last_point (kept_points (records o h)) }
+{}
+
+/// No record is after the held point: of a history, and of any parts that can be a tag's.
+pub fn held_is_last()
+    ensures of_history { (o : Origin) (h : List Event) → IfThere (IsNotBefore (listed (records o h))) (held o h) }
+    ensures of_parts { (u : Tuning) (step : Bool) (rs : List Rec) (s : Summary) → ArePartsOk u step rs s
+        → IfThere (IsNotBefore (listed rs)) s.held }
 {}
 
 /// The records of a prefix of a history are a prefix of its records.

@@ -1,11 +1,11 @@
 // Laws of one more event, and of records and summaries.
 ghost use Rattle.std.specs.Prelude.{◌≡◌, ◌+◌, ◌^◌, ◌<◌, ◌≤◌, Bool, Some, [], ◌∷◌, List, length};
-ghost use Rattle.trend_num.specs.declared.archive.TheConstants.{MAX_RECORDS};
+ghost use Rattle.trend_num.specs.Limits.{most_records};
 ghost use Rattle.trend_num.specs.declared.tuning.Tuning.{Tuning};
 ghost use Rattle.trend_num.specs.Ranges.{InRange};
 ghost use Rattle.trend_model.specs.History.{Event, Origin, in_force};
 ghost use Rattle.trend_model.specs.Parts.{ArePartsOk};
-ghost use Rattle.trend_model.specs.State.{Stands, State, after, followed, nothing_taken, replay};
+ghost use Rattle.trend_model.specs.State.{Stands, StandsAsStored, State, after, followed, nothing_taken, replay};
 ghost use Rattle.trend_model.specs.Orders.{AllPoints, tuned_by};
 
 /// What stands for a history goes by one more event to what stands for the history and that event, and by any list of
@@ -23,13 +23,14 @@ pub fn after_stands()
 pub fn after_keeps_parts()
     ensures { (u : Tuning) (step : Bool) (s : State) (e : Event) → s.summary.tuning ≡ Some u
         → ArePartsOk u step s.records s.summary → AllPoints InRange (e ∷ [])
-        → length (after step s e).records ≤ MAX_RECORDS → s.summary.taken + 1 < 10 ^ 18
+        → length (after step s e).records ≤ most_records → s.summary.taken + 1 < 10 ^ 18
         → ArePartsOk (tuned_by u e) step (after step s e).records (after step s e).summary }
 {}
 
 /// What stands for a history of values in range meets the rules of records and summaries, where there are not too many of
-/// either.
+/// either; so does a summary without a tuning, where nothing was retuned.
 pub fn history_parts_are_ok()
     ensures { (o : Origin) (h : List Event) (s : State) → AllPoints InRange h → length h < 10 ^ 18
-        → length s.records ≤ MAX_RECORDS → Stands o h s → ArePartsOk (in_force o h) o.step s.records s.summary }
+        → length s.records ≤ most_records → StandsAsStored o h s
+        → ArePartsOk (in_force o h) o.step s.records s.summary }
 {}

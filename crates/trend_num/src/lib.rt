@@ -14,14 +14,14 @@ mod fraction;
 mod measure;
 mod name;
 mod point;
+mod query;
 mod reading;
 mod refusal;
 mod sending;
 mod slope;
 mod tag_def;
-#[cfg(test)]
-mod tests;
 mod tuning;
+mod value;
 
 pub use archive::{Kind, MAX_RECORDS, Rec, Snap, Summary};
 pub use counter::Steps;
@@ -31,9 +31,11 @@ pub use fraction::{Frac, line_at, round_half_up};
 pub use measure::Measure;
 pub use name::{Name, name_from};
 pub use point::{MAX_T, MAX_V, Point, in_range};
+pub use query::TagQuery;
 pub use reading::Reading;
 pub use refusal::{Reason, WantOfMemory, What};
 pub use sending::Sending;
 pub use slope::{deviates, slope_cmp};
 pub use tag_def::TagDef;
 pub use tuning::{MAX_DEV, Tuning, tuning_ok};
+pub use value::{Bad, CalcValue};

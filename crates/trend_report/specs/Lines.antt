@@ -8,11 +8,11 @@ use Rattle.trend_num.specs.declared.reading.Reading.TheVariants.{Exact, Line, Fl
 use Rattle.trend_model.specs.Reads.{rounded}
 use Rattle.interp_read.specs.declared.query.Reply.{Reply}
 use Rattle.interp_read.specs.declared.query.Reply.TheVariants.{At, Points, Window}
-use Rattle.weighted_total.specs.Readable.{IsReadable}
-use Rattle.calc_eval.specs.declared.value.Bad.{Bad as Cause}
-use Rattle.calc_eval.specs.declared.value.Bad.TheVariants.{NoData, DivZero, Range}
-use Rattle.calc_eval.specs.declared.value.CalcValue.{CalcValue}
-use Rattle.calc_eval.specs.declared.value.CalcValue.TheVariants.{Num, Bad}
+use Rattle.interp_read.specs.Readable.{IsReadable}
+use Rattle.trend_num.specs.declared.value.Bad.{Bad as Cause}
+use Rattle.trend_num.specs.declared.value.Bad.TheVariants.{NoData, DivZero, Range}
+use Rattle.trend_num.specs.declared.value.CalcValue.{CalcValue}
+use Rattle.trend_num.specs.declared.value.CalcValue.TheVariants.{Num, Bad}
 use Rattle.trend_report.specs.declared.tag_line.TagLine.{TagLine}
 use Rattle.trend_report.specs.declared.reply_line.ReplyText.{ReplyText}
 use Rattle.trend_report.specs.declared.reply_line.ReplyText.TheVariants.{Tag, Snap, Row}

@@ -9,10 +9,7 @@ mod name_text;
 mod point_text;
 mod reply_line;
 mod tag_line;
-#[cfg(test)]
-mod tests;
 
-pub use calc_eval::{Bad, CalcValue};
 pub use interp_read::{PointList, Reading, Reply};
 pub use reply_line::{ReplyText, reply_text};
 pub use tag_line::{TagLine, tag_text};

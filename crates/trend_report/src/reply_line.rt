@@ -1,11 +1,10 @@
 // The line of a reply.
 ghost use Rattle.std.specs.Prelude.{◌≡◌, ◌++◌, IfOk, OnOk, string_bytes, true};
 ghost use Rattle.trend_model.specs.Reads.{rounded};
-ghost use Rattle.weighted_total.specs.Readable.{IsReadable, IsRoundable};
+ghost use Rattle.interp_read.specs.Readable.{IsReadable, IsRoundable};
 ghost use Rattle.trend_report.specs.Lines.{HasText, answer_text, cause_text, number_text, points_text, reading_text, reply_text, told_text, value_text};
 
 use crate::point_text::{put_held, put_point};
-use calc_eval::{Bad, CalcValue};
 use interp_read::{PointList, Reading, Reply};
 use std::alloc::{AllocError, Global};
 use trend_num::{Frac, Point, Snap, WantOfMemory, round_half_up};

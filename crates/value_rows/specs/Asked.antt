@@ -9,8 +9,8 @@ use Rattle.trend_num.specs.declared.refusal.Reason.{Reason}
 use Rattle.trend_num.specs.declared.refusal.Reason.TheVariants.{Fields, Verb, Name, Number, Range}
 use Rattle.trend_num.specs.Numerals.{numeral, natural_upto}
 use Rattle.trend_num.specs.Ranges.{last_time}
-use Rattle.interp_read.specs.declared.query.TagQuery.{TagQuery}
-use Rattle.interp_read.specs.declared.query.TagQuery.TheVariants.{At, Points, Window}
+use Rattle.trend_num.specs.Queries.{IsTagQuery}
+use Rattle.trend_num.specs.declared.query.TagQuery.TheVariants.{At, Points, Window}
 use Rattle.point_text.specs.declared.failure.RowNo.{RowNo}
 use Rattle.value_rows.specs.declared.asked.GroupNames.{GroupNames}
 use Rattle.value_rows.specs.declared.asked.Query.{Query}
@@ -125,12 +125,6 @@ query_row tags groups (verb ∷ a ∷ []) = one_field tags (verb_of verb) a
 query_row tags groups (verb ∷ a ∷ b ∷ []) = two_fields tags (verb_of verb) a b
 query_row tags groups (verb ∷ a ∷ b ∷ c ∷ []) = three_fields tags groups (verb_of verb) a b c
 query_row tags groups fields = Err Fields
-
--- a question of times in range, of which the second is not before the first, or is after it
-abbrev pub IsTagQuery : TagQuery → Type 0
-IsTagQuery (At t) = t ≤ last_time
-IsTagQuery (Points start end) = (start ≤ end) × (end ≤ last_time)
-IsTagQuery (Window m start end) = (start < end) × (end ≤ last_time)
 
 -- a query of a tag, or of a group and a calculation, that are there
 abbrev pub IsQuery : List (List ℕ) → List GroupNames → Query → Type 0

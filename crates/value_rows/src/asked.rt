@@ -12,7 +12,7 @@ use crate::places::Places;
 use crate::reading::{Form, rows_of_text};
 use crate::verb::{Verb, verb_of};
 use csv::ByteRecord;
-use interp_read::TagQuery;
+use trend_num::TagQuery;
 use point_text::RowNo;
 use std::alloc::Global;
 use trend_num::{Measure, Name, Reason, numeral};

@@ -23,12 +23,10 @@ mod places;
 mod plain;
 mod raw;
 mod reading;
-#[cfg(test)]
-mod tests;
 mod verb;
 
 pub use asked::{GroupNames, Query, query_rows};
-pub use interp_read::TagQuery;
+pub use trend_num::TagQuery;
 pub use point_text::RowNo;
 pub use raw::{RawRow, raw_rows};
 pub use trend_num::{Measure, Name, Point, Reason};

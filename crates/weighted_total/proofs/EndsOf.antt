@@ -22,7 +22,8 @@ use Rattle.trend_model.specs.Windows.{end_at, is_covered, last_from, last_time_f
 use Rattle.weighted_total.proofs.Covered.{covered_read}
 use Rattle.trend_model.proofs.ReadLaw.{points_rise}
 use Rattle.trend_model.proofs.WindowLaw.{inside, rises_rest}
-use Rattle.interp_read.specs.Closing.{IsNotBefore, points_closed_by}
+use Rattle.trend_model.specs.Contents.{IsNotBefore}
+use Rattle.interp_read.specs.Closing.{points_closed_by}
 use Rattle.interp_read.proofs.ClosedPoints.{IsClosed, closed, closed_in_range, closed_rise}
 use Rattle.interp_read.proofs.Listing.{kept_middle}
 use Rattle.interp_read.proofs.RisingPoints.{Before, From, IsGapAt, first_parts, gap_at, no_first, no_last}
@@ -33,7 +34,7 @@ use Rattle.weighted_total.proofs.Walking.{last_is}
 use Rattle.weighted_total.proofs.Sums.{last_joined, last_from_all}
 use Rattle.weighted_total.specs.declared.shape.Ends.{Ends}
 use Rattle.weighted_total.specs.Shapes.{IsShape, counted}
-use Rattle.weighted_total.proofs.Readable.{readable, value_small}
+use Rattle.interp_read.proofs.Readable.{readable, value_small}
 
 -- ---- what a window covers
 

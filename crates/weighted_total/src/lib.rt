@@ -6,12 +6,14 @@
 //! is read there, whether the window is covered, and which points are inside. These are gone over in runs of
 //! one page each: whole pages answer by their totals, lines and stairs alike, and the pages at the ends by
 //! their points. A window takes no memory.
+//!
+//! `answer` is one answer to each question about a tag: a read, a list of points, or a measure of a window.
 #![tactic(auto)]
 
 mod inside;
 mod measure;
+mod reply;
 mod shape;
-#[cfg(test)]
-mod tests;
 
 pub use measure::{window, window_step};
+pub use reply::answer;

@@ -5,7 +5,8 @@ ghost use Rattle.trend_model.specs.Contents.{points_of};
 ghost use Rattle.trend_model.specs.Lists.{IfThere};
 ghost use Rattle.trend_model.specs.Windows.{area, greatest_from, least_from, measured, of_first};
 ghost use Rattle.trend_model.specs.Windows.{taken_values, window_value};
-ghost use Rattle.interp_read.specs.Closing.{IsNotBefore, points_closed_by};
+ghost use Rattle.trend_model.specs.Contents.{IsNotBefore};
+ghost use Rattle.interp_read.specs.Closing.{points_closed_by};
 ghost use Rattle.weighted_total.specs.Shapes.{AreEnds, counted, outline};
 
 use crate::inside::{Extremes, area_inside, extremes_inside, sum, widened};

@@ -5,9 +5,10 @@ ghost use Rattle.trend_model.specs.Contents.{points_of};
 ghost use Rattle.trend_model.specs.Lists.{IfThere};
 ghost use Rattle.trend_model.specs.Reads.{read_at, value_read};
 ghost use Rattle.trend_model.specs.Windows.{is_covered};
-ghost use Rattle.interp_read.specs.Closing.{IsNotBefore, points_closed_by};
+ghost use Rattle.trend_model.specs.Contents.{IsNotBefore};
+ghost use Rattle.interp_read.specs.Closing.{points_closed_by};
 ghost use Rattle.interp_read.specs.NextTo.{AreNeighbours};
-ghost use Rattle.weighted_total.specs.Readable.{IsReadable};
+ghost use Rattle.interp_read.specs.Readable.{IsReadable};
 ghost use Rattle.weighted_total.specs.Shapes.{IsShape};
 
 use interp_read::{Neighbours, Reading, neighbours_at, reading_of};

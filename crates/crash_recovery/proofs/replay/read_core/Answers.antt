@@ -1,5 +1,5 @@
 use Rattle.std.proofs.Common.{◌<◌, ◌+◌, ap, ap₂, Err, ◌∙◌, subst, length, take, map}
-use Rattle.trend_num.specs.declared.archive.TheConstants.{MAX_RECORDS}
+use Rattle.trend_num.specs.Limits.{most_records}
 use Rattle.trend_model.specs.History.{Raw}
 use Rattle.trend_model.specs.State.{replay}
 use Rattle.crash_recovery.specs.Recovery.{AllFit}
@@ -28,8 +28,8 @@ returns-in-Err-replay-clause-cause g c def same_step read =
     scan.ok same_step made.records made.summary
     (subst (λ k. AllFit k core.state (map Raw (take n s.points.items))) made.step
     (subst (λ l. AllFit core.step core.state (map Raw (take n l))) points no.fit_before))
-    (subst (λ k. MAX_RECORDS < length (replay k core.state (map Raw (take n s.points.items))).records + 2) made.step
-    (subst (λ l. MAX_RECORDS < length (replay core.step core.state (map Raw (take n l))).records + 2) points no.full))
+    (subst (λ k. most_records < length (replay k core.state (map Raw (take n s.points.items))).records + 2) made.step
+    (subst (λ l. most_records < length (replay core.step core.state (map Raw (take n l))).records + 2) points no.full))
     scan.faults
     (subst (λ o. IsOverfull o c.args.slots c.args.stored.summary.taken n (g.D.Disk.fault_count c.scan.new.dev)
     (g.D.Disk.fault_count c.overfull.new.dev) c.overfull.result) scan.same

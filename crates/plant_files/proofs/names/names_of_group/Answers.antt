@@ -1,6 +1,6 @@
 use Rattle.std.proofs.Common.{◌≡◌, ◌∙◌, ap, refl, map, arith}
 use Rattle.std.proofs.lemmas.List.{take_all}
-use Rattle.calc_eval.specs.Group.{names_of}
+use Rattle.calc_check.specs.Group.{names_of}
 use Rattle.plant_files.proofs.Named.{names_of_defs}
 use Rattle.plant_files.proofs.names.names_of_group.Goals as goal
 

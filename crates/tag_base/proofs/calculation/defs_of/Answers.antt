@@ -3,8 +3,8 @@ use Rattle.std.proofs.lemmas.Grind.{common_steps}
 use Rattle.std.proofs.lemmas.List.{map_push}
 use Rattle.calc_parser.specs.Formulas.{IsFormula, HasCause}
 use Rattle.calc_parser.specs.Tree.{tree_of}
-use Rattle.calc_eval.specs.Group.{calculation}
-use Rattle.calc_eval.specs.declared.definition.CalcDef.{CalcDef}
+use Rattle.calc_check.specs.Group.{calculation}
+use Rattle.calc_check.specs.declared.definition.CalcDef.{CalcDef}
 use Rattle.tag_base.specs.Groups.{text_of, Define}
 use Rattle.tag_base.proofs.Calcs.{Define-more, first_refused}
 use Rattle.tag_base.proofs.calculation.defs_of.Goals as goal

@@ -1,5 +1,5 @@
 use Rattle.std.proofs.Common.{◌≡◌, map, take, vec_len}
-use Rattle.calc_eval.specs.Group.{calculation}
+use Rattle.calc_check.specs.Group.{calculation}
 use Rattle.tag_base.specs.Groups.{text_of, Define}
 use Rattle.tag_base.proofs.calculation.defs_of.Given as goal
 

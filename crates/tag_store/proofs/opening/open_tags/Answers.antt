@@ -67,7 +67,7 @@ returns-then-records-gt-MAX_STORE_RECORDS-clause-refused g c = λ distinct.
           (record {
             core = c.in-Ok.core;
             opened = c.in-Ok.ensures.opened;
-            number_is = omega (arith, c.loop-def.invariant.records, ap (length {A = Rec}) c.recs.ensures);
+            number_is = omega (arith, c.loop-def.invariant.records, ap (length {A = Rec}) c.recs.ensures.value);
             many = c.if-records-gt-MAX_STORE_RECORDS.true;
           }),
     )
@@ -115,7 +115,7 @@ loop-def-preserved g c = record {
   records = omega (
     arith,
     ap records_in c.in-Ok-push.ensures.items,
-    ap (length {A = Rec}) c.recs.ensures,
+    ap (length {A = Rec}) c.recs.ensures.value,
     sum_by_push (λ (core : Core). length core.state.records) c.loop-def.cores.items c.in-Ok.core,
     c.loop-def.invariant.records,
   );

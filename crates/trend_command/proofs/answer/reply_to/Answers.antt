@@ -3,8 +3,8 @@ use Rattle.trend_command.proofs.Answering.{snap_told, tag_told}
 use Rattle.trend_command.proofs.Listing.{content_there}
 use Rattle.trend_command.proofs.answer.reply_to.Goals as goal
 
-pub answer-requires-clause-content : goal.answer-requires-clause-content
-answer-requires-clause-content c =
+pub answer_of-requires-clause-content : goal.answer_of-requires-clause-content
+answer_of-requires-clause-content c =
     let asked = rw c.in-Tag.is at c.requires.asked in
     content_there c.args.cores.now c.args.contents.now c.in-Tag.tag c.index-cores-place.result
     c.index-contents-place.result c.requires.contents asked.0 c.index-cores-place.is c.index-contents-place.is

@@ -1,5 +1,5 @@
 use Rattle.std.proofs.Common.{◌∙◌, arith}
-use Rattle.weighted_total.proofs.Readable.{num_back, rounded_is}
+use Rattle.interp_read.proofs.Readable.{num_back, rounded_is}
 use Rattle.trend_report.proofs.reply_line.rounded.Goals as goal
 
 pub returns : goal.returns

@@ -5,7 +5,7 @@ use Rattle.trend_model.specs.Contents.{points_of}
 use Rattle.trend_model.specs.Windows.{greater, lesser}
 use Rattle.weighted_total.specs.Shapes.{inner}
 use Rattle.weighted_total.proofs.Measuring.{end_in_range, greatest_of_stair, least_of_stair}
-use Rattle.weighted_total.proofs.Readable.{value_fits}
+use Rattle.interp_read.proofs.Readable.{value_fits}
 use Rattle.weighted_total.proofs.Sums.{greatest_joined, least_joined}
 use Rattle.weighted_total.proofs.measure.extremes.Goals as goal
 

@@ -3,7 +3,7 @@ use Rattle.std.proofs.lemmas.Int.{ints}
 use Rattle.trend_model.specs.Contents.{points_of}
 use Rattle.weighted_total.specs.Shapes.{inner}
 use Rattle.weighted_total.proofs.Measuring.{end_in_range, sums_of}
-use Rattle.weighted_total.proofs.Readable.{num_back}
+use Rattle.interp_read.proofs.Readable.{num_back}
 use Rattle.weighted_total.proofs.Walking.{rises_front}
 use Rattle.weighted_total.proofs.measure.twice_area.Goals as goal
 

@@ -6,7 +6,7 @@ use Rattle.trend_model.specs.Contents.{points_of}
 use Rattle.trend_model.specs.Reads.{rounded}
 use Rattle.trend_model.proofs.Rounding.{rounded_only}
 use Rattle.weighted_total.specs.Shapes.{inner}
-use Rattle.weighted_total.proofs.Readable.{num_back}
+use Rattle.interp_read.proofs.Readable.{num_back}
 use Rattle.weighted_total.proofs.Sums.{last_joined}
 use Rattle.weighted_total.proofs.measure.value_between.Goals as goal
 

@@ -4,7 +4,7 @@ use Rattle.trend_model.specs.Contents.{points_of}
 use Rattle.trend_model.proofs.ReadLaw.{points_rise}
 use Rattle.interp_read.specs.Closing.{points_closed_by}
 use Rattle.interp_read.proofs.ClosedPoints.{closed, closed_in_range, closed_rise}
-use Rattle.weighted_total.proofs.Readable.{readable}
+use Rattle.interp_read.proofs.Readable.{readable}
 use Rattle.weighted_total.proofs.shape.value_at.Goals as goal
 
 pub value_of-requires : goal.value_of-requires

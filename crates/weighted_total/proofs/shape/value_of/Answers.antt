@@ -1,6 +1,6 @@
 use Rattle.std.proofs.Common.{ap, Some, ◌∙◌, arith}
-use Rattle.weighted_total.specs.Readable.{IsRoundable}
-use Rattle.weighted_total.proofs.Readable.{cast_back, num_back, rounded_is, value_fits}
+use Rattle.interp_read.specs.Readable.{IsRoundable}
+use Rattle.interp_read.proofs.Readable.{cast_back, num_back, rounded_is, value_fits}
 use Rattle.weighted_total.proofs.shape.value_of.Goals as goal
 
 pub overflow_cast-result : goal.overflow_cast-result

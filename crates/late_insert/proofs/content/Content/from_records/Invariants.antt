@@ -6,8 +6,8 @@ abbrev pub invariant-loop-done : goal.invariant-loop-done
 invariant-loop-done l = record {
   records : l.content.records ≡ listed (take l.done l.recs);
   within : l.done ≤ length l.recs;
-  spare : length l.recs ≤ l.content.spare + l.done;
-  room : length l.content.records + l.content.spare ≡ length l.recs;
+  spare : length l.recs + l.more ≤ l.content.spare + l.done;
+  room : length l.content.records + l.content.spare ≡ length l.recs + l.more;
 }
 
 abbrev pub decreases-loop-done : goal.decreases-loop-done

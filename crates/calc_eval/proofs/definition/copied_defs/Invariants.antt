@@ -1,6 +1,0 @@
-use Rattle.std.proofs.Common.{◌≡◌, map, take}
-use Rattle.calc_eval.specs.Group.{calculation}
-use Rattle.calc_eval.proofs.definition.copied_defs.Given as goal
-
-abbrev pub invariant-loop-def : goal.invariant-loop-def
-invariant-loop-def l = map calculation l.copy.items ≡ map calculation (take l.def-index l.defs)

@@ -1,6 +1,0 @@
-use Rattle.std.proofs.Common.{◌∙◌}
-use Rattle.calc_eval.proofs.Name.{any_named}
-use Rattle.calc_eval.proofs.naming.is_calc.Goals as goal
-
-pub returns : goal.returns
-returns c = c.is_defined.ensures ∙ any_named c.args.name.now c.args.calcs.now

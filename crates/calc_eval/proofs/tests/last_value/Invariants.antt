@@ -1,6 +1,0 @@
-use Rattle.std.proofs.Common.{◌≡◌, take}
-use Rattle.calc_eval.specs.Value.{points_in, values}
-use Rattle.calc_eval.proofs.tests.last_value.Given as goal
-
-abbrev pub invariant-loop-i : goal.invariant-loop-i
-invariant-loop-i g l = l.lower.items ≡ take l.i (values l.group (points_in l.contents) l.from l.to)

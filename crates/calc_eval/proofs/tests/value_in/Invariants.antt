@@ -1,4 +1,0 @@
-use Rattle.calc_eval.proofs.tests.value_in.Given as goal
-
-abbrev pub ghosts-last_value : goal.ghosts-last_value
-ghosts-last_value g a = record { name = a.blank.name; parts = a.blank.parts }

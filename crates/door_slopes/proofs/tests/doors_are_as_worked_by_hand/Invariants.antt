@@ -1,4 +1,0 @@
-use Rattle.door_slopes.proofs.tests.doors_are_as_worked_by_hand.Given as goal
-
-abbrev pub ghosts-walked : goal.ghosts-walked
-ghosts-walked g a = record { name = a.blank.name; parts = a.blank.parts }

@@ -1,0 +1,281 @@
+// What no clause says: that calls succeed where there is memory, and what each of the types does
+// at a call.
+use byte_io::*;
+use std::alloc::{AllocError, Global};
+use std::io::{Read, Write};
+use std::test::Fail;
+use std::{fs, io};
+
+// A reader that gives a byte a call, and a writer that takes one, except that one call fails.
+#[derive(Drop)]
+struct FailsOnce {
+    bytes: Vec<u8>,
+    at: usize,
+    calls_until: u64,
+}
+
+impl FailsOnce {
+    // Whether this call is the one that fails.
+    fn fails(&mut self) -> bool {
+        let fails = self.calls_until == 0;
+        self.calls_until = self.calls_until.checked_sub(1).unwrap_or(u64::MAX);
+        fails
+    }
+}
+
+impl Read for FailsOnce {
+    fn read(&mut self, buf: &mut [u8]) -> io::Result<usize> {
+        if self.fails() {
+            return Err(io::Error::from(io::ErrorKind::Interrupted));
+        }
+        if buf.is_empty() || self.at >= self.bytes.len() {
+            return Ok(0);
+        }
+        buf[0] = self.bytes[self.at];
+        self.at += 1;
+        Ok(1)
+    }
+}
+
+impl Write for FailsOnce {
+    fn write(&mut self, buf: &[u8]) -> io::Result<usize> {
+        if self.fails() {
+            return Err(io::Error::from(io::ErrorKind::Interrupted));
+        }
+        let Some(first) = buf.first() else {
+            return Ok(0);
+        };
+        self.bytes.push(*first)?;
+        Ok(1)
+    }
+
+    fn flush(&mut self) -> io::Result<()> {
+        Ok(())
+    }
+}
+
+// The number of a call that fails, in a list of its own.
+fn failing(alloc: Global, call: u64) -> Result<Vec<u64>, AllocError> {
+    Ok(vec![in alloc; call]?)
+}
+
+#[test]
+fn reads_to_the_end_or_says_why_not(rt: HostRuntime) -> Result<(), Fail> {
+    let alloc = rt.alloc();
+    // The bytes, the call that fails, the limit, the number of bytes or the refusal, the calls and
+    // the faults.
+    let cases: [(&[u8], u64, u64, Result<usize, ReadNo>, u64, u64); 10] = [
+        (b"", 9, 0, Ok(0), 1, 0),
+        (b"", 0, 0, Err(ReadNo::ReadFault), 1, 1),
+        (b"hello", 9, 6, Ok(5), 2, 0),
+        (b"hello", 9, 5, Ok(5), 2, 0),
+        (b"hello", 9, 4, Err(ReadNo::TooLong { limit: 4 }), 1, 0),
+        (b"hello", 9, 0, Err(ReadNo::TooLong { limit: 0 }), 1, 0),
+        (b"hello", 9, u64::MAX, Ok(5), 2, 0),
+        (b"hello", 0, 5, Err(ReadNo::ReadFault), 1, 1),
+        (b"hello", 1, 5, Err(ReadNo::ReadFault), 2, 1),
+        (b"hello", 2, 5, Ok(5), 2, 0),
+    ];
+    for (bytes, call, limit, want, calls, faults) in cases {
+        let mut source = MemSource::new(bytes.to_vec(alloc)?, failing(alloc, call)?);
+        match (read_all(alloc, &mut source, limit), want) {
+            (Ok(all), Ok(len)) => {
+                assert_eq!(rt; all.as_slice(), bytes, "at limit {limit}");
+                assert_eq!(rt; all.len(), len);
+            }
+            (got, want) => assert_eq!(rt; got.map(|all| all.len()), want, "at limit {limit}"),
+        }
+        assert_eq!(rt; source.calls(), calls, "at limit {limit}");
+        assert_eq!(rt; source.faults(), faults, "at limit {limit}");
+    }
+    Ok(())
+}
+
+#[test]
+fn reads_more_than_one_piece(rt: HostRuntime) -> Result<(), Fail> {
+    let alloc = rt.alloc();
+    // 70,000 bytes come as 65,536, then 4,464, then the end.
+    let cases: [(u64, u64, Result<usize, ReadNo>, u64); 7] = [
+        (9, 70_000, Ok(70_000), 3),
+        (0, 70_000, Err(ReadNo::ReadFault), 1),
+        (1, 70_000, Err(ReadNo::ReadFault), 2),
+        (2, 70_000, Err(ReadNo::ReadFault), 3),
+        (9, 69_999, Err(ReadNo::TooLong { limit: 69_999 }), 2),
+        (9, 65_536, Err(ReadNo::TooLong { limit: 65_536 }), 2),
+        (9, 65_535, Err(ReadNo::TooLong { limit: 65_535 }), 1),
+    ];
+    for (call, limit, want, calls) in cases {
+        let mut source = MemSource::new(vec![in alloc; 7; 70_000]?, failing(alloc, call)?);
+        let got = read_all(alloc, &mut source, limit);
+        assert_eq!(rt; got.map(|all| all.len()), want, "at limit {limit}");
+        assert_eq!(rt; source.calls(), calls, "at limit {limit}");
+    }
+    Ok(())
+}
+
+#[test]
+fn writes_all_or_says_that_a_write_failed(rt: HostRuntime) -> Result<(), Fail> {
+    let alloc = rt.alloc();
+    // The call that fails, and what is written of "ab", "cd" and "ef" by then.
+    let cases: [(u64, &[u8], u64); 4] = [
+        (0, b"", 1),
+        (1, b"ab", 2),
+        (2, b"abcd", 3),
+        (3, b"abcdef", 3),
+    ];
+    for (call, want, calls) in cases {
+        let mut sink = MemSink::new(alloc, failing(alloc, call)?);
+        let result = write_all(&mut sink, b"ab")
+            .and_then(|_| write_all(&mut sink, b"cd"))
+            .and_then(|_| write_all(&mut sink, b"ef"));
+        assert_eq!(rt; result.is_ok(), call == 3, "at call {call}");
+        assert_eq!(rt; sink.bytes(), want, "at call {call}");
+        assert_eq!(rt; sink.calls(), calls, "at call {call}");
+        assert_eq!(rt; sink.faults(), u64::from(call != 3), "at call {call}");
+    }
+    Ok(())
+}
+
+#[test]
+fn writes_large_pieces(rt: HostRuntime) -> Result<(), Fail> {
+    let alloc = rt.alloc();
+    for len in [4_097, 65_537, 1_000_000] {
+        let piece = vec![in alloc; 7; len]?;
+        let mut sink = MemSink::new(alloc, Vec::new(alloc));
+        assert_eq!(rt;
+            write_all(&mut sink, piece.as_slice()),
+            Ok(()),
+            "of {len} bytes"
+        );
+        assert_eq!(rt; sink.bytes(), piece.as_slice(), "of {len} bytes");
+    }
+    Ok(())
+}
+
+// Three files, the last of which has the name of the first, and the second more than one piece.
+fn three_files(alloc: Global, call: u64) -> Result<MemFiles, AllocError> {
+    let files = vec![in alloc;
+        (String::from_str(alloc, "a.csv")?, b"hello".to_vec(alloc)?),
+        (String::from_str(alloc, "long")?, vec![in alloc; 7; 70_000]?),
+        (String::from_str(alloc, "a.csv")?, b"again".to_vec(alloc)?),
+    ]?;
+    Ok(MemFiles::new(files, failing(alloc, call)?))
+}
+
+#[test]
+fn reads_a_file_or_says_why_not(rt: HostRuntime) -> Result<(), Fail> {
+    let alloc = rt.alloc();
+    // The name, the call that fails, the limit, the number of bytes or the refusal, the calls and the faults.
+    let cases: [(&str, u64, u64, Result<usize, ReadNo>, u64, u64); 10] = [
+        ("a.csv", 9, 6, Ok(5), 2, 0),
+        ("a.csv", 9, 5, Ok(5), 2, 0),
+        ("a.csv", 9, 4, Err(ReadNo::TooLong { limit: 4 }), 1, 0),
+        ("a.csv", 9, 0, Err(ReadNo::TooLong { limit: 0 }), 1, 0),
+        ("a.csv", 0, 5, Err(ReadNo::ReadFault), 1, 1),
+        ("a.csv", 1, 5, Err(ReadNo::ReadFault), 2, 1),
+        ("b.csv", 9, 5, Err(ReadNo::ReadFault), 1, 1),
+        ("long", 9, 70_000, Ok(70_000), 3, 0),
+        ("long", 2, 70_000, Err(ReadNo::ReadFault), 3, 1),
+        (
+            "long",
+            9,
+            69_999,
+            Err(ReadNo::TooLong { limit: 69_999 }),
+            2,
+            0,
+        ),
+    ];
+    for (name, call, limit, want, calls, faults) in cases {
+        let mut files = three_files(alloc, call)?;
+        let got = read_file(alloc, &mut files, name, limit).map(|all| all.len());
+        assert_eq!(rt; got, want, "{name} at limit {limit}");
+        assert_eq!(rt; files.calls(), calls, "{name} at limit {limit}");
+        assert_eq!(rt; files.faults(), faults, "{name} at limit {limit}");
+    }
+    let first = read_file(alloc, &mut three_files(alloc, 9)?, "a.csv", 5).map_err(|_| "refused")?;
+    assert_eq!(rt; first.as_slice(), b"hello".as_slice());
+    Ok(())
+}
+
+#[test]
+fn files_of_the_working_folder_are_read(rt: HostRuntime) -> Result<(), Fail> {
+    let alloc = rt.alloc();
+    fs::write(&rt, "kept.txt", b"hello")?;
+    let mut files = DirFiles::new(rt.clone()?);
+    let kept = read_file(alloc, &mut files, "kept.txt", 5).map_err(|_| "refused")?;
+    assert_eq!(rt; kept.as_slice(), b"hello".as_slice());
+    let long = read_file(alloc, &mut files, "kept.txt", 4).map(|all| all.len());
+    assert_eq!(rt; long, Err(ReadNo::TooLong { limit: 4 }));
+    assert_eq!(rt; files.faults(), 0);
+    let missing = read_file(alloc, &mut files, "missing.txt", 5).map(|all| all.len());
+    assert_eq!(rt; missing, Err(ReadNo::ReadFault));
+    assert_eq!(rt; files.faults(), 1);
+    fs::remove_file(&rt, "kept.txt")?;
+    Ok(())
+}
+
+#[test]
+fn std_readers_are_sources(rt: HostRuntime) -> Result<(), Fail> {
+    let alloc = rt.alloc();
+    let first: &[u8] = b"hel";
+    let second: &[u8] = b"lo";
+    let mut source = StdSource::new(first.chain(second));
+    let all = read_all(alloc, &mut source, 5).map_err(|_| "refused")?;
+    assert_eq!(rt; all.as_slice(), b"hello".as_slice());
+    // A read that fails once is told, and what comes after it is left in the reader.
+    for (call, left) in [(0u64, 5), (3, 2), (5, 0)] {
+        let mut once = StdSource::new(FailsOnce {
+            bytes: b"hello".to_vec(alloc)?,
+            at: 0,
+            calls_until: call,
+        });
+        let got = read_all(alloc, &mut once, 5).map(|all| all.len());
+        assert_eq!(rt; got, Err(ReadNo::ReadFault), "at call {call}");
+        let rest = read_all(alloc, &mut once, 5).map(|all| all.len());
+        assert_eq!(rt; rest, Ok(left), "after call {call}");
+    }
+    Ok(())
+}
+
+#[test]
+fn std_writers_are_sinks(rt: HostRuntime) -> Result<(), Fail> {
+    let alloc = rt.alloc();
+    let mut sink = StdSink::new(Vec::new(alloc));
+    assert_eq!(rt; write_all(&mut sink, b"hello"), Ok(()));
+    assert_eq!(rt; sink.into_inner().as_slice(), b"hello".as_slice());
+
+    // A writer with room for three bytes takes those, and then none.
+    let mut room = [0; 3];
+    let mut full = StdSink::new(room.as_mut_slice());
+    assert_eq!(rt; write_all(&mut full, b"hello"), Err(WriteFault));
+    assert_eq!(rt; room.as_slice(), b"hel".as_slice());
+
+    // A write that fails once is told, and no byte is written after it.
+    for (call, want) in [(0u64, b"".as_slice()), (3, b"hel"), (4, b"hell")] {
+        let mut once = StdSink::new(FailsOnce {
+            bytes: Vec::new(alloc),
+            at: 0,
+            calls_until: call,
+        });
+        assert_eq!(rt;
+            write_all(&mut once, b"hello"),
+            Err(WriteFault),
+            "at call {call}"
+        );
+        let FailsOnce { bytes, .. } = once.into_inner();
+        assert_eq!(rt; bytes.as_slice(), want, "at call {call}");
+    }
+    Ok(())
+}
+
+#[test]
+fn refusals_have_texts(rt: HostRuntime) -> Result<(), Fail> {
+    let alloc = rt.alloc();
+    let limit = ReadNo::TooLong { limit: 7 };
+    let texts = format!(in alloc; "{limit}, {}, {Failed}, {WriteFault}", ReadNo::ReadFault)?;
+    assert_eq!(rt;
+        texts.as_str(),
+        "more than 7 bytes came, a read failed, a call to the outside failed, a write failed"
+    );
+    Ok(())
+}

@@ -1,0 +1,17 @@
+//! Tests of texts: formulas, bases, plans, rows of files, and the lines that are told.
+#![tactic(auto)]
+
+#[cfg(test)]
+mod bases;
+#[cfg(test)]
+mod calculations;
+#[cfg(test)]
+mod formulas;
+#[cfg(test)]
+mod lines;
+#[cfg(test)]
+mod reports;
+#[cfg(test)]
+mod rows;
+#[cfg(test)]
+mod statuses;
