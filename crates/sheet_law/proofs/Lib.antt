@@ -2,3 +2,4 @@ pub mod Alike
 pub mod Stretch
 pub mod Stay
 pub mod Complete
+pub mod Formulas

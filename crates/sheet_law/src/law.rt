@@ -5,9 +5,11 @@ ghost use Rattle.trend_num.specs.declared.measure.Measure.{Measure};
 ghost use Rattle.trend_model.specs.Content.{is_late_record};
 ghost use Rattle.trend_model.specs.Contents.{listed, points_of};
 ghost use Rattle.trend_model.specs.Windows.{window_value};
+ghost use Rattle.calc_check.specs.Group.{Group};
 ghost use Rattle.sheet_law.specs.declared.grid.Grid.{Grid};
 ghost use Rattle.sheet_law.specs.Windows.{complete_windows, is_complete, reaches, window_from, window_to};
 ghost use Rattle.sheet_law.specs.Touched.{any_touched, is_newest, is_touched, longer, meets};
+ghost use Rattle.sheet_law.specs.Scratch.{values_at};
 
 /// The complete windows are the first ones, as many as are counted, where there is an input and windows have a length.
 pub fn reached_windows_are_complete()
@@ -40,3 +42,9 @@ pub fn untouched_windows_stay()
         ≡ window_value step m (points_of (listed rs)) from to }
 {}
 
+/// And so the values of all calculations in it are what they were.
+pub fn formulas_stay()
+    ensures { (g : Group) (w : Grid) (rss mores : List (List Rec)) (k : ℕ) → 0 < w.period
+        → is_complete w rss k ≡ true → any_touched rss mores (window_from w k) (window_to w k) ≡ false
+        → values_at g w (longer rss mores) k ≡ values_at g w rss k }
+{}
