@@ -1,1 +1,1 @@
-pub mod Name
+pub mod Mentions

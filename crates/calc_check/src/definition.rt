@@ -35,7 +35,7 @@ fn is_same_def(a: &CalcDef, b: &CalcDef) -> bool
 }
 
 /// Whether the definitions of two lists are the same.
-#[tactic(auto, using(crate::proofs::Name::same_at))]
+#[tactic(auto, using(crate::proofs::Mentions::same_at))]
 pub(crate) fn is_same_defs(a: &[CalcDef], b: &[CalcDef]) -> bool
     ensures { IsTrue result ↔ (map calculation a.now ≡ map calculation b.now) }
 {

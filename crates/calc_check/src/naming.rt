@@ -60,7 +60,7 @@ fn is_calc(calcs: &[CalcDef], name: &Name) -> bool
 }
 
 /// The first name of a formula that stands for nothing.
-#[tactic(auto, using(crate::proofs::Name::first_in_front, crate::proofs::Name::first_behind))]
+#[tactic(auto, using(crate::proofs::Mentions::first_in_front, crate::proofs::Mentions::first_behind))]
 fn first_unknown(inputs: &[Name], before: &[CalcDef], e: &Expr) -> Option<Name>
     ensures { result ≡ first_unknown inputs.now (names_of (map calculation before.now)) (tree_of e.now) }
 {
@@ -112,7 +112,7 @@ fn told(place: u32, coming: &[CalcDef], name: Name) -> CheckNo
 }
 
 /// What is told of the first name that stands for nothing.
-#[tactic(auto, using(crate::proofs::Name::fault_after))]
+#[tactic(auto, using(crate::proofs::Mentions::fault_after))]
 pub(crate) fn first_fault(inputs: &[Name], calcs: &[CalcDef]) -> Option<CheckNo>
     requires { length calcs.now < 2 ^ 32 }
     ensures { result ≡ first_fault inputs.now [] (map calculation calcs.now) }

@@ -6,7 +6,8 @@ use trend_num::Name;
 /// name.
 #[derive(Clone, Copy, Debug, PartialEq, Eq)]
 pub enum CheckNo {
-    /// In this calculation: it is no input where it is measured, and no calculation of the group.
+    /// In this calculation: it is no input where it is measured, no earlier calculation where it stands after `calc`, and
+    /// not the name of this or a later one.
     UnknownName { calc: u32, name: Name },
     /// In this calculation: it is that of this or a later calculation.
     Forward { calc: u32, name: Name },

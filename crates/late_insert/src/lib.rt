@@ -5,8 +5,8 @@
 //! the records do. It is kept in pages of up to 128 records, each in a frame of a pool. A record behind all
 //! others goes into the last page, or into a fresh one where that is full, so pages that are filled in order
 //! are full. A content that is made of a list of records fills a fresh page with a run of them at once. Any
-//! other full page is split into two halves with one new frame, so a value goes into the middle of a million
-//! as fast as into the middle of a page. All memory is taken when a content is made.
+//! other full page is split into two halves with one new frame, so a put moves the records of one page at
+//! most, and the entries of the list of pages. All memory is taken when a content is made.
 //!
 //! Each page keeps totals of its points: the areas under their line and under their stair, the least value
 //! and the greatest. The list of pages keeps the place and the time of each one's first record, so every

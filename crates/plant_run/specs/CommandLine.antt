@@ -3,7 +3,9 @@ use Rattle.std.specs.Prelude.{ℕ, cond, List, [], ◌∷◌, Option, None, Some
 use Rattle.std.specs.Str.{bytes_eq}
 use Rattle.trend_num.specs.declared.tuning.Tuning.{Tuning}
 use Rattle.trend_num.specs.Numerals.{numeral, natural_upto}
-use Rattle.trend_num.specs.Ranges.{last_time, largest_value}
+use Rattle.trend_num.specs.Ranges.{IsTuned, last_time, largest_value}
+use Rattle.plant_run.specs.declared.command_line.Form.{Form as FormOfWords}
+use Rattle.plant_run.specs.declared.command_line.Form.TheVariants as form
 
 -- a numeral's number, from 0 up to `most`
 abbrev pub number_upto : ℕ → List ℕ → Option ℕ
@@ -24,35 +26,37 @@ tuning_of exc_dev exc_max comp_dev comp_min comp_max = do
   comp_max' ← number_upto last_time comp_max
   Some (record { exc_dev = exc_dev'; exc_max = exc_max'; comp_dev = comp_dev'; comp_min = comp_min'; comp_max = comp_max' })
 
--- the tuning of the words `pack EXCDEV EXCMAX COMPDEV COMPMIN COMPMAX`
-abbrev pub pack_tuning : List (List ℕ) → Option Tuning
-pack_tuning (verb ∷ exc_dev ∷ exc_max ∷ comp_dev ∷ comp_min ∷ comp_max ∷ []) =
-    cond (bytes_eq verb (codes "pack")) (tuning_of exc_dev exc_max comp_dev comp_min comp_max) None
-pack_tuning words = None
-
--- the name of the words `check BASE`
-abbrev pub check_base : List (List ℕ) → Option (List ℕ)
-check_base (verb ∷ base ∷ []) = cond (bytes_eq verb (codes "check")) (Some base) None
-check_base words = None
-
--- the names of the words `trend BASE PLAN`
-abbrev pub trend_files : List (List ℕ) → Option (List ℕ × List ℕ)
-trend_files (verb ∷ base ∷ plan ∷ []) = cond (bytes_eq verb (codes "trend")) (Some (base, plan)) None
-trend_files words = None
-
--- what a command line asks for
+-- what a command line asks for: to pack with a tuning, to check the tags of a base, to answer the readers of a plan, or
+-- nothing that there is
 pub data Form : Type 0 where
   Pack : Tuning → Form
   Check : List ℕ → Form
   Trend : List ℕ → List ℕ → Form
   Unknown : Form
 
--- the form of words, by what each command makes of them
-abbrev pub chosen_form : Option (List ℕ) → Option (List ℕ × List ℕ) → Option Tuning → Form
-chosen_form (Some base) names tuning = Check base
-chosen_form None (Some names) tuning = Trend names.0 names.1
-chosen_form None None (Some tuning) = Pack tuning
-chosen_form None None None = Unknown
+-- what the code's form asks for
+abbrev pub asked : FormOfWords → Form
+asked (form.Pack tuning) = Pack tuning
+asked (form.Check base) = Check base.now
+asked (form.Trend base plan) = Trend base.now plan.now
+asked form.Unknown = Unknown
 
+-- to pack with a tuning, where there is one
+abbrev pub packing : Option Tuning → Form
+packing None = Unknown
+packing (Some tuning) = Pack tuning
+
+-- `check BASE`, `trend BASE PLAN`, or `pack EXCDEV EXCMAX COMPDEV COMPMIN COMPMAX`
 abbrev pub form_of : List (List ℕ) → Form
-form_of words = chosen_form (check_base words) (trend_files words) (pack_tuning words)
+form_of (verb ∷ base ∷ []) = cond (bytes_eq verb (codes "check")) (Check base) Unknown
+form_of (verb ∷ base ∷ plan ∷ []) = cond (bytes_eq verb (codes "trend")) (Trend base plan) Unknown
+form_of (verb ∷ exc_dev ∷ exc_max ∷ comp_dev ∷ comp_min ∷ comp_max ∷ []) =
+    cond (bytes_eq verb (codes "pack")) (packing (tuning_of exc_dev exc_max comp_dev comp_min comp_max)) Unknown
+form_of words = Unknown
+
+-- a form whose tuning, if it has one, is in range
+abbrev pub IsTunedForm : Form → Type 0
+IsTunedForm (Pack tuning) = IsTuned tuning
+IsTunedForm (Check base) = Unit {0}
+IsTunedForm (Trend base plan) = Unit {0}
+IsTunedForm Unknown = Unit {0}

@@ -1,47 +1,57 @@
 // The words of a command line.
-ghost use Rattle.std.specs.Prelude.{◌≡◌, ◌≤◌, map, string_bytes, None, Some, IfSome, IfNone};
+ghost use Rattle.std.specs.Prelude.{◌≡◌, ◌≤◌, map, string_bytes, IfSome};
 ghost use Rattle.trend_num.specs.Ranges.{IsTuned};
-ghost use Rattle.plant_run.specs.CommandLine.{number_upto, tuning_of, pack_tuning, check_base, trend_files};
+ghost use Rattle.plant_run.specs.CommandLine.{IsTunedForm, asked, form_of, number_upto, packing, tuning_of};
 
 use trend_num::{MAX_DEV, MAX_T, Tuning, numeral};
 
-/// The tuning of the words `pack EXCDEV EXCMAX COMPDEV COMPMIN COMPMAX`, or none where the words are no form.
-pub(crate) fn pack_tuning(words: &[String]) -> Option<Tuning>
-    ensures value { result ≡ pack_tuning (map string_bytes words.now) }
-    ensures tuned { IfSome result IsTuned }
+/// What a command line asks for.
+#[derive(Clone, Copy)]
+pub(crate) enum Form<'w> {
+    /// To pack the input with this tuning.
+    Pack(Tuning),
+    /// To check the tags of the base in this file.
+    Check { base: &'w str },
+    /// To answer the readers of the plan in this file.
+    Trend { base: &'w str, plan: &'w str },
+    /// Nothing that there is.
+    Unknown,
+}
+
+/// What these words ask for.
+pub(crate) fn form_of(words: &[String]) -> Form<'_>
+    ensures form { asked result ≡ form_of (map string_bytes words.now) }
+    ensures tuned { IsTunedForm (asked result) }
 {
     match words {
+        [verb, base] if verb.as_str() == "check" => Form::Check {
+            base: base.as_str(),
+        },
+        [verb, base, plan] if verb.as_str() == "trend" => Form::Trend {
+            base: base.as_str(),
+            plan: plan.as_str(),
+        },
         [verb, exc_dev, exc_max, comp_dev, comp_min, comp_max] if verb.as_str() == "pack" =>
-            tuning_of(
+            packing(tuning_of(
                 exc_dev.as_bytes(),
                 exc_max.as_bytes(),
                 comp_dev.as_bytes(),
                 comp_min.as_bytes(),
                 comp_max.as_bytes(),
-            ),
-        _ => None,
+            )),
+        _ => Form::Unknown,
     }
 }
 
-/// The name of the words `check BASE`, or none where the words are no such form.
-pub(crate) fn check_base(words: &[String]) -> Option<&str>
-    ensures base { IfSome result (λ base. check_base (map string_bytes words.now) ≡ Some base.now) }
-    ensures none { IfNone result (check_base (map string_bytes words.now) ≡ None) }
+/// To pack with a tuning, where there is one.
+fn packing<'w>(tuning: Option<Tuning>) -> Form<'w>
+    requires { IfSome tuning IsTuned }
+    ensures form { asked result ≡ packing tuning }
+    ensures tuned { IsTunedForm (asked result) }
 {
-    match words {
-        [verb, base] if verb.as_str() == "check" => Some(base.as_str()),
-        _ => None,
-    }
-}
-
-/// The names of the words `trend BASE PLAN`, or none where the words are no such form.
-pub(crate) fn trend_files(words: &[String]) -> Option<(&str, &str)>
-    ensures files { IfSome result (λ names. trend_files (map string_bytes words.now) ≡ Some (names.0.now, names.1.now)) }
-    ensures none { IfNone result (trend_files (map string_bytes words.now) ≡ None) }
-{
-    match words {
-        [verb, base, plan] if verb.as_str() == "trend" => Some((base.as_str(), plan.as_str())),
-        _ => None,
+    match tuning {
+        Some(tuning) => Form::Pack(tuning),
+        None => Form::Unknown,
     }
 }
 

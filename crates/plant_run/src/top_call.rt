@@ -4,7 +4,7 @@ ghost use Rattle.trend_num.specs.Ranges.{IsTuned};
 ghost use Rattle.plant_run.specs.CommandLine.{Unknown, form_of};
 ghost use Rattle.plant_run.specs.Run.{EndsIn, IsNotPacked, IsPacked, IsPrintedSo, IsTold, KeepsFor, PrintsSo, world};
 
-use crate::command_line::{check_base, pack_tuning, trend_files};
+use crate::command_line::{Form, form_of};
 use byte_io::{Files, Sink, Source, WriteFault, write_all};
 use disk_model::Store;
 use pack_command::pack;
@@ -44,15 +44,11 @@ pub fn run<R: Threads + Wait + Sync, I: Source, F: Files, O: Sink, S: Store>(
     ensures bad_words { (result ≡ Status.BadWords) ↔ (form_of (map string_bytes words.now) ≡ Unknown) }
     ensures untouched { result ≡ Status.BadWords → input.new ≡ input.old }
 {
-    if let Some(base) = check_base(words) {
-        return finish(check(alloc, files, store, base), out);
-    }
-    if let Some((base, plan)) = trend_files(words) {
-        return finish(trend(alloc, files, store, base, plan), out);
-    }
-    match pack_tuning(words) {
-        Some(tuning) => run_pack(alloc, tuning, input, out),
-        None => refuse(Status::BadWords, out),
+    match form_of(words) {
+        Form::Pack(tuning) => run_pack(alloc, tuning, input, out),
+        Form::Check { base } => finish(check(alloc, files, store, base), out),
+        Form::Trend { base, plan } => finish(trend(alloc, files, store, base, plan), out),
+        Form::Unknown => refuse(Status::BadWords, out),
     }
 }
 

@@ -34,13 +34,13 @@ pub enum Seen {
     Number(u64),
     Def(TagDef),
     Summary(Summary),
-    /// A value of a collector's row. Rows are counted from 0.
+    /// A value of a collector's row. Rows are counted from 1, collectors from 0.
     Take {
         collector: u32,
         row: u64,
         point: Point,
     },
-    /// A question of a reader about a tag. Rows are counted from 0.
+    /// A question of a reader about a tag. Rows are counted from 1, readers from 0.
     Ask {
         reader: u32,
         row: u64,

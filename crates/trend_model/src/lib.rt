@@ -25,8 +25,8 @@ pub use example::{
     worked_histories, worked_retunings, worked_stairs,
 };
 pub use order_law::{
-    held_is_last, held_is_sent, kept_points_rise, no_deviation_is_exact, no_wait_sends_all, prior_is_sent,
-    records_only_grow, sent_in_order_rises,
+    held_is_last, held_is_sent, kept_points_rise, no_deviation_is_exact, no_wait_sends_all,
+    prior_is_sent, records_only_grow, sent_in_order_rises,
 };
 pub use read_law::{
     exact_reads_are_the_content, read_at_a_point_is_exact, read_of_a_line_lies_between,

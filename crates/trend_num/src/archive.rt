@@ -34,9 +34,11 @@ pub struct Summary {
     pub pending: Option<Point>,
     /// The last kept point, on which the doors hang.
     pub hinge: Option<Point>,
-    /// The upper door: no value since the hinge has a lesser slope, raised by CompDev. None where no value is since.
+    /// The upper door of a tag of lines: no value since the hinge has a lesser slope, raised by CompDev. Of a step tag the
+    /// held point. None where no value is since.
     pub upper: Option<Point>,
-    /// The lower door: no value since the hinge has a greater slope, lowered by CompDev. None where no value is since.
+    /// The lower door of a tag of lines: no value since the hinge has a greater slope, lowered by CompDev. Of a step tag
+    /// the held point. None where no value is since.
     pub lower: Option<Point>,
     /// The tuning in force. None stands only in a summary that was written before tags could be retuned, and means the
     /// tuning with which the tag was made.

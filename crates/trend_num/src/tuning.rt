@@ -13,10 +13,12 @@ pub struct Tuning {
     pub exc_max: u64,
     /// CompDev: how far the kept line may be from a value sent, in value units.
     pub comp_dev: u64,
-    /// CompMin: a value that comes less than this after the hinge is passed over and not kept, unless CompMax ends the
-    /// segment, in milliseconds.
+    /// CompMin: where a value does not fit, and the held point is less than this after the hinge, the values since the
+    /// hinge are passed over, and none of them is kept; of a step tag the value itself, where it is less than this after
+    /// the hinge. In milliseconds.
     pub comp_min: u64,
-    /// CompMax: once a value comes more than this after the hinge, the value before it is kept, in milliseconds.
+    /// CompMax: where a value comes more than this after the hinge, the held point is kept, and of a step tag the value
+    /// itself, in milliseconds.
     pub comp_max: u64,
 }
 

@@ -11,7 +11,7 @@ use trend_num::{Name, Point, WantOfMemory};
 #[derive(Clone, Copy, Debug, PartialEq, Eq)]
 pub struct TagLine {
     pub name: Name,
-    /// How many raw values were taken since the tag began.
+    /// How many events, raw values and retunings, were taken since the tag began.
     pub taken: u64,
     /// How many records there are: kept and late ones.
     pub records: u32,

@@ -1,5 +1,5 @@
 use Rattle.std.proofs.Common.{◌∙◌}
-use Rattle.calc_check.proofs.Name.{place_named}
+use Rattle.calc_check.proofs.Mentions.{place_named}
 use Rattle.calc_check.proofs.naming.calc_place.Goals as goal
 
 pub returns : goal.returns

@@ -2,7 +2,7 @@ use Rattle.std.proofs.Common.{◌≡◌, ◌-◌, Some, length, map, take, drop,
 use Rattle.std.proofs.Math.Seq.{take-length}
 use Rattle.calc_parser.specs.Tree.{tree_of}
 use Rattle.calc_check.specs.Group.{calculation, names_of, first_unknown, told}
-use Rattle.calc_check.proofs.Name.{fault_told}
+use Rattle.calc_check.proofs.Mentions.{fault_told}
 use Rattle.calc_check.proofs.naming.first_fault.Goals as goal
 
 pub returns-in-Some : goal.returns-in-Some

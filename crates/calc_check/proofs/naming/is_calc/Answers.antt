@@ -1,5 +1,5 @@
 use Rattle.std.proofs.Common.{◌∙◌}
-use Rattle.calc_check.proofs.Name.{any_named}
+use Rattle.calc_check.proofs.Mentions.{any_named}
 use Rattle.calc_check.proofs.naming.is_calc.Goals as goal
 
 pub returns : goal.returns
