@@ -1,6 +1,6 @@
 -- Which windows are complete, and that they stay so.
 use Rattle.std.proofs.Common.{◌≡◌, ◌↔◌, ℕ, ◌+◌, ◌-◌, ◌*◌, ◌/◌, ◌<◌, ◌≤◌, Bool, true, false, cond, nat_lt, nat_le, List, [], ◌∷◌, ◌++◌, refl, sym, ap, ap₂, inl, inr, ◌∙◌, arith}
-use Rattle.std.specs.Prelude.{◌&&◌, ◌||◌, not, map, max, min}
+use Rattle.std.specs.Prelude.{◌&&◌, ◌||◌, not, map, max}
 use Rattle.std.specs.List.{list_all}
 use Rattle.std.proofs.Math.Nat.{le-div_iff_mul-le}
 use Rattle.std.proofs.lemmas.Bool.{and_parts, and_from, cases_lt, lt-ltb, le-ltb}
@@ -29,13 +29,14 @@ reaches-is t (r ∷ rs) = by_kind (is_late_record r.kind) (reaches-is t rs)
 -- a window ends before a time exactly where it is one of those that are counted
 ends_before : (w : Grid) (e k : ℕ) → 0 < w.period → (window_to w k < e) ↔ (k < windows_before w e)
 ends_before w e k some =
-    let iff = le-div_iff_mul-le {k = w.period} {x = k + 1} {y = e - 1 - w.start} some in
-    (λ h. (let up : (k + 1) * w.period ≤ e - 1 - w.start = omega arith in
+    let iff = le-div_iff_mul-le {k = w.period} {x = k + 1} {y = e - 1 - w.start} some in (
+      λ h. (let up : (k + 1) * w.period ≤ e - 1 - w.start = omega arith in
           let count : k + 1 ≤ (e - 1 - w.start) / w.period = iff.1 up in omega arith),
-     λ h. (let count : k + 1 ≤ (e - 1 - w.start) / w.period = omega arith in
+      λ h. (let count : k + 1 ≤ (e - 1 - w.start) / w.period = omega arith in
           let up : (k + 1) * w.period ≤ e - 1 - w.start = iff.0 count in
           let more : w.period ≤ (k + 1) * w.period = omega (arith, product k w.period) in
-          omega arith))
+          omega arith),
+    )
   where
     product : (a b : ℕ) → (a + 1) * b ≡ a * b + b
     product a b = grind arith
@@ -47,12 +48,13 @@ under a b h = grind (arith, nat_tests)
 under_least : (k n : ℕ) (ns : List ℕ) → (k < least (n ∷ ns)) ↔ (list_all (nat_lt k) (n ∷ ns) ≡ true)
 under_least k n [] = (λ h. grind (arith, nat_tests), λ h. grind (arith, nat_tests))
 under_least k n (m ∷ ns) =
-    let rest = under_least k m ns in
-    (λ h. and_from (nat_lt k n) (list_all (nat_lt k) (m ∷ ns)) (lt-ltb k n (omega arith)) (rest.0 (omega arith)),
-     λ h. (let both = and_parts (nat_lt k n) (list_all (nat_lt k) (m ∷ ns)) h in
+    let rest = under_least k m ns in (
+      λ h. and_from (nat_lt k n) (list_all (nat_lt k) (m ∷ ns)) (lt-ltb k n (omega arith)) (rest.0 (omega arith)),
+      λ h. (let both = and_parts (nat_lt k n) (list_all (nat_lt k) (m ∷ ns)) h in
           let first : k < n = under k n both.0 in
           let more = rest.1 both.1 in
-          omega arith))
+          omega arith),
+    )
 
 -- a window is complete for an input where it is one of those that are counted for it
 all_complete : (w : Grid) (k : ℕ) (rss : List (List Rec)) → 0 < w.period

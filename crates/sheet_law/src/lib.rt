@@ -13,6 +13,6 @@ mod law;
 
 pub use grid::Grid;
 pub use law::{
-    formulas_stay, kept_records_touch_no_complete_window, late_records_touch_their_stretch, reached_windows_are_complete,
-    untouched_windows_stay,
+    formulas_stay, kept_records_touch_no_complete_window, late_records_touch_their_stretch,
+    reached_windows_are_complete, untouched_windows_stay,
 };
