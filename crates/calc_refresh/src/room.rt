@@ -1,0 +1,76 @@
+// Memory for more records and windows, all of it before anything changes.
+ghost use Rattle.std.specs.Prelude.{◌≡◌, ℕ, ◌+◌, ◌^◌, ◌<◌, ◌≤◌, List, length, map, All, OnOk};
+ghost use Rattle.std.specs.Prelude.{slice_index_or, vec_len, vec_capacity};
+ghost use Rattle.std.specs.Prelude.{Vec};
+ghost use Rattle.std.specs.declared.alloc.Global.{Global};
+ghost use Rattle.trend_num.specs.declared.archive.Rec.{Rec};
+ghost use Rattle.trend_model.specs.Contents.{ContentState, listed};
+ghost use Rattle.calc_refresh.specs.Lists.{lists_of};
+ghost use Rattle.calc_refresh.specs.Sheet.{IsCopy};
+
+use calc_eval::CalcValue;
+use late_insert::Content;
+use std::alloc::{AllocError, Global};
+use trend_num::Rec;
+
+/// Makes room for more records in the copies.
+pub(crate) fn room_in_copies(copies: &mut [Vec<Rec>], deltas: &[Vec<Rec>]) -> Result<(), AllocError>
+    requires { length deltas.now ≡ length copies.old }
+    ensures copies { lists_of copies.new ≡ lists_of copies.old }
+    ensures room { OnOk result ((i : ℕ) (c d : Vec Rec Global) → i < length deltas.now
+        → vec_len (slice_index_or copies.new i c) + length (slice_index_or deltas.now i d).items
+        ≤ vec_capacity (slice_index_or copies.new i c)) }
+{
+    for i in 0..copies.len() {
+        copies[i].reserve(deltas[i].len())?;
+    }
+    Ok(())
+}
+
+/// A content of these records, with room for so many more, and for a quarter of all beside: so a content that grows is
+/// seldom made anew.
+fn roomy(alloc: Global, copy: &[Rec], more: usize) -> Result<Content, AllocError>
+    requires copy { IsCopy copy.now }
+    requires more { more < 2 ^ 32 }
+    ensures { IfOk result (λ c. (c.records ≡ listed copy.now) × (more ≤ c.spare)) }
+{
+    let beside = more + (copy.len() + more) / 4;
+    let room = u32::try_from(beside).map_err(|_| AllocError)?;
+    Content::from_records(alloc, copy, room).map_err(|_| AllocError)
+}
+
+/// Makes room for more records in the contents.
+pub(crate) fn room_in_contents(
+    alloc: Global,
+    copies: &[Vec<Rec>],
+    contents: &mut [Content],
+    deltas: &[Vec<Rec>],
+) -> Result<(), AllocError>
+    requires inputs { length deltas.now ≡ length copies.now }
+    requires contents { map (λ c. c.records) contents.old ≡ map listed (lists_of copies.now) }
+    requires copied { All IsCopy (lists_of copies.now) }
+    requires short { All (λ d. vec_len d < 2 ^ 32) deltas.now }
+    ensures contents { map (λ c. c.records) contents.new ≡ map listed (lists_of copies.now) }
+    ensures spare { OnOk result ((i : ℕ) (c : ContentState) (d : Vec Rec Global) → i < length deltas.now
+        → length (slice_index_or deltas.now i d).items ≤ (slice_index_or contents.new i c).spare) }
+{
+    for i in 0..contents.len() {
+        let more = deltas[i].len();
+        if (contents[i].spare() as usize) < more {
+            contents[i] = roomy(alloc, &copies[i], more)?;
+        }
+    }
+    Ok(())
+}
+
+/// Makes room for so many windows in the rows.
+pub(crate) fn room_in_rows(rows: &mut [Vec<CalcValue>], windows: usize) -> Result<(), AllocError>
+    ensures rows { lists_of rows.new ≡ lists_of rows.old }
+    ensures room { OnOk result (All (λ row. windows ≤ vec_capacity row) rows.new) }
+{
+    for i in 0..rows.len() {
+        let more = windows.saturating_sub(rows[i].len());
+        rows[i].reserve(more)?;
+    }
+    Ok(())
+}

@@ -1,0 +1,205 @@
+// A group's sheet.
+ghost use Rattle.std.specs.Prelude.{◌≡◌, ◌↔◌, ℕ, ◌+◌, ◌*◌, ◌^◌, ◌<◌, ◌≤◌, [], List, length, map, replicate, All, Err, Some, IsSome};
+ghost use Rattle.std.specs.Prelude.{IfErr, IfOk, OnErr, OnOk, option_and_then, slice_get, slice_index_or, vec_len};
+ghost use Rattle.sheet_law.specs.Windows.{complete_windows};
+ghost use Rattle.sheet_law.specs.Touched.{longer};
+ghost use Rattle.sheet_law.specs.Scratch.{IsScratch};
+ghost use Rattle.calc_refresh.specs.declared.refusal.SheetNo.{SheetNo};
+ghost use Rattle.calc_refresh.specs.Lists.{lists_of};
+ghost use Rattle.calc_refresh.specs.Refreshed.{HasRoom, IsRefreshed, IsToldOf, evaluated, fault_after, fresh};
+ghost use Rattle.calc_refresh.specs.Sheet.{IsCopy, IsGrid, IsGroup};
+
+use crate::definition::GroupDefParts;
+use crate::limit::{records_after, windows_after, within_limits};
+use crate::refresh::refreshed;
+use crate::refusal::SheetNo;
+use crate::room::{room_in_contents, room_in_copies, room_in_rows};
+use calc_eval::{CalcValue, Checked};
+use late_insert::Content;
+use sheet_law::Grid;
+use std::alloc::{AllocError, Global};
+use std::marker::Model;
+use std::sync::ledger::Ledger;
+use trend_num::{Rec, Steps, WantOfMemory};
+
+/// The calculated rows of a group, and the records of its inputs that they were made of.
+#[derive(Drop)]
+pub struct Sheet {
+    pub(crate) alloc: Global,
+    pub(crate) calcs: Checked,
+    pub(crate) grid: Grid,
+    // The records of each input that were taken into account.
+    pub(crate) copies: Vec<Vec<Rec>>,
+    // What they read as.
+    pub(crate) contents: Vec<Content>,
+    // The time behind the last Kept one of each input.
+    pub(crate) ends: Vec<u64>,
+    // The values of each calculation, window by window.
+    pub(crate) rows: Vec<Vec<CalcValue>>,
+    pub(crate) evals: u64,
+}
+
+impl Model for Sheet {
+    ghost use Rattle.calc_refresh.specs.Code.{sheet_code};
+    ghost use Rattle.calc_refresh.specs.Lists.{lists_of};
+    ghost use Rattle.calc_refresh.specs.Sheet.{IsSheet, SheetState};
+
+    ghost Value = { SheetState };
+
+    ghost coded = { sheet_code };
+
+    ghost view = { λ s. record {
+        group = s.calcs; grid = s.grid; copies = lists_of s.copies.items; rows = lists_of s.rows.items; evals = s.evals
+    } };
+
+    ghost invariant = { λ s. IsSheet s.calcs s.grid (lists_of s.copies.items) s.contents.items s.ends.items (lists_of s.rows.items) };
+}
+
+/// The copies and the rows of a sheet.
+#[derive(Drop)]
+pub struct SheetParts {
+    /// Of each input the records that were taken into account, the oldest first.
+    pub copies: Vec<Vec<Rec>>,
+    /// Of each calculation its values in the windows 0, 1 and so on.
+    pub rows: Vec<Vec<CalcValue>>,
+}
+
+/// The sheet of a group at version 0: no records, and no rows.
+pub fn new_sheet(alloc: Global, def: &GroupDefParts) -> Result<Sheet, WantOfMemory>
+    requires group { IsGroup def.now.inputs def.now.calcs }
+    requires grid { IsGrid (record { start = def.now.start; period = def.now.period }) }
+    ensures empty { IfOk result (λ s. s ≡ fresh def.now.calcs (record { start = def.now.start; period = def.now.period })
+        (replicate def.now.inputs []) (replicate (length def.now.calcs.calcs) [])) }
+    ensures scratch { IfOk result (λ s. IsScratch s.group s.grid s.copies s.rows) }
+{
+    let inputs = def.inputs as usize;
+    let mut copies = Vec::with_capacity(alloc, inputs).map_err(|_| WantOfMemory)?;
+    let mut contents = Vec::with_capacity(alloc, inputs).map_err(|_| WantOfMemory)?;
+    for _ in 0..inputs {
+        copies.push_reserved(Vec::new(alloc));
+        contents.push_reserved(Content::new(alloc, 0)?);
+    }
+    let calcs = def.calcs.copy()?;
+    Ok(Sheet {
+        alloc,
+        grid: def.grid(),
+        copies,
+        contents,
+        ends: vec![in alloc; 0; inputs].map_err(|_| WantOfMemory)?,
+        rows: empty_rows(alloc, calcs.defs().len())?,
+        calcs,
+        evals: 0,
+    })
+}
+
+/// So many rows without values.
+fn empty_rows(alloc: Global, calcs: usize) -> Result<Vec<Vec<CalcValue>>, WantOfMemory>
+    ensures { IfOk result (λ rows. lists_of rows.items ≡ replicate calcs []) }
+{
+    let mut rows = Vec::with_capacity(alloc, calcs).map_err(|_| WantOfMemory)?;
+    for _ in 0..calcs {
+        rows.push_reserved(Vec::new(alloc));
+    }
+    Ok(rows)
+}
+
+impl Sheet {
+    /// Takes more records of each input, and evaluates the windows that are newly complete or touched. It fails where
+    /// the sheet would have more than 1,048,576 cells, else where it would have more than 2,097,152 records; and where
+    /// memory is wanting. It is then as it was.
+    pub fn apply<L: Ledger>(&mut self, deltas: &[Vec<Rec>], steps: &mut Steps<L>) -> Result<(), SheetNo>
+        requires inputs { length deltas.now ≡ length self.old.copies }
+        requires copied { All IsCopy (lists_of deltas.now) }
+        ensures refreshed { OnOk result (IsRefreshed self.old self.new (lists_of deltas.now)) }
+        ensures steps { OnOk result (steps.new ≡ steps.old + evaluated self.old (lists_of deltas.now)) }
+        ensures unchanged { OnErr result (self.new ≡ self.old) }
+        ensures no_steps { OnErr result (steps.new ≡ steps.old) }
+
+        // The limits are told whatever memory there is.
+        ensures limit { (why : SheetNo) → fault_after self.old (lists_of deltas.now) ≡ Some why → result ≡ Err why }
+        ensures fault { IfErr result (IsToldOf (fault_after self.old (lists_of deltas.now))) }
+    {
+        let windows = windows_after(self.grid, &self.ends, deltas);
+        let calcs = self.rows.len() as u64;
+        within_limits(windows * calcs, records_after(&self.copies, deltas))?;
+        let due = self.bring(windows as usize, deltas, steps)?;
+        self.evals = self.evals.saturating_add(due * calcs);
+        Ok(())
+    }
+
+    // Takes more records, with which so many windows are complete. Returns how many windows were evaluated.
+    fn bring<L: Ledger>(
+        &mut self,
+        windows: usize,
+        deltas: &[Vec<Rec>],
+        steps: &mut Steps<L>,
+    ) -> Result<u64, AllocError> {
+        let mut marks = vec![in self.alloc; 0u64; windows]?;
+        self.make_room(windows, deltas)?;
+        Ok(refreshed(
+            &self.calcs,
+            self.grid,
+            self.copies.as_mut_slice(),
+            self.contents.as_mut_slice(),
+            self.ends.as_mut_slice(),
+            self.rows.as_mut_slice(),
+            deltas,
+            marks.as_mut_slice(),
+            steps,
+        ))
+    }
+
+    // Makes room for more records, and for so many windows.
+    fn make_room(&mut self, windows: usize, deltas: &[Vec<Rec>]) -> Result<(), AllocError> {
+        room_in_copies(self.copies.as_mut_slice(), deltas)?;
+        room_in_contents(
+            self.alloc,
+            self.copies.as_slice(),
+            self.contents.as_mut_slice(),
+            deltas,
+        )?;
+        room_in_rows(self.rows.as_mut_slice(), windows)
+    }
+
+    /// How many records of an input were taken into account.
+    pub fn versions(&self, i: u32) -> u32
+        requires { i < length self.now.copies }
+        ensures { (d : List Rec) → result ≡ length (slice_index_or self.now.copies i d) }
+    {
+        self.copies[i as usize].len() as u32
+    }
+
+    /// How many windows are complete.
+    pub fn windows(&self) -> u32
+        ensures { result ≡ complete_windows self.now.grid self.now.copies }
+    {
+        self.rows[0].len() as u32
+    }
+
+    /// The value of a calculation in a window. None where there is no such calculation, or the window is not complete.
+    pub fn row(&self, calc: u32, k: u64) -> Option<CalcValue>
+        ensures value { result ≡ option_and_then (λ row. slice_get row k) (slice_get self.now.rows calc) }
+        ensures there { IsSome result ↔ ((calc < length self.now.group.calcs) × (k < complete_windows self.now.grid self.now.copies)) }
+    {
+        let row = self.rows.get(calc as usize)?;
+        row.get(k as usize).copied()
+    }
+
+    /// How many values `apply` has evaluated since the sheet was made. The count stays at 2^64 - 1.
+    pub fn evals(&self) -> u64
+        ensures { result ≡ self.now.evals }
+    {
+        self.evals
+    }
+
+    /// The copies and the rows.
+    pub fn into_parts(self) -> SheetParts
+        ensures copies { lists_of result.copies.items ≡ self.copies }
+        ensures rows { lists_of result.rows.items ≡ self.rows }
+    {
+        SheetParts {
+            copies: self.copies,
+            rows: self.rows,
+        }
+    }
+}
