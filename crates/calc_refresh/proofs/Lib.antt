@@ -1,3 +1,6 @@
 pub mod Spans
 pub mod Marking
 pub mod Turns
+pub mod Inputs
+pub mod Columns
+pub mod Limits

@@ -50,17 +50,10 @@ fn evaluate_window<L: Ledger>(
     ensures steps { steps.new ≡ steps.old + length rows.old }
 {
     let from = grid.start + k as u64 * grid.period;
+    let to = grid.start + (k as u64 + 1) * grid.period;
     let mut lower = [CalcValue::Num(0); 64];
     for i in 0..rows.len() {
-        let value = eval(
-            calcs,
-            i as u32,
-            from,
-            from + grid.period,
-            contents,
-            &lower[..i],
-            steps,
-        );
+        let value = eval(calcs, i as u32, from, to, contents, &lower[..i], steps);
         lower[i] = value;
         let row = &mut rows[i];
         row[k] = value;

@@ -1,13 +1,12 @@
 // How much a sheet would have with more records, and whether that is too much.
-ghost use Rattle.std.specs.Prelude.{◌≡◌, ℕ, ◌+◌, ◌*◌, ◌^◌, ◌<◌, ◌≤◌, List, length, map, max, All, MatchResult, Some, None};
-ghost use Rattle.std.specs.Prelude.{vec_len};
+ghost use Rattle.std.specs.Prelude.{◌≡◌, ℕ, ◌+◌, ◌*◌, ◌^◌, ◌<◌, ◌≤◌, ◌++◌, List, length, map, max, All, MatchResult, Some, None};
 ghost use Rattle.trend_num.specs.declared.archive.Rec.{Rec};
 ghost use Rattle.trend_num.specs.Ranges.{InRange, last_time};
 ghost use Rattle.sheet_law.specs.Windows.{complete_windows, kept_end};
 ghost use Rattle.sheet_law.specs.Touched.{longer};
 ghost use Rattle.calc_refresh.specs.Lists.{lists_of, total_length};
 ghost use Rattle.calc_refresh.specs.Refreshed.{limit_fault};
-ghost use Rattle.calc_refresh.specs.Sheet.{IsGrid};
+ghost use Rattle.calc_refresh.specs.Sheet.{IsCopy, IsGrid};
 
 use crate::refusal::SheetNo;
 use crate::taking::kept_end_on;
@@ -38,7 +37,7 @@ pub(crate) fn windows_after(grid: Grid, ends: &[u64], deltas: &[Vec<Rec>]) -> u6
     requires grid { IsGrid grid }
     requires some { 1 ≤ length ends.now }
     requires inputs { length deltas.now ≡ length ends.now }
-    requires range { All (λ d. All (λ r. InRange r.point) d.items) deltas.now }
+    requires copied { All IsCopy (lists_of deltas.now) }
     ensures { (rss : List (List Rec)) → ends.now ≡ map kept_end rss
         → result ≡ complete_windows grid (longer rss (lists_of deltas.now)) }
 {
@@ -53,8 +52,8 @@ pub(crate) fn windows_after(grid: Grid, ends: &[u64], deltas: &[Vec<Rec>]) -> u6
 pub(crate) fn records_after(copies: &[Vec<Rec>], deltas: &[Vec<Rec>]) -> u64
     requires inputs { length deltas.now ≡ length copies.now }
     requires few { length copies.now ≤ 64 }
-    requires short { All (λ c. vec_len c < 2 ^ 32) copies.now }
-    requires more_short { All (λ d. vec_len d < 2 ^ 32) deltas.now }
+    requires copied { All IsCopy (lists_of copies.now) }
+    requires more { All IsCopy (lists_of deltas.now) }
     ensures { result ≡ total_length (longer (lists_of copies.now) (lists_of deltas.now)) }
 {
     let mut records = 0;

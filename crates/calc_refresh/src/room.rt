@@ -1,5 +1,5 @@
 // Memory for more records and windows, all of it before anything changes.
-ghost use Rattle.std.specs.Prelude.{◌≡◌, ℕ, ◌+◌, ◌^◌, ◌<◌, ◌≤◌, List, length, map, All, OnOk};
+ghost use Rattle.std.specs.Prelude.{◌≡◌, ℕ, ◌+◌, ◌^◌, ◌<◌, ◌≤◌, List, length, map, All, IfOk, OnOk};
 ghost use Rattle.std.specs.Prelude.{slice_index_or, vec_len, vec_capacity};
 ghost use Rattle.std.specs.Prelude.{Vec};
 ghost use Rattle.std.specs.declared.alloc.Global.{Global};
@@ -49,7 +49,7 @@ pub(crate) fn room_in_contents(
     requires inputs { length deltas.now ≡ length copies.now }
     requires contents { map (λ c. c.records) contents.old ≡ map listed (lists_of copies.now) }
     requires copied { All IsCopy (lists_of copies.now) }
-    requires short { All (λ d. vec_len d < 2 ^ 32) deltas.now }
+    requires more { All IsCopy (lists_of deltas.now) }
     ensures contents { map (λ c. c.records) contents.new ≡ map listed (lists_of copies.now) }
     ensures spare { OnOk result ((i : ℕ) (c : ContentState) (d : Vec Rec Global) → i < length deltas.now
         → length (slice_index_or deltas.now i d).items ≤ (slice_index_or contents.new i c).spare) }

@@ -10,7 +10,7 @@ ghost use Rattle.sheet_law.specs.Windows.{kept_end, window_from, window_to};
 ghost use Rattle.sheet_law.specs.Touched.{any_touched, is_touched, longer, touches};
 ghost use Rattle.calc_refresh.specs.Lists.{lists_of};
 ghost use Rattle.calc_refresh.specs.Marks.{is_marked};
-ghost use Rattle.calc_refresh.specs.Sheet.{IsGrid};
+ghost use Rattle.calc_refresh.specs.Sheet.{IsCopy, IsGrid};
 
 use crate::mark::mark;
 use crate::window::{Span, met, stretch_from, stretch_to};
@@ -100,8 +100,9 @@ pub(crate) fn take_all(
     marks: &mut [u64],
 )
     requires grid { IsGrid grid }
-    requires range { All (λ d. All (λ r. InRange r.point) d.items) deltas.now }
+    requires range { All IsCopy (lists_of deltas.now) }
     requires inputs { length deltas.now ≡ length copies.old }
+    requires copied { All IsCopy (lists_of copies.old) }
     requires contents { map (λ c. c.records) contents.old ≡ map listed (lists_of copies.old) }
     requires ends { ends.old ≡ map kept_end (lists_of copies.old) }
     requires spare { (i : ℕ) (c : ContentState) (d : Vec Rec Global) → i < length deltas.now
