@@ -1,10 +1,13 @@
 -- Columns of rows: what stands in each row at one place.
-use Rattle.std.proofs.Common.{◌≡◌, ◌≢◌, ℕ, zero, suc, ◌+◌, ◌<◌, ◌≤◌, List, [], ◌∷◌, ◌++◌, Option, Some, length, get_or, map, take, set, replicate, refl, sym, ap, ◌∙◌, arith}
+use Rattle.std.proofs.Common.{◌≡◌, ◌≢◌, ℕ, zero, suc, ◌+◌, ◌<◌, ◌≤◌, List, [], ◌∷◌, ◌++◌, Option, Some, length, get_or, map, take, set, fold, All, refl, sym, ap, ◌∙◌, arith}
 use Rattle.std.specs.Prelude.{slice_get, Vec, vec_len}
 use Rattle.std.specs.declared.alloc.Global.{Global}
 use Rattle.std.proofs.Math.Seq.{map-set_same}
-use Rattle.std.proofs.lemmas.List.{length-map, length-set, map-set, map_push, take_more, take_more_set}
+use Rattle.std.proofs.lemmas.List.{get_or-map, length_push, length-map, map-set, map_push, take_all, take_more, take_more_set}
 use Rattle.std.proofs.lemmas.Option.{slice_get_within, get_or_from_slice_get}
+use Rattle.trend_num.specs.declared.point.Point.{Point}
+use Rattle.calc_check.specs.Group.{Calculation, Group}
+use Rattle.calc_eval.specs.Value.{scope, value, values}
 use Rattle.trend_num.specs.declared.value.CalcValue.{CalcValue}
 use Rattle.sheet_law.specs.Scratch.{column}
 use Rattle.calc_refresh.specs.Lists.{lists_of}
@@ -68,3 +71,40 @@ column_more rows i k row v vals within there value before =
     next =
         take_more vals i v (slice_get_within vals i v value)
         ∙ ap (λ x. take i vals ++ x ∷ []) (get_or_from_slice_get vals i v v value)
+
+-- ---- values
+
+-- there is a value for each calculation
+pub length-values : (g : Group) (points : List (List Point)) (from to : ℕ)
+    → length (values g points from to) ≡ length g.calcs
+length-values g points from to = (let all = go [] g.calcs in omega arith)
+  where
+    go : (vs : List CalcValue) (cs : List Calculation)
+        → length (fold (λ l c. l ++ value (scope g points l) from to c.tree ∷ []) vs cs) ≡ length vs + length cs
+    go vs [] = omega arith
+    go vs (c ∷ cs) =
+        let v = value (scope g points vs) from to c.tree in
+        let rest = go (vs ++ v ∷ []) cs in
+        omega (arith, length_push vs v)
+
+-- a column that is filled as far as there are rows
+pub column_full : (rows : List (Vec CalcValue Global)) (i k : ℕ) (vals : List CalcValue) → length rows ≤ i
+    → length vals ≡ length rows → take i (column k (lists_of rows)) ≡ map Some (take i vals)
+    → column k (lists_of rows) ≡ map Some vals
+column_full rows i k vals within as_many filled =
+    sym (take_all i (column k (lists_of rows)) (omega (arith, length-column rows k)))
+    ∙ (filled ∙ ap (map Some) (take_all i vals (omega arith)))
+
+-- rows with the same lengths have it at each place
+pub lengths_at : (rows olds : List (Vec CalcValue Global)) (i : ℕ) (v : Vec CalcValue Global) → i < length rows
+    → i < length olds → map (λ row. vec_len row) rows ≡ map (λ row. vec_len row) olds
+    → vec_len (get_or rows i v) ≡ vec_len (get_or olds i v)
+lengths_at rows olds i v within inside same =
+    sym (get_or-map (λ row. vec_len row) rows i v 0 within)
+    ∙ (ap (λ l. get_or l i 0) same ∙ get_or-map (λ row. vec_len row) olds i v 0 inside)
+
+pub lengths_all : (rows olds : List (Vec CalcValue Global)) (n : ℕ) → length rows ≡ length olds
+    → map (λ row. vec_len row) rows ≡ map (λ row. vec_len row) olds → All (λ row. vec_len row ≡ n) olds
+    → All (λ row. vec_len row ≡ n) rows
+lengths_all rows olds n many same each = λ k d within.
+    lengths_at rows olds k d within (omega arith) same ∙ each k d (omega arith)

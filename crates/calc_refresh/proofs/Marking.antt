@@ -1,9 +1,11 @@
 -- Marks of windows.
-use Rattle.std.proofs.Common.{◌≡◌, ℕ, zero, suc, ◌+◌, ◌<◌, ◌≤◌, inl, inr, Bool, true, false, nat_lt, nat_le, List, [], ◌∷◌, ◌++◌, length, get_or, take, set, replicate, refl, sym, ap, ◌∙◌, arith}
-use Rattle.std.specs.Prelude.{◌&&◌, ◌||◌, max}
-use Rattle.std.proofs.lemmas.Bool.{cases_lt}
+use Rattle.std.proofs.Common.{◌≡◌, ℕ, zero, suc, ◌+◌, ◌<◌, ◌≤◌, inl, inr, Bool, true, false, cond, nat_lt, nat_le, List, [], ◌∷◌, ◌++◌, length, get_or, take, set, replicate, refl, sym, ap, ◌∙◌, arith}
+use Rattle.std.specs.Prelude.{◌&&◌, ◌||◌, count_by, max}
+use Rattle.std.specs.List.{range_with_len}
+use Rattle.std.proofs.lemmas.Bool.{cases_lt, lt-ltb, le-ltb}
 use Rattle.std.proofs.lemmas.Bool.Decides.{nat_tests}
-use Rattle.std.proofs.lemmas.List.{take-set-le, take_more, take-replicate}
+use Rattle.std.proofs.lemmas.List.{map-id, take-set-le, take_more}
+use Rattle.std.proofs.lemmas.List.FromFn.{sum_by-map-range_with_len_more}
 use Rattle.calc_refresh.specs.Marks.{furthest, is_marked}
 
 -- how far marks reach with one more of them
@@ -60,3 +62,18 @@ unmarked n k = none (k + 1) n
 
     none : (m n : ℕ) → nat_lt k (furthest (take m (replicate n 0))) ≡ false
     none m n = (let zero_is = furthest-zeros m n in grind (arith, nat_tests))
+
+-- whether the last mark reaches beyond a window tells whether it is marked
+pub marked_now : (ms : List ℕ) (k b : ℕ) → b ≡ furthest (take (k + 1) ms) → k < b → is_marked ms k ≡ true
+marked_now ms k b is below = lt-ltb k (furthest (take (k + 1) ms)) (omega arith)
+
+pub unmarked_now : (ms : List ℕ) (k b : ℕ) → b ≡ furthest (take (k + 1) ms) → b ≤ k → is_marked ms k ≡ false
+unmarked_now ms k b is above = le-ltb k (furthest (take (k + 1) ms)) (omega arith)
+
+-- a count of numbers with the next one
+pub count_more : (p : ℕ → Bool) (n : ℕ)
+    → count_by p (range_with_len 0 (n + 1)) ≡ count_by p (range_with_len 0 n) + cond (p n) 1 0
+count_more p n =
+    ap (count_by p) (sym (map-id (range_with_len 0 (n + 1))))
+    ∙ (sum_by-map-range_with_len_more (λ x. cond (p x) 1 0) (λ (i : ℕ). i) 0 n n (omega arith)
+    ∙ ap (λ l. count_by p l + cond (p n) 1 0) (map-id (range_with_len 0 n)))

@@ -28,29 +28,28 @@ pub(crate) fn lengthen(rows: &mut [Vec<CalcValue>], windows: usize)
     }
 }
 
-/// Evaluates all calculations in a window, each by the ones before it, and writes their values into the rows.
+/// Evaluates all calculations in the window from one time to another, each by the ones before it, and writes their
+/// values into the rows at its place.
 fn evaluate_window<L: Ledger>(
     calcs: &Checked,
-    grid: Grid,
-    k: usize,
     contents: &[Content],
+    from: u64,
+    to: u64,
     rows: &mut [Vec<CalcValue>],
+    k: usize,
     steps: &mut Steps<L>,
 )
-    requires grid { IsGrid grid }
-    requires complete { window_to grid k ≤ last_time }
     requires inputs { length contents.now ≡ length calcs.now.inputs }
+    requires rises { from < to }
+    requires times { to ≤ last_time }
     requires calcs { length rows.old ≡ length calcs.now.calcs }
     requires few { length rows.old ≤ 64 }
     requires within { All (λ row. k < vec_len row) rows.old }
-    ensures values { column k (lists_of rows.new)
-        ≡ map Some (values calcs.now (points_in contents.now) (window_from grid k) (window_to grid k)) }
+    ensures values { column k (lists_of rows.new) ≡ map Some (values calcs.now (points_in contents.now) from to) }
     ensures others { (j : ℕ) → j ≢ k → column j (lists_of rows.new) ≡ column j (lists_of rows.old) }
     ensures lengths { map (λ row. vec_len row) rows.new ≡ map (λ row. vec_len row) rows.old }
     ensures steps { steps.new ≡ steps.old + length rows.old }
 {
-    let from = grid.start + k as u64 * grid.period;
-    let to = grid.start + (k as u64 + 1) * grid.period;
     let mut lower = [CalcValue::Num(0); 64];
     for i in 0..rows.len() {
         let value = eval(calcs, i as u32, from, to, contents, &lower[..i], steps);
@@ -89,7 +88,9 @@ pub(crate) fn evaluate<L: Ledger>(
     for k in 0..marks.len() {
         behind = marks[k].max(behind);
         if (k as u64) < behind {
-            evaluate_window(calcs, grid, k, contents, rows, steps);
+            let from = grid.start + k as u64 * grid.period;
+            let to = grid.start + (k as u64 + 1) * grid.period;
+            evaluate_window(calcs, contents, from, to, rows, k, steps);
             due += 1;
         }
     }
