@@ -1,9 +1,10 @@
 -- Lists of lists: one input after another, each with the records that it gets.
-use Rattle.std.proofs.Common.{◌≡◌, ℕ, zero, suc, ◌+◌, ◌<◌, ◌≤◌, Bool, true, false, List, [], ◌∷◌, ◌++◌, length, get_or, map, take, set, All, refl, sym, subst, ap, ◌∙◌, arith}
+use Rattle.std.proofs.Common.{◌≡◌, ℕ, zero, suc, ◌+◌, ◌<◌, ◌≤◌, inl, inr, Bool, true, false, List, [], ◌∷◌, ◌++◌, length, get_or, map, take, set, All, refl, sym, subst, ap, ◌∙◌, arith}
 use Rattle.std.specs.Prelude.{◌||◌, Vec}
 use Rattle.std.specs.declared.alloc.Global.{Global}
+use Rattle.std.proofs.lemmas.Bool.{cases_eq}
 use Rattle.std.proofs.Math.Seq.{map-set_same}
-use Rattle.std.proofs.lemmas.List.{get_or-map, length-map, length-take-le, map-set, map_more}
+use Rattle.std.proofs.lemmas.List.{get_or-map, get_or-set_other, get_or-set_same, length-append, length-map, length-take-le, map-set, map_more, take_more}
 use Rattle.trend_num.specs.declared.archive.Rec.{Rec}
 use Rattle.trend_model.specs.Contents.{ContentState, listed}
 use Rattle.sheet_law.specs.Windows.{kept_end}
@@ -154,3 +155,45 @@ any_touched_more vs ds i from to v d within same =
     ∙ (any_touched-push (lists_of vs) (lists_of (take i ds)) (get_or ds i d).items from to (omega (arith, length-map vs (λ v. v.items)))
     ∙ (ap (λ n. any_touched (lists_of vs) (lists_of (take i ds)) from to || is_touched (get_or (lists_of vs) n []) (get_or ds i d).items from to) count
     ∙ ap (λ l. any_touched (lists_of vs) (lists_of (take i ds)) from to || is_touched l (get_or ds i d).items from to) (lists_at vs i v (omega arith))))
+
+-- what is read at a place is one of the lists
+pub each_read : (P : List Rec → Type 0) (vs : List (Vec Rec Global)) (i : ℕ) (v : Vec Rec Global) → i < length vs
+    → v ≡ get_or vs i v → All P (lists_of vs) → P v.items
+each_read P vs i v within is each =
+    subst (λ (w : Vec Rec Global). P w.items) (sym is) (each_at P vs i v within each)
+
+-- the records of an input, with those that it gets
+pub longer_at : (rss mores : List (List Rec)) (i : ℕ) → i < length rss → i < length mores
+    → get_or (longer rss mores) i [] ≡ get_or rss i [] ++ get_or mores i []
+longer_at [] mores i within inside = absurd (omega arith)
+longer_at (rs ∷ rss) [] i within inside = absurd (omega arith)
+longer_at (rs ∷ rss) (m ∷ mores) zero within inside = refl
+longer_at (rs ∷ rss) (m ∷ mores) (suc i) within inside = longer_at rss mores i (omega arith) (omega arith)
+
+-- how many records there are, input by input
+pub total_more : (rss : List (List Rec)) (i : ℕ) → i < length rss
+    → total_length (take (i + 1) rss) ≡ total_length (take i rss) + length (get_or rss i [])
+total_more rss i within =
+    ap total_length (take_more rss i [] within) ∙ total-push (take i rss) (get_or rss i [])
+
+pub length_at : (vs ds : List (Vec Rec Global)) (i : ℕ) (v d : Vec Rec Global) → i < length vs → i < length ds
+    → v ≡ get_or vs i v → d ≡ get_or ds i d
+    → length (get_or (longer (lists_of vs) (lists_of ds)) i []) ≡ length v.items + length d.items
+length_at vs ds i v d within inside is also =
+    ap length (longer_at (lists_of vs) (lists_of ds) i (omega (arith, length-map vs (λ v. v.items)))
+    (omega (arith, length-map ds (λ v. v.items)))
+    ∙ (ap (λ l. l ++ get_or (lists_of ds) i []) (lists_at vs i v within ∙ ap (λ (w : Vec Rec Global). w.items) (sym is))
+    ∙ ap (λ l. v.items ++ l) (lists_at ds i d inside ∙ ap (λ (w : Vec Rec Global). w.items) (sym also))))
+    ∙ length-append v.items d.items
+
+-- a fact of the first elements, and of the one that is written next
+pub each_set : {A : Type 0} → (P : ℕ → A → Type 0) (xs : List A) (i : ℕ) (x : A) → i < length xs
+    → ((j : ℕ) (d : A) → j < i → P j (get_or xs j d)) → P i x
+    → (j : ℕ) (d : A) → j < i + 1 → P j (get_or (set xs i x) j d)
+each_set P xs i x within before here j d upto =
+    elim (cases_eq j i) [
+      | inl same ↦
+          subst (λ (k : ℕ). P k (get_or (set xs i x) k d)) (sym same)
+          (subst (P i) (sym (get_or-set_same xs i x d within)) here)
+      | inr other ↦ subst (P j) (sym (get_or-set_other xs i j x d other)) (before j d (omega arith))
+    ]

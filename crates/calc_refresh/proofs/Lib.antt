@@ -4,3 +4,4 @@ pub mod Turns
 pub mod Inputs
 pub mod Columns
 pub mod Limits
+pub mod Refreshing

@@ -32,11 +32,36 @@ pub(crate) fn room_in_copies(copies: &mut [Vec<Rec>], deltas: &[Vec<Rec>]) -> Re
 fn roomy(alloc: Global, copy: &[Rec], more: usize) -> Result<Content, AllocError>
     requires copy { IsCopy copy.now }
     requires more { more < 2 ^ 32 }
-    ensures { IfOk result (λ c. (c.records ≡ listed copy.now) × (more ≤ c.spare)) }
+    ensures records { IfOk result (λ c. c.records ≡ listed copy.now) }
+    ensures spare { IfOk result (λ c. more ≤ c.spare) }
 {
     let beside = more + (copy.len() + more) / 4;
-    let room = u32::try_from(beside).map_err(|_| AllocError)?;
-    Content::from_records(alloc, copy, room).map_err(|_| AllocError)
+    let Ok(room) = u32::try_from(beside) else {
+        return Err(AllocError);
+    };
+    match Content::from_records(alloc, copy, room) {
+        Ok(content) => Ok(content),
+        Err(_) => Err(AllocError),
+    }
+}
+
+/// Makes room for more records in the content of a copy.
+fn room_in_content(
+    alloc: Global,
+    copy: &[Rec],
+    content: &mut Content,
+    more: usize,
+) -> Result<(), AllocError>
+    requires copy { IsCopy copy.now }
+    requires content { content.old.records ≡ listed copy.now }
+    requires more { more < 2 ^ 32 }
+    ensures content { content.new.records ≡ content.old.records }
+    ensures spare { OnOk result (more ≤ content.new.spare) }
+{
+    if (content.spare() as usize) < more {
+        *content = roomy(alloc, copy, more)?;
+    }
+    Ok(())
 }
 
 /// Makes room for more records in the contents.
@@ -55,10 +80,7 @@ pub(crate) fn room_in_contents(
         → length (slice_index_or deltas.now i d).items ≤ (slice_index_or contents.new i c).spare) }
 {
     for i in 0..contents.len() {
-        let more = deltas[i].len();
-        if (contents[i].spare() as usize) < more {
-            contents[i] = roomy(alloc, &copies[i], more)?;
-        }
+        room_in_content(alloc, &copies[i], &mut contents[i], deltas[i].len())?;
     }
     Ok(())
 }
