@@ -33,6 +33,7 @@ reached_is_time : (t : ℕ) (rs : List Rec) → All (λ r. InRange r.point) rs �
 reached_is_time t [] each reach = absurd (false≢true reach)
 reached_is_time t (r ∷ rs) each reach =
     by_test (not (is_late_record r.kind)) (nat_le t r.point.t) reach refl
+    (reached_is_time t rs (All-tail (λ x. InRange x.point) r rs each))
   where
     head : r.point.t ≤ last_time
     head = (All-head (λ x. InRange x.point) r rs each).time
@@ -40,10 +41,11 @@ reached_is_time t (r ∷ rs) each reach =
     under : nat_le t r.point.t ≡ true → t ≤ last_time
     under h = (let le : t ≤ r.point.t = grind (arith, nat_tests) in omega (arith, le, head))
 
-    by_test : (a b : Bool) → ((a && b) || reaches t rs) ≡ true → nat_le t r.point.t ≡ b → t ≤ last_time
-    by_test true true h same = under same
-    by_test true false h same = reached_is_time t rs (All-tail (λ x. InRange x.point) r rs each) h
-    by_test false b h same = reached_is_time t rs (All-tail (λ x. InRange x.point) r rs each) h
+    by_test : (a b : Bool) → ((a && b) || reaches t rs) ≡ true → nat_le t r.point.t ≡ b
+        → (reaches t rs ≡ true → t ≤ last_time) → t ≤ last_time
+    by_test true true h same rest = under same
+    by_test true false h same rest = rest h
+    by_test false b h same rest = rest h
 
 pub complete_is_time : (w : Grid) (rss : List (List Rec)) (k : ℕ) → 0 < w.period → 0 < length rss → All IsCopy rss
     → k < complete_windows w rss → window_to w k ≤ last_time
@@ -166,7 +168,7 @@ swept g w (rs ∷ rss) mores rows wider after contents marks due s = record {
         let known = long_vecs rows (complete_windows w (rs ∷ rss)) s.known in
         let not_new : nat_le (complete_windows w (rs ∷ rss)) k ≡ false = grind (arith, nat_tests) in
         s.others k inside (s.marked k inside ∙ ap₂ (λ a b. a || b) not_new apart)
-        ∙ s.widened k (λ i d within. let h = known i d within in omega arith) inside
+        ∙ s.widened k (λ i d at. let h = known i d at in omega arith) inside
 
     at : (k : ℕ) → values g (points_in contents) (window_from w k) (window_to w k) ≡ values_at g w (longer (rs ∷ rss) mores) k
     at k = ap (λ ps. values g ps (window_from w k) (window_to w k)) (points_same contents (longer (rs ∷ rss) mores) s.read)

@@ -6,7 +6,7 @@ ghost use Rattle.sheet_law.specs.Touched.{longer};
 ghost use Rattle.sheet_law.specs.Scratch.{IsScratch};
 ghost use Rattle.calc_refresh.specs.declared.refusal.SheetNo.{SheetNo};
 ghost use Rattle.calc_refresh.specs.Lists.{lists_of};
-ghost use Rattle.calc_refresh.specs.Refreshed.{HasRoom, IsRefreshed, IsToldOf, evaluated, fault_after, fresh};
+ghost use Rattle.calc_refresh.specs.Refreshed.{HasRoom, IsRefreshed, IsSheetAfter, IsToldOf, evaluated, fault_after, fresh};
 ghost use Rattle.calc_refresh.specs.Sheet.{IsCopy, IsGrid, IsGroup};
 
 use crate::definition::GroupDefParts;
@@ -133,7 +133,20 @@ impl Sheet {
         windows: usize,
         deltas: &[Vec<Rec>],
         steps: &mut Steps<L>,
-    ) -> Result<u64, AllocError> {
+    ) -> Result<u64, AllocError>
+        requires inputs { length deltas.now ≡ length self.old.copies }
+        requires copied { All IsCopy (lists_of deltas.now) }
+        requires short { All IsCopy (longer self.old.copies (lists_of deltas.now)) }
+        requires windows { windows ≡ complete_windows self.old.grid (longer self.old.copies (lists_of deltas.now)) }
+        requires few { windows < 2 ^ 32 }
+        ensures group { self.new.group ≡ self.old.group }
+        ensures grid { self.new.grid ≡ self.old.grid }
+        ensures evals { self.new.evals ≡ self.old.evals }
+        ensures after { IfOk result (IsSheetAfter self.old.group self.old.grid self.old.copies self.old.rows self.new.copies self.new.rows (lists_of deltas.now)) }
+        ensures steps { IfOk result (λ due. steps.new ≡ steps.old + due * length self.old.group.calcs) }
+        ensures unchanged { OnErr result (self.new ≡ self.old) }
+        ensures no_steps { OnErr result (steps.new ≡ steps.old) }
+    {
         let mut marks = vec![in self.alloc; 0u64; windows]?;
         self.make_room(windows, deltas)?;
         Ok(refreshed(
@@ -150,7 +163,12 @@ impl Sheet {
     }
 
     // Makes room for more records, and for so many windows.
-    fn make_room(&mut self, windows: usize, deltas: &[Vec<Rec>]) -> Result<(), AllocError> {
+    fn make_room(&mut self, windows: usize, deltas: &[Vec<Rec>]) -> Result<(), AllocError>
+        requires inputs { length deltas.now ≡ length self.old.copies }
+        requires copied { All IsCopy (lists_of deltas.now) }
+        ensures same { self.new ≡ self.old }
+        ensures room { OnOk result (HasRoom self.new.copies.items self.new.contents.items self.new.rows.items deltas.now windows) }
+    {
         room_in_copies(self.copies.as_mut_slice(), deltas)?;
         room_in_contents(
             self.alloc,
