@@ -5,3 +5,5 @@ pub mod Inputs
 pub mod Columns
 pub mod Limits
 pub mod Refreshing
+pub mod Applying
+pub mod Beginning

@@ -6,6 +6,7 @@ ghost use Rattle.std.specs.declared.alloc.Global.{Global};
 ghost use Rattle.trend_num.specs.declared.archive.Rec.{Rec};
 ghost use Rattle.trend_model.specs.Contents.{ContentState, listed};
 ghost use Rattle.calc_refresh.specs.Lists.{lists_of};
+ghost use Rattle.calc_refresh.specs.Refreshed.{HasRoom};
 ghost use Rattle.calc_refresh.specs.Sheet.{IsCopy};
 
 use calc_eval::CalcValue;
@@ -95,4 +96,27 @@ pub(crate) fn room_in_rows(rows: &mut [Vec<CalcValue>], windows: usize) -> Resul
         rows[i].reserve(more)?;
     }
     Ok(())
+}
+
+/// Makes room for more records of each input, and for so many windows. Nothing else changes, whatever comes.
+pub(crate) fn make_room(
+    alloc: Global,
+    copies: &mut [Vec<Rec>],
+    contents: &mut [Content],
+    rows: &mut [Vec<CalcValue>],
+    deltas: &[Vec<Rec>],
+    windows: usize,
+) -> Result<(), AllocError>
+    requires inputs { length deltas.now ≡ length copies.old }
+    requires read { map (λ c. c.records) contents.old ≡ map listed (lists_of copies.old) }
+    requires copied { All IsCopy (lists_of copies.old) }
+    requires more { All IsCopy (lists_of deltas.now) }
+    ensures copies { lists_of copies.new ≡ lists_of copies.old }
+    ensures read { map (λ c. c.records) contents.new ≡ map listed (lists_of copies.new) }
+    ensures rows { lists_of rows.new ≡ lists_of rows.old }
+    ensures room { OnOk result (HasRoom copies.new contents.new rows.new deltas.now windows) }
+{
+    room_in_copies(copies, deltas)?;
+    room_in_contents(alloc, copies, contents, deltas)?;
+    room_in_rows(rows, windows)
 }

@@ -6,18 +6,18 @@ ghost use Rattle.sheet_law.specs.Touched.{longer};
 ghost use Rattle.sheet_law.specs.Scratch.{IsScratch};
 ghost use Rattle.calc_refresh.specs.declared.refusal.SheetNo.{SheetNo};
 ghost use Rattle.calc_refresh.specs.Lists.{lists_of};
-ghost use Rattle.calc_refresh.specs.Refreshed.{HasRoom, IsRefreshed, IsSheetAfter, IsToldOf, evaluated, fault_after, fresh};
+ghost use Rattle.calc_refresh.specs.Refreshed.{IsRefreshed, IsToldOf, evaluated, fault_after, fresh};
 ghost use Rattle.calc_refresh.specs.Sheet.{IsCopy, IsGrid, IsGroup};
 
 use crate::definition::GroupDefParts;
 use crate::limit::{records_after, windows_after, within_limits};
-use crate::refresh::refreshed;
+use crate::refresh::bring;
 use crate::refusal::SheetNo;
-use crate::room::{room_in_contents, room_in_copies, room_in_rows};
+use crate::saved::from_saved;
 use calc_eval::{CalcValue, Checked};
 use late_insert::Content;
 use sheet_law::Grid;
-use std::alloc::{AllocError, Global};
+use std::alloc::Global;
 use std::marker::Model;
 use std::sync::ledger::Ledger;
 use trend_num::{Rec, Steps, WantOfMemory};
@@ -72,33 +72,34 @@ pub fn new_sheet(alloc: Global, def: &GroupDefParts) -> Result<Sheet, WantOfMemo
         (replicate def.now.inputs []) (replicate (length def.now.calcs.calcs) [])) }
     ensures scratch { IfOk result (λ s. IsScratch s.group s.grid s.copies s.rows) }
 {
-    let inputs = def.inputs as usize;
-    let mut copies = Vec::with_capacity(alloc, inputs).map_err(|_| WantOfMemory)?;
-    let mut contents = Vec::with_capacity(alloc, inputs).map_err(|_| WantOfMemory)?;
-    for _ in 0..inputs {
-        copies.push_reserved(Vec::new(alloc));
-        contents.push_reserved(Content::new(alloc, 0)?);
+    let copies = empty_copies(alloc, def.inputs as usize)?;
+    let rows = empty_rows(alloc, def.calcs.defs().len())?;
+    match from_saved(alloc, def, copies, rows) {
+        Ok(sheet) => Ok(sheet),
+        Err(_) => Err(WantOfMemory),
     }
-    let calcs = def.calcs.copy()?;
-    Ok(Sheet {
-        alloc,
-        grid: def.grid(),
-        copies,
-        contents,
-        ends: vec![in alloc; 0; inputs].map_err(|_| WantOfMemory)?,
-        rows: empty_rows(alloc, calcs.defs().len())?,
-        calcs,
-        evals: 0,
-    })
+}
+
+/// So many copies without records.
+fn empty_copies(alloc: Global, inputs: usize) -> Result<Vec<Vec<Rec>>, WantOfMemory>
+    ensures { IfOk result (λ copies. lists_of copies.items ≡ replicate inputs []) }
+{
+    let mut copies = Vec::new(alloc);
+    for _ in 0..inputs {
+        let copy = Vec::new(alloc);
+        copies.push(copy).map_err(|_| WantOfMemory)?;
+    }
+    Ok(copies)
 }
 
 /// So many rows without values.
 fn empty_rows(alloc: Global, calcs: usize) -> Result<Vec<Vec<CalcValue>>, WantOfMemory>
     ensures { IfOk result (λ rows. lists_of rows.items ≡ replicate calcs []) }
 {
-    let mut rows = Vec::with_capacity(alloc, calcs).map_err(|_| WantOfMemory)?;
+    let mut rows = Vec::new(alloc);
     for _ in 0..calcs {
-        rows.push_reserved(Vec::new(alloc));
+        let row = Vec::new(alloc);
+        rows.push(row).map_err(|_| WantOfMemory)?;
     }
     Ok(rows)
 }
@@ -122,34 +123,8 @@ impl Sheet {
         let windows = windows_after(self.grid, &self.ends, deltas);
         let calcs = self.rows.len() as u64;
         within_limits(windows * calcs, records_after(&self.copies, deltas))?;
-        let due = self.bring(windows as usize, deltas, steps)?;
-        self.evals = self.evals.saturating_add(due * calcs);
-        Ok(())
-    }
-
-    // Takes more records, with which so many windows are complete. Returns how many windows were evaluated.
-    fn bring<L: Ledger>(
-        &mut self,
-        windows: usize,
-        deltas: &[Vec<Rec>],
-        steps: &mut Steps<L>,
-    ) -> Result<u64, AllocError>
-        requires inputs { length deltas.now ≡ length self.old.copies }
-        requires copied { All IsCopy (lists_of deltas.now) }
-        requires short { All IsCopy (longer self.old.copies (lists_of deltas.now)) }
-        requires windows { windows ≡ complete_windows self.old.grid (longer self.old.copies (lists_of deltas.now)) }
-        requires few { windows < 2 ^ 32 }
-        ensures group { self.new.group ≡ self.old.group }
-        ensures grid { self.new.grid ≡ self.old.grid }
-        ensures evals { self.new.evals ≡ self.old.evals }
-        ensures after { IfOk result (IsSheetAfter self.old.group self.old.grid self.old.copies self.old.rows self.new.copies self.new.rows (lists_of deltas.now)) }
-        ensures steps { IfOk result (λ due. steps.new ≡ steps.old + due * length self.old.group.calcs) }
-        ensures unchanged { OnErr result (self.new ≡ self.old) }
-        ensures no_steps { OnErr result (steps.new ≡ steps.old) }
-    {
-        let mut marks = vec![in self.alloc; 0u64; windows]?;
-        self.make_room(windows, deltas)?;
-        Ok(refreshed(
+        let due = bring(
+            self.alloc,
             &self.calcs,
             self.grid,
             self.copies.as_mut_slice(),
@@ -157,26 +132,11 @@ impl Sheet {
             self.ends.as_mut_slice(),
             self.rows.as_mut_slice(),
             deltas,
-            marks.as_mut_slice(),
+            windows as usize,
             steps,
-        ))
-    }
-
-    // Makes room for more records, and for so many windows.
-    fn make_room(&mut self, windows: usize, deltas: &[Vec<Rec>]) -> Result<(), AllocError>
-        requires inputs { length deltas.now ≡ length self.old.copies }
-        requires copied { All IsCopy (lists_of deltas.now) }
-        ensures same { self.new ≡ self.old }
-        ensures room { OnOk result (HasRoom self.new.copies.items self.new.contents.items self.new.rows.items deltas.now windows) }
-    {
-        room_in_copies(self.copies.as_mut_slice(), deltas)?;
-        room_in_contents(
-            self.alloc,
-            self.copies.as_slice(),
-            self.contents.as_mut_slice(),
-            deltas,
         )?;
-        room_in_rows(self.rows.as_mut_slice(), windows)
+        self.evals = self.evals.saturating_add(due * calcs);
+        Ok(())
     }
 
     /// How many records of an input were taken into account.
