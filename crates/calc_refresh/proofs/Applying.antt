@@ -4,7 +4,7 @@ use Rattle.std.specs.Prelude.{nat_lt, if◌then◌else◌, count_by}
 use Rattle.std.specs.List.{range_with_len}
 use Rattle.std.proofs.Math.Nat.{mul-le-mul_left, mul-le-mul_right}
 use Rattle.std.proofs.lemmas.Bool.{cases_lt, le-ltb, lt-ltb}
-use Rattle.std.proofs.lemmas.List.Elements.{All-append, All-cons, All-head, All-tail}
+use Rattle.std.proofs.lemmas.List.Elements.{All-append, All-cons, All-head, All-nil, All-tail}
 use Rattle.std.proofs.lemmas.List.FromFn.{length-range_with_len}
 use Rattle.std.proofs.lemmas.List.Sums.{count_by-le-length}
 use Rattle.trend_num.specs.declared.archive.Rec.{Rec}
@@ -18,16 +18,16 @@ use Rattle.calc_refresh.specs.declared.refusal.SheetNo.TheVariants.{CellLimit, C
 use Rattle.calc_refresh.specs.Lists.{total_length}
 use Rattle.calc_refresh.specs.Refreshed.{limit_fault, most_cells, most_copies}
 use Rattle.calc_refresh.specs.Sheet.{IsCopy}
-use Rattle.calc_refresh.proofs.Refreshing.{complete_is_time}
+use Rattle.calc_refresh.proofs.Refreshing.{complete_ends}
 
 -- there are no more complete windows than times
-pub few_windows : (w : Grid) (rss : List (List Rec)) → 1 ≤ w.period → 1 ≤ length rss → All IsCopy rss
-    → complete_windows w rss ≤ last_time
+pub few_windows : (w : Grid) (rss : List (List Rec)) → 1 ≤ w.period → 1 ≤ length rss
+    → All (λ rs. All (λ r. InRange r.point) rs) rss → complete_windows w rss ≤ last_time
 few_windows w rss some input each =
     elim (cases_lt 0 (complete_windows w rss)) [
       | inl any ↦
           let k = complete_windows w rss - 1 in
-          let ends = complete_is_time w rss k (omega arith) (omega arith) each (omega arith) in
+          let ends = complete_ends w rss k (omega arith) (omega arith) each (omega arith) in
           let long : (k + 1) * 1 ≤ (k + 1) * w.period = mul-le-mul_left (k + 1) some in
           omega (arith, ends, long)
       | inr none ↦ omega arith
@@ -68,9 +68,9 @@ each_short [] n few k d within = absurd (omega arith)
 each_short (rs ∷ rss) n few zero d within = omega arith
 each_short (rs ∷ rss) n few (suc k) d within = each_short rss n (omega arith) k d (omega arith)
 
-ranges_longer : (rss mores : List (List Rec)) → All IsCopy rss → All IsCopy mores
+pub ranges_longer : (rss mores : List (List Rec)) → All IsCopy rss → All IsCopy mores
     → All (λ rs. All (λ r. InRange r.point) rs) (longer rss mores)
-ranges_longer [] mores each also k d within = absurd (omega arith)
+ranges_longer [] mores each also = All-nil (λ l. All (λ r. InRange r.point) l)
 ranges_longer (rs ∷ rss) [] each also = λ k d within. (each k d within).range
 ranges_longer (rs ∷ rss) (more ∷ mores) each also =
     All-cons (λ l. All (λ r. InRange r.point) l) (rs ++ more) (longer rss mores)

@@ -47,12 +47,17 @@ reached_is_time t (r ∷ rs) each reach =
     by_test true false h same rest = rest h
     by_test false b h same rest = rest h
 
+pub complete_ends : (w : Grid) (rss : List (List Rec)) (k : ℕ) → 0 < w.period → 0 < length rss
+    → All (λ rs. All (λ r. InRange r.point) rs) rss → k < complete_windows w rss → window_to w k ≤ last_time
+complete_ends w [] k some input each within = absurd (omega arith)
+complete_ends w (rs ∷ rss) k some input each within =
+    reached_is_time (window_to w k) rs (All-head (λ l. All (λ r. InRange r.point) l) rs rss each)
+    (and_parts (reaches (window_to w k) rs) (is_complete w rss k) ((complete_are w rs rss k some).0 within)).0
+
 pub complete_is_time : (w : Grid) (rss : List (List Rec)) (k : ℕ) → 0 < w.period → 0 < length rss → All IsCopy rss
     → k < complete_windows w rss → window_to w k ≤ last_time
-complete_is_time w [] k some input each within = absurd (omega arith)
-complete_is_time w (rs ∷ rss) k some input each within =
-    reached_is_time (window_to w k) rs (All-head IsCopy rs rss each).range
-    (and_parts (reaches (window_to w k) rs) (is_complete w rss k) ((complete_are w rs rss k some).0 within)).0
+complete_is_time w rss k some input each within =
+    complete_ends w rss k some input (λ i d at. (each i d at).range) within
 
 -- ---- which windows are marked
 
