@@ -1,6 +1,6 @@
 -- What becomes of a device that is opened: its layout, its free lane slots, and whether a sync is all that it gains.
-use Rattle.std.proofs.Common.{◌≡◌, ◌≢◌, inl, inr, ℕ, ◌+◌, ◌-◌, ◌<◌, ◌≤◌, false, true, cond, List, length, Option, None}
-use Rattle.std.proofs.Common.{Some, refl, sym, ◌∙◌, ap, subst, arith}
+use Rattle.std.proofs.Common.{◌≡◌, inl, inr, ℕ, ◌+◌, ◌-◌, ◌<◌, ◌≤◌, false, true, cond, List, Option, None}
+use Rattle.std.proofs.Common.{Some, refl, ◌∙◌, ap, subst, arith}
 use Rattle.std.proofs.lemmas.Bool.{cases_Bool}
 use Rattle.trend_num.specs.declared.tag_def.TagDef.{TagDef}
 use Rattle.trend_model.specs.State.{State, nothing_taken}
@@ -9,8 +9,7 @@ use Rattle.disk_model.specs.Gates.{IsNew, IsBegun}
 use Rattle.disk_model.specs.Calls.{Shows}
 use Rattle.event_queue.specs.Slots.{batch_at}
 use Rattle.event_queue.specs.Lanes.{IsStale}
-use Rattle.device_layout.specs.Recovery.{Recovers, counting}
-use Rattle.device_layout.specs.Layouts.{IsMade}
+use Rattle.device_layout.specs.Recovery.{counting}
 use Rattle.device_layout.proofs.OneState.{one_state}
 use Rattle.crash_recovery.specs.declared.seat.Seat.{Seat}
 use Rattle.crash_recovery.specs.Journals.{IsSeat, free_in, taken_of}

@@ -9,6 +9,7 @@ pub mod Logged
 pub mod MadeSeats
 pub mod Numbered
 pub mod Openings
+pub mod PartsFound
 pub mod Pieces
 pub mod Places
 pub mod Recovered

@@ -1,5 +1,5 @@
 -- Where each lane slot is free, the lane holds nothing that the summary does not count.
-use Rattle.std.proofs.Common.{◌≡◌, inl, inr, ℕ, ◌-◌, ◌≤◌, true, false, cond, length, Option, sym, ◌∙◌, ap, arith}
+use Rattle.std.proofs.Common.{◌≡◌, inl, inr, ℕ, ◌-◌, ◌≤◌, cond, length, Option, sym, ◌∙◌, ap, arith}
 use Rattle.std.proofs.lemmas.Bool.{cases_Bool}
 use Rattle.event_queue.specs.declared.reader.Scanned.{Scanned}
 use Rattle.event_queue.specs.Scans.{IsWithin}

@@ -15,6 +15,7 @@ mod failure;
 mod journal;
 mod law;
 mod opening;
+mod parts;
 mod replay;
 mod seat;
 

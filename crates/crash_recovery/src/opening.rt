@@ -22,11 +22,12 @@ ghost use Rattle.device_layout.specs.Layouts.{IsMade};
 ghost use Rattle.device_layout.specs.Readings.{IsCause, CountsRefusal};
 ghost use Rattle.crash_recovery.specs.Opening.{refusal_of_put};
 
+use crate::parts::read_parts;
 use crate::replay::read_core;
 use crate::seat::Seat;
 use crate::{Journal, OpenFail};
 use archive_file::PutNo;
-use device_layout::{OpenNo, make_layout, read_layout, read_stored};
+use device_layout::{OpenNo, make_layout, read_layout};
 use disk_model::{Disk, is_new};
 use event_queue::Lane;
 use std::alloc::Global;
@@ -279,7 +280,7 @@ fn read_back<L: Ledger, D: Disk>(
         Ok(header) => header,
         Err(why) => return Err(why),
     };
-    let stored = match read_stored(alloc, dev, &header, def.step) {
+    let stored = match read_parts(alloc, dev, &header, def.step) {
         Ok(stored) => stored,
         Err(why) => return Err(why),
     };

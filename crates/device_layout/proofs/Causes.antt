@@ -21,7 +21,7 @@ use Rattle.device_layout.specs.Recovery.{summary_place, slot_bytes, chosen, coun
 use Rattle.device_layout.specs.Recovery.{no_summary}
 use Rattle.device_layout.specs.Damages.{IsTagDamage}
 use Rattle.disk_model.specs.Calls.{Shows}
-use Rattle.device_layout.specs.Readings.{IsOther, HasHeader, HasLayout, CountsSummary, IsReadFrom}
+use Rattle.device_layout.specs.Readings.{IsOther, HasHeader, HasLayout, CountsSummary, IsFoundOn}
 use Rattle.device_layout.proofs.Reading.{header_broken, counting_read, here_at, records_broken}
 use Rattle.device_layout.proofs.Reading.{parts_broken}
 use Rattle.device_layout.proofs.Reading.{is_other, counts_summary, stored_none, stored_some}
@@ -97,19 +97,19 @@ counts_shown def (Some t) slots made i s u has counts whole bytes tuning =
 
 -- all that is stored
 pub stored_shown : (def : TagDef) (o : Option Trace) (slots : ℕ) (i : Slot) (s : Summary) (u : Tuning)
-    (step : Bool) (x : Stored)
-    → def.step ≡ step → Shows o (CountsSummary def slots i s u)
-    → Shows o (λ c. HasRecords c (lane_end slots) s.records x.recs.items) → ArePartsOk u step x.recs.items s
-    → x.slot ≡ Some i → x.summary ≡ s → x.tuning ≡ u → Shows o (IsReadFrom def slots x)
-stored_shown def None slots i s u step x same_step has records ok slot summary tuning = tt
-stored_shown def (Some t) slots i s u step x same_step has records ok slot summary tuning =
-    stored_some def slots i s u step x (seen (Some t)) same_step has records ok slot summary tuning
+    (x : Stored)
+    → Shows o (CountsSummary def slots i s u)
+    → Shows o (λ c. HasRecords c (lane_end slots) s.records x.recs.items)
+    → x.slot ≡ Some i → x.summary ≡ s → x.tuning ≡ u → Shows o (IsFoundOn def slots x)
+stored_shown def None slots i s u x has records slot summary tuning = tt
+stored_shown def (Some t) slots i s u x has records slot summary tuning =
+    stored_some def slots i s u x (seen (Some t)) has records slot summary tuning
 
 -- nothing is
 pub nothing_shown : (def : TagDef) (o : Option Trace) (slots : ℕ) (made : Tuning) (x : Stored)
     → Shows o (HasLayout def slots made)
     → Shows o (λ c. counting c ≡ None) → x.slot ≡ None → x.summary ≡ no_summary → x.recs.items ≡ [] → x.tuning ≡ made
-    → Shows o (IsReadFrom def slots x)
+    → Shows o (IsFoundOn def slots x)
 nothing_shown def None slots made x has none slot summary recs tuning = tt
 nothing_shown def (Some t) slots made x has none slot summary recs tuning =
     stored_none def slots made x (seen (Some t)) has none slot summary recs tuning

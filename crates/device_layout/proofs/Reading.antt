@@ -23,14 +23,13 @@ use Rattle.device_layout.specs.Recovery.{is_open, taken_in, chosen}
 use Rattle.device_layout.specs.Recovery.{counting, HasSummary, in_force, no_summary, IsOfTag}
 use Rattle.device_layout.specs.Damages.{IsTagDamage}
 use Rattle.device_layout.specs.Damages.IsTagDamage.{EndsShort, BadHeader, BadLayout, BadSummary, BadLog, BadParts}
-use Rattle.device_layout.specs.Readings.{IsOther, HasHeader, HasLayout, CountsSummary, IsReadFrom}
+use Rattle.device_layout.specs.Readings.{IsOther, HasHeader, HasLayout, CountsSummary, IsFoundOn}
 use Rattle.device_layout.specs.Readings.{IsCause, refusal_of}
 use Rattle.device_layout.specs.declared.failure.OpenNo.{OpenNo}
 use Rattle.archive_file.specs.declared.failure.ScanNo.{ScanNo}
 use Rattle.archive_file.specs.declared.failure.ScanNo.TheVariants as scan
 use Rattle.disk_model.specs.Traces.{Trace}
 use Rattle.disk_model.specs.Calls.{Shows}
-use Rattle.device_layout.proofs.Made.{no_parts}
 
 -- ---- causes
 
@@ -232,19 +231,13 @@ no_records c at = record { counted = refl; records = record { in_range = tt; ima
 
 pub stored_none : (def : TagDef) (slots : ℕ) (made : Tuning) (x : Stored) (c : List ℕ) → HasLayout def slots made c
     → counting c ≡ None → x.slot ≡ None → x.summary ≡ no_summary → x.recs.items ≡ [] → x.tuning ≡ made
-    → IsReadFrom def slots x c
+    → IsFoundOn def slots x c
 stored_none def slots made x c has none slot summary recs tuning = record {
-  stored = record {
-    tag = has.tag;
-    long = has.long;
-    summary = subst (λ i. HasSummary c i x.summary) (sym none) summary;
-    records = subst (λ n. HasRecords c (log_place c) n x.recs.items) (sym (ap (λ s. s.records) summary))
-        (subst (λ l. HasRecords c (log_place c) 0 l) (sym recs) (no_records c (log_place c)));
-    parts = subst (λ s. ArePartsOk (in_force (tuning_in (header_of c)) s.tuning) def.step x.recs.items s)
-        (sym summary)
-        (subst (λ l. ArePartsOk (tuning_in (header_of c)) def.step l no_summary) (sym recs)
-        (no_parts (tuning_in (header_of c)) def.step));
-  };
+  tag = has.tag;
+  long = has.long;
+  summary = subst (λ i. HasSummary c i x.summary) (sym none) summary;
+  records = subst (λ n. HasRecords c (log_place c) n x.recs.items) (sym (ap (λ s. s.records) summary))
+      (subst (λ l. HasRecords c (log_place c) 0 l) (sym recs) (no_records c (log_place c)));
   slots_are = has.slots_are;
   slot = none ∙ sym slot;
   tuning = tuning ∙ has.made_with ∙ sym (ap (λ s. in_force (tuning_in (header_of c)) s.tuning) summary);
@@ -263,23 +256,16 @@ counts_summary def slots made i s u c has counts whole bytes tuning = record {
   tuning = tuning ∙ ap (λ t. in_force t s.tuning) has.made_with;
 }
 
-pub stored_some : (def : TagDef) (slots : ℕ) (i : Slot) (s : Summary) (u : Tuning) (step : Bool) (x : Stored)
-    (c : List ℕ)
-    → def.step ≡ step → CountsSummary def slots i s u c → HasRecords c (lane_end slots) s.records x.recs.items
-    → ArePartsOk u step x.recs.items s → x.slot ≡ Some i → x.summary ≡ s → x.tuning ≡ u → IsReadFrom def slots x c
-stored_some def slots i s u step x c same_step has records ok slot summary tuning = record {
-  stored = record {
-    tag = has.tag;
-    long = has.long;
-    summary = subst (λ y. HasSummary c y x.summary) (sym has.counts)
-        (subst (λ y. HasSummary c (Some i) y) (sym summary) has.summary);
-    records = subst (λ y. HasRecords c (log_place c) y.records x.recs.items) (sym summary)
-        (subst (λ n. HasRecords c (lane_end n) s.records x.recs.items) has.slots_are records);
-    parts = subst (λ y. ArePartsOk (in_force (tuning_in (header_of c)) y.tuning) def.step x.recs.items y)
-        (sym summary)
-        (subst (λ t. ArePartsOk t def.step x.recs.items s) has.tuning
-        (subst (λ k. ArePartsOk u k x.recs.items s) (sym same_step) ok));
-  };
+pub stored_some : (def : TagDef) (slots : ℕ) (i : Slot) (s : Summary) (u : Tuning) (x : Stored) (c : List ℕ)
+    → CountsSummary def slots i s u c → HasRecords c (lane_end slots) s.records x.recs.items
+    → x.slot ≡ Some i → x.summary ≡ s → x.tuning ≡ u → IsFoundOn def slots x c
+stored_some def slots i s u x c has records slot summary tuning = record {
+  tag = has.tag;
+  long = has.long;
+  summary = subst (λ y. HasSummary c y x.summary) (sym has.counts)
+      (subst (λ y. HasSummary c (Some i) y) (sym summary) has.summary);
+  records = subst (λ y. HasRecords c (log_place c) y.records x.recs.items) (sym summary)
+      (subst (λ n. HasRecords c (lane_end n) s.records x.recs.items) has.slots_are records);
   slots_are = has.slots_are;
   slot = has.counts ∙ sym slot;
   tuning = tuning ∙ has.tuning ∙ sym (ap (λ y. in_force (tuning_in (header_of c)) y.tuning) summary);

@@ -1,19 +1,18 @@
 // Reading of a tag's device: its header, the summary that counts, and the records.
 ghost use Rattle.std.specs.Prelude.{◌≡◌, ◌+◌, ◌*◌, ◌^◌, ◌<◌, ◌≤◌, ℕ, length, slice_index};
-ghost use Rattle.std.specs.Prelude.{None, Some, Err, IfOk, IfErr, OnOk, OnErr};
+ghost use Rattle.std.specs.Prelude.{[], None, Some, Err, IfOk, IfErr, OnOk, OnErr};
 ghost use Rattle.trend_num.specs.declared.tuning.Tuning.{Tuning};
 ghost use Rattle.trend_num.specs.declared.tag_def.TagDef.{TagDef};
 ghost use Rattle.trend_num.specs.Ranges.{IsTuned};
-ghost use Rattle.trend_model.specs.Parts.{ArePartsOk};
 ghost use Rattle.disk_model.specs.Calls.{CountsFault, HasCause, HasLength, Reaches, Reads};
 ghost use Rattle.disk_model.specs.Gates.{IsBegun};
 ghost use Rattle.archive_file.specs.Places.{HasRecords};
 ghost use Rattle.event_queue.specs.Slots.{lane_end};
 ghost use Rattle.archive_file.specs.Summaries.{summary_image, IsSummary};
 ghost use Rattle.device_layout.specs.declared.failure.OpenNo.TheVariants.{DeviceFault, Damaged, OtherTag};
-ghost use Rattle.device_layout.specs.Recovery.{chosen, counting, slot_bytes, in_force};
+ghost use Rattle.device_layout.specs.Recovery.{chosen, counting, slot_bytes, no_summary, in_force};
 ghost use Rattle.disk_model.specs.Calls.{Shows};
-ghost use Rattle.device_layout.specs.Readings.{IsCause, HasHeader, HasLayout, CountsSummary, IsReadFrom, refusal_of};
+ghost use Rattle.device_layout.specs.Readings.{IsCause, HasHeader, HasLayout, CountsSummary, IsFoundOn, refusal_of};
 
 use crate::OpenNo;
 use crate::header::{HEADER_LEN, Header, read_header};
@@ -23,7 +22,6 @@ use archive_file::{SUMMARY_LEN, ScanNo, read_records};
 use disk_model::{Disk, OPEN, read_part};
 use event_queue::SLOT_LEN;
 use std::alloc::Global;
-use tag_core::parts_ok;
 use trend_num::{Rec, Summary, TagDef, Tuning, same_name};
 
 /// What a device stores: the summary that counts, the records that it counts, and the tuning in force.
@@ -180,37 +178,26 @@ fn counted<D: Disk>(dev: &mut D, slot: Slot) -> Result<Summary, OpenNo>
     }
 }
 
-/// The records that this summary counts, where they and the summary can be those of a tag.
+/// The records that this summary counts.
 fn records_of<D: Disk>(
     alloc: Global,
     dev: &mut D,
     slots: u32,
-    slot: Slot,
     summary: &Summary,
-    tuning: &Tuning,
-    step: bool,
 ) -> Result<Vec<Rec>, OpenNo>
-    requires long { Reaches (D.trace dev.old) 400 }
-    requires tuned { IsTuned tuning.now }
     ensures records { IfOk result (λ rs. Shows (D.trace dev.old)
         (λ c. HasRecords c (lane_end slots) summary.now.records rs.items)) }
-    ensures parts { IfOk result (λ rs. ArePartsOk tuning.now step rs.items summary.now) }
-    ensures cause { (def : TagDef) → def.step ≡ step
-        → Shows (D.trace dev.old) (CountsSummary def slots slot summary.now tuning.now)
+    ensures cause { (def : TagDef) (slot : Slot) (tuning : Tuning)
+        → Shows (D.trace dev.old) (CountsSummary def slots slot summary.now tuning)
         → IfErr result (IsCause def (D.trace dev.old)) }
     ensures same { D.trace dev.new ≡ D.trace dev.old }
     ensures untimed { D.ticks dev.new ≡ D.ticks dev.old }
     ensures counts { CountsFault result DeviceFault (D.fault_count dev.old) (D.fault_count dev.new) }
 {
-    let recs = match read_records(alloc, dev, log_start(slots), summary.records) {
-        Ok(recs) => recs,
-        Err(why) => return Err(refusal_of(why)),
-    };
-    if parts_ok(tuning, step, &recs, summary) {
-        return Ok(recs);
+    match read_records(alloc, dev, log_start(slots), summary.records) {
+        Ok(recs) => Ok(recs),
+        Err(why) => Err(refusal_of(why)),
     }
-    let first = read_part::<1, D>(dev, slot.place())?;
-    Err(damaged(slot.place(), first[0]))
 }
 
 /// The byte at a place is damaged.
@@ -233,21 +220,17 @@ fn in_force(made: Tuning, tuning: Option<Tuning>) -> Tuning
     }
 }
 
-/// The summary that counts and its records, which can be those of a tag.
-pub fn read_stored<D: Disk>(
-    alloc: Global,
-    dev: &mut D,
-    header: &Header,
-    step: bool,
-) -> Result<Stored, OpenNo>
+/// The summary that counts, its records, and the tuning in force. Whether records and summary can be those of a tag is not
+/// tested.
+pub fn read_stored<D: Disk>(alloc: Global, dev: &mut D, header: &Header) -> Result<Stored, OpenNo>
     requires long { Reaches (D.trace dev.old) 400 }
     requires tuned { IsTuned header.now.def.tuning }
-    ensures stored { (def : TagDef) → def.step ≡ step
+    ensures found { (def : TagDef)
         → Shows (D.trace dev.old) (HasLayout def header.now.slots header.now.def.tuning)
-        → IfOk result (λ x. Shows (D.trace dev.old) (IsReadFrom def header.now.slots x)) }
+        → IfOk result (λ x. Shows (D.trace dev.old) (IsFoundOn def header.now.slots x)) }
     ensures tuned { IfOk result (λ x. IsTuned x.tuning) }
-    ensures parts { IfOk result (λ x. ArePartsOk x.tuning step x.recs.items x.summary) }
-    ensures cause { (def : TagDef) → def.step ≡ step
+    ensures none { IfOk result (λ x. x.slot ≡ None → (x.summary ≡ no_summary) × (x.recs.items ≡ [])) }
+    ensures cause { (def : TagDef)
         → Shows (D.trace dev.old) (HasLayout def header.now.slots header.now.def.tuning)
         → IfErr result (IsCause def (D.trace dev.old)) }
     ensures same { D.trace dev.new ≡ D.trace dev.old }
@@ -271,7 +254,7 @@ pub fn read_stored<D: Disk>(
         Err(why) => return Err(why),
     };
     let tuning = in_force(header.def.tuning, summary.tuning);
-    match records_of(alloc, dev, header.slots, slot, &summary, &tuning, step) {
+    match records_of(alloc, dev, header.slots, &summary) {
         Ok(recs) => Ok(Stored {
             slot: Some(slot),
             summary,

@@ -8,7 +8,8 @@
 //!
 //! [`make_layout`] makes the layout of a new device: a crash at any moment leaves a new device or the whole layout.
 //! [`read_layout`] and [`read_stored`] read the header, the summary that counts and the records, or name the first byte of
-//! the first field that breaks the layout.
+//! the first field that breaks the layout. Whether records and summary can be those of a tag, and the lane, test the crates
+//! above.
 #![tactic(auto)]
 
 mod failure;

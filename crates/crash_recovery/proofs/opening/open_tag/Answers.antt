@@ -9,7 +9,7 @@ use Rattle.device_layout.proofs.Shows.{if_ok, if_ok₂, if_err}
 use Rattle.crash_recovery.proofs.Openings.{Promises, during_same, opened_shown, recovers_read, stays_retuned}
 use Rattle.crash_recovery.proofs.Openings.{recovers_retuned, stays_read, now_read, now_retuned}
 use Rattle.disk_model.specs.Moments.{ComesAfter}
-use Rattle.crash_recovery.specs.Opening.{LeavesFree, MakesLayout, GainsSync, HasFreeAtFirst}
+use Rattle.crash_recovery.specs.Opening.{LeavesFree, MakesLayout, GainsSync}
 use Rattle.crash_recovery.proofs.Afterwards.{free_read, free_retuned, layout_retuned, synced_read, synced_retuned}
 use Rattle.crash_recovery.proofs.opening.open_tag.Goals as goal
 

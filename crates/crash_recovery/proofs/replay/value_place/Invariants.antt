@@ -1,4 +1,4 @@
-use Rattle.std.proofs.Common.{◌≡◌, ◌≤◌, ℕ}
+use Rattle.std.proofs.Common.{◌≡◌, ℕ}
 use Rattle.disk_model.specs.Calls.{Shows}
 use Rattle.crash_recovery.specs.Opening.{HoldsValue}
 use Rattle.crash_recovery.proofs.LanePlaces.{IsCountedTo}

@@ -1,4 +1,4 @@
-use Rattle.std.proofs.Common.{◌≡◌, Option, Result, OnOk, ap, subst, sym}
+use Rattle.std.proofs.Common.{◌≡◌, Option, Result, ap, subst}
 use Rattle.trend_num.specs.declared.tag_def.TagDef.{TagDef}
 use Rattle.trend_model.specs.State.{State}
 use Rattle.disk_model.specs.Traces.{Trace}
