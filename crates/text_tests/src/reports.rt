@@ -6,8 +6,7 @@ use std::process::Abort;
 use std::test::Fail;
 use trend_num::{Bad, CalcValue, name_from};
 use trend_report::{
-    Frac, Point, PointList, Reading, Reply, ReplyText, Snap, TagLine, reply_text,
-    tag_text,
+    Frac, Point, PointList, Reading, Reply, ReplyText, Snap, TagLine, reply_text, tag_text,
 };
 
 #[test]

@@ -1,0 +1,97 @@
+-- What holds of a sheet that is within its limits.
+use Rattle.std.proofs.Common.{◌≡◌, ℕ, zero, suc, ◌+◌, ◌-◌, ◌*◌, ◌^◌, ◌<◌, ◌≤◌, inl, inr, Bool, true, false, List, [], ◌∷◌, ◌++◌, Option, None, Some, length, All, refl, sym, ap, ◌∙◌, arith, length-append}
+use Rattle.std.specs.Prelude.{nat_lt, if◌then◌else◌, count_by}
+use Rattle.std.specs.List.{range_with_len}
+use Rattle.std.proofs.Math.Nat.{mul-le-mul_left, mul-le-mul_right}
+use Rattle.std.proofs.lemmas.Bool.{cases_lt, le-ltb, lt-ltb}
+use Rattle.std.proofs.lemmas.List.Elements.{All-append, All-cons, All-head, All-nil, All-tail}
+use Rattle.std.proofs.lemmas.List.FromFn.{length-range_with_len}
+use Rattle.std.proofs.lemmas.List.Sums.{count_by-le-length}
+use Rattle.trend_num.specs.declared.archive.Rec.{Rec}
+use Rattle.trend_num.specs.Ranges.{InRange, last_time}
+use Rattle.sheet_law.specs.declared.grid.Grid.{Grid}
+use Rattle.sheet_law.specs.Windows.{complete_windows, window_to}
+use Rattle.sheet_law.specs.Touched.{longer}
+use Rattle.sheet_law.specs.Scratch.{due_below, is_due}
+use Rattle.calc_refresh.specs.declared.refusal.SheetNo.{SheetNo}
+use Rattle.calc_refresh.specs.declared.refusal.SheetNo.TheVariants.{CellLimit, CopyLimit}
+use Rattle.calc_refresh.specs.Lists.{total_length}
+use Rattle.calc_refresh.specs.Refreshed.{limit_fault, most_cells, most_copies}
+use Rattle.calc_refresh.specs.Sheet.{IsCopy}
+use Rattle.calc_refresh.proofs.Refreshing.{complete_ends}
+
+-- there are no more complete windows than times
+pub few_windows : (w : Grid) (rss : List (List Rec)) → 1 ≤ w.period → 1 ≤ length rss
+    → All (λ rs. All (λ r. InRange r.point) rs) rss → complete_windows w rss ≤ last_time
+few_windows w rss some input each =
+    elim (cases_lt 0 (complete_windows w rss)) [
+      | inl any ↦
+          let k = complete_windows w rss - 1 in
+          let ends = complete_ends w rss k (omega arith) (omega arith) each (omega arith) in
+          let long : (k + 1) * 1 ≤ (k + 1) * w.period = mul-le-mul_left (k + 1) some in
+          omega (arith, ends, long)
+      | inr none ↦ omega arith
+    ]
+
+-- so many cells are counted in 64 bits
+pub cells_fit : (a b : ℕ) → a ≤ last_time → b ≤ 64 → a * b ≤ last_time * 64
+cells_fit a b first second =
+    let one : a * b ≤ a * 64 = mul-le-mul_left a second in
+    let two : a * 64 ≤ last_time * 64 = omega arith in
+    omega arith
+
+-- what is not told was not reached
+pub limits_hold : (cells records : ℕ) → limit_fault cells records ≡ None → (cells ≤ most_cells) × (records ≤ most_copies)
+limits_hold cells records none =
+    elim (cases_lt most_cells cells) [
+      | inl above ↦ absurd (let h : Some (CellLimit cells) ≡ None = sym (ap (first_of (limit_second records)) (lt-ltb most_cells cells above)) ∙ none in cc)
+      | inr under ↦ elim (cases_lt most_copies records) [
+        | inl above ↦
+            absurd (let h : Some (CopyLimit records) ≡ None =
+            sym (ap (first_of (limit_second records)) (le-ltb most_cells cells under) ∙ ap second_of (lt-ltb most_copies records above)) ∙ none in cc)
+        | inr also ↦ (under, also)
+      ]
+    ]
+  where
+    second_of : Bool → Option SheetNo
+    second_of b = if b then Some (CopyLimit records) else None
+
+    limit_second : ℕ → Option SheetNo
+    limit_second n = if nat_lt most_copies records then Some (CopyLimit records) else None
+
+    first_of : Option SheetNo → Bool → Option SheetNo
+    first_of o b = if b then Some (CellLimit cells) else o
+
+-- each copy is short where all together are few
+each_short : (rss : List (List Rec)) (n : ℕ) → total_length rss ≤ n → All (λ rs. length rs ≤ n) rss
+each_short [] n few k d within = absurd (omega arith)
+each_short (rs ∷ rss) n few zero d within = omega arith
+each_short (rs ∷ rss) n few (suc k) d within = each_short rss n (omega arith) k d (omega arith)
+
+pub ranges_longer : (rss mores : List (List Rec)) → All IsCopy rss → All IsCopy mores
+    → All (λ rs. All (λ r. InRange r.point) rs) (longer rss mores)
+ranges_longer [] mores each also = All-nil (λ l. All (λ r. InRange r.point) l)
+ranges_longer (rs ∷ rss) [] each also = λ k d within. (each k d within).range
+ranges_longer (rs ∷ rss) (more ∷ mores) each also =
+    All-cons (λ l. All (λ r. InRange r.point) l) (rs ++ more) (longer rss mores)
+    (All-append (λ r. InRange r.point) rs more (All-head IsCopy rs rss each).range (All-head IsCopy more mores also).range)
+    (ranges_longer rss mores (All-tail IsCopy rs rss each) (All-tail IsCopy more mores also))
+
+-- so the copies can be copied again
+pub copies_longer : (rss mores : List (List Rec)) → All IsCopy rss → All IsCopy mores
+    → total_length (longer rss mores) ≤ most_copies → All IsCopy (longer rss mores)
+copies_longer rss mores each also few = λ k d within.
+    let short = each_short (longer rss mores) most_copies few k d within in
+    record { short = omega arith; range = ranges_longer rss mores each also k d within }
+
+-- no more windows are due than there are
+pub due_few : (w : Grid) (rss mores : List (List Rec)) (n : ℕ) → due_below w rss mores n ≤ n
+due_few w rss mores n =
+    omega (arith, count_by-le-length (is_due w rss mores) (range_with_len 0 n), length-range_with_len 0 n)
+
+-- a part of a product
+pub part_fits : (a b n m : ℕ) → a ≤ n → n * b ≤ m → a * b ≤ m
+part_fits a b n m part whole = (let h : a * b ≤ n * b = mul-le-mul_right b part in omega arith)
+
+pub factor_fits : (n b m : ℕ) → 1 ≤ b → n * b ≤ m → n ≤ m
+factor_fits n b m some whole = (let h : n * 1 ≤ n * b = mul-le-mul_left n some in omega arith)

@@ -1,0 +1,9 @@
+pub mod Spans
+pub mod Marking
+pub mod Turns
+pub mod Inputs
+pub mod Columns
+pub mod Limits
+pub mod Refreshing
+pub mod Applying
+pub mod Beginning

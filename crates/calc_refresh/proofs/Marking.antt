@@ -1,0 +1,79 @@
+-- Marks of windows.
+use Rattle.std.proofs.Common.{◌≡◌, ℕ, zero, suc, ◌+◌, ◌<◌, ◌≤◌, inl, inr, Bool, true, false, cond, nat_lt, nat_le, List, [], ◌∷◌, ◌++◌, length, get_or, take, set, replicate, refl, sym, ap, ◌∙◌, arith}
+use Rattle.std.specs.Prelude.{◌&&◌, ◌||◌, count_by, max}
+use Rattle.std.specs.List.{range_with_len}
+use Rattle.std.proofs.lemmas.Bool.{cases_lt, lt-ltb, le-ltb}
+use Rattle.std.proofs.lemmas.Bool.Decides.{nat_tests}
+use Rattle.std.proofs.lemmas.List.{map-id, take-set-le, take_more}
+use Rattle.std.proofs.lemmas.List.FromFn.{sum_by-map-range_with_len_more}
+use Rattle.calc_refresh.specs.Marks.{furthest, is_marked}
+
+-- how far marks reach with one more of them
+pub furthest-push : (ms : List ℕ) (n : ℕ) → furthest (ms ++ n ∷ []) ≡ max (furthest ms) n
+furthest-push [] n = omega arith
+furthest-push (m ∷ ms) n = (let rest = furthest-push ms n in omega arith)
+
+pub furthest_more : (ms : List ℕ) (k : ℕ) → k < length ms
+    → furthest (take (k + 1) ms) ≡ max (furthest (take k ms)) (get_or ms k 0)
+furthest_more ms k within = ap furthest (take_more ms k 0 within) ∙ furthest-push (take k ms) (get_or ms k 0)
+
+-- a mark that reaches further is seen from its place on
+further : (ms : List ℕ) (n i b : ℕ) → i < length ms → i < n
+    → furthest (take n (set ms i (max (get_or ms i 0) b))) ≡ max (furthest (take n ms)) b
+further [] n i b within seen = absurd (omega arith)
+further (m ∷ ms) zero i b within seen = absurd (omega arith)
+further (m ∷ ms) (suc n) zero b within seen = omega arith
+further (m ∷ ms) (suc n) (suc i) b within seen =
+    let rest = further ms n i b (omega arith) (omega arith) in omega arith
+
+-- the windows of a span are marked besides those that were
+pub marks_span : (ms : List ℕ) (i b c k : ℕ) → i < length ms → c ≡ max (get_or ms i 0) b
+    → is_marked (set ms i c) k ≡ (is_marked ms k || (nat_le i k && nat_lt k b))
+marks_span ms i b c k within is =
+    elim (cases_lt k i) [
+      | inl before ↦ ap (nat_lt k) (ap furthest (take-set-le (k + 1) ms i c (omega arith))) ∙ unseen k i b (furthest (take (k + 1) ms)) before
+      | inr after ↦
+          ap (λ x. nat_lt k (furthest (take (k + 1) (set ms i x)))) is
+          ∙ (ap (nat_lt k) (further ms (k + 1) i b within (omega arith)) ∙ seen k i b (furthest (take (k + 1) ms)) after)
+    ]
+  where
+    unseen : (k i b f : ℕ) → k < i → nat_lt k f ≡ (nat_lt k f || (nat_le i k && nat_lt k b))
+    unseen k i b f before = grind (arith, nat_tests)
+
+    seen : (k i b f : ℕ) → i ≤ k → nat_lt k (max f b) ≡ (nat_lt k f || (nat_le i k && nat_lt k b))
+    seen k i b f after = grind (arith, nat_tests)
+
+-- a span that begins behind all windows marks none
+pub marks_none : (ms : List ℕ) (i b k : ℕ) → length ms ≤ i → k < length ms
+    → is_marked ms k ≡ (is_marked ms k || (nat_le i k && nat_lt k b))
+marks_none ms i b k behind within = unseen k i b (furthest (take (k + 1) ms)) (omega arith)
+  where
+    unseen : (k i b f : ℕ) → k < i → nat_lt k f ≡ (nat_lt k f || (nat_le i k && nat_lt k b))
+    unseen k i b f before = grind (arith, nat_tests)
+
+-- where nothing was written no window is marked
+pub unmarked : (n k : ℕ) → is_marked (replicate n 0) k ≡ false
+unmarked n k = none (k + 1) n
+  where
+    furthest-zeros : (m n : ℕ) → furthest (take m (replicate n 0)) ≡ 0
+    furthest-zeros zero n = refl
+    furthest-zeros (suc m) zero = refl
+    furthest-zeros (suc m) (suc n) = (let rest = furthest-zeros m n in omega arith)
+
+    none : (m n : ℕ) → nat_lt k (furthest (take m (replicate n 0))) ≡ false
+    none m n = (let zero_is = furthest-zeros m n in grind (arith, nat_tests))
+
+-- whether the last mark reaches beyond a window tells whether it is marked
+pub marked_now : (ms : List ℕ) (k b : ℕ) → b ≡ furthest (take (k + 1) ms) → k < b → is_marked ms k ≡ true
+marked_now ms k b is below = lt-ltb k (furthest (take (k + 1) ms)) (omega arith)
+
+pub unmarked_now : (ms : List ℕ) (k b : ℕ) → b ≡ furthest (take (k + 1) ms) → b ≤ k → is_marked ms k ≡ false
+unmarked_now ms k b is above = le-ltb k (furthest (take (k + 1) ms)) (omega arith)
+
+-- a count of numbers with the next one
+pub count_more : (p : ℕ → Bool) (n : ℕ)
+    → count_by p (range_with_len 0 (n + 1)) ≡ count_by p (range_with_len 0 n) + cond (p n) 1 0
+count_more p n =
+    ap (count_by p) (sym (map-id (range_with_len 0 (n + 1))))
+    ∙ (sum_by-map-range_with_len_more (λ x. cond (p x) 1 0) (λ (i : ℕ). i) 0 n n (omega arith)
+    ∙ ap (λ l. count_by p l + cond (p n) 1 0) (map-id (range_with_len 0 n)))

@@ -1,0 +1,7 @@
+use Rattle.std.proofs.Common.{◌≡◌, List, ◌++◌, take}
+use Rattle.trend_num.specs.declared.archive.Rec.{Rec}
+use Rattle.sheet_law.specs.Windows.{kept_end}
+use Rattle.calc_refresh.proofs.limit.kept_end_after.Given as goal
+
+abbrev pub invariant-loop-rec : goal.invariant-loop-rec
+invariant-loop-rec l = (rs : List Rec) → l.initial.end ≡ kept_end rs → l.end ≡ kept_end (rs ++ take l.rec-index l.recs)

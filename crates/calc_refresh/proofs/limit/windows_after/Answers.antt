@@ -1,0 +1,50 @@
+use Rattle.std.proofs.Common.{◌≡◌, ◌+◌, ◌<◌, ◌≤◌, List, All, length, map, take, subst, sym, ap, ◌∙◌, arith}
+use Rattle.std.proofs.lemmas.List.{length-map, take_all}
+use Rattle.trend_num.specs.declared.archive.Rec.{Rec}
+use Rattle.trend_num.specs.Ranges.{InRange}
+use Rattle.sheet_law.specs.Windows.{kept_end, least, windows_before}
+use Rattle.sheet_law.specs.Touched.{longer}
+use Rattle.calc_refresh.specs.Lists.{lists_of}
+use Rattle.calc_refresh.specs.Sheet.{IsCopy}
+use Rattle.calc_refresh.proofs.Inputs.{each_read, length-longer}
+use Rattle.calc_refresh.proofs.Limits.{least_first, least_more, window_at, windows_by}
+use Rattle.calc_refresh.proofs.limit.windows_after.Goals as goal
+
+pub loop-i-init : goal.loop-i-init
+loop-i-init c = λ rss is.
+    let all = longer rss (lists_of c.args.deltas.now) in
+    let many : length c.args.ends.now ≡ length rss = ap length is ∙ length-map rss kept_end in
+    least_first c.args.grid all c.windows_before-least.result
+    (omega (arith, length-longer rss (lists_of c.args.deltas.now), c.requires.some))
+    (c.windows_before-least.ensures
+    ∙ window_at c.args.grid c.args.ends.now rss c.args.deltas.now 0 c.kept_end_after.result c.deref.result.now
+    c.index-deltas-0.result (omega (arith, c.requires.some, c.requires.inputs)) c.requires.inputs is
+    c.index-deltas-0.is c.deref.ensures.value c.kept_end_after.ensures)
+
+pub kept_end_after-requires-in-loop-i : goal.kept_end_after-requires-in-loop-i
+kept_end_after-requires-in-loop-i c =
+    let here = each_read IsCopy c.args.deltas.now c.loop-i.i c.index-deltas-i.result
+    (omega (arith, c.loop-i-test.true, c.requires.inputs)) c.index-deltas-i.is c.requires.copied in
+    subst (λ (l : List Rec). All (λ r. InRange r.point) l) (sym c.deref-in-loop-i.ensures.value) here.range
+
+pub loop-i-preserved : goal.loop-i-preserved
+loop-i-preserved c = λ rss is.
+    let i = c.loop-i.i in
+    let all = longer rss (lists_of c.args.deltas.now) in
+    let many : length c.args.ends.now ≡ length rss = ap length is ∙ length-map rss kept_end in
+    c.min-least.ensures
+    ∙ least_more c.args.grid all i c.loop-i.least c.windows_before.result (omega (arith, c.loop-i.auto.i))
+    (omega (arith, length-longer rss (lists_of c.args.deltas.now), c.loop-i-test.true))
+    (c.loop-i.invariant rss is)
+    (c.windows_before.ensures
+    ∙ window_at c.args.grid c.args.ends.now rss c.args.deltas.now i c.kept_end_after-in-loop-i.result
+    c.deref-in-loop-i.result.now c.index-deltas-i.result (omega (arith, c.loop-i-test.true, c.requires.inputs))
+    c.requires.inputs is c.index-deltas-i.is c.deref-in-loop-i.ensures.value c.kept_end_after-in-loop-i.ensures)
+
+pub returns : goal.returns
+returns c = λ rss is.
+    let all = longer rss (lists_of c.args.deltas.now) in
+    let many : length c.args.ends.now ≡ length rss = ap length is ∙ length-map rss kept_end in
+    c.loop-i.invariant rss is
+    ∙ ap least (take_all c.loop-i.i (windows_by c.args.grid all)
+    (omega (arith, length-map all (λ rs. windows_before c.args.grid (kept_end rs)), length-longer rss (lists_of c.args.deltas.now), c.loop-i-test.false)))

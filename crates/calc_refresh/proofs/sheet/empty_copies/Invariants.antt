@@ -1,0 +1,6 @@
+use Rattle.std.proofs.Common.{◌≡◌, [], replicate}
+use Rattle.calc_refresh.specs.Lists.{lists_of}
+use Rattle.calc_refresh.proofs.sheet.empty_copies.Given as goal
+
+abbrev pub invariant-loop : goal.invariant-loop
+invariant-loop l = lists_of l.copies.items ≡ replicate l.counter []

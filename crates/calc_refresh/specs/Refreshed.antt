@@ -1,0 +1,90 @@
+-- What more records make of a sheet, and when it is refused.
+use Rattle.std.specs.Prelude.{◌≡◌, ℕ, ◌+◌, ◌-◌, ◌*◌, ◌^◌, ◌<◌, ◌≤◌, min, Bool, false, not, ◌==◌, List, length, map, find, Option, None, Some, nat_lt, if◌then◌else◌, All, Vec, vec_len, vec_capacity, slice_index_or}
+use Rattle.std.specs.Option.{option_map}
+use Rattle.std.specs.declared.alloc.Global.{Global}
+use Rattle.trend_num.specs.declared.archive.Rec.{Rec}
+use Rattle.trend_num.specs.declared.value.CalcValue.{CalcValue}
+use Rattle.trend_model.specs.Contents.{ContentState}
+use Rattle.calc_check.specs.Group.{Group}
+use Rattle.sheet_law.specs.declared.grid.Grid.{Grid}
+use Rattle.sheet_law.specs.Windows.{complete_windows, window_from, window_to}
+use Rattle.sheet_law.specs.Touched.{any_touched, longer}
+use Rattle.sheet_law.specs.Scratch.{IsScratch, column, due_below}
+use Rattle.calc_refresh.specs.declared.refusal.SheetNo.{SheetNo}
+use Rattle.calc_refresh.specs.declared.refusal.SheetNo.TheVariants.{Shape, CellLimit, CopyLimit, WantOfMemory}
+use Rattle.calc_refresh.specs.Lists.{total_length}
+use Rattle.calc_refresh.specs.Sheet.{SheetState}
+
+-- how many cells a sheet may have, and how many copied records
+abbrev pub most_cells : ℕ
+most_cells = 1048576
+
+abbrev pub most_copies : ℕ
+most_copies = 2097152
+
+-- a sheet as it is when it is made
+abbrev pub fresh : Group → Grid → List (List Rec) → List (List CalcValue) → SheetState
+fresh g w copies rows = record { group = g; grid = w; copies = copies; rows = rows; evals = 0 }
+
+-- what is told of saved rows: the first of them that has not one value for each of so many windows
+abbrev pub shape_fault : ℕ → List (List CalcValue) → Option SheetNo
+shape_fault windows rows = option_map (Shape windows) (find (λ n. not (n == windows)) (map length rows))
+
+-- what is told of so many cells and copied records: cells come first
+abbrev pub limit_fault : ℕ → ℕ → Option SheetNo
+limit_fault cells records =
+    if nat_lt most_cells cells then Some (CellLimit cells)
+    else (if nat_lt most_copies records then Some (CopyLimit records) else None)
+
+-- how many cells a sheet has with more records
+abbrev pub cells_after : SheetState → List (List Rec) → ℕ
+cells_after s mores = complete_windows s.grid (longer s.copies mores) * length s.group.calcs
+
+-- what is told where a sheet cannot take more records
+abbrev pub fault_after : SheetState → List (List Rec) → Option SheetNo
+fault_after s mores = limit_fault (cells_after s mores) (total_length (longer s.copies mores))
+
+-- a fault is what decides; want of memory may come at any time
+abbrev pub IsToldOf : Option SheetNo → SheetNo → Type 0
+IsToldOf fault (Shape windows rows) = fault ≡ Some (Shape windows rows)
+IsToldOf fault (CellLimit cells) = fault ≡ Some (CellLimit cells)
+IsToldOf fault (CopyLimit records) = fault ≡ Some (CopyLimit records)
+IsToldOf fault WantOfMemory = Unit {0}
+
+-- how many values more records make a sheet evaluate: that of each calculation in each window that is due
+abbrev pub evaluated : SheetState → List (List Rec) → ℕ
+evaluated s mores =
+    due_below s.grid s.copies mores (complete_windows s.grid (longer s.copies mores)) * length s.group.calcs
+
+-- t is the sheet s with these records more
+pub record IsRefreshed (s t : SheetState) (mores : List (List Rec)) : Type 0 where
+  pub group : t.group ≡ s.group
+  pub grid : t.grid ≡ s.grid
+  pub copies : t.copies ≡ longer s.copies mores
+  -- rows from scratch stay so
+  pub scratch : IsScratch s.group s.grid s.copies s.rows → IsScratch t.group t.grid t.copies t.rows
+  -- a window that was complete and is not touched keeps its values
+  pub others : (k : ℕ) → k < complete_windows s.grid s.copies
+      → any_touched s.copies mores (window_from s.grid k) (window_to s.grid k) ≡ false
+      → column k t.rows ≡ column k s.rows
+  pub evals : t.evals ≡ min (s.evals + evaluated s mores) (2 ^ 64 - 1)
+
+-- rows and copies of a group with these records more, for which so many windows were due
+pub record IsSheetAfter (g : Group) (w : Grid) (copies : List (List Rec)) (rows : List (List CalcValue))
+    (copies_after : List (List Rec)) (rows_after : List (List CalcValue)) (mores : List (List Rec)) (due : ℕ) : Type 0 where
+  pub copied : copies_after ≡ longer copies mores
+  pub scratch : IsScratch g w copies rows → IsScratch g w copies_after rows_after
+  pub others : (k : ℕ) → k < complete_windows w copies
+      → any_touched copies mores (window_from w k) (window_to w k) ≡ false
+      → column k rows_after ≡ column k rows
+  pub counted : due ≡ due_below w copies mores (complete_windows w (longer copies mores))
+
+-- there is room for more records of each input, and for so many windows
+pub record HasRoom (copies : List (Vec Rec Global)) (contents : List ContentState) (rows : List (Vec CalcValue Global))
+    (deltas : List (Vec Rec Global)) (windows : ℕ) : Type 0 where
+  pub copied : (i : ℕ) (c d : Vec Rec Global) → i < length deltas
+      → vec_len (slice_index_or copies i c) + length (slice_index_or deltas i d).items
+      ≤ vec_capacity (slice_index_or copies i c)
+  pub put : (i : ℕ) (c : ContentState) (d : Vec Rec Global) → i < length deltas
+      → length (slice_index_or deltas i d).items ≤ (slice_index_or contents i c).spare
+  pub longer : All (λ row. windows ≤ vec_capacity row) rows

@@ -1,0 +1,98 @@
+// Rows: longer ones, and the values of the windows that are marked.
+ghost use Rattle.std.specs.Prelude.{◌≡◌, ◌≢◌, ℕ, ◌+◌, ◌*◌, ◌^◌, ◌<◌, ◌≤◌, true, false, List, length, map, All, Some, count_by};
+ghost use Rattle.std.specs.Prelude.{vec_len, vec_capacity};
+ghost use Rattle.std.specs.List.{range_with_len};
+ghost use Rattle.trend_num.specs.Ranges.{last_time};
+ghost use Rattle.calc_eval.specs.Value.{points_in, values};
+ghost use Rattle.sheet_law.specs.Windows.{window_from, window_to};
+ghost use Rattle.sheet_law.specs.Scratch.{column};
+ghost use Rattle.calc_refresh.specs.Lists.{lists_of};
+ghost use Rattle.calc_refresh.specs.Marks.{is_marked};
+ghost use Rattle.calc_refresh.specs.Sheet.{IsGrid};
+
+use calc_eval::{CalcValue, Checked, eval};
+use late_insert::Content;
+use sheet_law::Grid;
+use std::sync::ledger::Ledger;
+use trend_num::Steps;
+
+/// Puts places for more windows into the rows.
+pub(crate) fn lengthen(rows: &mut [Vec<CalcValue>], windows: usize)
+    requires { All (λ row. windows ≤ vec_capacity row) rows.old }
+    ensures windows { All (λ row. vec_len row ≡ windows) rows.new }
+    ensures columns { (k : ℕ) → All (λ row. k < vec_len row) rows.old → k < windows
+        → column k (lists_of rows.new) ≡ column k (lists_of rows.old) }
+{
+    for i in 0..rows.len() {
+        let _ = rows[i].resize(windows, CalcValue::Num(0));
+    }
+}
+
+/// Evaluates all calculations in the window from one time to another, each by the ones before it, and writes their
+/// values into the rows at its place.
+fn evaluate_window<L: Ledger>(
+    calcs: &Checked,
+    contents: &[Content],
+    from: u64,
+    to: u64,
+    rows: &mut [Vec<CalcValue>],
+    k: usize,
+    steps: &mut Steps<L>,
+)
+    requires inputs { length contents.now ≡ length calcs.now.inputs }
+    requires rises { from < to }
+    requires times { to ≤ last_time }
+    requires calcs { length rows.old ≡ length calcs.now.calcs }
+    requires few { length rows.old ≤ 64 }
+    requires within { All (λ row. k < vec_len row) rows.old }
+    ensures values { column k (lists_of rows.new) ≡ map Some (values calcs.now (points_in contents.now) from to) }
+    ensures others { (j : ℕ) → j ≢ k → column j (lists_of rows.new) ≡ column j (lists_of rows.old) }
+    ensures lengths { map (λ row. vec_len row) rows.new ≡ map (λ row. vec_len row) rows.old }
+    ensures steps { steps.new ≡ steps.old + length rows.old }
+{
+    let mut lower = [CalcValue::Num(0); 64];
+    for i in 0..rows.len() {
+        let value = eval(calcs, i as u32, from, to, contents, &lower[..i], steps);
+        lower[i] = value;
+        let row = &mut rows[i];
+        row[k] = value;
+    }
+}
+
+/// Evaluates the windows that are marked. Returns how many they were.
+pub(crate) fn evaluate<L: Ledger>(
+    calcs: &Checked,
+    grid: Grid,
+    contents: &[Content],
+    rows: &mut [Vec<CalcValue>],
+    marks: &[u64],
+    steps: &mut Steps<L>,
+) -> u64
+    requires grid { IsGrid grid }
+    requires complete { (k : ℕ) → k < length marks.now → window_to grid k ≤ last_time }
+    requires inputs { length contents.now ≡ length calcs.now.inputs }
+    requires calcs { length rows.old ≡ length calcs.now.calcs }
+    requires few { length rows.old ≤ 64 }
+    requires windows { All (λ row. vec_len row ≡ length marks.now) rows.old }
+    ensures values { (k : ℕ) → k < length marks.now → is_marked marks.now k ≡ true
+        → column k (lists_of rows.new)
+        ≡ map Some (values calcs.now (points_in contents.now) (window_from grid k) (window_to grid k)) }
+    ensures others { (k : ℕ) → k < length marks.now → is_marked marks.now k ≡ false
+        → column k (lists_of rows.new) ≡ column k (lists_of rows.old) }
+    ensures windows { All (λ row. vec_len row ≡ length marks.now) rows.new }
+    ensures count { result ≡ count_by (is_marked marks.now) (range_with_len 0 (length marks.now)) }
+    ensures steps { steps.new ≡ steps.old + result * length rows.old }
+{
+    let mut behind = 0;
+    let mut due = 0;
+    for k in 0..marks.len() {
+        behind = marks[k].max(behind);
+        if (k as u64) < behind {
+            let from = grid.start + k as u64 * grid.period;
+            let to = grid.start + (k as u64 + 1) * grid.period;
+            evaluate_window(calcs, contents, from, to, rows, k, steps);
+            due += 1;
+        }
+    }
+    due
+}

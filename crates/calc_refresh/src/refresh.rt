@@ -1,0 +1,102 @@
+// A sheet with more records, once there is memory for all of them.
+ghost use Rattle.std.specs.Prelude.{◌≡◌, ℕ, ◌+◌, ◌*◌, ◌^◌, ◌<◌, ◌≤◌, false, List, length, map, All};
+ghost use Rattle.std.specs.Prelude.{replicate, IfOk, OnErr};
+ghost use Rattle.trend_model.specs.Contents.{ContentState, listed};
+ghost use Rattle.sheet_law.specs.Windows.{complete_windows};
+ghost use Rattle.sheet_law.specs.Touched.{longer};
+ghost use Rattle.calc_refresh.specs.Lists.{lists_of};
+ghost use Rattle.calc_refresh.specs.Sheet.{IsCopy, IsSheet};
+ghost use Rattle.calc_refresh.specs.Refreshed.{HasRoom, IsSheetAfter};
+
+use crate::evaluation::{evaluate, lengthen};
+use crate::mark::mark;
+use crate::room::make_room;
+use crate::taking::take_all;
+use crate::window::Span;
+use calc_eval::{CalcValue, Checked};
+use late_insert::Content;
+use sheet_law::Grid;
+use std::alloc::{AllocError, Global};
+use std::sync::ledger::Ledger;
+use trend_num::{Rec, Steps};
+
+/// Takes more records and evaluates the windows that they make due. Returns how many these are. The marks stand for the
+/// windows that are complete then, and none is marked.
+pub(crate) fn refreshed<L: Ledger>(
+    calcs: &Checked,
+    grid: Grid,
+    copies: &mut [Vec<Rec>],
+    contents: &mut [Content],
+    ends: &mut [u64],
+    rows: &mut [Vec<CalcValue>],
+    deltas: &[Vec<Rec>],
+    marks: &mut [u64],
+    steps: &mut Steps<L>,
+) -> u64
+    requires sheet { IsSheet calcs.now grid (lists_of copies.old) contents.old ends.old (lists_of rows.old) }
+    requires inputs { length deltas.now ≡ length copies.old }
+    requires copied { All IsCopy (lists_of deltas.now) }
+    requires short { All IsCopy (longer (lists_of copies.old) (lists_of deltas.now)) }
+    requires room { HasRoom copies.old contents.old rows.old deltas.now (length marks.old) }
+    requires windows { length marks.old ≡ complete_windows grid (longer (lists_of copies.old) (lists_of deltas.now)) }
+    requires unmarked { marks.old ≡ replicate (length marks.old) 0 }
+    requires few { length marks.old < 2 ^ 32 }
+    ensures sheet { IsSheet calcs.now grid (lists_of copies.new) contents.new ends.new (lists_of rows.new) }
+    ensures after { IsSheetAfter calcs.now grid (lists_of copies.old) (lists_of rows.old) (lists_of copies.new) (lists_of rows.new) (lists_of deltas.now) result }
+    ensures steps { steps.new ≡ steps.old + result * length calcs.now.calcs }
+{
+    let known = rows[0].len();
+    take_all(grid, copies, contents, ends, deltas, marks);
+    let windows = marks.len();
+    mark(
+        marks,
+        Span {
+            first: known as u64,
+            behind: windows as u64,
+        },
+    );
+    lengthen(rows, windows);
+    evaluate(calcs, grid, contents, rows, marks, steps)
+}
+
+/// Takes more records, with which so many windows are complete, and evaluates the windows that they make due. Returns how
+/// many these are. All memory is taken before anything changes.
+pub(crate) fn bring<L: Ledger>(
+    alloc: Global,
+    calcs: &Checked,
+    grid: Grid,
+    copies: &mut [Vec<Rec>],
+    contents: &mut [Content],
+    ends: &mut [u64],
+    rows: &mut [Vec<CalcValue>],
+    deltas: &[Vec<Rec>],
+    windows: usize,
+    steps: &mut Steps<L>,
+) -> Result<u64, AllocError>
+    requires sheet { IsSheet calcs.now grid (lists_of copies.old) contents.old ends.old (lists_of rows.old) }
+    requires inputs { length deltas.now ≡ length copies.old }
+    requires copied { All IsCopy (lists_of deltas.now) }
+    requires short { All IsCopy (longer (lists_of copies.old) (lists_of deltas.now)) }
+    requires windows { windows ≡ complete_windows grid (longer (lists_of copies.old) (lists_of deltas.now)) }
+    requires few { windows < 2 ^ 32 }
+    ensures sheet { IsSheet calcs.now grid (lists_of copies.new) contents.new ends.new (lists_of rows.new) }
+    ensures after { IfOk result (IsSheetAfter calcs.now grid (lists_of copies.old) (lists_of rows.old) (lists_of copies.new) (lists_of rows.new) (lists_of deltas.now)) }
+    ensures steps { IfOk result (λ due. steps.new ≡ steps.old + due * length calcs.now.calcs) }
+    ensures same_copies { OnErr result (lists_of copies.new ≡ lists_of copies.old) }
+    ensures same_rows { OnErr result (lists_of rows.new ≡ lists_of rows.old) }
+    ensures no_steps { OnErr result (steps.new ≡ steps.old) }
+{
+    let mut marks = vec![in alloc; 0u64; windows]?;
+    make_room(alloc, copies, contents, rows, deltas, windows)?;
+    Ok(refreshed(
+        calcs,
+        grid,
+        copies,
+        contents,
+        ends,
+        rows,
+        deltas,
+        marks.as_mut_slice(),
+        steps,
+    ))
+}

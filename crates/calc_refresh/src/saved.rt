@@ -1,0 +1,115 @@
+// A sheet from copies and rows that were saved.
+ghost use Rattle.std.specs.Prelude.{◌≡◌, ℕ, ◌+◌, ◌^◌, ◌<◌, ◌≤◌, List, length, map, All, Err, Some, None};
+ghost use Rattle.std.specs.Prelude.{IfErr, IfOk, MatchResult, vec_len};
+ghost use Rattle.trend_model.specs.Contents.{listed};
+ghost use Rattle.sheet_law.specs.Windows.{complete_windows, kept_end};
+ghost use Rattle.calc_refresh.specs.declared.refusal.SheetNo.{SheetNo};
+ghost use Rattle.calc_refresh.specs.Lists.{lists_of};
+ghost use Rattle.calc_refresh.specs.Refreshed.{IsToldOf, fresh, shape_fault};
+ghost use Rattle.calc_refresh.specs.Sheet.{IsCopy, IsGrid, IsGroup};
+
+use crate::definition::GroupDefParts;
+use crate::limit::kept_end_after;
+use crate::refusal::SheetNo;
+use crate::sheet::Sheet;
+use crate::window::windows_before;
+use calc_eval::CalcValue;
+use late_insert::Content;
+use sheet_law::Grid;
+use std::alloc::{AllocError, Global};
+use trend_num::Rec;
+
+/// The sheet of a group with copies and rows as they were saved. It fails at the first row that has not one value for
+/// each complete window of the copies. The values themselves are taken as they are.
+pub fn from_saved(
+    alloc: Global,
+    def: &GroupDefParts,
+    copies: Vec<Vec<Rec>>,
+    rows: Vec<Vec<CalcValue>>,
+) -> Result<Sheet, SheetNo>
+    requires group { IsGroup def.now.inputs def.now.calcs }
+    requires grid { IsGrid (record { start = def.now.start; period = def.now.period }) }
+    requires inputs { vec_len copies ≡ def.now.inputs }
+    requires calcs { vec_len rows ≡ length def.now.calcs.calcs }
+    requires copied { All IsCopy (lists_of copies.items) }
+    requires short { All (λ row. vec_len row < 2 ^ 32) rows.items }
+    ensures saved { IfOk result (λ s. s ≡ fresh def.now.calcs (record { start = def.now.start; period = def.now.period })
+        (lists_of copies.items) (lists_of rows.items)) }
+
+    // A row of another length is told whatever memory there is.
+    ensures shape { let grid = record { start = def.now.start; period = def.now.period } in (why : SheetNo)
+        → shape_fault (complete_windows grid (lists_of copies.items)) (lists_of rows.items) ≡ Some why → result ≡ Err why }
+    ensures fault { let grid = record { start = def.now.start; period = def.now.period } in
+        IfErr result (IsToldOf (shape_fault (complete_windows grid (lists_of copies.items)) (lists_of rows.items))) }
+{
+    let grid = def.grid();
+    has_shape(windows_of(grid, &copies), &rows)?;
+    let contents = contents_of(alloc, &copies)?;
+    let ends = ends_of(alloc, &copies)?;
+    let calcs = def.calcs.copy().map_err(|_| SheetNo::WantOfMemory)?;
+    Ok(Sheet {
+        alloc,
+        calcs,
+        grid,
+        copies,
+        contents,
+        ends,
+        rows,
+        evals: 0,
+    })
+}
+
+/// How many windows of these records are complete.
+fn windows_of(grid: Grid, copies: &[Vec<Rec>]) -> u64
+    requires grid { IsGrid grid }
+    requires some { 1 ≤ length copies.now }
+    requires copied { All IsCopy (lists_of copies.now) }
+    ensures { result ≡ complete_windows grid (lists_of copies.now) }
+{
+    let mut least = windows_before(grid, kept_end_after(0, &copies[0]));
+    for i in 1..copies.len() {
+        least = least.min(windows_before(grid, kept_end_after(0, &copies[i])));
+    }
+    least
+}
+
+/// Refuses the first row that has not so many values.
+fn has_shape(windows: u64, rows: &[Vec<CalcValue>]) -> Result<(), SheetNo>
+    ensures { MatchResult result (λ _. shape_fault windows (lists_of rows.now) ≡ None)
+        (λ why. shape_fault windows (lists_of rows.now) ≡ Some why) }
+{
+    for row in rows {
+        if row.len() as u64 != windows {
+            return Err(SheetNo::Shape {
+                windows,
+                rows: row.len() as u64,
+            });
+        }
+    }
+    Ok(())
+}
+
+/// What the copies read as.
+fn contents_of(alloc: Global, copies: &[Vec<Rec>]) -> Result<Vec<Content>, AllocError>
+    requires { All IsCopy (lists_of copies.now) }
+    ensures { IfOk result (λ v. map (λ c. c.records) v.items ≡ map listed (lists_of copies.now)) }
+{
+    let mut contents = Vec::with_capacity(alloc, copies.len())?;
+    for copy in copies {
+        let content = Content::from_records(alloc, copy, 0).map_err(|_| AllocError)?;
+        contents.push_reserved(content);
+    }
+    Ok(contents)
+}
+
+/// The times behind the last Kept records of the copies.
+fn ends_of(alloc: Global, copies: &[Vec<Rec>]) -> Result<Vec<u64>, AllocError>
+    requires { All IsCopy (lists_of copies.now) }
+    ensures { IfOk result (λ v. v.items ≡ map kept_end (lists_of copies.now)) }
+{
+    let mut ends = Vec::with_capacity(alloc, copies.len())?;
+    for copy in copies {
+        ends.push_reserved(kept_end_after(0, copy));
+    }
+    Ok(ends)
+}

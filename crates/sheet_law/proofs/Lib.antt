@@ -1,0 +1,5 @@
+pub mod Alike
+pub mod Stretch
+pub mod Stay
+pub mod Complete
+pub mod Formulas

@@ -1,0 +1,3 @@
+pub mod Windows
+pub mod Touched
+pub mod Scratch
