@@ -26,7 +26,7 @@ const STORIES: &str = "\
 4 plain 0,5 10,60 check 20,5 check check 30,5 check => 0,5 10,60 held 20,5 4 4 41
 64 plain 0,0 10,10 20,20 loose 30,33 40,40 => 0,0 20,20 held 40,40 6 62 8
 64 dull 0,0 10,1 plain => 0,0 10,1 held 10,1 3 64 0
-4 plain 0,0 dull 10,1 5,3 => 0,0 10,1 5,3* held 10,1 4 2 8";
+4 plain 0,0 dull 10,1 5,3 => 0,0 5,3* held 10,1 4 2 8";
 
 // Bytes of a device of the tag T1 that are changed, and what is told when it is opened. Of the header: letters, the name
 // and its zeros, the tuning, the number of slots, the kind, zeros. Of the summary: flags, zeros, absent parts that are
