@@ -1,11 +1,14 @@
 -- Sheets that begin: saved rows of the right length, and no rows.
 use Rattle.std.proofs.Common.{◌≡◌, ℕ, zero, suc, ◌+◌, ◌-◌, ◌/◌, ◌<◌, ◌≤◌, inl, inr, Bool, true, false, cond, List, [], ◌∷◌, Option, None, Some, length, get_or, map, replicate, All, refl, subst, sym, ap, ◌∙◌, arith}
-use Rattle.std.specs.Prelude.{◌↔◌, IsSome, find, not, nat_eq, min, option_and_then, slice_get}
+use Rattle.std.specs.Prelude.{◌↔◌, IsSome, find, not, nat_eq, min, option_and_then, slice_get, Vec, vec_len}
+use Rattle.std.specs.declared.alloc.Global.{Global}
+use Rattle.calc_refresh.specs.declared.refusal.SheetNo.{SheetNo}
+use Rattle.calc_refresh.specs.declared.refusal.SheetNo.TheVariants.{Shape, CellLimit, CopyLimit, WantOfMemory}
 use Rattle.std.specs.Option.{option_map}
 use Rattle.std.proofs.lemmas.Bool.{cases_eq, cases_lt, eq-eqb, ne_eqb}
 use Rattle.std.proofs.Math.Nat.{zero-div}
 use Rattle.std.proofs.lemmas.List.{get_or-replicate, length-replicate}
-use Rattle.std.proofs.lemmas.List.Elements.{All-cons, All-nil}
+use Rattle.std.proofs.lemmas.List.Elements.{All-cons, All-head, All-nil}
 use Rattle.trend_num.specs.declared.archive.Rec.{Rec}
 use Rattle.trend_num.specs.declared.value.CalcValue.{CalcValue}
 use Rattle.trend_num.specs.declared.value.Bad.TheVariants.{NoData}
@@ -15,7 +18,7 @@ use Rattle.calc_check.specs.Group.{Group}
 use Rattle.sheet_law.specs.declared.grid.Grid.{Grid}
 use Rattle.sheet_law.specs.Windows.{complete_windows, kept_end, least, windows_before}
 use Rattle.sheet_law.specs.Scratch.{IsScratch}
-use Rattle.calc_refresh.specs.Refreshed.{shape_fault}
+use Rattle.calc_refresh.specs.Refreshed.{IsToldOf, shape_fault}
 
 -- where no row is told each has its length
 pub shapes_hold : (windows : ℕ) (rows : List (List CalcValue)) → shape_fault windows rows ≡ None
@@ -71,3 +74,19 @@ row_there rows calcs n i k o is many long =
           let none : o ≡ None = is ∙ ap (option_and_then (λ row. slice_get row k)) (slice_get_past rows i outside) in
           (λ h. absurd (let clash = subst (λ (p : Option CalcValue). IsSome p) none h in cc), λ h. absurd (omega arith))
     ]
+
+-- rows of one length are as short as the first of them
+pub few_by : (rows : List (Vec CalcValue Global)) (n bound : ℕ) → 0 < length rows → All (λ row. vec_len row ≡ n) rows
+    → All (λ row. vec_len row < bound) rows → n < bound
+few_by [] n bound some long short = absurd (omega arith)
+few_by (v ∷ rows) n bound some long short =
+    let is = All-head (λ row. vec_len row ≡ n) v rows long in
+    let few = All-head (λ row. vec_len row < bound) v rows short in
+    omega (arith, is, few)
+
+-- a fault that is there is what is told
+pub told_of : (o : Option SheetNo) (why : SheetNo) → o ≡ Some why → IsToldOf o why
+told_of o (Shape windows rows) is = is
+told_of o (CellLimit cells) is = is
+told_of o (CopyLimit records) is = is
+told_of o WantOfMemory is = tt
