@@ -3,6 +3,7 @@ ghost use Rattle.std.specs.Prelude.{◌≡◌, ◌≢◌, pos, IsTrue};
 ghost use Rattle.calc_eval.specs.Number.{bounded, measured_value, floor_div, floor_rem, divided, operated, holds, compared};
 
 use calc_parser::{Cmp, Op};
+use trend_num::{Bad, CalcValue};
 
 /// The greatest amount of a value.
 const LARGEST: u128 = 1_000_000_000_000_000_000;
