@@ -17,6 +17,10 @@ pub record SheetState : Type 0 where
   pub rows : List (List CalcValue)
   pub evals : ℕ
 
+-- the grid of windows that start there and are so long
+abbrev pub grid_of : ℕ → ℕ → Grid
+grid_of start period = record { start = start; period = period }
+
 -- a grid of windows that a group may have
 pub record IsGrid (w : Grid) : Type 0 where
   pub start : w.start ≤ last_time

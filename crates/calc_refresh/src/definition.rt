@@ -1,8 +1,9 @@
 // The definition of a group, as its sheet is handed it.
+ghost use Rattle.std.specs.Prelude.{◌≡◌};
+ghost use Rattle.calc_refresh.specs.Sheet.{grid_of};
+
 use calc_eval::Checked;
 use sheet_law::Grid;
-
-ghost use Rattle.std.specs.Prelude.{◌≡◌};
 
 /// The parts of a group's definition: 1 to 64 inputs, 1 to 64 calculations that were checked with so many, and a grid
 /// of windows.
@@ -21,7 +22,7 @@ pub struct GroupDefParts {
 impl GroupDefParts {
     // The grid of the windows.
     pub(crate) fn grid(&self) -> Grid
-        ensures { result ≡ record { start = self.now.start; period = self.now.period } }
+        ensures { result ≡ grid_of self.now.start self.now.period }
     {
         Grid {
             start: self.start,

@@ -6,7 +6,7 @@ ghost use Rattle.sheet_law.specs.Windows.{complete_windows, kept_end};
 ghost use Rattle.calc_refresh.specs.declared.refusal.SheetNo.{SheetNo};
 ghost use Rattle.calc_refresh.specs.Lists.{lists_of};
 ghost use Rattle.calc_refresh.specs.Refreshed.{IsToldOf, fresh, shape_fault};
-ghost use Rattle.calc_refresh.specs.Sheet.{IsCopy, IsGrid, IsGroup};
+ghost use Rattle.calc_refresh.specs.Sheet.{IsCopy, IsGrid, IsGroup, grid_of};
 
 use crate::definition::GroupDefParts;
 use crate::limit::kept_end_after;
@@ -28,35 +28,62 @@ pub fn from_saved(
     rows: Vec<Vec<CalcValue>>,
 ) -> Result<Sheet, SheetNo>
     requires group { IsGroup def.now.inputs def.now.calcs }
-    requires grid { IsGrid (record { start = def.now.start; period = def.now.period }) }
+    requires grid { IsGrid (grid_of def.now.start def.now.period) }
     requires inputs { vec_len copies ≡ def.now.inputs }
     requires calcs { vec_len rows ≡ length def.now.calcs.calcs }
     requires copied { All IsCopy (lists_of copies.items) }
     requires short { All (λ row. vec_len row < 2 ^ 32) rows.items }
-    ensures saved { IfOk result (λ s. s ≡ fresh def.now.calcs (record { start = def.now.start; period = def.now.period })
+    ensures saved { IfOk result (λ s. s ≡ fresh def.now.calcs (grid_of def.now.start def.now.period)
         (lists_of copies.items) (lists_of rows.items)) }
 
     // A row of another length is told whatever memory there is.
-    ensures shape { let grid = record { start = def.now.start; period = def.now.period } in (why : SheetNo)
+    ensures shape { let grid = grid_of def.now.start def.now.period in (why : SheetNo)
         → shape_fault (complete_windows grid (lists_of copies.items)) (lists_of rows.items) ≡ Some why → result ≡ Err why }
-    ensures fault { let grid = record { start = def.now.start; period = def.now.period } in
+    ensures fault { let grid = grid_of def.now.start def.now.period in
         IfErr result (IsToldOf (shape_fault (complete_windows grid (lists_of copies.items)) (lists_of rows.items))) }
 {
-    let grid = def.grid();
-    has_shape(windows_of(grid, &copies), &rows)?;
+    match shape_fault(windows_of(def.grid(), &copies), &rows) {
+        Some(fault) => Err(fault),
+        None => match restored(alloc, def, copies, rows) {
+            Ok(sheet) => Ok(sheet),
+            Err(_) => Err(SheetNo::WantOfMemory),
+        },
+    }
+}
+
+/// The sheet of copies and rows that fit together.
+pub(crate) fn restored(
+    alloc: Global,
+    def: &GroupDefParts,
+    copies: Vec<Vec<Rec>>,
+    rows: Vec<Vec<CalcValue>>,
+) -> Result<Sheet, AllocError>
+    requires group { IsGroup def.now.inputs def.now.calcs }
+    requires grid { IsGrid (grid_of def.now.start def.now.period) }
+    requires inputs { length (lists_of copies.items) ≡ def.now.inputs }
+    requires calcs { length (lists_of rows.items) ≡ length def.now.calcs.calcs }
+    requires copied { All IsCopy (lists_of copies.items) }
+    requires shape { let grid = grid_of def.now.start def.now.period in
+        All (λ row. length row ≡ complete_windows grid (lists_of copies.items)) (lists_of rows.items) }
+    requires few { complete_windows (grid_of def.now.start def.now.period) (lists_of copies.items) < 2 ^ 32 }
+    ensures { IfOk result (λ s. s ≡ fresh def.now.calcs (grid_of def.now.start def.now.period)
+        (lists_of copies.items) (lists_of rows.items)) }
+{
     let contents = contents_of(alloc, &copies)?;
     let ends = ends_of(alloc, &copies)?;
-    let calcs = def.calcs.copy().map_err(|_| SheetNo::WantOfMemory)?;
-    Ok(Sheet {
-        alloc,
-        calcs,
-        grid,
-        copies,
-        contents,
-        ends,
-        rows,
-        evals: 0,
-    })
+    match def.calcs.copy() {
+        Err(_) => Err(AllocError),
+        Ok(calcs) => Ok(Sheet {
+            alloc,
+            calcs,
+            grid: def.grid(),
+            copies,
+            contents,
+            ends,
+            rows,
+            evals: 0,
+        }),
+    }
 }
 
 /// How many windows of these records are complete.
@@ -73,20 +100,19 @@ fn windows_of(grid: Grid, copies: &[Vec<Rec>]) -> u64
     least
 }
 
-/// Refuses the first row that has not so many values.
-fn has_shape(windows: u64, rows: &[Vec<CalcValue>]) -> Result<(), SheetNo>
-    ensures { MatchResult result (λ _. shape_fault windows (lists_of rows.now) ≡ None)
-        (λ why. shape_fault windows (lists_of rows.now) ≡ Some why) }
+/// What is told of the first row that has not so many values.
+fn shape_fault(windows: u64, rows: &[Vec<CalcValue>]) -> Option<SheetNo>
+    ensures { result ≡ shape_fault windows (lists_of rows.now) }
 {
     for row in rows {
         if row.len() as u64 != windows {
-            return Err(SheetNo::Shape {
+            return Some(SheetNo::Shape {
                 windows,
                 rows: row.len() as u64,
             });
         }
     }
-    Ok(())
+    None
 }
 
 /// What the copies read as.
@@ -96,8 +122,10 @@ fn contents_of(alloc: Global, copies: &[Vec<Rec>]) -> Result<Vec<Content>, Alloc
 {
     let mut contents = Vec::with_capacity(alloc, copies.len())?;
     for copy in copies {
-        let content = Content::from_records(alloc, copy, 0).map_err(|_| AllocError)?;
-        contents.push_reserved(content);
+        match Content::from_records(alloc, copy, 0) {
+            Ok(content) => contents.push_reserved(content),
+            Err(_) => return Err(AllocError),
+        }
     }
     Ok(contents)
 }

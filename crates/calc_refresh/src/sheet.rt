@@ -7,13 +7,13 @@ ghost use Rattle.sheet_law.specs.Scratch.{IsScratch};
 ghost use Rattle.calc_refresh.specs.declared.refusal.SheetNo.{SheetNo};
 ghost use Rattle.calc_refresh.specs.Lists.{lists_of};
 ghost use Rattle.calc_refresh.specs.Refreshed.{IsRefreshed, IsToldOf, evaluated, fault_after, fresh};
-ghost use Rattle.calc_refresh.specs.Sheet.{IsCopy, IsGrid, IsGroup};
+ghost use Rattle.calc_refresh.specs.Sheet.{IsCopy, IsGrid, IsGroup, grid_of};
 
 use crate::definition::GroupDefParts;
 use crate::limit::{records_after, windows_after, within_limits};
 use crate::refresh::bring;
 use crate::refusal::SheetNo;
-use crate::saved::from_saved;
+use crate::saved::restored;
 use calc_eval::{CalcValue, Checked};
 use late_insert::Content;
 use sheet_law::Grid;
@@ -67,14 +67,14 @@ pub struct SheetParts {
 /// The sheet of a group at version 0: no records, and no rows.
 pub fn new_sheet(alloc: Global, def: &GroupDefParts) -> Result<Sheet, WantOfMemory>
     requires group { IsGroup def.now.inputs def.now.calcs }
-    requires grid { IsGrid (record { start = def.now.start; period = def.now.period }) }
-    ensures empty { IfOk result (λ s. s ≡ fresh def.now.calcs (record { start = def.now.start; period = def.now.period })
+    requires grid { IsGrid (grid_of def.now.start def.now.period) }
+    ensures empty { IfOk result (λ s. s ≡ fresh def.now.calcs (grid_of def.now.start def.now.period)
         (replicate def.now.inputs []) (replicate (length def.now.calcs.calcs) [])) }
     ensures scratch { IfOk result (λ s. IsScratch s.group s.grid s.copies s.rows) }
 {
     let copies = empty_copies(alloc, def.inputs as usize)?;
     let rows = empty_rows(alloc, def.calcs.defs().len())?;
-    match from_saved(alloc, def, copies, rows) {
+    match restored(alloc, def, copies, rows) {
         Ok(sheet) => Ok(sheet),
         Err(_) => Err(WantOfMemory),
     }
@@ -102,6 +102,14 @@ fn empty_rows(alloc: Global, calcs: usize) -> Result<Vec<Vec<CalcValue>>, WantOf
         rows.push(row).map_err(|_| WantOfMemory)?;
     }
     Ok(rows)
+}
+
+/// The value at a place of a row, if there are such a row and such a place.
+fn value_at(rows: &[Vec<CalcValue>], calc: usize, k: usize) -> Option<CalcValue>
+    ensures { result ≡ option_and_then (λ row. slice_get row k) (slice_get (lists_of rows.now) calc) }
+{
+    let row = rows.get(calc)?;
+    row.get(k).copied()
 }
 
 impl Sheet {
@@ -159,8 +167,7 @@ impl Sheet {
         ensures value { result ≡ option_and_then (λ row. slice_get row k) (slice_get self.now.rows calc) }
         ensures there { IsSome result ↔ ((calc < length self.now.group.calcs) × (k < complete_windows self.now.grid self.now.copies)) }
     {
-        let row = self.rows.get(calc as usize)?;
-        row.get(k as usize).copied()
+        value_at(&self.rows, calc as usize, k as usize)
     }
 
     /// How many values `apply` has evaluated since the sheet was made. The count stays at 2^64 - 1.

@@ -1,7 +1,7 @@
 use Rattle.std.proofs.Common.{◌≡◌, drop}
 use Rattle.calc_refresh.specs.Lists.{lists_of}
 use Rattle.calc_refresh.specs.Refreshed.{shape_fault}
-use Rattle.calc_refresh.proofs.saved.has_shape.Given as goal
+use Rattle.calc_refresh.proofs.saved.shape_fault.Given as goal
 
 abbrev pub invariant-loop-row : goal.invariant-loop-row
 invariant-loop-row l = shape_fault l.windows (lists_of l.rows) ≡ shape_fault l.windows (lists_of (drop l.row-index l.rows))
