@@ -64,15 +64,15 @@ faults_so before now (Ok text) status old new faults (inr cut) told = faults ∙
 faults_so before now (Err why) status old new faults printed told = faults ∙ ap (λ s. faults_told s old) (sym told.0)
 
 -- a fact of an answer that is a text is one of a run that did all but the printing
-pub done_so : {P : Type 0} (IsRefusal : Status → Type 0) (before now : Outside) (answer : Result (String Global) Status) (status : Status)
+pub done_so : (P : Type 0) (IsRefusal : Status → Type 0) (before now : Outside) (answer : Result (String Global) Status) (status : Status)
     → OnOk answer P → IfErr answer IsRefusal → (IsRefusal Done → ⊥) → (IsRefusal WriteFault → ⊥)
     → IfOk answer (λ text. IsPrintedSo (string_bytes text) before now status)
     → IfErr answer (λ why. (status ≡ why) × IsTold before now why) → WhereDone status P
-done_so {P} IsRefusal before now (Ok text) status fact refusal no_done no_fault (inl done) told =
+done_so P IsRefusal before now (Ok text) status fact refusal no_done no_fault (inl done) told =
     subst (λ s. WhereDone s P) (sym done.0) fact
-done_so {P} IsRefusal before now (Ok text) status fact refusal no_done no_fault (inr cut) told =
+done_so P IsRefusal before now (Ok text) status fact refusal no_done no_fault (inr cut) told =
     subst (λ s. WhereDone s P) (sym cut.0) fact
-done_so {P} IsRefusal before now (Err why) status fact refusal no_done no_fault printed told =
+done_so P IsRefusal before now (Err why) status fact refusal no_done no_fault printed told =
     subst (λ s. WhereDone s P) (sym told.0) (of_refusal why refusal)
   where
     of_refusal : (s : Status) → IsRefusal s → WhereDone s P

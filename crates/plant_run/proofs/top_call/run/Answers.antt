@@ -24,7 +24,7 @@ returns-in-Check-clause-ends g c =
       answered_so (IsChecked base told old) IsRefused before now c.check.result c.finish.result c.check.ensures.text
           c.check.ensures.refused no_done no_fault text line,
       record {
-        durable = done_so IsRefused before now c.check.result c.finish.result c.check.ensures.durable c.check.ensures.refused
+        durable = done_so _ IsRefused before now c.check.result c.finish.result c.check.ensures.durable c.check.ensures.refused
             no_done no_fault text line;
         file_faults = faults_so before now c.check.result c.finish.result _ _ c.check.ensures.file_faults text line;
         device_faults = λ few. counts_so IsRefused before now c.check.result c.finish.result faults more
@@ -57,7 +57,7 @@ returns-in-Trend-clause-ends g c =
       answered_so (IsTrend base plan told old) IsRefused before now c.trend.result c.finish-in-Trend.result
           c.trend.ensures.text c.trend.ensures.refused no_done no_fault text line,
       record {
-        durable = done_so IsRefused before now c.trend.result c.finish-in-Trend.result c.trend.ensures.durable
+        durable = done_so _ IsRefused before now c.trend.result c.finish-in-Trend.result c.trend.ensures.durable
             c.trend.ensures.refused no_done no_fault text line;
         file_faults = faults_so before now c.trend.result c.finish-in-Trend.result _ _ c.trend.ensures.file_faults text line;
         device_faults = λ few. counts_so IsRefused before now c.trend.result c.finish-in-Trend.result faults more
