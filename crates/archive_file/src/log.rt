@@ -2,7 +2,7 @@
 ghost use Rattle.std.specs.Prelude.{◌≡◌, ◌+◌, ◌*◌, ◌^◌, ◌<◌, ◌≤◌, ℕ, Option, min, length, take, drop, slice_index, Some, IfOk};
 ghost use Rattle.std.specs.Prelude.{IfSome, OnOk, OnErr, IsErrOf, vec_len, vec_capacity};
 ghost use Rattle.disk_model.specs.Traces.{Wrote, WroteInPart, seen};
-ghost use Rattle.disk_model.specs.Calls.{IsNoted, Reaches, Reads, Rose};
+ghost use Rattle.disk_model.specs.Calls.{CountsFault, IsNoted, Reaches, Reads};
 ghost use Rattle.archive_file.specs.declared.failure.ScanNo.TheVariants.{DeviceFault, Damaged};
 ghost use Rattle.archive_file.specs.declared.failure.PutNo.TheVariants.{DeviceFault as PutFault, WantOfMemory};
 ghost use Rattle.archive_file.specs.Records.{rec_image, recs_image};
@@ -26,8 +26,8 @@ pub fn put_records<D: Disk>(alloc: Global, dev: &mut D, at: u64, recs: &[Rec]) -
     ensures noted { IsNoted (Wrote at (recs_image recs.now)) (WroteInPart at (recs_image recs.now)) result
         (D.trace dev.old) (D.trace dev.new) }
     ensures unwritten { IsErrOf result WantOfMemory → dev.new ≡ dev.old }
-    ensures device_fault { IsErrOf result PutFault → Rose (D.fault_count dev.old) (D.fault_count dev.new) }
-    ensures faults { D.fault_count dev.old ≤ D.fault_count dev.new }
+    ensures cause { CountsFault result PutFault (D.fault_count dev.old) (D.fault_count dev.new) }
+    ensures clock { OnOk result (D.ticks dev.old < D.ticks dev.new) }
     ensures later { D.ticks dev.old ≤ D.ticks dev.new }
 {
     let Ok(bytes) = bytes_of(alloc, recs) else {
@@ -61,10 +61,9 @@ pub fn read_records<D: Disk>(
     ensures ok { IfOk result (λ v. IfSome (D.trace dev.old) (λ t. HasRecords (seen (Option.Some t)) at count v.items)) }
     ensures damaged { (a : ℕ) (byte : Option ℕ) → IsErrOf result (Damaged a byte) →
         IfSome (D.trace dev.old) (λ t. IsDamage (seen (Option.Some t)) at count a byte) }
-    ensures device_fault { IsErrOf result DeviceFault → Rose (D.fault_count dev.old) (D.fault_count dev.new) }
+    ensures cause { CountsFault result DeviceFault (D.fault_count dev.old) (D.fault_count dev.new) }
     ensures same { D.trace dev.new ≡ D.trace dev.old }
     ensures untimed { D.ticks dev.new ≡ D.ticks dev.old }
-    ensures faults { D.fault_count dev.old ≤ D.fault_count dev.new }
 {
     let Ok(len) = dev.len() else {
         return Err(ScanNo::DeviceFault);
@@ -102,10 +101,9 @@ fn read_pieces<D: Disk>(
         (λ t. Adds (seen (Option.Some t)) at count recs.old.items recs.new.items)) }
     ensures damaged { (a : ℕ) (byte : Option ℕ) → IsErrOf result (Damaged a byte) →
         IfSome (D.trace dev.old) (λ t. IsDamage (seen (Option.Some t)) at count a byte) }
-    ensures device_fault { IsErrOf result DeviceFault → Rose (D.fault_count dev.old) (D.fault_count dev.new) }
+    ensures cause { CountsFault result DeviceFault (D.fault_count dev.old) (D.fault_count dev.new) }
     ensures same { D.trace dev.new ≡ D.trace dev.old }
     ensures untimed { D.ticks dev.new ≡ D.ticks dev.old }
-    ensures faults { D.fault_count dev.old ≤ D.fault_count dev.new }
 {
     let mut done = 0;
     while done < count {
@@ -134,10 +132,9 @@ fn read_piece<D: Disk>(
         (λ t. Adds (seen (Option.Some t)) at count recs.old.items recs.new.items)) }
     ensures damaged { (a : ℕ) (byte : Option ℕ) → IsErrOf result (Damaged a byte) →
         IfSome (D.trace dev.old) (λ t. IsDamage (seen (Option.Some t)) at count a byte) }
-    ensures device_fault { IsErrOf result DeviceFault → Rose (D.fault_count dev.old) (D.fault_count dev.new) }
+    ensures cause { CountsFault result DeviceFault (D.fault_count dev.old) (D.fault_count dev.new) }
     ensures same { D.trace dev.new ≡ D.trace dev.old }
     ensures untimed { D.ticks dev.new ≡ D.ticks dev.old }
-    ensures faults { D.fault_count dev.old ≤ D.fault_count dev.new }
     ensures len { OnOk result (vec_len recs.new ≡ vec_len recs.old + count) }
     ensures capacity { vec_capacity recs.new ≡ vec_capacity recs.old }
 {
@@ -158,10 +155,9 @@ pub fn read_bytes<D: Disk>(
     ensures reads { IfOk result (λ v. Reads (D.trace dev.old) at v.items) }
     ensures len { IfOk result (λ v. length v.items ≡ size) }
     ensures damaged { (a : ℕ) (byte : Option ℕ) → IsErrOf result (Damaged a byte) → ⊥ }
-    ensures device_fault { IsErrOf result DeviceFault → Rose (D.fault_count dev.old) (D.fault_count dev.new) }
+    ensures cause { CountsFault result DeviceFault (D.fault_count dev.old) (D.fault_count dev.new) }
     ensures same { D.trace dev.new ≡ D.trace dev.old }
     ensures untimed { D.ticks dev.new ≡ D.ticks dev.old }
-    ensures faults { D.fault_count dev.old ≤ D.fault_count dev.new }
 {
     let Ok(mut bytes) = vec![in alloc; 0; size] else {
         return Err(ScanNo::WantOfMemory);

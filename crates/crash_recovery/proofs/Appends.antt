@@ -1,5 +1,5 @@
 -- A batch is put into a lane in use.
-use Rattle.crash_recovery.specs.Opening.{Shows}
+use Rattle.disk_model.specs.Calls.{Shows}
 use Rattle.std.proofs.Common.{◌≡◌, ◌≢◌, ◌⊎◌, inl, inr, ⊎_elim, ℕ, ◌+◌, ◌^◌, ◌<◌, ◌≤◌, false, List, [], ◌∷◌}
 use Rattle.std.proofs.Common.{◌++◌, length, get_or, map, Option, refl, sym, ◌∙◌, ap, subst, arith}
 use Rattle.std.proofs.Common.{◌-◌, cond, true}
@@ -22,7 +22,7 @@ use Rattle.event_queue.specs.Places.{IsFilled}
 use Rattle.event_queue.proofs.Batches.{length-batch_bytes}
 use Rattle.event_queue.proofs.Filled.{absent, whole}
 use Rattle.crash_recovery.specs.declared.seat.Seat.{Seat}
-use Rattle.crash_recovery.specs.Recovery.{AllFit, IsReplayed, Recovers}
+use Rattle.device_layout.specs.Recovery.{AllFit, IsReplayed, Recovers}
 use Rattle.crash_recovery.specs.Journals.{AllRecover, RecoversEither, SeatedOn, free_in, IsLaid}
 use Rattle.crash_recovery.specs.Seats.{LaidOn, restarted}
 use Rattle.crash_recovery.proofs.Replays.{replay_append, fit_append}

@@ -1,5 +1,5 @@
 -- The summary of a core is put behind its records.
-use Rattle.crash_recovery.specs.Opening.{Shows}
+use Rattle.disk_model.specs.Calls.{Shows}
 use Rattle.std.proofs.Common.{◌≡◌, ◌≢◌, inl, inr, ⊎_elim, ℕ, ◌+◌, ◌*◌, ◌^◌, ◌<◌, ◌≤◌, Bool, false, List, []}
 use Rattle.std.proofs.Common.{◌∷◌, ◌++◌, length, get_or, take, drop, map, Option, Some, refl, sym, ◌∙◌, ap}
 use Rattle.std.proofs.Common.{subst, arith, length-take, length-drop, length-append}
@@ -34,19 +34,19 @@ use Rattle.event_queue.specs.Places.{HasRoom, IsOvertaken}
 use Rattle.event_queue.proofs.Overtaken.{overtaken_none}
 use Rattle.event_queue.proofs.SameLanes.{same_batch}
 use Rattle.crash_recovery.specs.declared.seat.Seat.{Seat}
-use Rattle.crash_recovery.specs.declared.slot.Slot.{Slot}
-use Rattle.crash_recovery.specs.Headers.{name_in, tuning_in, slots_in, is_step_in, IsHeader}
-use Rattle.crash_recovery.specs.Recovery.{header_of, log_place, summary_place, summary_gate, slot_bytes}
-use Rattle.crash_recovery.specs.Recovery.{taken_in, records_in, counting}
-use Rattle.crash_recovery.specs.Recovery.{HasSummary, in_force, start_of, AllFit, IsOfTag, IsStored}
-use Rattle.crash_recovery.specs.Recovery.{values_beyond, IsReplayed, Recovers}
+use Rattle.device_layout.specs.declared.slot.Slot.{Slot}
+use Rattle.device_layout.specs.Headers.{name_in, tuning_in, slots_in, is_step_in, IsHeader}
+use Rattle.device_layout.specs.Recovery.{header_of, log_place, summary_place, summary_gate, slot_bytes}
+use Rattle.device_layout.specs.Recovery.{taken_in, records_in, counting}
+use Rattle.device_layout.specs.Recovery.{HasSummary, in_force, start_of, AllFit, IsOfTag, IsStored}
+use Rattle.device_layout.specs.Recovery.{values_beyond, IsReplayed, Recovers}
 use Rattle.crash_recovery.specs.Journals.{AllRecover, GoesOnFrom, RecoversEither, IsInUse, log_end, IsLaid, IsOverrun}
 use Rattle.crash_recovery.specs.Seats.{spare_slot, LaidOn, OverrunOn, IsReady}
 use Rattle.crash_recovery.specs.Seats.{ReadyOn}
 use Rattle.crash_recovery.proofs.Pieces.{same_piece}
 use Rattle.crash_recovery.proofs.Counting.{counting_new}
-use Rattle.crash_recovery.proofs.SlotNumbers.{length-summary_image, taken_spelled, records_spelled}
-use Rattle.crash_recovery.proofs.SlotNumbers.{summary_of_parts}
+use Rattle.device_layout.proofs.SlotNumbers.{length-summary_image, taken_spelled, records_spelled}
+use Rattle.device_layout.proofs.SlotNumbers.{summary_of_parts}
 use Rattle.crash_recovery.proofs.Stored.{records_known, not_new, recovers_same}
 use Rattle.crash_recovery.proofs.SettledDevices.{now_shown, shown_now, shown_so, shown_both, during_from}
 use Rattle.crash_recovery.proofs.SettledDevices.{shown_from, opened_after}

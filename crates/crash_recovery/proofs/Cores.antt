@@ -21,18 +21,19 @@ use Rattle.event_queue.specs.Damages.{IsLaneDamage}
 use Rattle.event_queue.specs.Places.{IsFilled}
 use Rattle.event_queue.specs.Scans.{IsWithin, IsRead}
 use Rattle.event_queue.proofs.Found.{scanned_overtaken, scanned_filled}
-use Rattle.crash_recovery.specs.declared.failure.OpenNo.{OpenNo}
-use Rattle.crash_recovery.specs.declared.failure.OpenNo.TheVariants.{DeviceFault, Damaged, OtherTag, Full}
-use Rattle.crash_recovery.specs.declared.failure.OpenNo.TheVariants.{WantOfMemory}
-use Rattle.crash_recovery.specs.declared.layout_reader.Stored.{Stored}
-use Rattle.crash_recovery.specs.Headers.{slots_in}
-use Rattle.crash_recovery.specs.Recovery.{header_of, start_of, HasSummary}
-use Rattle.crash_recovery.specs.Recovery.{AllFit, IsRecovered}
-use Rattle.crash_recovery.specs.Damages.{IsValuePlace, StandsThere, IsTagDamage}
-use Rattle.crash_recovery.specs.Damages.IsTagDamage.{BadQueue, BadValue}
+use Rattle.device_layout.specs.declared.failure.OpenNo.{OpenNo}
+use Rattle.device_layout.specs.declared.failure.OpenNo.TheVariants.{DeviceFault, Damaged, OtherTag, Full}
+use Rattle.device_layout.specs.declared.failure.OpenNo.TheVariants.{WantOfMemory}
+use Rattle.device_layout.specs.declared.layout_reader.Stored.{Stored}
+use Rattle.device_layout.specs.Headers.{slots_in}
+use Rattle.device_layout.specs.Recovery.{header_of, start_of, HasSummary}
+use Rattle.device_layout.specs.Recovery.{AllFit, IsRecovered}
+use Rattle.device_layout.specs.Damages.{IsValuePlace, StandsThere, IsTagDamage}
+use Rattle.device_layout.specs.Damages.IsTagDamage.{BadQueue, BadValue}
 use Rattle.crash_recovery.specs.Journals.{IsInUse, IsSeat}
-use Rattle.crash_recovery.specs.Opening.{Shows, IsReadFrom, HoldsValue, IsOverfull, IsCause}
-use Rattle.crash_recovery.proofs.Reading.{rose_before}
+use Rattle.disk_model.specs.Calls.{Shows}
+use Rattle.device_layout.specs.Readings.{IsReadFrom, IsCause}
+use Rattle.crash_recovery.specs.Opening.{HoldsValue, IsOverfull}
 use Rattle.crash_recovery.proofs.Stored.{taken_stored, records_stored}
 
 -- a record has 17 bytes
@@ -212,24 +213,23 @@ holds_shown def (Some t) slots x s n inside read scanned below =
 
 -- the refusal of a lane of which a value finds no room
 pub overfull_cause : (def : TagDef) (o : Option Trace) (slots : ℕ) (x : Stored) (s : Scanned) (step : Bool)
-    (core : State) (n a b m : ℕ)
+    (core : State) (n : ℕ)
     (why : OpenNo) → IsWithin slots x.summary.taken slots s → Shows o (IsReadFrom def slots x)
     → Shows o (λ c. IsRead slots x.summary.taken c slots s) → def.step ≡ step → core.records ≡ x.recs.items
     → core.summary ≡ record x.summary { tuning = Some x.tuning } → AllFit step core (map Raw (take n s.points.items))
-    → most_records < length (replay step core (map Raw (take n s.points.items))).records + 2 → a ≤ b
-    → IsOverfull o slots x.summary.taken n b m why → IsCause def o a m why
-overfull_cause def o slots x s step core n a b m DeviceFault inside read scanned same_step records summary fit full le over =
-    rose_before a b m le over
-overfull_cause def None slots x s step core n a b m
-    (Damaged at byte) inside read scanned same_step records summary fit full le over = tt
-overfull_cause def (Some t) slots x s step core n a b m
-    (Damaged at byte) inside read scanned same_step records summary fit full le over =
+    → most_records < length (replay step core (map Raw (take n s.points.items))).records + 2
+    → IsOverfull o slots x.summary.taken n why → IsCause def o why
+overfull_cause def o slots x s step core n DeviceFault inside read scanned same_step records summary fit full over = tt
+overfull_cause def None slots x s step core n
+    (Damaged at byte) inside read scanned same_step records summary fit full over = tt
+overfull_cause def (Some t) slots x s step core n
+    (Damaged at byte) inside read scanned same_step records summary fit full over =
     value_broken def slots x (seen
     (Some t)) read s scanned inside step core n at over.0 over.1 byte same_step records summary fit full
     over.2 over.3
-overfull_cause def o slots x s step core n a b m
-    (OtherTag found wanted) inside read scanned same_step records summary fit full le over =
+overfull_cause def o slots x s step core n
+    (OtherTag found wanted) inside read scanned same_step records summary fit full over =
     absurd over
-overfull_cause def o slots x s step core n a b m
-    (Full k) inside read scanned same_step records summary fit full le over = absurd over
-overfull_cause def o slots x s step core n a b m WantOfMemory inside read scanned same_step records summary fit full le over = absurd over
+overfull_cause def o slots x s step core n
+    (Full k) inside read scanned same_step records summary fit full over = absurd over
+overfull_cause def o slots x s step core n WantOfMemory inside read scanned same_step records summary fit full over = absurd over

@@ -5,9 +5,9 @@ use Rattle.std.specs.Prelude.{nat_le, nat_eq}
 use Rattle.std.specs.Int.{w64, from_be_bytes}
 use Rattle.std.proofs.lemmas.Bool.{ne_eqb, eq-eqb, le-leb, lt-leb}
 use Rattle.disk_model.specs.Gates.{open_byte, IsOpen}
-use Rattle.crash_recovery.specs.declared.slot.Slot.{Slot}
-use Rattle.crash_recovery.specs.declared.slot.Slot.TheVariants.{First, Second}
-use Rattle.crash_recovery.specs.Recovery.{summary_gate, slot_bytes, is_open, taken_in, chosen, counting}
+use Rattle.device_layout.specs.declared.slot.Slot.{Slot}
+use Rattle.device_layout.specs.declared.slot.Slot.TheVariants.{First, Second}
+use Rattle.device_layout.specs.Recovery.{summary_gate, slot_bytes, is_open, taken_in, chosen, counting}
 use Rattle.crash_recovery.specs.Journals.{taken_of}
 use Rattle.crash_recovery.specs.Seats.{spare_slot}
 

@@ -11,9 +11,10 @@ use Rattle.event_queue.specs.Lanes.{points_beyond, points_before}
 use Rattle.event_queue.proofs.Batches.{length-points_in}
 use Rattle.event_queue.proofs.Steps.{points_open, points_more, beyond_all}
 use Rattle.event_queue.proofs.Filled.{lane_points_used}
-use Rattle.crash_recovery.specs.Damages.{IsValuePlace, StandsThere}
-use Rattle.crash_recovery.specs.Opening.{Shows, HoldsValue}
-use Rattle.crash_recovery.proofs.Reading.{byte_here}
+use Rattle.device_layout.specs.Damages.{IsValuePlace, StandsThere}
+use Rattle.disk_model.specs.Calls.{Shows}
+use Rattle.crash_recovery.specs.Opening.{HoldsValue}
+use Rattle.device_layout.proofs.Reading.{byte_here}
 
 -- the count of a slot, read of its place
 count_here : (slots j at : ℕ) (bytes c : List ℕ) → at ≡ place_of slots j + 8 → length bytes ≡ 2

@@ -1,5 +1,5 @@
 -- Records are put behind the log, and the gate of the slot that does not count is closed.
-use Rattle.crash_recovery.specs.Opening.{Shows}
+use Rattle.disk_model.specs.Calls.{Shows}
 use Rattle.std.proofs.Common.{◌≡◌, ◌≢◌, inl, inr, ⊎_elim, ℕ, ◌+◌, ◌-◌, ◌<◌, ◌≤◌, min, List, length, get_or}
 use Rattle.std.proofs.Common.{take, drop, Option, None, Some, Result, sym, ◌∙◌, ap, subst, arith, length-drop}
 use Rattle.std.proofs.lemmas.Bool.{cases_eq}
@@ -21,9 +21,9 @@ use Rattle.event_queue.specs.Slots.{gate_of}
 use Rattle.event_queue.specs.Places.{HasRoom}
 use Rattle.event_queue.proofs.SameLanes.{HasSameSlots, same_bytes, same_lane, same_points, same_beyond}
 use Rattle.crash_recovery.specs.declared.seat.Seat.{Seat}
-use Rattle.crash_recovery.specs.declared.slot.Slot.{Slot}
-use Rattle.crash_recovery.specs.declared.slot.Slot.TheVariants.{First, Second}
-use Rattle.crash_recovery.specs.Recovery.{summary_place, summary_gate, slot_bytes, Recovers}
+use Rattle.device_layout.specs.declared.slot.Slot.{Slot}
+use Rattle.device_layout.specs.declared.slot.Slot.TheVariants.{First, Second}
+use Rattle.device_layout.specs.Recovery.{summary_place, summary_gate, slot_bytes, Recovers}
 use Rattle.crash_recovery.specs.Journals.{AllRecover, IsInUse, log_end, IsLaid}
 use Rattle.crash_recovery.specs.Seats.{spare_slot, LaidOn, IsLogged, ReadyOn}
 use Rattle.crash_recovery.proofs.Pieces.{same_piece}

@@ -10,22 +10,24 @@ use Rattle.trend_model.proofs.StateLaw.{stands_after}
 use Rattle.trend_model.specs.State.{State, nothing_taken, after, after_under}
 use Rattle.disk_model.specs.Traces.{Trace, Synced, Idle, seen, noted}
 use Rattle.disk_model.specs.Images.{MayLeave, IsSettled}
-use Rattle.disk_model.specs.Moments.{During}
+use Rattle.disk_model.specs.Moments.{ComesAfter, During}
 use Rattle.disk_model.specs.Calls.{IsNoted}
 use Rattle.disk_model.proofs.Images.{synced_now, settled}
 use Rattle.disk_model.proofs.Moments.{started, goes_on, weaker, in_turn, during_now}
 use Rattle.crash_recovery.specs.declared.seat.Seat.{Seat}
-use Rattle.crash_recovery.specs.Recovery.{IsNew, IsRecovered, Recovers, in_force as in_force_of}
+use Rattle.disk_model.specs.Gates.{IsNew}
+use Rattle.device_layout.specs.Recovery.{IsRecovered, Recovers, in_force as in_force_of}
 use Rattle.crash_recovery.specs.Journals.{AllRecover, GoesOnFrom, RecoversEither, IsSeat, SeatedOn}
-use Rattle.crash_recovery.specs.Opening.{Shows, IsOpenedAs, IsCountable, RecoversSame, IsLeftOrSame, StaysSame}
-use Rattle.crash_recovery.specs.Opening.{RecoversThen, OpensAs, HasSlots, IsReadAs, IsFull, IsOther, IsCause}
-use Rattle.crash_recovery.specs.declared.failure.OpenNo.{OpenNo}
-use Rattle.crash_recovery.specs.declared.failure.OpenNo.TheVariants.{DeviceFault, Damaged, OtherTag, Full}
-use Rattle.crash_recovery.specs.declared.failure.OpenNo.TheVariants.{WantOfMemory}
-use Rattle.crash_recovery.specs.Damages.{IsTagDamage}
+use Rattle.disk_model.specs.Calls.{Shows}
+use Rattle.crash_recovery.specs.Opening.{IsOpenedAs, IsCountable, RecoversSame, IsLeftOrSame, StaysSame}
+use Rattle.device_layout.specs.Readings.{IsFull, IsOther, IsCause}
+use Rattle.crash_recovery.specs.Opening.{RecoversThen, OpensAs, HasSlots, IsReadAs}
+use Rattle.device_layout.specs.declared.failure.OpenNo.{OpenNo}
+use Rattle.device_layout.specs.declared.failure.OpenNo.TheVariants.{DeviceFault, Damaged, OtherTag, Full}
+use Rattle.device_layout.specs.declared.failure.OpenNo.TheVariants.{WantOfMemory}
+use Rattle.device_layout.specs.Damages.{IsTagDamage}
 use Rattle.crash_recovery.specs.Standing.{ImageStands, StandsOpened}
-use Rattle.crash_recovery.proofs.OneState.{one_state}
-use Rattle.crash_recovery.proofs.Reading.{rose_before}
+use Rattle.device_layout.proofs.OneState.{one_state}
 use Rattle.trend_num.specs.Limits.{most_records}
 
 -- ---- the sync at the beginning
@@ -45,16 +47,15 @@ shown_before None mid P is shows = tt
 shown_before (Some t) mid P is shows = subst (λ m. Shows m P) is shows
 
 -- the cause of a refusal is one of the device before
-pub cause_synced : (def : TagDef) (o mid : Option Trace) (a b n : ℕ) (why : OpenNo) → mid ≡ noted Synced o → a ≤ b
-    → IsCause def mid b n why → IsCause def o a n why
-cause_synced def o mid a b n DeviceFault is le cause = rose_before a b n le cause
-cause_synced def o mid a b n (Damaged at byte) is le cause = shown_before o mid
-    (λ c. IsTagDamage def c at byte) is cause
-cause_synced def o mid a b n (OtherTag found wanted) is le cause = shown_before o mid
-    (λ c. IsOther def c found wanted) is cause
-cause_synced def o mid a b n (Full records) is le cause =
+pub cause_synced : (def : TagDef) (o mid : Option Trace) (why : OpenNo) → mid ≡ noted Synced o
+    → IsCause def mid why → IsCause def o why
+cause_synced def o mid DeviceFault is cause = tt
+cause_synced def o mid (Damaged at byte) is cause = shown_before o mid (λ c. IsTagDamage def c at byte) is cause
+cause_synced def o mid (OtherTag found wanted) is cause =
+    shown_before o mid (λ c. IsOther def c found wanted) is cause
+cause_synced def o mid (Full records) is cause =
     shown_before o mid (λ c. (s : State) × IsFull def c records s) is cause
-cause_synced def o mid a b n WantOfMemory is le cause = tt
+cause_synced def o mid WantOfMemory is cause = tt
 
 -- the same images until a later device that is the same
 pub during_same : (o mid new : Option Trace) (P : List ℕ → Type 0) → new ≡ mid → During o mid P → During o new P
@@ -166,7 +167,7 @@ module _ (def : TagDef) (t : Trace) (mid new : Option Trace) (step : Bool) (r : 
       (countable read.0 read.1)
 
   either_same : (c : List ℕ) → RecoversEither def read.0 r c → IsLeftOrSame def (Some t) c
-  either_same c either = inr (read.0, r, read.1, inr (read.3.0, read.3.1), either)
+  either_same c either = inr (read.0, r, read.1, inr read.3, either)
 
 pub stays_retuned : (def : TagDef) (o mid new : Option Trace) (step : Bool) (r : State) → step ≡ def.step
     → IsReadAs def o mid true r
@@ -188,6 +189,27 @@ recovers_retuned def None mid new step r kind read promise = tt
 recovers_retuned def (Some t) mid new step r kind read promise = λ countable.
     promise (few def t mid new step r kind read countable) def read.0 read.2
     (goes def t mid new step r kind read countable)
+
+-- ---- what is recovered now, whether or not the device tells its calls
+
+-- a device that does not tell them comes from one that does not
+untold : (def : TagDef) (mid : Option Trace) (r : State) → ComesAfter None mid → AllRecover def mid r
+untold def None r later = record { each = λ c may. absurd may.image }
+untold def (Some t) r later = absurd later
+
+pub now_read : (def : TagDef) (o mid : Option Trace) (r : State) → ComesAfter o mid → IsReadAs def o mid false r
+    → AllRecover def mid r
+now_read def None mid r later read = untold def mid r later
+now_read def (Some t) mid r later read = subst (AllRecover def mid) (sym read.3.1) read.2
+
+pub now_retuned : (def : TagDef) (o mid new : Option Trace) (step : Bool) (r : State) → step ≡ def.step
+    → ComesAfter o mid → IsReadAs def o mid true r
+    → ((d : TagDef) (s : State) → AllRecover d mid s → GoesOnFrom d s step r → AllRecover d new r)
+    → AllRecover def new r
+now_retuned def None mid new step r kind later read promise =
+    promise def r (untold def mid r later) (kind, ([], refl))
+now_retuned def (Some t) mid new step r kind later read promise =
+    promise def read.0 read.2 (kind, (Tune def.tuning ∷ [], read.3.1))
 
 -- ---- how many lane slots there are
 

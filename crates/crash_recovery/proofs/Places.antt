@@ -1,5 +1,5 @@
 -- The place of a journal, where only the lane has changed, or only what no summary counts.
-use Rattle.crash_recovery.specs.Opening.{Shows}
+use Rattle.disk_model.specs.Calls.{Shows}
 use Rattle.std.proofs.Common.{◌≡◌, ◌≢◌, ◌⊎◌, inl, inr, ℕ, ◌+◌, ◌*◌, ◌<◌, ◌≤◌, Bool, true, false, List, length}
 use Rattle.std.proofs.Common.{get_or, take, drop, Option, None, Some, refl, sym, ◌∙◌, ap, subst, arith}
 use Rattle.disk_model.specs.Traces.{Trace, seen}
@@ -9,10 +9,10 @@ use Rattle.disk_model.specs.Gates.{open_byte, HasGatesOf}
 use Rattle.event_queue.specs.Slots.{lane_end}
 use Rattle.event_queue.specs.Places.{HasRoom}
 use Rattle.crash_recovery.specs.declared.seat.Seat.{Seat}
-use Rattle.crash_recovery.specs.declared.slot.Slot.{Slot}
-use Rattle.crash_recovery.specs.declared.slot.Slot.TheVariants.{First, Second}
-use Rattle.crash_recovery.specs.Headers.{slots_in, IsHeader}
-use Rattle.crash_recovery.specs.Recovery.{summary_place, summary_gate, slot_bytes}
+use Rattle.device_layout.specs.declared.slot.Slot.{Slot}
+use Rattle.device_layout.specs.declared.slot.Slot.TheVariants.{First, Second}
+use Rattle.device_layout.specs.Headers.{slots_in, IsHeader}
+use Rattle.device_layout.specs.Recovery.{summary_place, summary_gate, slot_bytes}
 use Rattle.crash_recovery.specs.Journals.{log_end, IsInUse, IsLaid, SeatedOn}
 use Rattle.crash_recovery.specs.Seats.{spare_slot, LaidOn, OverrunOn}
 use Rattle.crash_recovery.proofs.Pieces.{same_piece}

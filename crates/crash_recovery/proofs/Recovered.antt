@@ -18,7 +18,7 @@ use Rattle.event_queue.proofs.Batches.{length-points_in}
 use Rattle.event_queue.proofs.Steps.{beyond_all, points_open, points_more}
 use Rattle.event_queue.proofs.Overtaken.{overtaken_none}
 use Rattle.crash_recovery.specs.declared.seat.Seat.{Seat}
-use Rattle.crash_recovery.specs.Recovery.{start_of, IsReplayed, Recovers}
+use Rattle.device_layout.specs.Recovery.{start_of, IsReplayed, Recovers}
 use Rattle.crash_recovery.specs.Journals.{GoesOnFrom, IsLaid, IsOverrun}
 use Rattle.crash_recovery.proofs.Replays.{IsCounted, replay_counted, replay_more}
 use Rattle.crash_recovery.proofs.Stored.{taken_known, not_new, lane_replayed}

@@ -7,7 +7,7 @@ use Rattle.trend_num.specs.declared.tuning.Tuning.{Tuning}
 use Rattle.trend_model.specs.History.{Event}
 use Rattle.trend_model.specs.State.{State, archive_in, turned, archived, after, after_under, replay}
 use Rattle.trend_model.proofs.RulesLaw.{after_more}
-use Rattle.crash_recovery.specs.Recovery.{AllFit}
+use Rattle.device_layout.specs.Recovery.{AllFit}
 
 -- a state after so many events more, which has a tuning
 pub record IsCounted (n : ℕ) (s r : State) : Type 0 where

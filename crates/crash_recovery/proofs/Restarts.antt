@@ -1,5 +1,5 @@
 -- The gates of an overtaken lane are closed.
-use Rattle.crash_recovery.specs.Opening.{Shows}
+use Rattle.disk_model.specs.Calls.{Shows}
 use Rattle.std.proofs.Common.{◌≡◌, ◌⊎◌, inl, inr, ℕ, ◌<◌, ◌≤◌, true, false, List, length, Option, sym, ◌∙◌}
 use Rattle.std.proofs.Common.{ap, arith}
 use Rattle.trend_num.specs.declared.tag_def.TagDef.{TagDef}
@@ -14,7 +14,7 @@ use Rattle.event_queue.specs.Places.{HasRoom, IsOvertaken}
 use Rattle.event_queue.proofs.Overtaken.{overtaken_none, overtaken_closing}
 use Rattle.event_queue.proofs.Filled.{lane_points_used}
 use Rattle.crash_recovery.specs.declared.seat.Seat.{Seat}
-use Rattle.crash_recovery.specs.Recovery.{Recovers}
+use Rattle.device_layout.specs.Recovery.{Recovers}
 use Rattle.crash_recovery.specs.Journals.{AllRecover, IsInUse, IsLaid, IsOverrun}
 use Rattle.crash_recovery.specs.Seats.{LaidOn, OverrunOn, restarted}
 use Rattle.crash_recovery.proofs.Stored.{KeepsLane, recovers_same}

@@ -1,5 +1,5 @@
 -- What a read gives of a settled device that tells its calls, before some calls and after them.
-use Rattle.crash_recovery.specs.Opening.{Shows}
+use Rattle.disk_model.specs.Calls.{Shows}
 use Rattle.std.proofs.Common.{ℕ, ◌≤◌, List, [], ◌∷◌, length, get_or, Option, None, Some, sym, ◌∙◌, ap}
 use Rattle.std.proofs.Common.{subst, arith}
 use Rattle.disk_model.specs.Traces.{Trace, seen}

@@ -12,13 +12,14 @@ use Rattle.archive_file.specs.Places.{AreRecords}
 use Rattle.event_queue.specs.Slots.{lane_end}
 use Rattle.event_queue.specs.Lanes.{lane_points, IsLane}
 use Rattle.crash_recovery.specs.declared.seat.Seat.{Seat}
-use Rattle.crash_recovery.specs.declared.slot.Slot.{Slot}
-use Rattle.crash_recovery.specs.Headers.{name_in, tuning_in, slots_in, is_step_in, IsHeader}
-use Rattle.crash_recovery.specs.Recovery.{IsNew, header_of, log_place, slot_bytes, counting}
-use Rattle.crash_recovery.specs.Recovery.{HasSummary, in_force, state_of, start_of, AllFit, IsOfTag, IsStored}
-use Rattle.crash_recovery.specs.Recovery.{IsReplayed, Recovers}
+use Rattle.device_layout.specs.declared.slot.Slot.{Slot}
+use Rattle.device_layout.specs.Headers.{name_in, tuning_in, slots_in, is_step_in, IsHeader}
+use Rattle.disk_model.specs.Gates.{IsNew}
+use Rattle.device_layout.specs.Recovery.{header_of, log_place, slot_bytes, counting}
+use Rattle.device_layout.specs.Recovery.{HasSummary, in_force, state_of, start_of, AllFit, IsOfTag, IsStored}
+use Rattle.device_layout.specs.Recovery.{IsReplayed, Recovers}
 use Rattle.crash_recovery.specs.Journals.{taken_of, records_of, IsLaid}
-use Rattle.crash_recovery.proofs.SlotNumbers.{taken_spelled, records_spelled}
+use Rattle.device_layout.proofs.SlotNumbers.{taken_spelled, records_spelled}
 
 -- all bytes on which what is stored depends are as they were
 pub record KeepsStored (p : Seat) (a b : List ℕ) : Type 0 where

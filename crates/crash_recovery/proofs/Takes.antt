@@ -9,7 +9,7 @@ use Rattle.trend_num.specs.declared.point.Point.{Point}
 use Rattle.trend_model.specs.History.{Event, Raw}
 use Rattle.trend_model.specs.State.{State, after, replay}
 use Rattle.tag_core.specs.Core.{Core}
-use Rattle.crash_recovery.specs.Recovery.{AllFit}
+use Rattle.device_layout.specs.Recovery.{AllFit}
 
 -- one event more
 pub replay_more : (step : Bool) (s : State) (es : List Event) (e : Event)

@@ -5,7 +5,7 @@ use Rattle.trend_model.specs.State.{State}
 use Rattle.disk_model.specs.Traces.{Trace}
 use Rattle.disk_model.specs.Moments.{During}
 use Rattle.disk_model.proofs.Moments.{weaker, in_turn, during_now, started}
-use Rattle.crash_recovery.specs.Recovery.{Recovers}
+use Rattle.device_layout.specs.Recovery.{Recovers}
 use Rattle.crash_recovery.specs.Journals.{AllRecover, RecoversEither}
 
 -- one of two states is either
@@ -47,3 +47,8 @@ then_second a b c def s r ab bc = in_turn a b c (RecoversEither def s r) ab (eit
 pub on_ok : {T E A B : Type 0} (r : Result T E) → (A → B) → OnOk r A → OnOk r B
 on_ok (Ok x) so a = so a
 on_ok (Err e) so a = tt
+
+-- and what holds anyhow
+pub ok_always : {T E A : Type 0} (r : Result T E) → A → OnOk r A
+ok_always (Ok x) a = a
+ok_always (Err e) a = tt

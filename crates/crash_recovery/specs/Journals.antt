@@ -1,19 +1,20 @@
 -- What a journal shows, and how it stands to its device.
 use Rattle.std.specs.Prelude.{◌≡◌, ◌⊎◌, ℕ, ◌+◌, ◌*◌, ◌-◌, ◌<◌, ◌≤◌, Bool, true, false, cond, List, length}
-use Rattle.std.specs.Prelude.{Option, None, Some}
+use Rattle.std.specs.Prelude.{Option, None, Some, Result, OnOk}
 use Rattle.trend_num.specs.declared.tag_def.TagDef.{TagDef}
 use Rattle.trend_model.specs.History.{Event}
 use Rattle.trend_model.specs.State.{State, replay}
 use Rattle.disk_model.specs.Traces.{Trace, seen}
 use Rattle.disk_model.specs.Images.{Now, IsSettled}
+use Rattle.disk_model.specs.Moments.{During}
 use Rattle.disk_model.specs.Gates.{IsOpen}
 use Rattle.event_queue.specs.Slots.{gate_of, lane_end, batch_at}
 use Rattle.event_queue.specs.Lanes.{IsStale, lane_points, IsLane}
 use Rattle.event_queue.specs.Places.{HasRoom}
-use Rattle.crash_recovery.specs.Headers.{slots_in, IsHeader}
+use Rattle.device_layout.specs.Headers.{slots_in, IsHeader}
 use Rattle.crash_recovery.specs.declared.seat.Seat.{Seat}
-use Rattle.crash_recovery.specs.declared.slot.Slot.{Slot}
-use Rattle.crash_recovery.specs.Recovery.{header_of, taken_in, records_in, counting, Recovers}
+use Rattle.device_layout.specs.declared.slot.Slot.{Slot}
+use Rattle.device_layout.specs.Recovery.{header_of, taken_in, records_in, counting, Recovers}
 
 -- ---- what it shows
 
@@ -38,6 +39,33 @@ GoesOnFrom def s step r = (step ≡ def.step) × ((events : List Event) × (r �
 -- an image recovers the one state or the other
 abbrev pub RecoversEither : TagDef → State → State → List ℕ → Type 0
 RecoversEither def s r c = Recovers def c s ⊎ Recovers def c r
+
+-- a crash at any moment of a call leaves an image that recovers the one state or the other; at Ok, the latter
+pub record LeavesEither {T E : Type 0} (def : TagDef) (old new : Option Trace) (s r : State)
+    (result : Result T E) : Type 0 where
+  pub any_moment : During old new (RecoversEither def s r)
+  pub durable : OnOk result (AllRecover def new r)
+
+-- n more events are acknowledged, in one more lane slot
+pub record IsCommitted {D : Type 0} (n : ℕ) (old new : Logged D) : Type 0 where
+  pub acked : new.acked ≡ old.acked + n
+  pub free : new.free + 1 ≡ old.free
+  pub slots : new.slots ≡ old.slots
+  pub usable : new.failed ≡ false
+
+-- so many events are acknowledged, and each lane slot is free
+pub record IsCheckpointed {D : Type 0} (taken : ℕ) (old new : Logged D) : Type 0 where
+  pub acked : new.acked ≡ taken
+  pub free : new.free ≡ new.slots
+  pub slots : new.slots ≡ old.slots
+  pub usable : new.failed ≡ false
+
+-- as much is acknowledged and free as before, and this says whether a call of the device has failed
+pub record StaysAs {D : Type 0} (is_failed : Bool) (old new : Logged D) : Type 0 where
+  pub acked : new.acked ≡ old.acked
+  pub free : new.free ≡ old.free
+  pub slots : new.slots ≡ old.slots
+  pub failed : new.failed ≡ is_failed
 
 -- ---- how it stands to its device
 
@@ -93,13 +121,18 @@ abbrev pub SeatedOn : Seat → Option Trace → Type 0
 SeatedOn p None = Unit {0}
 SeatedOn p (Some t) = IsSeated p t
 
+-- how many lane slots are free: all of them where the lane is stale, since its gates are closed before the next write
+abbrev pub free_in : Seat → ℕ
+free_in p = cond p.stale p.lane.slots (p.lane.slots - p.lane.used)
+
+-- where each lane slot is free, the lane holds nothing that the summary does not count
+abbrev pub IsNumbered : Seat → Type 0
+IsNumbered p = free_in p ≡ p.lane.slots → p.lane.next ≡ p.taken
+
 -- what is true of each journal
 pub record IsJournal (p : Seat) (failed : Bool) (o : Option Trace) : Type 0 where
   pub within : p.lane.used ≤ p.lane.slots
   pub some : 1 ≤ p.lane.slots
   pub few : p.lane.slots ≤ 65536
+  pub numbered : IsNumbered p
   pub seated : failed ≡ false → SeatedOn p o
-
--- how many lane slots are free: all of them where the lane is stale, since its gates are closed before the next write
-abbrev pub free_in : Seat → ℕ
-free_in p = cond p.stale p.lane.slots (p.lane.slots - p.lane.used)

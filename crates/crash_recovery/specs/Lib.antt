@@ -1,10 +1,4 @@
-pub mod Firsts
-pub mod Headers
-pub mod SlotFields
-pub mod Recovery
-pub mod Damages
 pub mod Journals
 pub mod Seats
-pub mod Layouts
 pub mod Opening
 pub mod Standing

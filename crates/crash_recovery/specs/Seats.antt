@@ -8,8 +8,8 @@ use Rattle.disk_model.specs.Images.{IsSettled}
 use Rattle.disk_model.specs.Gates.{open_byte, IsShut, Holds}
 use Rattle.archive_file.specs.Records.{recs_image}
 use Rattle.crash_recovery.specs.declared.seat.Seat.{Seat}
-use Rattle.crash_recovery.specs.declared.slot.Slot.{Slot}
-use Rattle.crash_recovery.specs.declared.slot.Slot.TheVariants.{First, Second}
+use Rattle.device_layout.specs.declared.slot.Slot.{Slot}
+use Rattle.device_layout.specs.declared.slot.Slot.TheVariants.{First, Second}
 use Rattle.crash_recovery.specs.Journals.{log_end, IsLaid, IsOverrun}
 
 -- the slot into which the next summary goes: one that does not count

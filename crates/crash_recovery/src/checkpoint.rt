@@ -1,24 +1,24 @@
 // A checkpoint: the new records, then the summary, and then the lane begins anew.
 ghost use Rattle.std.specs.Prelude.{◌≡◌, ◌≢◌, ◌↔◌, ◌+◌, ◌*◌, ◌^◌, ◌<◌, ◌≤◌, true, false, IsTrue, length};
-ghost use Rattle.std.specs.Prelude.{drop, OnOk, OnErr, IfOk, IsErrOf};
+ghost use Rattle.std.specs.Prelude.{drop, OnOk, OnErr, IfOk, IsOk, IsErrOf};
 ghost use Rattle.trend_num.specs.declared.tag_def.TagDef.{TagDef};
 ghost use Rattle.trend_model.specs.State.{State};
 ghost use Rattle.disk_model.specs.Traces.{seen, written};
 ghost use Rattle.disk_model.specs.Images.{FromOld, IsTorn};
 ghost use Rattle.disk_model.specs.Moments.{During};
-ghost use Rattle.disk_model.specs.Calls.{HasCause, Reaches, Rose, Sees};
+ghost use Rattle.disk_model.specs.Calls.{CountsFault, HasCause, Reaches, Sees};
 ghost use Rattle.archive_file.specs.Records.{recs_image};
 ghost use Rattle.archive_file.specs.declared.failure.PutNo.TheVariants.{DeviceFault as PutFault};
 ghost use Rattle.archive_file.specs.declared.failure.PutNo.TheVariants.{WantOfMemory as NoMemory};
 ghost use Rattle.event_queue.specs.Slots.{lane_end};
-ghost use Rattle.crash_recovery.specs.Recovery.{summary_gate, Recovers};
-ghost use Rattle.crash_recovery.specs.Journals.{AllRecover, GoesOnFrom, RecoversEither, SeatedOn, free_in, log_end};
+ghost use Rattle.device_layout.specs.Recovery.{summary_gate, Recovers};
+ghost use Rattle.crash_recovery.specs.Journals.{AllRecover, GoesOnFrom, RecoversEither, SeatedOn, IsNumbered};
+ghost use Rattle.crash_recovery.specs.Journals.{free_in, log_end};
 ghost use Rattle.crash_recovery.specs.Seats.{spare_slot, LaidOn, OverrunOn, ReadyOn};
 
-use crate::layout_reader::log_start;
 use crate::seat::Seat;
-use crate::slot::Slot;
 use archive_file::{DeviceFault, PutNo, REC_LEN, put_records, summary_bytes};
+use device_layout::{Slot, log_start};
 use disk_model::{Disk, close_gates, write_guarded};
 use event_queue::Lane;
 use std::alloc::Global;
@@ -39,6 +39,8 @@ impl Seat {
         core: &TagCore,
     ) -> Result<(), PutNo>
         requires within { self.old.lane.used ≤ self.old.lane.slots }
+        requires some { 1 ≤ self.old.lane.slots }
+        requires numbered { IsNumbered self.old }
         requires seated { SeatedOn self.old (D.trace dev.old) }
 
         // A crash at any moment leaves an image that recovers what each recovered before, or the state of the
@@ -55,15 +57,21 @@ impl Seat {
         ensures seated { OnOk result (SeatedOn self.new (D.trace dev.new)) }
         ensures number { OnOk result (self.new.lane.next ≡ core.now.state.summary.taken) }
         ensures free { OnOk result (free_in self.new ≡ self.new.lane.slots) }
+        ensures numbered { IsNumbered self.new }
+        ensures idle { self.old.lane.next ≡ core.now.state.summary.taken → free_in self.old ≡ self.old.lane.slots
+            → IsOk result × ((self.new ≡ self.old) × (dev.new ≡ dev.old)) }
+        ensures untouched { IsErrOf result NoMemory → free_in self.old ≡ 0
+            → (self.new ≡ self.old) × (dev.new ≡ dev.old) }
+        ensures ticked { OnOk result (self.old.lane.next < core.now.state.summary.taken
+            → D.ticks dev.old < D.ticks dev.new) }
         ensures still_seated { IsErrOf result NoMemory → SeatedOn self.new (D.trace dev.new) }
         ensures kept { IsErrOf result NoMemory → (def : TagDef) (s : State)
             → AllRecover def (D.trace dev.old) s → AllRecover def (D.trace dev.new) s }
-        ensures device_fault { IsErrOf result PutFault
-            → Rose (D.fault_count dev.old) (D.fault_count dev.new) }
         ensures unmoved { OnErr result (self.new.lane.next ≡ self.old.lane.next) }
+        ensures still_free { OnErr result (free_in self.new ≡ free_in self.old) }
         ensures slots { self.new.lane.slots ≡ self.old.lane.slots }
         ensures within { self.new.lane.used ≤ self.new.lane.slots }
-        ensures faults { D.fault_count dev.old ≤ D.fault_count dev.new }
+        ensures cause { CountsFault result PutFault (D.fault_count dev.old) (D.fault_count dev.new) }
         ensures later { D.ticks dev.old ≤ D.ticks dev.new }
     {
         if self.has_all_of(core) {
@@ -89,9 +97,9 @@ impl Seat {
     // Whether the summary counts as many events as the core has taken, and no values are in the lane.
     fn has_all_of(&self, core: &TagCore) -> bool
         requires { self.now.lane.used ≤ self.now.lane.slots }
-        ensures { IsTrue result → (self.now.taken ≡ core.now.state.summary.taken)
+        ensures { IsTrue result ↔ ((self.now.taken ≡ core.now.state.summary.taken)
             × (self.now.lane.next ≡ self.now.taken)
-            × (free_in self.now ≡ self.now.lane.slots) }
+            × (free_in self.now ≡ self.now.lane.slots)) }
     {
         core.taken() == self.taken
             && self.lane.next == self.taken
@@ -111,9 +119,7 @@ impl Seat {
         ensures ready { OnOk result (ReadyOn self.now (summary_gate (spare_slot self.now.counts)) recs.now
             (D.trace dev.new)) }
         ensures unwritten { IsErrOf result NoMemory → dev.new ≡ dev.old }
-        ensures device_fault { IsErrOf result PutFault
-            → Rose (D.fault_count dev.old) (D.fault_count dev.new) }
-        ensures faults { D.fault_count dev.old ≤ D.fault_count dev.new }
+        ensures cause { CountsFault result PutFault (D.fault_count dev.old) (D.fault_count dev.new) }
         ensures later { D.ticks dev.old ≤ D.ticks dev.new }
     {
         self.put_new_records(alloc, dev, recs)?;
@@ -139,9 +145,7 @@ impl Seat {
             (written (seen (D.trace dev.old)) (log_end self.now)
             (recs_image (drop self.now.records recs.now)))) }
         ensures unwritten { IsErrOf result NoMemory → dev.new ≡ dev.old }
-        ensures device_fault { IsErrOf result PutFault
-            → Rose (D.fault_count dev.old) (D.fault_count dev.new) }
-        ensures faults { D.fault_count dev.old ≤ D.fault_count dev.new }
+        ensures cause { CountsFault result PutFault (D.fault_count dev.old) (D.fault_count dev.new) }
         ensures later { D.ticks dev.old ≤ D.ticks dev.new }
     {
         let from = (self.records as usize).min(recs.len());
@@ -178,6 +182,8 @@ impl Seat {
         ensures same_lane { IfOk result (λ p. (p.lane.slots ≡ self.now.lane.slots)
             × (p.lane.used ≡ self.now.lane.used)) }
         ensures stale { IfOk result (λ p. p.stale ≡ false → p.lane.used ≡ 0) }
+        ensures taken { IfOk result (λ p. p.taken ≡ core.now.state.summary.taken) }
+        ensures ticked { OnOk result (D.ticks dev.old < D.ticks dev.new) }
         ensures later { D.ticks dev.old ≤ D.ticks dev.new }
         ensures cause { HasCause (D.fault_count dev.old) (D.fault_count dev.new) result }
     {

@@ -1,12 +1,11 @@
 // The journal of a tag's device: batches of values, and checkpoints.
-ghost use Rattle.std.specs.Prelude.{◌≡◌, ◌≢◌, ◌↔◌, ◌+◌, ◌^◌, ◌<◌, ◌≤◌, true, false, length, map, OnOk, OnErr, IsErrOf};
+ghost use Rattle.std.specs.Prelude.{◌≡◌, ◌↔◌, ◌+◌, ◌^◌, ◌<◌, ◌≤◌, true, false, length, map, IsOk, OnOk, IsErrOf};
 ghost use Rattle.std.specs.List.{All};
 ghost use Rattle.trend_num.specs.Ranges.{InRange};
 ghost use Rattle.trend_num.specs.declared.tag_def.TagDef.{TagDef};
 ghost use Rattle.trend_model.specs.History.{Raw};
 ghost use Rattle.trend_model.specs.State.{State, replay};
-ghost use Rattle.disk_model.specs.Moments.{During};
-ghost use Rattle.disk_model.specs.Calls.{Rose};
+ghost use Rattle.disk_model.specs.Calls.{CountsFault};
 ghost use Rattle.archive_file.specs.declared.failure.PutNo.TheVariants.{DeviceFault as PutFault, WantOfMemory as NoMemory};
 ghost use Rattle.event_queue.specs.declared.failure.LaneNo.TheVariants.{LaneFull, DeviceFault as LaneFault};
 
@@ -44,14 +43,16 @@ impl<D: Disk> Model for Journal<D> {
 }
 
 impl<D: Disk> Journal<D> {
-    ghost use Rattle.crash_recovery.specs.Journals.{AllRecover, GoesOnFrom, RecoversEither, SeatedOn, free_in};
-    ghost use Rattle.crash_recovery.specs.Recovery.{AllFit};
+    ghost use Rattle.crash_recovery.specs.Journals.{AllRecover, GoesOnFrom, LeavesEither, IsCommitted, IsCheckpointed};
+    ghost use Rattle.crash_recovery.specs.Journals.{StaysAs, SeatedOn, IsNumbered, free_in};
+    ghost use Rattle.device_layout.specs.Recovery.{AllFit};
 
     /// The journal of a device that was opened.
     pub(crate) fn new(dev: D, seat: Seat) -> Journal<D>
         requires within { seat.lane.used ≤ seat.lane.slots }
         requires some { 1 ≤ seat.lane.slots }
         requires few { seat.lane.slots ≤ 65536 }
+        requires numbered { IsNumbered seat }
         requires seated { SeatedOn seat (D.trace dev) }
         ensures { result ≡ record {
           dev = dev;
@@ -80,27 +81,19 @@ impl<D: Disk> Journal<D> {
 
         // Where the values find room in what each image recovers, a crash at any moment leaves an image that recovers the
         // same, or that and all of these values; at Ok, the latter.
-        ensures any_moment { (def : TagDef) (s : State) → AllRecover def (D.trace self.old.dev) s
+        ensures crash { (def : TagDef) (s : State) → AllRecover def (D.trace self.old.dev) s
             → AllFit def.step s (map Raw points.now)
-            → During (D.trace self.old.dev) (D.trace self.new.dev)
-            (RecoversEither def s (replay def.step s (map Raw points.now))) }
-        ensures durable { OnOk result ((def : TagDef) (s : State) → AllRecover def (D.trace self.old.dev) s
-            → AllFit def.step s (map Raw points.now)
-            → AllRecover def (D.trace self.new.dev) (replay def.step s (map Raw points.now))) }
+            → LeavesEither def (D.trace self.old.dev) (D.trace self.new.dev) s
+            (replay def.step s (map Raw points.now)) result }
 
-        ensures acked { OnOk result (self.new.acked ≡ self.old.acked + length points.now) }
-        ensures free { OnOk result (self.new.free + 1 ≡ self.old.free) }
-        ensures usable { OnOk result (self.new.failed ≡ false) }
+        ensures done { OnOk result (IsCommitted (length points.now) self.old self.new) }
         ensures lane_full { IsErrOf result LaneFull ↔ (self.old.free ≡ 0) }
         ensures untouched { IsErrOf result LaneFull → self.new ≡ self.old }
-        ensures failed { IsErrOf result LaneFault → self.new.failed ≡ true }
-        ensures device_fault { IsErrOf result LaneFault
-            → Rose (D.fault_count self.old.dev) (D.fault_count self.new.dev) }
-        ensures unmoved { OnErr result (self.new.acked ≡ self.old.acked) }
-        ensures slots { self.new.slots ≡ self.old.slots }
-        ensures faultless { OnOk result (D.fault_count self.new.dev ≡ D.fault_count self.old.dev) }
-        ensures faults { D.fault_count self.old.dev ≤ D.fault_count self.new.dev }
+        ensures failed { IsErrOf result LaneFault → StaysAs true self.old self.new }
+        ensures ticked { OnOk result (D.ticks self.old.dev < D.ticks self.new.dev) }
         ensures later { D.ticks self.old.dev ≤ D.ticks self.new.dev }
+        ensures cause { CountsFault result LaneFault
+            (D.fault_count self.old.dev) (D.fault_count self.new.dev) }
     {
         if self.seat.is_full() {
             return Err(LaneNo::LaneFull);
@@ -121,30 +114,26 @@ impl<D: Disk> Journal<D> {
         // Where the core goes on by some events from what each image recovers, a crash at any moment leaves an image that
         // recovers the same, or the state of the core; at Ok, the latter. This is said of a core that has taken fewer than
         // 10^18 events.
-        ensures any_moment { core.now.state.summary.taken < 10 ^ 18
+        ensures crash { core.now.state.summary.taken < 10 ^ 18
             → (def : TagDef) (s : State) → AllRecover def (D.trace self.old.dev) s
             → GoesOnFrom def s core.now.step core.now.state
-            → During (D.trace self.old.dev) (D.trace self.new.dev) (RecoversEither def s core.now.state) }
-        ensures durable { OnOk result (core.now.state.summary.taken < 10 ^ 18
-            → (def : TagDef) (s : State) → AllRecover def (D.trace self.old.dev) s
-            → GoesOnFrom def s core.now.step core.now.state
-            → AllRecover def (D.trace self.new.dev) core.now.state) }
+            → LeavesEither def (D.trace self.old.dev) (D.trace self.new.dev) s core.now.state result }
 
-        ensures acked { OnOk result (self.new.acked ≡ core.now.state.summary.taken) }
-        ensures free { OnOk result (self.new.free ≡ self.new.slots) }
-        ensures usable { OnOk result (self.new.failed ≡ false) }
+        ensures done { OnOk result (IsCheckpointed core.now.state.summary.taken self.old self.new) }
+        ensures idle { self.old.acked ≡ core.now.state.summary.taken → self.old.free ≡ self.old.slots
+            → IsOk result × (self.new ≡ self.old) }
 
-        // Want of memory leaves what each image recovers, and all that was acknowledged.
-        ensures no_memory { IsErrOf result NoMemory → self.new.failed ≡ false }
+        // Want of memory leaves what each image recovers; it comes before any call where no lane slot is free.
         ensures kept { IsErrOf result NoMemory → (def : TagDef) (s : State)
             → AllRecover def (D.trace self.old.dev) s → AllRecover def (D.trace self.new.dev) s }
-        ensures failed { IsErrOf result PutFault → self.new.failed ≡ true }
-        ensures device_fault { IsErrOf result PutFault
-            → Rose (D.fault_count self.old.dev) (D.fault_count self.new.dev) }
-        ensures unmoved { OnErr result (self.new.acked ≡ self.old.acked) }
-        ensures slots { self.new.slots ≡ self.old.slots }
-        ensures faults { D.fault_count self.old.dev ≤ D.fault_count self.new.dev }
+        ensures untouched { IsErrOf result NoMemory → self.old.free ≡ 0 → self.new ≡ self.old }
+        ensures no_memory { IsErrOf result NoMemory → StaysAs false self.old self.new }
+        ensures failed { IsErrOf result PutFault → StaysAs true self.old self.new }
+        ensures ticked { OnOk result (self.old.acked < core.now.state.summary.taken
+            → D.ticks self.old.dev < D.ticks self.new.dev) }
         ensures later { D.ticks self.old.dev ≤ D.ticks self.new.dev }
+        ensures cause { CountsFault result PutFault
+            (D.fault_count self.old.dev) (D.fault_count self.new.dev) }
     {
         match self.seat.checkpoint(alloc, &mut self.dev, core) {
             Err(PutNo::DeviceFault) => {

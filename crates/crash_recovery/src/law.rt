@@ -1,16 +1,11 @@
-// What a device recovers, and what that stands for.
-ghost use Rattle.std.specs.Prelude.{◌≡◌, ◌⊎◌, ℕ, List, ◌∷◌};
+// What is opened of a device, and what that stands for.
+ghost use Rattle.std.specs.Prelude.{◌⊎◌, ℕ, List, ◌∷◌};
 ghost use Rattle.trend_num.specs.declared.tag_def.TagDef.{TagDef};
 ghost use Rattle.trend_model.specs.History.{Event, Origin, Tune};
 ghost use Rattle.trend_model.specs.State.{State};
-ghost use Rattle.crash_recovery.specs.Recovery.{Recovers};
+ghost use Rattle.device_layout.specs.Recovery.{Recovers};
 ghost use Rattle.crash_recovery.specs.Opening.{IsOpenedAs, RecoversSame};
 ghost use Rattle.crash_recovery.specs.Standing.{ImageStands, StandsOpened};
-
-/// An image of a tag's device recovers one state at most: no records, no summary and no value are spelled in two ways.
-pub fn one_state_is_recovered()
-    ensures { (def : TagDef) (c : List ℕ) (s r : State) → Recovers def c s → Recovers def c r → s ≡ r }
-{}
 
 /// For each history for which a tag's device stood, what is opened of it stands for that history where the wanted tuning is
 /// in force after it, and else for that history and a retuning. So does each image that recovers the same, or that as it is

@@ -1,12 +1,9 @@
 //! A tag's device as a whole: opening it, and the journal that keeps what its tag takes.
 //!
-//! A device begins with a header and two places for a summary; then come the lane, which is the durable queue of raw values,
-//! and the log of records. What an image of it recovers is defined over its bytes (`specs/Recovery.antt`): the records that
-//! the summary counts, that summary, and the values of the lane that it does not count, taken one after the other. A device
-//! on which no layout was finished recovers a tag before its first event.
+//! What an image of a device recovers, and where it is damaged, `device_layout` defines over its bytes.
 //!
-//! [`open_tag`] makes that layout, or reads what the device recovers into a core, or names the first byte of the first field
-//! that breaks the layout (`specs/Damages.antt`). Where another tuning than the wanted one is in force it retunes the tag.
+//! [`open_tag`] makes the layout of a new device, or reads what the device recovers into a core, or names the first byte of the
+//! first field that breaks the layout. Where another tuning than the wanted one is in force it retunes the tag.
 //! [`Journal::commit`] acknowledges a batch of values, and [`Journal::checkpoint`] puts the new records and a new summary, and
 //! begins the lane anew. A crash at any moment of a commit leaves what was acknowledged, or that and the whole batch; a crash
 //! at any moment of a checkpoint leaves the same state or that of the core; a crash while a device is opened leaves what one
@@ -15,19 +12,17 @@
 
 mod checkpoint;
 mod failure;
-mod header;
 mod journal;
 mod law;
-mod layout;
-mod layout_reader;
 mod opening;
+mod parts;
 mod replay;
 mod seat;
-mod slot;
-mod slot_field;
 
-pub use failure::{OpenFail, OpenNo};
+pub use device_layout::{
+    OpenNo, Slot, one_damage_is_told, one_state_is_recovered, what_recovers_is_not_damaged,
+};
+pub use failure::OpenFail;
 pub use journal::Journal;
-pub use law::{an_opened_tag_stands, one_state_is_recovered};
+pub use law::an_opened_tag_stands;
 pub use opening::{Opened, open_tag};
-pub use slot::Slot;

@@ -1,28 +1,34 @@
 // Opening a tag's device.
 ghost use Rattle.std.specs.Prelude.{◌≡◌, ◌≢◌, ◌⊎◌, ◌+◌, ◌-◌, ◌*◌, ◌^◌, ◌<◌, ◌≤◌, ℕ, Some, Err, true, false};
-ghost use Rattle.std.specs.Prelude.{length, IfOk, IfErr, OnErr};
+ghost use Rattle.std.specs.Prelude.{length, IfOk, IfErr, OnOk, OnErr};
 ghost use Rattle.trend_num.specs.Limits.{most_records};
 ghost use Rattle.trend_num.specs.declared.tag_def.TagDef.{TagDef};
 ghost use Rattle.trend_num.specs.Ranges.{IsTuned};
 ghost use Rattle.trend_model.specs.State.{State, nothing_taken};
+ghost use Rattle.disk_model.specs.Traces.{Synced, noted};
 ghost use Rattle.disk_model.specs.Images.{IsSettled};
 ghost use Rattle.disk_model.specs.Moments.{During};
-ghost use Rattle.disk_model.specs.Calls.{Rose};
-ghost use Rattle.disk_model.specs.Gates.{IsOpen};
-ghost use Rattle.crash_recovery.specs.declared.failure.OpenNo.TheVariants.{DeviceFault, WantOfMemory, Full as TooFull};
-ghost use Rattle.crash_recovery.specs.Recovery.{IsNew, IsRecovered, Recovers};
-ghost use Rattle.crash_recovery.specs.Journals.{AllRecover, GoesOnFrom, RecoversEither, IsSeat, SeatedOn};
-ghost use Rattle.crash_recovery.specs.Opening.{Shows, IsOpenedAs, OpensAs, StaysSame, RecoversThen};
-ghost use Rattle.crash_recovery.specs.Opening.{HasSlots, IsLeftOrSame, IsReadAs};
-ghost use Rattle.crash_recovery.specs.Opening.{IsCause, refusal_of_put};
+ghost use Rattle.disk_model.specs.Calls.{CountsFault, HasCause};
+ghost use Rattle.disk_model.specs.Gates.{IsBegun};
+ghost use Rattle.device_layout.specs.declared.failure.OpenNo.TheVariants.{DeviceFault, WantOfMemory, Full as TooFull};
+ghost use Rattle.disk_model.specs.Gates.{IsNew};
+ghost use Rattle.device_layout.specs.Recovery.{IsRecovered, Recovers};
+ghost use Rattle.crash_recovery.specs.Journals.{AllRecover, GoesOnFrom, RecoversEither, IsNumbered, IsSeat, SeatedOn, free_in};
+ghost use Rattle.disk_model.specs.Calls.{Shows};
+ghost use Rattle.crash_recovery.specs.Opening.{IsOpenedAs, OpensAs, StaysSame, RecoversThen};
+ghost use Rattle.crash_recovery.specs.Opening.{HasSlots, IsLeftOrSame, IsReadAs, HasFreeAtFirst, LeavesFree};
+ghost use Rattle.crash_recovery.specs.Opening.{MakesLayout, GainsSync};
+ghost use Rattle.device_layout.specs.Layouts.{IsMade};
+ghost use Rattle.device_layout.specs.Readings.{IsCause, CountsRefusal};
+ghost use Rattle.crash_recovery.specs.Opening.{refusal_of_put};
 
-use crate::layout::make_layout;
-use crate::layout_reader::{read_layout, read_part, read_stored};
+use crate::parts::read_parts;
 use crate::replay::read_core;
 use crate::seat::Seat;
-use crate::{Journal, OpenFail, OpenNo};
+use crate::{Journal, OpenFail};
 use archive_file::PutNo;
-use disk_model::{Disk, OPEN};
+use device_layout::{OpenNo, make_layout, read_layout};
+use disk_model::{Disk, is_new};
 use event_queue::Lane;
 use std::alloc::Global;
 use std::marker::Brand;
@@ -63,15 +69,23 @@ pub fn open_tag<D: Disk>(
     ensures opened { IfOk result (λ o. Shows (D.trace dev) (λ c. (s : State) × Recovers def.now c s
         × IsOpenedAs def.now s o.core.state)) }
     ensures recovers { IfOk result (λ o. RecoversThen def.now (D.trace dev) (D.trace o.journal.dev) o.core.state) }
+    ensures recovers_now { IfOk result (λ o. o.core.state.summary.taken < 10 ^ 18
+        → AllRecover def.now (D.trace o.journal.dev) o.core.state) }
     ensures acked { IfOk result (λ o. o.journal.acked ≡ o.core.state.summary.taken) }
     ensures slots { IfOk result (λ o. Shows (D.trace dev) (HasSlots lane_slots o.journal.slots)) }
+    ensures free { IfOk result (λ o. Shows (D.trace dev) (LeavesFree def.now o.journal.slots o.journal.free)) }
+    ensures made { IfOk result (λ o. MakesLayout def.now lane_slots (D.trace dev) (D.trace o.journal.dev)) }
+    ensures synced { IfOk result (λ o. GainsSync def.now (D.trace dev) (D.trace o.journal.dev)) }
     ensures usable { IfOk result (λ o. o.journal.failed ≡ false) }
     ensures step { IfOk result (λ o. o.core.step ≡ def.now.step) }
     ensures tuning { IfOk result (λ o. o.core.state.summary.tuning ≡ Some def.now.tuning) }
     ensures room { IfOk result (λ o. 2 * room ≤ o.core.spare) }
-    ensures cause { IfErr result (λ e. IsCause def.now (D.trace dev) (D.fault_count dev) (D.fault_count e.dev) e.why) }
-    ensures faults { IfOk result (λ o. D.fault_count dev ≤ D.fault_count o.journal.dev) }
-    ensures faults_refused { IfErr result (λ e. D.fault_count dev ≤ D.fault_count e.dev) }
+    ensures countable { IfOk result (λ o. o.core.state.summary.taken < 2 ^ 63) }
+
+    // A refusal tells its cause. One fault is counted where a call of the device has failed, and else none.
+    ensures cause { IfErr result (λ e. IsCause def.now (D.trace dev) e.why) }
+    ensures faultless { IfOk result (λ o. D.fault_count o.journal.dev ≡ D.fault_count dev) }
+    ensures counts { IfErr result (λ e. CountsRefusal e.why (D.fault_count dev) (D.fault_count e.dev)) }
 {
     let mut dev = dev;
     let read = match read_tag::<Brand, D>(alloc, &mut dev, def, lane_slots, room, Blank::new(1)) {
@@ -108,13 +122,13 @@ impl<D: Disk> Opened<D> {
         ensures core { IfOk result (λ o. o.core ≡ self.core) }
         ensures acked { IfOk result (λ o. o.journal.acked ≡ self.core.state.summary.taken) }
         ensures slots { IfOk result (λ o. o.journal.slots ≡ self.journal.slots) }
+        ensures free { IfOk result (λ o. o.journal.free ≡ o.journal.slots) }
         ensures usable { IfOk result (λ o. o.journal.failed ≡ false) }
         ensures cause { IfErr result (λ e. (e.why ≡ DeviceFault)
             ⊎ (e.why ≡ WantOfMemory)) }
-        ensures device_fault { IfErr result (λ e. e.why ≡ DeviceFault
-            → Rose (D.fault_count self.journal.dev) (D.fault_count e.dev)) }
-        ensures faults { IfOk result (λ o. D.fault_count self.journal.dev ≤ D.fault_count o.journal.dev) }
-        ensures faults_refused { IfErr result (λ e. D.fault_count self.journal.dev ≤ D.fault_count e.dev) }
+        ensures faultless { IfOk result (λ o. D.fault_count o.journal.dev ≡ D.fault_count self.journal.dev) }
+        ensures counts { IfErr result (λ e. CountsRefusal e.why (D.fault_count self.journal.dev)
+            (D.fault_count e.dev)) }
     {
         let Opened { mut journal, core } = self;
         match journal.checkpoint(alloc, &core) {
@@ -156,14 +170,21 @@ fn read_tag<L: Ledger, D: Disk>(
     ensures seated { IfOk result (λ r. SeatedOn r.seat (D.trace dev.new)) }
     ensures slots { IfOk result (λ r. (1 ≤ r.seat.lane.slots) × (r.seat.lane.slots ≤ 65536)) }
     ensures lane { IfOk result (λ r. Shows (D.trace dev.old) (HasSlots lane_slots r.seat.lane.slots)) }
+    ensures free { IfOk result (λ r.
+        Shows (D.trace dev.old) (HasFreeAtFirst r.seat.lane.slots (free_in r.seat))) }
+    ensures made { OnOk result (MakesLayout def.now lane_slots (D.trace dev.old) (D.trace dev.new)) }
+    ensures synced { OnOk result (Shows (D.trace dev.old) (λ c. (IsNew c → ⊥)
+        → D.trace dev.new ≡ noted Synced (D.trace dev.old))) }
     ensures used { IfOk result (λ r. r.seat.lane.used ≤ r.seat.lane.slots) }
+    ensures numbered { IfOk result (λ r. IsNumbered r.seat) }
+    ensures countable { IfOk result (λ r. r.core.state.summary.taken < 2 ^ 63) }
     ensures acked { IfOk result (λ r. r.retuned ≡ false → r.seat.lane.next ≡ r.core.state.summary.taken) }
     ensures step { IfOk result (λ r. r.core.step ≡ def.now.step) }
     ensures tuning { IfOk result (λ r. r.core.state.summary.tuning ≡ Some def.now.tuning) }
     ensures room { IfOk result (λ r. 2 * room ≤ r.core.spare) }
     ensures cause { IfErr result
-        (IsCause def.now (D.trace dev.old) (D.fault_count dev.old) (D.fault_count dev.new)) }
-    ensures faults { D.fault_count dev.old ≤ D.fault_count dev.new }
+        (IsCause def.now (D.trace dev.old)) }
+    ensures counts { CountsFault result DeviceFault (D.fault_count dev.old) (D.fault_count dev.new) }
 {
     let Ok(()) = dev.sync() else {
         return Err(OpenNo::DeviceFault);
@@ -172,27 +193,8 @@ fn read_tag<L: Ledger, D: Disk>(
     match is_new(dev) {
         Ok(true) => made(alloc, dev, def, lane_slots, room),
         Ok(false) => read_back(alloc, dev, def, room, &mut steps),
-        Err(why) => Err(why),
+        Err(_) => Err(OpenNo::DeviceFault),
     }
-}
-
-/// Whether no layout was finished on a device.
-fn is_new<D: Disk>(dev: &mut D) -> Result<bool, OpenNo>
-    ensures new { IfOk result (λ b. b ≡ true → Shows (D.trace dev.old) IsNew) }
-    ensures begun { IfOk result (λ b. b ≡ false → Shows (D.trace dev.old) (IsOpen 0)) }
-    ensures fault { OnErr result ((result ≡ Err DeviceFault) × Rose (D.fault_count dev.old) (D.fault_count dev.new)) }
-    ensures same { D.trace dev.new ≡ D.trace dev.old }
-    ensures untimed { D.ticks dev.new ≡ D.ticks dev.old }
-    ensures faults { D.fault_count dev.old ≤ D.fault_count dev.new }
-{
-    let Ok(len) = dev.len() else {
-        return Err(OpenNo::DeviceFault);
-    };
-    if len <= 1 {
-        return Ok(true);
-    }
-    let gate = read_part::<1, D>(dev, 0)?;
-    Ok(gate[0] != OPEN)
 }
 
 /// A new device with its layout, and a tag before its first event.
@@ -212,13 +214,16 @@ fn made<D: Disk>(
         (λ c. Recovers def.now c (nothing_taken def.now.tuning)) }
     ensures core { IfOk result (λ r. r.core.state ≡ nothing_taken def.now.tuning) }
     ensures seated { IfOk result (λ r. SeatedOn r.seat (D.trace dev.new)) }
+    ensures made { OnOk result (Shows (D.trace dev.new) (IsMade def.now lane_slots)) }
+    ensures free { IfOk result (λ r. free_in r.seat ≡ r.seat.lane.slots) }
     ensures lane { IfOk result (λ r. r.seat.lane ≡ record { slots = lane_slots; used = 0; next = 0 }) }
+    ensures numbered { IfOk result (λ r. IsNumbered r.seat) }
     ensures retuned { IfOk result (λ r. r.retuned ≡ false) }
     ensures step { IfOk result (λ r. r.core.step ≡ def.now.step) }
     ensures room { IfOk result (λ r. r.core.spare ≡ 2 * room) }
     ensures cause { IfErr result
-        (IsCause def.now (D.trace dev.old) (D.fault_count dev.old) (D.fault_count dev.new)) }
-    ensures faults { D.fault_count dev.old ≤ D.fault_count dev.new }
+        (IsCause def.now (D.trace dev.old)) }
+    ensures counts { CountsFault result DeviceFault (D.fault_count dev.old) (D.fault_count dev.new) }
 {
     let Ok(core) = TagCore::new(alloc, def.tuning, def.step, room) else {
         return Err(OpenNo::WantOfMemory);
@@ -252,28 +257,30 @@ fn read_back<L: Ledger, D: Disk>(
     room: u32,
     steps: &mut Steps<L>,
 ) -> Result<Read, OpenNo>
-    requires opened { Shows (D.trace dev.old) (IsOpen 0) }
+    requires opened { Shows (D.trace dev.old) IsBegun }
     requires tuned { IsTuned def.now.tuning }
     ensures opened { IfOk result (λ r. Shows (D.trace dev.old) (λ c. (s : State) × IsRecovered def.now c s
         × OpensAs def.now r.retuned s r.core.state)) }
     ensures seat { IfOk result (λ r. Shows (D.trace dev.old) (IsSeat r.seat)) }
     ensures slots { IfOk result (λ r. (1 ≤ r.seat.lane.slots) × (r.seat.lane.slots ≤ 65536)) }
     ensures used { IfOk result (λ r. r.seat.lane.used ≤ r.seat.lane.slots) }
+    ensures numbered { IfOk result (λ r. IsNumbered r.seat) }
+    ensures countable { IfOk result (λ r. r.core.state.summary.taken < 2 ^ 63) }
     ensures acked { IfOk result (λ r. r.retuned ≡ false → r.seat.lane.next ≡ r.core.state.summary.taken) }
     ensures step { IfOk result (λ r. r.core.step ≡ def.now.step) }
     ensures tuning { IfOk result (λ r. r.core.state.summary.tuning ≡ Some def.now.tuning) }
     ensures room { IfOk result (λ r. 2 * room ≤ r.core.spare) }
     ensures cause { IfErr result
-        (IsCause def.now (D.trace dev.old) (D.fault_count dev.old) (D.fault_count dev.new)) }
+        (IsCause def.now (D.trace dev.old)) }
     ensures same { D.trace dev.new ≡ D.trace dev.old }
     ensures untimed { D.ticks dev.new ≡ D.ticks dev.old }
-    ensures faults { D.fault_count dev.old ≤ D.fault_count dev.new }
+    ensures counts { CountsFault result DeviceFault (D.fault_count dev.old) (D.fault_count dev.new) }
 {
     let header = match read_layout(dev, def) {
         Ok(header) => header,
         Err(why) => return Err(why),
     };
-    let stored = match read_stored(alloc, dev, &header, def.step) {
+    let stored = match read_parts(alloc, dev, &header, def.step) {
         Ok(stored) => stored,
         Err(why) => return Err(why),
     };
@@ -299,6 +306,7 @@ fn tuned<L: Ledger>(
     ensures step { IfOk result (λ r. r.core.step ≡ def.now.step) }
     ensures tuning { IfOk result (λ r. r.core.state.summary.tuning ≡ Some def.now.tuning) }
     ensures room { IfOk result (λ r. core.spare ≤ r.core.spare + 2) }
+    ensures counted { IfOk result (λ r. r.core.state.summary.taken ≤ core.state.summary.taken + 1) }
     ensures full { IfErr result (λ why. why ≡ TooFull (length core.state.records)) }
     ensures many { OnErr result (most_records < length core.state.records + 2) }
     ensures other { OnErr result (core.state.summary.tuning ≢ Some def.now.tuning) }

@@ -7,18 +7,19 @@ ghost use Rattle.trend_num.specs.Ranges.{InRange, IsTuned};
 ghost use Rattle.trend_model.specs.History.{Raw};
 ghost use Rattle.trend_model.specs.Parts.{ArePartsOk};
 ghost use Rattle.trend_model.specs.State.{replay};
-ghost use Rattle.disk_model.specs.Calls.{Reaches, Rose};
+ghost use Rattle.disk_model.specs.Calls.{CountsFault, HasCause, Reaches};
 ghost use Rattle.event_queue.specs.Slots.{place_of, slot_at, count_in};
-ghost use Rattle.crash_recovery.specs.declared.failure.OpenNo.TheVariants.{DeviceFault};
-ghost use Rattle.crash_recovery.specs.Recovery.{AllFit, IsRecovered};
-ghost use Rattle.crash_recovery.specs.Damages.{IsValuePlace};
-ghost use Rattle.crash_recovery.specs.Opening.{Shows, IsCause, IsReadFrom, HoldsValue, IsOverfull};
-ghost use Rattle.crash_recovery.specs.Journals.{IsSeat};
+ghost use Rattle.device_layout.specs.declared.failure.OpenNo.TheVariants.{DeviceFault};
+ghost use Rattle.device_layout.specs.Recovery.{AllFit, IsRecovered};
+ghost use Rattle.device_layout.specs.Damages.{IsValuePlace};
+ghost use Rattle.disk_model.specs.Calls.{Shows};
+ghost use Rattle.device_layout.specs.Readings.{IsCause, CountsRefusal, IsReadFrom};
+ghost use Rattle.crash_recovery.specs.Opening.{HoldsValue, IsOverfull};
+ghost use Rattle.crash_recovery.specs.Journals.{IsSeat, IsNumbered};
 
-use crate::OpenNo;
-use crate::layout_reader::{LANE, Stored, damaged, read_part, refusal_of};
 use crate::seat::Seat;
-use disk_model::Disk;
+use device_layout::{LANE, OpenNo, Stored, damaged, refusal_of};
+use disk_model::{Disk, read_part};
 use event_queue::{BATCH_MOST, SLOT_LEN, scan};
 use std::alloc::Global;
 use std::sync::ledger::Ledger;
@@ -69,10 +70,10 @@ fn value_place<D: Disk>(dev: &mut D, slots: u32, used: u32, number: usize) -> Re
     ensures place { (taken : ℕ) → Shows (D.trace dev.old) (HoldsValue slots taken used number)
         → IfOk result (λ a. Shows (D.trace dev.old) (λ c. (j : ℕ) × (i : ℕ) × IsValuePlace slots c taken number a j i)) }
     ensures end { IfOk result (λ a. a < 400 + 1035 * slots) }
-    ensures fault { OnErr result ((result ≡ Err DeviceFault) × Rose (D.fault_count dev.old) (D.fault_count dev.new)) }
+    ensures fault { OnErr result (result ≡ Err DeviceFault) }
+    ensures counts { HasCause (D.fault_count dev.old) (D.fault_count dev.new) result }
     ensures same { D.trace dev.new ≡ D.trace dev.old }
     ensures untimed { D.ticks dev.new ≡ D.ticks dev.old }
-    ensures faults { D.fault_count dev.old ≤ D.fault_count dev.new }
 {
     let mut rest = number;
     for j in 0..used {
@@ -91,10 +92,10 @@ fn count_at<D: Disk>(dev: &mut D, slots: u32, slot: u32) -> Result<u16, OpenNo>
     requires there { Reaches (D.trace dev.old) (400 + 1035 * slots) }
     ensures count { IfOk result (λ n. Shows (D.trace dev.old) (λ c. n ≡ min 64 (count_in (slot_at slots c slot)))) }
     ensures few { IfOk result (λ n. n ≤ 64) }
-    ensures fault { OnErr result ((result ≡ Err DeviceFault) × Rose (D.fault_count dev.old) (D.fault_count dev.new)) }
+    ensures fault { OnErr result (result ≡ Err DeviceFault) }
+    ensures counts { HasCause (D.fault_count dev.old) (D.fault_count dev.new) result }
     ensures same { D.trace dev.new ≡ D.trace dev.old }
     ensures untimed { D.ticks dev.new ≡ D.ticks dev.old }
-    ensures faults { D.fault_count dev.old ≤ D.fault_count dev.new }
 {
     let bytes = read_part::<2, D>(dev, slot_start(slots, slot) + COUNT)?;
     Ok(u16::from_be_bytes(bytes).min(BATCH_MOST))
@@ -122,10 +123,10 @@ fn overfull<D: Disk>(dev: &mut D, slots: u32, used: u32, number: usize) -> OpenN
     requires few { slots ≤ 65536 }
     requires there { Reaches (D.trace dev.old) (400 + 1035 * slots) }
     ensures value { (taken : ℕ) → Shows (D.trace dev.old) (HoldsValue slots taken used number)
-        → IsOverfull (D.trace dev.old) slots taken number (D.fault_count dev.old) (D.fault_count dev.new) result }
+        → IsOverfull (D.trace dev.old) slots taken number result }
     ensures same { D.trace dev.new ≡ D.trace dev.old }
     ensures untimed { D.ticks dev.new ≡ D.ticks dev.old }
-    ensures faults { D.fault_count dev.old ≤ D.fault_count dev.new }
+    ensures counts { CountsRefusal result (D.fault_count dev.old) (D.fault_count dev.new) }
 {
     let at = match value_place(dev, slots, used, number) {
         Ok(at) => at,
@@ -133,7 +134,7 @@ fn overfull<D: Disk>(dev: &mut D, slots: u32, used: u32, number: usize) -> OpenN
     };
     match read_part::<1, D>(dev, at) {
         Ok(bytes) => damaged(at, bytes[0]),
-        Err(why) => why,
+        Err(_) => OpenNo::DeviceFault,
     }
 }
 
@@ -159,14 +160,15 @@ pub(crate) fn read_core<L: Ledger, D: Disk>(
     ensures slots { IfOk result (λ r. r.0.lane.slots ≡ slots) }
     ensures used { IfOk result (λ r. r.0.lane.used ≤ slots) }
     ensures next { IfOk result (λ r. r.0.lane.next ≡ r.1.state.summary.taken) }
+    ensures numbered { IfOk result (λ r. IsNumbered r.0) }
     ensures countable { IfOk result (λ r. r.1.state.summary.taken < 2 * 10 ^ 18) }
     ensures step { IfOk result (λ r. r.1.step ≡ step) }
     ensures room { IfOk result (λ r. 2 * room + 2 ≤ r.1.spare) }
     ensures cause { (def : TagDef) → def.step ≡ step → Shows (D.trace dev.old) (IsReadFrom def slots stored)
-        → IfErr result (IsCause def (D.trace dev.old) (D.fault_count dev.old) (D.fault_count dev.new)) }
+        → IfErr result (IsCause def (D.trace dev.old)) }
     ensures same { D.trace dev.new ≡ D.trace dev.old }
     ensures untimed { D.ticks dev.new ≡ D.ticks dev.old }
-    ensures faults { D.fault_count dev.old ≤ D.fault_count dev.new }
+    ensures counts { CountsFault result DeviceFault (D.fault_count dev.old) (D.fault_count dev.new) }
 {
     let scanned = match scan(alloc, dev, slots, stored.summary.taken) {
         Ok(scanned) => scanned,

@@ -8,11 +8,11 @@ ghost use Rattle.trend_model.specs.History.{Raw};
 ghost use Rattle.trend_model.specs.State.{State, replay};
 ghost use Rattle.disk_model.specs.Moments.{During};
 ghost use Rattle.disk_model.specs.Calls.{HasCause};
-ghost use Rattle.crash_recovery.specs.Recovery.{AllFit, Recovers};
-ghost use Rattle.crash_recovery.specs.Journals.{AllRecover, RecoversEither, SeatedOn, free_in};
+ghost use Rattle.device_layout.specs.Recovery.{AllFit, Recovers};
+ghost use Rattle.crash_recovery.specs.Journals.{AllRecover, RecoversEither, SeatedOn, IsNumbered, free_in};
 ghost use Rattle.crash_recovery.specs.Seats.{LaidOn, OverrunOn, restarted};
 
-use crate::slot::Slot;
+use device_layout::Slot;
 use disk_model::Disk;
 use event_queue::{DeviceFault, Lane, LaneNo};
 use trend_num::Point;
@@ -81,7 +81,10 @@ impl Seat {
         ensures seated { OnOk result (SeatedOn self.new (D.trace dev.new)) }
         ensures number { OnOk result (self.new.lane.next ≡ self.old.lane.next + length points.now) }
         ensures free { OnOk result (free_in self.new + 1 ≡ free_in self.old) }
+        ensures numbered { IsNumbered self.old → IsNumbered self.new }
         ensures unmoved { OnErr result (self.new.lane.next ≡ self.old.lane.next) }
+        ensures still_free { OnErr result (free_in self.new ≡ free_in self.old) }
+        ensures ticked { OnOk result (D.ticks dev.old < D.ticks dev.new) }
         ensures slots { self.new.lane.slots ≡ self.old.lane.slots }
         ensures within { self.new.lane.used ≤ self.new.lane.slots }
         ensures later { D.ticks dev.old ≤ D.ticks dev.new }
@@ -107,6 +110,7 @@ impl Seat {
         ensures laid { OnOk result (LaidOn self.new (D.trace dev.new)) }
         ensures fresh { OnOk result (self.new.stale ≡ false) }
         ensures kept { self.old.stale ≡ false → self.new ≡ self.old }
+        ensures idle { self.old.stale ≡ false → dev.new ≡ dev.old }
         ensures restarted { self.old.stale ≡ true → OnOk result (self.new ≡ restarted self.old) }
         ensures unmoved { OnErr result (self.new ≡ self.old) }
         ensures later { D.ticks dev.old ≤ D.ticks dev.new }

@@ -1,73 +1,68 @@
 // What no clause says: that calls succeed where there is memory, the images by hand, and files.
-use disk_model::*;
+use crate::spelled::{change, number};
+use disk_model::{DirDisk, DirStore, Disk, Failed, MemDisk, MemStore, Pick, Store, close_gates};
 use std::alloc::{AllocError, Global};
 use std::fs::{self, Metadata, OpenFile};
 use std::io;
 use std::os::unix::fs::FileExt;
+use std::process::Abort;
 use std::test::Fail;
 
-// One call of a device.
-#[derive(Clone, Copy)]
-enum Step {
-    Write(u64, &'static [u8]),
-    Cut(u64),
-    Sync,
-}
+// Calls on a device of "abc": a write of bytes at a place, a cut to a length, a sync. Behind them the call that fails. Then
+// the images that a crash may leave: nothing of what was not synced, all of it, or "-" in its place.
+const IMAGES: &str = "\
+1:xy 9 => abc axy a--
+3:de 9 => abc abcde abc--
+2:xy sync 9 => abxy abxy abxy
+0:z sync 2:q 9 => zbc zbq zb-
+cut:1 9 => abc a a
+1:xy 0 => abc axy a--
+1:xy sync 1 => abc axy a--";
 
-// Makes these calls, up to the first that fails.
-fn run(disk: &mut MemDisk, steps: &[Step]) -> Result<(), Failed> {
-    for step in steps {
-        match *step {
-            Step::Write(at, bytes) => {
-                if at <= disk.bytes().len() as u64 {
-                    disk.write_at(at, bytes)?;
-                }
-            }
-            Step::Cut(len) => disk.cut(len)?,
-            Step::Sync => disk.sync()?,
+// Four gates before and after they are closed, and how many writes and syncs that takes.
+const GATES: &str = "\
+1=7 3=1 => [0, 7, 0, 1] 1
+0=165 1=7 2=165 => [0, 7, 0, 0] 3
+0=165 1=165 2=165 3=165 => [0, 0, 0, 0] 5";
+
+// Makes a call, and says whether it was done.
+fn is_done(rt: &impl Abort, disk: &mut MemDisk, step: &str) -> bool {
+    match step.split_once(':') {
+        None => disk.sync().is_ok(),
+        Some(("cut", len)) => disk.cut(number(rt, len)).is_ok(),
+        Some((at, bytes)) => {
+            let at = number(rt, at);
+            assert!(rt; at <= disk.bytes().len() as u64);
+            disk.write_at(at, bytes.as_bytes()).is_ok()
         }
     }
-    Ok(())
+}
+
+// The image that a crash leaves, as text.
+fn image(alloc: Global, disk: &MemDisk, pick: Pick) -> Result<String, Fail> {
+    let left = disk.crash(pick).map_err(|_| "memory")?;
+    Ok(String::from_utf8(left.bytes().to_vec(alloc)?).map_err(|_| "text")?)
 }
 
 #[test]
 fn a_crash_leaves_old_new_or_other_bytes(rt: HostRuntime) -> Result<(), Fail> {
     let alloc = rt.alloc();
-    // The calls on a device of "abc", the number of the call that fails, and the images.
-    let cases: [(&[Step], u64, [&[u8]; 3]); 8] = [
-        (&[Step::Write(1, b"xy")], 9, [b"abc", b"axy", b"a--"]),
-        (&[Step::Write(3, b"de")], 9, [b"abc", b"abcde", b"abc--"]),
-        (
-            &[Step::Write(2, b"xy"), Step::Sync],
-            9,
-            [b"abxy", b"abxy", b"abxy"],
-        ),
-        (
-            &[Step::Write(0, b"z"), Step::Sync, Step::Write(2, b"q")],
-            9,
-            [b"zbc", b"zbq", b"zb-"],
-        ),
-        (&[Step::Cut(1)], 9, [b"abc", b"a", b"a"]),
-        (&[Step::Cut(5)], 9, [b"abc", b"abc\0\0", b"abc\0\0"]),
-        (&[Step::Write(1, b"xy")], 0, [b"abc", b"axy", b"a--"]),
-        (
-            &[Step::Write(1, b"xy"), Step::Sync],
-            1,
-            [b"abc", b"axy", b"a--"],
-        ),
-    ];
-    for (steps, failing, images) in cases {
-        let mut disk = MemDisk::new(b"abc".to_vec(alloc)?, vec![in alloc; failing]?);
-        assert_eq!(rt; run(&mut disk, steps).is_ok(), failing == 9);
-        assert_eq!(rt; disk.faults(), u64::from(failing < 9));
-        for (pick, image) in [Pick::Old, Pick::New, Pick::Fill(b'-')]
-            .into_iter()
-            .zip(images)
-        {
-            let left = disk.crash(pick).map_err(|_| "memory")?;
-            assert_eq!(rt; left.bytes(), image, "at {pick:?}");
-            assert_eq!(rt; left.clock(), 0);
+    for row in IMAGES.lines() {
+        let (given, want) = row.split_once(" => ").ok_or("row")?;
+        let (steps, fail) = given.rsplit_once(' ').ok_or("call")?;
+        let mut disk = MemDisk::new(b"abc".to_vec(alloc)?, vec![in alloc; number(&rt, fail)]?);
+        let mut done = true;
+        for step in steps.split_whitespace() {
+            done = done && is_done(&rt, &mut disk, step);
         }
+        assert_eq!(rt; done, fail == "9", "{given}");
+        assert_eq!(rt; disk.faults(), u64::from(!done), "{given}");
+        let (old, new) = (
+            image(alloc, &disk, Pick::Old)?,
+            image(alloc, &disk, Pick::New)?,
+        );
+        let told = format!(in alloc; "{old} {new} {}", image(alloc, &disk, Pick::Fill(b'-'))?)?;
+        assert_eq!(rt; told.as_str(), want, "{given}");
     }
     Ok(())
 }
@@ -89,48 +84,6 @@ fn a_device_in_memory_counts(rt: HostRuntime) -> Result<(), Fail> {
     Ok(())
 }
 
-// A guarded write of "abc" at 2 behind the gate at 0, whose calls fail from a number on.
-fn guarded(alloc: Global, stop: u64) -> Result<(MemDisk, bool), AllocError> {
-    let mut disk = MemDisk::new(vec![in alloc; 0; 8]?, Vec::new(alloc));
-    disk.stop_after(stop);
-    let done = write_guarded(&mut disk, 2, b"abc", 0).is_ok();
-    Ok((disk, done))
-}
-
-#[test]
-fn guarded_bytes_are_whole_or_behind_a_closed_gate(rt: HostRuntime) -> Result<(), Fail> {
-    let alloc = rt.alloc();
-    let picks = [Pick::Old, Pick::New, Pick::Fill(0xa5), Pick::Fill(0)];
-    let before: [&[u8]; 4] = [
-        b"\0\0\0\0\0\0\0\0",
-        b"\0\0abc\0\0\0",
-        b"\0\0\xa5\xa5\xa5\0\0\0",
-        b"\0\0\0\0\0\0\0\0",
-    ];
-    let opening: [&[u8]; 4] = [
-        b"\0\0abc\0\0\0",
-        b"\xa5\0abc\0\0\0",
-        b"\xa5\0abc\0\0\0",
-        b"\0\0abc\0\0\0",
-    ];
-    let after: [&[u8]; 4] = [b"\xa5\0abc\0\0\0"; 4];
-    for (stop, images) in [
-        (0, before),
-        (1, before),
-        (2, opening),
-        (3, opening),
-        (4, after),
-    ] {
-        let (disk, done) = guarded(alloc, stop)?;
-        assert_eq!(rt; done, stop == 4);
-        for (pick, image) in picks.into_iter().zip(images) {
-            let left = disk.crash(pick).map_err(|_| "memory")?;
-            assert_eq!(rt; left.bytes(), image, "stopped at {stop}, {pick:?}");
-        }
-    }
-    Ok(())
-}
-
 // Closes the gates of a device of these four.
 fn closed(bytes: Vec<u8>) -> Option<MemDisk> {
     if bytes.len() != 4 {
@@ -144,17 +97,13 @@ fn closed(bytes: Vec<u8>) -> Option<MemDisk> {
 
 #[test]
 fn gates_that_read_closed_are_not_written(rt: HostRuntime) -> Result<(), Fail> {
-    let alloc = rt.alloc();
-    // The gates, what they are afterwards, and how many writes and syncs there were.
-    let cases: [([u8; 4], [u8; 4], u64); 3] = [
-        ([0, 7, 0, 1], [0, 7, 0, 1], 1),
-        ([0xa5, 7, 0xa5, 0], [0, 7, 0, 0], 3),
-        ([0xa5; 4], [0; 4], 5),
-    ];
-    for (gates, want, clock) in cases {
-        let disk = closed(gates.to_vec(alloc)?).ok_or("refused")?;
-        assert_eq!(rt; disk.bytes(), want.as_slice());
-        assert_eq!(rt; disk.clock(), clock);
+    for row in GATES.lines() {
+        let (given, want) = row.split_once(" => ").ok_or("row")?;
+        let mut gates = vec![in rt.alloc(); 0; 4]?;
+        change(&rt, gates.as_mut_slice(), given);
+        let disk = closed(gates).ok_or("refused")?;
+        let told = format!(in rt.alloc(); "{:?} {}", disk.bytes(), disk.clock())?;
+        assert_eq!(rt; told.as_str(), want, "{given}");
     }
     Ok(())
 }
@@ -242,8 +191,19 @@ fn files_of_a_folder_are_devices(rt: HostRuntime) -> Result<(), Fail> {
 }
 
 #[test]
-fn refusals_have_texts(rt: HostRuntime) -> Result<(), Fail> {
-    let texts = format!(in rt.alloc(); "{Failed}, {WantOfMemory}")?;
-    assert_eq!(rt; texts.as_str(), "a call of a device failed, out of memory");
+fn what_cannot_be_opened_stays_as_it_is(rt: HostRuntime) -> Result<(), Fail> {
+    fs::create_dir_all(&rt, "historian.d/folder.tag")?;
+    fs::write(&rt, "historian.d/closed.tag", b"abc")?;
+    let mut closed = fs::metadata(&rt, "historian.d/closed.tag")?.permissions();
+    closed.set_readonly(true);
+    fs::set_permissions(&rt, "historian.d/closed.tag", closed)?;
+    let mut store = DirStore::new(rt.clone()?);
+    assert!(rt; store.device("folder.tag").is_err());
+    let _ = store.device("closed.tag");
+    assert_eq!(rt;
+        fs::read(&rt, "historian.d/closed.tag")?.as_slice(),
+        b"abc".as_slice()
+    );
+    fs::remove_dir_all(&rt, "historian.d")?;
     Ok(())
 }

@@ -1,17 +1,13 @@
-//! Tests of devices and of what is kept on them: bytes by hand, crashes, and the calls that are made.
+//! Tests of devices and of what is kept on them: bytes by hand, crashes, damage, and how many calls are made.
 #![tactic(auto)]
 
 #[cfg(test)]
 mod devices;
 #[cfg(test)]
-mod journal;
-#[cfg(test)]
 mod lanes;
-#[cfg(test)]
-mod layout;
-#[cfg(test)]
-mod opening;
 #[cfg(test)]
 mod records;
 #[cfg(test)]
-mod slot_fields;
+mod recovery;
+#[cfg(test)]
+mod spelled;

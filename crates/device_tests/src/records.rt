@@ -1,55 +1,45 @@
-// Bytes by hand, and what no clause says.
-use archive_file::*;
-use disk_model::MemDisk;
+// Records and summaries in bytes, by hand.
+use crate::spelled::{change, number, point};
+use archive_file::{
+    DeviceFault, Kind, Point, PutNo, Rec, ScanNo, Summary, Tuning, put_records, read_records,
+    rec_bytes, rec_of, summary_bytes, summary_of,
+};
+use disk_model::{Failed, MemDisk, WantOfMemory};
+use event_queue::LaneNo;
 use std::alloc::{AllocError, Global};
+use std::fmt::Write;
 use std::test::Fail;
 
-const KEPT_0_5: [u8; 17] = *b"K\0\0\0\0\0\0\0\0\0\0\0\0\0\0\0\x05";
+// A record and its bytes.
+const RECORDS: &str = "\
+kept 0,5 => 4b00000000000000000000000000000005
+late 1500,60 => 4c00000000000005dc000000000000003c
+kept 253402300799999,-2 => 4b0000e677d21fdbfffffffffffffffffe
+late 1,-1000000000000000 => 4c0000000000000001fffc72815b398000";
 
-const LATE_1500_60: [u8; 17] = *b"L\0\0\0\0\0\0\x05\xdc\0\0\0\0\0\0\0\x3c";
+// What is changed of a device of "abc", (0,5) kept and (1500,60) late, the call that fails, and what is read of it: an
+// unknown kind, a time past the year 9999, a value too large, and too few bytes.
+const READS: &str = "\
+9  => Ok(2)
+0  => Err(DeviceFault)
+1  => Err(DeviceFault)
+9 20=77 => Err(Damaged { at: 20, byte: Some(77) })
+9 23=230 24=119 25=210 26=31 27=220 28=0 => Err(Damaged { at: 21, byte: Some(0) })
+9 30=3 31=141 32=126 33=164 34=198 35=128 36=1 => Err(Damaged { at: 29, byte: Some(0) })";
 
-fn rec(kind: Kind, t: u64, v: i64) -> Rec {
-    Rec {
-        kind,
-        point: Point { t, v },
-    }
-}
+// The changes that make no summary of one: no held point, no hinge, an unknown flag, zeros that are none, parts that are
+// there and absent, a time out of range, and a tuning without its flag.
+const BROKEN: &str = "\
+12=4
+12=1
+12=37
+13=1
+15=9
+32=1
+16=128
+96=1";
 
-#[test]
-fn records_have_these_bytes(rt: HostRuntime) {
-    let cases = [
-        (rec(Kind::Kept, 0, 5), KEPT_0_5),
-        (rec(Kind::Late, 1500, 60), LATE_1500_60),
-        (
-            rec(Kind::Kept, 253_402_300_799_999, -2),
-            *b"K\0\0\xe6\x77\xd2\x1f\xdb\xff\xff\xff\xff\xff\xff\xff\xff\xfe",
-        ),
-        (
-            rec(Kind::Late, 1, -1_000_000_000_000_000),
-            *b"L\0\0\0\0\0\0\0\x01\xff\xfc\x72\x81\x5b\x39\x80\0",
-        ),
-    ];
-    for (r, bytes) in cases {
-        assert_eq!(rt; rec_bytes(r), bytes);
-        assert_eq!(rt; rec_of(&bytes), Some(r));
-    }
-}
-
-// A record of an unknown kind, one past the year 9999, and one whose value is too large.
-const BROKEN: [[u8; 17]; 3] = [
-    *b"M\0\0\0\0\0\0\0\0\0\0\0\0\0\0\0\x05",
-    *b"K\0\0\xe6\x77\xd2\x1f\xdc\0\0\0\0\0\0\0\0\0",
-    *b"K\0\0\0\0\0\0\0\0\0\x03\x8d\x7e\xa4\xc6\x80\x01",
-];
-
-#[test]
-fn other_bytes_are_no_record(rt: HostRuntime) {
-    for bytes in BROKEN {
-        assert_eq!(rt; rec_of(&bytes), None);
-    }
-}
-
-// The summary of a tag that took (0,5), with or without the tuning of a device of today.
+// The summary of a tag that took (0,5).
 fn summary(tuning: Option<Tuning>) -> Summary {
     let first = Some(Point { t: 0, v: 5 });
     Summary {
@@ -64,27 +54,34 @@ fn summary(tuning: Option<Tuning>) -> Summary {
     }
 }
 
-// Its bytes.
-fn bytes_without_tuning() -> [u8; 128] {
-    let mut want = [0; 128];
-    for (place, byte) in [(7, 1), (11, 1), (12, 5), (31, 5), (63, 5)] {
-        set(&mut want, place, byte);
+#[test]
+fn records_have_these_bytes(rt: HostRuntime) -> Result<(), Fail> {
+    for row in RECORDS.lines() {
+        let (given, want) = row.split_once(" => ").ok_or("row")?;
+        let (kind, field) = given.split_once(' ').ok_or("kind")?;
+        let kind = if kind == "kept" {
+            Kind::Kept
+        } else {
+            Kind::Late
+        };
+        let point = point(&rt, field);
+        let bytes = rec_bytes(Rec { kind, point });
+        let mut told = String::new(rt.alloc());
+        for b in &bytes {
+            write!(told, "{b:02x}")?;
+        }
+        assert_eq!(rt; told.as_str(), want, "{given}");
+        assert_eq!(rt; rec_of(&bytes), Some(Rec { kind, point }), "{given}");
     }
-    want
-}
-
-fn set(bytes: &mut [u8; 128], place: usize, byte: u8) {
-    if place < 128 {
-        bytes[place] = byte;
-    }
+    Ok(())
 }
 
 #[test]
 fn summaries_have_these_bytes(rt: HostRuntime) {
-    let want = bytes_without_tuning();
-    assert_eq!(rt; summary_bytes(&summary(None)), want);
-    assert_eq!(rt; summary_of(&want), Some(summary(None)));
-
+    let mut plain = [0; 128];
+    change(&rt, &mut plain, "7=1 11=1 12=5 31=5 63=5");
+    assert_eq!(rt; summary_bytes(&summary(None)), plain);
+    assert_eq!(rt; summary_of(&plain), Some(summary(None)));
     let tuning = Tuning {
         exc_dev: 0,
         exc_max: 1_000_000,
@@ -92,133 +89,82 @@ fn summaries_have_these_bytes(rt: HostRuntime) {
         comp_min: 0,
         comp_max: 1_000_000,
     };
-    let mut tuned = want;
-    let last = *b"\0\0\0\0\0\0\0\0\0\0\x0f\x42\x40\0\0\0\0\0\0\x05\0\0\0\0\0\0\0\0\0\x0f\x42\x40";
-    tuned[12] = 0x15;
-    tuned[96..].copy_from_slice(&last);
+    let mut tuned = plain;
+    change(
+        &rt,
+        &mut tuned,
+        "12=21 106=15 107=66 108=64 115=5 125=15 126=66 127=64",
+    );
     assert_eq!(rt; summary_bytes(&summary(Some(tuning))), tuned);
     assert_eq!(rt; summary_of(&tuned), Some(summary(Some(tuning))));
-}
-
-#[test]
-fn other_bytes_are_no_summary(rt: HostRuntime) {
-    // No hinge, no held, an unknown bit, zeros that are none, an absent point that is there, a time out of range, and a tuning
-    // without its flag.
-    let cases = [
-        (12, 1),
-        (12, 4),
-        (12, 0x25),
-        (13, 1),
-        (15, 9),
-        (32, 1),
-        (16, 0x80),
-        (96, 1),
-    ];
-    for (place, byte) in cases {
-        let mut bytes = bytes_without_tuning();
-        set(&mut bytes, place, byte);
-        assert_eq!(rt; summary_of(&bytes), None, "at {place}");
+    for changes in BROKEN.lines() {
+        let mut bytes = plain;
+        change(&rt, &mut bytes, changes);
+        assert_eq!(rt; summary_of(&bytes), None, "{changes}");
     }
 }
 
-// The bytes of a device of "abc" and two records.
-fn device(alloc: Global, first: &[u8], second: &[u8]) -> Result<Vec<u8>, AllocError> {
-    let mut bytes = b"abc".to_vec(alloc)?;
-    bytes.extend_from_slice(first)?;
-    bytes.extend_from_slice(second)?;
-    Ok(bytes)
-}
-
-// How many records are read of two at 3, on a device of these bytes of which one call fails.
-fn read(alloc: Global, bytes: Vec<u8>, fail: u64) -> Result<Result<usize, ScanNo>, AllocError> {
-    let mut disk = MemDisk::new(bytes, vec![in alloc; fail]?);
-    Ok(read_records(alloc, &mut disk, 3, 2).map(|recs| recs.len()))
-}
-
 #[test]
-fn records_are_written_and_read(rt: HostRuntime) -> Result<(), Fail> {
+fn the_first_bad_byte_is_told(rt: HostRuntime) -> Result<(), Fail> {
     let alloc = rt.alloc();
-    let recs = [rec(Kind::Kept, 0, 5), rec(Kind::Late, 1500, 60)];
-    let mut disk = MemDisk::new(b"abc".to_vec(alloc)?, Vec::new(alloc));
-    assert_eq!(rt; put_records(alloc, &mut disk, 3, &recs), Ok(()));
-    let want = device(alloc, &KEPT_0_5, &LATE_1500_60)?;
-    assert_eq!(rt; disk.bytes(), want.as_slice());
-    let again = read_records(alloc, &mut disk, 3, 2).map_err(|_| "refused")?;
-    assert_eq!(rt; again.as_slice(), recs.as_slice());
+    for row in READS.lines() {
+        let (given, want) = row.split_once(" => ").ok_or("row")?;
+        let (fail, changes) = given.split_once(' ').ok_or("call")?;
+        let mut bytes = vec![in alloc; 0; 37]?;
+        change(
+            &rt,
+            bytes.as_mut_slice(),
+            "0=97 1=98 2=99 3=75 19=5 20=76 27=5 28=220 36=60",
+        );
+        change(&rt, bytes.as_mut_slice(), changes);
+        let mut disk = MemDisk::new(bytes, vec![in alloc; number(&rt, fail)]?);
+        let read = read_records(alloc, &mut disk, 3, 2).map(|recs| recs.len());
+        let told = format!(in alloc; "{read:?}")?;
+        assert_eq!(rt; told.as_str(), want, "{given}");
+    }
     Ok(())
 }
 
 // Records of both kinds, more than are read in one piece.
 fn many(alloc: Global) -> Result<Vec<Rec>, AllocError> {
     let mut recs = Vec::new(alloc);
-    for t in 0..1_950 {
-        recs.push(rec(Kind::Kept, 2 * t, 5))?;
-        recs.push(rec(Kind::Late, 2 * t + 1, -7))?;
+    for t in 0..3_900 {
+        let kind = if t % 2 == 0 { Kind::Kept } else { Kind::Late };
+        let point = Point { t, v: -7 };
+        recs.push(Rec { kind, point })?;
     }
     Ok(recs)
 }
 
 #[test]
-fn records_of_two_pieces_are_read(rt: HostRuntime) -> Result<(), Fail> {
+fn records_are_written_and_read(rt: HostRuntime) -> Result<(), Fail> {
     let alloc = rt.alloc();
     let recs = many(alloc)?;
     let mut disk = MemDisk::new(b"abc".to_vec(alloc)?, Vec::new(alloc));
     assert_eq!(rt; put_records(alloc, &mut disk, 3, &recs), Ok(()));
     let again = read_records(alloc, &mut disk, 3, 3_900).map_err(|_| "refused")?;
     assert_eq!(rt; again.as_slice(), recs.as_slice());
-    Ok(())
-}
-
-#[test]
-fn the_first_bad_byte_is_told(rt: HostRuntime) -> Result<(), Fail> {
-    let alloc = rt.alloc();
-    let fault = Err(ScanNo::DeviceFault);
-    let short = Err(ScanNo::Damaged { at: 36, byte: None });
-    let kind = Err(ScanNo::Damaged {
-        at: 20,
-        byte: Some(b'M'),
-    });
-    let time = Err(ScanNo::Damaged {
-        at: 21,
-        byte: Some(0),
-    });
-    let value = Err(ScanNo::Damaged {
-        at: 29,
-        byte: Some(0),
-    });
-    // The second record, the call that fails, and the answer.
-    let cases: [(&[u8], u64, Result<usize, ScanNo>); 7] = [
-        (&LATE_1500_60, 9, Ok(2)),
-        (&LATE_1500_60, 0, fault),
-        (&LATE_1500_60, 1, fault),
-        (&LATE_1500_60[..16], 9, short),
-        (&BROKEN[0], 9, kind),
-        (&BROKEN[1], 9, time),
-        (&BROKEN[2], 9, value),
-    ];
-    for (second, fail, want) in cases {
-        let bytes = device(alloc, &KEPT_0_5, second)?;
-        assert_eq!(rt; read(alloc, bytes, fail)?, want);
-    }
-    Ok(())
-}
-
-#[test]
-fn a_write_of_records_can_fail(rt: HostRuntime) -> Result<(), Fail> {
-    let alloc = rt.alloc();
-    let mut disk = MemDisk::new(b"abc".to_vec(alloc)?, vec![in alloc; 0]?);
-    let answer = put_records(alloc, &mut disk, 3, &[rec(Kind::Kept, 0, 5)]);
-    assert_eq!(rt; answer, Err(PutNo::DeviceFault));
+    assert_eq!(rt;
+        read_records(alloc, &mut disk, 3, 3_901).err(),
+        Some(ScanNo::Damaged {
+            at: 66_303,
+            byte: None
+        })
+    );
     Ok(())
 }
 
 #[test]
 fn refusals_have_texts(rt: HostRuntime) -> Result<(), Fail> {
     let damaged = ScanNo::Damaged { at: 7, byte: None };
-    let texts = format!(in rt.alloc(); "{DeviceFault}, {damaged}, {}", PutNo::WantOfMemory)?;
+    let texts = format!(in rt.alloc();
+        "{Failed}, {WantOfMemory}, {DeviceFault}, {damaged}, {}, {}",
+        PutNo::WantOfMemory,
+        LaneNo::LaneFull
+    )?;
     assert_eq!(rt;
         texts.as_str(),
-        "a call of a device failed, damaged at 7, out of memory"
+        "a call of a device failed, out of memory, a call of a device failed, damaged at 7, out of memory, the lane is full"
     );
     Ok(())
 }

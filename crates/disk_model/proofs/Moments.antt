@@ -1,5 +1,5 @@
 -- How what a crash at any moment might have left goes on from call to call.
-use Rattle.std.proofs.Common.{◌≡◌, ◌⊎◌, inl, inr, ⊎_elim, ℕ, ◌≤◌, List, [], ◌∷◌, ◌++◌, length, Option, None, Some, Result, refl, sym, ◌∙◌, ap, subst, arith, append_assoc, length-append}
+use Rattle.std.proofs.Common.{◌≡◌, ◌⊎◌, inl, inr, ⊎_elim, ℕ, ◌≤◌, List, [], ◌∷◌, ◌++◌, length, Option, None, Some, IfSome, Result, refl, sym, ◌∙◌, ap, subst, arith, append_assoc, length-append}
 use Rattle.disk_model.specs.Traces.{Event, Idle, Trace, noted, moment}
 use Rattle.disk_model.specs.Images.{IsImage, MayLeave, Now}
 use Rattle.disk_model.specs.Moments.{WasImageSince, LeftSince, ComesAfter, During}
@@ -16,7 +16,7 @@ counts_now None m c may = absurd may.image
 counts_now (Some t) m c may = record { image = present_events t.first t.events m c may.image }
 
 -- since this moment there is no other
-only_events : (first : List ℕ) (es : List Event) (m : ℕ) (c : List ℕ) → length es ≤ m → WasImageSince first es m c → IsImage first es c
+pub only_events : (first : List ℕ) (es : List Event) (m : ℕ) (c : List ℕ) → length es ≤ m → WasImageSince first es m c → IsImage first es c
 only_events first [] m c le was = was
 only_events first (e ∷ es) m c le (inl now) = now
 only_events first (e ∷ es) m c le (inr before) = absurd (omega (arith, le, before.0))
@@ -24,6 +24,11 @@ only_events first (e ∷ es) m c le (inr before) = absurd (omega (arith, le, bef
 pub only_now : (o : Option Trace) (c : List ℕ) → LeftSince o (moment o) c → MayLeave o c
 only_now None c left = absurd left.image
 only_now (Some t) c left = record { image = only_events t.first t.events (length t.events) c (omega arith) left.image }
+
+-- nor since any moment that is not before the clock, which counts the calls that the device tells
+pub only_since : (o : Option Trace) (ticks m : ℕ) (c : List ℕ) → IfSome o (λ t. length t.events ≡ ticks) → ticks ≤ m → LeftSince o m c → MayLeave o c
+only_since None ticks m c told le left = absurd left.image
+only_since (Some t) ticks m c told le left = record { image = only_events t.first t.events m c (omega (arith, told, le)) left.image }
 
 -- a device comes after itself
 after_self : (o : Option Trace) → ComesAfter o o
@@ -54,7 +59,8 @@ parted_events first (e ∷ es) before m c (inl now) = inl (inl now)
 parted_events first (e ∷ es) before m c (inr was) =
     ⊎_elim (λ since. inl (inr (omega (arith, length-append es before), since))) (λ earlier. inr earlier) (parted_events first es before m c was.1)
 
-parted : (b c : Option Trace) (m : ℕ) (x : List ℕ) → ComesAfter b c → LeftSince c m x → LeftSince c (moment b) x ⊎ LeftSince b m x
+-- the same of a device that comes after another
+pub parted : (b c : Option Trace) (m : ℕ) (x : List ℕ) → ComesAfter b c → LeftSince c m x → LeftSince c (moment b) x ⊎ LeftSince b m x
 parted None None m x later left = absurd left.image
 parted None (Some u) m x later left = absurd later
 parted (Some t) None m x later left = absurd later

@@ -1,5 +1,5 @@
 -- What the calls of a device say and do.
-use Rattle.std.specs.Prelude.{◌≡◌, ◌⊎◌, ℕ, ◌+◌, ◌-◌, ◌^◌, ◌<◌, ◌≤◌, min, List, length, take, drop, Option, Result, MatchResult, IfSome, OnOk, OnErr}
+use Rattle.std.specs.Prelude.{◌≡◌, ◌⊎◌, ℕ, ◌+◌, ◌-◌, ◌^◌, ◌<◌, ◌≤◌, min, List, length, take, drop, Option, Result, MatchResult, IfSome, OnOk, OnErr, IsErrOf}
 use Rattle.disk_model.specs.Traces.{Event, Idle, Trace, seen, noted}
 
 -- one more, or the same at the end of the type
@@ -10,21 +10,34 @@ next_count n = min (n + 1) (2 ^ 64 - 1)
 abbrev pub sum_of_counts : ℕ → ℕ → ℕ
 sum_of_counts m n = min (m + n) (2 ^ 64 - 1)
 
--- a count of faults has risen, or stands at the end of its type
+-- one fault was counted
 abbrev pub Rose : ℕ → ℕ → Type 0
-Rose before now = (before < now) ⊎ (now ≡ 2 ^ 64 - 1)
+Rose before now = now ≡ next_count before
 
--- over one call the count of faults stays where the call answered Ok, and rises where it failed
+-- over one call, or over some of which none follows one that failed, no fault is counted where the answer is Ok, and one where
+-- it is an error
 pub record HasCause {T E : Type 0} (before now : ℕ) (result : Result T E) : Type 0 where
   pub later : before ≤ now
   pub passed : OnOk result (now ≡ before)
   pub failed : OnErr result (Rose before now)
+
+-- over some calls of which none follows one that failed, one fault is counted where the answer is the error of a failed call,
+-- and none where it is Ok or another error
+pub record CountsFault {T E : Type 0} (result : Result T E) (fault : E) (before now : ℕ) : Type 0 where
+  pub later : before ≤ now
+  pub passed : OnOk result (now ≡ before)
+  pub failed : IsErrOf result fault → Rose before now
+  pub refused : OnErr result ((IsErrOf result fault → ⊥) → now ≡ before)
 
 -- over one call the clock goes on by one, or stays at the end of its type, where the call fails
 pub record IsTimed {T E : Type 0} (before now : ℕ) (result : Result T E) : Type 0 where
   pub later : before ≤ now
   pub counted : now ≡ next_count before
   pub in_time : OnOk result (before < 2 ^ 64 - 1)
+
+-- where the device tells its calls, what a read gives of it has P
+abbrev pub Shows : Option Trace → (List ℕ → Type 0) → Type 0
+Shows o P = IfSome o (λ t. P (seen (Option.Some t)))
 
 -- where the device tells its calls, a read gives these bytes in all
 abbrev pub Sees : Option Trace → List ℕ → Type 0

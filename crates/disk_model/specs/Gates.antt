@@ -9,6 +9,15 @@ open_byte = 165
 abbrev pub IsOpen : ℕ → List ℕ → Type 0
 IsOpen gate c = slice_index c gate ≡ open_byte
 
+-- no layout was finished: there is one byte at most, or the gate of the layout is closed
+abbrev pub IsNew : List ℕ → Type 0
+IsNew c = (length c ≤ 1) ⊎ (slice_index c 0 ≢ open_byte)
+
+-- a layout was
+pub record IsBegun (c : List ℕ) : Type 0 where
+  pub long : 1 < length c
+  pub opened : IsOpen 0 c
+
 -- the gate is there, and closed
 pub record IsShut (gate : ℕ) (c : List ℕ) : Type 0 where
   pub there : gate < length c

@@ -25,6 +25,7 @@ pub trait Store {
         ensures faultless { IfOk result (λ dev. Self.Dev.fault_count dev ≡ 0) }
         ensures place { OnOk result (IsTrue (has_place self.new name.now)) }
         ensures places { (n : List ℕ) → IsTrue (has_place self.old n) → IsTrue (has_place self.new n) }
+        ensures other_places { (n : List ℕ) → n ≢ name.now → has_place self.new n ≡ has_place self.old n }
         ensures others { (n : List ℕ) → n ≢ name.now → device_at self.new n ≡ device_at self.old n }
         ensures unchanged { OnErr result ((n : List ℕ) → device_at self.new n ≡ device_at self.old n) }
         ensures cause { HasCause (fault_count self.old) (fault_count self.new) result };
@@ -34,6 +35,7 @@ pub trait Store {
         requires { IsTrue (has_place self.old name.now) }
         ensures told { device_at self.new name.now ≡ Self.Dev.trace dev }
         ensures places { (n : List ℕ) → IsTrue (has_place self.old n) → IsTrue (has_place self.new n) }
+        ensures other_places { (n : List ℕ) → n ≢ name.now → has_place self.new n ≡ has_place self.old n }
         ensures others { (n : List ℕ) → n ≢ name.now → device_at self.new n ≡ device_at self.old n }
         ensures counted { fault_count self.new
             ≡ sum_of_counts (fault_count self.old) (Self.Dev.fault_count dev) };

@@ -2,7 +2,7 @@
 //!
 //! A [`Disk`] holds bytes; a [`Store`] hands disks out by name. To a proof a device tells its calls as plain data, a
 //! trace: the bytes at first and the calls since. What a read gives, what a crash now may leave, and what a crash at
-//! any moment since some call might have left, are defined from the trace alone. IsBetween two syncs each written range
+//! any moment since some call might have left, are defined from the trace alone. Between two syncs each written range
 //! and all past the old end may hold any bytes after a crash, and the length is any between; after a sync that
 //! answered Ok a crash leaves exactly what a read gives. That a real disk keeps to this is a premise, and no proof.
 //!
@@ -23,6 +23,7 @@ mod law;
 mod memory_disk;
 mod memory_log;
 mod memory_store;
+mod reading;
 
 pub use device::Disk;
 pub use device_store::Store;
@@ -35,3 +36,4 @@ pub use law::{
 };
 pub use memory_disk::{MemDisk, Pick};
 pub use memory_store::MemStore;
+pub use reading::{is_new, read_part};

@@ -5,7 +5,7 @@ ghost use Rattle.trend_num.specs.Ranges.{InRange};
 ghost use Rattle.disk_model.specs.Traces.{seen, written};
 ghost use Rattle.disk_model.specs.Images.{Now, FromOld, IsSettled};
 ghost use Rattle.disk_model.specs.Moments.{During};
-ghost use Rattle.disk_model.specs.Calls.{HasCause, Rose, Sees};
+ghost use Rattle.disk_model.specs.Calls.{CountsFault, HasCause, Sees};
 ghost use Rattle.disk_model.specs.Gates.{IsGuarded, HasGatesOf, IsClosing, open_byte};
 ghost use Rattle.event_queue.specs.declared.failure.LaneNo.TheVariants.{LaneFull, DeviceFault as Fault};
 ghost use Rattle.event_queue.specs.Slots.{gate_of, place_of, batch_bytes};
@@ -59,9 +59,7 @@ impl Lane {
         ensures room_left { OnOk result (Now (D.trace dev.new) (HasRoom self.new.slots self.new.used)) }
         ensures clock { OnOk result (D.ticks dev.new ≡ D.ticks dev.old + 4) }
         ensures later { D.ticks dev.old ≤ D.ticks dev.new }
-        ensures faultless { OnOk result (D.fault_count dev.new ≡ D.fault_count dev.old) }
-        ensures faults { D.fault_count dev.old ≤ D.fault_count dev.new }
-        ensures device_fault { IsErrOf result Fault → Rose (D.fault_count dev.old) (D.fault_count dev.new) }
+        ensures cause { CountsFault result Fault (D.fault_count dev.old) (D.fault_count dev.new) }
     {
         if self.used == self.slots {
             return Err(LaneNo::LaneFull);

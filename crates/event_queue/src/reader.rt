@@ -2,7 +2,7 @@
 ghost use Rattle.std.specs.Prelude.{◌≡◌, ◌≢◌, ◌↔◌, ◌+◌, ◌*◌, ◌^◌, ◌<◌, ◌≤◌, ℕ, List, length, take, drop};
 ghost use Rattle.std.specs.Prelude.{slice_index, vec_len, Option, IsTrue, IfOk, IfSome, OnOk, OnErr, IsErrOf};
 ghost use Rattle.disk_model.specs.Traces.{seen};
-ghost use Rattle.disk_model.specs.Calls.{HasCause, Reaches, Reads, Rose};
+ghost use Rattle.disk_model.specs.Calls.{CountsFault, HasCause, Reaches, Reads};
 ghost use Rattle.archive_file.specs.declared.failure.ScanNo.TheVariants.{DeviceFault, Damaged, WantOfMemory};
 ghost use Rattle.disk_model.specs.Gates.{open_byte};
 ghost use Rattle.event_queue.specs.Slots.{place_of, lane_end};
@@ -50,10 +50,9 @@ pub fn scan<D: Disk>(alloc: Global, dev: &mut D, slots: u32, taken: u64) -> Resu
     ensures within { IfOk result (IsWithin slots taken slots) }
     ensures damaged { (a : ℕ) (byte : Option ℕ) → IsErrOf result (Damaged a byte) →
         IfSome (D.trace dev.old) (λ t. IsLaneDamage slots (seen (Option.Some t)) taken a byte) }
-    ensures device_fault { IsErrOf result DeviceFault → Rose (D.fault_count dev.old) (D.fault_count dev.new) }
+    ensures cause { CountsFault result DeviceFault (D.fault_count dev.old) (D.fault_count dev.new) }
     ensures same { D.trace dev.new ≡ D.trace dev.old }
     ensures untimed { D.ticks dev.new ≡ D.ticks dev.old }
-    ensures faults { D.fault_count dev.old ≤ D.fault_count dev.new }
 {
     let gates = read_bytes(alloc, dev, FIRST_GATE, slots as usize)?;
     let used = used_of(&gates);

@@ -58,7 +58,7 @@ pub struct PageTotals {
 }
 
 impl Content {
-    /// An empty content, with memory for so many points. No other call takes memory.
+    /// An empty content, with memory for so many points: no call on it takes more.
     pub fn new(alloc: Global, points: u32) -> Result<Content, WantOfMemory>
         ensures empty { IfOk result (λ content. content.records ≡ []) }
         ensures spare { IfOk result (λ content. content.spare ≡ points) }

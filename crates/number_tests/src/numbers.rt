@@ -1,129 +1,131 @@
 // Numbers, names and comparisons at their edges.
 ghost use Rattle.std.specs.Prelude.{◌≡◌, ◌<◌};
 
-use trend_num::{
-    Frac, MAX_T, MAX_V, Point, Steps, Tuning, deviates, in_range, line_at, name_from, numeral,
-    round_half_up, slope_cmp, tuning_ok,
-};
 use std::cmp::Ordering;
 use std::marker::Brand;
 use std::process::Abort;
+use std::str::SplitWhitespace;
 use std::sync::ledger::{Blank, Ledger};
+use std::test::Fail;
+use trend_num::{Point, Steps, deviates, in_range, line_at, name_from, numeral, slope_cmp};
 
-fn at(t: u64, v: i64) -> Point
-    ensures { result ≡ record { t = t; v = v } }
-{
+// A sign and 1 to 20 digits are a numeral.
+const NUMERALS: &str = "\
+0 => Some(0)
+-0 => Some(0)
+-17 => Some(-17)
+99999999999999999999 => Some(99999999999999999999)
+000000000000000000000 => None
++1 => None
+--1 => None
+ => None";
+
+// 1 to 64 letters, digits, dots, underscores and hyphens are a name.
+const NAMES: &str = "\
+FIC101.PV => true
+x_-.9Z => true
+0123456789012345678901234567890123456789012345678901234567890123 => true
+0123456789012345678901234567890123456789012345678901234567890123x => false
+two words => false
+ => false";
+
+// A time and a value, and whether they are in range.
+const POINTS: &str = "\
+253402300799999 1000000000000000 => true
+253402300799999 -1000000000000000 => true
+253402300800000 0 => false
+0 1000000000000001 => false
+0 -1000000000000001 => false";
+
+// The ends of a line and a time, and what the line reads there.
+const LINES: &str = "\
+0 0 2 -1 1 => -1/2
+0 0 2 1 2 => 2/2
+10 5 20 25 15 => 150/10";
+
+// The time that stands next in a row.
+fn time(rt: &impl Abort, fields: &mut SplitWhitespace) -> u64 {
+    let field = fields.next().expect(rt, "a field");
+    field.parse::<u64>().expect(rt, "a time")
+}
+
+// The time and the value that stand next in a row.
+fn point(rt: &impl Abort, fields: &mut SplitWhitespace) -> Point {
+    let t = time(rt, fields);
+    let field = fields.next().expect(rt, "a field");
+    let v = field.parse::<i64>().expect(rt, "a value");
     Point { t, v }
 }
 
 #[test]
-fn ranges_end_at_their_limits(rt: HostRuntime) {
-    let points = [
-        (at(0, 0), true),
-        (at(MAX_T, MAX_V), true),
-        (at(MAX_T, -MAX_V), true),
-        (at(253_402_300_800_000, 0), false),
-        (at(0, 1_000_000_000_000_001), false),
-        (at(0, -1_000_000_000_000_001), false),
-    ];
-    for (p, want) in points {
-        assert_eq!(rt; in_range(p), want, "{p:?}");
+fn numerals_have_a_sign_and_twenty_digits(rt: HostRuntime) -> Result<(), Fail> {
+    for row in NUMERALS.lines() {
+        let (text, want) = row.split_once(" => ").ok_or("row")?;
+        let told = format!(in rt.alloc(); "{:?}", numeral(text.as_bytes()))?;
+        assert_eq!(rt; told.as_str(), want, "{text}");
     }
-    let most = Tuning {
-        exc_dev: 1_000_000_000_000_000,
-        exc_max: MAX_T,
-        comp_dev: 1_000_000_000_000_000,
-        comp_min: MAX_T,
-        comp_max: MAX_T,
-    };
-    let over = Tuning {
-        comp_min: 253_402_300_800_000,
-        ..most
-    };
-    assert!(rt; tuning_ok(&most));
-    assert!(rt; !tuning_ok(&over));
+    Ok(())
 }
 
 #[test]
-fn names_are_short_and_plain(rt: HostRuntime) {
-    let rows: [(&[u8], bool); 6] = [
-        (b"FIC101.PV", true),
-        (b"a", true),
-        (b"x_-.9Z", true),
-        (b"", false),
-        (b"two words", false),
-        (
-            b"0123456789012345678901234567890123456789012345678901234567890123x",
-            false,
-        ),
-    ];
-    for (bytes, want) in rows {
-        match name_from(bytes) {
-            Some(name) => assert!(rt; want && name.bytes() == bytes),
-            None => assert!(rt; !want),
-        }
+fn names_are_short_and_plain(rt: HostRuntime) -> Result<(), Fail> {
+    for row in NAMES.lines() {
+        let (text, want) = row.split_once(" => ").ok_or("row")?;
+        let is_name = match name_from(text.as_bytes()) {
+            Some(name) => name.bytes() == text.as_bytes(),
+            None => false,
+        };
+        assert_eq!(rt; is_name, want == "true", "{text}");
     }
+    Ok(())
 }
 
 #[test]
-fn numerals_have_a_sign_and_twenty_digits(rt: HostRuntime) {
-    let rows: [(&[u8], Option<i128>); 9] = [
-        (b"0", Some(0)),
-        (b"-0", Some(0)),
-        (b"-17", Some(-17)),
-        (b"00000000000000000042", Some(42)),
-        (b"99999999999999999999", Some(99_999_999_999_999_999_999)),
-        (b"000000000000000000000", None),
-        (b"+1", None),
-        (b"--1", None),
-        (b"", None),
-    ];
-    for (bytes, want) in rows {
-        assert_eq!(rt; numeral(bytes), want);
+fn ranges_end_at_their_limits(rt: HostRuntime) -> Result<(), Fail> {
+    for row in POINTS.lines() {
+        let (given, want) = row.split_once(" => ").ok_or("row")?;
+        let p = point(&rt, &mut given.split_whitespace());
+        assert_eq!(rt; in_range(p), want == "true", "{given}");
     }
+    Ok(())
 }
 
 #[test]
-fn a_line_reads_between_its_ends(rt: HostRuntime) {
-    let down = line_at(at(0, 0), at(2, -1), 1);
-    assert_eq!(rt; down, Frac { num: -1, den: 2 });
-    let up = line_at(at(10, 5), at(20, 25), 15);
-    assert_eq!(rt; up, Frac { num: 150, den: 10 });
-    for (num, den, want) in [
-        (-1i128, 2u64, 0i128),
-        (1, 2, 1),
-        (-3, 2, -1),
-        (60, 10, 6),
-        (7, 3, 2),
-    ] {
-        assert_eq!(rt; round_half_up(num, den), want, "{num} over {den}");
+fn a_line_reads_between_its_ends(rt: HostRuntime) -> Result<(), Fail> {
+    for row in LINES.lines() {
+        let (given, want) = row.split_once(" => ").ok_or("row")?;
+        let mut fields = given.split_whitespace();
+        let a = point(&rt, &mut fields);
+        let b = point(&rt, &mut fields);
+        let t = time(&rt, &mut fields);
+        assert!(rt; in_range(a));
+        assert!(rt; in_range(b));
+        assert!(rt; a.t <= t && t <= b.t && a.t < b.t);
+        let f = line_at(a, b, t);
+        let told = format!(in rt.alloc(); "{}/{}", f.num, f.den)?;
+        assert_eq!(rt; told.as_str(), want, "{given}");
     }
+    Ok(())
 }
 
-/// Compares, and counts on the ledger of the blank.
+// Compares, and counts on the ledger of the blank.
 fn compared<L: Ledger>(rt: &impl Abort, blank: Blank)
     requires name { blank.name ≡ L.name }
     requires parts { blank.parts ≡ L.parts }
     requires some { 0 < L.parts }
 {
     let mut steps = Steps::<L>::new(blank);
-    let a = at(0, 0);
+    let a = Point { t: 0, v: 0 };
+    let b = Point { t: 20, v: 0 };
+    let p = Point { t: 10, v: 1 };
+    let q = Point { t: 10, v: 2 };
     // From (0,0) to (20,0) the point (10,1) is exactly 1 above the line.
-    assert!(rt; !deviates(a, at(20, 0), at(10, 1), 1, &mut steps));
-    assert!(rt; deviates(a, at(20, 0), at(10, 2), 1, &mut steps));
-    assert!(rt; deviates(a, at(2, 3), at(1, 0), 1, &mut steps));
-    assert_eq!(rt;
-        slope_cmp(a, at(1, 1), 0, at(2, 2), 0, &mut steps),
-        Ordering::Equal
-    );
-    assert_eq!(rt;
-        slope_cmp(a, at(1, 1), 1, at(2, 2), 1, &mut steps),
-        Ordering::Greater
-    );
-    assert_eq!(rt;
-        slope_cmp(a, at(3, 1), 0, at(2, 1), 0, &mut steps),
-        Ordering::Less
-    );
+    assert!(rt; !deviates(a, b, p, 1, &mut steps));
+    assert!(rt; deviates(a, b, q, 1, &mut steps));
+    // Raised by 1, the slopes are 2/10 and 1/20; as they are, 1/10 and 2/10.
+    assert_eq!(rt; slope_cmp(a, p, 1, b, 1, &mut steps), Ordering::Greater);
+    assert_eq!(rt; slope_cmp(a, p, 0, q, 0, &mut steps), Ordering::Less);
+    assert_eq!(rt; slope_cmp(a, p, 1, q, 0, &mut steps), Ordering::Equal);
 }
 
 #[test]

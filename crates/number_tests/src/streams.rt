@@ -3,6 +3,7 @@
 use byte_io::*;
 use std::alloc::{AllocError, Global};
 use std::io::{Read, Write};
+use std::process::Abort;
 use std::test::Fail;
 use std::{fs, io};
 
@@ -59,95 +60,60 @@ fn failing(alloc: Global, call: u64) -> Result<Vec<u64>, AllocError> {
     Ok(vec![in alloc; call]?)
 }
 
+// How many bytes there are, the call that fails, and the limit; then what is told, the calls, and the faults.
+const READS: &str = "\
+0 9 0 => Ok(0) 1 0
+0 0 0 => Err(ReadFault) 1 1
+5 9 6 => Ok(5) 2 0
+5 9 5 => Ok(5) 2 0
+5 9 4 => Err(TooLong { limit: 4 }) 1 0
+5 9 18446744073709551615 => Ok(5) 2 0
+5 1 5 => Err(ReadFault) 2 1
+5 2 5 => Ok(5) 2 0
+70000 9 70000 => Ok(70000) 3 0
+70000 2 70000 => Err(ReadFault) 3 1
+70000 9 65536 => Err(TooLong { limit: 65536 }) 2 0
+70000 9 65535 => Err(TooLong { limit: 65535 }) 1 0";
+
+// The name of a file, the call that fails, and the limit; then what is told, the calls, and the faults.
+const FILES: &str = "\
+a.csv 9 5 => Ok(5) 2 0
+a.csv 9 4 => Err(TooLong { limit: 4 }) 1 0
+a.csv 1 5 => Err(ReadFault) 2 1
+b.csv 9 5 => Err(ReadFault) 1 1
+long 9 70000 => Ok(70000) 3 0
+long 2 70000 => Err(ReadFault) 3 1
+long 9 69999 => Err(TooLong { limit: 69999 }) 2 0";
+
+// The call that fails, and what is written of "ab", "cd" and "ef" by then; the calls, and the faults.
+const WRITES: &str = "\
+0 =>  1 1
+1 => ab 2 1
+2 => abcd 3 1
+3 => abcdef 3 0";
+
+// The first field of a row, and the two numbers behind it.
+fn fields<'a>(rt: &impl Abort, given: &'a str) -> (&'a str, u64, u64) {
+    let (first, rest) = given.split_once(' ').expect(rt, "a field");
+    let (call, limit) = rest.split_once(' ').expect(rt, "two numbers");
+    (first, number(rt, call), number(rt, limit))
+}
+
+fn number(rt: &impl Abort, field: &str) -> u64 {
+    field.parse::<u64>().expect(rt, "a number")
+}
+
 #[test]
 fn reads_to_the_end_or_says_why_not(rt: HostRuntime) -> Result<(), Fail> {
     let alloc = rt.alloc();
-    // The bytes, the call that fails, the limit, the number of bytes or the refusal, the calls and
-    // the faults.
-    let cases: [(&[u8], u64, u64, Result<usize, ReadNo>, u64, u64); 10] = [
-        (b"", 9, 0, Ok(0), 1, 0),
-        (b"", 0, 0, Err(ReadNo::ReadFault), 1, 1),
-        (b"hello", 9, 6, Ok(5), 2, 0),
-        (b"hello", 9, 5, Ok(5), 2, 0),
-        (b"hello", 9, 4, Err(ReadNo::TooLong { limit: 4 }), 1, 0),
-        (b"hello", 9, 0, Err(ReadNo::TooLong { limit: 0 }), 1, 0),
-        (b"hello", 9, u64::MAX, Ok(5), 2, 0),
-        (b"hello", 0, 5, Err(ReadNo::ReadFault), 1, 1),
-        (b"hello", 1, 5, Err(ReadNo::ReadFault), 2, 1),
-        (b"hello", 2, 5, Ok(5), 2, 0),
-    ];
-    for (bytes, call, limit, want, calls, faults) in cases {
-        let mut source = MemSource::new(bytes.to_vec(alloc)?, failing(alloc, call)?);
-        match (read_all(alloc, &mut source, limit), want) {
-            (Ok(all), Ok(len)) => {
-                assert_eq!(rt; all.as_slice(), bytes, "at limit {limit}");
-                assert_eq!(rt; all.len(), len);
-            }
-            (got, want) => assert_eq!(rt; got.map(|all| all.len()), want, "at limit {limit}"),
-        }
-        assert_eq!(rt; source.calls(), calls, "at limit {limit}");
-        assert_eq!(rt; source.faults(), faults, "at limit {limit}");
-    }
-    Ok(())
-}
-
-#[test]
-fn reads_more_than_one_piece(rt: HostRuntime) -> Result<(), Fail> {
-    let alloc = rt.alloc();
-    // 70,000 bytes come as 65,536, then 4,464, then the end.
-    let cases: [(u64, u64, Result<usize, ReadNo>, u64); 7] = [
-        (9, 70_000, Ok(70_000), 3),
-        (0, 70_000, Err(ReadNo::ReadFault), 1),
-        (1, 70_000, Err(ReadNo::ReadFault), 2),
-        (2, 70_000, Err(ReadNo::ReadFault), 3),
-        (9, 69_999, Err(ReadNo::TooLong { limit: 69_999 }), 2),
-        (9, 65_536, Err(ReadNo::TooLong { limit: 65_536 }), 2),
-        (9, 65_535, Err(ReadNo::TooLong { limit: 65_535 }), 1),
-    ];
-    for (call, limit, want, calls) in cases {
-        let mut source = MemSource::new(vec![in alloc; 7; 70_000]?, failing(alloc, call)?);
-        let got = read_all(alloc, &mut source, limit);
-        assert_eq!(rt; got.map(|all| all.len()), want, "at limit {limit}");
-        assert_eq!(rt; source.calls(), calls, "at limit {limit}");
-    }
-    Ok(())
-}
-
-#[test]
-fn writes_all_or_says_that_a_write_failed(rt: HostRuntime) -> Result<(), Fail> {
-    let alloc = rt.alloc();
-    // The call that fails, and what is written of "ab", "cd" and "ef" by then.
-    let cases: [(u64, &[u8], u64); 4] = [
-        (0, b"", 1),
-        (1, b"ab", 2),
-        (2, b"abcd", 3),
-        (3, b"abcdef", 3),
-    ];
-    for (call, want, calls) in cases {
-        let mut sink = MemSink::new(alloc, failing(alloc, call)?);
-        let result = write_all(&mut sink, b"ab")
-            .and_then(|_| write_all(&mut sink, b"cd"))
-            .and_then(|_| write_all(&mut sink, b"ef"));
-        assert_eq!(rt; result.is_ok(), call == 3, "at call {call}");
-        assert_eq!(rt; sink.bytes(), want, "at call {call}");
-        assert_eq!(rt; sink.calls(), calls, "at call {call}");
-        assert_eq!(rt; sink.faults(), u64::from(call != 3), "at call {call}");
-    }
-    Ok(())
-}
-
-#[test]
-fn writes_large_pieces(rt: HostRuntime) -> Result<(), Fail> {
-    let alloc = rt.alloc();
-    for len in [4_097, 65_537, 1_000_000] {
-        let piece = vec![in alloc; 7; len]?;
-        let mut sink = MemSink::new(alloc, Vec::new(alloc));
-        assert_eq!(rt;
-            write_all(&mut sink, piece.as_slice()),
-            Ok(()),
-            "of {len} bytes"
-        );
-        assert_eq!(rt; sink.bytes(), piece.as_slice(), "of {len} bytes");
+    for row in READS.lines() {
+        let (given, want) = row.split_once(" => ").ok_or("row")?;
+        let (len, call, limit) = fields(&rt, given);
+        let bytes = vec![in alloc; 7; number(&rt, len) as usize]?;
+        let mut source = MemSource::new(bytes, failing(alloc, call)?);
+        let got = read_all(alloc, &mut source, limit).map(|all| all.len());
+        let told = format!(in alloc; "{got:?} {} {}", source.calls(), source.faults())?;
+        assert_eq!(rt; told.as_str(), want, "{given}");
     }
     Ok(())
 }
@@ -157,7 +123,7 @@ fn three_files(alloc: Global, call: u64) -> Result<MemFiles, AllocError> {
     let files = vec![in alloc;
         (String::from_str(alloc, "a.csv")?, b"hello".to_vec(alloc)?),
         (String::from_str(alloc, "long")?, vec![in alloc; 7; 70_000]?),
-        (String::from_str(alloc, "a.csv")?, b"again".to_vec(alloc)?),
+        (String::from_str(alloc, "a.csv")?, b"another".to_vec(alloc)?),
     ]?;
     Ok(MemFiles::new(files, failing(alloc, call)?))
 }
@@ -165,35 +131,35 @@ fn three_files(alloc: Global, call: u64) -> Result<MemFiles, AllocError> {
 #[test]
 fn reads_a_file_or_says_why_not(rt: HostRuntime) -> Result<(), Fail> {
     let alloc = rt.alloc();
-    // The name, the call that fails, the limit, the number of bytes or the refusal, the calls and the faults.
-    let cases: [(&str, u64, u64, Result<usize, ReadNo>, u64, u64); 10] = [
-        ("a.csv", 9, 6, Ok(5), 2, 0),
-        ("a.csv", 9, 5, Ok(5), 2, 0),
-        ("a.csv", 9, 4, Err(ReadNo::TooLong { limit: 4 }), 1, 0),
-        ("a.csv", 9, 0, Err(ReadNo::TooLong { limit: 0 }), 1, 0),
-        ("a.csv", 0, 5, Err(ReadNo::ReadFault), 1, 1),
-        ("a.csv", 1, 5, Err(ReadNo::ReadFault), 2, 1),
-        ("b.csv", 9, 5, Err(ReadNo::ReadFault), 1, 1),
-        ("long", 9, 70_000, Ok(70_000), 3, 0),
-        ("long", 2, 70_000, Err(ReadNo::ReadFault), 3, 1),
-        (
-            "long",
-            9,
-            69_999,
-            Err(ReadNo::TooLong { limit: 69_999 }),
-            2,
-            0,
-        ),
-    ];
-    for (name, call, limit, want, calls, faults) in cases {
+    for row in FILES.lines() {
+        let (given, want) = row.split_once(" => ").ok_or("row")?;
+        let (name, call, limit) = fields(&rt, given);
         let mut files = three_files(alloc, call)?;
         let got = read_file(alloc, &mut files, name, limit).map(|all| all.len());
-        assert_eq!(rt; got, want, "{name} at limit {limit}");
-        assert_eq!(rt; files.calls(), calls, "{name} at limit {limit}");
-        assert_eq!(rt; files.faults(), faults, "{name} at limit {limit}");
+        let told = format!(in alloc; "{got:?} {} {}", files.calls(), files.faults())?;
+        assert_eq!(rt; told.as_str(), want, "{given}");
     }
-    let first = read_file(alloc, &mut three_files(alloc, 9)?, "a.csv", 5).map_err(|_| "refused")?;
-    assert_eq!(rt; first.as_slice(), b"hello".as_slice());
+    Ok(())
+}
+
+#[test]
+fn writes_all_or_says_that_a_write_failed(rt: HostRuntime) -> Result<(), Fail> {
+    let alloc = rt.alloc();
+    for row in WRITES.lines() {
+        let (call, want) = row.split_once(" => ").ok_or("row")?;
+        let mut sink = MemSink::new(alloc, failing(alloc, number(&rt, call))?);
+        let result = write_all(&mut sink, b"ab")
+            .and_then(|_| write_all(&mut sink, b"cd"))
+            .and_then(|_| write_all(&mut sink, b"ef"));
+        assert_eq!(rt; result.is_ok(), sink.faults() == 0, "{call}");
+        let bytes = str::from_utf8(sink.bytes()).map_err(|_| "bytes")?;
+        let told = format!(in alloc; "{bytes} {} {}", sink.calls(), sink.faults())?;
+        assert_eq!(rt; told.as_str(), want, "{call}");
+    }
+    let long = vec![in alloc; 7; 1_000_000]?;
+    let mut sink = MemSink::new(alloc, Vec::new(alloc));
+    assert_eq!(rt; write_all(&mut sink, long.as_slice()), Ok(()));
+    assert_eq!(rt; sink.bytes(), long.as_slice());
     Ok(())
 }
 

@@ -64,7 +64,7 @@ impl Model for Pool {
 }
 
 impl Pool {
-    /// A pool of so many frames, all spare. No other call takes memory.
+    /// A pool of so many frames, all spare: no call on it takes more memory.
     pub fn reserve(alloc: Global, frames: u32) -> Result<Pool, WantOfMemory>
         ensures value { IfOk result (λ pool. pool ≡ replicate frames None) }
         ensures spare { IfOk result (λ pool. spare_of pool ≡ frames) }

@@ -1,14 +1,18 @@
--- What is printed of a text or of a refusal, and what words ask for.
-use Rattle.std.proofs.Common.{◌≡◌, inl, inr, ℕ, List, None, Some, Result, Ok, Err, IfOk, IfErr, OnOk, OnErr, ◌≢◌, String, Global, string_bytes, refl, sym, subst, ap, ◌∙◌}
+-- What is printed of a text or of a refusal, and what a status tells.
+use Rattle.std.proofs.Common.{◌≡◌, inl, inr, ℕ, ◌^◌, ◌<◌, List, None, Some, Result, Ok, Err, IfOk, IfErr, OnOk, OnErr, ◌≢◌, String, Global, string_bytes, refl, sym, subst, ap, ◌∙◌}
 use Rattle.byte_io.specs.Outside.{Outside, CountsNoFault, IsWritten, IsCutShort}
 use Rattle.plant_files.specs.Asked.{ToldFiles}
 use Rattle.plant_files.specs.Reading.{faults_after, faults_told}
 use Rattle.store_commands.specs.Commands.{Devices, IsCheckRefusal, IsTrendRefusal, OfBase, OfGroup, OfPlan, OfReader, OfTag, OfMemory}
+use Rattle.disk_model.specs.Calls.{Rose}
+use Rattle.tag_store.specs.Refusals.{CountsStore}
 use Rattle.trend_num.specs.declared.tuning.Tuning.{Tuning}
+use Rattle.plant_status.specs.declared.unit.Unit.{Unit}
+use Rattle.plant_status.specs.declared.unit.Unit.TheVariants.{Tag, Group}
 use Rattle.plant_status.specs.declared.status.Status.{Status}
 use Rattle.plant_status.specs.declared.status.Status.TheVariants.{Done, BadWords, BadText, BadRow, ReadFault, WriteFault, DeviceFault, Damaged, OtherTag, Limit, Mismatch, Halted, WantOfMemory, NotYet}
-use Rattle.plant_run.specs.CommandLine.{Form, Pack, Check, Trend, Unknown, check_base, trend_files, pack_tuning, chosen_form, form_of}
-use Rattle.plant_run.specs.Run.{World, EndsFor, KeepsFor, IsPrintedSo, IsTold, PrintsSo}
+use Rattle.plant_run.specs.CommandLine.{Form, Pack, Check, Trend, Unknown}
+use Rattle.plant_run.specs.Run.{World, CountsFor, EndsFor, KeepsFor, IsPrintedSo, IsTold, PrintsSo, WhereDone}
 
 module _ (IsText : List ℕ → Type 0) (IsRefusal : Status → Type 0) (before now : Outside) where
   -- a refusal whose line was printed
@@ -59,25 +63,66 @@ faults_so before now (Ok text) status old new faults (inl done) told = faults �
 faults_so before now (Ok text) status old new faults (inr cut) told = faults ∙ ap (λ s. faults_told s old) (sym cut.0)
 faults_so before now (Err why) status old new faults printed told = faults ∙ ap (λ s. faults_told s old) (sym told.0)
 
--- ---- what words ask for
+-- a fact of an answer that is a text is one of a run that did all but the printing
+pub done_so : {P : Type 0} (IsRefusal : Status → Type 0) (before now : Outside) (answer : Result (String Global) Status) (status : Status)
+    → OnOk answer P → IfErr answer IsRefusal → (IsRefusal Done → ⊥) → (IsRefusal WriteFault → ⊥)
+    → IfOk answer (λ text. IsPrintedSo (string_bytes text) before now status)
+    → IfErr answer (λ why. (status ≡ why) × IsTold before now why) → WhereDone status P
+done_so {P} IsRefusal before now (Ok text) status fact refusal no_done no_fault (inl done) told =
+    subst (λ s. WhereDone s P) (sym done.0) fact
+done_so {P} IsRefusal before now (Ok text) status fact refusal no_done no_fault (inr cut) told =
+    subst (λ s. WhereDone s P) (sym cut.0) fact
+done_so {P} IsRefusal before now (Err why) status fact refusal no_done no_fault printed told =
+    subst (λ s. WhereDone s P) (sym told.0) (of_refusal why refusal)
+  where
+    of_refusal : (s : Status) → IsRefusal s → WhereDone s P
+    of_refusal Done is = absurd (no_done is)
+    of_refusal WriteFault is = absurd (no_fault is)
+    of_refusal BadWords is = tt
+    of_refusal (BadText file rule place at) is = tt
+    of_refusal (BadRow file row reason) is = tt
+    of_refusal (ReadFault file) is = tt
+    of_refusal (DeviceFault unit) is = tt
+    of_refusal (Damaged unit at byte) is = tt
+    of_refusal (OtherTag tag found wanted) is = tt
+    of_refusal (Limit what number) is = tt
+    of_refusal (Mismatch place kept told_one) is = tt
+    of_refusal (Halted worker) is = tt
+    of_refusal WantOfMemory is = tt
+    of_refusal NotYet is = tt
 
-pub form_check : (words : List (List ℕ)) (base : List ℕ) → check_base words ≡ Some base → form_of words ≡ Check base
-form_check words base is = ap (λ b. chosen_form b (trend_files words) (pack_tuning words)) is
+-- the faults of the store that an answer tells are those that its status tells, once it was printed
+pub counts_so : (IsRefusal : Status → Type 0) (before now : Outside) (answer : Result (String Global) Status) (status : Status)
+    (old new : ℕ) → CountsStore answer old new → IfErr answer IsRefusal
+    → ((unit : Unit) → IsRefusal (DeviceFault unit) → Rose old new)
+    → IfOk answer (λ text. IsPrintedSo (string_bytes text) before now status)
+    → IfErr answer (λ why. (status ≡ why) × IsTold before now why) → CountsFor status old new
+counts_so IsRefusal before now (Ok text) status old new counts refusal rose (inl done) told =
+    subst (λ s. CountsFor s old new) (sym done.0) counts
+counts_so IsRefusal before now (Ok text) status old new counts refusal rose (inr cut) told =
+    subst (λ s. CountsFor s old new) (sym cut.0) counts
+counts_so IsRefusal before now (Err why) status old new counts refusal rose printed told =
+    subst (λ s. CountsFor s old new) (sym told.0) (of_refusal why refusal counts)
+  where
+    same : (s : Status) → ((i : ℕ) → s ≢ DeviceFault (Tag i)) → CountsStore {T = String Global} (Err s) old new → new ≡ old
+    same s other (inl is) = is
+    same s other (inr fault) = absurd (other fault.0 fault.1)
 
-pub form_trend : (words : List (List ℕ)) (base plan : List ℕ) → check_base words ≡ None → trend_files words ≡ Some (base, plan)
-    → form_of words ≡ Trend base plan
-form_trend words base plan none is = ap (λ b. chosen_form b (trend_files words) (pack_tuning words)) none
-    ∙ ap (λ n. chosen_form None n (pack_tuning words)) is
-
-pub form_pack : (words : List (List ℕ)) (tuning : Tuning) → check_base words ≡ None → trend_files words ≡ None
-    → pack_tuning words ≡ Some tuning → form_of words ≡ Pack tuning
-form_pack words tuning none no_trend is = ap (λ b. chosen_form b (trend_files words) (pack_tuning words)) none
-    ∙ ap (λ n. chosen_form None n (pack_tuning words)) no_trend ∙ ap (λ t. chosen_form None None t) is
-
-pub form_unknown : (words : List (List ℕ)) → check_base words ≡ None → trend_files words ≡ None → pack_tuning words ≡ None
-    → form_of words ≡ Unknown
-form_unknown words none no_trend is = ap (λ b. chosen_form b (trend_files words) (pack_tuning words)) none
-    ∙ ap (λ n. chosen_form None n (pack_tuning words)) no_trend ∙ ap (λ t. chosen_form None None t) is
+    of_refusal : (s : Status) → IsRefusal s → CountsStore {T = String Global} (Err s) old new → CountsFor s old new
+    of_refusal (DeviceFault unit) is counts = rose unit is
+    of_refusal Done is counts = same Done (λ i e. cc) counts
+    of_refusal WriteFault is counts = same WriteFault (λ i e. cc) counts
+    of_refusal BadWords is counts = same BadWords (λ i e. cc) counts
+    of_refusal (BadText file rule place at) is counts = same (BadText file rule place at) (λ i e. cc) counts
+    of_refusal (BadRow file row reason) is counts = same (BadRow file row reason) (λ i e. cc) counts
+    of_refusal (ReadFault file) is counts = same (ReadFault file) (λ i e. cc) counts
+    of_refusal (Damaged unit at byte) is counts = same (Damaged unit at byte) (λ i e. cc) counts
+    of_refusal (OtherTag tag found wanted) is counts = same (OtherTag tag found wanted) (λ i e. cc) counts
+    of_refusal (Limit what number) is counts = same (Limit what number) (λ i e. cc) counts
+    of_refusal (Mismatch place kept told_one) is counts = same (Mismatch place kept told_one) (λ i e. cc) counts
+    of_refusal (Halted worker) is counts = same (Halted worker) (λ i e. cc) counts
+    of_refusal WantOfMemory is counts = same WantOfMemory (λ i e. cc) counts
+    of_refusal NotYet is counts = same NotYet (λ i e. cc) counts
 
 -- ---- a refusal is not Done, and no fault of the output
 
@@ -98,6 +143,9 @@ module _ (name plan_name : List ℕ) (told : ToldFiles) (old new : Devices) (bef
   fault_is_not_memory : WriteFault ≢ WantOfMemory
   fault_is_not_memory same = cc
 
+  device_is_not_memory : (unit : Unit) → DeviceFault unit ≢ WantOfMemory
+  device_is_not_memory unit same = cc
+
   pub trend_not_done : IsTrendRefusal name plan_name told old new before now Done → ⊥
   trend_not_done (OfBase refused same) = refused
   trend_not_done (OfGroup base read some is same) = cc
@@ -114,15 +162,34 @@ module _ (name plan_name : List ℕ) (told : ToldFiles) (old new : Devices) (bef
   trend_no_fault (OfTag base plan lists read none planned asked refused) = refused
   trend_no_fault (OfMemory same) = cc
 
+  -- a device fault is told where one was counted
+  pub check_rose : before < 2 ^ 64 → (unit : Unit) → IsCheckRefusal name told old new before now (DeviceFault unit) → Rose before now
+  check_rose few unit (inl base) = absurd base.0
+  check_rose few (Tag i) (inr (inl tags)) = tags.2.cause few
+  check_rose few (Group i) (inr (inl tags)) = absurd tags.2
+  check_rose few unit (inr (inr memory)) = cc
+
+  pub trend_rose : before < 2 ^ 64 → (unit : Unit) → IsTrendRefusal name plan_name told old new before now (DeviceFault unit)
+      → Rose before now
+  trend_rose few unit (OfBase refused same) = absurd refused
+  trend_rose few unit (OfGroup base read some is same) = cc
+  trend_rose few unit (OfPlan base read none refused same) = absurd refused
+  trend_rose few unit (OfReader base plan read none planned refused same) = absurd (refused (device_is_not_memory unit)).first.refused
+  trend_rose few (Tag i) (OfTag base plan lists read none planned asked refused) = refused.cause few
+  trend_rose few (Group i) (OfTag base plan lists read none planned asked refused) = absurd refused
+  trend_rose few unit (OfMemory same) = cc
+
 -- ---- a run for whose words no memory was found
 
 pub memory_ends : (form : Form) (before now : World) → CountsNoFault before.input now.input
-    → IsTold before.output now.output WantOfMemory → now.file_faults ≡ before.file_faults → now.input ≡ before.input
-    → EndsFor form before now WantOfMemory
-memory_ends (Pack tuning) before now same told faults left = ((same, told), faults)
-memory_ends (Check base) before now same told faults left = ((inr (inr refl), told), faults, left)
-memory_ends (Trend base plan) before now same told faults left = ((OfMemory refl, told), faults, left)
-memory_ends Unknown before now same told faults left = (inr refl, told, faults, left)
+    → IsTold before.output now.output WantOfMemory → now.file_faults ≡ before.file_faults
+    → now.device_faults ≡ before.device_faults → now.input ≡ before.input → EndsFor form before now WantOfMemory
+memory_ends (Pack tuning) before now same told faults devices left = ((same, told), faults, devices)
+memory_ends (Check base) before now same told faults devices left =
+    ((inr (inr refl), told), record { durable = tt; file_faults = faults; device_faults = λ few. devices; input = left })
+memory_ends (Trend base plan) before now same told faults devices left =
+    ((OfMemory refl, told), record { durable = tt; file_faults = faults; device_faults = λ few. devices; input = left })
+memory_ends Unknown before now same told faults devices left = (inr refl, told, faults, devices, left)
 
 -- devices that are as they were are kept
 pub same_kept : (form : Form) (told : ToldFiles) (devices : Devices) → KeepsFor form told devices devices

@@ -1,5 +1,5 @@
 -- How a run of the program ends: what it has read and printed, and what became of the devices, in each status.
-use Rattle.std.specs.Prelude.{◌≡◌, ◌⊎◌, ℕ, List, None}
+use Rattle.std.specs.Prelude.{◌≡◌, ◌⊎◌, ℕ, ◌^◌, ◌<◌, List, None}
 use Rattle.trend_num.specs.declared.point.Point.{Point}
 use Rattle.trend_num.specs.declared.tuning.Tuning.{Tuning}
 use Rattle.trend_model.specs.Walk.{records, held}
@@ -8,11 +8,12 @@ use Rattle.byte_io.specs.Outside.{Outside, CountsNoFault, IsWritten, IsCutShort}
 use Rattle.point_text.specs.Text.{archive_text}
 use Rattle.plant_status.specs.Status.{code_of, line_of}
 use Rattle.plant_status.specs.declared.status.Status.{Status}
-use Rattle.plant_status.specs.declared.status.Status.TheVariants.{Done, BadWords, WriteFault, WantOfMemory}
+use Rattle.plant_status.specs.declared.status.Status.TheVariants.{Done, BadWords, DeviceFault, WriteFault, WantOfMemory}
 use Rattle.plant_files.specs.Asked.{ToldFiles}
 use Rattle.plant_files.specs.Reading.{faults_told}
 use Rattle.pack_command.specs.Pack.{IsRead, IsPackRefusal, first_full, history_of, origin_of}
-use Rattle.store_commands.specs.Commands.{Devices, IsChecked, IsCheckRefusal, IsTrend, IsTrendRefusal, AreKept}
+use Rattle.disk_model.specs.Calls.{Rose}
+use Rattle.store_commands.specs.Commands.{Devices, IsDurable, IsChecked, IsCheckRefusal, IsTrend, IsTrendRefusal, AreKept}
 use Rattle.plant_run.specs.CommandLine.{Form, Pack, Check, Trend, Unknown, form_of}
 
 -- all of the input was read, and this is the text of what its history keeps. That is near all values of the history.
@@ -63,28 +64,47 @@ PrintsSo IsText IsRefusal before now Done = (text : List ℕ) × IsText text × 
 PrintsSo IsText IsRefusal before now WriteFault = (text : List ℕ) × IsText text × IsCutShort before now text
 PrintsSo IsText IsRefusal before now status = IsRefusal status × IsTold before now status
 
--- a run of words of this form ends in this status, and so many reads of files have failed as it tells; `pack` alone reads the
--- input. No memory may be found for the words themselves
+-- a fact of a run that did all that it was asked for, but for the printing
+abbrev pub WhereDone : Status → Type 0 → Type 0
+WhereDone Done P = P
+WhereDone WriteFault P = P
+WhereDone status P = Unit {0}
+
+-- one fault of the store is counted where a device fault is told, and else none
+abbrev pub CountsFor : Status → ℕ → ℕ → Type 0
+CountsFor (DeviceFault unit) before now = Rose before now
+CountsFor status before now = now ≡ before
+
+-- a run of a command over the stored archives of a base ends in this status: so many reads of files have failed as it tells, so
+-- many calls of the store, where they can be counted, and what it leaves of the devices is durable; the input is left alone
+pub record EndsOver (base : List ℕ) (before now : World) (status : Status) : Type 0 where
+  pub durable : WhereDone status (IsDurable base before.files before.devices now.devices)
+  pub file_faults : now.file_faults ≡ faults_told status before.file_faults
+  pub device_faults : before.device_faults < 2 ^ 64 → CountsFor status before.device_faults now.device_faults
+  pub input : now.input ≡ before.input
+
+-- a run of words of this form ends in this status; `pack` alone reads the input, and it reads nothing else. No memory may be found
+-- for the words themselves
 abbrev pub EndsFor : Form → World → World → Status → Type 0
 EndsFor (Pack tuning) before now status =
     PrintsSo (IsPacked tuning before.input now.input) (IsNotPacked tuning before.input now.input)
     before.output now.output status
     × (now.file_faults ≡ before.file_faults)
+    × (now.device_faults ≡ before.device_faults)
 EndsFor (Check base) before now status =
     PrintsSo (IsChecked base before.files before.devices)
     (IsCheckRefusal base before.files before.devices now.devices before.device_faults now.device_faults)
     before.output now.output status
-    × (now.file_faults ≡ faults_told status before.file_faults)
-    × (now.input ≡ before.input)
+    × EndsOver base before now status
 EndsFor (Trend base plan) before now status =
     PrintsSo (IsTrend base plan before.files before.devices)
     (IsTrendRefusal base plan before.files before.devices now.devices before.device_faults now.device_faults)
     before.output now.output status
-    × (now.file_faults ≡ faults_told status before.file_faults)
-    × (now.input ≡ before.input)
+    × EndsOver base before now status
 EndsFor Unknown before now status =
     ((status ≡ BadWords) ⊎ (status ≡ WantOfMemory)) × IsTold before.output now.output status
     × (now.file_faults ≡ before.file_faults)
+    × (now.device_faults ≡ before.device_faults)
     × (now.input ≡ before.input)
 
 -- a run of these words ends in this status

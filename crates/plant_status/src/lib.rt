@@ -20,9 +20,8 @@ mod word;
 
 pub use fault_line::Line;
 pub use file::FileId;
-pub use trend_num::TagQuery;
 pub use mismatch::{Place, Seen};
 pub use pass::{OpenPass, OpenPasses, Pass, Passes};
 pub use status::{Status, code, line};
-pub use trend_num::{Point, Reason, Summary, TagDef, What};
+pub use trend_num::{Point, Reason, Summary, TagDef, TagQuery, What};
 pub use unit::Unit;

@@ -1,7 +1,6 @@
 // Where two accounts of a session differ, and what each has there.
 use crate::unit::Unit;
-use trend_num::TagQuery;
-use trend_num::{Point, Summary, TagDef};
+use trend_num::{Point, Summary, TagDef, TagQuery};
 
 /// A place at which what a session keeps is compared with what its work tells. Tags, groups and inputs are
 /// numbered from 0; so are the entries of a tape.

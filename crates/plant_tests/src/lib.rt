@@ -1,13 +1,9 @@
-//! Tests of the commands over files and devices in memory, and of whole runs of the program.
+//! Tests of whole runs of the program, over a source, files, a sink and devices in memory.
 #![tactic(auto)]
 
 #[cfg(test)]
-mod answers;
-#[cfg(test)]
-mod commands;
-#[cfg(test)]
-mod files;
+mod plants;
 #[cfg(test)]
 mod runs;
 #[cfg(test)]
-mod tags;
+mod stored;

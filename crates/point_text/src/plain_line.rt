@@ -12,7 +12,6 @@ ghost use Rattle.trend_num.specs.Numerals.{digits_value};
 ghost use Rattle.trend_num.specs.Ranges.{InRange, largest_value, last_time};
 ghost use Rattle.point_text.specs.FirstPoint.{EndsAt, IsField, IsFirstPoint};
 
-use core::dec2flt::ten_to;
 use trend_num::{MAX_T, MAX_V, Point};
 
 /// The most digits of a number in a plain line.
@@ -180,9 +179,31 @@ fn digits(bytes: &[u8], at: usize) -> (u64, usize)
     }
     let (more, low) = digits_of_word(word_at(bytes, at + 8));
     (
-        high.wrapping_mul(ten_to(more as u64)).wrapping_add(low),
+        high.wrapping_mul(ten_to(more)).wrapping_add(low),
         at + 8 + more,
     )
+}
+
+/// The powers of ten that shift a number by up to eight digits.
+const TENS: [u64; 9] = [
+    1,
+    10,
+    100,
+    1_000,
+    10_000,
+    100_000,
+    1_000_000,
+    10_000_000,
+    100_000_000,
+];
+
+/// A power of ten.
+#[inline(always)]
+fn ten_to(n: usize) -> u64
+    requires { n ≤ 8 }
+    ensures { result ≡ 10 ^ n }
+{
+    TENS[n]
 }
 
 /// How many digits a word's bytes begin with, and the number that they spell.

@@ -9,16 +9,17 @@ use Rattle.tag_base.specs.declared.definition.Base.{Base}
 use Rattle.value_rows.specs.declared.asked.Query.{Query}
 use Rattle.value_rows.specs.declared.asked.Query.TheVariants.{Tag, Snap, Row}
 use Rattle.plant_files.specs.Texts.{tag_names}
-use Rattle.plant_files.specs.Asked.{IsQueryOf}
+use Rattle.plant_files.specs.Asked.{IsQueryOf, ToldFiles, AreReaderFiles}
+use Rattle.value_rows.specs.declared.asked.GroupNames.{GroupNames}
 use Rattle.plant_status.specs.declared.status.Status.{Status}
 use Rattle.plant_status.specs.declared.status.Status.TheVariants.{Done, BadWords, BadText, BadRow, ReadFault, WriteFault, DeviceFault}
 use Rattle.plant_status.specs.declared.status.Status.TheVariants.{Damaged, OtherTag, Limit, Mismatch, Halted, WantOfMemory, NotYet}
 use Rattle.plant_files.specs.Reading.{faults_told}
 use Rattle.disk_model.specs.Traces.{Trace}
 use Rattle.tag_store.specs.Tags.{AreDistinct}
-use Rattle.tag_store.specs.Refusals.{IsRefusal}
+use Rattle.tag_store.specs.Refusals.{CountsStore, IsRefusal}
 use Rattle.trend_command.specs.Told.{IsAsked}
-use Rattle.std.proofs.Common.{Option}
+use Rattle.std.proofs.Common.{Option, Result, Ok, Err, IfErr, inl, inr, ◌∷◌, ◌^◌, ◌<◌, ◌≤◌}
 
 -- a fact of each image of a list is one of each element
 pub all_of_map : {X Y : Type 0} (f : X → Y) (P : Y → Type 0) (xs : List X) → All P (map f xs) → All (λ x. P (f x)) xs
@@ -69,3 +70,24 @@ found_empty v found = nil_from_length v.items (omega (arith, v.ok, eqb-true (vec
 
 pub found_some : {X Z : Type 0} (v : Vec X Z) → (vec_len v == 0) ≡ false → v.items ≢ []
 found_some v found same = eqb-false (vec_len v) 0 found (omega (arith, v.ok, ap length same))
+
+-- a fact of a refusal follows from another
+pub if_err : {T E : Type 0} (r : Result T E) (P Q : E → Type 0) → ((e : E) → P e → Q e) → IfErr r P → IfErr r Q
+if_err (Ok x) P Q follows p = tt
+if_err (Err e) P Q follows p = follows e p
+
+-- one fault more is not fewer
+pub counts_on : {T : Type 0} (r : Result T Status) (before now : ℕ) → before < 2 ^ 64 → CountsStore r before now
+    → before ≤ now
+counts_on (Ok x) before now small counts = omega (arith, counts)
+counts_on (Err why) before now small (inl same) = omega (arith, same)
+counts_on (Err why) before now small (inr more) = let rose = more.2 in omega (arith, rose, small)
+
+-- there is one list of queries for each file
+pub as_many_lists : (tags : List (List ℕ)) (groups : List GroupNames) (told : ToldFiles) (files : List (List ℕ))
+    (lists : List (List Query)) → AreReaderFiles tags groups told files lists → length lists ≡ length files
+as_many_lists tags groups told [] [] are = refl
+as_many_lists tags groups told [] (q ∷ qs) are = absurd are
+as_many_lists tags groups told (f ∷ fs) [] are = absurd are
+as_many_lists tags groups told (f ∷ fs) (q ∷ qs) are =
+    omega (arith, as_many_lists tags groups told fs qs are.1)

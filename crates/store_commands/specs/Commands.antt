@@ -9,8 +9,8 @@ use Rattle.plant_status.specs.declared.status.Status.{Status}
 use Rattle.plant_status.specs.declared.status.Status.TheVariants.{NotYet, WantOfMemory}
 use Rattle.plant_files.specs.Texts.{IsBaseFile, IsBaseRefusal, IsPlanFile, IsPlanRefusal}
 use Rattle.plant_files.specs.Asked.{ToldFiles, AreQueries, IsQueriesRefusal}
-use Rattle.tag_store.specs.Tags.{AreOpened, AllStaySame, AreOthersSame}
-use Rattle.tag_store.specs.Lines.{check_text}
+use Rattle.tag_store.specs.Tags.{AreOpened, AreLeft, AllStaySame, AreOthersSame}
+use Rattle.store_commands.specs.Lines.{check_text}
 use Rattle.tag_store.specs.Refusals.{IsRefusal}
 use Rattle.trend_command.specs.Told.{trend_text}
 
@@ -37,6 +37,17 @@ abbrev pub IsCheckRefusal : List ℕ → ToldFiles → Devices → Devices → �
 IsCheckRefusal name told old new before now why = (IsBaseRefusal (told name) why × AreUntouched old new)
     ⊎ (((base : Base) × IsBaseFile (told name) base × IsRefusal base.tags.items old new before now why)
     ⊎ (why ≡ WantOfMemory))
+
+-- ---- what a command that is done leaves
+
+-- the tags of the base that was read are opened, and a crash now leaves of each device what recovers its tag as it is opened; a
+-- device that was new has a whole layout
+pub record IsDurable (name : List ℕ) (told : ToldFiles) (old new : Devices) : Type 0 where
+  pub base : Base
+  pub cores : List Core
+  pub read : IsBaseFile (told name) base
+  pub opened : AreOpened base.tags.items old cores
+  pub left : AreLeft base.tags.items old new cores
 
 -- ---- trend
 

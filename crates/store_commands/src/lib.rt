@@ -7,10 +7,12 @@
 //! or that as it is opened: of a device that tells its calls, and of fewer than 10^18 events.
 #![tactic(auto)]
 
+mod line;
 mod opened;
 mod replies;
 mod tag_lines;
 
+pub use line::check_text;
 pub use plant_status::Status;
 pub use replies::trend;
 pub use tag_lines::check;

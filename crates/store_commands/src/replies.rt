@@ -1,8 +1,9 @@
 // The command `trend`.
-ghost use Rattle.std.specs.Prelude.{◌^◌, ◌<◌, ◌≤◌, ◌≡◌, length, map, string_bytes, All, IfOk, IfErr};
+ghost use Rattle.std.specs.Prelude.{◌^◌, ◌<◌, ◌≤◌, ◌≡◌, length, map, string_bytes, All, IfOk, IfErr, OnOk};
 ghost use Rattle.trend_command.specs.Told.{IsAsked, trend_text};
 ghost use Rattle.plant_files.specs.Reading.{faults_after};
-ghost use Rattle.store_commands.specs.Commands.{AreKept, IsTrend, IsTrendRefusal};
+ghost use Rattle.store_commands.specs.Commands.{AreKept, IsDurable, IsTrend, IsTrendRefusal};
+ghost use Rattle.tag_store.specs.Refusals.{CountsStore};
 
 use crate::opened::open_base;
 use byte_io::Files;
@@ -31,6 +32,9 @@ pub fn trend<F: Files, S: Store>(
     ensures kept { AreKept name.now (F.told files.old) (S.device_at store.old) (S.device_at store.new) }
     ensures stays { F.told files.new ≡ F.told files.old }
     ensures file_faults { F.fault_count files.new ≡ faults_after result (F.fault_count files.old) }
+    ensures durable { OnOk result (IsDurable name.now (F.told files.old) (S.device_at store.old) (S.device_at store.new)) }
+    ensures counts { S.fault_count store.old < 2 ^ 64
+        → CountsStore result (S.fault_count store.old) (S.fault_count store.new) }
     ensures store_faults { S.fault_count store.old < 2 ^ 64 → S.fault_count store.old ≤ S.fault_count store.new }
 {
     let base = match base_of(alloc, files, name) {
@@ -58,18 +62,16 @@ pub fn trend<F: Files, S: Store>(
     }
 }
 
-/// The answers to the queries of these readers. More of them than can be numbered are refused as memory that is not there.
+/// The answers to the queries of these readers.
 fn replies(
     alloc: Global,
     cores: &[TagCore],
     readers: &[ReaderQueries],
 ) -> Result<String, WantOfMemory>
     requires asked { All (All (IsAsked (length cores.now))) readers.now }
+    requires few { length readers.now < 2 ^ 32 }
     ensures { IfOk result (λ text. string_bytes text ≡ trend_text cores.now readers.now) }
 {
-    if readers.len() > u32::MAX as usize {
-        return Err(WantOfMemory);
-    }
     let Ok(lists) = lists_of(alloc, readers) else {
         return Err(WantOfMemory);
     };

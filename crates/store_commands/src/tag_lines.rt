@@ -1,15 +1,16 @@
 // The command `check`.
-ghost use Rattle.std.specs.Prelude.{◌^◌, ◌<◌, ◌≤◌, ◌≡◌, string_bytes, IfOk, IfErr};
+ghost use Rattle.std.specs.Prelude.{◌^◌, ◌<◌, ◌≤◌, ◌≡◌, string_bytes, IfOk, IfErr, OnOk};
 ghost use Rattle.plant_files.specs.Reading.{faults_after};
-ghost use Rattle.store_commands.specs.Commands.{AreKept, IsCheckRefusal, IsChecked};
+ghost use Rattle.store_commands.specs.Commands.{AreKept, IsCheckRefusal, IsChecked, IsDurable};
+ghost use Rattle.tag_store.specs.Refusals.{CountsStore};
 
+use crate::line::check_text;
 use crate::opened::open_base;
 use byte_io::Files;
 use disk_model::Store;
 use plant_files::base_of;
 use plant_status::Status;
 use std::alloc::Global;
-use tag_store::check_text;
 
 /// What `check` prints: a line for each tag of the base that the file of this name holds. The device of each tag is opened,
 /// and made where there is none.
@@ -25,6 +26,9 @@ pub fn check<F: Files, S: Store>(
     ensures kept { AreKept name.now (F.told files.old) (S.device_at store.old) (S.device_at store.new) }
     ensures stays { F.told files.new ≡ F.told files.old }
     ensures file_faults { F.fault_count files.new ≡ faults_after result (F.fault_count files.old) }
+    ensures durable { OnOk result (IsDurable name.now (F.told files.old) (S.device_at store.old) (S.device_at store.new)) }
+    ensures counts { S.fault_count store.old < 2 ^ 64
+        → CountsStore result (S.fault_count store.old) (S.fault_count store.new) }
     ensures store_faults { S.fault_count store.old < 2 ^ 64 → S.fault_count store.old ≤ S.fault_count store.new }
 {
     let base = match base_of(alloc, files, name) {

@@ -1,18 +1,19 @@
 -- How the opening of tags ends.
-use Rattle.std.proofs.Common.{◌≢◌, inl, inr, ℕ, ◌^◌, ◌<◌, ◌≤◌, List, length, take, Option}
-use Rattle.std.proofs.Common.{sym, subst, arith}
+use Rattle.std.proofs.Common.{◌≡◌, ◌≢◌, inl, inr, ℕ, ◌^◌, ◌<◌, ◌≤◌, List, length, take, Option, Err}
+use Rattle.std.proofs.Common.{refl, sym, subst}
 use Rattle.std.proofs.lemmas.List.{take_all}
 use Rattle.std.proofs.lemmas.List.Elements.{All-take}
 use Rattle.trend_num.specs.declared.tag_def.TagDef.{TagDef}
 use Rattle.tag_core.specs.Core.{Core}
 use Rattle.disk_model.specs.Traces.{Trace}
-use Rattle.crash_recovery.specs.declared.failure.OpenNo.{OpenNo}
-use Rattle.crash_recovery.specs.declared.failure.OpenNo.TheVariants.{DeviceFault, Damaged, OtherTag, Full}
-use Rattle.crash_recovery.specs.declared.failure.OpenNo.TheVariants.{WantOfMemory}
-use Rattle.crash_recovery.specs.Opening.{IsCause}
-use Rattle.tag_store.specs.Tags.{most_store_records}
-use Rattle.tag_store.specs.Tags.{device_name, trace_of, AreDistinct, AreOpened, AreOthersSame, records_in}
-use Rattle.tag_store.specs.Refusals.{status_of, IsRefusedAt, IsRefusal}
+use Rattle.device_layout.specs.declared.failure.OpenNo.{OpenNo}
+use Rattle.device_layout.specs.declared.failure.OpenNo.TheVariants.{DeviceFault, Damaged, OtherTag, Full}
+use Rattle.device_layout.specs.declared.failure.OpenNo.TheVariants.{WantOfMemory}
+use Rattle.device_layout.specs.Readings.{IsCause}
+use Rattle.trend_num.specs.Limits.{most_stored}
+use Rattle.disk_model.specs.Calls.{CountsFault, Rose}
+use Rattle.tag_store.specs.Tags.{device_name, trace_of, AreDistinct, AreOpened, AreLeft, AreOthersSame, records_in}
+use Rattle.tag_store.specs.Refusals.{status_of, IsRefusedAt, IsRefusal, CountsStore}
 use Rattle.tag_store.proofs.Turns.{IsSoFar, IsTag, IsTurn, unreached, touched}
 
 -- what no tag has, none of the first has
@@ -32,7 +33,7 @@ all_opened tags i old cores end opened =
 pub refused_at : (tags : List TagDef) (i : ℕ) (def : TagDef) (old now new : List ℕ → Option Trace)
     (cores : List Core)
     (P : List Core → TagDef → Option Trace → Type 0) → IsSoFar tags i old now cores
-    → records_in cores ≤ most_store_records
+    → records_in cores ≤ most_stored
     → AreDistinct tags → IsTag tags i def → IsTurn def now new → P cores def (trace_of now def)
     → IsRefusedAt tags old new i P
 refused_at tags i def old now new cores P so_far few distinct tag turn cause = record {
@@ -47,26 +48,40 @@ refused_at tags i def old now new cores P so_far few distinct tag turn cause = r
   rest = touched tags i def old now new so_far.others tag turn;
 }
 
--- the cause of its refusal is told, the faults being counted from earlier on
+-- all devices are left
+pub all_left : (tags : List TagDef) (i : ℕ) (old now : List ℕ → Option Trace) (cores : List Core)
+    → length tags ≤ i
+    → AreLeft (take i tags) old now cores → AreLeft tags old now cores
+all_left tags i old now cores end left =
+    subst (λ (l : List TagDef). AreLeft l old now cores) (take_all i tags end) left
+
+-- the cause of its refusal is told
 pub told : (tags : List TagDef) (i : ℕ) (def : TagDef) (old now new : List ℕ → Option Trace)
     (cores : List Core)
-    (before middle after : ℕ) (why : OpenNo) → IsSoFar tags i old now cores
-    → records_in cores ≤ most_store_records
-    → AreDistinct tags → IsTag tags i def → IsTurn def now new → (before < 2 ^ 64 → before ≤ middle)
-    → IsCause def (trace_of now def) middle after why → IsRefusal tags old new before after (status_of i why)
-told tags i def old now new cores before middle after DeviceFault so_far few distinct tag turn later cause =
-    refused_at tags i def old now new cores _ so_far few distinct tag turn (λ small. elim cause [
-      | inl rose ↦ inl (omega (arith, rose, later small))
-      | inr end ↦ inr end
-    ])
-told tags i def old now new cores before middle after
-    (Damaged at byte) so_far few distinct tag turn later cause =
+    (before after : ℕ) (why : OpenNo) → IsSoFar tags i old now cores
+    → records_in cores ≤ most_stored
+    → AreDistinct tags → IsTag tags i def → IsTurn def now new
+    → (before < 2 ^ 64 → why ≡ DeviceFault → Rose before after)
+    → IsCause def (trace_of now def) why → IsRefusal tags old new before after (status_of i why)
+told tags i def old now new cores before after DeviceFault so_far few distinct tag turn rose cause =
+    refused_at tags i def old now new cores _ so_far few distinct tag turn (λ small. rose small refl)
+told tags i def old now new cores before after
+    (Damaged at byte) so_far few distinct tag turn rose cause =
     refused_at tags i def old now new cores _ so_far few distinct tag turn cause
-told tags i def old now new cores before middle after
-    (OtherTag found wanted) so_far few distinct tag turn later cause =
+told tags i def old now new cores before after
+    (OtherTag found wanted) so_far few distinct tag turn rose cause =
     refused_at tags i def old now new cores _ so_far few distinct tag turn cause
-told tags i def old now new cores before middle after
-    (Full records) so_far few distinct tag turn later cause =
+told tags i def old now new cores before after
+    (Full records) so_far few distinct tag turn rose cause =
     (i, refused_at tags i def old now new cores _ so_far few distinct tag turn cause)
-told tags i def old now new cores before middle after WantOfMemory so_far few distinct tag turn later cause =
+told tags i def old now new cores before after WantOfMemory so_far few distinct tag turn rose cause =
     tt
+
+-- the faults that were counted until a tag is refused
+pub counted : {T : Type 0} (U : Type 0) (i before after : ℕ) (why : OpenNo)
+    → CountsFault {T = T} (Err why) DeviceFault before after → CountsStore {T = U} (Err (status_of i why)) before after
+counted U i before after DeviceFault counts = inr (i, refl, counts.failed refl)
+counted U i before after (Damaged at byte) counts = inl (counts.refused (λ is. absurd (cc (is))))
+counted U i before after (OtherTag found wanted) counts = inl (counts.refused (λ is. absurd (cc (is))))
+counted U i before after (Full records) counts = inl (counts.refused (λ is. absurd (cc (is))))
+counted U i before after WantOfMemory counts = inl (counts.refused (λ is. absurd (cc (is))))

@@ -1,4 +1,4 @@
 pub mod Devices
+pub mod NameText
 pub mod Turns
 pub mod Endings
-pub mod Lines

@@ -1,8 +1,9 @@
 -- Tags that are opened one after the other.
-use Rattle.std.proofs.Common.{◌≡◌, ◌≢◌, ◌⊎◌, inl, inr, ℕ, ◌+◌, ◌<◌, List, [], ◌∷◌, ◌++◌, length, take}
+use Rattle.std.proofs.Common.{◌≡◌, ◌≢◌, ◌⊎◌, inl, inr, ℕ, suc, ◌+◌, ◌<◌, List, [], ◌∷◌, ◌++◌, length, take}
 use Rattle.std.proofs.Common.{get_or, codes, Option, refl, sym, ◌∙◌, ap, subst, arith}
 use Rattle.std.proofs.lemmas.List.{get_or-take, get_or_default, take_more, append_cancel_right}
 use Rattle.std.proofs.lemmas.List.{length-take-le}
+use Rattle.std.specs.List.{AllZip}
 use Rattle.std.proofs.lemmas.Bool.{cases_order}
 use Rattle.std.proofs.lemmas.Slice.Zip.{all_zipped_more}
 use Rattle.trend_num.specs.declared.tag_def.TagDef.{TagDef}
@@ -10,7 +11,7 @@ use Rattle.tag_core.specs.Core.{Core}
 use Rattle.disk_model.specs.Traces.{Trace}
 use Rattle.crash_recovery.specs.Opening.{StaysSame}
 use Rattle.tag_store.specs.Tags.{device_name, trace_of, AreDistinct, IsOpened, AreOpened, AreOthersSame}
-use Rattle.tag_store.specs.Tags.{AllStaySame}
+use Rattle.tag_store.specs.Tags.{AllStaySame, IsLeft, AreLeft}
 use Rattle.tag_store.proofs.Devices.{still}
 
 -- the first i tags are opened
@@ -18,6 +19,7 @@ pub record IsSoFar (tags : List TagDef) (i : ℕ) (old now : List ℕ → Option
     (cores : List Core) : Type 0 where
   pub opened : AreDistinct tags → AreOpened (take i tags) old cores
   pub others : AreOthersSame (take i tags) old now
+  pub left : AreDistinct tags → AreLeft (take i tags) old now cores
   pub same : AreDistinct tags → AllStaySame tags old now
 
 -- this is tag i
@@ -35,6 +37,7 @@ pub begun : (tags : List TagDef) (old : List ℕ → Option Trace) → IsSoFar t
 begun tags old = record {
   opened = λ distinct. tt;
   others = λ n apart. refl;
+  left = λ distinct. tt;
   same = λ distinct k d in'. still (get_or tags k d) (trace_of old (get_or tags k d));
 }
 
@@ -124,15 +127,55 @@ one_more tags i def old cores core front tag opened =
     (all_zipped_more (λ (d : TagDef) (c : Core). IsOpened d (trace_of old d) c)
     (take i tags) cores def core front opened)
 
+-- what holds of pairs place by place follows from what else does
+zip_weaker : {A B : Type 0} (P Q : A → B → Type 0) (xs : List A) (ys : List B)
+    → ((k : ℕ) (d : A) (y : B) → k < length xs → P (get_or xs k d) y → Q (get_or xs k d) y)
+    → AllZip P xs ys → AllZip Q xs ys
+zip_weaker P Q [] [] follows all = tt
+zip_weaker P Q [] (y ∷ ys) follows all = absurd all
+zip_weaker P Q (x ∷ xs) [] follows all = absurd all
+zip_weaker P Q (x ∷ xs) (y ∷ ys) follows all = (
+  follows 0 x y (omega arith) all.0,
+  zip_weaker P Q xs ys (λ k d z below p. follows (suc k) d z (omega (arith, below)) p) all.1,
+)
+
+-- the devices of the first tags are left as they were, and that of the next one is left
+pub one_left : (tags : List TagDef) (i : ℕ) (def : TagDef) (old now new : List ℕ → Option Trace) (cores : List Core)
+    (core : Core)
+    → AreDistinct tags → AreLeft (take i tags) old now cores → IsTag tags i def → IsTurn def now new
+    → IsLeft def (trace_of old def) (trace_of new def) core
+    → AreLeft (take (i + 1) tags) old new (cores ++ core ∷ [])
+one_left tags i def old now new cores core distinct front tag turn left =
+    let longer : take (i + 1) tags ≡ take i tags ++ def ∷ [] =
+    take_more tags i def tag.there ∙ ap (λ (x : TagDef). take i tags ++ x ∷ []) (sym tag.is) in
+    let long : length (take i tags) ≡ i = length-take-le i tags (omega (arith, tag.there)) in
+    subst (λ (l : List TagDef). AreLeft l old new (cores ++ core ∷ [])) (sym longer)
+    (all_zipped_more (λ (d : TagDef) (c : Core). IsLeft d (trace_of old d) (trace_of new d) c)
+    (take i tags) cores def core
+    (zip_weaker (λ (d : TagDef) (c : Core). IsLeft d (trace_of old d) (trace_of now d) c)
+    (λ (d : TagDef) (c : Core). IsLeft d (trace_of old d) (trace_of new d) c) (take i tags) cores
+    (λ k d c below was.
+    let before : k < i = omega (arith, below, long) in
+    let place = get_or-take i tags k d before in
+    let unchanged = turn.others (device_name (get_or (take i tags) k d).name)
+    (λ e. apart tags k i def d distinct tag (omega (arith, before, tag.there)) (inl before)
+    (ap (λ (x : TagDef). device_name x.name) (sym place) ∙ e)) in
+    subst (λ (o : Option Trace). IsLeft (get_or (take i tags) k d) (trace_of old (get_or (take i tags) k d)) o c)
+    (sym unchanged) was) front)
+    left)
+
 pub next : (tags : List TagDef) (i : ℕ) (def : TagDef) (old now new : List ℕ → Option Trace)
     (cores : List Core) (core : Core)
     → IsSoFar tags i old now cores → IsTag tags i def → IsTurn def now new
-    → IsOpened def (trace_of now def) core
+    → IsOpened def (trace_of now def) core → IsLeft def (trace_of now def) (trace_of new def) core
     → IsSoFar tags (i + 1) old new (cores ++ core ∷ [])
-next tags i def old now new cores core so_far tag turn opened = record {
+next tags i def old now new cores core so_far tag turn opened left = record {
   opened = λ distinct. one_more tags i def old cores core (so_far.opened distinct) tag
       (subst (λ (o : Option Trace). IsOpened def o core)
       (unreached tags i def old now cores so_far distinct tag) opened);
   others = touched tags i def old now new so_far.others tag turn;
+  left = λ distinct. one_left tags i def old now new cores core distinct (so_far.left distinct) tag turn
+      (subst (λ (o : Option Trace). IsLeft def o (trace_of new def) core)
+      (unreached tags i def old now cores so_far distinct tag) left);
   same = λ distinct. all_same tags i def old now new cores so_far distinct tag turn;
 }

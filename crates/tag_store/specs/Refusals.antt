@@ -1,20 +1,22 @@
 -- Why the tags of a base are not opened.
-use Rattle.std.specs.Prelude.{◌≡◌, ℕ, ◌+◌, ◌^◌, ◌<◌, ◌≤◌, List, length, take, slice_index_or, Option}
+use Rattle.std.specs.Prelude.{◌≡◌, ◌⊎◌, ℕ, ◌+◌, ◌^◌, ◌<◌, ◌≤◌, List, length, take, slice_index_or, Option, Result, Ok, Err}
 use Rattle.trend_num.specs.declared.tag_def.TagDef.{TagDef}
 use Rattle.trend_num.specs.declared.refusal.What.TheVariants.{Records, StoreRecords}
 use Rattle.trend_model.specs.State.{State}
 use Rattle.tag_core.specs.Core.{Core}
 use Rattle.disk_model.specs.Traces.{Trace}
 use Rattle.disk_model.specs.Calls.{Rose}
-use Rattle.crash_recovery.specs.declared.failure.OpenNo.{OpenNo}
-use Rattle.crash_recovery.specs.declared.failure.OpenNo.TheVariants as no
-use Rattle.crash_recovery.specs.Damages.{IsTagDamage}
-use Rattle.crash_recovery.specs.Opening.{Shows, IsOther, IsFull}
+use Rattle.device_layout.specs.declared.failure.OpenNo.{OpenNo}
+use Rattle.device_layout.specs.declared.failure.OpenNo.TheVariants as no
+use Rattle.device_layout.specs.Damages.{IsTagDamage}
+use Rattle.disk_model.specs.Calls.{Shows}
+use Rattle.device_layout.specs.Readings.{IsOther, IsFull}
 use Rattle.plant_status.specs.declared.unit.Unit.TheVariants.{Tag}
 use Rattle.plant_status.specs.declared.status.Status.{Status}
 use Rattle.plant_status.specs.declared.status.Status.TheVariants.{DeviceFault, Damaged, OtherTag, Limit}
 use Rattle.plant_status.specs.declared.status.Status.TheVariants.{WantOfMemory}
-use Rattle.tag_store.specs.Tags.{trace_of, IsOpened, AreOpened, AreOthersSame, records_in, most_store_records}
+use Rattle.trend_num.specs.Limits.{most_stored}
+use Rattle.tag_store.specs.Tags.{trace_of, IsOpened, AreOpened, AreOthersSame, records_in}
 
 -- what a tag that is not opened is answered with
 abbrev pub status_of : ℕ → OpenNo → Status
@@ -33,7 +35,7 @@ pub record IsRefusedAt (tags : List TagDef) (old new : List ℕ → Option Trace
   pub there : i < length tags
   pub is_tag : slice_index_or tags i def ≡ def
   pub front : AreOpened (take i tags) old cores
-  pub few : records_in cores ≤ most_store_records
+  pub few : records_in cores ≤ most_stored
   pub cause : P cores def (trace_of old def)
   pub rest : AreOthersSame (take (i + 1) tags) old new
 
@@ -42,7 +44,7 @@ pub record IsTooMuch (number : ℕ) (cores : List Core) (def : TagDef) (o : Opti
   pub core : Core
   pub opened : IsOpened def o core
   pub number_is : number ≡ records_in cores + length core.state.records
-  pub many : most_store_records < number
+  pub many : most_stored < number
 
 -- why the tags are not opened, where the store counted so many faults before and so many now
 abbrev pub IsRefusal : List TagDef → (List ℕ → Option Trace) → (List ℕ → Option Trace) → ℕ → ℕ → Status
@@ -59,3 +61,8 @@ IsRefusal tags old new before now (Limit StoreRecords number) =
     (i : ℕ) × IsRefusedAt tags old new i (IsTooMuch number)
 IsRefusal tags old new before now WantOfMemory = Unit {0}
 IsRefusal tags old new before now other = ⊥
+
+-- one fault of the store is counted where a call of a tag's device has failed, which is told then; and else none
+abbrev pub CountsStore : {T : Type 0} → Result T Status → ℕ → ℕ → Type 0
+CountsStore (Ok x) before now = now ≡ before
+CountsStore (Err why) before now = (now ≡ before) ⊎ ((i : ℕ) × (why ≡ DeviceFault (Tag i)) × Rose before now)

@@ -6,8 +6,9 @@ use Rattle.trend_model.specs.History.{Event, Origin}
 use Rattle.trend_model.specs.State.{State}
 use Rattle.tag_core.specs.Core.{Core}
 use Rattle.disk_model.specs.Traces.{Trace}
-use Rattle.crash_recovery.specs.Recovery.{Recovers}
-use Rattle.crash_recovery.specs.Opening.{Shows, IsOpenedAs, StaysSame}
+use Rattle.device_layout.specs.Recovery.{Recovers}
+use Rattle.disk_model.specs.Calls.{Shows}
+use Rattle.crash_recovery.specs.Opening.{IsOpenedAs, StaysSame, RecoversThen, MakesLayout, GainsSync}
 use Rattle.crash_recovery.specs.Standing.{ImageStands, StandsOpened}
 
 -- what a tag's device is called
@@ -29,6 +30,21 @@ pub record IsOpened (def : TagDef) (o : Option Trace) (core : Core) : Type 0 whe
   pub stands : (p : Origin) (h : List Event) → Shows o (λ c. ImageStands def p h c → StandsOpened def p h core.state)
   pub step : core.step ≡ def.step
 
+-- how many lane slots a new device gets
+abbrev pub lane_slots : ℕ
+lane_slots = 64
+
+-- a crash now leaves of the device what recovers the opened tag; a new device has a whole layout; and one that is neither new nor
+-- of a tag that was retuned has gained a sync alone
+pub record IsLeft (def : TagDef) (old new : Option Trace) (core : Core) : Type 0 where
+  pub recovers : RecoversThen def old new core.state
+  pub made : MakesLayout def lane_slots old new
+  pub synced : GainsSync def old new
+
+-- so it is of the device of each of these tags
+abbrev pub AreLeft : List TagDef → (List ℕ → Option Trace) → (List ℕ → Option Trace) → List Core → Type 0
+AreLeft tags old new cores = AllZip (λ def core. IsLeft def (trace_of old def) (trace_of new def) core) tags cores
+
 -- there is one opened tag for each of these, in its place
 abbrev pub AreOpened : List TagDef → (List ℕ → Option Trace) → List Core → Type 0
 AreOpened tags traces cores = AllZip (λ def core. IsOpened def (trace_of traces def) core) tags cores
@@ -45,7 +61,3 @@ AllStaySame tags old new = All (λ def. StaysSame def (trace_of old def) (trace_
 -- how many records there are in all
 abbrev pub records_in : List Core → ℕ
 records_in cores = sum_by (λ core. length core.state.records) cores
-
--- that many there may be: eight tags of the most that one may have
-abbrev pub most_store_records : ℕ
-most_store_records = 8388608

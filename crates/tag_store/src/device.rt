@@ -1,8 +1,11 @@
 // The device of one tag.
-ghost use Rattle.std.specs.Prelude.{◌≡◌, ◌≢◌, ◌^◌, ◌<◌, ◌≤◌, ℕ, List, IfOk, IfErr, OnOk, string_bytes};
+ghost use Rattle.std.specs.Prelude.{◌≡◌, ◌≢◌, ◌^◌, ◌<◌, ℕ, List, IfOk, IfErr, string_bytes};
 ghost use Rattle.trend_num.specs.Ranges.{IsTuned};
-ghost use Rattle.crash_recovery.specs.Opening.{IsCause, StaysSame};
-ghost use Rattle.tag_store.specs.Tags.{device_name, trace_of, IsOpened};
+ghost use Rattle.disk_model.specs.Calls.{CountsFault};
+ghost use Rattle.device_layout.specs.declared.failure.OpenNo.TheVariants.{DeviceFault};
+ghost use Rattle.device_layout.specs.Readings.{IsCause};
+ghost use Rattle.crash_recovery.specs.Opening.{StaysSame};
+ghost use Rattle.tag_store.specs.Tags.{device_name, trace_of, IsOpened, IsLeft};
 
 use crash_recovery::{OpenFail, OpenNo, Opened, open_tag};
 use disk_model::{Disk, Store};
@@ -24,12 +27,13 @@ pub(crate) fn open_device<S: Store>(
     ensures same { StaysSame def.now (trace_of (S.device_at store.old) def.now)
         (trace_of (S.device_at store.new) def.now) }
     ensures opened { IfOk result (IsOpened def.now (trace_of (S.device_at store.old) def.now)) }
-    ensures cause { IfErr result (IsCause def.now (trace_of (S.device_at store.old) def.now)
-        (S.fault_count store.old) (S.fault_count store.new)) }
+    ensures left { IfOk result (IsLeft def.now (trace_of (S.device_at store.old) def.now)
+        (trace_of (S.device_at store.new) def.now)) }
+    ensures cause { IfErr result (IsCause def.now (trace_of (S.device_at store.old) def.now)) }
     ensures others { (n : List ℕ) → n ≢ device_name def.now.name
         → S.device_at store.new n ≡ S.device_at store.old n }
-    ensures faults { S.fault_count store.old < 2 ^ 64 → S.fault_count store.old ≤ S.fault_count store.new }
-    ensures counted { OnOk result (S.fault_count store.new < 2 ^ 64) }
+    ensures counts { S.fault_count store.old < 2 ^ 64
+        → CountsFault result DeviceFault (S.fault_count store.old) (S.fault_count store.new) }
 {
     let Ok(name) = device_name(alloc, &def.name) else {
         return Err(OpenNo::WantOfMemory);
@@ -51,7 +55,7 @@ fn device_name(alloc: Global, name: &Name) -> Result<String, AllocError>
 }
 
 // The text of a name.
-#[tactic(auto, using(trend_report::proofs::NameText::name_is_text))]
+#[tactic(auto, using(crate::proofs::NameText::name_is_text))]
 fn name_text(name: &Name) -> &str
     ensures { result.now ≡ name.now }
 {
@@ -66,9 +70,9 @@ fn open_core<D: Disk>(alloc: Global, dev: D, def: &TagDef) -> (D, Result<TagCore
     requires tuned { IsTuned def.now.tuning }
     ensures same { StaysSame def.now (D.trace dev) (D.trace result.0) }
     ensures opened { IfOk result.1 (IsOpened def.now (D.trace dev)) }
-    ensures cause { IfErr result.1 (IsCause def.now (D.trace dev)
-        (D.fault_count dev) (D.fault_count result.0)) }
-    ensures faults { D.fault_count dev ≤ D.fault_count result.0 }
+    ensures left { IfOk result.1 (IsLeft def.now (D.trace dev) (D.trace result.0)) }
+    ensures cause { IfErr result.1 (IsCause def.now (D.trace dev)) }
+    ensures counts { CountsFault result.1 DeviceFault (D.fault_count dev) (D.fault_count result.0) }
 {
     match open_tag(alloc, dev, def, LANE_SLOTS, 0) {
         Ok(Opened { journal, core }) => (journal.into_device(), Ok(core)),

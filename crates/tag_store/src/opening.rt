@@ -1,8 +1,9 @@
 // Opening the tags of a base.
 ghost use Rattle.std.specs.Prelude.{◌≡◌, ◌^◌, ◌<◌, ◌≤◌, length, All, IfOk, IfErr};
 ghost use Rattle.trend_num.specs.Ranges.{IsTuned};
-ghost use Rattle.tag_store.specs.Tags.{AreDistinct, AreOpened, AreOthersSame, AllStaySame, most_store_records, records_in};
-ghost use Rattle.tag_store.specs.Refusals.{status_of, IsRefusal};
+ghost use Rattle.tag_store.specs.Tags.{AreDistinct, AreOpened, AreLeft, AreOthersSame, AllStaySame, records_in};
+ghost use Rattle.trend_num.specs.Limits.{most_stored};
+ghost use Rattle.tag_store.specs.Refusals.{status_of, IsRefusal, CountsStore};
 
 use crate::device::open_device;
 use crash_recovery::OpenNo;
@@ -29,8 +30,10 @@ pub fn open_tags<S: Store>(
     // Where no two tags have one name: each core is what its tag's device recovers.
     ensures opened { AreDistinct tags.now
         → IfOk result (λ cores. AreOpened tags.now (S.device_at store.old) cores.items) }
+    ensures left { AreDistinct tags.now
+        → IfOk result (λ cores. AreLeft tags.now (S.device_at store.old) (S.device_at store.new) cores.items) }
     ensures as_many { IfOk result (λ cores. length cores.items ≡ length tags.now) }
-    ensures few_records { IfOk result (λ cores. records_in cores.items ≤ most_store_records) }
+    ensures few_records { IfOk result (λ cores. records_in cores.items ≤ most_stored) }
 
     // A crash at any moment leaves of each device what one before might have left, or what recovers the same.
     ensures any_moment { AreDistinct tags.now
@@ -39,9 +42,10 @@ pub fn open_tags<S: Store>(
         → IfErr result (IsRefusal tags.now (S.device_at store.old) (S.device_at store.new)
         (S.fault_count store.old) (S.fault_count store.new)) }
 
-    // No other device is changed, and no fault is forgotten.
+    // No other device is changed. One fault is counted where a call has failed, and else none.
     ensures others { AreOthersSame tags.now (S.device_at store.old) (S.device_at store.new) }
-    ensures faults { S.fault_count store.old < 2 ^ 64 → S.fault_count store.old ≤ S.fault_count store.new }
+    ensures counts { S.fault_count store.old < 2 ^ 64
+        → CountsStore result (S.fault_count store.old) (S.fault_count store.new) }
 {
     let mut cores = Vec::new(alloc);
     let mut records = 0;

@@ -2,83 +2,73 @@
 ghost use Rattle.std.specs.Prelude.{◌≡◌, ◌<◌, ◌↔◌, IsTrue};
 ghost use Rattle.trend_num.specs.Ranges.{InRange};
 
+use crate::spelled::point;
 use door_slopes::{Doors, Point, Steps};
+use std::alloc::Global;
 use std::marker::Brand;
 use std::process::Abort;
 use std::sync::ledger::{Blank, Ledger};
+use std::test::Fail;
 use trend_num::in_range;
 
 const HINGE: Point = Point { t: 0, v: 0 };
 
-fn at(t: u64, v: i64) -> Point
-    ensures { result ≡ record { t = t; v = v } }
-{
-    Point { t, v }
-}
+// Values that come after (10,1), from the hinge (0,0) with deviation 1: whether the doors admit each, and the upper and
+// the lower door after the swing. At first the doors have the slopes 1/5 and 0. Raised and lowered by 1, (20,2) has 3/20
+// and 1/20, and both doors move; (40,5) has 3/20 and 1/10, and the upper door stays; (60,6) has 7/60 and 1/12, and the
+// lower one stays; (120,12) has 13/120 and 11/120; (110,12) has 13/110, which is steeper than 13/120, and 1/10.
+const SWINGS: &str = "\
+20,2 => true 20,2 20,2
+40,5 => true 20,2 40,5
+60,6 => true 60,6 40,5
+120,12 => true 120,12 40,5
+110,12 => false 120,12 40,5";
 
-/// Whether p is in range and after the hinge.
+// What the last doors admit: slopes from 1/10 to 13/120.
+const ADMITTED: &str = "\
+240,24 => true
+240,26 => true
+240,23 => false
+240,27 => false";
+
+// Whether p is in range and after the hinge.
 fn is_after(doors: &Doors, p: Point) -> bool
     ensures { IsTrue result ↔ (InRange p × (doors.now.hinge.t < p.t)) }
 {
     in_range(p) && doors.hinge().t < p.t
 }
 
-/// Walks doors of deviation 1 from the hinge (0,0), and counts on the ledger of the blank.
-fn walked<L: Ledger>(rt: &impl Abort, blank: Blank)
+// Walks the doors, and counts on the ledger of the blank.
+fn walked<L: Ledger>(rt: &impl Abort, alloc: Global, blank: Blank) -> Result<(), Fail>
     requires name { blank.name ≡ L.name }
     requires parts { blank.parts ≡ L.parts }
     requires some { 0 < L.parts }
 {
     let mut steps = Steps::<L>::new(blank);
-    let mut doors = Doors::hang(HINGE, 1, at(10, 1));
-    assert_eq!(rt; (doors.upper(), doors.lower()), (at(10, 1), at(10, 1)));
-
-    // The doors' slopes are (1 + 1)/10 = 1/5 and (1 - 1)/10 = 0.
-    for (p, want) in [
-        (at(20, 0), true),
-        (at(20, -1), false),
-        (at(20, 4), true),
-        (at(20, 5), false),
-    ] {
+    let mut doors = Doors::hang(HINGE, 1, Point { t: 10, v: 1 });
+    for row in SWINGS.lines() {
+        let (given, want) = row.split_once(" => ").ok_or("row")?;
+        let p = point(rt, given);
         assert!(rt; is_after(&doors, p));
-        assert_eq!(rt; doors.admits(p, &mut steps), want, "first {p:?}");
-    }
-
-    // Raised and lowered by 1, the value moves or leaves each door.
-    for (p, upper, lower) in [
-        // 3/20 is under 1/5, and 1/20 is over 0: both move
-        (at(20, 2), at(20, 2), at(20, 2)),
-        // 6/40 is 3/20, so the upper door stays; 4/40 is over 1/20
-        (at(40, 5), at(20, 2), at(40, 5)),
-        // 7/60 is under 3/20, and 5/60 is not over 1/10
-        (at(60, 6), at(60, 6), at(40, 5)),
-        // 13/120 is under 7/60, and 11/120 is not over 1/10
-        (at(120, 12), at(120, 12), at(40, 5)),
-        // 13/110 is over 13/120, and 11/110 is 1/10: both stay
-        (at(110, 12), at(120, 12), at(40, 5)),
-    ] {
-        assert!(rt; is_after(&doors, p));
+        let admitted = doors.admits(p, &mut steps);
         doors.swing(p, &mut steps);
-        assert_eq!(rt; doors.upper(), upper, "upper after {p:?}");
-        assert_eq!(rt; doors.lower(), lower, "lower after {p:?}");
+        let (upper, lower) = (doors.upper(), doors.lower());
+        let told = format!(in alloc;
+            "{admitted} {},{} {},{}",
+            upper.t, upper.v, lower.t, lower.v
+        )?;
+        assert_eq!(rt; told.as_str(), want, "{given}");
     }
-
-    // Between 1/10 and 13/120.
-    for (p, want) in [
-        (at(240, 24), true),
-        (at(240, 26), true),
-        (at(240, 23), false),
-        (at(240, 27), false),
-    ] {
+    for row in ADMITTED.lines() {
+        let (given, want) = row.split_once(" => ").ok_or("row")?;
+        let p = point(rt, given);
         assert!(rt; is_after(&doors, p));
-        assert_eq!(rt; doors.admits(p, &mut steps), want, "last {p:?}");
+        assert_eq!(rt; doors.admits(p, &mut steps), want == "true", "{given}");
     }
-
-    let same = Doors::from_points(HINGE, 1, at(120, 12), at(40, 5));
-    assert_eq!(rt; same, doors);
+    Ok(())
 }
 
 #[test]
-fn doors_are_as_worked_by_hand(rt: HostRuntime) {
-    walked::<Brand>(&rt, Blank::new(1));
+fn doors_are_as_worked_by_hand(rt: HostRuntime) -> Result<(), Fail> {
+    walked::<Brand>(&rt, rt.alloc(), Blank::new(1))
 }

@@ -1,5 +1,7 @@
 // Offers in turn, worked by hand.
-use exception_test::*;
+use crate::spelled::point;
+use exception_test::{Gate, Tuning};
+use std::test::Fail;
 
 const TUNING: Tuning = Tuning {
     exc_dev: 5,
@@ -9,45 +11,27 @@ const TUNING: Tuning = Tuning {
     comp_max: 0,
 };
 
-fn at(t: u64, v: i64) -> Point {
-    Point { t, v }
-}
+// The first value; as much as ExcDev is not far; far, after the pending value; late with nothing pending; a newer value
+// takes the place of the pending one; late with a value pending; as long as ExcMax is far.
+const OFFERS: &str = "\
+10,0 => None Some(InOrder(Point { t: 10, v: 0 }))
+20,5 => None None
+30,-6 => Some(Point { t: 20, v: 5 }) Some(InOrder(Point { t: 30, v: -6 }))
+30,9 => None Some(Late(Point { t: 30, v: 9 }))
+40,-8 => None None
+50,-9 => None None
+45,9 => Some(Point { t: 50, v: -9 }) Some(Late(Point { t: 45, v: 9 }))
+149,-9 => None None
+150,-9 => Some(Point { t: 149, v: -9 }) Some(InOrder(Point { t: 150, v: -9 }))";
 
 #[test]
-fn offers_in_turn(rt: HostRuntime) {
-    let rows = [
-        // the first value
-        (at(10, 0), None, Some(Sending::InOrder(at(10, 0)))),
-        // as much as ExcDev is not far
-        (at(20, 5), None, None),
-        // far, after the pending value
-        (
-            at(30, -6),
-            Some(at(20, 5)),
-            Some(Sending::InOrder(at(30, -6))),
-        ),
-        // late with nothing pending
-        (at(30, 9), None, Some(Sending::Late(at(30, 9)))),
-        (at(40, -8), None, None),
-        // a newer value takes the place of the pending one
-        (at(50, -9), None, None),
-        // late with a value pending
-        (at(45, 9), Some(at(50, -9)), Some(Sending::Late(at(45, 9)))),
-        (at(149, -9), None, None),
-        // as long as ExcMax is far
-        (
-            at(150, -9),
-            Some(at(149, -9)),
-            Some(Sending::InOrder(at(150, -9))),
-        ),
-    ];
+fn a_gate_answers_offers_in_turn(rt: HostRuntime) -> Result<(), Fail> {
     let mut gate = Gate::new();
-    for (p, first, second) in rows {
-        assert_eq!(rt;
-            gate.offer(&TUNING, p),
-            Sent { first, second },
-            "at {}",
-            p.t
-        );
+    for row in OFFERS.lines() {
+        let (given, want) = row.split_once(" => ").ok_or("row")?;
+        let sent = gate.offer(&TUNING, point(&rt, given));
+        let told = format!(in rt.alloc(); "{:?} {:?}", sent.first, sent.second)?;
+        assert_eq!(rt; told.as_str(), want, "{given}");
     }
+    Ok(())
 }

@@ -14,4 +14,6 @@ mod gates;
 #[cfg(test)]
 mod reads;
 #[cfg(test)]
+mod spelled;
+#[cfg(test)]
 mod windows;

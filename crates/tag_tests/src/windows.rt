@@ -1,80 +1,95 @@
 // Windows of small contents, worked by hand.
-ghost use Rattle.std.specs.Prelude.{◌≡◌, ◌<◌, ◌^◌, length};
+ghost use Rattle.std.specs.Prelude.{◌<◌, ◌≤◌};
+ghost use Rattle.trend_num.specs.Ranges.{last_time};
 
-use weighted_total::{window, window_step};
+use crate::spelled::{content, number};
 use late_insert::{Content, Kind, Point, Rec};
 use std::alloc::Global;
+use std::fmt::Write;
 use std::process::Abort;
 use std::test::Fail;
-use trend_num::{MAX_T, MAX_V, Measure, WantOfMemory, in_range};
+use trend_num::{MAX_T, Measure};
+use weighted_total::{window, window_step};
 
-fn rec(kind: Kind, t: u64, v: i64) -> Rec
-    ensures { result ≡ record { kind = kind; point = record { t = t; v = v } } }
+const MEASURES: [Measure; 8] = [
+    Measure::Area,
+    Measure::Avg,
+    Measure::Total,
+    Measure::Low,
+    Measure::High,
+    Measure::Count,
+    Measure::First,
+    Measure::Last,
+];
+
+// A line or a stair through points, and the begin and the end of a window: twice its area, its mean, total, least and
+// greatest value, its number of points, its first and its last value.
+const SMALL: &str = "\
+line 0,0 10,10 20,0 @ 5 15 => 150 8 0 5 10 1 5 5
+line 0,0 10,10 20,0 @ 15 25 => no no no no no no no no
+line 0,0 2,1 @ 1 2 => 2 1 0 1 1 0 1 1
+line 0,0 2,-1 @ 1 2 => -1 0 0 -1 0 0 0 -1
+stair 0,10 20,15 30,14 @ 0 30 => 700 12 0 10 15 2 10 14
+line 0,1000000000000000 253402300799999,1000000000000000 @ 0 253402300799999 => \
+506804601599998000000000000000 1000000000000000 253402300799999000000000000 1000000000000000 1000000000000000 1 \
+1000000000000000 1000000000000000";
+
+// Windows over three pages, of points at the times 0 to 299, each of which has its time modulo 7 as its value.
+const LARGE: &str = "\
+line 0 299 => 1789 3 1 0 6 299 0 5
+stair 0 299 => 1784 3 1 0 6 299 0 5
+stair 3 250 => 1484 3 1 0 6 247 3 5";
+
+// All measures of a window.
+fn measures(
+    alloc: Global,
+    content: &Content,
+    step: bool,
+    from: u64,
+    to: u64,
+) -> Result<String, Fail>
+    requires order { from < to }
+    requires reach { to ≤ last_time }
 {
-    Rec {
-        kind,
-        point: Point { t, v },
+    let mut told = String::new(alloc);
+    for m in MEASURES {
+        let value = if step {
+            window_step(content, None, m, from, to)
+        } else {
+            window(content, None, m, from, to)
+        };
+        match value {
+            Some(n) => write!(told, " {n}")?,
+            None => told.push_str(" no")?,
+        }
     }
+    Ok(told)
 }
 
-/// Puts a record in, where there is room and its point is in range.
-fn put(rt: &impl Abort, content: &mut Content, rec: Rec) {
-    assert!(rt; content.spare() > 0);
-    assert!(rt; in_range(rec.point));
-    content.put(rec);
-}
-
-fn content_of(rt: &impl Abort, alloc: Global, recs: &[Rec]) -> Result<Content, WantOfMemory>
-    requires few { length recs.now < 2 ^ 32 }
-{
-    let mut content = Content::new(alloc, recs.len() as u32)?;
-    for rec in recs {
-        put(rt, &mut content, *rec);
-    }
-    Ok(content)
+// All measures of the window that a field spells.
+fn window_of(
+    rt: &impl Abort,
+    alloc: Global,
+    content: &Content,
+    step: bool,
+    field: &str,
+) -> Result<String, Fail> {
+    let (from, to) = field.split_once(' ').ok_or("times")?;
+    let (from, to) = (number(rt, from), number(rt, to));
+    assert!(rt; from < to && to <= MAX_T);
+    measures(alloc, content, step, from, to)
 }
 
 #[test]
-fn a_window_of_a_line_has_each_measure(rt: HostRuntime) -> Result<(), Fail> {
-    let content = content_of(
-        &rt,
-        rt.alloc(),
-        &[
-            rec(Kind::Kept, 0, 0),
-            rec(Kind::Kept, 10, 10),
-            rec(Kind::Kept, 20, 0),
-        ],
-    )?;
-    for (measure, value) in [
-        (Measure::Area, 150),
-        (Measure::Avg, 8),
-        (Measure::Total, 0),
-        (Measure::Low, 5),
-        (Measure::High, 10),
-        (Measure::Count, 1),
-        (Measure::First, 5),
-        (Measure::Last, 5),
-    ] {
-        assert_eq!(rt; window(&content, None, measure, 5, 15), Some(value));
-        assert_eq!(rt; window(&content, None, measure, 15, 25), None);
+fn a_window_has_each_measure(rt: HostRuntime) -> Result<(), Fail> {
+    for row in SMALL.lines() {
+        let (given, want) = row.split_once(" =>").ok_or("row")?;
+        let (kind, points) = given.split_once(' ').ok_or("kind")?;
+        let (points, field) = points.split_once(" @ ").ok_or("window")?;
+        let content = content(&rt, rt.alloc(), points)?;
+        let told = window_of(&rt, rt.alloc(), &content, kind == "stair", field)?;
+        assert_eq!(rt; told.as_str(), want, "{given}");
     }
-    Ok(())
-}
-
-#[test]
-fn ends_are_rounded_half_up(rt: HostRuntime) -> Result<(), Fail> {
-    let up = content_of(
-        &rt,
-        rt.alloc(),
-        &[rec(Kind::Kept, 0, 0), rec(Kind::Kept, 2, 1)],
-    )?;
-    let down = content_of(
-        &rt,
-        rt.alloc(),
-        &[rec(Kind::Kept, 0, 0), rec(Kind::Kept, 2, -1)],
-    )?;
-    assert_eq!(rt; window(&up, None, Measure::First, 1, 2), Some(1));
-    assert_eq!(rt; window(&down, None, Measure::First, 1, 2), Some(0));
     Ok(())
 }
 
@@ -83,56 +98,36 @@ fn a_window_over_pages_is_that_of_the_points(rt: HostRuntime) -> Result<(), Fail
     let mut content = Content::new(rt.alloc(), 300)?;
     for i in 0..300u64 {
         let t = 299 - i;
-        put(&rt, &mut content, rec(Kind::Kept, t, (t % 7) as i64));
+        assert!(rt; content.spare() > 0);
+        content.put(Rec {
+            kind: Kind::Kept,
+            point: Point {
+                t,
+                v: (t % 7) as i64,
+            },
+        });
     }
-    assert_eq!(rt; window(&content, None, Measure::Count, 0, 299), Some(299));
-    assert_eq!(rt; window(&content, None, Measure::Low, 0, 299), Some(0));
-    assert_eq!(rt; window(&content, None, Measure::High, 0, 299), Some(6));
-    assert_eq!(rt; window(&content, None, Measure::Area, 0, 299), Some(1789));
-    assert_eq!(rt;
-        window_step(&content, None, Measure::Area, 0, 299),
-        Some(1784)
-    );
-    assert_eq!(rt;
-        window_step(&content, None, Measure::Area, 3, 250),
-        Some(1484)
-    );
+    for row in LARGE.lines() {
+        let (given, want) = row.split_once(" =>").ok_or("row")?;
+        let (kind, field) = given.split_once(' ').ok_or("kind")?;
+        let told = window_of(&rt, rt.alloc(), &content, kind == "stair", field)?;
+        assert_eq!(rt; told.as_str(), want, "{given}");
+    }
     Ok(())
 }
 
 #[test]
-fn a_window_of_a_stair_leaves_out_its_end(rt: HostRuntime) -> Result<(), Fail> {
-    let mut content = Content::new(rt.alloc(), 2)?;
-    content.put(rec(Kind::Kept, 0, 10));
-    content.put(rec(Kind::Kept, 20, 15));
+fn a_held_point_ends_a_window(rt: HostRuntime) -> Result<(), Fail> {
+    let mut content = Content::new(rt.alloc(), 1)?;
+    content.put(Rec {
+        kind: Kind::Kept,
+        point: Point { t: 20, v: 15 },
+    });
     let held = Some(Point { t: 30, v: 14 });
-    for (measure, value) in [
-        (Measure::Area, 700),
-        (Measure::Avg, 12),
-        (Measure::Low, 10),
-        (Measure::High, 15),
-        (Measure::Last, 14),
-    ] {
-        assert_eq!(rt; window_step(&content, held, measure, 0, 30), Some(value));
-    }
-    Ok(())
-}
-
-#[test]
-fn the_largest_window_is_measured(rt: HostRuntime) -> Result<(), Fail> {
-    let content = content_of(
-        &rt,
-        rt.alloc(),
-        &[rec(Kind::Kept, 0, MAX_V), rec(Kind::Kept, MAX_T, MAX_V)],
-    )?;
-    let twice = 506804601599998000000000000000;
     assert_eq!(rt;
-        window(&content, None, Measure::Area, 0, MAX_T),
-        Some(twice)
+        window_step(&content, held, Measure::Last, 20, 30),
+        Some(14)
     );
-    assert_eq!(rt;
-        window(&content, None, Measure::Avg, 0, MAX_T),
-        Some(1000000000000000)
-    );
+    assert_eq!(rt; window(&content, held, Measure::Area, 20, 30), Some(290));
     Ok(())
 }

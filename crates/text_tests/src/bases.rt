@@ -1,93 +1,192 @@
-// Bases with each rule broken, first alone and then beside another one: what an independent
-// program answers to them.
-mod plans;
-
-use tag_base::*;
+// Bases and plans with each rule broken, first alone and then beside another one: what an independent program answers.
+use crate::spelled::{number, text};
 use std::alloc::{AllocError, Global};
 use std::fmt::Write;
+use std::process::Abort;
 use std::test::Fail;
+use tag_base::{TextNo, Tuning, What, read_base, read_plan};
 
-const BASE: &str = "\
-[[tag]]\n\
-name = \"T1\"\n\
-exc_dev = 11\n\
-exc_max = 12\n\
-comp_dev = 13\n\
-comp_min = 14\n\
-comp_max = 15\n\
-[[tag]]\n\
-name = \"V2\"\n\
-exc_dev = 21\n\
-exc_max = 22\n\
-comp_dev = 23\n\
-comp_min = 24\n\
-comp_max = 25\n\
-step = true\n\
-[[tag]]\n\
-name = \"T3\"\n\
-exc_dev = 31\n\
-exc_max = 32\n\
-comp_dev = 33\n\
-comp_min = 34\n\
-comp_max = 35\n\
-descriptor = \"flow\"\n\
-engunits = \"m3\"\n\
-step = false\n\
-[[group]]\n\
-name = \"g\"\n\
-tags = [\"T1\"]\n\
-start = 41\n\
-period = 42\n\
-[[group.calc]]\n\
-name = \"m\"\n\
-formula = \"avg('T1')\"\n\
-[[group.calc]]\n\
-name = \"n\"\n\
-formula = \"calc('m') + 1\"\n\
-[[group]]\n\
-name = \"h\"\n\
-tags = [\"T3\", \"T1\"]\n\
-start = 51\n\
-period = 52\n\
-[[group.calc]]\n\
-name = \"k\"\n\
-formula = \"low('T3')\"\n\
-";
+const BASE: &str = r#"[[tag]]
+name = "T1"
+exc_dev = 11
+exc_max = 12
+comp_dev = 13
+comp_min = 14
+comp_max = 15
+[[tag]]
+name = "V2"
+exc_dev = 21
+exc_max = 22
+comp_dev = 23
+comp_min = 24
+comp_max = 25
+step = true
+[[tag]]
+name = "T3"
+exc_dev = 31
+exc_max = 32
+comp_dev = 33
+comp_min = 34
+comp_max = 35
+descriptor = "flow"
+engunits = "m3"
+step = false
+[[group]]
+name = "g"
+tags = ["T1"]
+start = 41
+period = 42
+[[group.calc]]
+name = "m"
+formula = "avg('T1')"
+[[group.calc]]
+name = "n"
+formula = "calc('m') + 1"
+[[group]]
+name = "h"
+tags = ["T3", "T1"]
+start = 51
+period = 52
+[[group.calc]]
+name = "k"
+formula = "low('T3')"
+"#;
 
-// What the table at a place is refused for.
-fn bad<T>(rule: u8, place: u32, at: u32) -> Result<T, TextNo> {
-    Err(TextNo::BadText { rule, place, at })
+// Texts of the base that are replaced, where they come first; a bar stands for a line feed, a number sign for a byte order
+// mark. Then how many tags and groups there are, or the rule that is broken, the place of its table, and the byte of the
+// formula.
+const BASES: &str = r#""T1" -> "T1 => 1 0 0
+exc_dev = 11 -> exc_dev = 9223372036854775808 => 1 0 0
+ => ok 3 2
+exc_dev = 11 -> exc_dev = 0xB => ok 3 2
+comp_min = 14 -> comp_min = 14|comp_min = 14 => 1 0 0
+[[tag]] -> #[[tag]] => ok 3 2
+[[tag]] -> x = 1|[[tag]] => 2 0 0
+[[group]] -> [[groups]] => 1 0 0
+[[tag]] -> tag = 1|[[tags]] => 1 0 0
+comp_max = 15| ->  => 3 0 0
+comp_max = 25| ->  => 3 1 0
+comp_max = 25 -> comp_max = 25|other = 1 => 3 1 0
+descriptor = "flow" -> descriptor = 5 => 3 2 0
+engunits = "m3" -> engunits = ["m3"] => 3 2 0
+"V2" -> 5 => 4 1 0
+"V2" -> "V 2" => 4 1 0
+"V2" -> "" => 4 1 0
+"V2" -> "T1" => 4 1 0
+"V2" -> "t1" => ok 3 2
+exc_dev = 21 -> exc_dev = -1 => 5 1 0
+exc_dev = 21 -> exc_dev = 0 => ok 3 2
+exc_dev = 21 -> exc_dev = 1000000000000000 => ok 3 2
+exc_dev = 21 -> exc_dev = 1000000000000001 => 5 1 0
+exc_max = 22 -> exc_max = 253402300799999 => ok 3 2
+exc_max = 22 -> exc_max = 253402300800000 => 5 1 0
+comp_dev = 23 -> comp_dev = 23.0 => 5 1 0
+comp_min = 24 -> comp_min = true => 5 1 0
+comp_max = 25 -> comp_max = "25" => 5 1 0
+step = true -> step = 1 => 5 1 0
+"V2" -> "V 2" & exc_dev = 21 -> exc_dev = -1 => 4 1 0
+"V2" -> "T1" & comp_max = 25| ->  => 3 1 0
+comp_max = 25 -> comp_max = -1 & comp_max = 15 -> comp_max = -1 => 5 0 0
+comp_max = 35 -> comp_max = -1 & "g" -> "g h" => 5 2 0
+start = 51| ->  => 6 1 0
+start = 51 -> start = 51|x = 1 => 6 1 0
+"h" -> "g" => 7 1 0
+"h" -> 7 => 7 1 0
+"h" -> "T1" => ok 3 2
+["T3", "T1"] -> [] => 8 1 0
+["T3", "T1"] -> "T3" => 8 1 0
+["T3", "T1"] -> ["T3", 1] => 8 1 0
+["T3", "T1"] -> ["T3", "T9"] => 8 1 0
+["T3", "T1"] -> ["T3", "T3"] => 8 1 0
+["T3", "T1"] -> ["T3", "V2"] => 8 1 0
+start = 51 -> start = -1 => 9 1 0
+start = 51 -> start = 253402300799999 => ok 3 2
+start = 51 -> start = 253402300800000 => 9 1 0
+period = 52 -> period = 0 => 9 1 0
+period = 52 -> period = 1000000000000 => ok 3 2
+period = 52 -> period = 1000000000001 => 9 1 0
+[[group.calc]]|name = "k"|formula = "low('T3')" -> calc = [] => 10 1 0
+[[group.calc]]|name = "k"|formula = "low('T3')" -> calc = 1 => 10 1 0
+name = "k" -> name = "k"|y = "1" => 10 1 0
+name = "k"| ->  => 10 1 0
+"k" -> 3 => 10 1 0
+"k" -> "k k" => 10 1 0
+"n" -> "m" => 10 0 0
+"low('T3')" -> 5 => 10 1 0
+"low('T3')" -> "low('T3'" => 11 1 8
+"low('T3')" -> "" => 11 1 0
+"low('T3')" -> "1000000000000000001" => 11 1 0
+"low('T3')" -> "---------------------------------1" => 11 1 32
+"low('T3')" -> "--------------------------------1" => ok 3 2
+"low('T3')" -> "low('V2')" => 12 1 0
+"low('T3')" -> "calc('k')" => 12 1 0
+"low('T3')" -> "calc('m')" => 12 1 0
+"avg('T1')" -> "calc('n')" => 12 0 0
+"avg('T1')" -> "avg('T3')" => 12 0 0
+"h" -> "g" & start = 51| ->  => 6 1 0
+"h" -> "g" & ["T3", "T1"] -> [] => 7 1 0
+["T3", "T1"] -> [] & period = 52 -> period = 0 => 8 1 0
+period = 52 -> period = 0 & "k" -> 3 => 9 1 0
+"avg('T1')" -> "avg('T1'" & "n" -> "m" => 10 0 0
+"avg('T1')" -> "avg('T9')" & "calc('m') + 1" -> "1 +" => 11 0 3
+"avg('T1')" -> "avg('T9')" & start = 51| ->  => 12 0 0"#;
+
+// How many tags, groups, and calculations of each group there are.
+const TABLES: &str = "\
+1024 16 64 => ok 1024 16
+1025 17 65 => Tags 1025
+1024 17 65 => Groups 17
+1 16 65 => Calcs 65
+1 0 0 => ok 1 0";
+
+// What is told of a text that breaks a rule.
+fn told(alloc: Global, no: TextNo) -> Result<String, AllocError> {
+    match no {
+        TextNo::BadText { rule, place, at } => format!(in alloc; "{rule} {place} {at}"),
+        TextNo::Limit { what, number } => format!(in alloc; "{what:?} {number}"),
+        TextNo::WantOfMemory => String::from_str(alloc, "memory"),
+    }
 }
 
-// What is refused for being too many.
-fn limit<T>(what: What, number: u64) -> Result<T, TextNo> {
-    Err(TextNo::Limit { what, number })
+// What a base has.
+fn base_counts(alloc: Global, bytes: &[u8]) -> Result<String, AllocError> {
+    match read_base(alloc, bytes) {
+        Ok(base) => format!(in alloc; "ok {} {}", base.tags.len(), base.groups.len()),
+        Err(no) => told(alloc, no),
+    }
 }
 
 // A text in which each first text of a pair was replaced, where it comes first, by the second.
-fn edited(alloc: Global, text: &str, edits: &[(&str, &str)]) -> Result<String, AllocError> {
-    let mut text = String::from_str(alloc, text)?;
-    for (old, new) in edits {
-        if let Some((front, rest)) = text.as_str().split_once(*old) {
-            text = format!(in alloc; "{front}{new}{rest}")?;
+fn edited(alloc: Global, whole: &str, edits: &str) -> Result<String, AllocError> {
+    let mut whole = String::from_str(alloc, whole)?;
+    for edit in edits.split(" & ") {
+        let (old, new) = edit.split_once(" -> ").unwrap_or(("", ""));
+        let (old, new) = (text(alloc, old)?, text(alloc, new)?);
+        if let Some((front, rest)) = whole.as_str().split_once(old.as_str()) {
+            whole = format!(in alloc; "{front}{new}{rest}")?;
         }
     }
-    Ok(text)
+    Ok(whole)
 }
 
-// How many tags and groups a base has.
-fn base_counts(alloc: Global, text: &str) -> Result<(usize, usize), TextNo> {
-    let base = read_base(alloc, text.as_bytes())?;
-    Ok((base.tags.len(), base.groups.len()))
+#[test]
+fn a_base_is_refused_for_the_first_rule_that_it_breaks(rt: HostRuntime) -> Result<(), Fail> {
+    let alloc = rt.alloc();
+    for row in BASES.lines() {
+        let (edits, want) = row.split_once(" => ").ok_or("row")?;
+        let text = edited(alloc, BASE, edits)?;
+        assert_eq!(rt;
+            base_counts(alloc, text.as_bytes())?.as_str(),
+            want,
+            "{edits}"
+        );
+    }
+    assert_eq!(rt; base_counts(alloc, b"\xff")?.as_str(), "1 0 0");
+    Ok(())
 }
 
 // A base of so many tags and groups, each group of so many calculations.
-fn large_base(
-    alloc: Global,
-    tags: usize,
-    groups: usize,
-    calcs: usize,
-) -> Result<String, AllocError> {
+fn large_base(alloc: Global, tags: u64, groups: u64, calcs: u64) -> Result<String, AllocError> {
     let mut text = String::new(alloc);
     for i in 0..tags {
         write!(text, "[[tag]]\nname = \"T{i}\"\nexc_dev = 0\nexc_max = 0\n")?;
@@ -106,205 +205,47 @@ fn large_base(
 }
 
 #[test]
-fn a_base_is_refused_for_the_first_rule_that_it_breaks(rt: HostRuntime) -> Result<(), Fail> {
-    let alloc = rt.alloc();
-    let cases: [(&[(&str, &str)], Result<(usize, usize), TextNo>); 75] = [
-        (&[], Ok((3, 2))),
-        (&[(r#""T1""#, r#""T1"#)], bad(1, 0, 0)),
-        (
-            &[("exc_dev = 11", "exc_dev = 9223372036854775808")],
-            bad(1, 0, 0),
-        ),
-        (&[("exc_dev = 11", "exc_dev = 0xB")], Ok((3, 2))),
-        (
-            &[("comp_min = 14", "comp_min = 14\ncomp_min = 14")],
-            bad(1, 0, 0),
-        ),
-        (&[("[[tag]]", "\u{feff}[[tag]]")], Ok((3, 2))),
-        (&[("[[tag]]", "x = 1\n[[tag]]")], bad(2, 0, 0)),
-        (&[("[[group]]", "[[groups]]")], bad(1, 0, 0)),
-        (&[("[[tag]]", "tag = 1\n[[tags]]")], bad(1, 0, 0)),
-        (&[("comp_max = 15\n", "")], bad(3, 0, 0)),
-        (&[("comp_max = 25\n", "")], bad(3, 1, 0)),
-        (
-            &[("comp_max = 25", "comp_max = 25\nother = 1")],
-            bad(3, 1, 0),
-        ),
-        (
-            &[(r#"descriptor = "flow""#, "descriptor = 5")],
-            bad(3, 2, 0),
-        ),
-        (
-            &[(r#"engunits = "m3""#, r#"engunits = ["m3"]"#)],
-            bad(3, 2, 0),
-        ),
-        (&[(r#""V2""#, "5")], bad(4, 1, 0)),
-        (&[(r#""V2""#, r#""V 2""#)], bad(4, 1, 0)),
-        (&[(r#""V2""#, r#""""#)], bad(4, 1, 0)),
-        (&[(r#""V2""#, r#""T1""#)], bad(4, 1, 0)),
-        (&[(r#""V2""#, r#""t1""#)], Ok((3, 2))),
-        (&[("exc_dev = 21", "exc_dev = -1")], bad(5, 1, 0)),
-        (&[("exc_dev = 21", "exc_dev = 0")], Ok((3, 2))),
-        (
-            &[("exc_dev = 21", "exc_dev = 1000000000000000")],
-            Ok((3, 2)),
-        ),
-        (
-            &[("exc_dev = 21", "exc_dev = 1000000000000001")],
-            bad(5, 1, 0),
-        ),
-        (&[("exc_max = 22", "exc_max = 253402300799999")], Ok((3, 2))),
-        (
-            &[("exc_max = 22", "exc_max = 253402300800000")],
-            bad(5, 1, 0),
-        ),
-        (&[("comp_dev = 23", "comp_dev = 23.0")], bad(5, 1, 0)),
-        (&[("comp_min = 24", "comp_min = true")], bad(5, 1, 0)),
-        (&[("comp_max = 25", r#"comp_max = "25""#)], bad(5, 1, 0)),
-        (&[("step = true", "step = 1")], bad(5, 1, 0)),
-        (
-            &[(r#""V2""#, r#""V 2""#), ("exc_dev = 21", "exc_dev = -1")],
-            bad(4, 1, 0),
-        ),
-        (
-            &[(r#""V2""#, r#""T1""#), ("comp_max = 25\n", "")],
-            bad(3, 1, 0),
-        ),
-        (
-            &[
-                ("comp_max = 25", "comp_max = -1"),
-                ("comp_max = 15", "comp_max = -1"),
-            ],
-            bad(5, 0, 0),
-        ),
-        (
-            &[("comp_max = 35", "comp_max = -1"), (r#""g""#, r#""g h""#)],
-            bad(5, 2, 0),
-        ),
-        (&[("start = 51\n", "")], bad(6, 1, 0)),
-        (&[("start = 51", "start = 51\nx = 1")], bad(6, 1, 0)),
-        (&[(r#""h""#, r#""g""#)], bad(7, 1, 0)),
-        (&[(r#""h""#, "7")], bad(7, 1, 0)),
-        (&[(r#""h""#, r#""T1""#)], Ok((3, 2))),
-        (&[(r#"["T3", "T1"]"#, "[]")], bad(8, 1, 0)),
-        (&[(r#"["T3", "T1"]"#, r#""T3""#)], bad(8, 1, 0)),
-        (&[(r#"["T3", "T1"]"#, r#"["T3", 1]"#)], bad(8, 1, 0)),
-        (&[(r#"["T3", "T1"]"#, r#"["T3", "T9"]"#)], bad(8, 1, 0)),
-        (&[(r#"["T3", "T1"]"#, r#"["T3", "T3"]"#)], bad(8, 1, 0)),
-        (&[(r#"["T3", "T1"]"#, r#"["T3", "V2"]"#)], bad(8, 1, 0)),
-        (&[("start = 51", "start = -1")], bad(9, 1, 0)),
-        (&[("start = 51", "start = 253402300799999")], Ok((3, 2))),
-        (&[("start = 51", "start = 253402300800000")], bad(9, 1, 0)),
-        (&[("period = 52", "period = 0")], bad(9, 1, 0)),
-        (&[("period = 52", "period = 1000000000000")], Ok((3, 2))),
-        (&[("period = 52", "period = 1000000000001")], bad(9, 1, 0)),
-        (
-            &[(
-                "[[group.calc]]\nname = \"k\"\nformula = \"low('T3')\"",
-                "calc = []",
-            )],
-            bad(10, 1, 0),
-        ),
-        (
-            &[(
-                "[[group.calc]]\nname = \"k\"\nformula = \"low('T3')\"",
-                "calc = 1",
-            )],
-            bad(10, 1, 0),
-        ),
-        (
-            &[(r#"name = "k""#, "name = \"k\"\ny = \"1\"")],
-            bad(10, 1, 0),
-        ),
-        (&[("name = \"k\"\n", "")], bad(10, 1, 0)),
-        (&[(r#""k""#, "3")], bad(10, 1, 0)),
-        (&[(r#""k""#, r#""k k""#)], bad(10, 1, 0)),
-        (&[(r#""n""#, r#""m""#)], bad(10, 0, 0)),
-        (&[(r#""low('T3')""#, "5")], bad(10, 1, 0)),
-        (&[(r#""low('T3')""#, r#""low('T3'""#)], bad(11, 1, 8)),
-        (&[(r#""low('T3')""#, r#""""#)], bad(11, 1, 0)),
-        (
-            &[(r#""low('T3')""#, r#""1000000000000000001""#)],
-            bad(11, 1, 0),
-        ),
-        (
-            &[(r#""low('T3')""#, r#""---------------------------------1""#)],
-            bad(11, 1, 32),
-        ),
-        (
-            &[(r#""low('T3')""#, r#""--------------------------------1""#)],
-            Ok((3, 2)),
-        ),
-        (&[(r#""low('T3')""#, r#""low('V2')""#)], bad(12, 1, 0)),
-        (&[(r#""low('T3')""#, r#""calc('k')""#)], bad(12, 1, 0)),
-        (&[(r#""low('T3')""#, r#""calc('m')""#)], bad(12, 1, 0)),
-        (&[(r#""avg('T1')""#, r#""calc('n')""#)], bad(12, 0, 0)),
-        (&[(r#""avg('T1')""#, r#""avg('T3')""#)], bad(12, 0, 0)),
-        (&[(r#""h""#, r#""g""#), ("start = 51\n", "")], bad(6, 1, 0)),
-        (
-            &[(r#""h""#, r#""g""#), (r#"["T3", "T1"]"#, "[]")],
-            bad(7, 1, 0),
-        ),
-        (
-            &[(r#"["T3", "T1"]"#, "[]"), ("period = 52", "period = 0")],
-            bad(8, 1, 0),
-        ),
-        (
-            &[("period = 52", "period = 0"), (r#""k""#, "3")],
-            bad(9, 1, 0),
-        ),
-        (
-            &[(r#""avg('T1')""#, r#""avg('T1'""#), (r#""n""#, r#""m""#)],
-            bad(10, 0, 0),
-        ),
-        (
-            &[
-                (r#""avg('T1')""#, r#""avg('T9')""#),
-                (r#""calc('m') + 1""#, r#""1 +""#),
-            ],
-            bad(11, 0, 3),
-        ),
-        (
-            &[(r#""avg('T1')""#, r#""avg('T9')""#), ("start = 51\n", "")],
-            bad(12, 0, 0),
-        ),
-    ];
-    for (edits, want) in cases {
-        let text = edited(alloc, BASE, edits)?;
-        assert_eq!(rt; base_counts(alloc, text.as_str()), want, "{edits:?}");
-    }
-    Ok(())
-}
-
-#[test]
 fn a_base_has_so_many_tables_at_most(rt: HostRuntime) -> Result<(), Fail> {
     let alloc = rt.alloc();
-    // The tags, the groups and the calculations of each group.
-    let cases: [(usize, usize, usize, Result<(usize, usize), TextNo>); 5] = [
-        (1024, 16, 64, Ok((1024, 16))),
-        (1025, 17, 65, limit(What::Tags, 1025)),
-        (1024, 17, 65, limit(What::Groups, 17)),
-        (1, 16, 65, limit(What::Calcs, 65)),
-        (1, 0, 0, Ok((1, 0))),
-    ];
-    for (tags, groups, calcs, want) in cases {
-        let text = large_base(alloc, tags, groups, calcs)?;
+    for row in TABLES.lines() {
+        let (given, want) = row.split_once(" => ").ok_or("row")?;
+        let (tags, rest) = given.split_once(' ').ok_or("tags")?;
+        let (groups, calcs) = rest.split_once(' ').ok_or("groups")?;
+        let text = large_base(
+            alloc,
+            number(&rt, tags),
+            number(&rt, groups),
+            number(&rt, calcs),
+        )?;
         assert_eq!(rt;
-            base_counts(alloc, text.as_str()),
+            base_counts(alloc, text.as_bytes())?.as_str(),
             want,
-            "{tags} {groups} {calcs}"
+            "{given}"
         );
     }
     Ok(())
 }
 
+// A letter so many times.
+fn letters(alloc: Global, count: usize) -> Result<String, Fail> {
+    Ok(String::from_utf8(vec![in alloc; b'1'; count]?).map_err(|_| "bytes")?)
+}
+
 #[test]
-fn names_have_so_many_bytes_at_most(rt: HostRuntime) -> Result<(), Fail> {
+fn names_and_formulas_have_so_many_bytes_at_most(rt: HostRuntime) -> Result<(), Fail> {
     let alloc = rt.alloc();
-    for (count, want) in [(64, Ok((3, 2))), (65, bad(4, 1, 0))] {
-        let name = String::from_utf8(vec![in alloc; b'x'; count]?).map_err(|_| "bytes")?;
-        let text = edited(alloc, BASE, &[("V2", name.as_str())])?;
-        assert_eq!(rt; base_counts(alloc, text.as_str()), want, "{count}");
+    for (old, count, want) in [
+        ("V2", 64, "ok 3 2"),
+        ("V2", 65, "4 1 0"),
+        ("calc('m') + 1", 1025, "11 0 1024"),
+    ] {
+        let edits = format!(in alloc; "{old} -> {}", letters(alloc, count)?)?;
+        let text = edited(alloc, BASE, edits.as_str())?;
+        assert_eq!(rt;
+            base_counts(alloc, text.as_bytes())?.as_str(),
+            want,
+            "{count}"
+        );
     }
     Ok(())
 }
@@ -331,6 +272,126 @@ fn a_base_holds_what_its_text_says(rt: HostRuntime) -> Result<(), Fail> {
         (group.start, group.period, group.calcs.defs().len()),
         (51, 52, 1)
     );
+    Ok(())
+}
+
+const PLAN: &str = r#"[[collector]]
+file = "c1.csv"
+[[collector]]
+file = "c2.csv"
+[[reader]]
+file = "r1.csv"
+[[reader]]
+file = "r2.csv"
+[[refresher]]
+group = "h"
+turns = 4
+[[refresher]]
+group = "g"
+turns = 0
+"#;
+
+// Texts of the plan that are replaced, as of a base; then how many collectors, readers and refreshers there are.
+const PLANS: &str = r#""c1.csv" -> "c1.csv => 1 0 0
+[[collector]] -> x = 1|[[collector]] => 2 0 0
+ => ok 2 2 2
+[[reader]]|file = "r1.csv"|[[reader]] -> [reader] => 2 0 0
+[[reader]]|file = "r1.csv"|[[reader]]|file = "r2.csv"| ->  => ok 2 0 2
+"c2.csv" -> "" => 3 1 0
+"c2.csv" -> 1 => 3 1 0
+file = "c2.csv" -> file = "c2.csv"|x = 1 => 3 1 0
+file = "c2.csv"| ->  => 3 1 0
+"r2.csv" -> "" => 4 1 0
+file = "r2.csv"| ->  => 4 1 0
+"g" -> "i" => 5 1 0
+"g" -> "h" => 5 1 0
+"g" -> 1 => 5 1 0
+turns = 0 -> turns = -1 => 5 1 0
+turns = 0 -> turns = 1000 => ok 2 2 2
+turns = 0 -> turns = 1001 => 5 1 0
+turns = 0 -> turns = false => 5 1 0
+turns = 0| ->  => 5 1 0
+turns = 0 -> turns = 0|x = 1 => 5 1 0
+"r1.csv" -> "" & "c2.csv" -> "" => 3 1 0
+"h" -> "i" & "r2.csv" -> "" => 4 1 0
+turns = 0 -> turns = -1 & turns = 4 -> turns = -1 => 5 0 0"#;
+
+// What a plan has over the base.
+fn plan_counts(alloc: Global, text: &str) -> Result<String, AllocError> {
+    let Ok(base) = read_base(alloc, BASE.as_bytes()) else {
+        return String::from_str(alloc, "base");
+    };
+    match read_plan(alloc, text.as_bytes(), &base) {
+        Ok(plan) => {
+            let (collectors, readers) = (plan.collectors.len(), plan.readers.len());
+            format!(in alloc; "ok {collectors} {readers} {}", plan.refreshers.len())
+        }
+        Err(no) => told(alloc, no),
+    }
+}
+
+#[test]
+fn a_plan_is_refused_for_the_first_rule_that_it_breaks(rt: HostRuntime) -> Result<(), Fail> {
+    let alloc = rt.alloc();
+    for row in PLANS.lines() {
+        let (edits, want) = row.split_once(" => ").ok_or("row")?;
+        let text = edited(alloc, PLAN, edits)?;
+        assert_eq!(rt;
+            plan_counts(alloc, text.as_str())?.as_str(),
+            want,
+            "{edits}"
+        );
+    }
+    for (count, want) in [(255, "ok 2 2 2"), (256, "3 1 0")] {
+        let edits = format!(in alloc; "c2.csv -> {}", letters(alloc, count)?)?;
+        let text = edited(alloc, PLAN, edits.as_str())?;
+        assert_eq!(rt;
+            plan_counts(alloc, text.as_str())?.as_str(),
+            want,
+            "{count}"
+        );
+    }
+    Ok(())
+}
+
+// How many collectors and readers there are.
+const LISTS: &str = "\
+16 16 => ok 16 16 0
+17 17 => Collectors 17
+16 17 => Readers 17
+0 0 => ok 0 0 0";
+
+#[test]
+fn a_plan_has_so_many_files_at_most(rt: HostRuntime) -> Result<(), Fail> {
+    let alloc = rt.alloc();
+    for row in LISTS.lines() {
+        let (given, want) = row.split_once(" => ").ok_or("row")?;
+        let (collectors, readers) = given.split_once(' ').ok_or("collectors")?;
+        let mut text = String::new(alloc);
+        for _ in 0..number(&rt, collectors) {
+            text.push_str("[[collector]]\nfile = \"c\"\n")?;
+        }
+        for _ in 0..number(&rt, readers) {
+            text.push_str("[[reader]]\nfile = \"r\"\n")?;
+        }
+        assert_eq!(rt;
+            plan_counts(alloc, text.as_str())?.as_str(),
+            want,
+            "{given}"
+        );
+    }
+    Ok(())
+}
+
+#[test]
+fn a_plan_holds_what_its_text_says(rt: HostRuntime) -> Result<(), Fail> {
+    let alloc = rt.alloc();
+    let base = read_base(alloc, BASE.as_bytes()).map_err(|_| "base")?;
+    let plan = read_plan(alloc, PLAN.as_bytes(), &base).map_err(|_| "plan")?;
+    let reader = plan.readers.get(1).ok_or("reader")?;
+    assert_eq!(rt; reader.text(), "r2.csv");
+    let refresher = plan.refreshers.first().ok_or("refresher")?;
+    assert_eq!(rt; (refresher.group, refresher.turns), (1, 4));
     Ok(())
 }
 

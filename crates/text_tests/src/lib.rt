@@ -14,4 +14,6 @@ mod reports;
 #[cfg(test)]
 mod rows;
 #[cfg(test)]
+mod spelled;
+#[cfg(test)]
 mod statuses;

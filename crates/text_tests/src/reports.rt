@@ -1,65 +1,37 @@
 // Lines of a report, as an independent program prints them.
-ghost use Rattle.std.specs.Prelude.{◌≡◌};
-ghost use Rattle.interp_read.specs.declared.query.Reply.TheVariants.{At};
-ghost use Rattle.trend_report.specs.declared.reply_line.ReplyText.TheVariants.{Tag};
 ghost use Rattle.trend_report.specs.Lines.{HasText};
 
-use trend_report::*;
 use std::alloc::Global;
 use std::process::Abort;
 use std::test::Fail;
-use trend_num::name_from;
+use trend_num::{Bad, CalcValue, name_from};
+use trend_report::{
+    Frac, Point, PointList, Reading, Reply, ReplyText, Snap, TagLine, reply_text, tag_text,
+};
 
 #[test]
-fn prints_tags(rt: HostRuntime) -> Result<(), Fail> {
-    let held = Point { t: 4000, v: 9 };
-    let last = Point {
-        t: 253_402_300_799_999,
-        v: -1_000_000_000_000_000,
+fn a_tag_is_told(rt: HostRuntime) -> Result<(), Fail> {
+    let line = TagLine {
+        name: name_from(b"FIC101.PV").ok_or("name")?,
+        taken: u64::MAX,
+        records: 3,
+        kept: 2,
+        late: 1,
+        held: Some(Point { t: 4000, v: -9 }),
     };
-    let table = [
-        (
-            "T1",
-            4,
-            2,
-            1,
-            Some(held),
-            "tag T1 taken=4 records=3 kept=2 late=1 held=4000,9\n",
-        ),
-        (
-            "T1",
-            0,
-            0,
-            0,
-            None,
-            "tag T1 taken=0 records=0 kept=0 late=0 held=none\n",
-        ),
-        (
-            "FIC101.PV",
-            u64::MAX,
-            1,
-            0,
-            Some(last),
-            "tag FIC101.PV taken=18446744073709551615 records=1 kept=1 late=0 held=253402300799999,-1000000000000000\n",
-        ),
-    ];
-    for (word, taken, kept, late, held, want) in table {
-        let line = TagLine {
-            name: name_from(word.as_bytes()).expect(&rt, "a name"),
-            taken,
-            records: kept + late,
-            kept,
-            late,
-            held,
-        };
-        let text = tag_text(rt.alloc(), &line)?;
-        assert_eq!(rt; text.as_str(), want);
-    }
+    let want = "tag FIC101.PV taken=18446744073709551615 records=3 kept=2 late=1 held=4000,-9\n";
+    assert_eq!(rt; tag_text(rt.alloc(), &line)?.as_str(), want);
+    let line = TagLine { held: None, ..line };
+    assert!(rt;
+        tag_text(rt.alloc(), &line)?
+            .as_str()
+            .ends_with(" held=none\n")
+    );
     Ok(())
 }
 
-/// Prints a reply to the fifth query of the first reader.
-fn told(rt: &impl Abort, alloc: Global, reply: ReplyText, want: &str) -> Result<(), Fail>
+// A reply to the fifth query of the first reader is told so.
+fn tells(rt: &impl Abort, alloc: Global, reply: ReplyText, want: &str) -> Result<(), Fail>
     requires { HasText reply }
 {
     let text = reply_text(alloc, 1, 5, &reply)?;
@@ -67,106 +39,101 @@ fn told(rt: &impl Abort, alloc: Global, reply: ReplyText, want: &str) -> Result<
     Ok(())
 }
 
-fn at(reading: Reading) -> ReplyText
-    ensures { result ≡ Tag (At reading) }
-{
-    ReplyText::Tag(Reply::At(reading))
-}
-
 #[test]
-fn prints_readings(rt: HostRuntime) -> Result<(), Fail> {
+fn replies_of_tags_are_told(rt: HostRuntime) -> Result<(), Fail> {
     let alloc = rt.alloc();
-    told(&rt, alloc, at(Reading::Exact(60)), "reply 1 5 exact 60\n")?;
-    told(&rt, alloc, at(Reading::Flat(-5)), "reply 1 5 flat -5\n")?;
-    told(&rt, alloc, at(Reading::Nothing), "reply 1 5 none\n")?;
-    let half = Frac { num: 1, den: 2 };
-    told(&rt, alloc, at(Reading::Line(half)), "reply 1 5 line 1\n")?;
-    let below = Frac { num: -1, den: 2 };
-    told(&rt, alloc, at(Reading::Line(below)), "reply 1 5 line 0\n")?;
+    tells(
+        &rt,
+        alloc,
+        ReplyText::Tag(Reply::At(Reading::Exact(60))),
+        "reply 1 5 exact 60\n",
+    )?;
+    tells(
+        &rt,
+        alloc,
+        ReplyText::Tag(Reply::At(Reading::Flat(-5))),
+        "reply 1 5 flat -5\n",
+    )?;
+    tells(
+        &rt,
+        alloc,
+        ReplyText::Tag(Reply::At(Reading::Nothing)),
+        "reply 1 5 none\n",
+    )?;
     let lower = Frac { num: -3, den: 2 };
-    told(&rt, alloc, at(Reading::Line(lower)), "reply 1 5 line -1\n")?;
-    let third = Frac { num: 7, den: 3 };
-    told(&rt, alloc, at(Reading::Line(third)), "reply 1 5 line 2\n")
-}
-
-#[test]
-fn prints_points(rt: HostRuntime) -> Result<(), Fail> {
-    let table: [(&[(u64, i64)], bool, &str); 4] = [
-        (&[], false, "reply 16 4096 end\n"),
-        (&[], true, "reply 16 4096 more\n"),
-        (
-            &[(0, 0), (10, 10), (20, 0)],
-            false,
-            "reply 16 4096 0,0 10,10 20,0 end\n",
-        ),
-        (&[(0, -1)], true, "reply 16 4096 0,-1 more\n"),
-    ];
-    for (points, more, want) in table {
-        let mut list = Vec::new(rt.alloc());
-        for (t, v) in points {
-            list.push(Point { t: *t, v: *v })?;
-        }
-        let reply = ReplyText::Tag(Reply::Points(PointList { list, more }));
-        let text = reply_text(rt.alloc(), 16, 4096, &reply)?;
-        assert_eq!(rt; text.as_str(), want);
-    }
-    Ok(())
-}
-
-#[test]
-fn prints_numbers(rt: HostRuntime) -> Result<(), Fail> {
-    let alloc = rt.alloc();
-    let most = 500_000_000_000_000_000_000_000_000_000;
-    told(
+    tells(
         &rt,
         alloc,
-        ReplyText::Tag(Reply::Window(Some(8))),
-        "reply 1 5 8\n",
+        ReplyText::Tag(Reply::At(Reading::Line(lower))),
+        "reply 1 5 line -1\n",
     )?;
-    told(
+    tells(
         &rt,
         alloc,
-        ReplyText::Tag(Reply::Window(Some(-most))),
-        "reply 1 5 -500000000000000000000000000000\n",
+        ReplyText::Tag(Reply::Window(Some(-8))),
+        "reply 1 5 -8\n",
     )?;
-    told(
+    tells(
         &rt,
         alloc,
         ReplyText::Tag(Reply::Window(None)),
         "reply 1 5 none\n",
     )?;
+    let list = vec![in alloc; Point { t: 0, v: 0 }, Point { t: 10, v: -1 }]?;
+    let points = PointList { list, more: true };
+    tells(
+        &rt,
+        alloc,
+        ReplyText::Tag(Reply::Points(points)),
+        "reply 1 5 0,0 10,-1 more\n",
+    )?;
+    let none = PointList {
+        list: Vec::new(alloc),
+        more: false,
+    };
+    tells(
+        &rt,
+        alloc,
+        ReplyText::Tag(Reply::Points(none)),
+        "reply 1 5 end\n",
+    )
+}
+
+#[test]
+fn snapshots_and_rows_are_told(rt: HostRuntime) -> Result<(), Fail> {
+    let alloc = rt.alloc();
     let held = Some(Point { t: 30, v: 5 });
-    told(
+    tells(
         &rt,
         alloc,
         ReplyText::Snap(Snap { taken: 4, held }),
         "reply 1 5 snap 4 30,5\n",
     )?;
-    let none = ReplyText::Snap(Snap {
+    let none = Snap {
         taken: 0,
         held: None,
-    });
-    told(&rt, alloc, none, "reply 1 5 snap 0 none\n")?;
-    told(&rt, alloc, ReplyText::Row(None), "reply 1 5 none\n")?;
-    told(
+    };
+    tells(&rt, alloc, ReplyText::Snap(none), "reply 1 5 snap 0 none\n")?;
+    tells(&rt, alloc, ReplyText::Row(None), "reply 1 5 none\n")?;
+    tells(
         &rt,
         alloc,
         ReplyText::Row(Some(CalcValue::Num(-7))),
         "reply 1 5 -7\n",
     )?;
-    told(
+    tells(
         &rt,
         alloc,
         ReplyText::Row(Some(CalcValue::Bad(Bad::NoData))),
         "reply 1 5 bad nodata\n",
     )?;
-    told(
+    tells(
         &rt,
         alloc,
         ReplyText::Row(Some(CalcValue::Bad(Bad::DivZero))),
         "reply 1 5 bad divzero\n",
     )?;
-    told(
+    tells(
         &rt,
         alloc,
         ReplyText::Row(Some(CalcValue::Bad(Bad::Range))),

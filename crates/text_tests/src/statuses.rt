@@ -1,10 +1,103 @@
-// Each status with its code and line.
-use plant_status::*;
+// Statuses with their codes and lines, written out by hand.
+use plant_status::{
+    FileId, OpenPasses, Pass, Passes, Place, Reason, Seen, Status, TagDef, Unit, What, code, line,
+};
 use std::process::Abort;
 use trend_num::{Tuning, name_from};
 
-/// A tag of the name `T1`.
-fn tag_def(rt: &impl Abort) -> TagDef {
+const WHATS: [What; 13] = [
+    What::FileBytes,
+    What::TextBytes,
+    What::Rows,
+    What::Tags,
+    What::Collectors,
+    What::Readers,
+    What::Queries,
+    What::Groups,
+    What::Calcs,
+    What::Records,
+    What::StoreRecords,
+    What::Copies,
+    What::Cells,
+];
+
+// The line of a limit of each, 7.
+const LIMITS: &str = "\
+fault: limit file_bytes 7
+fault: limit text_bytes 7
+fault: limit rows 7
+fault: limit tags 7
+fault: limit collectors 7
+fault: limit readers 7
+fault: limit queries 7
+fault: limit groups 7
+fault: limit calcs 7
+fault: limit records 7
+fault: limit store_records 7
+fault: limit copies 7
+fault: limit cells 7";
+
+// A status has this code, and this line.
+fn tells(rt: &impl Abort, status: Status, want_code: u8, want: &str) {
+    assert_eq!(rt; code(&status), want_code, "{want}");
+    let told = line(&status);
+    match told.bytes().split_last() {
+        None => assert!(rt; want.is_empty()),
+        Some((end, text)) => assert!(rt; *end == b'\n' && text == want.as_bytes(), "{want}"),
+    }
+}
+
+#[test]
+fn files_have_their_names(rt: HostRuntime) {
+    let row = u64::MAX;
+    let reason = Reason::Number;
+    let file = FileId::Collector(u32::MAX);
+    let want = "fault: row collector 4294967296 18446744073709551615 number";
+    tells(&rt, Status::BadRow { file, row, reason }, 4, want);
+    let file = FileId::Reader(9);
+    tells(&rt, Status::ReadFault { file }, 5, "fault: read reader 10");
+    let (file, rule, place, at) = (FileId::Base, 5, 1, 0);
+    let want = "fault: text base rule 5 place 1 at 0";
+    tells(
+        &rt,
+        Status::BadText {
+            file,
+            rule,
+            place,
+            at,
+        },
+        3,
+        want,
+    );
+    let file = FileId::Plan;
+    tells(&rt, Status::ReadFault { file }, 5, "fault: read plan");
+    let file = FileId::Input;
+    tells(&rt, Status::ReadFault { file }, 5, "fault: read input");
+}
+
+#[test]
+fn devices_have_their_units(rt: HostRuntime) {
+    let unit = Unit::Group(u32::MAX);
+    tells(
+        &rt,
+        Status::DeviceFault { unit },
+        7,
+        "fault: device group 4294967296",
+    );
+    let (unit, at, byte) = (Unit::Tag(3), 66_639, None);
+    tells(
+        &rt,
+        Status::Damaged { unit, at, byte },
+        8,
+        "fault: damaged tag 4 66639 end",
+    );
+    let byte = Some(0x0a);
+    tells(
+        &rt,
+        Status::Damaged { unit, at, byte },
+        8,
+        "fault: damaged tag 4 66639 0a",
+    );
     let tuning = Tuning {
         exc_dev: 0,
         exc_max: 1,
@@ -12,253 +105,47 @@ fn tag_def(rt: &impl Abort) -> TagDef {
         comp_min: 0,
         comp_max: 1,
     };
-    TagDef {
-        name: name_from(b"T1").expect(rt, "T1 is a name"),
+    let found = TagDef {
+        name: name_from(b"T1").expect(&rt, "a name"),
         tuning,
         step: false,
-    }
+    };
+    let wanted = TagDef {
+        step: true,
+        ..found
+    };
+    let tag = 1;
+    tells(
+        &rt,
+        Status::OtherTag { tag, found, wanted },
+        9,
+        "fault: other tag 2",
+    );
 }
 
-/// Each status with its exit code and its line, written out by hand.
 #[test]
-fn each_status_has_its_code_and_line(rt: HostRuntime) {
-    let tag = tag_def(&rt);
-    for (status, want_code, want_line) in [
-        (Status::Done, 0, ""),
-        (Status::BadWords, 2, "fault: words\n"),
-        (
-            Status::BadRow {
-                file: FileId::Input,
-                row: 1,
-                reason: Reason::Fields,
-            },
-            4,
-            "fault: row input 1 fields\n",
-        ),
-        (
-            Status::BadRow {
-                file: FileId::Base,
-                row: 20,
-                reason: Reason::Verb,
-            },
-            4,
-            "fault: row base 20 verb\n",
-        ),
-        (
-            Status::BadRow {
-                file: FileId::Plan,
-                row: 0,
-                reason: Reason::Name,
-            },
-            4,
-            "fault: row plan 0 name\n",
-        ),
-        (
-            Status::BadRow {
-                file: FileId::Reader(0),
-                row: 65536,
-                reason: Reason::Range,
-            },
-            4,
-            "fault: row reader 1 65536 range\n",
-        ),
-        (
-            Status::BadRow {
-                file: FileId::Collector(u32::MAX),
-                row: u64::MAX,
-                reason: Reason::Number,
-            },
-            4,
-            "fault: row collector 4294967296 18446744073709551615 number\n",
-        ),
-        (
-            Status::ReadFault {
-                file: FileId::Input,
-            },
-            5,
-            "fault: read input\n",
-        ),
-        (
-            Status::ReadFault {
-                file: FileId::Collector(0),
-            },
-            5,
-            "fault: read collector 1\n",
-        ),
-        (
-            Status::ReadFault {
-                file: FileId::Reader(9),
-            },
-            5,
-            "fault: read reader 10\n",
-        ),
-        (Status::WriteFault, 6, ""),
-        (
-            Status::BadText {
-                file: FileId::Base,
-                rule: 5,
-                place: 1,
-                at: 0,
-            },
-            3,
-            "fault: text base rule 5 place 1 at 0\n",
-        ),
-        (
-            Status::BadText {
-                file: FileId::Collector(u32::MAX),
-                rule: u8::MAX,
-                place: u32::MAX,
-                at: u32::MAX,
-            },
-            3,
-            "fault: text collector 4294967296 rule 255 place 4294967295 at 4294967295\n",
-        ),
-        (
-            Status::DeviceFault { unit: Unit::Tag(0) },
-            7,
-            "fault: device tag 1\n",
-        ),
-        (
-            Status::DeviceFault {
-                unit: Unit::Group(u32::MAX),
-            },
-            7,
-            "fault: device group 4294967296\n",
-        ),
-        (
-            Status::Damaged {
-                unit: Unit::Tag(3),
-                at: 66639,
-                byte: None,
-            },
-            8,
-            "fault: damaged tag 4 66639 end\n",
-        ),
-        (
-            Status::Damaged {
-                unit: Unit::Group(0),
-                at: u64::MAX,
-                byte: Some(0x0a),
-            },
-            8,
-            "fault: damaged group 1 18446744073709551615 0a\n",
-        ),
-        (
-            Status::OtherTag {
-                tag: 1,
-                found: tag,
-                wanted: TagDef { step: true, ..tag },
-            },
-            9,
-            "fault: other tag 2\n",
-        ),
-        (
-            Status::Mismatch {
-                place: Place::Version { group: 0, input: 0 },
-                kept: Seen::Number(2),
-                told: Seen::Number(3),
-            },
-            11,
-            "fault: mismatch\n",
-        ),
-        (Status::Halted { worker: 0 }, 12, "fault: halted 0\n"),
-        (
-            Status::Halted { worker: u32::MAX },
-            12,
-            "fault: halted 4294967295\n",
-        ),
-        (Status::NotYet, 14, "fault: notyet\n"),
-        (
-            Status::Limit {
-                what: What::FileBytes,
-                number: 16777216,
-            },
-            10,
-            "fault: limit file_bytes 16777216\n",
-        ),
-        (
-            Status::Limit {
-                what: What::Tags,
-                number: 100,
-            },
-            10,
-            "fault: limit tags 100\n",
-        ),
-        (
-            Status::Limit {
-                what: What::StoreRecords,
-                number: u64::MAX,
-            },
-            10,
-            "fault: limit store_records 18446744073709551615\n",
-        ),
-        (Status::WantOfMemory, 13, "fault: memory\n"),
-    ] {
-        assert_eq!(rt; code(&status), want_code, "the code of {status:?}");
-        assert_eq!(rt;
-            line(&status).bytes(),
-            want_line.as_bytes(),
-            "the line of {status:?}"
-        );
+fn a_run_ends_in_these(rt: HostRuntime) {
+    tells(&rt, Status::Done, 0, "");
+    tells(&rt, Status::BadWords, 2, "fault: words");
+    tells(&rt, Status::WriteFault, 6, "");
+    let mismatch = Status::Mismatch {
+        place: Place::Version { group: 0, input: 0 },
+        kept: Seen::Number(2),
+        told: Seen::Number(3),
+    };
+    tells(&rt, mismatch, 11, "fault: mismatch");
+    tells(&rt, Status::Halted { worker: 0 }, 12, "fault: halted 0");
+    tells(&rt, Status::WantOfMemory, 13, "fault: memory");
+    tells(&rt, Status::NotYet, 14, "fault: notyet");
+    for (what, want) in WHATS.into_iter().zip(LIMITS.lines()) {
+        tells(&rt, Status::Limit { what, number: 7 }, 10, want);
     }
 }
 
-/// Each quantity with its word.
-#[test]
-fn each_quantity_has_its_word(rt: HostRuntime) {
-    for (what, want) in [
-        (What::FileBytes, "fault: limit file_bytes 7\n"),
-        (What::TextBytes, "fault: limit text_bytes 7\n"),
-        (What::Rows, "fault: limit rows 7\n"),
-        (What::Tags, "fault: limit tags 7\n"),
-        (What::Collectors, "fault: limit collectors 7\n"),
-        (What::Readers, "fault: limit readers 7\n"),
-        (What::Queries, "fault: limit queries 7\n"),
-        (What::Groups, "fault: limit groups 7\n"),
-        (What::Calcs, "fault: limit calcs 7\n"),
-        (What::Records, "fault: limit records 7\n"),
-        (What::StoreRecords, "fault: limit store_records 7\n"),
-        (What::Copies, "fault: limit copies 7\n"),
-        (What::Cells, "fault: limit cells 7\n"),
-    ] {
-        assert_eq!(rt;
-            line(&Status::Limit { what, number: 7 }).bytes(),
-            want.as_bytes()
-        );
-    }
-}
-
-/// Each digit of a damaged byte, in both places.
-#[test]
-fn a_byte_has_two_digits(rt: HostRuntime) {
-    for (byte, want) in [
-        (0x00, "fault: damaged tag 1 0 00\n"),
-        (0x19, "fault: damaged tag 1 0 19\n"),
-        (0x82, "fault: damaged tag 1 0 82\n"),
-        (0x37, "fault: damaged tag 1 0 37\n"),
-        (0x64, "fault: damaged tag 1 0 64\n"),
-        (0x5a, "fault: damaged tag 1 0 5a\n"),
-        (0xab, "fault: damaged tag 1 0 ab\n"),
-        (0xcd, "fault: damaged tag 1 0 cd\n"),
-        (0xef, "fault: damaged tag 1 0 ef\n"),
-        (0xff, "fault: damaged tag 1 0 ff\n"),
-    ] {
-        let status = Status::Damaged {
-            unit: Unit::Tag(0),
-            at: 0,
-            byte: Some(byte),
-        };
-        assert_eq!(rt; line(&status).bytes(), want.as_bytes());
-    }
-}
-
-/// Open passes never stop a worker, and nothing is counted.
 #[test]
 fn open_passes_stay_open(rt: HostRuntime) {
     let mut passes = OpenPasses;
     let mut one = passes.hand(7);
-    for step in [0, 1, u64::MAX] {
-        assert!(rt; one.pass(step));
-    }
+    assert!(rt; one.pass(0) && one.pass(u64::MAX));
     passes.give_back(one);
 }

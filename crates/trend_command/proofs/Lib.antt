@@ -1,4 +1,3 @@
 pub mod Listing
 pub mod Answering
 pub mod Numbering
-pub mod Asked

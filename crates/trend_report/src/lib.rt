@@ -13,4 +13,4 @@ mod tag_line;
 pub use interp_read::{PointList, Reading, Reply};
 pub use reply_line::{ReplyText, reply_text};
 pub use tag_line::{TagLine, tag_text};
-pub use trend_num::{Frac, Name, Point, Snap, WantOfMemory};
+pub use trend_num::{Bad, CalcValue, Frac, Name, Point, Snap, WantOfMemory};

@@ -7,7 +7,7 @@ ghost use Rattle.trend_report.specs.Lines.{HasText, answer_text, cause_text, num
 use crate::point_text::{put_held, put_point};
 use interp_read::{PointList, Reading, Reply};
 use std::alloc::{AllocError, Global};
-use trend_num::{Frac, Point, Snap, WantOfMemory, round_half_up};
+use trend_num::{Bad, CalcValue, Frac, Point, Snap, WantOfMemory, round_half_up};
 
 /// The answer to a query.
 #[derive(Drop)]

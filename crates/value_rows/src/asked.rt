@@ -12,10 +12,9 @@ use crate::places::Places;
 use crate::reading::{Form, rows_of_text};
 use crate::verb::{Verb, verb_of};
 use csv::ByteRecord;
-use trend_num::TagQuery;
 use point_text::RowNo;
 use std::alloc::Global;
-use trend_num::{Measure, Name, Reason, numeral};
+use trend_num::{Measure, Name, Reason, TagQuery, numeral};
 
 /// The number of the last window that may be asked for.
 const LAST_WINDOW: u64 = 1_000_000_000_000;

@@ -26,7 +26,6 @@ mod reading;
 mod verb;
 
 pub use asked::{GroupNames, Query, query_rows};
-pub use trend_num::TagQuery;
 pub use point_text::RowNo;
 pub use raw::{RawRow, raw_rows};
-pub use trend_num::{Measure, Name, Point, Reason};
+pub use trend_num::{Measure, Name, Point, Reason, TagQuery};

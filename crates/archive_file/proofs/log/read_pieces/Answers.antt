@@ -40,7 +40,7 @@ loop-done-preserved g c =
       within = omega (arith, c.loop-done-test.true, c.min-next.ensures);
       same = c.in_ok-read_piece.ensures.same ∙ c.loop-done.invariant.same;
       untimed = c.in_ok-read_piece.ensures.untimed ∙ c.loop-done.invariant.untimed;
-      faults = omega (arith, c.in_ok-read_piece.ensures.faults, c.loop-done.invariant.faults);
+      faults = c.in_ok-read_piece.ensures.cause.passed ∙ c.loop-done.invariant.faults;
       len = omega (arith, c.in_ok-read_piece.ensures.len, c.loop-done.invariant.len);
       capacity = c.in_ok-read_piece.ensures.capacity ∙ c.loop-done.invariant.capacity;
     }

@@ -1,6 +1,6 @@
 use Rattle.disk_model.proofs.Moments.{started}
-use Rattle.crash_recovery.specs.Recovery.{IsNew}
-use Rattle.crash_recovery.proofs.LayoutMoments.{new_now, new_recovers}
+use Rattle.disk_model.specs.Gates.{IsNew}
+use Rattle.device_layout.proofs.LayoutMoments.{new_now, new_recovers}
 use Rattle.crash_recovery.proofs.MadeSeats.{made_seated}
 use Rattle.crash_recovery.proofs.opening.made.Goals as goal
 

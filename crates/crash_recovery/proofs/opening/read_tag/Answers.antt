@@ -1,10 +1,20 @@
-use Rattle.std.proofs.Common.{◌≡◌, ◌∙◌, ap, arith, false, sym, subst}
+use Rattle.std.proofs.Common.{◌≡◌, ◌≤◌, ◌∙◌, ap, false, sym, subst}
 use Rattle.trend_model.specs.State.{State, nothing_taken}
-use Rattle.crash_recovery.specs.Recovery.{IsNew, IsRecovered}
-use Rattle.crash_recovery.specs.Opening.{Shows, HasSlots, OpensAs, IsLeftOrSame, IsReadAs, IsCause}
+use Rattle.disk_model.specs.Gates.{IsNew}
+use Rattle.device_layout.specs.Recovery.{IsRecovered}
+use Rattle.disk_model.specs.Calls.{Shows}
+use Rattle.device_layout.specs.Readings.{IsCause}
+use Rattle.crash_recovery.specs.Opening.{HasSlots, OpensAs, IsLeftOrSame, IsReadAs}
 use Rattle.crash_recovery.specs.Journals.{IsSeat}
-use Rattle.crash_recovery.proofs.Shows.{shows_after, if_ok, if_ok₂, if_err}
+use Rattle.device_layout.proofs.Shows.{shows_after, if_ok, if_ok₂, if_err}
 use Rattle.crash_recovery.proofs.Openings.{synced_during, during_same, made_during, made_as, read_as, slots_made, slots_kept, cause_synced}
+use Rattle.disk_model.specs.Traces.{Synced, noted}
+use Rattle.disk_model.specs.Gates.{IsBegun}
+use Rattle.device_layout.specs.Layouts.{IsMade}
+use Rattle.crash_recovery.specs.Opening.{HasFreeAtFirst}
+use Rattle.crash_recovery.specs.Journals.{free_in}
+use Rattle.crash_recovery.proofs.Afterwards.{free_kept, free_made, begun_before, new_before, shown_always}
+use Rattle.crash_recovery.proofs.Turns.{on_ok, ok_always}
 use Rattle.crash_recovery.proofs.opening.read_tag.Goals as goal
 
 pub returns-in_default-clause-any_moment : goal.returns-in_default-clause-any_moment
@@ -75,15 +85,65 @@ returns-in-Ok-false-clause-cause g c =
     let def = c.args.def.now in
     let o = g.D.Disk.trace c.args.dev.now in
     let mid = g.D.Disk.trace c.is_new.new.dev in
-    let faults = g.D.Disk.fault_count in
-    if_err c.read_back.result (IsCause def mid (faults c.is_new.new.dev) (faults c.read_back.new.dev))
-    (IsCause def o (faults c.args.dev.now) (faults c.read_back.new.dev))
-    (λ why. cause_synced def o mid (faults c.args.dev.now) (faults c.is_new.new.dev) (faults c.read_back.new.dev) why
-    (c.in-Ok-false.ensures.same ∙ c.in-Ok.ensures.noted) (omega
-    (arith, c.in-Ok-false.ensures.faults, c.sync.ensures.cause.later)))
+    if_err c.read_back.result (IsCause def mid) (IsCause def o)
+    (λ why. cause_synced def o mid why (c.in-Ok-false.ensures.same ∙ c.in-Ok.ensures.noted))
     c.read_back.ensures.cause
 
 pub returns-clause-any_moment : goal.returns-clause-any_moment
 returns-clause-any_moment g c =
     let def = c.args.def.now in
     during_same _ _ _ (IsLeftOrSame def _) c.in-Err.ensures.same (synced_during _ def _ _ c.sync.ensures.noted)
+
+pub returns-in-Ok-true-clause-free : goal.returns-in-Ok-true-clause-free
+returns-in-Ok-true-clause-free g c =
+    let o = g.D.Disk.trace c.args.dev.now in
+    let mid = g.D.Disk.trace c.is_new.new.dev in
+    let same = c.in-Ok-true.ensures.same in
+    let blank = shows_after _ _ IsNew same (c.in-Ok-true.ensures.new c.in-Ok-true.field-0-test) in
+    if_ok c.made.result (λ r. free_in r.seat ≡ r.seat.lane.slots)
+    (λ r. Shows o (HasFreeAtFirst r.seat.lane.slots (free_in r.seat)))
+    (λ r all. free_made o mid _ _ (same ∙ c.in-Ok.ensures.noted) all blank) c.made.ensures.free
+
+pub returns-in-Ok-true-clause-made : goal.returns-in-Ok-true-clause-made
+returns-in-Ok-true-clause-made g c =
+    let o = g.D.Disk.trace c.args.dev.now in
+    let new = g.D.Disk.trace c.made.new.dev in
+    on_ok c.made.result
+    (λ made. shown_always o IsNew (Shows new (IsMade c.args.def.now c.args.lane_slots)) made) c.made.ensures.made
+
+pub returns-in-Ok-true-clause-synced : goal.returns-in-Ok-true-clause-synced
+returns-in-Ok-true-clause-synced g c =
+    let o = g.D.Disk.trace c.args.dev.now in
+    let mid = g.D.Disk.trace c.is_new.new.dev in
+    let new = g.D.Disk.trace c.made.new.dev in
+    let same = c.in-Ok-true.ensures.same in
+    let blank = shows_after _ _ IsNew same (c.in-Ok-true.ensures.new c.in-Ok-true.field-0-test) in
+    on_ok c.made.result (λ made. new_before o mid (new ≡ noted Synced o) (same ∙ c.in-Ok.ensures.noted) blank)
+    c.made.ensures.made
+
+pub returns-in-Ok-false-clause-free : goal.returns-in-Ok-false-clause-free
+returns-in-Ok-false-clause-free g c =
+    let o = g.D.Disk.trace c.args.dev.now in
+    let mid = g.D.Disk.trace c.is_new.new.dev in
+    let is = c.in-Ok-false.ensures.same ∙ c.in-Ok.ensures.noted in
+    if_ok₂ c.read_back.result (λ r. Shows mid (IsSeat r.seat)) (λ r. r.seat.lane.used ≤ r.seat.lane.slots)
+    (λ r. Shows o (HasFreeAtFirst r.seat.lane.slots (free_in r.seat)))
+    (λ r seat within. free_kept o mid r.seat is within seat) c.read_back.ensures.seat c.read_back.ensures.used
+
+pub returns-in-Ok-false-clause-made : goal.returns-in-Ok-false-clause-made
+returns-in-Ok-false-clause-made g c =
+    let o = g.D.Disk.trace c.args.dev.now in
+    let mid = g.D.Disk.trace c.is_new.new.dev in
+    let new = g.D.Disk.trace c.read_back.new.dev in
+    let same = c.in-Ok-false.ensures.same in
+    let begun = shows_after _ _ IsBegun same (c.in-Ok-false.ensures.begun c.in-Ok-false.field-0-test) in
+    ok_always c.read_back.result (begun_before o mid (Shows new (IsMade c.args.def.now c.args.lane_slots))
+    (same ∙ c.in-Ok.ensures.noted) begun)
+
+pub returns-in-Ok-false-clause-synced : goal.returns-in-Ok-false-clause-synced
+returns-in-Ok-false-clause-synced g c =
+    let o = g.D.Disk.trace c.args.dev.now in
+    let mid = g.D.Disk.trace c.is_new.new.dev in
+    let new = g.D.Disk.trace c.read_back.new.dev in
+    let is = c.read_back.ensures.same ∙ c.in-Ok-false.ensures.same ∙ c.in-Ok.ensures.noted in
+    ok_always c.read_back.result (shown_always o (λ x. IsNew x → ⊥) (new ≡ noted Synced o) is)

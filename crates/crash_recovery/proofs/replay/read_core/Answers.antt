@@ -2,17 +2,18 @@ use Rattle.std.proofs.Common.{◌<◌, ◌+◌, ap, ap₂, Err, ◌∙◌, subst
 use Rattle.trend_num.specs.Limits.{most_records}
 use Rattle.trend_model.specs.History.{Raw}
 use Rattle.trend_model.specs.State.{replay}
-use Rattle.crash_recovery.specs.Recovery.{AllFit}
+use Rattle.device_layout.specs.Recovery.{AllFit}
 use Rattle.crash_recovery.specs.Opening.{HoldsValue, IsOverfull}
-use Rattle.crash_recovery.proofs.Shows.{shows_after}
-use Rattle.crash_recovery.proofs.Reading.{cause_of_scan}
+use Rattle.device_layout.proofs.Shows.{shows_after}
+use Rattle.device_layout.proofs.Reading.{cause_of_scan}
 use Rattle.crash_recovery.proofs.Cores.{queue_shown, holds_shown, overfull_cause, recovered_shown, seated_shown}
+use Rattle.crash_recovery.proofs.Numbered.{numbered_read}
 use Rattle.crash_recovery.proofs.replay.read_core.Goals as goal
 
 pub returns-in-Err-clause-cause : goal.returns-in-Err-clause-cause
 returns-in-Err-clause-cause g c def same_step read =
     let no = c.in-Err.ensures in
-    cause_of_scan def _ _ _ _ _ c.refusal_of.ensures (λ is. no.device_fault (ap Err is))
+    cause_of_scan def _ _ _ c.refusal_of.ensures
     (λ at byte is. queue_shown def _ c.args.slots c.args.stored at byte read (no.damaged at byte (ap Err is)))
 
 pub returns-in-Err-replay-clause-cause : goal.returns-in-Err-replay-clause-cause
@@ -24,15 +25,13 @@ returns-in-Err-replay-clause-cause g c def same_step read =
     let no = c.in-Err-replay.ensures in
     let n = c.in-Err-replay.number in
     let points = c.deref.ensures.value in
-    overfull_cause def _ c.args.slots c.args.stored s c.args.step core.state n _ _ _ c.overfull.result scan.within read
+    overfull_cause def _ c.args.slots c.args.stored s c.args.step core.state n c.overfull.result scan.within read
     scan.ok same_step made.records made.summary
     (subst (λ k. AllFit k core.state (map Raw (take n s.points.items))) made.step
     (subst (λ l. AllFit core.step core.state (map Raw (take n l))) points no.fit_before))
     (subst (λ k. most_records < length (replay k core.state (map Raw (take n s.points.items))).records + 2) made.step
     (subst (λ l. most_records < length (replay core.step core.state (map Raw (take n l))).records + 2) points no.full))
-    scan.faults
-    (subst (λ o. IsOverfull o c.args.slots c.args.stored.summary.taken n (g.D.Disk.fault_count c.scan.new.dev)
-    (g.D.Disk.fault_count c.overfull.new.dev) c.overfull.result) scan.same
+    (subst (λ o. IsOverfull o c.args.slots c.args.stored.summary.taken n c.overfull.result) scan.same
     (c.overfull.ensures.value c.args.stored.summary.taken
     (shows_after _ _ (HoldsValue c.args.slots c.args.stored.summary.taken s.lane.used n) scan.same
     (holds_shown def _ c.args.slots c.args.stored s n scan.within read scan.ok (subst
@@ -54,3 +53,9 @@ returns-clause-recovered g c def same_step read =
 pub returns-clause-seat : goal.returns-clause-seat
 returns-clause-seat g c def read =
     seated_shown def _ c.args.slots c.args.stored c.in-Ok.scanned c.in-Ok.ensures.within read c.in-Ok.ensures.ok
+
+pub returns-clause-numbered : goal.returns-clause-numbered
+returns-clause-numbered g c =
+    let s = c.args.stored in
+    numbered_read c.args.slots s.summary.taken s.summary.records c.in-Ok.scanned s.slot c.requires.some
+    c.in-Ok.ensures.within

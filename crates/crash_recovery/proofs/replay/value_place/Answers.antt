@@ -1,6 +1,6 @@
 use Rattle.std.proofs.Common.{◌≡◌, ◌+◌, ◌-◌, ◌∙◌, min, arith, ap, sym, subst}
 use Rattle.event_queue.specs.Slots.{slot_at, count_in}
-use Rattle.crash_recovery.proofs.Shows.{shows, shows_before}
+use Rattle.device_layout.proofs.Shows.{shows, shows_before}
 use Rattle.crash_recovery.proofs.LanePlaces.{IsCountedTo, more_shown, value_shown, never_shown}
 use Rattle.crash_recovery.proofs.replay.value_place.Goals as goal
 
@@ -25,7 +25,7 @@ loop-j-preserved g c =
     record {
       same = read.same ∙ so_far.same;
       untimed = read.untimed ∙ so_far.untimed;
-      later = omega (arith, read.faults, so_far.later);
+      faults = read.counts.passed ∙ so_far.faults;
       counted = λ taken holds. shows _ _ (IsCountedTo slots taken c.args.number (j + 1)
           (c.loop-j.rest - c.from-count.result))
           (λ c' so. subst (λ k. IsCountedTo slots taken c.args.number (j + 1) k c') (ap (λ k. c.loop-j.rest - k)

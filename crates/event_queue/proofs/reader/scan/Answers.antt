@@ -16,7 +16,7 @@ loop-j-init g c =
     record {
       same = c.in_ok-gates.ensures.same;
       untimed = c.in_ok-gates.ensures.untimed;
-      later = c.in_ok-gates.ensures.faults;
+      faults = c.in_ok-gates.ensures.cause.passed;
       slots_same = c.in_ok-scanned.ensures.within.slots_same;
       within = subst (λ n. IsWithin c.args.slots c.args.taken n s) none c.in_ok-scanned.ensures.within;
       read = read_first (g.D.Disk.trace c.args.dev.now) c.args.slots c.args.taken _ s none
@@ -59,7 +59,7 @@ loop-j-preserved g c =
     record {
       same = c.refill.ensures.same ∙ c.loop-j.invariant.same;
       untimed = c.refill.ensures.untimed ∙ c.loop-j.invariant.untimed;
-      later = omega (arith, c.loop-j.invariant.later, c.refill.ensures.cause.later);
+      faults = c.in-Ok-refill.ensures.cause.passed ∙ c.loop-j.invariant.faults;
       slots_same = within.slots_same;
       within = subst (λ n. IsWithin slots c.args.taken n new) next within;
       read = with_piece o slots c.args.taken (min from used) from c.in_ok-gates.gates.items

@@ -7,7 +7,7 @@ abbrev pub invariant-loop-j : goal.invariant-loop-j
 invariant-loop-j g l = record {
   same : g.D.Disk.trace l.dev ≡ g.D.Disk.trace l.fn.dev;
   untimed : g.D.Disk.ticks l.dev ≡ g.D.Disk.ticks l.fn.dev;
-  later : g.D.Disk.fault_count l.fn.dev ≤ g.D.Disk.fault_count l.dev;
+  faults : g.D.Disk.fault_count l.dev ≡ g.D.Disk.fault_count l.fn.dev;
   slots_same : l.scanned.lane.slots ≡ l.slots;
   within : IsWithin l.slots l.taken (min (64 * l.j) l.used) l.scanned;
   read : IfSome (g.D.Disk.trace l.fn.dev)

@@ -1,11 +1,12 @@
-use Rattle.std.proofs.Common.{refl, map, string_bytes}
+use Rattle.std.proofs.Common.{refl, sym, ap, ◌∙◌, map, string_bytes}
 use Rattle.store_commands.specs.Commands.{IsCheckRefusal, IsChecked, IsTrend, IsTrendRefusal}
-use Rattle.plant_run.proofs.Printing.{answered_so, faults_so, check_no_fault, check_not_done, form_check, form_trend, trend_no_fault, trend_not_done}
+use Rattle.plant_run.specs.CommandLine.{asked}
+use Rattle.plant_run.proofs.Printing.{answered_so, counts_so, done_so, faults_so, check_no_fault, check_not_done, check_rose, trend_no_fault, trend_not_done, trend_rose}
 use Rattle.plant_run.proofs.top_call.run.Goals as goal
 
-pub returns-in-Some-clause-ends : goal.returns-in-Some-clause-ends
-returns-in-Some-clause-ends g c =
-    let base = c.in-Some.base.now in
+pub returns-in-Check-clause-ends : goal.returns-in-Check-clause-ends
+returns-in-Check-clause-ends g c =
+    let base = c.in-Check.base.now in
     let told = g.F.Files.told c.args.files.now in
     let old = g.S.Store.device_at c.args.store.now in
     let new = g.S.Store.device_at c.check.new.store in
@@ -13,40 +14,57 @@ returns-in-Some-clause-ends g c =
     let more = g.S.Store.fault_count c.check.new.store in
     let before = g.O.Sink.meaning c.args.out.now in
     let now = g.O.Sink.meaning c.finish.new.out in
-    rw (form_check (map string_bytes c.args.words.now) base c.in-Some.ensures.base) (
-      (answered_so (IsChecked base told old) (IsCheckRefusal base told old new faults more) before now c.check.result
-          c.finish.result c.check.ensures.text c.check.ensures.refused (check_not_done base base told old new faults more)
-          (check_no_fault base base told old new faults more) c.finish.ensures.text c.finish.ensures.refused),
-      faults_so before now c.check.result c.finish.result _ _ c.check.ensures.file_faults c.finish.ensures.text c.finish.ensures.refused,
-      refl,
+    let IsRefused = IsCheckRefusal base told old new faults more in
+    let no_done = check_not_done base base told old new faults more in
+    let no_fault = check_no_fault base base told old new faults more in
+    let rose = check_rose base base told old new faults more in
+    let text = c.finish.ensures.text in
+    let line = c.finish.ensures.refused in
+    rw (sym c.form_of.ensures.form ∙ ap asked c.in-Check.is) (
+      answered_so (IsChecked base told old) IsRefused before now c.check.result c.finish.result c.check.ensures.text
+          c.check.ensures.refused no_done no_fault text line,
+      record {
+        durable = done_so IsRefused before now c.check.result c.finish.result c.check.ensures.durable c.check.ensures.refused
+            no_done no_fault text line;
+        file_faults = faults_so before now c.check.result c.finish.result _ _ c.check.ensures.file_faults text line;
+        device_faults = λ few. counts_so IsRefused before now c.check.result c.finish.result faults more
+            (c.check.ensures.counts few) c.check.ensures.refused (rose few) text line;
+        input = refl;
+      },
     )
 
-pub returns-in-Some-clause-devices : goal.returns-in-Some-clause-devices
-returns-in-Some-clause-devices g c =
-    rw (form_check (map string_bytes c.args.words.now) c.in-Some.base.now c.in-Some.ensures.base) c.check.ensures.kept
+pub returns-in-Check-clause-devices : goal.returns-in-Check-clause-devices
+returns-in-Check-clause-devices g c = rw (sym c.form_of.ensures.form ∙ ap asked c.in-Check.is) c.check.ensures.kept
 
-pub returns-in-Some-trend_files-clause-ends : goal.returns-in-Some-trend_files-clause-ends
-returns-in-Some-trend_files-clause-ends g c =
-    let base = c.in-Some-trend_files.base.now in
-    let plan = c.in-Some-trend_files.plan.now in
+pub returns-in-Trend-clause-ends : goal.returns-in-Trend-clause-ends
+returns-in-Trend-clause-ends g c =
+    let base = c.in-Trend.base.now in
+    let plan = c.in-Trend.plan.now in
     let told = g.F.Files.told c.args.files.now in
     let old = g.S.Store.device_at c.args.store.now in
     let new = g.S.Store.device_at c.trend.new.store in
     let faults = g.S.Store.fault_count c.args.store.now in
     let more = g.S.Store.fault_count c.trend.new.store in
     let before = g.O.Sink.meaning c.args.out.now in
-    let now = g.O.Sink.meaning c.finish-in-Some-trend_files.new.out in
-    rw (form_trend (map string_bytes c.args.words.now) base plan c.in_default.ensures.none c.in-Some-trend_files.ensures.files) (
-      (answered_so (IsTrend base plan told old) (IsTrendRefusal base plan told old new faults more) before now c.trend.result
-          c.finish-in-Some-trend_files.result c.trend.ensures.text c.trend.ensures.refused
-          (trend_not_done base plan told old new faults more) (trend_no_fault base plan told old new faults more)
-          c.finish-in-Some-trend_files.ensures.text c.finish-in-Some-trend_files.ensures.refused),
-      faults_so before now c.trend.result c.finish-in-Some-trend_files.result _ _ c.trend.ensures.file_faults
-          c.finish-in-Some-trend_files.ensures.text c.finish-in-Some-trend_files.ensures.refused,
-      refl,
+    let now = g.O.Sink.meaning c.finish-in-Trend.new.out in
+    let IsRefused = IsTrendRefusal base plan told old new faults more in
+    let no_done = trend_not_done base plan told old new faults more in
+    let no_fault = trend_no_fault base plan told old new faults more in
+    let rose = trend_rose base plan told old new faults more in
+    let text = c.finish-in-Trend.ensures.text in
+    let line = c.finish-in-Trend.ensures.refused in
+    rw (sym c.form_of.ensures.form ∙ ap asked c.in-Trend.is) (
+      answered_so (IsTrend base plan told old) IsRefused before now c.trend.result c.finish-in-Trend.result
+          c.trend.ensures.text c.trend.ensures.refused no_done no_fault text line,
+      record {
+        durable = done_so IsRefused before now c.trend.result c.finish-in-Trend.result c.trend.ensures.durable
+            c.trend.ensures.refused no_done no_fault text line;
+        file_faults = faults_so before now c.trend.result c.finish-in-Trend.result _ _ c.trend.ensures.file_faults text line;
+        device_faults = λ few. counts_so IsRefused before now c.trend.result c.finish-in-Trend.result faults more
+            (c.trend.ensures.counts few) c.trend.ensures.refused (rose few) text line;
+        input = refl;
+      },
     )
 
-pub returns-in-Some-trend_files-clause-devices : goal.returns-in-Some-trend_files-clause-devices
-returns-in-Some-trend_files-clause-devices g c =
-    rw (form_trend (map string_bytes c.args.words.now) c.in-Some-trend_files.base.now c.in-Some-trend_files.plan.now
-    c.in_default.ensures.none c.in-Some-trend_files.ensures.files) c.trend.ensures.kept
+pub returns-in-Trend-clause-devices : goal.returns-in-Trend-clause-devices
+returns-in-Trend-clause-devices g c = rw (sym c.form_of.ensures.form ∙ ap asked c.in-Trend.is) c.trend.ensures.kept

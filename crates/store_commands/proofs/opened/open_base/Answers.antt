@@ -4,8 +4,7 @@ use Rattle.plant_files.specs.Reading.{faults_told}
 use Rattle.plant_files.specs.Texts.{tag_names}
 use Rattle.tag_store.specs.Tags.{AreDistinct}
 use Rattle.tag_store.specs.Refusals.{IsRefusal}
-use Rattle.crash_recovery.proofs.Shows.{if_err}
-use Rattle.store_commands.proofs.Commands.{distinct_tags, no_file_fault}
+use Rattle.store_commands.proofs.Commands.{distinct_tags, no_file_fault, if_err}
 use Rattle.store_commands.proofs.opened.open_base.Goals as goal
 
 -- the tags that are opened are distinct
@@ -33,3 +32,8 @@ pub returns-clause-same : goal.returns-clause-same
 returns-clause-same g c =
     let tags = c.deref.ensures.value in
     rw (← tags) (c.open_tags.ensures.any_moment (opened_distinct _ _ c.requires.distinct tags))
+
+pub returns-clause-left : goal.returns-clause-left
+returns-clause-left g c =
+    let tags = c.deref.ensures.value in
+    rw (← tags) (c.open_tags.ensures.left (opened_distinct _ _ c.requires.distinct tags))

@@ -1,7 +1,7 @@
-use Rattle.std.proofs.Common.{inr, refl, ◌∙◌, sym, ap}
+use Rattle.std.proofs.Common.{inr, refl, ◌∙◌, sym, ap, arith, length}
 use Rattle.trend_command.specs.Told.{trend_text}
 use Rattle.store_commands.specs.Commands.{OfGroup, OfPlan, OfReader, OfTag}
-use Rattle.store_commands.proofs.Commands.{found_empty, found_some}
+use Rattle.store_commands.proofs.Commands.{found_empty, found_some, as_many_lists}
 use Rattle.store_commands.proofs.replies.trend.Goals as goal
 
 pub returns-then-not-is_empty-clause-refused : goal.returns-then-not-is_empty-clause-refused
@@ -61,3 +61,24 @@ returns-in-Ok-replies-clause-kept g c =
 
 pub returns-clause-kept : goal.returns-clause-kept
 returns-clause-kept g c = inr (c.in-Ok.base, c.in-Ok.ensures.base, c.open_base.ensures.same, c.open_base.ensures.others)
+
+pub returns-in-Ok-replies-clause-durable : goal.returns-in-Ok-replies-clause-durable
+returns-in-Ok-replies-clause-durable g c = record {
+  base = c.in-Ok.base;
+  cores = c.in-Ok-open_base.cores.items;
+  read = c.in-Ok.ensures.base;
+  opened = c.in-Ok-open_base.ensures.opened;
+  left = c.in-Ok-open_base.ensures.left;
+}
+
+pub replies-requires-clause-few : goal.replies-requires-clause-few
+replies-requires-clause-few g c =
+    let plan = c.in-Ok-plan_of.plan in
+    let asked = c.in-Ok-queries_of.ensures.queries.asked in
+    omega (
+      arith,
+      ap length c.deref-2.ensures.value,
+      as_many_lists _ _ _ _ _ asked,
+      plan.few_readers,
+      plan.readers.ok,
+    )

@@ -1,5 +1,5 @@
 use Rattle.std.proofs.Common.{inl, inr, ◌∙◌, ap}
-use Rattle.tag_store.specs.Lines.{check_text}
+use Rattle.store_commands.specs.Lines.{check_text}
 use Rattle.store_commands.proofs.tag_lines.check.Goals as goal
 
 pub returns-in-Err-open_base-clause-refused : goal.returns-in-Err-open_base-clause-refused
@@ -27,3 +27,12 @@ returns-in-Ok-check_text-clause-kept g c =
 
 pub returns-clause-kept : goal.returns-clause-kept
 returns-clause-kept g c = inr (c.in-Ok.base, c.in-Ok.ensures.base, c.open_base.ensures.same, c.open_base.ensures.others)
+
+pub returns-in-Ok-check_text-clause-durable : goal.returns-in-Ok-check_text-clause-durable
+returns-in-Ok-check_text-clause-durable g c = record {
+  base = c.in-Ok.base;
+  cores = c.in-Ok-open_base.cores.items;
+  read = c.in-Ok.ensures.base;
+  opened = c.in-Ok-open_base.ensures.opened;
+  left = c.in-Ok-open_base.ensures.left;
+}

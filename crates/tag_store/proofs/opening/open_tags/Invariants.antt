@@ -1,5 +1,5 @@
 use Rattle.std.proofs.Common.{◌≡◌, ◌^◌, ◌<◌, ◌≤◌, length}
-use Rattle.tag_store.specs.Tags.{most_store_records}
+use Rattle.trend_num.specs.Limits.{most_stored}
 use Rattle.tag_store.specs.Tags.{records_in}
 use Rattle.tag_store.proofs.Turns.{IsSoFar}
 use Rattle.tag_store.proofs.opening.open_tags.Given as goal
@@ -10,8 +10,7 @@ invariant-loop-def g l = record {
       (g.S.Store.device_at l.store) l.cores.items;
   count : length l.cores.items ≡ l.def-index;
   records : l.records ≡ records_in l.cores.items;
-  few : l.records ≤ most_store_records;
-  later : g.S.Store.fault_count l.fn.store < 2 ^ 64
-      → g.S.Store.fault_count l.fn.store ≤ g.S.Store.fault_count l.store;
-  counted : g.S.Store.fault_count l.fn.store < 2 ^ 64 → g.S.Store.fault_count l.store < 2 ^ 64;
+  few : l.records ≤ most_stored;
+  faults : g.S.Store.fault_count l.fn.store < 2 ^ 64
+      → g.S.Store.fault_count l.store ≡ g.S.Store.fault_count l.fn.store;
 }

@@ -1,37 +1,37 @@
-use Rattle.std.proofs.Common.{◌≡◌, Option, ap, subst, sym}
+use Rattle.std.proofs.Common.{◌≡◌, Option, Result, ap, subst}
 use Rattle.trend_num.specs.declared.tag_def.TagDef.{TagDef}
 use Rattle.trend_model.specs.State.{State}
 use Rattle.disk_model.specs.Traces.{Trace}
-use Rattle.disk_model.specs.Moments.{During}
-use Rattle.crash_recovery.specs.Journals.{AllRecover, RecoversEither, Logged}
+use Rattle.crash_recovery.specs.Journals.{AllRecover, LeavesEither, Logged}
 use Rattle.crash_recovery.proofs.Turns.{either_kept}
 use Rattle.crash_recovery.proofs.journal.Journal.commit.Goals as goal
 
 -- what each image recovers, of the device that the journal shows
-of_shown : {D : Type 0} (trace : D → Option Trace) (inside shown : D) (new : Option Trace) (def : TagDef)
-    (s r : State)
+of_shown : {D T E : Type 0} (trace : D → Option Trace) (inside shown : D) (new : Option Trace) (def : TagDef)
+    (s r : State) (result : Result T E)
     → inside ≡ shown
-    → (AllRecover def (trace inside) s → During (trace inside) new (RecoversEither def s r))
-    → AllRecover def (trace shown) s → During (trace shown) new (RecoversEither def s r)
-of_shown trace inside shown new def s r same step =
-    subst (λ d. AllRecover def (trace d) s → During (trace d) new (RecoversEither def s r)) same step
+    → (AllRecover def (trace inside) s → LeavesEither def (trace inside) new s r result)
+    → AllRecover def (trace shown) s → LeavesEither def (trace shown) new s r result
+of_shown trace inside shown new def s r result same step =
+    subst (λ d. AllRecover def (trace d) s → LeavesEither def (trace d) new s r result) same step
 
-pub returns-then-is_full-clause-any_moment : goal.returns-then-is_full-clause-any_moment
-returns-then-is_full-clause-any_moment g c = λ def s all fits. either_kept _ def s _ all
+pub returns-then-is_full-clause-crash : goal.returns-then-is_full-clause-crash
+returns-then-is_full-clause-crash g c = λ def s all fits. record {
+  any_moment = either_kept _ def s _ all;
+  durable = tt;
+}
 
-pub returns-in_default-clause-any_moment : goal.returns-in_default-clause-any_moment
-returns-in_default-clause-any_moment g c = λ def s all fits.
-    of_shown g.D.Disk.trace c.self.inside.dev c.args.self.now.dev _ def s _
+pub returns-in_default-clause-crash : goal.returns-in_default-clause-crash
+returns-in_default-clause-crash g c = λ def s all fits.
+    of_shown g.D.Disk.trace c.self.inside.dev c.args.self.now.dev _ def s _ _
     (ap (λ (x : Logged _). x.dev) c.self.view_is)
-    (λ before. c.append.ensures.any_moment def s before fits) all
+    (λ before. record { any_moment = c.append.ensures.any_moment def s before fits; durable = tt }) all
 
-pub returns-clause-any_moment : goal.returns-clause-any_moment
-returns-clause-any_moment g c = λ def s all fits.
-    of_shown g.D.Disk.trace c.self.inside.dev c.args.self.now.dev _ def s _
+pub returns-clause-crash : goal.returns-clause-crash
+returns-clause-crash g c = λ def s all fits.
+    of_shown g.D.Disk.trace c.self.inside.dev c.args.self.now.dev _ def s _ _
     (ap (λ (x : Logged _). x.dev) c.self.view_is)
-    (λ before. c.append.ensures.any_moment def s before fits) all
-
-pub returns-clause-durable : goal.returns-clause-durable
-returns-clause-durable g c = λ def s all fits.
-    let e : c.self.inside.dev ≡ c.args.self.now.dev = ap (λ (x : Logged _). x.dev) c.self.view_is in
-    c.in-Ok.ensures.durable def s (subst (λ d. AllRecover def (g.D.Disk.trace d) s) (sym e) all) fits
+    (λ before. record {
+      any_moment = c.append.ensures.any_moment def s before fits;
+      durable = c.in-Ok.ensures.durable def s before fits;
+    }) all

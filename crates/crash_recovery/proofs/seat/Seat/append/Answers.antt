@@ -1,7 +1,7 @@
 use Rattle.std.proofs.Common.{◌+◌, false, length, subst, sym}
 use Rattle.disk_model.proofs.Moments.{during_now}
 use Rattle.crash_recovery.specs.declared.seat.Seat.{Seat}
-use Rattle.crash_recovery.specs.Recovery.{Recovers}
+use Rattle.device_layout.specs.Recovery.{Recovers}
 use Rattle.crash_recovery.specs.Journals.{SeatedOn}
 use Rattle.crash_recovery.proofs.Places.{laid_on, overrun_on, moved}
 use Rattle.crash_recovery.proofs.Appends.{cleared, taken_cleared, append_moments, append_durable}

@@ -1,5 +1,5 @@
 use Rattle.disk_model.proofs.Moments.{during_now}
-use Rattle.crash_recovery.specs.Recovery.{Recovers}
+use Rattle.device_layout.specs.Recovery.{Recovers}
 use Rattle.crash_recovery.proofs.Done.{done_recovers}
 use Rattle.crash_recovery.proofs.Places.{laid_on, overrun_on}
 use Rattle.crash_recovery.proofs.Turns.{either_kept, either_first, then_same, then_either, then_second}
@@ -10,7 +10,7 @@ returns-then-has_all_of-clause-any_moment g c = λ small def s all goes. either_
 
 pub returns-then-has_all_of-clause-durable : goal.returns-then-has_all_of-clause-durable
 returns-then-has_all_of-clause-durable g c = λ small def s all goes.
-    let is = c.has_all_of.ensures c.if-has_all_of.true in
+    let is = c.has_all_of.ensures.0 c.if-has_all_of.true in
     done_recovers c.args.self.now _ def s c.args.core.now.step c.args.core.now.state c.requires.seated is.0
     is.1 goes
     all

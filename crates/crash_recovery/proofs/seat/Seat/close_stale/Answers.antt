@@ -2,7 +2,7 @@ use Rattle.std.proofs.Common.{false, subst, sym}
 use Rattle.disk_model.specs.Images.{Now}
 use Rattle.disk_model.proofs.Moments.{started}
 use Rattle.event_queue.specs.Places.{HasRoom}
-use Rattle.crash_recovery.specs.Recovery.{Recovers}
+use Rattle.device_layout.specs.Recovery.{Recovers}
 use Rattle.crash_recovery.specs.Seats.{LaidOn}
 use Rattle.crash_recovery.proofs.Restarts.{restart_moments, restart_laid}
 use Rattle.crash_recovery.proofs.seat.Seat.close_stale.Goals as goal

@@ -1,6 +1,6 @@
 use Rattle.std.proofs.Common.{◌≡◌, ◌∙◌, refl, ap, length, drop, rules}
 use Rattle.archive_file.specs.Records.{recs_image}
-use Rattle.crash_recovery.specs.Recovery.{summary_gate}
+use Rattle.device_layout.specs.Recovery.{summary_gate}
 use Rattle.crash_recovery.specs.Seats.{spare_slot}
 use Rattle.crash_recovery.proofs.Logged.{put_moments, gates_torn, log_moments, log_laid, ready_on}
 use Rattle.crash_recovery.proofs.seat.Seat.log_records.Goals as goal
@@ -37,8 +37,7 @@ returns-in-Ok g c =
           c.in_ok-put_new_records.ensures.reads
           c.in-Ok.ensures.reads c.in-Ok.ensures.shut;
       unwritten = search rules;
-      device_fault = search rules;
-      faults = search rules;
+      cause = search rules;
       later = search rules;
     }
 

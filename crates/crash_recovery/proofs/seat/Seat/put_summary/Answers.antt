@@ -1,7 +1,7 @@
 use Rattle.std.proofs.Common.{◌∙◌, sym, ap, subst, rules}
 use Rattle.std.specs.Prelude.{nat_lt}
 use Rattle.archive_file.specs.Summaries.{summary_image}
-use Rattle.crash_recovery.specs.Recovery.{summary_place, summary_gate}
+use Rattle.device_layout.specs.Recovery.{summary_place, summary_gate}
 use Rattle.crash_recovery.specs.Seats.{LaidOn, OverrunOn}
 use Rattle.crash_recovery.proofs.Checkpoints.{fit_of, none_used, summed_as, summary_moments, summary_durable}
 use Rattle.crash_recovery.proofs.Checkpoints.{summary_overrun, summary_laid}
@@ -63,6 +63,8 @@ returns g c =
       number = ap (λ x. x.taken) value;
       same_lane = search rules;
       stale = none_used p.lane.used;
+      taken = ap (λ x. x.taken) value;
+      ticked = search rules;
       later = search rules;
       cause = search rules;
     }

@@ -1,0 +1,84 @@
+#!/usr/bin/env python3
+"""run.py: times takes and commits of a cell beside plain code.
+
+Lays main.rattle as a crate into a copy of the crates that it stands on, builds it (`rt run`), and compiles plain.rs. A walk of
+a million values is taken without commits by both in turn; then one with a commit after each 64th on a file, beside the bare
+writes and syncs of such batches. It tells medians over the runs, the ratios, what was aimed at, and bytes a take. It runs by
+hand, never as a test; with a word it builds in that folder, and keeps it."""
+import os
+import shutil
+import statistics
+import subprocess
+import sys
+import tempfile
+
+HERE = os.path.dirname(os.path.abspath(__file__))
+ROOT = os.path.dirname(os.path.dirname(HERE))
+RUNS = 7
+TAKES = 1_000_000
+COMMITTED = 32_768
+
+
+def below(name):
+    """The crates of this repository that one stands on, and itself."""
+    with open(os.path.join(ROOT, "crates.txt")) as listed:
+        lines = [line.split("#")[0].strip() for line in listed]
+    deps = {line.split(":")[0].split()[0]: line.split(":")[1].split() for line in lines if ":" in line}
+    names = [name]
+    for each in names:
+        names += [dep for dep in deps[each] if dep in deps and dep not in names]
+    return names
+
+
+def build(folder):
+    """The program, built in a repository of its own, and the plain one."""
+    names = below("tag_cell")
+    crates = os.path.join(folder, "crates")
+    for name in names:
+        shutil.copytree(os.path.join(ROOT, "crates", name), os.path.join(crates, name), dirs_exist_ok=True,
+                        ignore=shutil.ignore_patterns("out", "must-fail"))
+    source = os.path.join(crates, "cell_bench", "src")
+    os.makedirs(source, exist_ok=True)
+    shutil.copyfile(os.path.join(HERE, "main.rattle"), os.path.join(source, "main.rt"))
+    with open(os.path.join(ROOT, "crates.txt")) as listed:
+        lines = [line for line in listed if line.split(":")[0].split()[:1] and line.split(":")[0].split()[0] in names]
+    with open(os.path.join(folder, "crates.txt"), "w") as out:
+        out.write("".join(lines) + "cell_bench may_wait=9: anyhow trend_num disk_model snapshot_table tag_cell\n")
+    shutil.copyfile(os.path.join(ROOT, "HANDLES"), os.path.join(folder, "HANDLES"))
+    subprocess.run(["rt", "run", "--jobs", "2"], cwd=os.path.dirname(source), stdin=subprocess.DEVNULL,
+                   stdout=subprocess.DEVNULL, stderr=subprocess.DEVNULL, check=True)
+    plain = os.path.join(folder, "plain")
+    subprocess.run(["rustc", "--edition", "2021", "-O", "-o", plain, os.path.join(HERE, "plain.rs")], check=True)
+    return os.path.join(crates, "cell_bench", "out", "cell_bench"), plain
+
+
+def run(folder, words):
+    """What was printed, and the peak memory in kilobytes."""
+    shutil.rmtree(os.path.join(folder, "historian.d"), ignore_errors=True)
+    child = subprocess.run(["/usr/bin/time", "-f", "%M"] + words, cwd=folder, stdin=subprocess.DEVNULL, capture_output=True,
+                           check=True)
+    return [int(word) for word in child.stdout.split()], int(child.stderr)
+
+
+def median(folder, program, what, count):
+    return statistics.median(run(folder, [program, what, str(count)])[0][0] for _ in range(RUNS))
+
+
+def main():
+    with tempfile.TemporaryDirectory() as scratch:
+        program, plain = build(sys.argv[1] if len(sys.argv) > 1 else scratch)
+        print("load", os.getloadavg())
+        ours, other = median(scratch, program, "takes", TAKES), median(scratch, plain, "takes", TAKES)
+        print("a take: ours %.1f ns  plain %.1f ns  %.2f times  aim 1.50 %s"
+              % (ours / TAKES, other / TAKES, ours / other, "met" if ours <= 1.5 * other else "MISSED"))
+        for name, each in [("ours", program), ("plain", plain)]:
+            peak = min(run(scratch, [each, "takes", str(TAKES)])[1] for _ in range(RUNS))
+            base = min(run(scratch, [each, "nothing", str(64)])[1] for _ in range(RUNS))
+            print("%s: %.1f bytes a take" % (name, (peak - base) * 1024 / TAKES))
+        ours, other = median(scratch, program, "commits", COMMITTED), median(scratch, plain, "device", COMMITTED)
+        print("64 takes and a commit: ours %.1f us  bare device %.1f us  rate %.2f  aim 0.90 %s"
+              % (64e-3 * ours / COMMITTED, 64e-3 * other / COMMITTED, other / ours, "met" if other >= 0.9 * ours else "MISSED"))
+        print("load", os.getloadavg())
+
+
+main()

@@ -1,0 +1,140 @@
+-- What becomes of a device that is opened: its layout, its free lane slots, and whether a sync is all that it gains.
+use Rattle.std.proofs.Common.{◌≡◌, inl, inr, ℕ, ◌+◌, ◌-◌, ◌<◌, ◌≤◌, false, true, cond, List, Option, None}
+use Rattle.std.proofs.Common.{Some, refl, ◌∙◌, ap, subst, arith}
+use Rattle.std.proofs.lemmas.Bool.{cases_Bool}
+use Rattle.trend_num.specs.declared.tag_def.TagDef.{TagDef}
+use Rattle.trend_model.specs.State.{State, nothing_taken}
+use Rattle.disk_model.specs.Traces.{Trace, Synced, seen, noted}
+use Rattle.disk_model.specs.Gates.{IsNew, IsBegun}
+use Rattle.disk_model.specs.Calls.{Shows}
+use Rattle.event_queue.specs.Slots.{batch_at}
+use Rattle.event_queue.specs.Lanes.{IsStale}
+use Rattle.device_layout.specs.Recovery.{counting}
+use Rattle.device_layout.proofs.OneState.{one_state}
+use Rattle.crash_recovery.specs.declared.seat.Seat.{Seat}
+use Rattle.crash_recovery.specs.Journals.{IsSeat, free_in, taken_of}
+use Rattle.crash_recovery.specs.Opening.{IsReadAs, HasFree, HasFreeAtFirst, LeavesFree, MakesLayout, GainsSync}
+use Rattle.crash_recovery.proofs.Openings.{shown_before}
+
+-- a device whose layout was finished is not new
+pub not_new : (c : List ℕ) → IsBegun c → IsNew c → ⊥
+not_new c begun (inl short) = absurd (omega (arith, short, begun.long))
+not_new c begun (inr shut) = shut begun.opened
+
+-- one on which a journal stands is not
+not_seated : (p : Seat) (c : List ℕ) → IsSeat p c → IsNew c → ⊥
+not_seated p c seat (inl short) = absurd (omega (arith, short, seat.laid.long))
+not_seated p c seat (inr shut) = shut seat.laid.opened
+
+-- ---- how many lane slots are free
+
+-- those of a place on a device
+seat_free : (p : Seat) (c : List ℕ) → p.lane.used ≤ p.lane.slots → IsSeat p c → HasFree p.lane.slots (free_in p) c
+seat_free p c within seat =
+    let taken : p.taken ≡ taken_of c (counting c) = seat.laid.taken ∙ ap (taken_of c) seat.laid.counts in
+    elim (cases_Bool p.stale) [
+      | inl stale ↦ inl (
+        λ k below opened. subst (λ n. IsStale n (batch_at p.lane.slots c k)) taken
+            ((seat.overrun stale).stale k below opened),
+        ap (λ b. cond b p.lane.slots (p.lane.slots - p.lane.used)) stale,
+      )
+      | inr fresh ↦
+          let rest : free_in p ≡ p.lane.slots - p.lane.used =
+          ap (λ b. cond b p.lane.slots (p.lane.slots - p.lane.used)) fresh in
+          let in_use = seat.laid.in_use fresh in
+          inr (
+            p.lane.used,
+            record {
+              opened = in_use.opened;
+              beyond = λ k below. subst
+                  (λ n. n < (batch_at p.lane.slots c k).first + (batch_at p.lane.slots c k).count) taken
+                  (in_use.beyond k below);
+              shut = seat.laid.room.shut;
+            },
+            omega (arith, rest, within),
+          )
+    ]
+
+pub free_kept : (o mid : Option Trace) (p : Seat) → mid ≡ noted Synced o → p.lane.used ≤ p.lane.slots
+    → Shows mid (IsSeat p) → Shows o (HasFreeAtFirst p.lane.slots (free_in p))
+free_kept o mid p is within seat = shown_before o mid (HasFreeAtFirst p.lane.slots (free_in p)) is (kept mid seat)
+  where
+    kept : (m : Option Trace) → Shows m (IsSeat p) → Shows m (HasFreeAtFirst p.lane.slots (free_in p))
+    kept None shows = tt
+    kept (Some t) shows = record {
+      new = λ new. absurd (not_seated p (seen (Some t)) shows new);
+      begun = λ begun. seat_free p (seen (Some t)) within shows;
+    }
+
+pub free_made : (o mid : Option Trace) (slots free : ℕ) → mid ≡ noted Synced o → free ≡ slots → Shows mid IsNew
+    → Shows o (HasFreeAtFirst slots free)
+free_made o mid slots free is all new = shown_before o mid (HasFreeAtFirst slots free) is (made mid new)
+  where
+    made : (m : Option Trace) → Shows m IsNew → Shows m (HasFreeAtFirst slots free)
+    made None shows = tt
+    made (Some t) shows = record { new = λ new. all; begun = λ begun. absurd (begun shows) }
+
+-- without a retuning
+pub free_read : (def : TagDef) (o mid : Option Trace) (r : State) (slots free : ℕ) → IsReadAs def o mid false r
+    → Shows o (HasFreeAtFirst slots free) → Shows o (LeavesFree def slots free)
+free_read def None mid r slots free read has = tt
+free_read def (Some t) mid r slots free read has = record {
+  new = has.new;
+  retuned = λ s recovered other. absurd (other (ap (λ x. x.summary.tuning)
+      (one_state def (seen (Some t)) s read.0 recovered read.1) ∙ read.3.0));
+  kept = λ begun s recovered tuned. has.begun begun;
+}
+
+-- and with one
+pub free_retuned : (def : TagDef) (o mid : Option Trace) (r : State) (slots free : ℕ) → IsReadAs def o mid true r
+    → free ≡ slots → Shows o (LeavesFree def slots free)
+free_retuned def None mid r slots free read all = tt
+free_retuned def (Some t) mid r slots free read all = record {
+  new = λ new. all;
+  retuned = λ s recovered other. all;
+  kept = λ begun s recovered tuned. absurd (read.3.0 (ap (λ x. x.summary.tuning)
+      (one_state def (seen (Some t)) read.0 s read.1 recovered) ∙ tuned));
+}
+
+-- ---- its layout, and its calls
+
+-- a fact of one that was not new
+pub begun_before : (o mid : Option Trace) (P : Type 0) → mid ≡ noted Synced o → Shows mid IsBegun
+    → Shows o (λ c. IsNew c → P)
+begun_before o mid P is begun = shown_before o mid (λ c. IsNew c → P) is (so mid begun)
+  where
+    so : (m : Option Trace) → Shows m IsBegun → Shows m (λ c. IsNew c → P)
+    so None shows = tt
+    so (Some t) shows = λ new. absurd (not_new (seen (Some t)) shows new)
+
+-- and of one that was
+pub new_before : (o mid : Option Trace) (P : Type 0) → mid ≡ noted Synced o → Shows mid IsNew
+    → Shows o (λ c. (IsNew c → ⊥) → P)
+new_before o mid P is new = shown_before o mid (λ c. (IsNew c → ⊥) → P) is (so mid new)
+  where
+    so : (m : Option Trace) → Shows m IsNew → Shows m (λ c. (IsNew c → ⊥) → P)
+    so None shows = tt
+    so (Some t) shows = λ begun. absurd (begun shows)
+
+-- of any
+pub shown_always : (o : Option Trace) (A : List ℕ → Type 0) (P : Type 0) → P → Shows o (λ c. A c → P)
+shown_always None A P p = tt
+shown_always (Some t) A P p = λ a. p
+
+-- a new device is none of a tag that has to be retuned
+pub layout_retuned : (def : TagDef) (o mid new : Option Trace) (r : State) (slots : ℕ) → IsReadAs def o mid true r
+    → MakesLayout def slots o new
+layout_retuned def None mid new r slots read = tt
+layout_retuned def (Some t) mid new r slots read = λ blank. absurd (read.3.0 (ap (λ x. x.summary.tuning)
+    (one_state def (seen (Some t)) read.0 (nothing_taken def.tuning) read.1 (inl (blank, refl)))))
+
+pub synced_read : (def : TagDef) (o new : Option Trace) → Shows o (λ c. (IsNew c → ⊥) → new ≡ noted Synced o)
+    → GainsSync def o new
+synced_read def None new alone = tt
+synced_read def (Some t) new alone = λ begun s recovered tuned. alone begun
+
+pub synced_retuned : (def : TagDef) (o mid new : Option Trace) (r : State) → IsReadAs def o mid true r
+    → GainsSync def o new
+synced_retuned def None mid new r read = tt
+synced_retuned def (Some t) mid new r read = λ begun s recovered tuned. absurd (read.3.0
+    (ap (λ x. x.summary.tuning) (one_state def (seen (Some t)) read.0 s read.1 recovered) ∙ tuned))

@@ -1,0 +1,71 @@
+// The test of what a device stores: whether its records and its summary can be those of a tag.
+ghost use Rattle.std.specs.Prelude.{◌≡◌, ℕ, [], None, IfErr, IfOk, OnOk};
+ghost use Rattle.trend_num.specs.declared.tag_def.TagDef.{TagDef};
+ghost use Rattle.trend_num.specs.Ranges.{IsTuned};
+ghost use Rattle.trend_model.specs.Parts.{ArePartsOk};
+ghost use Rattle.disk_model.specs.Calls.{CountsFault, Reaches, Shows};
+ghost use Rattle.device_layout.specs.declared.failure.OpenNo.TheVariants.{DeviceFault};
+ghost use Rattle.device_layout.specs.Recovery.{no_summary};
+ghost use Rattle.device_layout.specs.Readings.{HasLayout, IsCause, IsFoundOn, IsReadFrom};
+
+use device_layout::{Header, OpenNo, Stored, damaged, read_stored};
+use disk_model::{Disk, read_part};
+use std::alloc::Global;
+use tag_core::parts_ok;
+
+/// Refuses records and a summary that can't be those of a tag together. It is told at the summary's beginning. Before the
+/// first checkpoint there are none.
+fn test_parts<D: Disk>(dev: &mut D, stored: &Stored, step: bool) -> Result<(), OpenNo>
+    requires long { Reaches (D.trace dev.old) 400 }
+    requires tuned { IsTuned stored.now.tuning }
+    requires none { stored.now.slot ≡ None
+        → (stored.now.summary ≡ no_summary) × (stored.now.recs.items ≡ []) }
+    ensures parts { OnOk result
+        (ArePartsOk stored.now.tuning step stored.now.recs.items stored.now.summary) }
+    ensures cause { (def : TagDef) (slots : ℕ) → def.step ≡ step
+        → Shows (D.trace dev.old) (IsFoundOn def slots stored.now)
+        → IfErr result (IsCause def (D.trace dev.old)) }
+    ensures same { D.trace dev.new ≡ D.trace dev.old }
+    ensures untimed { D.ticks dev.new ≡ D.ticks dev.old }
+    ensures counts { CountsFault result DeviceFault (D.fault_count dev.old) (D.fault_count dev.new) }
+{
+    let Some(slot) = stored.slot else {
+        return Ok(());
+    };
+    if parts_ok(&stored.tuning, step, &stored.recs, &stored.summary) {
+        return Ok(());
+    }
+    let first = read_part::<1, D>(dev, slot.place())?;
+    Err(damaged(slot.place(), first[0]))
+}
+
+/// The summary that counts and its records, which can be those of a tag together, and the tuning in force.
+pub(crate) fn read_parts<D: Disk>(
+    alloc: Global,
+    dev: &mut D,
+    header: &Header,
+    step: bool,
+) -> Result<Stored, OpenNo>
+    requires long { Reaches (D.trace dev.old) 400 }
+    requires tuned { IsTuned header.now.def.tuning }
+    ensures stored { (def : TagDef) → def.step ≡ step
+        → Shows (D.trace dev.old) (HasLayout def header.now.slots header.now.def.tuning)
+        → IfOk result (λ x. Shows (D.trace dev.old) (IsReadFrom def header.now.slots x)) }
+    ensures tuned { IfOk result (λ x. IsTuned x.tuning) }
+    ensures parts { IfOk result (λ x. ArePartsOk x.tuning step x.recs.items x.summary) }
+    ensures cause { (def : TagDef) → def.step ≡ step
+        → Shows (D.trace dev.old) (HasLayout def header.now.slots header.now.def.tuning)
+        → IfErr result (IsCause def (D.trace dev.old)) }
+    ensures same { D.trace dev.new ≡ D.trace dev.old }
+    ensures untimed { D.ticks dev.new ≡ D.ticks dev.old }
+    ensures counts { CountsFault result DeviceFault (D.fault_count dev.old) (D.fault_count dev.new) }
+{
+    let stored = match read_stored(alloc, dev, header) {
+        Ok(stored) => stored,
+        Err(why) => return Err(why),
+    };
+    match test_parts(dev, &stored, step) {
+        Ok(()) => Ok(stored),
+        Err(why) => Err(why),
+    }
+}

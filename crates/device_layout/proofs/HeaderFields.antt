@@ -1,0 +1,78 @@
+-- How the field at each place of a header is tested, and what a header says that keeps them all.
+use Rattle.std.proofs.Common.{◌≡◌, ℕ, ◌+◌, ◌<◌, ◌≤◌, Bool, true, false}
+use Rattle.std.proofs.Common.{eqb, leb, List, length, get_or, drop}
+use Rattle.std.proofs.Common.{◌∙◌, ap, arith, length-take, length-drop, get_or-take, get_or-drop}
+use Rattle.std.specs.List.{list_all}
+use Rattle.std.proofs.lemmas.Bool.{leb-true, le-leb, lt-leb, ne_eqb, and_parts}
+use Rattle.std.proofs.lemmas.List.Elements.{All-from_get_or}
+use Rattle.std.proofs.lemmas.List.Sums.{list_all-from_AllPass}
+use Rattle.trend_num.specs.Names.{is_name_byte, IsName}
+use Rattle.trend_num.specs.Ranges.{last_time, largest_value, IsTuned}
+use Rattle.device_layout.specs.Headers.{most_slots, number_at, name_in, tuning_in, slots_in}
+use Rattle.device_layout.specs.Headers.{IsHeader}
+
+-- a list passes where each of its elements does
+all_pass : (test : ℕ → Bool) (xs : List ℕ) → ((k : ℕ) → k < length xs → test (get_or xs k 0) ≡ true)
+    → list_all test xs ≡ true
+all_pass test xs each =
+    list_all-from_AllPass test xs (All-from_get_or (λ x. test x ≡ true) xs 0 each)
+
+module _ (h : List ℕ) (ok : IsHeader h) where
+  -- the length of the name
+  pub name_length : (1 ≤ get_or h 5 0) × (get_or h 5 0 ≤ 64)
+  name_length =
+      let both = and_parts (leb 1 (get_or h 5 0)) (leb (get_or h 5 0) 64)
+      (ok.fields 5 (omega arith) (omega arith)) in
+      (leb-true 1 (get_or h 5 0) both.0, leb-true (get_or h 5 0) 64 both.1)
+
+  -- each byte of the name may be one
+  name_byte : (at : ℕ) → 5 < at → at ≤ 5 + get_or h 5 0 → is_name_byte (get_or h at 0) ≡ true
+  name_byte at low named =
+      let e1 : leb at 4 ≡ false = lt-leb at 4 (omega arith) in
+      let e2 : eqb at 5 ≡ false = ne_eqb at 5 (λ is. absurd (omega arith)) in
+      let e3 : leb at (5 + get_or h 5 0) ≡ true = le-leb at (5 + get_or h 5 0) named in
+      let high : at < 128 = omega (arith, name_length.1) in
+      rw (e1, e2, e3) at (ok.fields at (omega arith) high)
+
+  -- the name ends before the numbers begin
+  behind_name : (at : ℕ) → 70 ≤ at → leb at (5 + get_or h 5 0) ≡ false
+  behind_name at low = lt-leb at (5 + get_or h 5 0) (omega (arith, name_length.1))
+
+  -- the bytes of the name are one
+  pub header_name : IsName (name_in h)
+  header_name = record {
+    not_empty = omega (arith, long, name_length.0);
+    fits = omega (arith, long, name_length.1);
+    spelled = all_pass is_name_byte (name_in h) spelled;
+  }
+    where
+      long : length (name_in h) ≡ get_or h 5 0
+      long = omega (arith, length-take (get_or h 5 0) (drop 6 h), length-drop 6 h, ok.size, name_length.1)
+
+      spelled : (k : ℕ) → k < length (name_in h) → is_name_byte (get_or (name_in h) k 0) ≡ true
+      spelled k there =
+          ap is_name_byte (get_or-take (get_or h 5 0) (drop 6 h) k 0 (omega (arith, long))
+          ∙ get_or-drop 6 h k 0)
+          ∙ name_byte (6 + k) (omega arith) (omega (arith, long))
+
+  -- the numbers are a tuning
+  pub header_tuned : IsTuned (tuning_in h)
+  header_tuned = record {
+    exc_dev = leb-true (number_at h 70) largest_value
+        (rw (behind_name 70 (omega arith)) at (ok.fields 70 (omega arith) (omega arith)));
+    exc_max = leb-true (number_at h 78) last_time
+        (rw (behind_name 78 (omega arith)) at (ok.fields 78 (omega arith) (omega arith)));
+    comp_dev = leb-true (number_at h 86) largest_value
+        (rw (behind_name 86 (omega arith)) at (ok.fields 86 (omega arith) (omega arith)));
+    comp_min = leb-true (number_at h 94) last_time
+        (rw (behind_name 94 (omega arith)) at (ok.fields 94 (omega arith) (omega arith)));
+    comp_max = leb-true (number_at h 102) last_time
+        (rw (behind_name 102 (omega arith)) at (ok.fields 102 (omega arith) (omega arith)));
+  }
+
+  -- there is a lane slot, and there are not too many
+  pub header_slots : (1 ≤ slots_in h) × (slots_in h ≤ 65536)
+  header_slots =
+      let both = and_parts (leb 1 (slots_in h)) (leb (slots_in h) most_slots)
+      (rw (behind_name 110 (omega arith)) at (ok.fields 110 (omega arith) (omega arith))) in
+      (leb-true 1 (slots_in h) both.0, leb-true (slots_in h) most_slots both.1)

@@ -1,0 +1,17 @@
+pub mod Causes
+pub mod Firsts
+pub mod HeaderFields
+pub mod HeaderImages
+pub mod LayoutMoments
+pub mod Made
+pub mod OneState
+pub mod Reading
+pub mod Shows
+pub mod SlotExact
+pub mod SlotFlags
+pub mod SlotNumbers
+pub mod SlotPieces
+pub mod SlotTests
+pub mod SlotWhole
+pub mod Undamaged
+pub mod OneDamage

@@ -1,0 +1,129 @@
+-- What a layout says that was just made: its header is that of the tag, its lane is empty, nothing was taken.
+use Rattle.std.proofs.Common.{◌≡◌, ◌≢◌, inr, ℕ, ◌<◌, ◌≤◌, Bool, List, [], ◌∷◌, length, get_or}
+use Rattle.std.proofs.Common.{map, None, refl, sym, ◌∙◌, ap, subst, arith}
+use Rattle.trend_num.specs.declared.tuning.Tuning.{Tuning}
+use Rattle.trend_num.specs.declared.tag_def.TagDef.{TagDef}
+use Rattle.trend_num.specs.Names.{IsName}
+use Rattle.trend_num.specs.Ranges.{IsTuned}
+use Rattle.trend_model.specs.History.{Raw}
+use Rattle.trend_model.specs.Parts.{ArePartsOk}
+use Rattle.trend_model.specs.State.{nothing_taken, replay}
+use Rattle.disk_model.specs.Gates.{open_byte}
+use Rattle.event_queue.specs.Slots.{gate_of}
+use Rattle.event_queue.specs.Lanes.{lane_points, IsLane}
+use Rattle.event_queue.specs.Places.{HasRoom}
+use Rattle.event_queue.proofs.Filled.{lane_points_used}
+use Rattle.device_layout.specs.Headers.{slots_in, def_in, IsHeader}
+use Rattle.device_layout.specs.Recovery.{header_of, log_place, counting, no_summary, state_of, start_of}
+use Rattle.device_layout.specs.Recovery.{values_beyond}
+use Rattle.device_layout.specs.Recovery.{AllFit, IsOfTag, IsStored, IsReplayed, Recovers}
+use Rattle.device_layout.specs.Layouts.{IsMade}
+use Rattle.device_layout.proofs.HeaderImages.{header_with, slots_image, def_image, header_made}
+
+-- no records and no summary are parts of a tag
+pub no_parts : (u : Tuning) (step : Bool) → ArePartsOk u step [] no_summary
+no_parts u step = record {
+  ruled = record {
+    counted = refl;
+    at_most_two = omega arith;
+    whole = record { none_recorded = refl; no_upper = refl; no_lower = refl };
+    waits = tt;
+    records_are = tt;
+    held_is = tt;
+    pending_is = tt;
+    hinge_is = tt;
+    upper_is = tt;
+    lower_is = tt;
+  };
+  few = omega arith;
+  countable = omega arith;
+  same_tuning = tt;
+}
+
+-- the first bytes are the header behind the gate
+pub made_first : (def : TagDef) (slots : ℕ) (c : List ℕ) → IsMade def slots c
+    → header_of c ≡ header_with open_byte def slots
+made_first def slots [] made = absurd (omega (arith, made.long))
+made_first def slots (x ∷ c) made =
+    ap (λ l. x ∷ l) made.header ∙ ap (λ b. header_with b def slots) made.opened
+
+module _ (def : TagDef) (slots : ℕ) (c : List ℕ) (made : IsMade def slots c) where
+  -- no lane slot is open
+  pub made_shut : (k : ℕ) → k < slots → get_or c (gate_of k) 0 ≢ open_byte
+  made_shut k there opened =
+      absurd (omega (arith, opened, made.zeros (gate_of k) (omega arith) (omega arith)))
+
+  -- the whole lane is free
+  pub made_room : HasRoom slots 0 c
+  made_room = record { long = made.long; shut = λ k low there. made_shut k there }
+
+  -- it holds nothing
+  pub made_points : (taken : ℕ) → lane_points slots c taken ≡ []
+  made_points taken = lane_points_used slots taken 0 c (omega arith) made_room
+
+  -- and keeps the layout
+  pub made_lane : (taken : ℕ) → IsLane slots c taken slots
+  made_lane taken = record { sound = λ k there opened. absurd (made_shut k there opened) }
+
+  module _ (tuned : IsTuned def.tuning) (name : IsName def.name) (some : 1 ≤ slots)
+      (few : slots ≤ 65536) where
+    -- no summary counts
+    pub made_counting : counting c ≡ None
+    made_counting =
+        let first : get_or c 384 0 ≡ 0 = made.zeros 384 (omega arith) (omega arith) in
+        let second : get_or c 385 0 ≡ 0 = made.zeros 385 (omega arith) (omega arith) in
+        rw (first, second)
+
+    -- the first bytes are a header
+    pub made_header : IsHeader (header_of c)
+    made_header = subst IsHeader (sym (made_first def slots c made))
+        (header_made open_byte def slots name tuned some few)
+
+    -- which says what the tag is
+    pub made_def : def_in (header_of c) ≡ def
+    made_def = ap def_in (made_first def slots c made) ∙ def_image open_byte def slots name tuned
+
+    -- and how many lane slots there are
+    pub made_slots : slots_in (header_of c) ≡ slots
+    made_slots = ap slots_in (made_first def slots c made)
+        ∙ slots_image open_byte def slots name (omega arith)
+
+    -- the records would begin behind the lane
+    pub made_long : log_place c ≤ length c
+    made_long = omega (arith, made_slots, made.long)
+
+    -- the device is the tag's
+    pub made_tag : IsOfTag def c
+    made_tag = record {
+      opened = made.opened;
+      header = made_header;
+      same_name = ap (λ d. d.name) made_def;
+      same_step = ap (λ d. d.step) made_def;
+    }
+
+    -- no record and no summary are there
+    pub made_stored : IsStored def c [] no_summary
+    made_stored = record {
+      tag = made_tag;
+      long = made_long;
+      summary = rw made_counting refl;
+      records = record { counted = refl; records = record { in_range = tt; image = refl } };
+      parts = no_parts _ def.step;
+    }
+
+    -- nor a value
+    made_none : values_beyond c 0 ≡ []
+    made_none = ap (λ n. map Raw (lane_points n c 0)) made_slots ∙ ap (map Raw) (made_points 0)
+
+    -- so the state is that before any event
+    pub made_replayed : IsReplayed def.step c (start_of c [] no_summary) 0 (nothing_taken def.tuning)
+    made_replayed = record {
+      lane = subst (λ n. IsLane n c 0 n) (sym made_slots) (made_lane 0);
+      fits = subst (AllFit def.step (start_of c [] no_summary)) (sym made_none) tt;
+      state = ap (λ d. state_of [] no_summary d.tuning) (sym made_def)
+          ∙ ap (replay def.step (start_of c [] no_summary)) (sym made_none);
+    }
+
+    -- this is what it recovers
+    pub made_recovers : Recovers def c (nothing_taken def.tuning)
+    made_recovers = inr ([], no_summary, made_stored, made_replayed)

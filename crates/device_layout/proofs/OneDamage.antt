@@ -1,0 +1,358 @@
+-- A device has one damage at most: a later rule is told only where all before it hold, and each rule has one first place.
+use Rattle.std.proofs.Common.{◌≡◌, inl, inr, ℕ, zero, suc, ◌+◌, ◌-◌, ◌*◌, ◌<◌, ◌≤◌, min, Bool, true, false, List, [], length}
+use Rattle.std.proofs.Common.{get_or, take, drop, map, Option, None, Some, refl, sym, ◌∙◌, ap, ap₂, subst, arith, length-take}
+use Rattle.std.proofs.Common.{add-zero, add-suc}
+use Rattle.std.proofs.lemmas.Bool.{cases_order}
+use Rattle.std.proofs.lemmas.List.{get_or-take, take-take, length-take-le, drop-drop}
+use Rattle.trend_num.specs.Limits.{most_records}
+use Rattle.trend_num.specs.declared.archive.Rec.{Rec}
+use Rattle.trend_num.specs.declared.archive.Summary.{Summary}
+use Rattle.trend_num.specs.declared.tag_def.TagDef.{TagDef}
+use Rattle.trend_num.specs.Ranges.{InRange}
+use Rattle.trend_model.specs.History.{Raw}
+use Rattle.trend_model.specs.Parts.{ArePartsOk}
+use Rattle.trend_model.specs.State.{replay}
+use Rattle.disk_model.specs.Gates.{IsBegun}
+use Rattle.archive_file.specs.Fields.{point_at}
+use Rattle.archive_file.specs.Places.{HasRecords, BreaksAt, IsBroken, IsDamage}
+use Rattle.event_queue.specs.Slots.{place_of, slot_at, batch_at}
+use Rattle.event_queue.proofs.Batches.{length-points_in}
+use Rattle.event_queue.specs.Lanes.{points_before, lane_points, IsLane}
+use Rattle.event_queue.specs.Damages.{BreaksAt as SlotBreaksAt, IsPointBroken, IsLaneDamage}
+use Rattle.device_layout.specs.declared.slot.Slot.{Slot}
+use Rattle.device_layout.specs.declared.slot.Slot.TheVariants.{First}
+use Rattle.device_layout.specs.Firsts.{HoldsFrom, FailsFirst}
+use Rattle.device_layout.specs.Headers.{is_field_ok, slots_in, tuning_in, IsHeader}
+use Rattle.device_layout.specs.SlotFields.{is_form_ok, is_point_ok, is_number_ok, IsSlotBroken}
+use Rattle.device_layout.specs.Recovery.{header_of, log_place, counting, slot_bytes, summary_place, HasSummary, start_of}
+use Rattle.device_layout.specs.Recovery.{in_force, IsStored}
+use Rattle.device_layout.specs.Damages.{EndsBefore, StandsThere, IsTagDamage, IsHeaderDamage, IsLayoutDamage}
+use Rattle.device_layout.specs.Damages.{IsSummaryDamage, IsLogDamage, ArePartsDamaged, IsQueueDamage, IsValuePlace}
+use Rattle.device_layout.specs.Damages.{IsValueDamage}
+use Rattle.device_layout.specs.Damages.IsTagDamage.{EndsShort, BadHeader, BadLayout, BadSummary, BadLog, BadParts}
+use Rattle.device_layout.specs.Damages.IsTagDamage.{BadQueue, BadValue}
+use Rattle.device_layout.proofs.SlotExact.{spelled_not_broken}
+use Rattle.device_layout.proofs.OneState.{summary_is_one, records_are_one}
+use Rattle.device_layout.proofs.Undamaged.{log_undamaged, lane_undamaged, slot_holds, point_there, fits_at, grows, value_among}
+use Rattle.device_layout.proofs.Undamaged.{before_and_at}
+
+-- ---- the first place of each rule
+
+never : (b : Bool) → b ≡ false → b ≡ true → ⊥
+never b fails holds = cc (fails, holds)
+
+one_first : (test : ℕ → Bool) (from end a b : ℕ) → FailsFirst test from end a → FailsFirst test from end b → a ≡ b
+one_first test from end a b x y = elim (cases_order a b) [
+  | inl same ↦ same
+  | inr (inl less) ↦ absurd (never (test a) x.fails (y.before a x.low less))
+  | inr (inr more) ↦ absurd (never (test b) y.fails (x.before b y.low more))
+]
+
+-- a test that fails somewhere does not hold everywhere
+not_all : (test : ℕ → Bool) (end a : ℕ) → FailsFirst test 0 end a → HoldsFrom test 0 end → ⊥
+not_all test end a x all = never (test a) x.fails (all a x.low x.within)
+
+one_field : (b : List ℕ) (a k : ℕ) → IsSlotBroken b a → IsSlotBroken b k → a ≡ k
+one_field b a k (inl x) (inl y) = one_first (is_form_ok b) 0 128 a k x y
+one_field b a k (inl x) (inr y) = absurd (not_all (is_form_ok b) 128 a x y.0)
+one_field b a k (inr x) (inl y) = absurd (not_all (is_form_ok b) 128 k y x.0)
+one_field b a k (inr (f, inl x)) (inr (g, inl y)) = one_first (is_point_ok b) 0 128 a k x y
+one_field b a k (inr (f, inl x)) (inr (g, inr y)) = absurd (not_all (is_point_ok b) 128 a x y.0)
+one_field b a k (inr (f, inr x)) (inr (g, inl y)) = absurd (not_all (is_point_ok b) 128 k y x.0)
+one_field b a k (inr (f, inr x)) (inr (g, inr y)) = one_first (is_number_ok b) 0 128 a k x.1 y.1
+
+-- of a record
+one_break : (b : List ℕ) (a k : ℕ) → BreaksAt b a → BreaksAt b k → a ≡ k
+one_break b a k (inl x) (inl y) = x.0 ∙ sym y.0
+one_break b a k (inl x) (inr (inl y)) = absurd (x.1 y.1.0 y.1.1)
+one_break b a k (inl x) (inr (inr y)) = absurd (x.1 y.1.0 y.1.1)
+one_break b a k (inr (inl x)) (inl y) = absurd (y.1 x.1.0 x.1.1)
+one_break b a k (inr (inr x)) (inl y) = absurd (y.1 x.1.0 x.1.1)
+one_break b a k (inr (inl x)) (inr (inl y)) = x.0 ∙ sym y.0
+one_break b a k (inr (inl x)) (inr (inr y)) = omega (arith, x.2, y.2)
+one_break b a k (inr (inr x)) (inr (inl y)) = omega (arith, x.2, y.2)
+one_break b a k (inr (inr x)) (inr (inr y)) = x.0 ∙ sym y.0
+
+-- of a log, of which a later record is told only where those before it are whole
+earlier : (c : List ℕ) (at count a b : ℕ) (byte other : Option ℕ) (rs xs : List Rec) (k j : ℕ) → at ≤ length c
+    → IsBroken c at count a byte rs k → IsBroken c at count b other xs j → length rs < length xs → ⊥
+earlier c at count a b byte other rs xs k j long x y less =
+    log_undamaged c at (length xs) a byte xs long (record { counted = refl; records = y.records }) (inr (
+      rs,
+      k,
+      record {
+        within = omega (arith, y.within, y.before);
+        before = less;
+        records = x.records;
+        breaks = x.breaks;
+        place = x.place;
+        byte_there = x.byte_there;
+      },
+    ))
+
+one_record : (c : List ℕ) (at count a b : ℕ) (byte other : Option ℕ) → at ≤ length c → IsDamage c at count a byte
+    → IsDamage c at count b other → a ≡ b
+one_record c at count a b byte other long (inl x) (inl y) = x.place ∙ sym y.place
+one_record c at count a b byte other long (inl x) (inr (xs, j, y)) = absurd (omega (arith, x.short, y.within))
+one_record c at count a b byte other long (inr (rs, k, x)) (inl y) = absurd (omega (arith, y.short, x.within))
+one_record c at count a b byte other long (inr (rs, k, x)) (inr (xs, j, y)) = elim (cases_order (length rs) (length xs)) [
+  | inl same ↦
+      let there = subst (λ n. BreaksAt (take 17 (drop (at + 17 * n) c)) k) same x.breaks in
+      omega (arith, x.place, y.place, same, one_break (take 17 (drop (at + 17 * length xs) c)) k j there y.breaks)
+  | inr (inl less) ↦ absurd (earlier c at count a b byte other rs xs k j long x y less)
+  | inr (inr more) ↦ absurd (earlier c at count b a other byte xs rs j k long y x more)
+]
+
+-- and its byte
+record_byte : (c : List ℕ) (at count a b : ℕ) (byte other : Option ℕ) → IsDamage c at count a byte
+    → IsDamage c at count b other → a ≡ b → byte ≡ other
+record_byte c at count a b byte other (inl x) (inl y) same = x.byte_there ∙ sym y.byte_there
+record_byte c at count a b byte other (inl x) (inr (xs, j, y)) same = absurd (omega (arith, x.short, y.within))
+record_byte c at count a b byte other (inr (rs, k, x)) (inl y) same = absurd (omega (arith, y.short, x.within))
+record_byte c at count a b byte other (inr (rs, k, x)) (inr (xs, j, y)) same =
+    x.byte_there ∙ ap (λ i. Some (get_or c i 0)) same ∙ sym y.byte_there
+
+-- of a lane slot
+point_before : (slots : ℕ) (c : List ℕ) (taken k o q i j : ℕ) → IsPointBroken slots c taken k o i
+    → IsPointBroken slots c taken k q j → i < j → ⊥
+point_before slots c taken k o q i j x y less =
+    let b = batch_at slots c k in
+    let d = point_at [] in
+    let few : min 64 b.count ≡ b.count = omega (arith, x.counted.few) in
+    let long : length b.points ≡ b.count = length-points_in (min 64 b.count) (drop 10 (slot_at slots c k)) ∙ few in
+    let inside = y.before i d (omega (arith, less, long, y.there, length-take j b.points)) in
+    let there : get_or (take j b.points) i d ≡ point_at (drop (10 + 16 * i) (slot_at slots c k)) =
+    get_or-take j b.points i d less
+    ∙ point_there (min 64 b.count) i (drop 10 (slot_at slots c k)) d (omega (arith, few, x.there))
+    ∙ ap point_at (drop-drop (16 * i) 10 (slot_at slots c k)) in
+    x.broken (subst InRange there inside)
+
+one_slot_field : (slots : ℕ) (c : List ℕ) (taken k o q : ℕ) → SlotBreaksAt slots c taken k o
+    → SlotBreaksAt slots c taken k q → o ≡ q
+one_slot_field slots c taken k o q (inl x) (inl y) = x.field ∙ sym y.field
+one_slot_field slots c taken k o q (inl x) (inr (inl y)) = absurd (x.broken y.counted)
+one_slot_field slots c taken k o q (inl x) (inr (inr (j, y))) = absurd (x.broken y.counted)
+one_slot_field slots c taken k o q (inr (inl x)) (inl y) = absurd (y.broken x.counted)
+one_slot_field slots c taken k o q (inr (inr (i, x))) (inl y) = absurd (y.broken x.counted)
+one_slot_field slots c taken k o q (inr (inl x)) (inr (inl y)) = x.field ∙ sym y.field
+one_slot_field slots c taken k o q (inr (inl x)) (inr (inr (j, y))) = absurd (x.broken y.follows)
+one_slot_field slots c taken k o q (inr (inr (i, x))) (inr (inl y)) = absurd (y.broken x.follows)
+one_slot_field slots c taken k o q (inr (inr (i, x))) (inr (inr (j, y))) = elim (cases_order i j) [
+  | inl same ↦ omega (arith, x.field, y.field, same)
+  | inr (inl less) ↦ absurd (point_before slots c taken k o q i j x y less)
+  | inr (inr more) ↦ absurd (point_before slots c taken k q o j i y x more)
+]
+
+one_slot : (slots : ℕ) (c : List ℕ) (taken a b : ℕ) (byte other : Option ℕ) → IsLaneDamage slots c taken a byte
+    → IsLaneDamage slots c taken b other → (a ≡ b) × (byte ≡ other)
+one_slot slots c taken a b byte other (k, o, x) (j, q, y) = elim (cases_order k j) [
+  | inl same ↦
+      let here = subst (λ m. SlotBreaksAt slots c taken m o) same x.breaks in
+      let place : a ≡ b = x.place ∙ ap₂ (λ m n. place_of slots m + n) same (one_slot_field slots c taken j o q here y.breaks)
+      ∙ sym y.place in
+      (place, x.byte_there ∙ ap (λ i. Some (get_or c i 0)) place ∙ sym y.byte_there)
+  | inr (inl less) ↦ absurd (slot_holds slots c taken k o (y.before.sound k less x.opened) x.breaks)
+  | inr (inr more) ↦ absurd (slot_holds slots c taken j q (x.before.sound j more y.opened) y.breaks)
+]
+
+-- of the values
+value_before : (def : TagDef) (c : List ℕ) (a b : ℕ) (byte other : Option ℕ) (rs : List Rec) (s : Summary) (n m j i k l : ℕ)
+    → IsValueDamage def c a byte rs s n j i → IsValueDamage def c b other rs s m k l → n < m → ⊥
+value_before def c a b byte other rs s n m j i k l x y less =
+    let slots = slots_in (header_of c) in
+    let points = lane_points slots c s.taken in
+    let among = value_among slots c s.taken m b k l y.at in
+    let front : length (take m points) ≡ m = length-take-le m points (omega (arith, among)) in
+    let room = fits_at def.step (start_of c rs s) (take m points) n y.fit (omega (arith, front, less)) in
+    let same : take n (take m points) ≡ take n points = take-take n m points (omega (arith, less)) in
+    omega (arith, x.full, subst (λ l. length (replay def.step (start_of c rs s) (map Raw l)).records + 2 ≤ most_records) same room)
+
+one_value : (slots : ℕ) (c : List ℕ) (taken n a b j i k l : ℕ) → IsValuePlace slots c taken n a j i
+    → IsValuePlace slots c taken n b k l → a ≡ b
+one_value slots c taken n a b j i k l x y = elim (cases_order j k) [
+  | inl same ↦ omega (
+    arith,
+    x.place,
+    y.place,
+    x.number,
+    y.number,
+    same,
+    ap (place_of slots) same,
+    ap (λ m. length (points_before slots c taken m)) same,
+  )
+  | inr (inl less) ↦ absurd (value_apart slots c taken n a b j i k l x y less)
+  | inr (inr more) ↦ absurd (value_apart slots c taken n b a k l j i y x more)
+]
+  where
+    value_apart : (slots : ℕ) (c : List ℕ) (taken n a b j i k l : ℕ) → IsValuePlace slots c taken n a j i
+        → IsValuePlace slots c taken n b k l → j < k → ⊥
+    value_apart slots c taken n a b j i k l x y less =
+        let rest = k - (j + 1) in
+        let whole : j + 1 + rest ≡ k = omega (arith, less) in
+        omega (
+          arith,
+          x.number,
+          y.number,
+          before_and_at slots c taken n a j i x,
+          grows slots taken c (j + 1) rest,
+          ap (λ m. length (points_before slots c taken m)) whole,
+        )
+
+-- ---- which rules hold where a later one is told
+
+module _ (def : TagDef) (c : List ℕ) where
+  -- what rule k finds
+  abbrev At : ℕ → ℕ → Option ℕ → Type 0
+  At zero a byte = IsBegun c × EndsBefore 128 c a byte
+  At (suc zero) a byte = IsHeaderDamage c a byte
+  At (suc (suc zero)) a byte = IsLayoutDamage def c a byte
+  At (suc (suc (suc zero))) a byte = (i : Slot) × (o : ℕ) × IsSummaryDamage def c a byte i o
+  At (suc (suc (suc (suc zero)))) a byte = (s : Summary) × IsLogDamage def c a byte s
+  At (suc (suc (suc (suc (suc zero))))) a byte = (rs : List Rec) × (s : Summary) × (i : Slot) × ArePartsDamaged def c a byte rs s i
+  At (suc (suc (suc (suc (suc (suc zero)))))) a byte = (rs : List Rec) × (s : Summary) × IsQueueDamage def c a byte rs s
+  At (suc (suc (suc (suc (suc (suc (suc zero))))))) a byte =
+      (rs : List Rec) × (s : Summary) × (n : ℕ) × (j : ℕ) × (i : ℕ) × IsValueDamage def c a byte rs s n j i
+  At (suc (suc (suc (suc (suc (suc (suc (suc k)))))))) a byte = ⊥
+
+  found : (a : ℕ) (byte : Option ℕ) → IsTagDamage def c a byte → (k : ℕ) × At k a byte
+  found a byte (EndsShort begun ends) = (0, (begun, ends))
+  found a byte (BadHeader d) = (1, d)
+  found a byte (BadLayout d) = (2, d)
+  found a byte (BadSummary i o d) = (3, (i, o, d))
+  found a byte (BadLog s d) = (4, (s, d))
+  found a byte (BadParts rs s i d) = (5, (rs, s, i, d))
+  found a byte (BadQueue rs s d) = (6, (rs, s, d))
+  found a byte (BadValue rs s n j i d) = (7, (rs, s, n, j, i, d))
+
+  -- rule k and all before it hold
+  abbrev Held : ℕ → Type 0
+  Held zero = 128 ≤ length c
+  Held (suc zero) = IsHeader (header_of c)
+  Held (suc (suc zero)) = IsHeader (header_of c) × (log_place c ≤ length c)
+  Held (suc (suc (suc zero))) = IsHeader (header_of c) × (log_place c ≤ length c) × ((s : Summary) × HasSummary c (counting c) s)
+  Held (suc (suc (suc (suc zero)))) = IsHeader (header_of c) × (log_place c ≤ length c)
+      × ((s : Summary) × (rs : List Rec) × HasSummary c (counting c) s × HasRecords c (log_place c) s.records rs)
+  Held (suc (suc (suc (suc (suc zero))))) = (rs : List Rec) × (s : Summary) × IsStored def c rs s
+  Held (suc (suc (suc (suc (suc (suc zero)))))) = (rs : List Rec) × (s : Summary) × IsStored def c rs s
+      × IsLane (slots_in (header_of c)) c s.taken (slots_in (header_of c))
+  Held (suc (suc (suc (suc (suc (suc (suc k))))))) = ⊥
+
+  down : (k : ℕ) → Held (suc k) → Held k
+  down zero h = omega (arith, h.size, length-take 128 c)
+  down (suc zero) h = h.0
+  down (suc (suc zero)) h = (h.0, h.1)
+  down (suc (suc (suc zero))) h = (h.0, h.1, (h.2.0, h.2.2))
+  down (suc (suc (suc (suc zero)))) (rs, s, h) = (h.tag.header, h.long, (s, rs, h.summary, h.records))
+  down (suc (suc (suc (suc (suc zero))))) (rs, s, h, lane) = (rs, s, h)
+  down (suc (suc (suc (suc (suc (suc k)))))) h = absurd h
+
+  reach : (k more : ℕ) → Held (k + more) → Held k
+  reach k zero h = subst Held (add-zero k) h
+  reach k (suc more) h = reach k more (down (k + more) (subst Held (add-suc k more) h))
+
+  -- where rule k + 1 is told, rule k and all before it hold
+  before : (k a : ℕ) (byte : Option ℕ) → At (suc k) a byte → Held k
+  before zero a byte d = d.long
+  before (suc zero) a byte d = d.tag.header
+  before (suc (suc zero)) a byte (i, o, d) = (d.tag.header, d.long)
+  before (suc (suc (suc zero))) a byte (s, d) = (d.tag.header, d.long, (s, d.summary))
+  before (suc (suc (suc (suc zero)))) a byte (rs, s, i, d) =
+      (d.tag.header, d.long, (s, rs, subst (λ x. HasSummary c x s) (sym d.counts) d.summary, d.records))
+  before (suc (suc (suc (suc (suc zero))))) a byte (rs, s, d) = (rs, s, d.stored)
+  before (suc (suc (suc (suc (suc (suc zero)))))) a byte (rs, s, n, j, i, d) = (rs, s, d.stored, d.lane)
+  before (suc (suc (suc (suc (suc (suc (suc k))))))) a byte d = absurd d
+
+  same_sum : (s x : Summary) → HasSummary c (counting c) s → HasSummary c (counting c) x → s ≡ x
+  same_sum s x has other = summary_is_one c (counting c) s x has other
+
+  same_recs : (s x : Summary) (rs xs : List Rec) → s ≡ x → HasRecords c (log_place c) s.records rs
+      → HasRecords c (log_place c) x.records xs → rs ≡ xs
+  same_recs s x rs xs same has other =
+      records_are_one c (log_place c) s.records x.records rs xs (ap (λ y. y.records) same) has other
+
+  -- where rule k holds, it is not told
+  refuted : (k a : ℕ) (byte : Option ℕ) → At k a byte → Held k → ⊥
+  refuted zero a byte d h = omega (arith, d.1.short, h)
+  refuted (suc zero) a byte d h = never (is_field_ok (header_of c) a) d.broken.fails (h.fields a d.broken.low d.broken.within)
+  refuted (suc (suc zero)) a byte d h = omega (arith, d.ends.short, h.1)
+  refuted (suc (suc (suc zero))) a byte (i, o, d) h =
+      let has = subst (λ x. HasSummary c x h.2.0) d.counts h.2.1 in
+      spelled_not_broken h.2.0 (slot_bytes c i) o has.0 has.1 d.broken
+  refuted (suc (suc (suc (suc zero)))) a byte (s, d) (header, long, (x, xs, summary, records)) =
+      log_undamaged c (log_place c) x.records a byte xs long records
+      (subst (λ y. IsDamage c (log_place c) y.records a byte) (same_sum s x d.summary summary) d.broken)
+  refuted (suc (suc (suc (suc (suc zero))))) a byte (rs, s, i, d) (xs, x, h) =
+      let same = same_sum s x (subst (λ y. HasSummary c y s) (sym d.counts) d.summary) h.summary in
+      let recs = same_recs s x rs xs same d.records h.records in
+      d.broken (subst (λ y. ArePartsOk (in_force (tuning_in (header_of c)) y.tuning) def.step rs y) (sym same)
+      (subst (λ l. ArePartsOk (in_force (tuning_in (header_of c)) x.tuning) def.step l x) (sym recs) h.parts))
+  refuted (suc (suc (suc (suc (suc (suc zero)))))) a byte (rs, s, d) (xs, x, h, lane) =
+      lane_undamaged (slots_in (header_of c)) c x.taken a byte lane
+      (subst (λ y. IsLaneDamage (slots_in (header_of c)) c y.taken a byte) (same_sum s x d.stored.summary h.summary) d.broken)
+  refuted (suc (suc (suc (suc (suc (suc (suc k))))))) a byte d h = absurd h
+
+  one_there : (a b : ℕ) (byte other : Option ℕ) → StandsThere c a byte → StandsThere c b other → a ≡ b
+      → (a ≡ b) × (byte ≡ other)
+  one_there a b byte other x y same = (same, x.byte_there ∙ ap (λ i. Some (get_or c i 0)) same ∙ sym y.byte_there)
+
+  one_count : (i j : Slot) → counting c ≡ Some i → counting c ≡ Some j → i ≡ j
+  one_count i j x y = ap (slot_of First) (sym x ∙ y)
+    where
+      slot_of : Slot → Option Slot → Slot
+      slot_of d None = d
+      slot_of d (Some k) = k
+
+  -- each rule tells one place
+  one_at : (k a b : ℕ) (byte other : Option ℕ) → At k a byte → At k b other → (a ≡ b) × (byte ≡ other)
+  one_at zero a b byte other x y = (x.1.place ∙ sym y.1.place, x.1.none_there ∙ sym y.1.none_there)
+  one_at (suc zero) a b byte other x y =
+      one_there a b byte other x.there y.there (one_first (is_field_ok (header_of c)) 1 128 a b x.broken y.broken)
+  one_at (suc (suc zero)) a b byte other x y = (x.ends.place ∙ sym y.ends.place, x.ends.none_there ∙ sym y.ends.none_there)
+  one_at (suc (suc (suc zero))) a b byte other (i, o, x) (j, q, y) =
+      let slot = one_count i j x.counts y.counts in
+      let field = one_field (slot_bytes c j) o q (subst (λ k. IsSlotBroken (slot_bytes c k) o) slot x.broken) y.broken in
+      one_there a b byte other x.there y.there
+      (x.place ∙ ap₂ (λ k n. summary_place k + n) slot field ∙ sym y.place)
+  one_at (suc (suc (suc (suc zero)))) a b byte other (s, x) (z, y) =
+      let broken = subst (λ v. IsDamage c (log_place c) v.records a byte) (same_sum s z x.summary y.summary) x.broken in
+      let place = one_record c (log_place c) z.records a b byte other x.long broken y.broken in
+      (place, record_byte c (log_place c) z.records a b byte other broken y.broken place)
+  one_at (suc (suc (suc (suc (suc zero))))) a b byte other (rs, s, i, x) (xs, z, j, y) =
+      one_there a b byte other x.there y.there
+      (x.place ∙ ap summary_place (one_count i j x.counts y.counts) ∙ sym y.place)
+  one_at (suc (suc (suc (suc (suc (suc zero)))))) a b byte other (rs, s, x) (xs, z, y) =
+      one_slot (slots_in (header_of c)) c z.taken a b byte other
+      (subst (λ v. IsLaneDamage (slots_in (header_of c)) c v.taken a byte)
+      (same_sum s z x.stored.summary y.stored.summary) x.broken) y.broken
+  one_at (suc (suc (suc (suc (suc (suc (suc zero))))))) a b byte other (rs, s, n, j, i, x) (xs, z, m, k, l, y) =
+      let same = same_sum s z x.stored.summary y.stored.summary in
+      let recs = same_recs s z rs xs same x.stored.records y.stored.records in
+      let x1 = subst (λ v. IsValueDamage def c a byte rs v n j i) same x in
+      let x2 = subst (λ v. IsValueDamage def c a byte v z n j i) recs x1 in
+      elim (cases_order n m) [
+        | inl e ↦ one_there a b byte other x.there y.there
+            (one_value (slots_in (header_of c)) c z.taken m a b j i k l
+            (subst (λ v. IsValuePlace (slots_in (header_of c)) c z.taken v a j i) e x2.at) y.at)
+        | inr (inl less) ↦ absurd (value_before def c a b byte other xs z n m j i k l x2 y less)
+        | inr (inr more) ↦ absurd (value_before def c b a other byte xs z m n k l j i y x2 more)
+      ]
+  one_at (suc (suc (suc (suc (suc (suc (suc (suc k)))))))) a b byte other x y = absurd x
+
+  -- a later rule is told only where the earlier one is not
+  in_order : (k j a b : ℕ) (byte other : Option ℕ) → At k a byte → At j b other → k < j → ⊥
+  in_order k zero a b byte other x y less = omega (arith, less)
+  in_order k (suc j) a b byte other x y less =
+      let more = j - k in
+      let whole : j ≡ k + more = omega (arith, less) in
+      refuted k a byte x (reach k more (subst Held whole (before j b other y)))
+
+  pub one_damage : (a b : ℕ) (byte other : Option ℕ) → IsTagDamage def c a byte → IsTagDamage def c b other
+      → (a ≡ b) × (byte ≡ other)
+  one_damage a b byte other x y =
+      let one = found a byte x in
+      let two = found b other y in
+      elim (cases_order one.0 two.0) [
+        | inl same ↦ one_at two.0 a b byte other (subst (λ k. At k a byte) same one.1) two.1
+        | inr (inl less) ↦ absurd (in_order one.0 two.0 a b byte other one.1 two.1 less)
+        | inr (inr more) ↦ absurd (in_order two.0 one.0 b a other byte two.1 one.1 more)
+      ]

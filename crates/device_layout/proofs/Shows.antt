@@ -1,0 +1,44 @@
+-- What a read gives of a device that tells its calls.
+use Rattle.std.proofs.Common.{◌≡◌, ℕ, List, Option, None, Some, Result, Ok, Err, IfOk, IfErr, sym, subst}
+use Rattle.disk_model.specs.Traces.{Trace, seen}
+use Rattle.disk_model.specs.Calls.{Shows}
+
+-- a fact follows from one other
+pub shows : (o : Option Trace) (P Q : List ℕ → Type 0) → ((c : List ℕ) → P c → Q c) → Shows o P → Shows o Q
+shows None P Q follows p = tt
+shows (Some t) P Q follows p = follows (seen (Some t)) p
+
+-- from two
+pub shows₂ : (o : Option Trace) (P Q R : List ℕ → Type 0) → ((c : List ℕ) → P c → Q c → R c)
+    → Shows o P → Shows o Q → Shows o R
+shows₂ None P Q R follows p q = tt
+shows₂ (Some t) P Q R follows p q = follows (seen (Some t)) p q
+
+-- from three
+pub shows₃ : (o : Option Trace) (P Q R S : List ℕ → Type 0) → ((c : List ℕ) → P c → Q c → R c → S c)
+    → Shows o P → Shows o Q → Shows o R → Shows o S
+shows₃ None P Q R S follows p q r = tt
+shows₃ (Some t) P Q R S follows p q r = follows (seen (Some t)) p q r
+
+-- the same device before some calls that changed nothing
+pub shows_before : (o p : Option Trace) (P : List ℕ → Type 0) → p ≡ o → Shows p P → Shows o P
+shows_before o p P same s = subst (λ x. Shows x P) same s
+
+-- and after them
+pub shows_after : (o p : Option Trace) (P : List ℕ → Type 0) → p ≡ o → Shows o P → Shows p P
+shows_after o p P same s = subst (λ x. Shows x P) (sym same) s
+
+-- a fact of what was answered follows from one other, and from two
+pub if_ok : {T E : Type 0} (r : Result T E) (P Q : T → Type 0) → ((x : T) → P x → Q x) → IfOk r P → IfOk r Q
+if_ok (Ok x) P Q follows p = follows x p
+if_ok (Err e) P Q follows p = tt
+
+pub if_ok₂ : {T E : Type 0} (r : Result T E) (P Q R : T → Type 0) → ((x : T) → P x → Q x → R x) → IfOk r P
+    → IfOk r Q → IfOk r R
+if_ok₂ (Ok x) P Q R follows p q = follows x p q
+if_ok₂ (Err e) P Q R follows p q = tt
+
+-- the same of a refusal
+pub if_err : {T E : Type 0} (r : Result T E) (P Q : E → Type 0) → ((e : E) → P e → Q e) → IfErr r P → IfErr r Q
+if_err (Ok x) P Q follows p = tt
+if_err (Err e) P Q follows p = follows e p

@@ -1,0 +1,253 @@
+-- The bytes of a summary break the layout of a slot at no field.
+use Rattle.std.proofs.Common.{◌≡◌, inl, inr, ℕ, ◌+◌, ◌≤◌, Bool, true, not, ◌||◌, leb, eqb, List, ◌∷◌, ◌++◌}
+use Rattle.std.proofs.Common.{length, get_or, take, drop, Option, None, Some, is_some, IfSome, refl, sym, ap}
+use Rattle.std.proofs.Common.{◌∙◌, subst, arith}
+use Rattle.std.specs.Int.{w64, from_be_bytes}
+use Rattle.std.specs.List.{list_all}
+use Rattle.std.proofs.lemmas.Bool.{and_from, or_left, or_right, not_from_false, le-leb, both_ways}
+use Rattle.std.proofs.lemmas.List.{drop-drop, drop_at}
+use Rattle.trend_num.specs.declared.point.Point.{Point}
+use Rattle.trend_num.specs.declared.archive.Summary.{Summary}
+use Rattle.trend_num.specs.declared.tuning.Tuning.{Tuning}
+use Rattle.trend_num.specs.Ranges.{InRange, IsTuned, last_time, largest_value}
+use Rattle.archive_file.specs.Fields.{number_bytes, place_bytes, point_at}
+use Rattle.archive_file.specs.Summaries.{flags, tuning_bytes, summary_image, IsSummary}
+use Rattle.archive_file.proofs.Points.{point_at-bytes}
+use Rattle.device_layout.specs.Firsts.{HoldsFrom}
+use Rattle.device_layout.specs.SlotFields.{has_flag, are_flags_ok, are_zeros, is_in_range, short_number}
+use Rattle.device_layout.specs.SlotFields.{is_form_ok, is_point_ok, is_number_ok, IsSlotBroken, IsSlotWhole}
+use Rattle.device_layout.proofs.Firsts.{by_case}
+use Rattle.device_layout.proofs.SlotNumbers.{length-place}
+use Rattle.device_layout.proofs.SlotTests.{inside_is}
+use Rattle.device_layout.proofs.SlotFlags.{AreBeside, beside_passes, AreBits, bits_of_flags}
+use Rattle.device_layout.proofs.SlotPieces.{five_and_more}
+
+-- what is behind a piece
+behind_piece : (b piece rest : List ℕ) (at n : ℕ) → length piece ≡ n → drop at b ≡ piece ++ rest
+    → drop (at + n) b ≡ rest
+behind_piece b piece rest at n long is =
+    sym (drop-drop n at b) ∙ ap (drop n) is ∙ drop_at piece rest n long
+
+-- a place where a point stands, or zeros
+place_passes : (o : Option Point) (there : Bool) (b rest : List ℕ) (at : ℕ) → there ≡ is_some o
+    → drop at b ≡ place_bytes o ++ rest → (there || are_zeros b at 16) ≡ true
+place_passes None there b rest at flag is =
+    or_right there _ (ap (λ l. list_all (λ x. eqb x 0) (take 16 l)) is)
+place_passes (Some p) there b rest at flag is = or_left there _ flag
+
+-- the point there, which is in range
+point_passes : (o : Option Point) (there : Bool) (b rest : List ℕ) (at : ℕ) → IfSome o InRange
+    → there ≡ is_some o → drop at b ≡ place_bytes o ++ rest
+    → (not there || is_in_range (point_at (drop at b))) ≡ true
+point_passes None there b rest at inside flag is = or_left (not there) _ (not_from_false there flag)
+point_passes (Some p) there b rest at inside flag is =
+    let read : point_at (drop at b) ≡ p = ap point_at is ∙ point_at-bytes p rest inside in
+    or_right (not there) _ (ap is_in_range read ∙ inside_is p inside)
+
+-- a tuning, or zeros
+tuning_passes : (o : Option Tuning) (there : Bool) (b : List ℕ) → there ≡ is_some o
+    → drop 96 b ≡ tuning_bytes o → (there || are_zeros b 96 32) ≡ true
+tuning_passes None there b flag is =
+    or_right there _ (ap (λ l. list_all (λ x. eqb x 0) (take 32 l)) is)
+tuning_passes (Some t) there b flag is = or_left there _ flag
+
+-- a deviation is read of its 7 bytes
+seven_read : (n : ℕ) → n ≤ largest_value → from_be_bytes w64 (0 ∷ number_bytes 7 n) ≡ n
+seven_read n small = omega arith
+
+-- a time of its 6
+six_read : (n : ℕ) → n ≤ last_time → from_be_bytes w64 (0 ∷ 0 ∷ number_bytes 6 n) ≡ n
+six_read n small = omega arith
+
+-- the five numbers of a tuning pass where it is there
+record DoNumbersPass (there : Bool) (b : List ℕ) : Type 0 where
+  exc_dev : (not there || leb (short_number b 96 7) largest_value) ≡ true
+  exc_max : (not there || leb (short_number b 103 6) last_time) ≡ true
+  comp_dev : (not there || leb (short_number b 109 7) largest_value) ≡ true
+  comp_min : (not there || leb (short_number b 116 6) last_time) ≡ true
+  comp_max : (not there || leb (short_number b 122 6) last_time) ≡ true
+
+-- those of one that is absent
+numbers_absent : (there : Bool) (b : List ℕ) → not there ≡ true → DoNumbersPass there b
+numbers_absent there b absent = record {
+  exc_dev = or_left (not there) _ absent;
+  exc_max = or_left (not there) _ absent;
+  comp_dev = or_left (not there) _ absent;
+  comp_min = or_left (not there) _ absent;
+  comp_max = or_left (not there) _ absent;
+}
+
+-- a number passes that is read and small
+number_passes : (there : Bool) (n m most : ℕ) → n ≡ m → m ≤ most → (not there || leb n most) ≡ true
+number_passes there n m most is small = or_right (not there) _ (le-leb n most (omega (arith, is)))
+
+-- those of one that is there
+numbers_there : (t : Tuning) (there : Bool) (b : List ℕ) → IsTuned t → drop 96 b ≡ tuning_bytes (Some t)
+    → DoNumbersPass there b
+numbers_there t there b tuned is =
+    let r5 = number_bytes 6 t.comp_max in
+    let r4 = number_bytes 6 t.comp_min ++ r5 in
+    let r3 = number_bytes 7 t.comp_dev ++ r4 in
+    let r2 = number_bytes 6 t.exc_max ++ r3 in
+    let s2 : drop 103 b ≡ r2 = behind_piece b (number_bytes 7 t.exc_dev) r2 96 7 refl is in
+    let s3 : drop 109 b ≡ r3 = behind_piece b (number_bytes 6 t.exc_max) r3 103 6 refl s2 in
+    let s4 : drop 116 b ≡ r4 = behind_piece b (number_bytes 7 t.comp_dev) r4 109 7 refl s3 in
+    let s5 : drop 122 b ≡ r5 = behind_piece b (number_bytes 6 t.comp_min) r5 116 6 refl s4 in
+    let seven = λ (l : List ℕ). from_be_bytes w64 (0 ∷ take 7 l) in
+    let six = λ (l : List ℕ). from_be_bytes w64 (0 ∷ 0 ∷ take 6 l) in
+    record {
+      exc_dev = number_passes there _ t.exc_dev largest_value
+          (ap seven is ∙ seven_read t.exc_dev tuned.exc_dev) tuned.exc_dev;
+      exc_max = number_passes there _ t.exc_max last_time (ap six s2 ∙ six_read t.exc_max tuned.exc_max)
+          tuned.exc_max;
+      comp_dev = number_passes there _ t.comp_dev largest_value
+          (ap seven s3 ∙ seven_read t.comp_dev tuned.comp_dev) tuned.comp_dev;
+      comp_min = number_passes there _ t.comp_min last_time (ap six s4 ∙ six_read t.comp_min tuned.comp_min)
+          tuned.comp_min;
+      comp_max = number_passes there _ t.comp_max last_time (ap six s5 ∙ six_read t.comp_max tuned.comp_max)
+          tuned.comp_max;
+    }
+
+numbers_pass : (o : Option Tuning) (there : Bool) (b : List ℕ) → there ≡ is_some o → IfSome o IsTuned
+    → drop 96 b ≡ tuning_bytes o → DoNumbersPass there b
+numbers_pass None there b flag tuned is = numbers_absent there b (not_from_false there flag)
+numbers_pass (Some t) there b flag tuned is = numbers_there t there b tuned is
+
+-- ---- a summary
+
+-- the rest of a slot from each of its parts on
+record HasParts (s : Summary) (b : List ℕ) : Type 0 where
+  rest_32 : List ℕ
+  rest_48 : List ℕ
+  rest_64 : List ℕ
+  rest_80 : List ℕ
+  at_16 : drop 16 b ≡ place_bytes s.held ++ rest_32
+  at_32 : drop 32 b ≡ place_bytes s.pending ++ rest_48
+  at_48 : drop 48 b ≡ place_bytes s.hinge ++ rest_64
+  at_64 : drop 64 b ≡ place_bytes s.upper ++ rest_80
+  at_80 : drop 80 b ≡ place_bytes s.lower ++ tuning_bytes s.tuning
+  at_96 : drop 96 b ≡ tuning_bytes s.tuning
+
+-- those of a summary's bytes
+parts_of : (s : Summary) (b : List ℕ) → b ≡ summary_image s → HasParts s b
+parts_of s b is =
+    let t = tuning_bytes s.tuning in
+    let r80 = place_bytes s.lower ++ t in
+    let r64 = place_bytes s.upper ++ r80 in
+    let r48 = place_bytes s.hinge ++ r64 in
+    let r32 = place_bytes s.pending ++ r48 in
+    let s16 : drop 16 b ≡ place_bytes s.held ++ r32 = ap (drop 16) is
+    ∙ five_and_more (place_bytes s.held) (place_bytes s.pending) (place_bytes s.hinge) (place_bytes s.upper)
+    (place_bytes s.lower) t in
+    let s32 : drop 32 b ≡ r32 = behind_piece b (place_bytes s.held) r32 16 16 (length-place s.held) s16 in
+    let s48 : drop 48 b ≡ r48 =
+    behind_piece b (place_bytes s.pending) r48 32 16 (length-place s.pending) s32 in
+    let s64 : drop 64 b ≡ r64 = behind_piece b (place_bytes s.hinge) r64 48 16 (length-place s.hinge) s48 in
+    let s80 : drop 80 b ≡ r80 = behind_piece b (place_bytes s.upper) r80 64 16 (length-place s.upper) s64 in
+    record {
+      rest_32 = r32;
+      rest_48 = r48;
+      rest_64 = r64;
+      rest_80 = r80;
+      at_16 = s16;
+      at_32 = s32;
+      at_48 = s48;
+      at_64 = s64;
+      at_80 = s80;
+      at_96 = behind_piece b (place_bytes s.lower) t 80 16 (length-place s.lower) s80;
+    }
+
+module _ (s : Summary) (b : List ℕ) (summary : IsSummary s) (is : b ≡ summary_image s) where
+  -- its flags say what is there
+  flags_say : AreBits (get_or b 12 0) (is_some s.held) (is_some s.pending) (is_some s.hinge) (is_some s.upper)
+      (is_some s.tuning)
+  flags_say =
+      let says : get_or b 12 0 ≡ flags s = ap (λ l. get_or l 12 0) is in
+      subst (λ n. AreBits n (is_some s.held) (is_some s.pending) (is_some s.hinge) (is_some s.upper)
+      (is_some s.tuning)) (sym says)
+      (bits_of_flags (is_some s.held) (is_some s.pending) (is_some s.hinge) (is_some s.upper)
+      (is_some s.tuning))
+
+  -- the flags go together
+  flags_pass : are_flags_ok b ≡ true
+  flags_pass =
+      let says = flags_say in
+      let with_held : AreBeside (has_flag b 1) (has_flag b 2) (has_flag b 4) (has_flag b 8) = record {
+        together = says.held_bit ∙ summary.together ∙ sym says.hinge_bit;
+        pending_after = λ there. says.held_bit ∙ summary.pending_after (sym says.pending_bit ∙ there);
+        doors_after = λ there. says.held_bit ∙ summary.doors_after (sym says.doors_bit ∙ there);
+      } in
+      and_from (leb (get_or b 12 0) 31) _ says.small
+      (beside_passes (has_flag b 1) (has_flag b 4) (has_flag b 2) (has_flag b 8) with_held)
+
+  -- each field has a form that it may have
+  forms_pass : HoldsFrom (is_form_ok b) 0 128
+  forms_pass = λ i low below.
+      let says = flags_say in
+      let parts = parts_of s b is in
+      let zeros : are_zeros b 13 3 ≡ true = ap (λ l. list_all (λ x. eqb x 0) (take 3 (drop 13 l))) is in
+      let lower : has_flag b 8 ≡ is_some s.lower = says.doors_bit ∙ summary.doors in
+      by_case i 12 _ _ (λ e. flags_pass)
+      (by_case i 13 _ _ (λ e. zeros)
+      (by_case i 16 _ _ (λ e. ap (λ k. has_flag b 1 || are_zeros b k 16) e
+      ∙ place_passes s.held (has_flag b 1) b parts.rest_32 16 says.held_bit parts.at_16)
+      (by_case i 32 _ _ (λ e. ap (λ k. has_flag b 2 || are_zeros b k 16) e
+      ∙ place_passes s.pending (has_flag b 2) b parts.rest_48 32 says.pending_bit parts.at_32)
+      (by_case i 48 _ _ (λ e. ap (λ k. has_flag b 4 || are_zeros b k 16) e
+      ∙ place_passes s.hinge (has_flag b 4) b parts.rest_64 48 says.hinge_bit parts.at_48)
+      (by_case i 64 _ _ (λ e. ap (λ k. has_flag b 8 || are_zeros b k 16) e
+      ∙ place_passes s.upper (has_flag b 8) b parts.rest_80 64 says.doors_bit parts.at_64)
+      (by_case i 80 _ _ (λ e. ap (λ k. has_flag b 8 || are_zeros b k 16) e
+      ∙ place_passes s.lower (has_flag b 8) b (tuning_bytes s.tuning) 80 lower parts.at_80)
+      (by_case i 96 _ _ (λ e. ap (λ k. has_flag b 16 || are_zeros b k 32) e
+      ∙ tuning_passes s.tuning (has_flag b 16) b says.tuning_bit parts.at_96)
+      refl)))))))
+
+  -- each point that is there is in range
+  points_pass : HoldsFrom (is_point_ok b) 0 128
+  points_pass = λ i low below.
+      let says = flags_say in
+      let parts = parts_of s b is in
+      let lower : has_flag b 8 ≡ is_some s.lower = says.doors_bit ∙ summary.doors in
+      by_case i 16 _ _ (λ e. ap (λ k. not (has_flag b 1) || is_in_range (point_at (drop k b))) e
+      ∙ point_passes s.held (has_flag b 1) b parts.rest_32 16 summary.held says.held_bit parts.at_16)
+      (by_case i 32 _ _ (λ e. ap (λ k. not (has_flag b 2) || is_in_range (point_at (drop k b))) e
+      ∙ point_passes s.pending (has_flag b 2) b parts.rest_48 32 summary.pending says.pending_bit parts.at_32)
+      (by_case i 48 _ _ (λ e. ap (λ k. not (has_flag b 4) || is_in_range (point_at (drop k b))) e
+      ∙ point_passes s.hinge (has_flag b 4) b parts.rest_64 48 summary.hinge says.hinge_bit parts.at_48)
+      (by_case i 64 _ _ (λ e. ap (λ k. not (has_flag b 8) || is_in_range (point_at (drop k b))) e
+      ∙ point_passes s.upper (has_flag b 8) b parts.rest_80 64 summary.upper says.doors_bit parts.at_64)
+      (by_case i 80 _ _ (λ e. ap (λ k. not (has_flag b 8) || is_in_range (point_at (drop k b))) e
+      ∙ point_passes s.lower (has_flag b 8) b (tuning_bytes s.tuning) 80 summary.lower lower parts.at_80)
+      refl))))
+
+  -- each number of a tuning that is there is in range
+  tuning_in_range : HoldsFrom (is_number_ok b) 0 128
+  tuning_in_range = λ i low below.
+      let numbers = numbers_pass s.tuning (has_flag b 16) b flags_say.tuning_bit summary.tuning
+      (parts_of s b is).at_96 in
+      let none = not (has_flag b 16) in
+      by_case i 96 _ _ (λ e. ap (λ k. none || leb (short_number b k 7) largest_value) e ∙ numbers.exc_dev)
+      (by_case i 103 _ _ (λ e. ap (λ k. none || leb (short_number b k 6) last_time) e ∙ numbers.exc_max)
+      (by_case i 109 _ _ (λ e. ap (λ k. none || leb (short_number b k 7) largest_value) e ∙ numbers.comp_dev)
+      (by_case i 116 _ _ (λ e. ap (λ k. none || leb (short_number b k 6) last_time) e ∙ numbers.comp_min)
+      (by_case i 122 _ _ (λ e. ap (λ k. none || leb (short_number b k 6) last_time) e ∙ numbers.comp_max)
+      refl))))
+
+  -- the bytes of a summary break the layout nowhere
+  pub spelled_whole : IsSlotWhole b
+  spelled_whole = record { forms = forms_pass; points = points_pass; numbers = tuning_in_range }
+
+-- a slot that breaks the layout nowhere does not break it
+pub not_broken : (b : List ℕ) (at : ℕ) → IsSlotWhole b → IsSlotBroken b at → ⊥
+not_broken b at whole (inl form) =
+    both_ways (is_form_ok b at) form.fails (whole.forms at form.low form.within)
+not_broken b at whole (inr (forms, inl point)) =
+    both_ways (is_point_ok b at) point.fails (whole.points at point.low point.within)
+not_broken b at whole (inr (forms, inr (points, number))) =
+    both_ways (is_number_ok b at) number.fails (whole.numbers at number.low number.within)
+
+-- so no slot that spells a summary is broken
+pub spelled_not_broken : (s : Summary) (b : List ℕ) (at : ℕ) → IsSummary s → b ≡ summary_image s
+    → IsSlotBroken b at → ⊥
+spelled_not_broken s b at summary is broken = not_broken b at (spelled_whole s b summary is) broken

@@ -1,0 +1,167 @@
+-- A slot of which no field breaks the layout spells a summary.
+use Rattle.std.proofs.Common.{◌≡◌, ℕ, ◌+◌, ◌<◌, ◌≤◌, Bool, true, false, cond, not, ◌||◌, leb, List, [], ◌∷◌}
+use Rattle.std.proofs.Common.{◌++◌, length, get_or, take, drop, Option, None, Some, is_some, IfSome, refl}
+use Rattle.std.proofs.Common.{sym, ap, ◌∙◌, arith}
+use Rattle.std.specs.Int.{w32, w64, from_be_bytes}
+use Rattle.std.proofs.lemmas.Bool.{and_parts, leb-true}
+use Rattle.std.proofs.lemmas.List.{drop_more}
+use Rattle.trend_num.specs.declared.point.Point.{Point}
+use Rattle.trend_num.specs.declared.archive.Summary.{Summary}
+use Rattle.trend_num.specs.declared.tuning.Tuning.{Tuning}
+use Rattle.trend_num.specs.Ranges.{InRange, IsTuned, last_time, largest_value}
+use Rattle.archive_file.specs.Fields.{place_bytes, point_at}
+use Rattle.archive_file.specs.Summaries.{flags, places_image, tuning_bytes, summary_image, IsSummary}
+use Rattle.archive_file.proofs.Points.{IsBytes}
+use Rattle.device_layout.specs.Firsts.{HoldsFrom}
+use Rattle.device_layout.specs.SlotFields.{has_flag, are_flags_ok, are_zeros, is_in_range, is_form_ok}
+use Rattle.device_layout.specs.SlotFields.{short_number, IsSlotWhole}
+use Rattle.device_layout.proofs.SlotTests.{is_inside}
+use Rattle.device_layout.proofs.SlotFlags.{beside, flags_in_is, flags_are}
+use Rattle.device_layout.proofs.SlotPieces.{cut, five_and_more, zeros_are, eight_below, four_below}
+use Rattle.device_layout.proofs.SlotPieces.{length-piece, bytes_of_piece, last_piece, eight, four, seven}
+use Rattle.device_layout.proofs.SlotPieces.{six, sixteen}
+
+-- ---- what may be there
+
+-- it is there where its flag is set
+there_is : {A : Type 0} (there : Bool) (x : A) → is_some (cond there (Some x) None) ≡ there
+there_is true x = refl
+there_is false x = refl
+
+-- a point that is there is in range
+point_inside : (there : Bool) (p : Point) → (not there || is_in_range p) ≡ true
+    → IfSome (cond there (Some p) None) InRange
+point_inside true p ok = is_inside p ok
+point_inside false p ok = tt
+
+-- a tuning that is there is one
+tuning_inside : (there : Bool) (t : Tuning) → (not there || leb t.exc_dev largest_value) ≡ true
+    → (not there || leb t.exc_max last_time) ≡ true → (not there || leb t.comp_dev largest_value) ≡ true
+    → (not there || leb t.comp_min last_time) ≡ true → (not there || leb t.comp_max last_time) ≡ true
+    → IfSome (cond there (Some t) None) IsTuned
+tuning_inside true t exc_dev exc_max comp_dev comp_min comp_max = record {
+  exc_dev = leb-true _ _ exc_dev;
+  exc_max = leb-true _ _ exc_max;
+  comp_dev = leb-true _ _ comp_dev;
+  comp_min = leb-true _ _ comp_min;
+  comp_max = leb-true _ _ comp_max;
+}
+tuning_inside false t exc_dev exc_max comp_dev comp_min comp_max = tt
+
+-- ---- the summary
+
+-- the tuning that stands in the last 32 bytes
+abbrev tuning_there : List ℕ → Tuning
+tuning_there b = record {
+  exc_dev = short_number b 96 7;
+  exc_max = short_number b 103 6;
+  comp_dev = short_number b 109 7;
+  comp_min = short_number b 116 6;
+  comp_max = short_number b 122 6;
+}
+
+-- the point at a place, if it is there
+abbrev place_there : List ℕ → ℕ → ℕ → Option Point
+place_there b bit at = cond (has_flag b bit) (Some (point_at (drop at b))) None
+
+-- the summary that stands in a slot
+abbrev summary_there : List ℕ → Summary
+summary_there b = record {
+  taken = from_be_bytes w64 (take 8 b);
+  records = from_be_bytes w32 (take 4 (drop 8 b));
+  held = place_there b 1 16;
+  pending = place_there b 2 32;
+  hinge = place_there b 4 48;
+  upper = place_there b 8 64;
+  lower = place_there b 8 80;
+  tuning = cond (has_flag b 16) (Some (tuning_there b)) None;
+}
+
+-- ---- its bytes
+
+module _ (b : List ℕ) (long : length b ≡ 128) (bytes : IsBytes b) where
+  -- those of a point, or zeros
+  place_spelled : (there : Bool) (at : ℕ) → at + 16 ≤ 128 → (there || are_zeros b at 16) ≡ true
+      → take 16 (drop at b) ≡ place_bytes (cond there (Some (point_at (drop at b))) None)
+  place_spelled true at within ok = sixteen b long bytes at within
+  place_spelled false at within ok =
+      zeros_are (take 16 (drop at b)) 16 (length-piece b long bytes at 16 within) ok
+
+  -- those of a tuning, or zeros
+  tuning_spelled : (there : Bool) → (there || are_zeros b 96 32) ≡ true
+      → drop 96 b ≡ tuning_bytes (cond there (Some (tuning_there b)) None)
+  tuning_spelled true ok =
+      cut b 96 7 _ _ (seven b long bytes 96 (omega arith))
+      (cut b 103 6 _ _ (six b long bytes 103 (omega arith))
+      (cut b 109 7 _ _ (seven b long bytes 109 (omega arith))
+      (cut b 116 6 _ _ (six b long bytes 116 (omega arith))
+      (sym (last_piece b long bytes 122 6 refl) ∙ six b long bytes 122 (omega arith)))))
+  tuning_spelled false ok =
+      sym (last_piece b long bytes 96 32 refl)
+      ∙ zeros_are (take 32 (drop 96 b)) 32 (length-piece b long bytes 96 32 (omega arith)) ok
+
+  -- those of the flags, and three zeros
+  flags_spelled : are_flags_ok b ≡ true → are_zeros b 13 3 ≡ true
+      → take 4 (drop 12 b) ≡ flags (summary_there b) ∷ 0 ∷ 0 ∷ 0 ∷ []
+  flags_spelled ok zeros =
+      let n = get_or b 12 0 in
+      let small : n ≤ 31 = leb-true n 31 (and_parts (leb n 31) _ ok).0 in
+      let same : flags (summary_there b) ≡ n =
+      flags_are (summary_there b) (has_flag b 1) (has_flag b 2) (has_flag b 4) (has_flag b 8) (has_flag b 16)
+      (there_is (has_flag b 1) (point_at (drop 16 b))) (there_is (has_flag b 2) (point_at (drop 32 b)))
+      (there_is (has_flag b 4) (point_at (drop 48 b))) (there_is (has_flag b 8) (point_at (drop 64 b)))
+      (there_is (has_flag b 16) (tuning_there b)) ∙ flags_in_is n small in
+      let rest : take 3 (drop 13 b) ≡ 0 ∷ 0 ∷ 0 ∷ [] =
+      zeros_are (take 3 (drop 13 b)) 3 (length-piece b long bytes 13 3 (omega arith)) zeros in
+      ap (take 4) (drop_more b 12 0 (omega (arith, long))) ∙ ap (λ l. n ∷ l) rest
+      ∙ ap (λ k. k ∷ 0 ∷ 0 ∷ 0 ∷ []) (sym same)
+
+  -- all of them
+  all_spelled : HoldsFrom (is_form_ok b) 0 128 → b ≡ summary_image (summary_there b)
+  all_spelled forms =
+      let s = summary_there b in
+      let form : (at : ℕ) → at < 128 → is_form_ok b at ≡ true = λ at below. forms at (omega arith) below in
+      let places : drop 16 b ≡ places_image s ++ tuning_bytes s.tuning =
+      cut b 16 16 _ _ (place_spelled (has_flag b 1) 16 (omega arith) (form 16 (omega arith)))
+      (cut b 32 16 _ _ (place_spelled (has_flag b 2) 32 (omega arith) (form 32 (omega arith)))
+      (cut b 48 16 _ _ (place_spelled (has_flag b 4) 48 (omega arith) (form 48 (omega arith)))
+      (cut b 64 16 _ _ (place_spelled (has_flag b 8) 64 (omega arith) (form 64 (omega arith)))
+      (cut b 80 16 _ _ (place_spelled (has_flag b 8) 80 (omega arith) (form 80 (omega arith)))
+      (tuning_spelled (has_flag b 16) (form 96 (omega arith)))))))
+      ∙ sym (five_and_more (place_bytes s.held) (place_bytes s.pending) (place_bytes s.hinge)
+      (place_bytes s.upper) (place_bytes s.lower) (tuning_bytes s.tuning)) in
+      cut b 0 8 _ _ (eight b long bytes 0 (omega arith))
+      (cut b 8 4 _ _ (four b long bytes 8 (omega arith))
+      (cut b 12 4 _ _ (flags_spelled (form 12 (omega arith)) (form 13 (omega arith))) places))
+
+  -- and it is a summary that has a spelling
+  is_summary : IsSlotWhole b → IsSummary (summary_there b)
+  is_summary whole =
+      let flags_ok : are_flags_ok b ≡ true = whole.forms 12 (omega arith) (omega arith) in
+      let with_held = beside (has_flag b 1) (has_flag b 4) (has_flag b 2) (has_flag b 8)
+      (and_parts (leb (get_or b 12 0) 31) _ flags_ok).1 in
+      let held = there_is (has_flag b 1) (point_at (drop 16 b)) in
+      let pending = there_is (has_flag b 2) (point_at (drop 32 b)) in
+      let hinge = there_is (has_flag b 4) (point_at (drop 48 b)) in
+      let upper = there_is (has_flag b 8) (point_at (drop 64 b)) in
+      let lower = there_is (has_flag b 8) (point_at (drop 80 b)) in
+      record {
+        taken = eight_below (take 8 b) (bytes_of_piece b long bytes 0 8);
+        records = four_below (take 4 (drop 8 b)) (bytes_of_piece b long bytes 8 4);
+        together = held ∙ with_held.together ∙ sym hinge;
+        pending_after = λ there. held ∙ with_held.pending_after (sym pending ∙ there);
+        doors = upper ∙ sym lower;
+        doors_after = λ there. held ∙ with_held.doors_after (sym upper ∙ there);
+        held = point_inside (has_flag b 1) _ (whole.points 16 (omega arith) (omega arith));
+        pending = point_inside (has_flag b 2) _ (whole.points 32 (omega arith) (omega arith));
+        hinge = point_inside (has_flag b 4) _ (whole.points 48 (omega arith) (omega arith));
+        upper = point_inside (has_flag b 8) _ (whole.points 64 (omega arith) (omega arith));
+        lower = point_inside (has_flag b 8) _ (whole.points 80 (omega arith) (omega arith));
+        tuning = tuning_inside (has_flag b 16) (tuning_there b) (whole.numbers 96 (omega arith) (omega arith))
+            (whole.numbers 103 (omega arith) (omega arith)) (whole.numbers 109 (omega arith) (omega arith))
+            (whole.numbers 116 (omega arith) (omega arith)) (whole.numbers 122 (omega arith) (omega arith));
+      }
+
+  -- a slot of which no field breaks the layout spells a summary
+  pub spells_one : IsSlotWhole b → (s : Summary) × IsSummary s × (b ≡ summary_image s)
+  spells_one whole = (summary_there b, is_summary whole, all_spelled whole.forms)

@@ -1,0 +1,98 @@
+// The layout of a new device.
+ghost use Rattle.std.specs.Prelude.{◌≡◌, ◌+◌, ◌*◌, ◌≤◌, ◌++◌, replicate, Some, IfSome, IfOk, OnOk, IsErrOf};
+ghost use Rattle.trend_num.specs.Names.{IsName};
+ghost use Rattle.trend_num.specs.Ranges.{IsTuned};
+ghost use Rattle.trend_model.specs.State.{nothing_taken};
+ghost use Rattle.disk_model.specs.Traces.{seen};
+ghost use Rattle.disk_model.specs.Images.{Now, IsSettled};
+ghost use Rattle.disk_model.specs.Moments.{During};
+ghost use Rattle.disk_model.specs.Calls.{CountsFault, HasCause};
+ghost use Rattle.disk_model.specs.Gates.{IsShut};
+ghost use Rattle.archive_file.specs.declared.failure.PutNo.TheVariants.{DeviceFault, WantOfMemory};
+ghost use Rattle.device_layout.specs.Headers.{header_image};
+ghost use Rattle.disk_model.specs.Gates.{IsNew};
+ghost use Rattle.device_layout.specs.Recovery.{Recovers};
+ghost use Rattle.device_layout.specs.Layouts.{IsMade};
+
+use crate::header::header_bytes;
+use archive_file::PutNo;
+use disk_model::{Disk, Failed, close_gates, write_guarded};
+use event_queue::SLOT_LEN;
+use std::alloc::{AllocError, Global};
+use trend_num::TagDef;
+
+// Where the gate of the layout is.
+const GATE: u64 = 0;
+
+// The byte of the gate before the layout is whole.
+const CLOSED: u8 = 0;
+
+// How many bytes stand between the gate of the layout and those of the lane slots.
+const FRONT: usize = 399;
+
+/// Makes the layout of a new device: closes its gate, writes the header and zeros behind it, and opens it.
+/// Memory for the bytes is taken before the first write. A crash at any moment leaves a new device or the
+/// whole layout, and either recovers that nothing was taken. After DeviceFault the device is opened again
+/// before it is used.
+pub fn make_layout<D: Disk>(
+    alloc: Global,
+    dev: &mut D,
+    def: &TagDef,
+    slots: u32,
+) -> Result<(), PutNo>
+    requires some { 1 ≤ slots }
+    requires few { slots ≤ 65536 }
+    requires tuned { IsTuned def.now.tuning }
+    requires new { IfSome (D.trace dev.old) (λ t. IsNew (seen (Some t))) }
+    requires settled { IsSettled (D.trace dev.old) }
+    ensures any_moment { During (D.trace dev.old) (D.trace dev.new)
+        (λ c. Recovers def.now c (nothing_taken def.now.tuning)) }
+    ensures made { OnOk result (IfSome (D.trace dev.new) (λ t. IsMade def.now slots (seen (Some t)))) }
+    ensures named { OnOk result (IsName def.now.name) }
+    ensures settled { OnOk result (IsSettled (D.trace dev.new)) }
+    ensures no_memory { IsErrOf result WantOfMemory → dev.new ≡ dev.old }
+    ensures cause { CountsFault result DeviceFault (D.fault_count dev.old) (D.fault_count dev.new) }
+    ensures later { D.ticks dev.old ≤ D.ticks dev.new }
+{
+    let Ok(bytes) = layout_bytes(alloc, def, slots) else {
+        return Err(PutNo::WantOfMemory);
+    };
+    let Ok(()) = close_layout(dev) else {
+        return Err(PutNo::DeviceFault);
+    };
+    let Ok(()) = write_guarded(dev, GATE + 1, &bytes, GATE) else {
+        return Err(PutNo::DeviceFault);
+    };
+    Ok(())
+}
+
+// All bytes of a new layout behind its gate: the header, and zeros.
+fn layout_bytes(alloc: Global, def: &TagDef, slots: u32) -> Result<Vec<u8>, AllocError>
+    requires { slots ≤ 65536 }
+    ensures image { IfOk result (λ v. v.items
+        ≡ header_image def.now slots ++ replicate (272 + 1035 * slots) 0) }
+    ensures name { OnOk result (IsName def.now.name) }
+{
+    let size = FRONT + (SLOT_LEN + 1) * slots as usize;
+    let mut bytes = Vec::with_capacity(alloc, size)?;
+    bytes.extend_from_slice(&header_bytes(def, slots))?;
+    bytes.resize(size, 0)?;
+    Ok(bytes)
+}
+
+// Sees to it that a new device has a closed gate, and syncs. One of length 0 begins with it; any other is
+// written only where its gate is open, and then has no other byte.
+fn close_layout<D: Disk>(dev: &mut D) -> Result<(), Failed>
+    requires new { IfSome (D.trace dev.old) (λ t. IsNew (seen (Some t))) }
+    requires settled { IsSettled (D.trace dev.old) }
+    ensures any_moment { During (D.trace dev.old) (D.trace dev.new) IsNew }
+    ensures shut { OnOk result (Now (D.trace dev.new) (IsShut 0)) }
+    ensures later { D.ticks dev.old ≤ D.ticks dev.new }
+    ensures cause { HasCause (D.fault_count dev.old) (D.fault_count dev.new) result }
+{
+    if dev.len()? > 0 {
+        return close_gates(dev, GATE, 1);
+    }
+    dev.write_at(GATE, &[CLOSED])?;
+    dev.sync()
+}

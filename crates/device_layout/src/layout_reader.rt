@@ -1,0 +1,277 @@
+// Reading of a tag's device: its header, the summary that counts, and the records.
+ghost use Rattle.std.specs.Prelude.{◌≡◌, ◌+◌, ◌*◌, ◌^◌, ◌<◌, ◌≤◌, ℕ, length, slice_index};
+ghost use Rattle.std.specs.Prelude.{[], None, Some, Err, IfOk, IfErr, OnOk, OnErr};
+ghost use Rattle.trend_num.specs.declared.tuning.Tuning.{Tuning};
+ghost use Rattle.trend_num.specs.declared.tag_def.TagDef.{TagDef};
+ghost use Rattle.trend_num.specs.Ranges.{IsTuned};
+ghost use Rattle.disk_model.specs.Calls.{CountsFault, HasCause, HasLength, Reaches, Reads};
+ghost use Rattle.disk_model.specs.Gates.{IsBegun};
+ghost use Rattle.archive_file.specs.Places.{HasRecords};
+ghost use Rattle.event_queue.specs.Slots.{lane_end};
+ghost use Rattle.archive_file.specs.Summaries.{summary_image, IsSummary};
+ghost use Rattle.device_layout.specs.declared.failure.OpenNo.TheVariants.{DeviceFault, Damaged, OtherTag};
+ghost use Rattle.device_layout.specs.Recovery.{chosen, counting, slot_bytes, no_summary, in_force};
+ghost use Rattle.disk_model.specs.Calls.{Shows};
+ghost use Rattle.device_layout.specs.Readings.{IsCause, HasHeader, HasLayout, CountsSummary, IsFoundOn, refusal_of};
+
+use crate::OpenNo;
+use crate::header::{HEADER_LEN, Header, read_header};
+use crate::slot::Slot;
+use crate::slot_field::read_summary;
+use archive_file::{SUMMARY_LEN, ScanNo, read_records};
+use disk_model::{Disk, OPEN, read_part};
+use event_queue::SLOT_LEN;
+use std::alloc::Global;
+use trend_num::{Rec, Summary, TagDef, Tuning, same_name};
+
+/// What a device stores: the summary that counts, the records that it counts, and the tuning in force.
+#[derive(Drop)]
+pub struct Stored {
+    /// The slot of the summary; none before the first checkpoint, where the summary is empty.
+    pub slot: Option<Slot>,
+    pub summary: Summary,
+    pub recs: Vec<Rec>,
+    pub tuning: Tuning,
+}
+
+/// Before the first checkpoint nothing was taken.
+const NO_SUMMARY: Summary = Summary {
+    taken: 0,
+    records: 0,
+    held: None,
+    pending: None,
+    hinge: None,
+    upper: None,
+    lower: None,
+    tuning: None,
+};
+
+/// Where the lane begins, with its gates.
+pub const LANE: u64 = 400;
+
+/// The header of a device whose layout was finished, where it is this tag's and the layout is as long as it says.
+pub fn read_layout<D: Disk>(dev: &mut D, def: &TagDef) -> Result<Header, OpenNo>
+    requires { Shows (D.trace dev.old) IsBegun }
+    ensures layout { IfOk result (λ h. Shows (D.trace dev.old) (HasLayout def.now h.slots h.def.tuning)) }
+    ensures tuned { IfOk result (λ h. IsTuned h.def.tuning) }
+    ensures slots { IfOk result (λ h. (1 ≤ h.slots) × (h.slots ≤ 65536)) }
+    ensures cause { IfErr result (IsCause def.now (D.trace dev.old)) }
+    ensures same { D.trace dev.new ≡ D.trace dev.old }
+    ensures untimed { D.ticks dev.new ≡ D.ticks dev.old }
+    ensures counts { CountsFault result DeviceFault (D.fault_count dev.old) (D.fault_count dev.new) }
+{
+    let Ok(len) = dev.len() else {
+        return Err(OpenNo::DeviceFault);
+    };
+    let header = match header_of(dev, len) {
+        Ok(header) => header,
+        Err(why) => return Err(why),
+    };
+    if let Err(why) = check_tag(&header.def, def) {
+        return Err(why);
+    }
+    if len < log_start(header.slots) {
+        return Err(ends_at(len));
+    }
+    Ok(header)
+}
+
+/// The header of a device of this length.
+fn header_of<D: Disk>(dev: &mut D, len: u64) -> Result<Header, OpenNo>
+    requires { HasLength (D.trace dev.old) len }
+    ensures header { IfOk result (λ h. Shows (D.trace dev.old) (HasHeader h)) }
+    ensures tuned { IfOk result (λ h. IsTuned h.def.tuning) }
+    ensures slots { IfOk result (λ h. (1 ≤ h.slots) × (h.slots ≤ 65536)) }
+    ensures cause { (def : TagDef) → Shows (D.trace dev.old) IsBegun
+        → IfErr result (IsCause def (D.trace dev.old)) }
+    ensures same { D.trace dev.new ≡ D.trace dev.old }
+    ensures untimed { D.ticks dev.new ≡ D.ticks dev.old }
+    ensures counts { CountsFault result DeviceFault (D.fault_count dev.old) (D.fault_count dev.new) }
+{
+    if len < HEADER_LEN as u64 {
+        return Err(ends_at(len));
+    }
+    let bytes = read_part::<HEADER_LEN, D>(dev, 0)?;
+    match read_header(&bytes) {
+        Ok(header) => Ok(header),
+        Err(at) => Err(damaged(at as u64, bytes[at])),
+    }
+}
+
+/// Refuses a tag of another name or of another kind.
+fn check_tag(found: &TagDef, wanted: &TagDef) -> Result<(), OpenNo>
+    ensures name { OnOk result (found.now.name ≡ wanted.now.name) }
+    ensures step { OnOk result (found.now.step ≡ wanted.now.step) }
+    ensures other { IfErr result (λ why. why ≡ OtherTag found.now wanted.now) }
+    ensures differs { OnErr result ((found.now.name ≡ wanted.now.name) → (found.now.step ≡ wanted.now.step) → ⊥) }
+{
+    if same_name(&found.name, &wanted.name) && found.step == wanted.step {
+        return Ok(());
+    }
+    Err(OpenNo::OtherTag {
+        found: *found,
+        wanted: *wanted,
+    })
+}
+
+/// Where the records begin, behind so many lane slots.
+pub fn log_start(slots: u32) -> u64
+    ensures { result ≡ 400 + 1035 * slots }
+{
+    LANE + (SLOT_LEN as u64 + 1) * u64::from(slots)
+}
+
+/// A device ends too early.
+fn ends_at(len: u64) -> OpenNo
+    ensures { result ≡ Damaged len None }
+{
+    OpenNo::Damaged {
+        at: len,
+        byte: None,
+    }
+}
+
+/// The slot whose summary counts, if there is one.
+fn counting_slot<D: Disk>(dev: &mut D) -> Result<Option<Slot>, OpenNo>
+    requires { Reaches (D.trace dev.old) 400 }
+    ensures slot { IfOk result (λ x. Shows (D.trace dev.old) (λ c. counting c ≡ x)) }
+    ensures fault { OnErr result (result ≡ Err DeviceFault) }
+    ensures counts { HasCause (D.fault_count dev.old) (D.fault_count dev.new) result }
+    ensures same { D.trace dev.new ≡ D.trace dev.old }
+    ensures untimed { D.ticks dev.new ≡ D.ticks dev.old }
+{
+    let first = u64::from_be_bytes(read_part::<8, D>(dev, Slot::First.place())?);
+    let second = u64::from_be_bytes(read_part::<8, D>(dev, Slot::Second.place())?);
+    let gates = read_part::<2, D>(dev, Slot::First.gate())?;
+    Ok(chosen(gates[0] == OPEN, gates[1] == OPEN, second <= first))
+}
+
+/// The slot whose summary counts, by which gates are open, and whether the second counts no more events than the first.
+fn chosen(first_open: bool, second_open: bool, first_counts: bool) -> Option<Slot>
+    ensures { result ≡ chosen first_open second_open first_counts }
+{
+    match (first_open, second_open) {
+        (true, true) if first_counts => Some(Slot::First),
+        (true, true) => Some(Slot::Second),
+        (true, false) => Some(Slot::First),
+        (false, true) => Some(Slot::Second),
+        (false, false) => None,
+    }
+}
+
+/// The summary in the slot that counts.
+fn counted<D: Disk>(dev: &mut D, slot: Slot) -> Result<Summary, OpenNo>
+    requires long { Reaches (D.trace dev.old) 400 }
+    ensures bytes { IfOk result (λ s. Shows (D.trace dev.old) (λ c. slot_bytes c slot ≡ summary_image s)) }
+    ensures whole { IfOk result IsSummary }
+    ensures cause { (def : TagDef) (slots : ℕ) (made : Tuning) → Shows (D.trace dev.old) (HasLayout def slots made)
+        → Shows (D.trace dev.old) (λ c. counting c ≡ Some slot)
+        → IfErr result (IsCause def (D.trace dev.old)) }
+    ensures same { D.trace dev.new ≡ D.trace dev.old }
+    ensures untimed { D.ticks dev.new ≡ D.ticks dev.old }
+    ensures counts { CountsFault result DeviceFault (D.fault_count dev.old) (D.fault_count dev.new) }
+{
+    let bytes = read_part::<SUMMARY_LEN, D>(dev, slot.place())?;
+    match read_summary(&bytes) {
+        Ok(summary) => Ok(summary),
+        Err(at) => Err(damaged(slot.place() + at as u64, bytes[at])),
+    }
+}
+
+/// The records that this summary counts.
+fn records_of<D: Disk>(
+    alloc: Global,
+    dev: &mut D,
+    slots: u32,
+    summary: &Summary,
+) -> Result<Vec<Rec>, OpenNo>
+    ensures records { IfOk result (λ rs. Shows (D.trace dev.old)
+        (λ c. HasRecords c (lane_end slots) summary.now.records rs.items)) }
+    ensures cause { (def : TagDef) (slot : Slot) (tuning : Tuning)
+        → Shows (D.trace dev.old) (CountsSummary def slots slot summary.now tuning)
+        → IfErr result (IsCause def (D.trace dev.old)) }
+    ensures same { D.trace dev.new ≡ D.trace dev.old }
+    ensures untimed { D.ticks dev.new ≡ D.ticks dev.old }
+    ensures counts { CountsFault result DeviceFault (D.fault_count dev.old) (D.fault_count dev.new) }
+{
+    match read_records(alloc, dev, log_start(slots), summary.records) {
+        Ok(recs) => Ok(recs),
+        Err(why) => Err(refusal_of(why)),
+    }
+}
+
+/// The byte at a place is damaged.
+pub fn damaged(at: u64, byte: u8) -> OpenNo
+    ensures { result ≡ Damaged at (Some byte) }
+{
+    OpenNo::Damaged {
+        at,
+        byte: Some(byte),
+    }
+}
+
+/// The tuning in force, of a tag that was made with the given one.
+fn in_force(made: Tuning, tuning: Option<Tuning>) -> Tuning
+    ensures { result ≡ in_force made tuning }
+{
+    match tuning {
+        None => made,
+        Some(tuning) => tuning,
+    }
+}
+
+/// The summary that counts, its records, and the tuning in force. Whether records and summary can be those of a tag is not
+/// tested.
+pub fn read_stored<D: Disk>(alloc: Global, dev: &mut D, header: &Header) -> Result<Stored, OpenNo>
+    requires long { Reaches (D.trace dev.old) 400 }
+    requires tuned { IsTuned header.now.def.tuning }
+    ensures found { (def : TagDef)
+        → Shows (D.trace dev.old) (HasLayout def header.now.slots header.now.def.tuning)
+        → IfOk result (λ x. Shows (D.trace dev.old) (IsFoundOn def header.now.slots x)) }
+    ensures tuned { IfOk result (λ x. IsTuned x.tuning) }
+    ensures none { IfOk result (λ x. x.slot ≡ None → (x.summary ≡ no_summary) × (x.recs.items ≡ [])) }
+    ensures cause { (def : TagDef)
+        → Shows (D.trace dev.old) (HasLayout def header.now.slots header.now.def.tuning)
+        → IfErr result (IsCause def (D.trace dev.old)) }
+    ensures same { D.trace dev.new ≡ D.trace dev.old }
+    ensures untimed { D.ticks dev.new ≡ D.ticks dev.old }
+    ensures counts { CountsFault result DeviceFault (D.fault_count dev.old) (D.fault_count dev.new) }
+{
+    let counting = match counting_slot(dev) {
+        Ok(counting) => counting,
+        Err(why) => return Err(why),
+    };
+    let Some(slot) = counting else {
+        return Ok(Stored {
+            slot: None,
+            summary: NO_SUMMARY,
+            recs: Vec::new(alloc),
+            tuning: header.def.tuning,
+        });
+    };
+    let summary = match counted(dev, slot) {
+        Ok(summary) => summary,
+        Err(why) => return Err(why),
+    };
+    let tuning = in_force(header.def.tuning, summary.tuning);
+    match records_of(alloc, dev, header.slots, &summary) {
+        Ok(recs) => Ok(Stored {
+            slot: Some(slot),
+            summary,
+            recs,
+            tuning,
+        }),
+        Err(why) => Err(why),
+    }
+}
+
+/// The refusal to open what was not read.
+pub fn refusal_of(why: ScanNo) -> OpenNo
+    ensures { result ≡ refusal_of why }
+{
+    match why {
+        ScanNo::DeviceFault => OpenNo::DeviceFault,
+        ScanNo::Damaged { at, byte } => OpenNo::Damaged { at, byte },
+        ScanNo::WantOfMemory => OpenNo::WantOfMemory,
+    }
+}

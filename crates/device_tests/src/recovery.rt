@@ -1,0 +1,263 @@
+// Devices that are opened again: stories by hand, and damaged bytes.
+ghost use Rattle.std.specs.Prelude.{◌≡◌, ◌<◌};
+
+use crate::spelled::{change, point};
+use crash_recovery::{OpenFail, OpenNo, Opened, open_tag};
+use disk_model::MemDisk;
+use event_queue::LaneNo;
+use std::alloc::Global;
+use std::fmt::Write;
+use std::marker::Brand;
+use std::process::Abort;
+use std::sync::ledger::{Blank, Ledger};
+use std::test::Fail;
+use trend_num::{Kind, Point, Steps, TagDef, Tuning, in_range, name_from, tuning_ok};
+
+// How many slots the lane has, and what happens: a tuning's name, with which the device is opened; a value, which is put
+// into the lane or, where that is full, by a checkpoint; and a checkpoint. Then the records, the held point, the raw values
+// that are acknowledged, the free slots, and the writes and syncs since the device was opened last.
+//
+// A batch takes four of them. A checkpoint takes two for new records, two for the summary, two for its gate, one for each
+// gate of the lane that it closes, and one behind these; and two where the gate of its slot was open.
+const STORIES: &str = "\
+64 plain => none 0 64 0
+1 plain 0,0 10,10 20,0 30,5 => 0,0 10,10 20,0 held 30,5 4 1 24
+1 plain 0,0 10,10 plain 20,0 30,5 => 0,0 10,10 20,0 held 30,5 4 1 12
+4 plain 0,5 10,60 check 20,5 check check 30,5 check => 0,5 10,60 held 20,5 4 4 41
+64 plain 0,0 10,10 20,20 loose 30,33 40,40 => 0,0 20,20 held 40,40 6 62 8
+64 dull 0,0 10,1 plain => 0,0 10,1 held 10,1 3 64 0
+4 plain 0,0 dull 10,1 5,3 => 0,0 5,3* held 10,1 4 2 8";
+
+// Bytes of a device of the tag T1 that are changed, and what is told when it is opened. Of the header: letters, the name
+// and its zeros, the tuning, the number of slots, the kind, zeros. Of the summary: flags, zeros, absent parts that are
+// there, points and tunings out of range. The kind of a record. Of the lane: a count, a number.
+const DAMAGED: &str = "\
+386=165 => opened
+1=81 => Damaged { at: 1, byte: Some(81) }
+4=50 => Damaged { at: 4, byte: Some(50) }
+5=0 => Damaged { at: 5, byte: Some(0) }
+5=65 => Damaged { at: 5, byte: Some(65) }
+5=1 => Damaged { at: 7, byte: Some(49) }
+5=3 => Damaged { at: 8, byte: Some(0) }
+6=32 => Damaged { at: 6, byte: Some(32) }
+8=1 => Damaged { at: 8, byte: Some(1) }
+69=1 => Damaged { at: 69, byte: Some(1) }
+70=4 => Damaged { at: 70, byte: Some(4) }
+78=1 => Damaged { at: 78, byte: Some(1) }
+87=4 => Damaged { at: 86, byte: Some(0) }
+94=1 => Damaged { at: 94, byte: Some(1) }
+102=1 => Damaged { at: 102, byte: Some(1) }
+113=0 => Damaged { at: 110, byte: Some(0) }
+111=1 => Damaged { at: 110, byte: Some(0) }
+114=2 => Damaged { at: 114, byte: Some(2) }
+127=1 => Damaged { at: 127, byte: Some(1) }
+140=20 => Damaged { at: 140, byte: Some(20) }
+140=17 => Damaged { at: 140, byte: Some(17) }
+140=53 => Damaged { at: 140, byte: Some(53) }
+141=1 => Damaged { at: 141, byte: Some(1) }
+168=1 => Damaged { at: 160, byte: Some(0) }
+223=1 => Damaged { at: 208, byte: Some(0) }
+144=128 => Damaged { at: 144, byte: Some(128) }
+224=4 => Damaged { at: 224, byte: Some(4) }
+250=231 => Damaged { at: 250, byte: Some(231) }
+66640=77 => Damaged { at: 66640, byte: Some(77) }
+473=0 => Damaged { at: 472, byte: Some(0) }
+471=7 => Damaged { at: 464, byte: Some(0) }";
+
+// The tag T1 with the tuning of a name, where that is one.
+fn tag(name: &str) -> Option<TagDef> {
+    let (exc_dev, comp_dev) = match name {
+        "plain" => (0, 0),
+        "loose" => (0, 5),
+        "dull" => (5, 0),
+        _ => return None,
+    };
+    let tuning = Tuning {
+        exc_dev,
+        exc_max: 1_000_000,
+        comp_dev,
+        comp_min: 0,
+        comp_max: 1_000_000,
+    };
+    Some(TagDef {
+        name: name_from(b"T1")?,
+        tuning,
+        step: false,
+    })
+}
+
+// Opens a device.
+fn opened(
+    alloc: Global,
+    dev: MemDisk,
+    def: &TagDef,
+    slots: u32,
+) -> Result<Opened<MemDisk>, OpenFail<MemDisk>> {
+    if !tuning_ok(&def.tuning) || slots < 1 || slots > 64 {
+        let why = OpenNo::WantOfMemory;
+        return Err(OpenFail { dev, why });
+    }
+    open_tag(alloc, dev, def, slots, 16)
+}
+
+// Makes a checkpoint.
+fn check(alloc: Global, tag: &mut Opened<MemDisk>) -> Result<(), Fail> {
+    if tag.journal.failed() {
+        return Err(Fail::new("failed"));
+    }
+    Ok(
+        tag.journal
+            .checkpoint(alloc, &tag.core)
+            .map_err(|_| "refused")?,
+    )
+}
+
+// Takes a value, and puts it into the lane or, where that is full, by a checkpoint.
+fn keep<L: Ledger>(
+    rt: &impl Abort,
+    alloc: Global,
+    tag: &mut Opened<MemDisk>,
+    p: Point,
+    blank: Blank,
+) -> Result<(), Fail>
+    requires name { blank.name ≡ L.name }
+    requires parts { blank.parts ≡ L.parts }
+    requires some { 0 < L.parts }
+{
+    let mut steps = Steps::<L>::new(blank);
+    assert!(rt; in_range(p));
+    assert!(rt; tag.core.spare() >= 2);
+    assert!(rt; tag.core.taken() < 1000);
+    tag.core.take(p, &mut steps)?;
+    assert!(rt; !tag.journal.failed());
+    assert!(rt; tag.journal.acked() < 1000);
+    match tag.journal.commit(&[p]) {
+        Ok(()) => Ok(()),
+        Err(LaneNo::LaneFull) => check(alloc, tag),
+        Err(LaneNo::DeviceFault) => Err(Fail::new("fault")),
+    }
+}
+
+// Does so on a ledger of its own.
+fn put(rt: &impl Abort, alloc: Global, tag: &mut Opened<MemDisk>, p: Point) -> Result<(), Fail> {
+    keep::<Brand>(rt, alloc, tag, p, Blank::new(1))
+}
+
+// A story to its end, and the clock of its device when that was opened last.
+fn stored(
+    rt: &impl Abort,
+    alloc: Global,
+    slots: u32,
+    events: &str,
+) -> Result<(Opened<MemDisk>, u64), Fail> {
+    let new = MemDisk::new(Vec::new(alloc), Vec::new(alloc));
+    let (first, events) = events.split_once(' ').unwrap_or((events, ""));
+    let mut now = opened(alloc, new, &tag(first).ok_or("tag")?, slots)
+        .ok()
+        .ok_or("refused")?;
+    let mut start = now.journal.clock();
+    for event in events.split_whitespace() {
+        if let Some(def) = tag(event) {
+            now = opened(alloc, now.journal.into_device(), &def, slots)
+                .ok()
+                .ok_or("refused")?;
+            start = now.journal.clock();
+        } else if event == "check" {
+            check(alloc, &mut now)?;
+        } else {
+            put(rt, alloc, &mut now, point(rt, event))?;
+        }
+    }
+    Ok((now, start))
+}
+
+#[test]
+fn a_device_goes_on(rt: HostRuntime) -> Result<(), Fail> {
+    let alloc = rt.alloc();
+    for row in STORIES.lines() {
+        let (given, want) = row.split_once(" => ").ok_or("row")?;
+        let (slots, events) = given.split_once(' ').ok_or("slots")?;
+        let (now, start) = stored(&rt, alloc, slots.parse::<u32>()?, events)?;
+        let mut told = String::new(alloc);
+        for rec in now.core.recs() {
+            let mark = if rec.kind == Kind::Late { "*" } else { "" };
+            write!(told, "{},{}{mark} ", rec.point.t, rec.point.v)?;
+        }
+        match now.core.held() {
+            None => told.push_str("none")?,
+            Some(p) => write!(told, "held {},{}", p.t, p.v)?,
+        }
+        let calls = now.journal.clock().saturating_sub(start);
+        write!(
+            told,
+            " {} {} {calls}",
+            now.journal.acked(),
+            now.journal.free_slots()
+        )?;
+        assert_eq!(rt; told.as_str(), want, "{given}");
+    }
+    Ok(())
+}
+
+// A device of 64 lane slots that stores (0,0), in a record and a summary, and (10,10), in its lane.
+fn good(rt: &impl Abort, alloc: Global) -> Result<Vec<u8>, Fail> {
+    let (tag, _) = stored(rt, alloc, 64, "plain 0,0 check 10,10")?;
+    Ok(tag.journal.into_device().bytes().to_vec(alloc)?)
+}
+
+// What is told when a device of these bytes is opened.
+fn answer(alloc: Global, bytes: Vec<u8>, def: &TagDef) -> Result<String, Fail> {
+    Ok(
+        match opened(alloc, MemDisk::new(bytes, Vec::new(alloc)), def, 64) {
+            Ok(_) => String::from_str(alloc, "opened")?,
+            Err(fail) => format!(in alloc; "{:?}", fail.why)?,
+        },
+    )
+}
+
+#[test]
+fn a_damaged_byte_is_told_at_its_field(rt: HostRuntime) -> Result<(), Fail> {
+    let alloc = rt.alloc();
+    let def = tag("plain").ok_or("tag")?;
+    let good = good(&rt, alloc)?;
+    for row in DAMAGED.lines() {
+        let (given, want) = row.split_once(" => ").ok_or("row")?;
+        let mut bytes = good.clone()?;
+        change(&rt, bytes.as_mut_slice(), given);
+        assert_eq!(rt; answer(alloc, bytes, &def)?.as_str(), want, "{given}");
+    }
+    let mut short = good.clone()?;
+    short.truncate(66_639);
+    assert_eq!(rt;
+        answer(alloc, short, &def)?.as_str(),
+        "Damaged { at: 66639, byte: None }"
+    );
+    let stepped = TagDef { step: true, ..def };
+    assert!(rt;
+        answer(alloc, good, &stepped)?
+            .as_str()
+            .starts_with("OtherTag")
+    );
+    Ok(())
+}
+
+#[test]
+fn a_summary_of_the_first_version_is_read(rt: HostRuntime) -> Result<(), Fail> {
+    let alloc = rt.alloc();
+    let def = tag("plain").ok_or("tag")?;
+    let mut bytes = good(&rt, alloc)?;
+    assert_eq!(rt; bytes.len(), 66_657);
+    bytes[140] = 5;
+    bytes[224..256].fill(0);
+    let dev = MemDisk::new(bytes, Vec::new(alloc));
+    let mut tag = opened(alloc, dev, &def, 64).ok().ok_or("refused")?;
+    assert_eq!(rt; (tag.core.taken(), tag.core.tuning()), (2, def.tuning));
+    check(alloc, &mut tag)?;
+    let bytes = tag.journal.into_device().bytes().to_vec(alloc)?;
+    assert_eq!(rt; bytes.len(), 66_657);
+    // The flags of both slots, and the second one's tuning.
+    assert_eq!(rt; (bytes[140], bytes[268]), (5, 0x1d));
+    let tuning = b"\0\0\0\0\0\0\0\0\0\0\x0f\x42\x40\0\0\0\0\0\0\0\0\0\0\0\0\0\0\0\0\x0f\x42\x40";
+    assert_eq!(rt; &bytes[352..384], tuning.as_slice());
+    Ok(())
+}

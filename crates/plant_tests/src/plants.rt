@@ -1,0 +1,64 @@
+// What a run of the program is over, and what it tells.
+use byte_io::{MemFiles, MemSink, MemSource};
+use disk_model::MemStore;
+use plant_run::run_args;
+use std::alloc::{AllocError, Global};
+use std::process::{Abort, ExitCode};
+use std::sync::Wait;
+use std::test::Fail;
+use std::thread::Threads;
+
+// No read and no write that fails.
+pub const NO_FAULT: (u64, u64) = (u64::MAX, u64::MAX);
+
+// The number that a field spells.
+pub fn number(rt: &impl Abort, field: &str) -> u64 {
+    field.parse::<u64>().expect(rt, "a number")
+}
+
+// The text of a field, in which a bar stands for a line feed, and a caret for a carriage return.
+pub fn text(alloc: Global, field: &str) -> Result<String, AllocError> {
+    let mut text = String::new(alloc);
+    for c in field.chars() {
+        match c {
+            '|' => text.push('\n')?,
+            '^' => text.push('\r')?,
+            _ => text.push(c)?,
+        }
+    }
+    Ok(text)
+}
+
+// A list of one number.
+pub fn only(alloc: Global, number: u64) -> Result<Vec<u64>, AllocError> {
+    Ok(vec![in alloc; number]?)
+}
+
+// Runs a line of words, of which the first is the program's name: the exit code, a space, and what is printed. The read of
+// the input and the write with these numbers fail.
+pub fn told<R: Threads + Wait + Sync>(
+    rt: &R,
+    alloc: Global,
+    line: &str,
+    input: &[u8],
+    files: &mut MemFiles,
+    store: &mut MemStore,
+    fail: (u64, u64),
+) -> Result<String, Fail> {
+    let mut words = Vec::new(alloc);
+    for word in line.split(' ') {
+        words.push(String::from_str(alloc, word)?)?;
+    }
+    let mut input = MemSource::new(input.to_vec(alloc)?, only(alloc, fail.0)?);
+    let mut out = MemSink::new(alloc, only(alloc, fail.1)?);
+    let args = Ok(words.into_iter());
+    let exit = run_args(rt, alloc, args, &mut input, files, &mut out, store);
+    let mut code = u8::MAX;
+    for c in 0..100u8 {
+        if ExitCode::from(c) == exit {
+            code = c;
+        }
+    }
+    let printed = str::from_utf8(out.bytes()).map_err(|_| "text")?;
+    Ok(format!(in alloc; "{code} {printed}")?)
+}

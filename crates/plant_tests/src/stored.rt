@@ -1,0 +1,219 @@
+// Runs of `check` and `trend` over stored archives.
+ghost use Rattle.std.specs.Prelude.{◌≡◌, ◌<◌};
+
+use crate::plants::{NO_FAULT, number, only, text, told};
+use byte_io::MemFiles;
+use crash_recovery::open_tag;
+use disk_model::{MemDisk, MemStore};
+use std::alloc::{AllocError, Global};
+use std::fmt::Write;
+use std::process::Abort;
+use std::test::Fail;
+use trend_num::{Point, TagDef, Tuning, in_range, name_from, tuning_ok};
+
+// Names and texts of files; a bar stands for a line feed. The tag T1 is one of lines, of the CompDev 0 or 5, and S1 a step
+// tag of the CompDev 2.
+const FILES: &str = "\
+base.toml: [[tag]]|name = \"T1\"|exc_dev = 0|exc_max = 1000000|comp_dev = 0|comp_min = 0|comp_max = 1000000|\
+[[tag]]|name = \"S1\"|exc_dev = 0|exc_max = 1000000|comp_dev = 2|comp_min = 0|comp_max = 1000000|step = true|
+loose.toml: [[tag]]|name = \"T1\"|exc_dev = 0|exc_max = 1000000|comp_dev = 5|comp_min = 0|comp_max = 1000000|
+group.toml: [[tag]]|name = \"T1\"|exc_dev = 0|exc_max = 1000000|comp_dev = 0|comp_min = 0|comp_max = 1000000|\
+[[group]]|name = \"g\"|tags = [\"T1\"]|start = 0|period = 5|[[group.calc]]|name = \"m\"|formula = \"avg('T1')\"|
+none.toml: |
+broken.toml: ?
+plan.toml: [[reader]]|file = \"lines.csv\"|[[reader]]|file = \"steps.csv\"|
+late.toml: [[reader]]|file = \"lines.csv\"|[[reader]]|file = \"missing.csv\"|
+worse.toml: [[reader]]|file = \"worse.csv\"|[[reader]]|file = \"missing.csv\"|
+many.toml: [[reader]]|file = \"more\"|
+long.toml: [[reader]]|file = \"long.csv\"|
+lines.csv: at,T1,25|at,T1,20|at,T1,31|avg,T1,5,15|points,T1,0,20|avg,T1,25,31|snap,T1|
+steps.csv: at,S1,15|at,S1,20|area,S1,0,30|avg,S1,0,30|low,S1,0,30|high,S1,0,30|last,S1,0,30|snap,S1|
+long.csv: snap,T1|count,T1,0,1999|area,T1,0,1999|avg,T1,10,1990|at,T1,1234|at,T1,2000|high,T1,1000,1001|
+worse.csv: snap,T1|snap,S1||row,g,m,0|";
+
+// What the devices hold, the read of a file that fails, and the words; then the exit code and what is printed.
+const RUNS: &str = "\
+new 99 check base.toml => 0 tag T1 taken=0 records=0 kept=0 late=0 held=none|tag S1 taken=0 records=0 kept=0 late=0 held=none|
+new 99 check group.toml => 0 tag T1 taken=0 records=0 kept=0 late=0 held=none|
+kept 99 check base.toml => 0 tag T1 taken=4 records=3 kept=3 late=0 held=30,5|tag S1 taken=4 records=2 kept=2 late=0 held=30,14|
+kept 99 trend base.toml plan.toml => 0 reply 1 1 line 3|reply 1 2 exact 0|reply 1 3 flat 5|reply 1 4 8|\
+reply 1 5 0,0 10,10 20,0 end|reply 1 6 none|reply 1 7 snap 4 30,5|reply 2 1 flat 10|reply 2 2 exact 15|reply 2 3 700|\
+reply 2 4 12|reply 2 5 10|reply 2 6 15|reply 2 7 14|reply 2 8 snap 4 30,14|
+new 99 trend base.toml plan.toml => 0 reply 1 1 none|reply 1 2 none|reply 1 3 none|reply 1 4 none|reply 1 5 end|\
+reply 1 6 none|reply 1 7 snap 0 none|reply 2 1 none|reply 2 2 none|reply 2 3 none|reply 2 4 none|reply 2 5 none|\
+reply 2 6 none|reply 2 7 none|reply 2 8 snap 0 none|
+straight 99 check loose.toml => 0 tag T1 taken=4 records=2 kept=2 late=0 held=20,20|
+long 99 trend base.toml long.toml => 0 reply 1 1 snap 2000 1999,10|reply 1 2 1999|reply 1 3 19990|reply 1 4 5|\
+reply 1 5 exact 0|reply 1 6 flat 10|reply 1 7 10|
+damaged 99 check base.toml => 8 fault: damaged tag 1 2 end|
+failing 99 check base.toml => 7 fault: device tag 1|
+other 99 check base.toml => 9 fault: other tag 1|
+damaged 99 check missing.toml => 5 fault: read base|
+damaged 99 check none.toml => 3 fault: text base rule 2 place 0 at 0|
+damaged 99 check broken.toml => 3 fault: text base rule 1 place 0 at 0|
+damaged 99 trend group.toml missing.toml => 14 fault: notyet|
+damaged 99 trend base.toml missing.toml => 5 fault: read plan|
+damaged 99 trend base.toml broken.toml => 3 fault: text plan rule 1 place 0 at 0|
+damaged 99 trend base.toml late.toml => 5 fault: read reader 2|
+damaged 99 trend base.toml worse.toml => 4 fault: row reader 1 3 name|
+damaged 99 trend base.toml plan.toml => 8 fault: damaged tag 1 2 end|
+kept 0 trend base.toml plan.toml => 5 fault: read base|
+kept 3 trend base.toml plan.toml => 5 fault: read plan|
+kept 5 trend base.toml plan.toml => 5 fault: read reader 1|
+kept 6 trend base.toml plan.toml => 5 fault: read reader 2|";
+
+// How often a line stands in one file more, the line, the words of a run over new devices, and how what is told ends.
+const LARGE: &str = "\
+4096 snap,T1| trend base.toml many.toml => |reply 1 4096 snap 0 none|
+4097 snap,T1| trend base.toml many.toml => 10 fault: limit queries 4097|
+1048576 | check more => 3 fault: text base rule 2 place 0 at 0|
+1048577 | check more => 10 fault: limit text_bytes 1048577|
+1048577 | trend base.toml more => 10 fault: limit text_bytes 1048577|";
+
+// The tag of a name and a kind.
+fn tag(rt: &impl Abort, name: &str, step: bool) -> TagDef {
+    TagDef {
+        name: name_from(name.as_bytes()).expect(rt, "a name"),
+        tuning: Tuning {
+            exc_dev: 0,
+            exc_max: 1_000_000,
+            comp_dev: if step { 2 } else { 0 },
+            comp_min: 0,
+            comp_max: 1_000_000,
+        },
+        step,
+    }
+}
+
+// A device of so many lane slots that keeps values of a tag, as many as are spelled.
+fn kept(rt: &impl Abort, alloc: Global, def: &TagDef, slots: u32, values: &str) -> MemDisk {
+    let dev = MemDisk::new(Vec::new(alloc), Vec::new(alloc));
+    assert!(rt; tuning_ok(&def.tuning));
+    assert!(rt; 1 <= slots && slots <= 65536);
+    let mut journal = open_tag(alloc, dev, def, slots, 0)
+        .ok()
+        .expect(rt, "opened")
+        .journal;
+    for field in values.split_whitespace() {
+        let (t, v) = field.split_once(',').expect(rt, "a point");
+        let t = number(rt, t);
+        let v = v.parse::<i64>().expect(rt, "a value");
+        let p = Point { t, v };
+        assert!(rt; in_range(p));
+        assert!(rt; !journal.failed());
+        assert!(rt; journal.acked() < 10_000);
+        journal.commit(&[p]).expect(rt, "committed");
+    }
+    journal.into_device()
+}
+
+// The values 0 and 10 in turn, 2,000 of them.
+fn in_turn(alloc: Global) -> Result<String, Fail> {
+    let mut values = String::new(alloc);
+    for i in 0..1000u64 {
+        write!(values, "{},0 {},10 ", 2 * i, 2 * i + 1)?;
+    }
+    Ok(values)
+}
+
+// The devices of the tags T1 and S1.
+fn devices(rt: &impl Abort, alloc: Global, kind: &str) -> Result<(MemDisk, MemDisk), Fail> {
+    let line = tag(rt, "T1", false);
+    let step = tag(rt, "S1", true);
+    let new = MemDisk::new(Vec::new(alloc), Vec::new(alloc));
+    let first = match kind {
+        "kept" => kept(rt, alloc, &line, 64, "0,0 10,10 20,0 30,5"),
+        "straight" => kept(rt, alloc, &line, 64, "0,0 10,10 20,20"),
+        "long" => kept(rt, alloc, &line, 2048, in_turn(alloc)?.as_str()),
+        "other" => kept(rt, alloc, &tag(rt, "T1", true), 64, ""),
+        "damaged" => MemDisk::new(b"\xa5\0".to_vec(alloc)?, Vec::new(alloc)),
+        "failing" => MemDisk::new(Vec::new(alloc), only(alloc, 0)?),
+        _ => MemDisk::new(Vec::new(alloc), Vec::new(alloc)),
+    };
+    let second = if kind == "kept" {
+        kept(rt, alloc, &step, 64, "0,10 10,11 20,15 30,14")
+    } else {
+        new
+    };
+    Ok((first, second))
+}
+
+// A store of these devices.
+fn store(alloc: Global, first: MemDisk, second: MemDisk) -> Result<MemStore, Fail> {
+    let mut devices = Vec::new(alloc);
+    devices.push((String::from_str(alloc, "T1.tag")?, first))?;
+    devices.push((String::from_str(alloc, "S1.tag")?, second))?;
+    Ok(MemStore::new(devices))
+}
+
+// The files, of which one read fails, and one more of this text.
+fn files(rt: &impl Abort, alloc: Global, fail: u64, more: &str) -> Result<MemFiles, Fail> {
+    let mut files = Vec::new(alloc);
+    for row in FILES.lines() {
+        let (name, field) = row.split_once(": ").expect(rt, "a file");
+        let text = text(alloc, field)?.into_bytes();
+        files.push((String::from_str(alloc, name)?, text))?;
+    }
+    files.push((
+        String::from_str(alloc, "more")?,
+        more.as_bytes().to_vec(alloc)?,
+    ))?;
+    Ok(MemFiles::new(files, only(alloc, fail)?))
+}
+
+#[test]
+fn stored_archives_are_told(rt: HostRuntime) -> Result<(), Fail> {
+    let alloc = rt.alloc();
+    for row in RUNS.lines() {
+        let (given, want) = row.split_once(" => ").ok_or("row")?;
+        let (kind, rest) = given.split_once(' ').ok_or("devices")?;
+        let (fail, line) = rest.split_once(' ').ok_or("read")?;
+        let line = format!(in alloc; "historian {line}")?;
+        let (first, second) = devices(&rt, alloc, kind)?;
+        let mut store = store(alloc, first, second)?;
+        // A run that comes after finds what the first one left.
+        let runs = if kind == "failing" { 1 } else { 2 };
+        for _ in 0..runs {
+            let mut files = files(&rt, alloc, number(&rt, fail), "")?;
+            let told = told(
+                &rt,
+                alloc,
+                line.as_str(),
+                b"",
+                &mut files,
+                &mut store,
+                NO_FAULT,
+            )?;
+            assert_eq!(rt; told.as_str(), text(alloc, want)?.as_str(), "{given}");
+        }
+    }
+    Ok(())
+}
+
+#[test]
+fn files_have_limits(rt: HostRuntime) -> Result<(), Fail> {
+    let alloc = rt.alloc();
+    for row in LARGE.lines() {
+        let (given, want) = row.split_once(" => ").ok_or("row")?;
+        let (count, rest) = given.split_once(' ').ok_or("count")?;
+        let (line, words) = rest.split_once(' ').ok_or("line")?;
+        let more = text(alloc, line)?
+            .as_str()
+            .repeat(alloc, number(&rt, count) as usize)?;
+        let words = format!(in alloc; "historian {words}")?;
+        let mut files = files(&rt, alloc, 99, more.as_str())?;
+        let mut store = MemStore::new(Vec::new(alloc));
+        let told = told(
+            &rt,
+            alloc,
+            words.as_str(),
+            b"",
+            &mut files,
+            &mut store,
+            NO_FAULT,
+        )?;
+        let want = text(alloc, want)?;
+        assert!(rt; told.as_str().ends_with(want.as_str()), "{given}");
+    }
+    Ok(())
+}

@@ -1,0 +1,3 @@
+pub mod Snaps
+pub mod Rules
+pub mod Boards

@@ -1,0 +1,22 @@
+-- The snapshot that the words of a cell are.
+use Rattle.std.specs.Prelude.{◌≡◌, ℕ, ◌<◌, ℤ, pos, negsuc, if◌then◌else◌, nat_eq, Option, None, Some}
+use Rattle.trend_num.specs.declared.archive.Snap.{Snap}
+use Rattle.trend_num.specs.declared.point.Point.{Point}
+use Rattle.snapshot_table.specs.declared.words.Shown.{Shown}
+use Rattle.snapshot_table.specs.declared.words.TheConstants.{NO_POINT, NOT_NEGATIVE}
+
+-- the value whose kind is no negative one, and else that which is as far below -1
+abbrev pub value_of : ℕ → ℕ → ℤ
+value_of kind size = if nat_eq kind NOT_NEGATIVE then pos size else negsuc size
+
+-- the held point of these words
+abbrev pub point_of : Shown → Option Point
+point_of s = if nat_eq s.kind NO_POINT then None else Some (record { t = s.t; v = value_of s.kind s.size })
+
+-- the snapshot of these words
+abbrev pub snap_of : Shown → Snap
+snap_of s = record { taken = s.taken; held = point_of s }
+
+-- the snapshot of a tag that has taken nothing
+abbrev pub nothing : Snap
+nothing = record { taken = 0; held = None }

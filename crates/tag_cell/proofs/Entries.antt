@@ -1,0 +1,134 @@
+-- What a cell's type keeps, after one more entry on its tape.
+use Rattle.std.proofs.Common.{◌≡◌, ℕ, ◌+◌, ◌-◌, ◌*◌, ◌<◌, ◌≤◌, Bool, true, false, List, [], ◌∷◌, ◌++◌, length, map, take, All, Option, Some, refl, sym, ◌∙◌, ap, subst, arith, append_assoc, length-append}
+use Rattle.std.proofs.lemmas.List.{append-nil, map_push, take-append-le}
+use Rattle.trend_num.specs.declared.archive.Rec.{Rec}
+use Rattle.trend_num.specs.declared.point.Point.{Point}
+use Rattle.trend_num.specs.declared.tag_def.TagDef.{TagDef}
+use Rattle.trend_num.specs.declared.query.TagQuery.{TagQuery}
+use Rattle.trend_model.specs.History.{Event, Raw}
+use Rattle.trend_model.specs.State.{State, after, replay}
+use Rattle.disk_model.specs.Traces.{Trace}
+use Rattle.crash_recovery.specs.Journals.{AllRecover}
+use Rattle.device_layout.specs.Recovery.{Recovers}
+use Rattle.interp_read.specs.declared.query.Reply.{Reply}
+use Rattle.tag_cell.specs.declared.entry.Entry.{Entry}
+use Rattle.tag_cell.specs.declared.entry.Entry.TheVariants.{Take, Ask, Pull, Commit}
+use Rattle.tag_cell.specs.declared.history.TagOpening.{TagOpening}
+use Rattle.tag_cell.specs.Tapes.{Walk, start, after_entry, walked, taken, last_records, acked_at, done, opened, state_after}
+use Rattle.tag_cell.specs.Replays.{Shown, IsTake, IsAnswer, IsPull, Fits, FitAll, replayed, shown_of, IsReplayed}
+use Rattle.tag_cell.specs.Crashes.{IsCountable, IsSafe, RecoversPart}
+use Rattle.tag_cell.specs.Told.{HasRoom, IsKept, Waits}
+use Rattle.tag_cell.proofs.Tapes.{IsCall, acked-call, moment-call, acked_at-call, walked-push, taken-append, points-walked, fit-push, state_after-push}
+
+-- ---- the tape replays
+
+-- the values at the end of a tape are those that were taken
+pub points-end : (o : TagOpening) (tape : List Entry) → (walked (start o) tape).points ≡ taken tape
+points-end o tape = points-walked (start o) tape
+
+-- after a take
+pub take_replayed : (def : TagDef) (o : TagOpening) (tape tape' : List Entry) (s s' : State) (acked collector row : ℕ) (p h : Point) (n : ℕ)
+    → IsReplayed def o tape s acked → s' ≡ after def.step s (Raw p) → s'.summary.held ≡ Some h → n ≡ length s'.records
+    → tape' ≡ tape ++ Take collector row p h n ∷ [] → IsReplayed def o tape' s' acked
+take_replayed def o tape tape' s s' acked collector row p h n is next held count longer =
+    let e : Entry = Take collector row p h n in
+    let goes : (ps : List Point) → ps ≡ taken tape → state_after def.step o (ps ++ p ∷ []) ≡ s' =
+    λ ps same. state_after-push def.step o ps p
+    ∙ (ap (λ (x : State). after def.step x (Raw p)) (ap (state_after def.step o) same ∙ sym is.stands) ∙ sym next) in
+    let here : state_after def.step o ((walked (start o) tape).points ++ p ∷ []) ≡ s' = goes _ (points-end o tape) in
+    subst (λ t. IsReplayed def o t s' acked) (sym longer) (record {
+      tuning = is.tuning;
+      entries = fit-push (replayed def.step o) def.step o (start o) tape e is.entries (record {
+        same_held = ap (λ (x : State). x.summary.held) here ∙ held;
+        counted = count ∙ ap (λ (x : State). length x.records) (sym here);
+      });
+      stands = sym (ap (state_after def.step o) (taken-append tape (e ∷ [])) ∙ goes (taken tape) refl);
+      acked_are = is.acked_are ∙ ap (λ (w : Walk). w.acked) (sym (walked-push (start o) tape e));
+    })
+
+-- after an answer to a question on the closed content
+pub ask_replayed : (def : TagDef) (o : TagOpening) (tape tape' : List Entry) (s : State) (acked reader row : ℕ) (q : TagQuery) (a : Reply)
+    → IsReplayed def o tape s acked → IsAnswer def.step (shown_of s) q a
+    → tape' ≡ tape ++ Ask reader row q a ∷ [] → IsReplayed def o tape' s acked
+ask_replayed def o tape tape' s acked reader row q a is answer longer =
+    let e : Entry = Ask reader row q a in
+    subst (λ t. IsReplayed def o t s acked) (sym longer) (record {
+      tuning = is.tuning;
+      entries = fit-push (replayed def.step o) def.step o (start o) tape e is.entries
+          (subst (λ (x : State). IsAnswer def.step (shown_of x) q a)
+          (is.stands ∙ ap (state_after def.step o) (sym (points-end o tape))) answer);
+      stands = is.stands ∙ ap (state_after def.step o) (sym (taken-append tape (e ∷ []) ∙ append-nil (taken tape)));
+      acked_are = is.acked_are ∙ ap (λ (w : Walk). w.acked) (sym (walked-push (start o) tape e));
+    })
+
+-- after a pull of the records of the acknowledged takes
+pub pull_replayed : (def : TagDef) (o : TagOpening) (tape tape' : List Entry) (s : State) (acked group first upto : ℕ)
+    → IsReplayed def o tape s acked → IsPull (replayed def.step o (done o (walked (start o) tape))) first upto
+    → tape' ≡ tape ++ Pull group first upto ∷ [] → IsReplayed def o tape' s acked
+pull_replayed def o tape tape' s acked group first upto is pull longer =
+    let e : Entry = Pull group first upto in
+    subst (λ t. IsReplayed def o t s acked) (sym longer) (record {
+      tuning = is.tuning;
+      entries = fit-push (replayed def.step o) def.step o (start o) tape e is.entries pull;
+      stands = is.stands ∙ ap (state_after def.step o) (sym (taken-append tape (e ∷ []) ∙ append-nil (taken tape)));
+      acked_are = is.acked_are ∙ ap (λ (w : Walk). w.acked) (sym (walked-push (start o) tape e));
+    })
+
+-- ---- what waits, what the device keeps
+
+-- what was acknowledged stays so
+pub waits_entry : (o : TagOpening) (tape tape' more : List Entry) (next durable acked : ℕ) → Waits o tape next durable acked
+    → tape' ≡ tape ++ more → Waits o tape' next durable acked
+waits_entry o tape tape' more next durable acked is longer =
+    let within : next ≤ length tape = is.within in
+    let same : take next tape ≡ take next tape' = sym (ap (take next) longer ∙ take-append-le next tape more within) in
+    record {
+      within = omega (arith, ap length longer, length-append tape more);
+      acked_are = is.acked_are ∙ ap (λ l. o.summary.taken + length (taken l)) same;
+      durable_are = is.durable_are ∙ ap (last_records (length o.recs.items)) same;
+    }
+
+-- a longer tape counts no fewer events
+pub countable_before : (o : TagOpening) (tape tape' more : List Entry) → tape' ≡ tape ++ more → IsCountable o tape' → IsCountable o tape
+countable_before o tape tape' more longer few = omega (arith, few, ap (λ l. length (taken l)) longer, ap length (taken-append tape more), length-append (taken tape) (taken more))
+
+-- the device keeps what it kept
+pub kept_entry : (def : TagDef) (o : TagOpening) (tape tape' : List Entry) (e : Entry) (next : ℕ) (failed : Bool) (trace : Option Trace)
+    (ticks faults : ℕ) → IsCall e → next ≤ length tape → IsKept def o tape next failed trace ticks faults
+    → tape' ≡ tape ++ e ∷ [] → IsKept def o tape' next failed trace ticks faults
+kept_entry def o tape tape' e next failed trace ticks faults call within is longer = record {
+  recovers = λ fine few. subst (λ l. AllRecover def trace (state_after def.step o (taken l)))
+      (sym (ap (take next) longer ∙ take-append-le next tape (e ∷ []) within))
+      (is.recovers fine (countable_before o tape tape' (e ∷ []) longer few));
+  past = omega (arith, is.past, ap (λ l. (walked (start o) l).moment) longer, ap (λ (w : Walk). w.moment) (walked-push (start o) tape e), moment-call (walked (start o) tape) e call);
+  opened_before = is.opened_before;
+  faultless = is.faultless;
+  cause = is.cause;
+}
+
+-- an image that recovers some of these values recovers some of more
+pub part_more : (def : TagDef) (s : State) (points more : List Point) (least : ℕ) (c : List ℕ) → RecoversPart def s points least c
+    → RecoversPart def s (points ++ more) least c
+part_more def s points more least c is =
+    let within : is.count ≤ length points = is.within in
+    record {
+      count = is.count;
+      enough = is.enough;
+      within = omega (arith, length-append points more);
+      recovered = subst (λ ps. Recovers def c (replay def.step s (map Raw ps)))
+          (sym (take-append-le is.count points more within)) is.recovered;
+    }
+
+-- what a crash leaves is as safe as before
+pub safe_entry : (def : TagDef) (o : TagOpening) (tape tape' : List Entry) (e : Entry) (left : ℕ → List ℕ → Type 0) → IsCall e
+    → IsSafe def o tape left → tape' ≡ tape ++ e ∷ [] → IsSafe def o tape' left
+safe_entry def o tape tape' e left call is longer = record {
+  images = λ few t c since was.
+      let before = is.images (countable_before o tape tape' (e ∷ []) longer few) t c since was in
+      let at : acked_at t o.summary.taken tape' ≡ acked_at t o.summary.taken tape =
+      ap (acked_at t o.summary.taken) longer ∙ acked_at-call t o.summary.taken tape e call in
+      let all : taken tape' ≡ taken tape ++ taken (e ∷ []) = ap taken longer ∙ taken-append tape (e ∷ []) in
+      subst (λ (n : ℕ). RecoversPart def (opened o) (taken tape') (n - o.summary.taken) c) (sym at)
+      (subst (λ (ps : List Point). RecoversPart def (opened o) ps (acked_at t o.summary.taken tape - o.summary.taken) c) (sym all)
+      (part_more def (opened o) (taken tape) (taken (e ∷ [])) (acked_at t o.summary.taken tape - o.summary.taken) c before));
+}

@@ -1,0 +1,51 @@
+-- A replayed tape is legal for every history for which its opening stands.
+use Rattle.std.proofs.Common.{◌≡◌, ℕ, Bool, List, [], ◌∷◌, ◌++◌, length, map, Option, Some, refl, sym, ◌∙◌, ap, subst}
+use Rattle.trend_num.specs.declared.archive.Rec.{Rec}
+use Rattle.trend_num.specs.declared.point.Point.{Point}
+use Rattle.trend_num.specs.declared.tag_def.TagDef.{TagDef}
+use Rattle.trend_num.specs.declared.tuning.Tuning.{Tuning}
+use Rattle.trend_model.specs.History.{Event, Origin, Raw, in_force}
+use Rattle.trend_model.specs.State.{State, Stands, followed, replay}
+use Rattle.trend_model.proofs.Sent.{same_there}
+use Rattle.trend_model.proofs.StateLaw.{stands_followed}
+use Rattle.tag_cell.specs.declared.entry.Entry.{Entry}
+use Rattle.tag_cell.specs.declared.entry.Entry.TheVariants.{Take, Ask, Pull, Commit}
+use Rattle.tag_cell.specs.declared.history.TagOpening.{TagOpening}
+use Rattle.tag_cell.specs.Tapes.{Walk, start, after_entry, taken, opened, state_after, done}
+use Rattle.tag_cell.specs.Replays.{Shown, IsTake, IsAnswer, IsPull, Fits, FitAll, replayed, shown_by, shown_of, shown_after, IsReplayed, IsLegal}
+
+-- two ways to tell what a tag shows agree, so an entry fits the one where it fits the other
+same_fits : (f g : List Point → Shown) (step : Bool) (o : TagOpening) (w : Walk) (e : Entry)
+    → ((ps : List Point) → f ps ≡ g ps) → Fits f step o w e → Fits g step o w e
+same_fits f g step o w (Take collector row p h n) same fits =
+    subst (λ (s : Shown). IsTake s h n) (same (w.points ++ p ∷ [])) fits
+same_fits f g step o w (Ask reader row q a) same fits = subst (λ (s : Shown). IsAnswer step s q a) (same w.points) fits
+same_fits f g step o w (Pull group first upto) same fits =
+    subst (λ (s : Shown). IsPull s first upto) (same (done o w)) fits
+same_fits f g step o w (Commit moment acked) same fits = fits
+
+-- and so do all entries
+all_same : (f g : List Point → Shown) (step : Bool) (o : TagOpening) (w : Walk) (es : List Entry)
+    → ((ps : List Point) → f ps ≡ g ps) → FitAll f step o w es → FitAll g step o w es
+all_same f g step o w [] same fits = fits
+all_same f g step o w (e ∷ es) same fits =
+    (same_fits f g step o w e same fits.0, all_same f g step o (after_entry w e) es same fits.1)
+
+-- what stands for a history shows what the history does
+same_shown : (org : Origin) (h : List Event) (s : State) → Stands org h s → shown_of s ≡ shown_by org h
+same_shown org h s stands = λ i. record { records = stands.same_records i; held = stands.same_held i }
+
+pub legal : (org : Origin) (h : List Event) (def : TagDef) (o : TagOpening) (tape : List Entry) (s : State) (acked : ℕ)
+    → org.step ≡ def.step → Stands org h (opened o) → IsReplayed def o tape s acked → IsLegal org h def o tape s acked
+legal org h def o tape s acked step stands is =
+    let at : (ps : List Point) → Stands org (followed h (map Raw ps)) (state_after def.step o ps) =
+    λ ps. subst (λ (b : Bool). Stands org (followed h (map Raw ps)) (replay b (opened o) (map Raw ps))) step
+    (stands_followed org h (map Raw ps) (opened o) stands) in
+    record {
+      tuning = same_there o.summary.tuning def.tuning (in_force org h) is.tuning stands.tuned;
+      entries = subst (λ (b : Bool). FitAll (shown_after org h) b o (start o) tape) (sym step)
+          (all_same (replayed def.step o) (shown_after org h) def.step o (start o) tape
+          (λ ps. same_shown org (followed h (map Raw ps)) (state_after def.step o ps) (at ps)) is.entries);
+      stands = subst (Stands org (followed h (map Raw (taken tape)))) (sym is.stands) (at (taken tape));
+      acked_are = is.acked_are;
+    }

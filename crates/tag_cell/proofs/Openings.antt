@@ -1,0 +1,94 @@
+-- What a cell's type keeps as the cell is opened.
+use Rattle.std.proofs.Common.{◌≡◌, ℕ, ◌+◌, ◌-◌, ◌*◌, ◌<◌, ◌≤◌, ◌^◌, Bool, true, false, List, [], length, Option, Some, refl, sym, ◌∙◌, ap, subst, arith}
+use Rattle.std.proofs.lemmas.List.Elements.{All-nil}
+use Rattle.std.specs.Prelude.{IfSome}
+use Rattle.atomic_table.specs.Seated.{TableId}
+use Rattle.trend_num.specs.declared.archive.Rec.{Rec}
+use Rattle.trend_num.specs.declared.archive.Summary.{Summary}
+use Rattle.trend_num.specs.declared.point.Point.{Point}
+use Rattle.trend_num.specs.declared.tag_def.TagDef.{TagDef}
+use Rattle.trend_num.specs.Ranges.{InRange}
+use Rattle.trend_model.specs.Contents.{listed}
+use Rattle.trend_model.specs.State.{State}
+use Rattle.disk_model.specs.Traces.{Trace}
+use Rattle.disk_model.specs.Moments.{LeftSince}
+use Rattle.disk_model.proofs.Moments.{only_since}
+use Rattle.crash_recovery.specs.Journals.{AllRecover}
+use Rattle.snapshot_table.specs.Boards.{Posting, PostsTo}
+use Rattle.tag_core.specs.Core.{Core}
+use Rattle.tag_cell.specs.declared.entry.Entry.{Entry}
+use Rattle.tag_cell.specs.declared.history.TagOpening.{TagOpening}
+use Rattle.tag_cell.specs.Tapes.{opened}
+use Rattle.tag_cell.specs.Replays.{IsReplayed}
+use Rattle.tag_cell.specs.Crashes.{IsCountable, IsSafe}
+use Rattle.tag_cell.specs.Told.{HasRoom, IsInStep, IsKept, IsPosted, Waits}
+
+-- the state of these records and this summary
+pub same_state : (s : State) (o : TagOpening) → o.recs.items ≡ s.records → o.summary ≡ s.summary → s ≡ opened o
+same_state s o records summary = λ i. record { records = sym records i; summary = sym summary i }
+
+pub open_replayed : (def : TagDef) (o : TagOpening) (tape : List Entry) (s : State) (acked : ℕ) → tape ≡ []
+    → o.summary.tuning ≡ Some def.tuning → s ≡ opened o → acked ≡ o.summary.taken → IsReplayed def o tape s acked
+open_replayed def o tape s acked none tuning is acks = subst (λ (l : List Entry). IsReplayed def o l s acked) (sym none)
+    (record { tuning = tuning; entries = tt; stands = is; acked_are = acks })
+
+pub open_in_step : (def : TagDef) (o : TagOpening) (tape : List Entry) (core : Core) (content : List Rec) → tape ≡ []
+    → core.step ≡ def.step → core.state ≡ opened o → content ≡ listed core.state.records → IsInStep def o tape core content
+open_in_step def o tape core content none step is same = subst (λ (l : List Entry). IsInStep def o l core content) (sym none) (record {
+  same_step = step;
+  counted = omega (arith, ap (λ (s : State). s.summary.taken) is);
+  content_is = same;
+  in_range = All-nil InRange;
+  fits = tt;
+})
+
+pub open_has_room : (o : TagOpening) (tape : List Entry) (places room core content : ℕ) → tape ≡ [] → room ≤ places
+    → 2 * room ≤ core → 2 * room ≤ content → o.summary.taken < 2 ^ 63 → HasRoom o tape places 0 room core content
+open_has_room o tape places room core content none enough core_room content_room small =
+    subst (λ (l : List Entry). HasRoom o l places 0 room core content) (sym none) (record {
+      takes_are = refl;
+      within = omega arith;
+      core_room = omega (arith, core_room);
+      content_room = omega (arith, content_room);
+      tape_room = omega (arith, enough);
+      small = small;
+    })
+
+pub open_waits : (o : TagOpening) (tape : List Entry) (durable acked : ℕ) → tape ≡ [] → durable ≡ length o.recs.items
+    → acked ≡ o.summary.taken → Waits o tape 0 durable acked
+open_waits o tape durable acked none records acks = subst (λ (l : List Entry). Waits o l 0 durable acked) (sym none) (record {
+  within = omega arith;
+  acked_are = omega (arith, acks);
+  durable_are = records;
+})
+
+pub open_kept : (def : TagDef) (o : TagOpening) (tape : List Entry) (failed : Bool) (trace : Option Trace) (ticks faults : ℕ)
+    → tape ≡ [] → failed ≡ false → (o.summary.taken < 10 ^ 18 → AllRecover def trace (opened o)) → o.moment ≡ ticks → o.faults ≡ faults
+    → IsKept def o tape 0 failed trace ticks faults
+open_kept def o tape failed trace ticks faults none fine recovers moment same =
+    subst (λ (l : List Entry). IsKept def o l 0 failed trace ticks faults) (sym none) (record {
+      recovers = λ _ few. recovers (omega (arith, few));
+      past = omega (arith, moment);
+      opened_before = omega (arith, moment);
+      faultless = λ _. sym same;
+      cause = λ broke. cc (broke, fine);
+    })
+
+pub open_safe : (def : TagDef) (o : TagOpening) (tape : List Entry) (trace : Option Trace) (ticks : ℕ) → tape ≡ []
+    → IfSome trace (λ t. length t.events ≡ ticks) → o.moment ≡ ticks
+    → (o.summary.taken < 10 ^ 18 → AllRecover def trace (opened o)) → IsSafe def o tape (LeftSince trace)
+open_safe def o tape trace ticks none counted moment recovers = subst (λ (l : List Entry). IsSafe def o l (LeftSince trace)) (sym none) (record {
+  images = λ few t c since left. record {
+    count = 0;
+    enough = omega arith;
+    within = omega arith;
+    recovered = (recovers (omega (arith, few))).each c (only_since trace ticks t c counted (omega (arith, since, moment)) left);
+  };
+})
+
+pub open_posted : (board : List TableId) (p p' : Posting) (summary : Summary) (s : State) → PostsTo board p
+    → p' ≡ record p { last = record { taken = summary.taken; held = summary.held } } → summary ≡ s.summary → IsPosted board p' s
+open_posted board p p' summary s here posted is = subst (λ (q : Posting). IsPosted board q s) (sym posted) (record {
+  here = here;
+  last_is = λ i. record { taken = (is i).taken; held = (is i).held };
+})

@@ -1,0 +1,29 @@
+use Rattle.std.proofs.Common.{◌≡◌, ◌∙◌, ℕ, List, ◌++◌, ◌≤◌, [], ◌∷◌, ap, sym, length, take, drop, arith, length-append}
+use Rattle.std.proofs.lemmas.List.{take-append-drop}
+use Rattle.trend_num.specs.declared.point.Point.{Point}
+use Rattle.tag_cell.specs.declared.entry.Entry.{Entry}
+use Rattle.tag_cell.specs.Tapes.{taken}
+use Rattle.tag_cell.proofs.Tapes.{taken-more, taken-append}
+use Rattle.tag_cell.proofs.batch.oldest.Goals as goal
+
+pub loop-batch-preserved : goal.loop-batch-preserved
+loop-batch-preserved c =
+    let rest = c.args.rest.now in
+    let i : ℕ = c.loop-batch.batch.entries in
+    let e = c.index-rest-next.result in
+    let more = taken-more rest i e c.if-batch-rest.true c.index-rest-next.is in
+    let next : taken (take c.add.new.self.entries rest) ≡ taken (take i rest) ++ taken (e ∷ []) =
+    ap (λ (k : ℕ). taken (take k rest)) c.add.ensures.entries ∙ more in
+    record {
+      within = omega (arith, c.add.ensures.entries, c.if-batch-rest.true);
+      points = c.add.ensures.points ∙ (ap (λ (ps : List Point). ps ++ taken (e ∷ [])) c.loop-batch.invariant.points ∙ sym next);
+      count = omega (arith, c.add.ensures.count, c.loop-batch.invariant.count, ap length next, length-append (taken (take i rest)) (taken (e ∷ [])));
+      most = c.add.ensures.most;
+    }
+
+-- the first entries have no more values than all
+front_most : (rest : List Entry) (n : ℕ) → length (taken (take n rest)) ≤ length (taken rest)
+front_most rest n = omega (arith, ap length (ap taken (sym (take-append-drop n rest)) ∙ taken-append (take n rest) (drop n rest)), length-append (taken (take n rest)) (taken (drop n rest)))
+
+pub returns-after-loop-batch-clause-count : goal.returns-after-loop-batch-clause-count
+returns-after-loop-batch-clause-count c = omega (arith, front_most c.args.rest.now c.loop-batch.batch.entries, c.loop-batch.invariant.count, c.loop-batch.invariant.most, c.loop-batch-test.false)

@@ -1,0 +1,53 @@
+use Rattle.std.proofs.Common.{◌≡◌, ◌∙◌, ℕ, ◌<◌, ◌^◌, List, [], Some, ap, sym, subst, refl, arith}
+use Rattle.std.specs.Prelude.{vec_capacity}
+use Rattle.std.specs.Arc.{arc_value}
+use Rattle.trend_num.specs.declared.archive.Summary.{Summary}
+use Rattle.trend_model.specs.State.{State}
+use Rattle.crash_recovery.specs.Journals.{AllRecover}
+use Rattle.device_layout.specs.Recovery.{Recovers}
+use Rattle.crash_recovery.specs.Opening.{IsOpenedAs}
+use Rattle.disk_model.specs.Calls.{Shows}
+use Rattle.tag_cell.specs.declared.history.TagOpening.{TagOpening}
+use Rattle.tag_cell.specs.Tapes.{opened}
+use Rattle.tag_cell.proofs.Openings.{same_state, open_replayed, open_in_step, open_has_room, open_waits, open_kept, open_safe, open_posted}
+use Rattle.tag_cell.proofs.opening.open_cell.Goals as goal
+
+pub invariant_of-result : goal.invariant_of-result
+invariant_of-result g c =
+    let def = c.args.def.now in
+    let found = c.in_ok-journal.field-0 in
+    let told = c.in_ok-journal.ensures in
+    let o : TagOpening = record { recs = c.in-Ok-from_slice.recs; summary = c.summary-summary.result; moment = c.clock.result; faults = c.faults.result } in
+    let tape = c.in-Ok-with_capacity.tape.items in
+    let none : tape ≡ [] = c.in-Ok-with_capacity.ensures.items in
+    let dev = found.journal.dev in
+    let trace = g.D.Disk.trace dev in
+    let summary : o.summary ≡ found.core.state.summary = c.summary-summary.ensures.value in
+    let records : o.recs.items ≡ found.core.state.records = c.in-Ok-from_slice.ensures.items ∙ c.recs.ensures.value in
+    let is : found.core.state ≡ opened o = same_state found.core.state o records summary in
+    let count : found.core.state.summary.taken ≡ o.summary.taken = ap (λ (s : Summary). s.taken) (sym summary) in
+    let recovers : o.summary.taken < 10 ^ 18 → AllRecover def trace (opened o) =
+    λ few. subst (AllRecover def trace) is (told.recovers_now (omega (arith, few, count))) in (
+      open_replayed def o tape found.core.state found.journal.acked none (ap (λ (s : Summary). s.tuning) summary ∙ told.tuning) is
+          (told.acked ∙ count),
+      open_in_step def o tape found.core c.in-Ok.content.records none told.step is c.in-Ok.ensures.content,
+      open_has_room o tape (vec_capacity c.in-Ok-with_capacity.tape) c.args.room found.core.spare c.in-Ok.content.spare none
+          c.in-Ok-with_capacity.ensures.capacity told.room c.in-Ok.ensures.room (omega (arith, told.countable, count)),
+      open_waits o tape c.record_count-durable.result found.journal.acked none
+          (c.record_count-durable.ensures.value ∙ ap Rattle.std.proofs.Common.length (sym records)) (told.acked ∙ count),
+      open_kept def o tape found.journal.failed trace (g.D.Disk.ticks dev) (g.D.Disk.fault_count dev) none told.usable recovers
+          c.clock.ensures c.faults.ensures,
+      open_safe def o tape trace (g.D.Disk.ticks dev) none (g.met.D.Disk.told dev) c.clock.ensures recovers,
+      open_posted (arc_value c.args.board) c.args.poster c.post.new.poster c.summary-summary.result found.core.state c.requires.here
+          c.post.ensures summary,
+    )
+
+pub returns-clause-opened : goal.returns-clause-opened
+returns-clause-opened g c =
+    let def = c.args.def.now in
+    let found = c.in_ok-journal.field-0 in
+    let o : TagOpening = record { recs = c.in-Ok-from_slice.recs; summary = c.summary-summary.result; moment = c.clock.result; faults = c.faults.result } in
+    let records : o.recs.items ≡ found.core.state.records = c.in-Ok-from_slice.ensures.items ∙ c.recs.ensures.value in
+    let is : found.core.state ≡ opened o = same_state found.core.state o records c.summary-summary.ensures.value in
+    subst (λ (x : State). Shows (g.D.Disk.trace c.args.dev) (λ seen. (s : State) × Recovers def seen s × IsOpenedAs def s x)) is
+    c.in_ok-journal.ensures.opened

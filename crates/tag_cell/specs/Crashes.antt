@@ -1,0 +1,46 @@
+-- What a crash leaves of a cell's device.
+use Rattle.std.specs.Prelude.{◌≡◌, ℕ, ◌+◌, ◌-◌, ◌^◌, ◌<◌, ◌≤◌, Bool, List, length, take, map, min, nat_eq, if◌then◌else◌}
+use Rattle.trend_num.specs.declared.point.Point.{Point}
+use Rattle.trend_num.specs.declared.tag_def.TagDef.{TagDef}
+use Rattle.trend_model.specs.History.{Raw}
+use Rattle.trend_model.specs.State.{State, replay}
+use Rattle.device_layout.specs.Recovery.{AllFit, Recovers}
+use Rattle.archive_file.specs.declared.failure.PutNo.{PutNo}
+use Rattle.archive_file.specs.declared.failure.PutNo.TheVariants as put
+use Rattle.tag_cell.specs.declared.entry.CommitNo.{CommitNo}
+use Rattle.tag_cell.specs.declared.entry.CommitNo.TheVariants as commit
+use Rattle.tag_cell.specs.declared.entry.Entry.{Entry}
+use Rattle.tag_cell.specs.declared.history.TagOpening.{TagOpening}
+use Rattle.tag_cell.specs.Tapes.{acked_at, opened, taken}
+
+-- an image recovers a state followed by some of these values, the oldest of them, and so many at least
+pub record RecoversPart (def : TagDef) (s : State) (points : List Point) (least : ℕ) (c : List ℕ) : Type 0 where
+  pub count : ℕ
+  pub enough : least ≤ count
+  pub within : count ≤ length points
+  pub recovered : Recovers def c (replay def.step s (map Raw (take count points)))
+
+-- fewer than 10^18 events are taken, after all takes
+abbrev pub IsCountable : TagOpening → List Entry → Type 0
+IsCountable o tape = o.summary.taken + length (taken tape) < 10 ^ 18
+
+-- At each moment since the opening an image that a crash then might have left, which `left` tells, recovers the opening
+-- followed by the oldest takes, with all that the last commit at that moment or before it acknowledges
+pub record IsSafe (def : TagDef) (o : TagOpening) (tape : List Entry) (left : ℕ → List ℕ → Type 0) : Type 0 where
+  pub images : IsCountable o tape → (t : ℕ) (c : List ℕ) → o.moment ≤ t → left t c
+      → RecoversPart def (opened o) (taken tape) (acked_at t o.summary.taken tape - o.summary.taken) c
+
+-- a core that goes on by these values from a state that a device recovers
+pub record GoesOnBy (def : TagDef) (s : State) (step : Bool) (r : State) (points : List Point) : Type 0 where
+  pub same_step : step ≡ def.step
+  pub fits : AllFit def.step s (map Raw points)
+  pub state : r ≡ replay def.step s (map Raw points)
+
+-- how many of so many waiting values a commit writes: 64 at most where a lane slot is free, else all
+abbrev pub count_written : ℕ → ℕ → ℕ
+count_written free waiting = if nat_eq free 0 then waiting else min 64 waiting
+
+-- the refusal of a commit whose checkpoint was refused
+abbrev pub refusal_of : PutNo → CommitNo
+refusal_of put.DeviceFault = commit.DeviceFault
+refusal_of put.WantOfMemory = commit.WantOfMemory

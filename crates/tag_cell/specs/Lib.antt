@@ -1,0 +1,4 @@
+pub mod Tapes
+pub mod Replays
+pub mod Crashes
+pub mod Told

@@ -1,0 +1,90 @@
+-- Tapes whose entries say what is so: replayed from an opening, or legal for a history.
+use Rattle.std.specs.Prelude.{◌≡◌, ℕ, ◌+◌, ◌<◌, ◌≤◌, Bool, List, [], ◌∷◌, ◌++◌, length, map, Option, Some}
+use Rattle.trend_num.specs.declared.archive.Rec.{Rec}
+use Rattle.trend_num.specs.declared.point.Point.{Point}
+use Rattle.trend_num.specs.declared.query.TagQuery.{TagQuery}
+use Rattle.trend_num.specs.declared.tag_def.TagDef.{TagDef}
+use Rattle.trend_model.specs.Contents.{closed_points}
+use Rattle.trend_model.specs.History.{Event, Origin, Raw, in_force}
+use Rattle.trend_model.specs.State.{State, Stands, followed}
+use Rattle.trend_model.specs.Walk.{held, records}
+use Rattle.interp_read.specs.declared.query.Reply.{Reply}
+use Rattle.interp_read.specs.Replies.{Answers}
+use Rattle.tag_cell.specs.declared.entry.Entry.{Entry}
+use Rattle.tag_cell.specs.declared.entry.Entry.TheVariants.{Take, Ask, Pull, Commit}
+use Rattle.tag_cell.specs.declared.history.TagOpening.{TagOpening}
+use Rattle.tag_cell.specs.Tapes.{Walk, start, after_entry, walked, taken, done, state_after}
+
+-- what a tag shows: its records, and the point that closes its line
+pub record Shown : Type 0 where
+  pub records : List Rec
+  pub held : Option Point
+
+-- ---- an entry fits what the tag shows
+
+-- a take tells the held point and the number of records after it
+pub record IsTake (s : Shown) (h : Point) (n : ℕ) : Type 0 where
+  pub same_held : s.held ≡ Some h
+  pub counted : n ≡ length s.records
+
+-- an answer is that on the closed content
+pub record IsAnswer (step : Bool) (s : Shown) (q : TagQuery) (a : Reply) : Type 0 where
+  pub answers : Answers step (closed_points s.records s.held) q a
+
+-- a pull hands out the records up to all of these
+pub record IsPull (s : Shown) (first upto : ℕ) : Type 0 where
+  pub counted : upto ≡ length s.records
+  pub within : first ≤ upto
+
+-- a commit acknowledges more than the last one, nothing that was not taken, and at a later moment
+pub record IsCommit (o : TagOpening) (w : Walk) (moment acked : ℕ) : Type 0 where
+  pub more : w.acked < acked
+  pub within : acked ≤ o.summary.taken + length w.points
+  pub later : w.moment < moment
+
+-- an entry, where this is what the tag shows after so many values
+abbrev pub Fits : (List Point → Shown) → Bool → TagOpening → Walk → Entry → Type 0
+Fits show step o w (Take collector row p h n) = IsTake (show (w.points ++ p ∷ [])) h n
+Fits show step o w (Ask reader row q a) = IsAnswer step (show w.points) q a
+Fits show step o w (Pull group first upto) = IsPull (show (done o w)) first upto
+Fits show step o w (Commit moment acked) = IsCommit o w moment acked
+
+-- each of these entries
+abbrev pub FitAll : (List Point → Shown) → Bool → TagOpening → Walk → List Entry → Type 0
+FitAll show step o w [] = Unit {0}
+FitAll show step o w (e ∷ es) = Fits show step o w e × FitAll show step o (after_entry w e) es
+
+-- ---- what a tag shows after values
+
+-- a state shows
+abbrev pub shown_of : State → Shown
+shown_of s = record { records = s.records; held = s.summary.held }
+
+-- after these values, replayed from an opening
+abbrev pub replayed : Bool → TagOpening → List Point → Shown
+replayed step o ps = shown_of (state_after step o ps)
+
+-- of a history
+abbrev pub shown_by : Origin → List Event → Shown
+shown_by org h = record { records = records org h; held = held org h }
+
+-- of a history followed by these values
+abbrev pub shown_after : Origin → List Event → List Point → Shown
+shown_after org h ps = shown_by org (followed h (map Raw ps))
+
+-- ---- whole tapes
+
+-- the tape replays from its opening, and leaves this state and so many events acknowledged
+pub record IsReplayed (def : TagDef) (o : TagOpening) (tape : List Entry) (s : State) (acked : ℕ) : Type 0 where
+  pub tuning : o.summary.tuning ≡ Some def.tuning
+  pub entries : FitAll (replayed def.step o) def.step o (start o) tape
+  pub stands : s ≡ state_after def.step o (taken tape)
+  pub acked_are : acked ≡ (walked (start o) tape).acked
+
+-- the tape is legal for a history of this origin
+pub record IsLegal (org : Origin) (h : List Event) (def : TagDef) (o : TagOpening) (tape : List Entry) (s : State) (acked : ℕ)
+    : Type 0 where
+  pub tuning : def.tuning ≡ in_force org h
+  pub entries : FitAll (shown_after org h) org.step o (start o) tape
+  pub stands : Stands org (followed h (map Raw (taken tape))) s
+  pub acked_are : acked ≡ (walked (start o) tape).acked

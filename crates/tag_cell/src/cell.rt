@@ -1,0 +1,152 @@
+// A cell: a tag with all that lies under its lock.
+ghost use Rattle.std.specs.Prelude.{◌≡◌, ◌↔◌, IsTrue, true, length};
+ghost use Rattle.tag_cell.specs.Told.{IsHistory};
+
+use crate::entry::Entry;
+use crate::history::{TagHistory, TagOpening};
+use crash_recovery::Journal;
+use disk_model::Disk;
+use late_insert::Content;
+use snapshot_table::{Board, Poster};
+use std::alloc::Global;
+use std::marker::Model;
+use std::sync::Arc;
+use tag_core::TagCore;
+use trend_num::{Rec, Summary, TagDef};
+
+/// A tag of a plant that runs.
+#[derive(Drop)]
+pub struct Cell<D: Disk> {
+    pub(crate) alloc: Global,
+    pub(crate) def: TagDef,
+    pub(crate) core: TagCore,
+    pub(crate) content: Content,
+    pub(crate) journal: Journal<D>,
+    pub(crate) opening: TagOpening,
+    pub(crate) tape: Vec<Entry>,
+    // How many takes the tape has, and how many it may have.
+    pub(crate) takes: u32,
+    pub(crate) room: u32,
+    // The takes before this place of the tape are acknowledged, and this many records are theirs or the opening's.
+    pub(crate) next: usize,
+    pub(crate) durable: u32,
+    pub(crate) board: Arc<Board, Global>,
+    pub(crate) poster: Poster,
+}
+
+impl<D: Disk> Model for Cell<D> {
+    ghost use Rattle.std.specs.Prelude.{vec_capacity};
+    ghost use Rattle.std.specs.Arc.{arc_value};
+    ghost use Rattle.disk_model.specs.Moments.{LeftSince};
+    ghost use Rattle.tag_cell.specs.Replays.{IsReplayed};
+    ghost use Rattle.tag_cell.specs.Crashes.{IsSafe};
+    ghost use Rattle.tag_cell.specs.Told.{Told, IsInStep, HasRoom, Waits, IsKept, IsPosted};
+
+    ghost Value = { Told D };
+
+    ghost view = { λ c. record {
+      def = c.def;
+      opening = c.opening;
+      tape = c.tape.items;
+      state = c.core.state;
+      journal = c.journal;
+      room = c.room;
+    } };
+
+    ghost invariant = { λ c. IsReplayed c.def c.opening c.tape.items c.core.state c.journal.acked
+        × IsInStep c.def c.opening c.tape.items c.core c.content.records
+        × HasRoom c.opening c.tape.items (vec_capacity c.tape) c.takes c.room c.core.spare c.content.spare
+        × Waits c.opening c.tape.items c.next c.durable c.journal.acked
+        × IsKept c.def c.opening c.tape.items c.next c.journal.failed
+        (D.trace c.journal.dev) (D.ticks c.journal.dev) (D.fault_count c.journal.dev)
+        × IsSafe c.def c.opening c.tape.items (LeftSince (D.trace c.journal.dev))
+        × IsPosted (arc_value c.board) c.poster c.core.state };
+}
+
+impl<D: Disk> Cell<D> {
+    ghost use Rattle.disk_model.specs.Calls.{Rose};
+
+    /// The records, the oldest first.
+    pub fn recs(&self) -> &[Rec]
+        ensures { result.now ≡ self.now.state.records }
+    {
+        self.core.recs()
+    }
+
+    /// The state beside the records.
+    pub fn summary(&self) -> Summary
+        ensures { result ≡ self.now.state.summary }
+    {
+        self.core.summary()
+    }
+
+    /// The tag as it was opened.
+    pub fn opening(&self) -> &TagOpening
+        ensures { result.now ≡ self.now.opening }
+    {
+        &self.opening
+    }
+
+    /// What the tag is.
+    pub fn def(&self) -> &TagDef
+        ensures { result.now ≡ self.now.def }
+    {
+        &self.def
+    }
+
+    /// What the calls so far left, the oldest first.
+    pub fn tape(&self) -> &[Entry]
+        ensures { result.now ≡ self.now.tape }
+    {
+        &self.tape
+    }
+
+    /// How often a call of the device has failed.
+    pub fn device_faults(&self) -> u64
+        ensures { result ≡ D.fault_count self.now.journal.dev }
+    {
+        self.journal.faults()
+    }
+
+    /// Whether an earlier commit answered DeviceFault. The device has then more faults than as it was opened.
+    pub fn broken(&self) -> bool
+        ensures value { result ≡ self.now.journal.failed }
+        ensures cause { IsTrue result → Rose self.now.opening.faults (D.fault_count self.now.journal.dev) }
+    {
+        self.journal.failed()
+    }
+
+    /// The device, and all that happened to the tag since it was opened.
+    pub fn into_history(self) -> (D, TagHistory)
+        ensures device { result.0 ≡ self.journal.dev }
+        ensures def { result.1.def ≡ self.def }
+        ensures opening { result.1.opening ≡ self.opening }
+        ensures tape { result.1.tape.items ≡ self.tape }
+        ensures records { result.1.recs.items ≡ self.state.records }
+        ensures summary { result.1.summary ≡ self.state.summary }
+        ensures acked { result.1.acked ≡ self.journal.acked }
+        ensures history { IsHistory result.1 (D.trace result.0) (D.ticks result.0) (D.fault_count result.0) }
+    {
+        let Cell {
+            def,
+            core,
+            journal,
+            opening,
+            tape,
+            ..
+        } = self;
+        let acked = journal.acked();
+        let (recs, summary) = core.into_parts();
+        (
+            journal.into_device(),
+            TagHistory {
+                def,
+                opening,
+                tape,
+                recs,
+                summary,
+                acked,
+            },
+        )
+    }
+}

@@ -1,0 +1,98 @@
+// What the calls of a cell leave on its tape, answer and refuse.
+use interp_read::Reply;
+use trend_num::{Point, Rec, TagQuery};
+
+/// What one call of a cell left on its tape.
+#[derive(Drop)]
+pub enum Entry {
+    /// A raw value was taken.
+    Take {
+        /// The collector, counted from 0.
+        collector: u32,
+        /// The row of the collector's file, counted from 1.
+        row: u64,
+        point: Point,
+        /// The point that closes the line after it.
+        held: Point,
+        /// How many records there are after it.
+        records: u32,
+    },
+    /// A question was answered.
+    Ask {
+        /// The reader, counted from 0.
+        reader: u32,
+        /// The row of the reader's file, counted from 1.
+        row: u64,
+        query: TagQuery,
+        reply: Reply,
+    },
+    /// Records were handed to a group.
+    Pull {
+        /// The group, counted from 0.
+        group: u32,
+        /// The place of the first record that was handed out.
+        from: u32,
+        /// The place behind the last one.
+        upto: u32,
+    },
+    /// Raw values were acknowledged.
+    Commit {
+        /// The device's clock after the last call of this commit.
+        moment: u64,
+        /// How many of the tag's events are acknowledged since.
+        acked: u64,
+    },
+}
+
+/// Where the entry of a call stands on the tape.
+#[derive(Clone, Copy, Debug, PartialEq, Eq)]
+pub struct Receipt {
+    /// Its place, counted from 0.
+    pub place: u64,
+}
+
+/// What is acknowledged after a commit.
+#[derive(Clone, Copy, Debug, PartialEq, Eq)]
+pub struct Acked {
+    /// How many events of the tag no crash takes away.
+    pub acked: u64,
+    /// How many raw values wait for a later commit.
+    pub waiting: u64,
+}
+
+/// Records that were handed out.
+#[derive(Drop)]
+pub struct Pulled {
+    /// The place behind the last of them.
+    pub upto: u32,
+    pub recs: Vec<Rec>,
+}
+
+/// Why a raw value is not taken.
+#[derive(Clone, Copy, Debug, PartialEq, Eq)]
+pub enum TakeNo {
+    /// A commit answered DeviceFault.
+    Broken,
+    /// The tape has as many takes as it has room for.
+    RoomFull { room: u32 },
+    /// One more event could bring too many records.
+    Full { records: u32 },
+}
+
+/// Why no records are handed out.
+#[derive(Clone, Copy, Debug, PartialEq, Eq)]
+pub enum PullNo {
+    /// The place is beyond the records of the values that are acknowledged.
+    Ahead { from: u32, acked: u32 },
+    WantOfMemory,
+}
+
+/// Why nothing is acknowledged.
+#[derive(Clone, Copy, Debug, PartialEq, Eq)]
+pub enum CommitNo {
+    /// An earlier commit answered DeviceFault.
+    Broken,
+    /// A call of the device failed. The device is opened again before it is used.
+    DeviceFault,
+    WantOfMemory,
+}

@@ -1,0 +1,126 @@
+// A cell is opened.
+ghost use Rattle.std.specs.Prelude.{◌≡◌, ◌⊎◌, ◌*◌, ◌^◌, ◌<◌, ◌≤◌, [], IfOk, IfErr, Some, true, false, length};
+ghost use Rattle.std.specs.Arc.{arc_value};
+ghost use Rattle.trend_num.specs.Ranges.{IsTuned};
+ghost use Rattle.trend_model.specs.State.{State};
+ghost use Rattle.trend_model.specs.Contents.{listed};
+ghost use Rattle.device_layout.specs.declared.failure.OpenNo.TheVariants.{WantOfMemory as NoMemory};
+ghost use Rattle.device_layout.specs.Recovery.{Recovers};
+ghost use Rattle.crash_recovery.specs.Opening.{GainsSync, HasSlots, IsOpenedAs, LeavesFree, MakesLayout, RecoversThen, StaysSame};
+ghost use Rattle.device_layout.specs.Readings.{CountsRefusal, IsCause};
+ghost use Rattle.disk_model.specs.Calls.{Shows};
+ghost use Rattle.snapshot_table.specs.Boards.{PostsTo};
+ghost use Rattle.snapshot_table.specs.Snaps.{nothing};
+ghost use Rattle.tag_cell.specs.Tapes.{opened};
+
+use crate::cell::Cell;
+use crate::history::TagOpening;
+use crash_recovery::{OpenFail, OpenNo, Opened, open_tag};
+use disk_model::Disk;
+use late_insert::Content;
+use snapshot_table::{Board, Poster};
+use std::alloc::Global;
+use std::sync::{Arc, Wait};
+use tag_core::TagCore;
+use trend_num::{Snap, TagDef, WantOfMemory};
+
+/// Opens the device of a tag, with room for so many takes, and posts what the tag shows then. The poster is one of this
+/// board's, and has posted nothing. What a device is opened as, and why it is refused, is as `open_tag` says.
+pub fn open_cell<D: Disk, R: Wait>(
+    rt: &R,
+    alloc: Global,
+    dev: D,
+    def: &TagDef,
+    lane_slots: u32,
+    room: u32,
+    board: Arc<Board, Global>,
+    poster: Poster,
+) -> Result<Cell<D>, OpenFail<D>>
+    requires some { 1 ≤ lane_slots }
+    requires few { lane_slots ≤ 65536 }
+    requires tuned { IsTuned def.now.tuning }
+    requires here { PostsTo (arc_value board) poster }
+    requires unposted { poster.last ≡ nothing }
+    ensures any_moment { IfOk result (λ c. StaysSame def.now (D.trace dev) (D.trace c.journal.dev)) }
+    ensures any_moment_refused { IfErr result (λ e. StaysSame def.now (D.trace dev) (D.trace e.dev)) }
+    ensures opened { IfOk result (λ c. Shows (D.trace dev) (λ seen. (s : State) × Recovers def.now seen s
+        × IsOpenedAs def.now s (opened c.opening))) }
+    ensures recovers { IfOk result (λ c. RecoversThen def.now (D.trace dev) (D.trace c.journal.dev) (opened c.opening)) }
+    ensures slots { IfOk result (λ c. Shows (D.trace dev) (HasSlots lane_slots c.journal.slots)) }
+    ensures free { IfOk result (λ c. Shows (D.trace dev) (LeavesFree def.now c.journal.slots c.journal.free)) }
+    ensures made { IfOk result (λ c. MakesLayout def.now lane_slots (D.trace dev) (D.trace c.journal.dev)) }
+    ensures synced { IfOk result (λ c. GainsSync def.now (D.trace dev) (D.trace c.journal.dev)) }
+    ensures def { IfOk result (λ c. c.def ≡ def.now) }
+    ensures state { IfOk result (λ c. c.state ≡ opened c.opening) }
+    ensures tape { IfOk result (λ c. c.tape ≡ []) }
+    ensures acked { IfOk result (λ c. c.journal.acked ≡ c.opening.summary.taken) }
+    ensures usable { IfOk result (λ c. c.journal.failed ≡ false) }
+    ensures room { IfOk result (λ c. c.room ≡ room) }
+    ensures moment { IfOk result (λ c. c.opening.moment ≡ D.ticks c.journal.dev) }
+    ensures faults_told { IfOk result (λ c. c.opening.faults ≡ D.fault_count c.journal.dev) }
+    ensures cause { IfErr result (λ e. IsCause def.now (D.trace dev) e.why) }
+    ensures faultless { IfOk result (λ c. D.fault_count c.journal.dev ≡ D.fault_count dev) }
+    ensures counts { IfErr result (λ e. CountsRefusal e.why (D.fault_count dev) (D.fault_count e.dev)) }
+{
+    let Opened { journal, core } = open_tag(alloc, dev, def, lane_slots, room)?;
+    let Ok(content) = content_of(alloc, &core, room) else {
+        return Err(refused(journal.into_device()));
+    };
+    let Ok(recs) = Vec::from_slice(alloc, core.recs()) else {
+        return Err(refused(journal.into_device()));
+    };
+    let Ok(tape) = Vec::with_capacity(alloc, room as usize) else {
+        return Err(refused(journal.into_device()));
+    };
+    let mut poster = poster;
+    let summary = core.summary();
+    let snap = Snap {
+        taken: summary.taken,
+        held: summary.held,
+    };
+    board.post(rt, &mut poster, snap);
+    let opening = TagOpening {
+        recs,
+        summary,
+        moment: journal.clock(),
+        faults: journal.faults(),
+    };
+    let durable = core.record_count();
+    Ok(Cell {
+        alloc,
+        def: *def,
+        core,
+        content,
+        journal,
+        opening,
+        tape,
+        takes: 0,
+        room,
+        next: 0,
+        durable,
+        board,
+        poster,
+    })
+}
+
+// There is no memory for a cell on this device.
+fn refused<D: Disk>(dev: D) -> OpenFail<D>
+    ensures dev { result.dev ≡ dev }
+    ensures why { result.why ≡ NoMemory }
+{
+    OpenFail {
+        dev,
+        why: OpenNo::WantOfMemory,
+    }
+}
+
+// The content of a core's records, with room for those of so many takes more.
+fn content_of(alloc: Global, core: &TagCore, room: u32) -> Result<Content, WantOfMemory>
+    requires { 2 * room ≤ core.now.spare }
+    ensures content { IfOk result (λ content. content.records ≡ listed core.now.state.records) }
+    ensures room { IfOk result (λ content. 2 * room ≤ content.spare) }
+{
+    let recs = core.recs();
+    let _spare = core.spare();
+    Content::from_records(alloc, recs, 2 * room)
+}

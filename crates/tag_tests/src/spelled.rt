@@ -1,0 +1,52 @@
+// The points and contents that the rows of tables spell.
+ghost use Rattle.trend_num.specs.Ranges.{InRange};
+
+use late_insert::{Content, Kind, Point, Rec};
+use std::alloc::Global;
+use std::process::Abort;
+use std::test::Fail;
+use trend_num::in_range;
+
+// The number that a field spells.
+pub fn number(rt: &impl Abort, field: &str) -> u64 {
+    field.parse::<u64>().expect(rt, "a number")
+}
+
+// The point `T,V`, which is in range.
+pub fn point(rt: &impl Abort, field: &str) -> Point
+    ensures { InRange result }
+{
+    let (t, v) = field.split_once(',').expect(rt, "a point");
+    let t = number(rt, t);
+    let v = v.parse::<i64>().expect(rt, "a value");
+    let p = Point { t, v };
+    assert!(rt; in_range(p));
+    p
+}
+
+// The record of a field; before a late one stands a star.
+fn record(rt: &impl Abort, field: &str) -> Rec
+    ensures { InRange result.point }
+{
+    match field.strip_prefix('*') {
+        None => Rec {
+            kind: Kind::Kept,
+            point: point(rt, field),
+        },
+        Some(spelled) => Rec {
+            kind: Kind::Late,
+            point: point(rt, spelled),
+        },
+    }
+}
+
+// The content of at most eight records.
+pub fn content(rt: &impl Abort, alloc: Global, fields: &str) -> Result<Content, Fail> {
+    let mut content = Content::new(alloc, 8)?;
+    for field in fields.split_whitespace() {
+        let rec = record(rt, field);
+        assert!(rt; content.spare() > 0);
+        content.put(rec);
+    }
+    Ok(content)
+}
