@@ -1,6 +1,0 @@
-use Rattle.std.proofs.Common.{All}
-use Rattle.trend_num.specs.Ranges.{InRange}
-use Rattle.group_tests.proofs.sheets.records_of.Given as goal
-
-abbrev pub invariant-loop-word : goal.invariant-loop-word
-invariant-loop-word l = All (λ r. InRange r.point) l.recs.items
