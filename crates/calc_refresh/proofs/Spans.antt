@@ -39,7 +39,7 @@ first_met w lo k some =
     same_test ((lo - w.start - 1) / w.period) k lo (window_to w k)
     (λ h. (let up : lo - w.start - 1 < (k + 1) * w.period = iff.0 (omega arith) in omega arith))
     (λ h. (let up : lo - w.start - 1 < (k + 1) * w.period = omega (arith, product k w.period) in
-          let count : (lo - w.start - 1) / w.period < k + 1 = iff.1 up in omega arith))
+    let count : (lo - w.start - 1) / w.period < k + 1 = iff.1 up in omega arith))
 
 -- and those before this one do not start after it
 last_met : (w : Grid) (hi k : ℕ) → 0 < w.period

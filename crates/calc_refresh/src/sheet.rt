@@ -49,7 +49,11 @@ impl Model for Sheet {
     ghost coded = { sheet_code };
 
     ghost view = { λ s. record {
-        group = s.calcs; grid = s.grid; copies = lists_of s.copies.items; rows = lists_of s.rows.items; evals = s.evals
+      group = s.calcs;
+      grid = s.grid;
+      copies = lists_of s.copies.items;
+      rows = lists_of s.rows.items;
+      evals = s.evals;
     } };
 
     ghost invariant = { λ s. IsSheet s.calcs s.grid (lists_of s.copies.items) s.contents.items s.ends.items (lists_of s.rows.items) };
@@ -116,7 +120,11 @@ impl Sheet {
     /// Takes more records of each input, and evaluates the windows that are newly complete or touched. It fails where
     /// the sheet would have more than 1,048,576 cells, else where it would have more than 2,097,152 records; and where
     /// memory is wanting. It is then as it was.
-    pub fn apply<L: Ledger>(&mut self, deltas: &[Vec<Rec>], steps: &mut Steps<L>) -> Result<(), SheetNo>
+    pub fn apply<L: Ledger>(
+        &mut self,
+        deltas: &[Vec<Rec>],
+        steps: &mut Steps<L>,
+    ) -> Result<(), SheetNo>
         requires inputs { length deltas.now ≡ length self.old.copies }
         requires copied { All IsCopy (lists_of deltas.now) }
         ensures refreshed { OnOk result (IsRefreshed self.old self.new (lists_of deltas.now)) }

@@ -1,5 +1,0 @@
-//! Tests of groups: their sheets.
-#![tactic(auto)]
-
-#[cfg(test)]
-mod sheets;
