@@ -250,10 +250,16 @@ fn about_to_break(rt: &impl Wait, alloc: Global) -> Option<Cell<MemDisk>> {
     Some(cell)
 }
 
+// Whether a cell is broken, by a fault of its device since the opening.
+fn broke(cell: &Cell<MemDisk>) -> bool {
+    cell.broken() && cell.device_faults() > cell.opening().faults
+}
+
 #[test]
 fn a_broken_cell_answers_and_hands_out(rt: HostRuntime) -> Result<(), Fail> {
     let mut cell = about_to_break(&rt, rt.alloc()).ok_or("refused")?;
     assert_eq!(rt; commit(&mut cell), Err(CommitNo::DeviceFault));
+    assert!(rt; broke(&cell));
     assert_eq!(rt; commit(&mut cell), Err(CommitNo::Broken));
     assert_eq!(rt; refusal(&rt, &mut cell, 2, 1, 1), Some(TakeNo::Broken));
     assert_eq!(rt; reading(&mut cell, 3), Some(Reading::Flat(7)));
