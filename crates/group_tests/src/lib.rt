@@ -1,0 +1,5 @@
+//! Tests of groups: their sheets.
+#![tactic(auto)]
+
+#[cfg(test)]
+mod sheets;
