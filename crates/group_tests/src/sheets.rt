@@ -94,7 +94,7 @@ fn calcs_of(rt: &impl Abort, alloc: Global, formulas: &str) -> Result<Vec<CalcDe
 }
 
 /// The definition of a group.
-fn def_of(
+pub fn def_of(
     rt: &impl Abort,
     alloc: Global,
     inputs: u32,
@@ -121,7 +121,7 @@ fn def_of(
 }
 
 /// Appends a row of a sheet, if there is one.
-fn push_row(alloc: Global, text: &mut String, sheet: &Sheet, calc: u32) -> Result<(), Fail> {
+pub fn push_row(alloc: Global, text: &mut String, sheet: &Sheet, calc: u32) -> Result<(), Fail> {
     for k in 0..sheet.windows() {
         match sheet.row(calc, u64::from(k)) {
             Some(CalcValue::Num(n)) => text.push_str(&format!(in alloc; "{n} ")?)?,
@@ -155,7 +155,7 @@ fn tell_on<L: Ledger>(sheet: &mut Sheet, deltas: &[Vec<Rec>], blank: Blank) -> R
 }
 
 /// Tells a sheet records. It has as many inputs then as before.
-fn tell(sheet: &mut Sheet, deltas: &[Vec<Rec>]) -> Result<(), SheetNo>
+pub fn tell(sheet: &mut Sheet, deltas: &[Vec<Rec>]) -> Result<(), SheetNo>
     requires inputs { length deltas.now ≡ length sheet.old.copies }
     requires copied { All IsCopy (lists_of deltas.now) }
     ensures { length sheet.new.copies ≡ length sheet.old.copies }
