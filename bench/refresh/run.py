@@ -1,0 +1,90 @@
+#!/usr/bin/env python3
+"""run.py: times sheets that are told one record at a time, beside sheets made anew.
+
+Lays main.rattle as a crate, with the loop invariants that its proof needs, into a copy of the crates that it stands on,
+builds it (`rt run`), and runs it with 100,000 and with 1,000,000 kept records at first, and a thousand single records of
+each kind, three times in turn. It tells medians: a sheet made anew, one record, their ratio, and one record beside one of
+the smaller sheet. It runs by hand, never as a test; with a word it builds in that folder, and keeps it."""
+import os
+import shutil
+import statistics
+import subprocess
+import sys
+import tempfile
+
+HERE = os.path.dirname(os.path.abspath(__file__))
+ROOT = os.path.dirname(os.path.dirname(HERE))
+BELOW = ["trend_num", "trend_model", "page_pool", "late_insert", "interp_read", "weighted_total", "calc_parser", "calc_check",
+         "calc_eval", "sheet_law", "calc_refresh"]
+RUNS = 3
+SINGLES = 1000
+SMALL, LARGE = 100_000, 1_000_000
+
+INVARIANTS = {
+    "records": """use Rattle.std.proofs.Common.{All}
+use Rattle.trend_num.specs.Ranges.{InRange}
+use Rattle.refresh_bench.proofs.records.Given as goal
+
+abbrev pub invariant-loop-i : goal.invariant-loop-i
+invariant-loop-i l = All (λ r. InRange r.point) l.recs.items
+""",
+    "times": """use Rattle.std.proofs.Common.{◌≡◌, length}
+use Rattle.refresh_bench.proofs.times.Given as goal
+
+abbrev pub invariant-loop-i : goal.invariant-loop-i
+invariant-loop-i g l = length l.sheet.copies ≡ 1
+""",
+    "main": """use Rattle.refresh_bench.proofs.main.Given as goal
+
+abbrev pub ghosts-times : goal.ghosts-times
+ghosts-times a = record { name = a.blank.name; parts = a.blank.parts }
+""",
+}
+
+
+def build(folder):
+    """The program, built in a repository of its own."""
+    crates = os.path.join(folder, "crates")
+    for name in BELOW:
+        shutil.copytree(os.path.join(ROOT, "crates", name), os.path.join(crates, name), dirs_exist_ok=True,
+                        ignore=shutil.ignore_patterns("out", "must-fail"))
+    crate = os.path.join(crates, "refresh_bench")
+    os.makedirs(os.path.join(crate, "src"), exist_ok=True)
+    shutil.copyfile(os.path.join(HERE, "main.rattle"), os.path.join(crate, "src", "main.rt"))
+    for name, text in INVARIANTS.items():
+        os.makedirs(os.path.join(crate, "proofs", name), exist_ok=True)
+        with open(os.path.join(crate, "proofs", name, "Invariants.antt"), "w") as out:
+            out.write(text)
+    with open(os.path.join(ROOT, "crates.txt")) as listed:
+        lines = [line for line in listed if line.split(":")[0] in BELOW]
+    with open(os.path.join(folder, "crates.txt"), "w") as out:
+        out.write("".join(lines) + "refresh_bench: anyhow trend_num calc_parser calc_check calc_eval calc_refresh\n")
+    with open(os.path.join(folder, "build.log"), "w") as log:
+        subprocess.run(["rt", "run", "--jobs", "2", "--", "10", "1", "late"], cwd=crate, stdin=subprocess.DEVNULL, stdout=log,
+                       stderr=log, check=True)
+    return os.path.join(crate, "out", "refresh_bench")
+
+
+def run(program, first, kind):
+    words = [program, str(first), str(SINGLES), kind]
+    told = subprocess.run(words, stdin=subprocess.DEVNULL, capture_output=True, check=True).stdout
+    return [int(word) for word in told.split()]
+
+
+def main():
+    with tempfile.TemporaryDirectory() as scratch:
+        program = build(sys.argv[1] if len(sys.argv) > 1 else scratch)
+        print("load", os.getloadavg())
+        for kind in ["kept", "late"]:
+            told = {first: [run(program, first, kind) for _ in range(RUNS)] for first in (SMALL, LARGE)}
+            anew = {first: statistics.median(words[0] for words in told[first]) for first in told}
+            each = {first: statistics.median(words[1] for words in told[first]) / SINGLES for first in told}
+            for first in told:
+                print("%s records, 1000 %s: anew %.2f ms, one more %.2f us, 1/%.0f of it, windows %d, values %d"
+                      % (first, kind, anew[first] / 1e6, each[first] / 1e3, anew[first] / each[first], told[first][0][2],
+                         told[first][0][3]))
+            print("one more of the larger sheet takes %.2f times that of the smaller one" % (each[LARGE] / each[SMALL]))
+        print("load", os.getloadavg())
+
+
+main()
