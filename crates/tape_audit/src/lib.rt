@@ -16,4 +16,4 @@ pub use agenda::{Agenda, Item, Rows};
 pub use plant_status::Seen;
 pub use progress::Progress;
 pub use trend_num::WantOfMemory;
-pub use walk::{Differs, find_asks, find_takes};
+pub use walk::{Differs, Shown, find_asks, find_takes};

@@ -48,7 +48,8 @@ impl<'a> Progress<'a> {
 
     /// How many units there are.
     pub fn units(&self) -> usize
-        ensures { result ≡ length self.now.at }
+        ensures units { result ≡ length self.now.at }
+        ensures next { (u : ℕ) → u < length self.now.at → IsNext u self.now.items (place_at self.now u) (place_at self.now u) }
     {
         self.at.len()
     }
@@ -78,8 +79,8 @@ impl<'a> Progress<'a> {
         }
     }
 
-    // The row that is due next at a unit is found there.
-    pub(crate) fn advance(&mut self, unit: u32)
+    /// The row that is due next at a unit is found there.
+    pub fn advance(&mut self, unit: u32)
         requires known { unit < length self.old.at }
         requires due { IsSome (next_due self.old unit) }
         ensures { IsAdvanced unit self.old self.new }

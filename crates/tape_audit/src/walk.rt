@@ -50,11 +50,11 @@ pub fn find_asks(tag: u32, tape: &[Entry], works: &mut [Progress<'_>]) -> Result
     Ok(())
 }
 
-// What an entry shows of a worker.
+/// What an entry shows of a worker.
 #[derive(Clone, Copy)]
-struct Shown {
-    worker: u32,
-    seen: Seen,
+pub struct Shown {
+    pub worker: u32,
+    pub seen: Seen,
 }
 
 // What a take shows of its collector.
