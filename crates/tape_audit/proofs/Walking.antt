@@ -43,7 +43,7 @@ due_gap unit items from to (suc g) next within =
     ∙ (ap (λ l. due unit (take (from + g) items) ++ l) (due_none unit (get_or items (from + g) None) none)
     ∙ (append-nil (due unit (take (from + g) items)) ∙ due_gap unit items from to g next (omega (arith, within)))))
 
-due_passed : (unit : ℕ) (items : List (Option Item)) (from to : ℕ) → IsNext unit items from to
+pub due_passed : (unit : ℕ) (items : List (Option Item)) (from to : ℕ) → IsNext unit items from to
     → due unit (take to items) ≡ due unit (take from items)
 due_passed unit items from to next =
     let number : to ≡ from + (to - from) = omega (arith, next.order) in
@@ -109,7 +109,7 @@ get_other xs i j x other = elim (cases_lt j (length xs)) [
 ]
 
 -- a list has its units, and so has each of its elements
-at_place : {X : Type 0} (P : X → Type 0) (xs : List X) (i : ℕ) (x : X) → All P xs → slice_get xs i ≡ Some x → P x
+pub at_place : {X : Type 0} (P : X → Type 0) (xs : List X) (i : ℕ) (x : X) → All P xs → slice_get xs i ≡ Some x → P x
 at_place P xs i x each there =
     subst P (get_or_from_slice_get xs i x x there) (All-get_or P xs i x (slice_get_within xs i x there) each)
 

@@ -30,6 +30,10 @@ found p unit = due unit (take (place_at p unit) p.items)
 abbrev pub lacks : Reached → ℕ → Bool
 lacks p place = option_map_or (λ item. nat_le (place_at p item.unit) place) (slice_index_or p.items place None) false
 
+-- none of the first rows lacks
+abbrev pub IsCaughtUp : ℕ → Reached → Type 0
+IsCaughtUp n p = (i : ℕ) → i < n → lacks p i ≡ false
+
 -- from a place on, each row is linked to the next one of its unit, and each unit to its first row
 pub record AreLinked (items : List (Option Item)) (next at : List ℕ) (place : ℕ) : Type 0 where
   pub first : (u : ℕ) → u < length at → IsNext u items place (slice_index_or at u 0)

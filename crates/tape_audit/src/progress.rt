@@ -71,7 +71,9 @@ impl<'a> Progress<'a> {
     /// Whether a row was not found yet where it is due.
     pub fn lacks(&self, place: usize) -> bool
         requires { place < length self.now.items }
-        ensures { result ≡ lacks self.now place }
+        ensures lacks { result ≡ lacks self.now place }
+        ensures next { IfSome (slice_index_or self.now.items place None) (λ item.
+            IsNext item.unit self.now.items (place_at self.now item.unit) (place_at self.now item.unit)) }
     {
         match self.agenda.item(place) {
             Some(item) => self.at[item.unit as usize] as usize <= place,
