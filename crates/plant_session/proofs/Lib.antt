@@ -1,1 +1,3 @@
 pub mod Longer
+pub mod Turns
+pub mod Refused

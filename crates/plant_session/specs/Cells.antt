@@ -1,5 +1,6 @@
 -- Cells that have gained entries.
-use Rattle.std.specs.Prelude.{◌≡◌, ℕ, ◌+◌, ◌<◌, List, ◌++◌, All, length, map, slice_index_or, ⊤}
+use Rattle.std.specs.Prelude.{◌≡◌, ◌≢◌, ℕ, ◌<◌, List, [], ◌++◌, All, length, slice_get, slice_index_or, Option, ⊤}
+use Rattle.std.specs.Option.{option_map_or}
 use Rattle.trend_num.specs.Queries.{IsTagQuery}
 use Rattle.trend_num.specs.Ranges.{InRange}
 use Rattle.value_rows.specs.declared.asked.Query.{Query}
@@ -9,9 +10,10 @@ use Rattle.tag_cell.specs.declared.entry.Entry.{Entry}
 use Rattle.tag_cell.specs.declared.entry.Entry.TheVariants.{Take, Ask, Pull, Commit}
 use Rattle.tag_cell.specs.Told.{Told}
 use Rattle.tape_audit.specs.declared.walk.Shown.{Shown}
-use Rattle.tape_audit.specs.Agendas.{ask_item, due, numbered, take_item}
-use Rattle.tape_audit.specs.Found.{AreFound, Reached, shown_by}
-use Rattle.std.specs.Prelude.{Option}
+use Rattle.tape_audit.specs.Agendas.{due, numbered}
+use Rattle.tape_audit.specs.Found.{AreFound, IsCaughtUp, Reached, shown_by}
+use Rattle.plant_status.specs.declared.mismatch.Seen.{Seen}
+use Rattle.tape_audit.specs.declared.agenda.Item.{Item}
 
 -- ---- entries by their kind
 
@@ -48,39 +50,53 @@ pub record AreLonger {D : Type 0} (IsOf : Entry → Type 0) (old new : List (Tol
 pub record AreAllFound {D : Type 0} (work : Entry → Option Shown) (cells : List (Told D)) (works : List Reached) : Type 0 where
   pub each : (tag : ℕ) (d : Told D) → tag < length cells → AreFound work tag (slice_index_or cells tag d).tape works
 
--- each tape shows all rows of a worker that are due there
-pub record AreAllShown {D : Type 0} (work : Entry → Option Shown) (cells : List (Told D)) (works : List Reached) : Type 0 where
-  pub each : (tag worker : ℕ) (d : Told D) (p : Reached) → tag < length cells → worker < length works
-      → shown_by work worker (slice_index_or cells tag d).tape ≡ due tag (slice_index_or works worker p).items
+-- the rows of a file that are due at a tag, as its worker's entries show them
+abbrev pub file_due : {A : Type 0} → (ℕ → ℕ → A → Option Item) → List (List A) → ℕ → ℕ → List Seen
+file_due item_of files worker tag =
+    option_map_or (λ rows. due tag (numbered (item_of worker) 1 rows)) (slice_get files worker) []
+
+-- each tape shows of each worker all its rows that are due there, and of no other worker any
+pub record AreAllShown {D A : Type 0} (work : Entry → Option Shown) (item_of : ℕ → ℕ → A → Option Item)
+    (files : List (List A)) (cells : List (Told D)) : Type 0 where
+  pub each : (tag worker : ℕ) (d : Told D) → tag < length cells
+      → shown_by work worker (slice_index_or cells tag d).tape ≡ file_due item_of files worker tag
 
 -- ---- the rows of workers
 
--- the rows of a collector, of which each is of one of so many tags and in range
-pub record IsCollector (tags collector : ℕ) (rows : List RawRow) (p : Reached) : Type 0 where
-  pub items : p.items ≡ numbered (take_item collector) 1 rows
-  pub units : length p.at ≡ tags
-  pub known : All (λ r. r.tag < tags) rows
-  pub in_range : All (λ r. InRange r.point) rows
-
--- those of all collectors
-pub record AreCollectors (tags : ℕ) (files : List (List RawRow)) (works : List Reached) : Type 0 where
+-- each worker's progress is over the rows of its file, at so many tags
+pub record AreOver {A : Type 0} (item_of : ℕ → ℕ → A → Option Item) (tags : ℕ) (files : List (List A)) (works : List Reached)
+    : Type 0 where
   pub as_many : length works ≡ length files
-  pub each : (collector : ℕ) (rows : List RawRow) (p : Reached) → collector < length files
-      → IsCollector tags collector (slice_index_or files collector rows) (slice_index_or works collector p)
+  pub items : (worker : ℕ) (rows : List A) (p : Reached) → worker < length files
+      → (slice_index_or works worker p).items ≡ numbered (item_of worker) 1 (slice_index_or files worker rows)
+  pub units : (worker : ℕ) (p : Reached) → worker < length works → length (slice_index_or works worker p).at ≡ tags
+
+-- the progress of one of them is over these rows, and each has so many tags
+pub record IsOver {A : Type 0} (item_of : ℕ → ℕ → A → Option Item) (tags worker : ℕ) (rows : List A) (works : List Reached)
+    : Type 0 where
+  pub there : worker < length works
+  pub items : (p : Reached) → (slice_index_or works worker p).items ≡ numbered (item_of worker) 1 rows
+  pub units : (w : ℕ) (p : Reached) → w < length works → length (slice_index_or works w p).at ≡ tags
+
+-- none of its first rows lacks
+abbrev pub IsCaughtTo : ℕ → ℕ → List Reached → Type 0
+IsCaughtTo place worker works = (p : Reached) → IsCaughtUp place (slice_index_or works worker p)
+
+-- none of its rows lacks
+abbrev pub IsCaught : ℕ → List Reached → Type 0
+IsCaught worker works = (p : Reached) → IsCaughtUp (length (slice_index_or works worker p).items) (slice_index_or works worker p)
+
+-- the progress of each other one is as it was
+pub record AreOthersSame (worker : ℕ) (old new : List Reached) : Type 0 where
+  pub as_many : length new ≡ length old
+  pub same : (w : ℕ) (p : Reached) → w ≢ worker → slice_index_or new w p ≡ slice_index_or old w p
+
+-- a value of one of so many tags, in range
+pub record IsValueOf (tags : ℕ) (row : RawRow) : Type 0 where
+  pub known : row.tag < tags
+  pub in_range : InRange row.point
 
 -- a question of one of so many tags, if it is of a tag
 abbrev pub IsQueryOf : ℕ → Query → Type 0
 IsQueryOf tags (query.Tag tag asked) = (tag < tags) × IsTagQuery asked
 IsQueryOf tags other = ⊤
-
--- the questions of a reader, of which each is of one of so many tags
-pub record IsReader (tags reader : ℕ) (queries : List Query) (p : Reached) : Type 0 where
-  pub items : p.items ≡ numbered (ask_item reader) 1 queries
-  pub units : length p.at ≡ tags
-  pub known : All (IsQueryOf tags) queries
-
--- those of all readers
-pub record AreReaders (tags : ℕ) (files : List (List Query)) (works : List Reached) : Type 0 where
-  pub as_many : length works ≡ length files
-  pub each : (reader : ℕ) (queries : List Query) (p : Reached) → reader < length files
-      → IsReader tags reader (slice_index_or files reader queries) (slice_index_or works reader p)

@@ -3,6 +3,8 @@
 
 mod committing;
 mod comparing;
+mod taking;
 
 pub use committing::commit_all;
 pub use comparing::{Difference, Kept, compare_openings};
+pub use taking::take_missing;

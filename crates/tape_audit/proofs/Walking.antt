@@ -328,3 +328,26 @@ difference_turn work unit place kept told tape e (Some s) first now within is sh
     difference_at work unit s.worker place kept told tape e e first now within is
     (sym shows ∙ ap (λ k. Some (record { worker = s.worker; seen = k })) (sym same)) found_so further other
 difference_turn work unit place kept told tape e None first now within is shows found_so further none = absurd none
+
+-- ---- other units
+
+-- what was found at another unit stays
+pub found_beside : {E : Type 0} (work : E → Option Shown) (unit other : ℕ) (tape : List E) (old new : List Reached)
+    → AreFurther unit old new → other ≢ unit → AreFound work other tape old → AreFound work other tape new
+found_beside work unit other tape old new further differ before = record {
+  each = λ worker. before.each worker ∙ elim (slice_get_cases old worker).1 [
+    | inl (p, below, there, got) ↦
+        let q = get_or new worker p in
+        let now = slice_get-get_or new worker p (omega (arith, below, further.as_many)) in
+        let step = further.each worker p in
+        let same : get_or old worker p ≡ p = got in
+        let items : q.items ≡ p.items = step.same_items ∙ ap (λ r. r.items) same in
+        let at : place_at q other ≡ place_at p other = step.others other differ ∙ ap (λ r. place_at r other) same in
+        ap (λ o. option_map_or (λ r. found r other) o []) there
+        ∙ (sym (ap (λ l. due other (take (place_at p other) l)) items)
+        ∙ (sym (ap (λ n. due other (take n q.items)) at) ∙ sym (ap (λ o. option_map_or (λ r. found r other) o []) now)))
+    | inr (past, none) ↦
+        ap (λ o. option_map_or (λ r. found r other) o []) none
+        ∙ sym (ap (λ o. option_map_or (λ r. found r other) o []) (slice_get_past new worker (omega (arith, past, further.as_many))))
+  ];
+}

@@ -1,0 +1,188 @@
+-- A row that a tape lacks, once its call has left the entry.
+use Rattle.std.proofs.Common.{◌≡◌, ◌≢◌, ℕ, ◌+◌, ◌<◌, ◌≤◌, inl, inr, Bool, true, false, List, [], ◌∷◌, ◌++◌, All, length, get_or, set, Option, None, Some, IfSome, refl, sym, ap, subst, ◌∙◌, arith}
+use Rattle.std.specs.Prelude.{slice_get}
+use Rattle.std.proofs.lemmas.Bool.{cases_eq}
+use Rattle.std.proofs.lemmas.List.{get_or-set_same, get_or-set_other, get_or_default, length-set}
+use Rattle.std.proofs.lemmas.List.Elements.{All-from_get_or}
+use Rattle.std.proofs.lemmas.Option.{get_or_from_slice_get, slice_get_within}
+use Rattle.plant_status.specs.declared.mismatch.Seen.{Seen}
+use Rattle.tag_cell.specs.declared.entry.Entry.{Entry}
+use Rattle.tag_cell.specs.Told.{Told}
+use Rattle.tape_audit.specs.declared.agenda.Item.{Item}
+use Rattle.tape_audit.specs.declared.walk.Shown.{Shown}
+use Rattle.tape_audit.specs.Agendas.{IsNext, numbered}
+use Rattle.tape_audit.specs.Found.{AreFound, IsAdvanced, IsCaughtUp, IsFollowed, Reached, lacks, next_due, place_at}
+use Rattle.tape_audit.proofs.Catching.{caught_due, caught_here, caught_more, caught_past}
+use Rattle.tape_audit.proofs.Numbers.{length-numbered, numbered_at}
+use Rattle.tape_audit.proofs.Walking.{all_further, all_further_step, followed_here, found_beside, found_step}
+use Rattle.plant_session.specs.Cells.{AreAllFound, AreOthersSame, IsCaughtTo, IsOver}
+
+-- the cell of a tag has one entry more on its tape
+pub record HasEntry {D : Type 0} (tag : ℕ) (e : Entry) (old new : List (Told D)) : Type 0 where
+  pub before : Told D
+  pub after : Told D
+  pub there : slice_get old tag ≡ Some before
+  pub tape : after.tape ≡ before.tape ++ e ∷ []
+  pub changed : new ≡ set old tag after
+
+-- a worker's row at a place is due at a tag, and lacks there; none before it lacks
+pub record IsMissing (worker place tag : ℕ) (seen : Seen) (works : List Reached) (p : Reached) : Type 0 where
+  pub there : worker < length works
+  pub is : p ≡ get_or works worker p
+  pub item : get_or p.items place None ≡ Some (record { unit = tag; seen = seen })
+  pub within : place < length p.items
+  pub missing : lacks p place ≡ true
+  pub next : IsNext tag p.items (place_at p tag) (place_at p tag)
+  pub known : tag < length p.at
+  pub caught : IsCaughtUp place p
+
+-- its row is the next one at the tag
+stands : (worker place tag : ℕ) (seen : Seen) (works : List Reached) (p : Reached)
+    → IsMissing worker place tag seen works p → place_at p tag ≡ place
+stands worker place tag seen works p m =
+    caught_here p place (record { unit = tag; seen = seen }) m.caught m.within m.item m.missing m.next
+
+-- so it is due next
+pub due_next : (worker place tag : ℕ) (seen : Seen) (works : List Reached) (p : Reached)
+    → IsMissing worker place tag seen works p → next_due p tag ≡ Some seen
+due_next worker place tag seen works p m =
+    caught_due p place (record { unit = tag; seen = seen }) m.item (stands worker place tag seen works p m)
+
+-- and once it is found, none of the rows up to it lacks
+pub caught_turn : (worker place tag : ℕ) (seen : Seen) (works : List Reached) (p q : Reached)
+    → IsMissing worker place tag seen works p → IsAdvanced tag p q → IsCaughtUp (place + 1) q
+caught_turn worker place tag seen works p q m step =
+    caught_more p q place (record { unit = tag; seen = seen }) m.caught m.item (stands worker place tag seen works p m)
+    m.known step
+
+-- the worker's row was found at the tag
+followed : (worker place tag : ℕ) (seen : Seen) (works : List Reached) (p q : Reached)
+    → IsMissing worker place tag seen works p → IsAdvanced tag p q → IsFollowed worker tag seen works (set works worker q)
+followed worker place tag seen works p q m step =
+    followed_here works worker tag seen p p q m.there
+    (ap (λ r. next_due r tag) (sym m.is) ∙ due_next worker place tag seen works p m) (subst (λ r. IsAdvanced tag r q) m.is step)
+
+-- what is found on all tapes with the entry that the row's call left
+pub found_turn : {D : Type 0} (work : Entry → Option Shown) (worker place tag : ℕ) (seen : Seen) (e : Entry)
+    (old new : List (Told D)) (works : List Reached) (p q : Reached) → IsMissing worker place tag seen works p
+    → IsAdvanced tag p q → work e ≡ Some (record { worker = worker; seen = seen }) → HasEntry tag e old new
+    → All (λ r. tag < length r.at) works → AreAllFound work old works → AreAllFound work new (set works worker q)
+found_turn work worker place tag seen e old new works p q m step shows has known before = record {
+  each = λ other d below. elim (cases_eq other tag) [
+    | inl same ↦ subst (λ n. AreFound work n (get_or new n d).tape (set works worker q)) (sym same)
+        (subst (λ l. AreFound work tag l (set works worker q)) (sym (here d))
+        (found_step work tag worker seen has.before.tape e works (set works worker q) shows
+        (followed worker place tag seen works p q m step) known
+        (subst (λ c. AreFound work tag c.tape works) (get_or_from_slice_get old tag has.before d has.there)
+        (before.each tag d within))))
+    | inr differ ↦ subst (λ c. AreFound work other c.tape (set works worker q)) (sym (there other d differ))
+        (found_beside work tag other (get_or old other d).tape works (set works worker q)
+        (all_further_step worker tag seen works works (set works worker q) (all_further tag works)
+        (followed worker place tag seen works p q m step)) differ
+        (before.each other d (omega (arith, below, size))))
+  ];
+}
+  where
+    within : tag < length old
+    within = slice_get_within old tag has.before has.there
+
+    size : length new ≡ length old
+    size = ap length has.changed ∙ length-set old tag has.after
+
+    here : (d : Told _) → (get_or new tag d).tape ≡ has.before.tape ++ e ∷ []
+    here d = ap (λ l. (get_or l tag d).tape) has.changed ∙ (ap (λ c. c.tape) (get_or-set_same old tag has.after d within) ∙ has.tape)
+
+    there : (other : ℕ) (d : Told _) → other ≢ tag → get_or new other d ≡ get_or old other d
+    there other d differ = ap (λ l. get_or l other d) has.changed ∙ get_or-set_other old tag other has.after d differ
+
+-- ---- what a turn leaves
+
+-- the progress of the other workers
+pub others_turn : (worker : ℕ) (works : List Reached) (q : Reached) → AreOthersSame worker works (set works worker q)
+others_turn worker works q = record {
+  as_many = length-set works worker q;
+  same = λ w p differ. get_or-set_other works worker w q p differ;
+}
+
+pub others_stay : (worker : ℕ) (works : List Reached) → AreOthersSame worker works works
+others_stay worker works = record { as_many = refl; same = λ w p differ. refl }
+
+pub others_trans : (worker : ℕ) (a b c : List Reached) → AreOthersSame worker a b → AreOthersSame worker b c
+    → AreOthersSame worker a c
+others_trans worker a b c first second = record {
+  as_many = second.as_many ∙ first.as_many;
+  same = λ w p differ. second.same w p differ ∙ first.same w p differ;
+}
+
+-- the rows and the units of the workers
+pub over_turn : {A : Type 0} (item_of : ℕ → ℕ → A → Option Item) (tags worker tag : ℕ) (rows : List A) (works : List Reached)
+    (p q : Reached) → p ≡ get_or works worker p → IsAdvanced tag p q → IsOver item_of tags worker rows works
+    → IsOver item_of tags worker rows (set works worker q)
+over_turn item_of tags worker tag rows works p q is step over = record {
+  there = omega (arith, over.there, length-set works worker q);
+  items = λ r. ap (λ x. x.items) (get_or-set_same works worker q r over.there) ∙ (ap (λ x. x.items) step.changed
+      ∙ (ap (λ x. x.items) is ∙ over.items p));
+  units = λ w r below. elim (cases_eq w worker) [
+    | inl same ↦ subst (λ n. length (get_or (set works worker q) n r).at ≡ tags) (sym same)
+        (ap (λ x. length x.at) (get_or-set_same works worker q r over.there) ∙ (ap (λ x. length x.at) step.changed
+        ∙ (length-set p.at tag step.place ∙ (ap (λ x. length x.at) is ∙ over.units worker p over.there))))
+    | inr differ ↦ ap (λ x. length x.at) (get_or-set_other works worker w q r differ)
+        ∙ over.units w r (omega (arith, below, length-set works worker q))
+  ];
+}
+
+-- each worker has so many units
+pub all_known : {A : Type 0} (item_of : ℕ → ℕ → A → Option Item) (tags worker tag : ℕ) (rows : List A) (works : List Reached)
+    → IsOver item_of tags worker rows works → tag < tags → All (λ r. tag < length r.at) works
+all_known item_of tags worker tag rows works over below =
+    let none : Reached = record { items = []; at = [] } in
+    All-from_get_or (λ r. tag < length r.at) works none (λ i within. omega (arith, below, over.units i none within))
+
+-- a row at a place lacks
+pub missing_row : {A : Type 0} (item_of : ℕ → ℕ → A → Option Item) (tags worker tag place : ℕ) (seen : Seen) (row : A)
+    (rows : List A) (works : List Reached) (p : Reached) → IsOver item_of tags worker rows works
+    → p ≡ get_or works worker p → place < length rows
+    → item_of worker (place + 1) (get_or rows place row) ≡ Some (record { unit = tag; seen = seen }) → tag < tags
+    → lacks p place ≡ true
+    → IfSome (get_or p.items place None) (λ item. IsNext item.unit p.items (place_at p item.unit) (place_at p item.unit))
+    → IsCaughtTo place worker works → IsMissing worker place tag seen works p
+missing_row item_of tags worker tag place seen row rows works p over is within made below lack next caught = record {
+  there = over.there;
+  is = is;
+  item = item;
+  within = size;
+  missing = lack;
+  next = subst (λ o. IfSome o (λ item. IsNext item.unit p.items (place_at p item.unit) (place_at p item.unit))) item next;
+  known = omega (arith, below, ap (λ x. length x.at) is ∙ over.units worker p over.there);
+  caught = subst (IsCaughtUp place) (sym is) (caught p);
+}
+  where
+    items : p.items ≡ numbered (item_of worker) 1 rows
+    items = ap (λ x. x.items) is ∙ over.items p
+
+    item : get_or p.items place None ≡ Some (record { unit = tag; seen = seen })
+    item = ap (λ l. get_or l place None) items ∙ (numbered_at (item_of worker) 1 rows place row None within ∙ made)
+
+    size : place < length p.items
+    size = omega (arith, within, ap length items ∙ length-numbered (item_of worker) 1 rows)
+
+-- there is a row at each place of a file
+pub row_within : {A : Type 0} (item_of : ℕ → ℕ → A → Option Item) (tags worker place : ℕ) (rows : List A)
+    (works : List Reached) (p : Reached) → IsOver item_of tags worker rows works → p ≡ get_or works worker p
+    → place < length rows → place < length p.items
+row_within item_of tags worker place rows works p over is within =
+    omega (arith, within, ap (λ x. length x.items) is ∙ (ap length (over.items p) ∙ length-numbered (item_of worker) 1 rows))
+
+-- where the row at a place does not lack, none up to it does
+pub caught_past_row : (worker place : ℕ) (works : List Reached) (p : Reached) → p ≡ get_or works worker p
+    → worker < length works → lacks p place ≡ false → IsCaughtTo place worker works → IsCaughtTo (place + 1) worker works
+caught_past_row worker place works p is there full caught = λ r.
+    subst (IsCaughtUp (place + 1)) (is ∙ get_or_default works worker p r there)
+    (caught_past p place full (subst (IsCaughtUp place) (sym is) (caught p)))
+
+-- and where it was found, none up to it does
+pub caught_row : (worker place tag : ℕ) (seen : Seen) (works : List Reached) (p q : Reached)
+    → IsMissing worker place tag seen works p → IsAdvanced tag p q → IsCaughtTo (place + 1) worker (set works worker q)
+caught_row worker place tag seen works p q m step = λ r.
+    subst (IsCaughtUp (place + 1)) (sym (get_or-set_same works worker q r m.there))
+    (caught_turn worker place tag seen works p q m step)

@@ -1,0 +1,152 @@
+// The rows of collectors that tapes lack are taken.
+ghost use Rattle.std.specs.Prelude.{◌≡◌, ◌+◌, ◌^◌, ◌<◌, All, IfErr, OnErr, OnOk, length};
+ghost use Rattle.calc_refresh.specs.Lists.{lists_of};
+ghost use Rattle.tape_audit.specs.Agendas.{take_item};
+ghost use Rattle.tape_audit.specs.Tapes.{take_of};
+ghost use Rattle.plant_session.specs.Cells.{AreAllFound, AreAllShown, AreLonger, AreOthersSame, AreOver, IsCaught, IsCaughtTo, IsOver, IsTaken, IsValueOf};
+ghost use Rattle.plant_session.specs.Refusals.{IsTakeRefusal, take_status};
+ghost use Rattle.plant_session.specs.Taking.{IsRowTaken};
+
+use disk_model::Disk;
+use plant_status::{Place, Seen, Status, Unit, What};
+use std::sync::Wait;
+use tag_cell::{Cell, TakeNo};
+use tape_audit::Progress;
+use value_rows::RawRow;
+
+/// Takes each row of the collectors that the tape of its tag lacks, in the order of the files. It ends at the first row that
+/// is refused. `rooms` tells how many rows of the files are of each tag.
+pub fn take_missing<D: Disk, R: Wait>(
+    rt: &R,
+    cells: &mut [Cell<D>],
+    files: &[Vec<RawRow>],
+    rooms: &[u32],
+    works: &mut [Progress<'_>],
+) -> Result<(), Status>
+    requires rooms { length rooms.now ≡ length cells.old }
+    requires over { AreOver take_item (length cells.old) (lists_of files.now) works.old }
+    requires values { All (All (IsValueOf (length cells.old))) (lists_of files.now) }
+    requires found { AreAllFound take_of cells.old works.old }
+    requires few_files { length files.now < 2 ^ 32 }
+    requires few_rows { All (λ rows. length rows < 2 ^ 32) (lists_of files.now) }
+    ensures shown { OnOk result (AreAllShown take_of take_item (lists_of files.now) cells.new) }
+    ensures longer { AreLonger IsTaken cells.old cells.new }
+    ensures refused { IfErr result (IsTakeRefusal rooms.now cells.new) }
+{
+    for collector in 0..files.len() {
+        if let Err(why) = take_file(rt, cells, files, rooms, works, collector) {
+            return Err(why);
+        }
+    }
+    Ok(())
+}
+
+// Takes the rows of a collector that tapes lack.
+fn take_file<D: Disk, R: Wait>(
+    rt: &R,
+    cells: &mut [Cell<D>],
+    files: &[Vec<RawRow>],
+    rooms: &[u32],
+    works: &mut [Progress<'_>],
+    collector: usize,
+) -> Result<(), Status>
+    requires rooms { length rooms.now ≡ length cells.old }
+    requires over { AreOver take_item (length cells.old) (lists_of files.now) works.old }
+    requires values { All (All (IsValueOf (length cells.old))) (lists_of files.now) }
+    requires found { AreAllFound take_of cells.old works.old }
+    requires there { collector < length files.now }
+    requires few_files { length files.now < 2 ^ 32 }
+    requires few_rows { All (λ rows. length rows < 2 ^ 32) (lists_of files.now) }
+    ensures over { AreOver take_item (length cells.new) (lists_of files.now) works.new }
+    ensures found { AreAllFound take_of cells.new works.new }
+    ensures caught { OnOk result (IsCaught collector works.new) }
+    ensures others { AreOthersSame collector works.old works.new }
+    ensures longer { AreLonger IsTaken cells.old cells.new }
+    ensures refused { IfErr result (IsTakeRefusal rooms.now cells.new) }
+{
+    let rows = &files[collector];
+    for place in 0..rows.len() {
+        if let Err(why) = take_turn(rt, cells, rows, rooms, works, collector, place) {
+            return Err(why);
+        }
+    }
+    Ok(())
+}
+
+// Takes the row of a collector at a place, if its tag's tape lacks it.
+fn take_turn<D: Disk, R: Wait>(
+    rt: &R,
+    cells: &mut [Cell<D>],
+    rows: &[RawRow],
+    rooms: &[u32],
+    works: &mut [Progress<'_>],
+    collector: usize,
+    place: usize,
+) -> Result<(), Status>
+    requires rooms { length rooms.now ≡ length cells.old }
+    requires over { IsOver take_item (length cells.old) collector rows.now works.old }
+    requires values { All (IsValueOf (length cells.old)) rows.now }
+    requires within { place < length rows.now }
+    requires few { collector < 2 ^ 32 }
+    requires few_rows { length rows.now < 2 ^ 32 }
+    requires found { AreAllFound take_of cells.old works.old }
+    requires caught { IsCaughtTo place collector works.old }
+    ensures over { IsOver take_item (length cells.new) collector rows.now works.new }
+    ensures found { AreAllFound take_of cells.new works.new }
+    ensures caught { OnOk result (IsCaughtTo (place + 1) collector works.new) }
+    ensures others { AreOthersSame collector works.old works.new }
+    ensures longer { AreLonger IsTaken cells.old cells.new }
+    ensures refused { IfErr result (IsTakeRefusal rooms.now cells.new) }
+{
+    if !works[collector].lacks(place) {
+        return Ok(());
+    }
+    let row = rows[place];
+    if let Err(why) = take_row(rt, cells, row, rooms, collector as u32, place as u64 + 1) {
+        return Err(why);
+    }
+    works[collector].advance(row.tag);
+    Ok(())
+}
+
+// Takes a row of a collector.
+fn take_row<D: Disk, R: Wait>(
+    rt: &R,
+    cells: &mut [Cell<D>],
+    row: RawRow,
+    rooms: &[u32],
+    collector: u32,
+    number: u64,
+) -> Result<(), Status>
+    requires rooms { length rooms.now ≡ length cells.old }
+    requires value { IsValueOf (length cells.old) row }
+    ensures taken { OnOk result (IsRowTaken collector number row cells.old cells.new) }
+    ensures unchanged { OnErr result (cells.new ≡ cells.old) }
+    ensures refused { IfErr result (IsTakeRefusal rooms.now cells.old) }
+{
+    let RawRow { tag, point } = row;
+    match cells[tag as usize].take(rt, collector, number, point) {
+        Ok(_) => Ok(()),
+        Err(no) => Err(refusal_of(tag, rooms[tag as usize], no)),
+    }
+}
+
+// What a row that is refused is answered with.
+fn refusal_of(tag: u32, rows: u32, no: TakeNo) -> Status
+    ensures { result ≡ take_status tag rows no }
+{
+    match no {
+        TakeNo::Broken => Status::DeviceFault {
+            unit: Unit::Tag(tag),
+        },
+        TakeNo::RoomFull { room } => Status::Mismatch {
+            place: Place::Takes { tag },
+            kept: Seen::Number(u64::from(room)),
+            told: Seen::Number(u64::from(rows)),
+        },
+        TakeNo::Full { records } => Status::Limit {
+            what: What::Records,
+            number: u64::from(records),
+        },
+    }
+}
