@@ -37,25 +37,13 @@ pub fn trend<F: Files, S: Store>(
         → CountsStore result (S.fault_count store.old) (S.fault_count store.new) }
     ensures store_faults { S.fault_count store.old < 2 ^ 64 → S.fault_count store.old ≤ S.fault_count store.new }
 {
-    let base = match base_of(alloc, files, name) {
-        Ok(base) => base,
-        Err(why) => return Err(why),
-    };
+    let base = base_of(alloc, files, name)?;
     if !base.groups.is_empty() {
         return Err(Status::NotYet);
     }
-    let plan = match plan_of(alloc, files, plan_name, &base) {
-        Ok(plan) => plan,
-        Err(why) => return Err(why),
-    };
-    let readers = match queries_of(alloc, files, &plan, &base) {
-        Ok(readers) => readers,
-        Err(why) => return Err(why),
-    };
-    let cores = match open_base(alloc, store, &base) {
-        Ok(cores) => cores,
-        Err(why) => return Err(why),
-    };
+    let plan = plan_of(alloc, files, plan_name, &base)?;
+    let readers = queries_of(alloc, files, &plan, &base)?;
+    let cores = open_base(alloc, store, &base)?;
     match replies(alloc, &cores, &readers) {
         Ok(text) => Ok(text),
         Err(_) => Err(Status::WantOfMemory),

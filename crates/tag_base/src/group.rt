@@ -92,11 +92,7 @@ fn group_text(
 fn places_of(alloc: Global, inputs: &[Input]) -> Result<Vec<u32>, WantOfMemory>
     ensures { IfOk result (λ places. places.items ≡ map (λ i. i.place) inputs.now) }
 {
-    inputs
-        .iter()
-        .map(|input| input.place)
-        .collect(alloc)
-        .map_err(|_| WantOfMemory)
+    Ok(inputs.iter().map(|input| input.place).collect(alloc)?)
 }
 
 /// The names of inputs.
@@ -105,7 +101,7 @@ fn names_of(alloc: Global, inputs: &[Input]) -> Result<Vec<Name>, WantOfMemory>
 {
     let mut names = Vec::new(alloc);
     for input in inputs {
-        names.push(input.name).map_err(|_| WantOfMemory)?;
+        names.push(input.name)?;
     }
     Ok(names)
 }
@@ -125,16 +121,14 @@ fn group_of(
     let text = group_text(alloc, tags, earlier, table)?;
     let inputs = places_of(alloc, &text.inputs)?;
     let names = names_of(alloc, &text.inputs)?;
-    match checked(alloc, earlier.len() as u32, &names, &text.calcs) {
-        Ok(calcs) => Ok(GroupDef {
-            name: text.name,
-            inputs,
-            start: text.start,
-            period: text.period,
-            calcs,
-        }),
-        Err(why) => Err(why),
-    }
+    let calcs = checked(alloc, earlier.len() as u32, &names, &text.calcs)?;
+    Ok(GroupDef {
+        name: text.name,
+        inputs,
+        start: text.start,
+        period: text.period,
+        calcs,
+    })
 }
 
 /// The groups of tables, or the first rule that one breaks.
@@ -152,13 +146,8 @@ pub(crate) fn groups_of(
 {
     let mut groups = Vec::new(alloc);
     for table in tables {
-        let group = match group_of(alloc, tags, &groups, table) {
-            Ok(group) => group,
-            Err(why) => return Err(why),
-        };
-        if groups.push(group).is_err() {
-            return Err(TextNo::WantOfMemory);
-        }
+        let group = group_of(alloc, tags, &groups, table)?;
+        groups.push(group)?;
     }
     Ok(groups)
 }

@@ -108,10 +108,8 @@ pub(crate) fn tags_of(alloc: Global, tables: &[&Table]) -> Result<Vec<TagDef>, T
 {
     let mut tags = Vec::new(alloc);
     for table in tables {
-        match tag_of(&tags, table) {
-            Ok(tag) => tags.push(tag).map_err(|_| TextNo::WantOfMemory)?,
-            Err(why) => return Err(why),
-        }
+        let tag = tag_of(&tags, table)?;
+        tags.push(tag)?;
     }
     Ok(tags)
 }

@@ -76,7 +76,7 @@ impl TagCore {
         ensures stands { IfOk result (λ core. Stands (record { tuning = tuning; step = step }) [] core.state) }
     {
         let places = room.checked_mul(2).ok_or(WantOfMemory)?;
-        let compressor = Compressor::new(alloc, tuning, step, places).map_err(|_| WantOfMemory)?;
+        let compressor = Compressor::new(alloc, tuning, step, places)?;
         Ok(TagCore {
             compressor,
             gate: Gate::new(),
@@ -122,8 +122,7 @@ impl TagCore {
         ensures step { IfOk result (λ core. core.step ≡ step) }
         ensures room { IfOk result (λ core. 2 * room ≤ core.spare) }
     {
-        recs.reserve_exact(2 * room as usize)
-            .map_err(|_| WantOfMemory)?;
+        recs.reserve_exact(2 * room as usize)?;
         Self::resumed(tuning, step, recs, summary)
     }
 
@@ -369,7 +368,7 @@ fn copied(alloc: Global, recs: &[Rec], places: usize) -> Result<Vec<Rec>, WantOf
     ensures records { IfOk result (λ v. v.items ≡ recs.now) }
     ensures places { IfOk result (λ v. vec_capacity v ≡ places) }
 {
-    let mut copied = Vec::with_capacity(alloc, places).map_err(|_| WantOfMemory)?;
+    let mut copied = Vec::with_capacity(alloc, places)?;
     for rec in recs {
         copied.push_reserved(*rec);
     }

@@ -10,7 +10,6 @@ ghost use Rattle.tag_store.specs.Tags.{device_name, trace_of, IsOpened, IsLeft};
 use crash_recovery::{OpenFail, OpenNo, Opened, open_tag};
 use disk_model::{Disk, Store};
 use std::alloc::{AllocError, Global};
-use std::str;
 use tag_core::TagCore;
 use trend_num::{Name, TagDef};
 
@@ -50,19 +49,8 @@ pub(crate) fn open_device<S: Store>(
 fn device_name(alloc: Global, name: &Name) -> Result<String, AllocError>
     ensures { IfOk result (λ text. string_bytes text ≡ device_name name.now) }
 {
-    let name = name_text(name);
+    let name = name.text();
     format!(in alloc; "{name}.tag")
-}
-
-// The text of a name.
-#[tactic(auto, using(crate::proofs::NameText::name_is_text))]
-fn name_text(name: &Name) -> &str
-    ensures { result.now ≡ name.now }
-{
-    match str::from_utf8(name.bytes()) {
-        Ok(text) => text,
-        Err(_) => unreachable!(),
-    }
 }
 
 // The tag that a device holds, or why it is not opened; and the device.

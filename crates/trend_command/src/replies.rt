@@ -66,5 +66,5 @@ fn put_replies(
 fn put_text(text: &mut String, more: &str) -> Result<(), WantOfMemory>
     ensures { OnOk result (string_bytes text.new ≡ string_bytes text.old ++ more.now) }
 {
-    text.push_str(more).map_err(|_| WantOfMemory)
+    Ok(text.push_str(more)?)
 }

@@ -84,7 +84,7 @@ fn map_of<'n>(alloc: Global, names: &'n [Name]) -> Result<BTreeMap<&'n [u8], u32
     for i in 0..names.len() {
         let name = names[i].bytes();
         if !map.contains_key(name) {
-            map.insert(name, i as u32).map_err(|_| WantOfMemory)?;
+            map.insert(name, i as u32)?;
         }
     }
     Ok(map)
@@ -114,7 +114,7 @@ fn hints_of<'n>(
 fn empty_slots(alloc: Global) -> Result<Vec<u32>, WantOfMemory>
     ensures { IfOk result (λ hints. hints.items ≡ replicate SLOTS NOBODY) }
 {
-    Vec::from_elem(alloc, NOBODY, SLOTS).map_err(|_| WantOfMemory)
+    Ok(Vec::from_elem(alloc, NOBODY, SLOTS)?)
 }
 
 /// The slot of a name.

@@ -111,5 +111,5 @@ pub(crate) fn push<R: Copy + Drop>(rows: &mut Vec<R>, row: R) -> Result<(), RowN
     ensures rows { IfOk result (λ _. rows.new.items ≡ rows.old.items ++ row ∷ []) }
     ensures refused { IfErr result (λ why. why ≡ WantOfMemory) }
 {
-    rows.push(row).map_err(|_| RowNo::WantOfMemory)
+    Ok(rows.push(row)?)
 }
