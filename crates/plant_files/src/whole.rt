@@ -1,6 +1,6 @@
 // All of a file, or the status of its refusal.
 ghost use Rattle.std.specs.Prelude.{◌≡◌, ◌+◌, ◌<◌, ◌^◌, IfOk, IfErr};
-ghost use Rattle.plant_files.specs.Reading.{IsRead, IsReadRefusal, faults_after};
+ghost use Rattle.plant_files.specs.Reading.{IsRead, IsReadRefusal, IsToldOfFile, faults_after};
 
 use byte_io::{Files, ReadNo, read_file};
 use plant_status::{FileId, Status, What};
@@ -20,6 +20,7 @@ pub(crate) fn whole_of<F: Files>(
     ensures refused { IfErr result (IsReadRefusal file what most (F.told files.old name.now)) }
     ensures stays { F.told files.new ≡ F.told files.old }
     ensures faults { F.fault_count files.new ≡ faults_after result (F.fault_count files.old) }
+    ensures whose { IfErr result (IsToldOfFile name.now (F.failed_name files.new)) }
 {
     match read_file(alloc, files, name, most) {
         Ok(bytes) => Ok(bytes),
