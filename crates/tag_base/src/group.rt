@@ -121,14 +121,16 @@ fn group_of(
     let text = group_text(alloc, tags, earlier, table)?;
     let inputs = places_of(alloc, &text.inputs)?;
     let names = names_of(alloc, &text.inputs)?;
-    let calcs = checked(alloc, earlier.len() as u32, &names, &text.calcs)?;
-    Ok(GroupDef {
-        name: text.name,
-        inputs,
-        start: text.start,
-        period: text.period,
-        calcs,
-    })
+    match checked(alloc, earlier.len() as u32, &names, &text.calcs) {
+        Ok(calcs) => Ok(GroupDef {
+            name: text.name,
+            inputs,
+            start: text.start,
+            period: text.period,
+            calcs,
+        }),
+        Err(why) => Err(why),
+    }
 }
 
 /// The groups of tables, or the first rule that one breaks.
@@ -146,8 +148,10 @@ pub(crate) fn groups_of(
 {
     let mut groups = Vec::new(alloc);
     for table in tables {
-        let group = group_of(alloc, tags, &groups, table)?;
-        groups.push(group)?;
+        match group_of(alloc, tags, &groups, table) {
+            Ok(group) => groups.push(group)?,
+            Err(why) => return Err(why),
+        }
     }
     Ok(groups)
 }
