@@ -63,8 +63,13 @@ pub fn read_layout<D: Disk>(dev: &mut D, def: &TagDef) -> Result<Header, OpenNo>
     let Ok(len) = dev.len() else {
         return Err(OpenNo::DeviceFault);
     };
-    let header = header_of(dev, len)?;
-    check_tag(&header.def, def)?;
+    let header = match header_of(dev, len) {
+        Ok(header) => header,
+        Err(why) => return Err(why),
+    };
+    if let Err(why) = check_tag(&header.def, def) {
+        return Err(why);
+    }
     if len < log_start(header.slots) {
         return Err(ends_at(len));
     }
@@ -232,7 +237,10 @@ pub fn read_stored<D: Disk>(alloc: Global, dev: &mut D, header: &Header) -> Resu
     ensures untimed { D.ticks dev.new ≡ D.ticks dev.old }
     ensures counts { CountsFault result DeviceFault (D.fault_count dev.old) (D.fault_count dev.new) }
 {
-    let counting = counting_slot(dev)?;
+    let counting = match counting_slot(dev) {
+        Ok(counting) => counting,
+        Err(why) => return Err(why),
+    };
     let Some(slot) = counting else {
         return Ok(Stored {
             slot: None,
@@ -241,7 +249,10 @@ pub fn read_stored<D: Disk>(alloc: Global, dev: &mut D, header: &Header) -> Resu
             tuning: header.def.tuning,
         });
     };
-    let summary = counted(dev, slot)?;
+    let summary = match counted(dev, slot) {
+        Ok(summary) => summary,
+        Err(why) => return Err(why),
+    };
     let tuning = in_force(header.def.tuning, summary.tuning);
     match records_of(alloc, dev, header.slots, &summary) {
         Ok(recs) => Ok(Stored {

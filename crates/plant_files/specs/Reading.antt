@@ -1,10 +1,9 @@
 -- Files that are read whole, within a limit, and why one is not.
 use Rattle.std.specs.Prelude.{◌≡◌, ℕ, ◌+◌, ◌≤◌, List, length, slice_get, ⊤, Option, Some, IfSome, Result, Ok, Err}
-use Rattle.byte_io.specs.Files.{FileTold, IsFaultOf, IsWhole, IsLongerThan}
+use Rattle.byte_io.specs.Files.{FileTold, IsWhole, IsLongerThan}
 use Rattle.byte_io.specs.Outside.{next_count}
 use Rattle.trend_num.specs.declared.refusal.What.{What}
 use Rattle.plant_status.specs.declared.file.FileId.{FileId}
-use Rattle.plant_status.specs.declared.file.FileId.TheVariants.{Reader}
 use Rattle.plant_status.specs.declared.status.Status.{Status}
 use Rattle.plant_status.specs.declared.status.Status.TheVariants.{ReadFault, Limit, WantOfMemory}
 
@@ -43,14 +42,6 @@ abbrev pub faults_after : {A : Type 0} → Result A Status → ℕ → ℕ
 faults_after (Ok a) faults = faults
 faults_after (Err why) faults = faults_told why faults
 
--- ---- whose read failed: where a read fault is told, and it is told whose read failed last
-
--- it is that of the file of this name
-abbrev pub IsToldOfFile : List ℕ → Option (List ℕ) → Status → Type 0
-IsToldOfFile name failed (ReadFault file) = IsFaultOf failed name
-IsToldOfFile name failed other = ⊤
-
--- it is that of the reader that is told of, by the names of the readers' files in order
-abbrev pub IsToldOfReader : List (List ℕ) → Option (List ℕ) → Status → Type 0
-IsToldOfReader names failed (ReadFault (Reader place)) = IfSome failed (λ name. slice_get names place ≡ Some name)
-IsToldOfReader names failed other = ⊤
+-- where it is told whose read failed last, it is that of the file of the reader at a place, by the names of all readers' files
+abbrev pub IsFaultOfReader : List (List ℕ) → ℕ → Option (List ℕ) → Type 0
+IsFaultOfReader names place failed = IfSome failed (λ name. slice_get names place ≡ Some name)

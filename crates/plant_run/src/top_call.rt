@@ -30,9 +30,9 @@ pub fn run<R: Threads + Wait + Sync, I: Source, F: Files, O: Sink, S: Store>(
 ) -> Status
     // What was read and printed where it ends so. Want of memory alone has no other cause.
     ensures ends { EndsIn (map string_bytes words.now)
-        (world (I.meaning input.old) (O.meaning out.old) (F.told files.old) (F.fault_count files.old)
+        (world (I.meaning input.old) (O.meaning out.old) (F.told files.old) (F.fault_count files.old) (F.failed_name files.old)
         (S.device_at store.old) (S.fault_count store.old))
-        (world (I.meaning input.new) (O.meaning out.new) (F.told files.new) (F.fault_count files.new)
+        (world (I.meaning input.new) (O.meaning out.new) (F.told files.new) (F.fault_count files.new) (F.failed_name files.new)
         (S.device_at store.new) (S.fault_count store.new)) result }
 
     // What a crash at any moment leaves of the devices.

@@ -32,8 +32,10 @@ pub fn write_archive<O: Sink>(
     let mut done = 0;
     while done < recs.len() {
         let next = recs.len().min(done + LINES);
-        write_records(out, &mut piece, &recs[done..next])?;
-        done = next;
+        match write_records(out, &mut piece, &recs[done..next]) {
+            Ok(()) => done = next,
+            Err(fault) => return Err(fault),
+        }
     }
     write_held(out, &mut piece, held)
 }
