@@ -76,13 +76,6 @@ pub if_err : {T E : Type 0} (r : Result T E) (P Q : E → Type 0) → ((e : E) �
 if_err (Ok x) P Q follows p = tt
 if_err (Err e) P Q follows p = follows e p
 
--- one fault more is not fewer
-pub counts_on : {T : Type 0} (r : Result T Status) (before now : ℕ) → before < 2 ^ 64 → CountsStore r before now
-    → before ≤ now
-counts_on (Ok x) before now small counts = omega (arith, counts)
-counts_on (Err why) before now small (inl same) = omega (arith, same)
-counts_on (Err why) before now small (inr more) = let rose = more.2 in omega (arith, rose, small)
-
 -- there is one list of queries for each file
 pub as_many_lists : (tags : List (List ℕ)) (groups : List GroupNames) (told : ToldFiles) (files : List (List ℕ))
     (lists : List (List Query)) → AreReaderFiles tags groups told files lists → length lists ≡ length files

@@ -33,7 +33,6 @@ pub fn check<F: Files, S: Store>(
     ensures durable { OnOk result (IsDurable name.now (F.told files.old) (S.device_at store.old) (S.device_at store.new)) }
     ensures counts { S.fault_count store.old < 2 ^ 64
         → CountsStore result (S.fault_count store.old) (S.fault_count store.new) }
-    ensures store_faults { S.fault_count store.old < 2 ^ 64 → S.fault_count store.old ≤ S.fault_count store.new }
 {
     let base = match base_of(alloc, files, name) {
         Ok(base) => base,

@@ -25,7 +25,7 @@ pub struct TagLine {
 pub fn tag_text(alloc: Global, line: &TagLine) -> Result<String, WantOfMemory>
     ensures { IfOk result (λ text. string_bytes text ≡ tag_text line.now) }
 {
-    tag_line(alloc, line).map_err(|_| WantOfMemory)
+    Ok(tag_line(alloc, line)?)
 }
 
 /// The same, with the allocator's own error.
