@@ -24,7 +24,7 @@ pub(crate) fn reply_to(
 ) -> Result<ReplyText, WantOfMemory>
     requires contents { AreContentsOf cores.now contents.now }
     requires asked { IsAsked (length cores.now) query }
-    ensures told { IfOk result (λ reply. told_text reply ≡ told cores.now query) }
+    ensures { IfOk result (λ reply. told_text reply ≡ told cores.now query) }
 {
     match query {
         Query::Tag { tag, query } => {
@@ -58,7 +58,7 @@ fn answer_of(
 ) -> Result<Reply, WantOfMemory>
     requires content { content.now.records ≡ listed core.now.state.records }
     requires asked { IsTagQuery query }
-    ensures told { IfOk result (λ reply. answer_text reply ≡ answer_in core.now query) }
+    ensures { IfOk result (λ reply. answer_text reply ≡ answer_in core.now query) }
 {
     answer(alloc, content, core.held(), core.step(), query)
 }

@@ -12,7 +12,7 @@ loop-place-preserved c =
     let queries = c.args.queries.now in
     let place = c.loop-place.place in
     let query = get_or queries place (Tag 0 (At 0)) in
-    let line = line_told cores reader (place + 1) query c.in_ok-reply.reply c.in_ok-reply.ensures.told in
+    let line = line_told cores reader (place + 1) query c.in_ok-reply.reply c.in_ok-reply.ensures in
     let more = replies_more cores reader queries place (Tag 0 (At 0)) c.loop-place-test.true in
     let before = replies_from cores reader 1 (take place queries) in
     c.in_ok-put_text.ensures ∙ (ap₂ (λ a b. a ++ b) c.loop-place.invariant
