@@ -93,12 +93,12 @@ done_so P IsRefusal before now (Err why) status fact refusal no_done no_fault pr
     of_refusal NotYet is = tt
 
 -- a fact of each refusal, and of what was printed, is one of the status once the answer was printed
-pub told_so : (P : Status → Type 0) (before now : Outside) (answer : Result (String Global) Status) (status : Status)
+pub ended_so : (P : Status → Type 0) (before now : Outside) (answer : Result (String Global) Status) (status : Status)
     → P Done → P WriteFault → IfErr answer P → IfOk answer (λ text. IsPrintedSo (string_bytes text) before now status)
     → IfErr answer (λ why. (status ≡ why) × IsTold before now why) → P status
-told_so P before now (Ok text) status done fault refused (inl is) told = subst P (sym is.0) done
-told_so P before now (Ok text) status done fault refused (inr cut) told = subst P (sym cut.0) fault
-told_so P before now (Err why) status done fault refused printed told = subst P (sym told.0) refused
+ended_so P before now (Ok text) status done fault refused (inl is) told = subst P (sym is.0) done
+ended_so P before now (Ok text) status done fault refused (inr cut) told = subst P (sym cut.0) fault
+ended_so P before now (Err why) status done fault refused printed told = subst P (sym told.0) refused
 
 -- the faults of the store that an answer tells are those that its status tells, once it was printed
 pub counts_so : (IsRefusal : Status → Type 0) (before now : Outside) (answer : Result (String Global) Status) (status : Status)

@@ -5,7 +5,7 @@ use Rattle.plant_status.specs.declared.status.Status.TheVariants.{Done, ReadFaul
 use Rattle.store_commands.specs.Commands.{IsCheckRefusal, IsChecked, IsFaultOfNamed, IsTrend, IsTrendRefusal}
 use Rattle.store_commands.proofs.Faults.{of_none}
 use Rattle.plant_run.specs.CommandLine.{asked}
-use Rattle.plant_run.proofs.Printing.{answered_so, counts_so, done_so, faults_so, told_so, check_no_fault, check_not_done, check_rose, trend_no_fault, trend_not_done, trend_rose}
+use Rattle.plant_run.proofs.Printing.{answered_so, counts_so, done_so, faults_so, ended_so, check_no_fault, check_not_done, check_rose, trend_no_fault, trend_not_done, trend_rose}
 use Rattle.plant_run.proofs.top_call.run.Goals as goal
 
 pub returns-in-Check-clause-ends : goal.returns-in-Check-clause-ends
@@ -35,7 +35,7 @@ returns-in-Check-clause-ends g c =
             (c.check.ensures.counts few) c.check.ensures.refused (rose few) text line;
         input = refl;
       },
-      told_so (λ status. (which : FileId) → status ≡ ReadFault which → IsFaultOf (g.F.Files.failed_name c.check.new.files) base)
+      ended_so (λ status. (which : FileId) → status ≡ ReadFault which → IsFaultOf (g.F.Files.failed_name c.check.new.files) base)
           before now c.check.result c.finish.result (λ which same. cc) (λ which same. cc) c.check.ensures.whose text line,
     )
 
@@ -70,7 +70,7 @@ returns-in-Trend-clause-ends g c =
             (c.trend.ensures.counts few) c.trend.ensures.refused (rose few) text line;
         input = refl;
       },
-      told_so (IsFaultOfNamed base plan told (g.F.Files.failed_name c.trend.new.files)) before now c.trend.result
+      ended_so (IsFaultOfNamed base plan told (g.F.Files.failed_name c.trend.new.files)) before now c.trend.result
           c.finish-in-Trend.result (of_none base plan told _ Done (λ which same. cc))
           (of_none base plan told _ WriteFault (λ which same. cc)) c.trend.ensures.whose text line,
     )
