@@ -1,12 +1,11 @@
 -- What is printed of a text or of a refusal, and what a status tells.
-use Rattle.std.proofs.Common.{◌≡◌, inl, inr, ℕ, ◌^◌, ◌<◌, List, None, Some, Result, Ok, Err, IfOk, IfErr, OnOk, OnErr, ◌≢◌, String, Global, string_bytes, refl, sym, subst, ap, ◌∙◌}
+use Rattle.std.proofs.Common.{◌≡◌, inl, inr, ℕ, ◌^◌, ◌<◌, List, Result, Ok, Err, IfOk, IfErr, OnOk, OnErr, ◌≢◌, String, Global, string_bytes, refl, sym, subst, ap, ◌∙◌}
 use Rattle.byte_io.specs.Outside.{Outside, CountsNoFault, IsWritten, IsCutShort}
 use Rattle.plant_files.specs.Asked.{ToldFiles}
 use Rattle.plant_files.specs.Reading.{faults_after, faults_told}
 use Rattle.store_commands.specs.Commands.{Devices, IsCheckRefusal, IsTrendRefusal, OfBase, OfGroup, OfPlan, OfReader, OfTag, OfMemory}
 use Rattle.disk_model.specs.Calls.{Rose}
 use Rattle.tag_store.specs.Refusals.{CountsStore}
-use Rattle.trend_num.specs.declared.tuning.Tuning.{Tuning}
 use Rattle.plant_status.specs.declared.unit.Unit.{Unit}
 use Rattle.plant_status.specs.declared.unit.Unit.TheVariants.{Tag, Group}
 use Rattle.plant_status.specs.declared.status.Status.{Status}
@@ -196,9 +195,11 @@ pub memory_ends : (form : Form) (before now : World) → CountsNoFault before.in
 memory_ends (Pack tuning) before now same told faults devices left = ((same, told), faults, devices)
 memory_ends (Check base) before now same told faults devices left =
     ((inr (inr refl), told), record { durable = tt; file_faults = faults; device_faults = λ few. devices; input = left }, λ which same. cc)
-memory_ends (Trend base plan) before now same told faults devices left =
-    ((OfMemory refl, told), record { durable = tt; file_faults = faults; device_faults = λ few. devices; input = left },
-    of_none base plan before.files now.failed_name WantOfMemory (λ which same. cc))
+memory_ends (Trend base plan) before now same told faults devices left = (
+  (OfMemory refl, told),
+  record { durable = tt; file_faults = faults; device_faults = λ few. devices; input = left },
+  of_none base plan before.files now.failed_name WantOfMemory (λ which same. cc),
+)
 memory_ends Unknown before now same told faults devices left = (inr refl, told, faults, devices, left)
 
 -- devices that are as they were are kept

@@ -17,9 +17,9 @@ use Rattle.plant_status.specs.declared.status.Status.TheVariants.{Damaged, Other
 use Rattle.plant_files.specs.Reading.{faults_told}
 use Rattle.disk_model.specs.Traces.{Trace}
 use Rattle.tag_store.specs.Tags.{AreDistinct}
-use Rattle.tag_store.specs.Refusals.{CountsStore, IsRefusal}
+use Rattle.tag_store.specs.Refusals.{IsRefusal}
 use Rattle.trend_command.specs.Told.{IsAsked}
-use Rattle.std.proofs.Common.{Option, Result, Ok, Err, IfErr, inl, inr, ◌∷◌, ◌^◌, ◌<◌, ◌≤◌}
+use Rattle.std.proofs.Common.{Option, Result, Ok, Err, IfErr, ◌∷◌}
 
 -- a fact of each image of a list is one of each element
 pub all_of_map : {X Y : Type 0} (f : X → Y) (P : Y → Type 0) (xs : List X) → All P (map f xs) → All (λ x. P (f x)) xs
