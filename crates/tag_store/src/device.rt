@@ -1,6 +1,6 @@
 // The device of one tag.
 ghost use Rattle.std.specs.Prelude.{◌≡◌, ◌≢◌, ◌^◌, ◌<◌, ℕ, List, IfOk, IfErr, string_bytes};
-ghost use Rattle.trend_num.specs.Ranges.{IsTuned};
+ghost use Rattle.trend_num.specs.Ranges.{TuningInRange};
 ghost use Rattle.disk_model.specs.Calls.{CountsFault};
 ghost use Rattle.device_layout.specs.declared.failure.OpenNo.TheVariants.{DeviceFault};
 ghost use Rattle.device_layout.specs.Readings.{IsCause};
@@ -22,7 +22,7 @@ pub(crate) fn open_device<S: Store>(
     store: &mut S,
     def: &TagDef,
 ) -> Result<TagCore, OpenNo>
-    requires tuned { IsTuned def.now.tuning }
+    requires tuned { TuningInRange def.now.tuning }
     ensures same { StaysSame def.now (trace_of (S.device_at store.old) def.now)
         (trace_of (S.device_at store.new) def.now) }
     ensures opened { IfOk result (IsOpened def.now (trace_of (S.device_at store.old) def.now)) }
@@ -55,7 +55,7 @@ fn device_name(alloc: Global, name: &Name) -> Result<String, AllocError>
 
 // The tag that a device holds, or why it is not opened; and the device.
 fn open_core<D: Disk>(alloc: Global, dev: D, def: &TagDef) -> (D, Result<TagCore, OpenNo>)
-    requires tuned { IsTuned def.now.tuning }
+    requires tuned { TuningInRange def.now.tuning }
     ensures same { StaysSame def.now (D.trace dev) (D.trace result.0) }
     ensures opened { IfOk result.1 (IsOpened def.now (D.trace dev)) }
     ensures left { IfOk result.1 (IsLeft def.now (D.trace dev) (D.trace result.0)) }
