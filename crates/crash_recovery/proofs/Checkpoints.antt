@@ -48,8 +48,8 @@ use Rattle.crash_recovery.proofs.Counting.{counting_new}
 use Rattle.device_layout.proofs.SlotNumbers.{length-summary_image, taken_spelled, records_spelled}
 use Rattle.device_layout.proofs.SlotNumbers.{summary_of_parts}
 use Rattle.crash_recovery.proofs.Stored.{records_known, not_new, recovers_same}
-use Rattle.crash_recovery.proofs.SettledDevices.{now_shown, shown_now, shown_so, shown_both, during_from}
-use Rattle.crash_recovery.proofs.SettledDevices.{shown_from, opened_after}
+use Rattle.crash_recovery.proofs.DeviceReads.{now_shown, shown_now, shown_so, shown_both, during_from}
+use Rattle.crash_recovery.proofs.DeviceReads.{shown_from, opened_after}
 use Rattle.crash_recovery.proofs.Places.{OnlySpare, apart_lane, slot_within, gate_within, others_kept}
 use Rattle.crash_recovery.proofs.Places.{front_kept, first_kept, log_kept, only_spare, settled_on, laid_shown}
 use Rattle.crash_recovery.proofs.Places.{laid_again, reaches_on}

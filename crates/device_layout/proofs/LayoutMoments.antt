@@ -23,7 +23,7 @@ use Rattle.disk_model.specs.Gates.{IsNew}
 use Rattle.device_layout.specs.Recovery.{Recovers}
 use Rattle.device_layout.specs.Layouts.{IsMade}
 use Rattle.device_layout.proofs.HeaderImages.{length-header_image}
-use Rattle.device_layout.proofs.Made.{made_recovers}
+use Rattle.device_layout.proofs.NewLayout.{made_recovers}
 
 -- ---- the gate is closed
 

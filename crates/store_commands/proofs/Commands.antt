@@ -18,7 +18,7 @@ use Rattle.plant_files.specs.Reading.{faults_told}
 use Rattle.disk_model.specs.Traces.{Trace}
 use Rattle.tag_store.specs.Tags.{AreDistinct}
 use Rattle.tag_store.specs.Refusals.{IsRefusal}
-use Rattle.trend_command.specs.Told.{IsAsked}
+use Rattle.trend_command.specs.Replies.{IsAsked}
 use Rattle.std.proofs.Common.{Option, Result, Ok, Err, IfErr, ◌∷◌}
 
 -- a fact of each image of a list is one of each element

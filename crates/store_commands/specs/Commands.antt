@@ -15,7 +15,7 @@ use Rattle.plant_files.specs.Asked.{ToldFiles, AreQueries, IsQueriesRefusal}
 use Rattle.tag_store.specs.Tags.{AreOpened, AreLeft, AllStaySame, AreOthersSame}
 use Rattle.store_commands.specs.Lines.{check_text}
 use Rattle.tag_store.specs.Refusals.{IsRefusal}
-use Rattle.trend_command.specs.Told.{trend_text}
+use Rattle.trend_command.specs.Replies.{trend_text}
 
 -- the traces of a store's devices by name
 abbrev pub Devices : Type 0

@@ -1,6 +1,6 @@
 // The command `trend`.
 ghost use Rattle.std.specs.Prelude.{◌^◌, ◌<◌, ◌≤◌, ◌≡◌, length, map, string_bytes, All, IfOk, IfErr, OnOk};
-ghost use Rattle.trend_command.specs.Told.{IsAsked, trend_text};
+ghost use Rattle.trend_command.specs.Replies.{IsAsked, trend_text};
 ghost use Rattle.plant_files.specs.Reading.{faults_after};
 ghost use Rattle.store_commands.specs.Commands.{AreKept, IsDurable, IsFaultOfNamed, IsTrend, IsTrendRefusal};
 ghost use Rattle.tag_store.specs.Refusals.{CountsStore};

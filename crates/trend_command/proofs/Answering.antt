@@ -14,7 +14,7 @@ use Rattle.interp_read.specs.Replies.{Answers}
 use Rattle.value_rows.specs.declared.asked.Query.TheVariants.{Tag, Snap}
 use Rattle.tag_core.specs.Core.{Core}
 use Rattle.trend_report.specs.Lines.{answer_text, number_text, points_text, reading_text}
-use Rattle.trend_command.specs.Told.{answer_in, points_in, snapshot_in, told}
+use Rattle.trend_command.specs.Replies.{answer_in, points_in, snapshot_in, told}
 
 -- an answer is printed as what a tag answers
 pub answer_told : (core : Core) (query : TagQuery) (reply : Reply) → Answers core.step (points_in core) query reply

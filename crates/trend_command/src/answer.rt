@@ -4,7 +4,7 @@ ghost use Rattle.trend_num.specs.Queries.{IsTagQuery};
 ghost use Rattle.trend_model.specs.Contents.{listed};
 ghost use Rattle.trend_report.specs.Lines.{answer_text, told_text};
 ghost use Rattle.trend_command.specs.Contents.{AreContentsOf};
-ghost use Rattle.trend_command.specs.Told.{IsAsked, answer_in, told};
+ghost use Rattle.trend_command.specs.Replies.{IsAsked, answer_in, told};
 
 use interp_read::{Reply, TagQuery};
 use late_insert::Content;

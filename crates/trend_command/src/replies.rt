@@ -1,7 +1,7 @@
 // All replies, in one text.
 ghost use Rattle.std.specs.Prelude.{◌≡◌, ◌++◌, ◌<◌, ◌^◌, All, IfOk, OnOk, length, map, string_bytes};
 ghost use Rattle.trend_command.specs.Contents.{AreContentsOf};
-ghost use Rattle.trend_command.specs.Told.{IsAsked, replies_from, trend_text};
+ghost use Rattle.trend_command.specs.Replies.{IsAsked, replies_from, trend_text};
 
 use crate::answer::reply_to;
 use crate::contents::contents_of;

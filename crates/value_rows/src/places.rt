@@ -3,7 +3,7 @@ ghost use Rattle.std.specs.Prelude.{◌≡◌, ◌<◌, ◌^◌, All, length, re
 ghost use Rattle.std.specs.BTreeMap.{BTreeMap};
 ghost use Rattle.trend_num.specs.Names.{IsName};
 ghost use Rattle.value_rows.specs.Raw.{place_of};
-ghost use Rattle.value_rows.specs.Standing.{ArePlaces, IsHint};
+ghost use Rattle.value_rows.specs.RowReader.{ArePlaces, IsHint};
 
 use std::alloc::Global;
 use std::collections::BTreeMap;
@@ -27,7 +27,7 @@ pub(crate) struct Places<'n> {
 
 impl<'n> Model for Places<'n> {
     ghost use Rattle.std.specs.Prelude.{ℕ, List};
-    ghost use Rattle.value_rows.specs.Standing.{HasPlaces};
+    ghost use Rattle.value_rows.specs.RowReader.{HasPlaces};
 
     ghost Value = { List (List ℕ) };
 

@@ -1,5 +1,5 @@
 use Rattle.std.proofs.Common.{Err, inr, refl, ◌∙◌, sym, ap, arith, length}
-use Rattle.trend_command.specs.Told.{trend_text}
+use Rattle.trend_command.specs.Replies.{trend_text}
 use Rattle.store_commands.specs.Commands.{OfGroup, OfPlan, OfReader, OfTag}
 use Rattle.store_commands.proofs.Commands.{found_empty, found_some, as_many_lists}
 use Rattle.store_commands.proofs.Faults.{of_base, of_none, of_plan, of_reader, tag_is_no_fault}

@@ -1,7 +1,7 @@
 use Rattle.std.proofs.Common.{◌+◌, ◌++◌, ◌∙◌, ap, ap₂, get_or, sym, append_assoc, string_bytes, take}
 use Rattle.trend_num.specs.declared.query.TagQuery.TheVariants.{At}
 use Rattle.value_rows.specs.declared.asked.Query.TheVariants.{Tag}
-use Rattle.trend_command.specs.Told.{replies_from, reply_line}
+use Rattle.trend_command.specs.Replies.{replies_from, reply_line}
 use Rattle.trend_command.proofs.Numbering.{line_told, replies_more}
 use Rattle.trend_command.proofs.replies.put_replies.Goals as goal
 

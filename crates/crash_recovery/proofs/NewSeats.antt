@@ -9,7 +9,7 @@ use Rattle.disk_model.specs.Images.{IsSettled}
 use Rattle.crash_recovery.specs.declared.seat.Seat.{Seat}
 use Rattle.crash_recovery.specs.Journals.{IsSeat, SeatedOn}
 use Rattle.device_layout.specs.Layouts.{IsMade}
-use Rattle.device_layout.proofs.Made.{made_room, made_points, made_lane, made_counting, made_header, made_slots}
+use Rattle.device_layout.proofs.NewLayout.{made_room, made_points, made_lane, made_counting, made_header, made_slots}
 
 -- the first lane slot of so many, before the first event
 abbrev pub first_seat : ℕ → Seat
