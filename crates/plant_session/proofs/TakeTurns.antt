@@ -1,0 +1,74 @@
+-- A row of a collector that was taken.
+use Rattle.std.proofs.Common.{◌≡◌, ℕ, zero, suc, ◌+◌, ◌<◌, List, [], ◌∷◌, ◌++◌, All, length, get_or, set, None, Some, IfSome, true, refl, sym, ap, subst, ◌∙◌, arith}
+use Rattle.std.proofs.lemmas.Option.{get_or_from_slice_get, slice_get_within}
+use Rattle.value_rows.specs.declared.raw.RawRow.{RawRow}
+use Rattle.tag_cell.specs.declared.entry.Entry.{Entry}
+use Rattle.tag_cell.specs.declared.entry.Entry.TheVariants as entry
+use Rattle.plant_status.specs.declared.mismatch.Seen.TheVariants.{Take}
+use Rattle.tape_audit.specs.Agendas.{IsNext, take_item}
+use Rattle.tape_audit.specs.Found.{Reached, lacks, place_at}
+use Rattle.std.proofs.lemmas.List.{get_or_default}
+use Rattle.std.proofs.lemmas.List.Elements.{All-get_or}
+use Rattle.trend_model.specs.History.{Raw}
+use Rattle.trend_model.specs.State.{after}
+use Rattle.tag_cell.specs.Told.{Told}
+use Rattle.plant_session.specs.Cells.{AreLonger, IsCaughtTo, IsLonger, IsOver, IsTaken, IsValueOf}
+use Rattle.plant_session.specs.Taking.{IsRowTaken}
+use Rattle.plant_session.proofs.Longer.{all_longer, longer_set}
+use Rattle.plant_session.proofs.Turns.{HasEntry, IsMissing, missing_row}
+
+-- the entry that it left
+abbrev pub entry_of : {D : Type 0} (collector number : ℕ) (row : RawRow) (old new : List (Told D))
+    → IsRowTaken collector number row old new → Entry
+entry_of collector number row old new t =
+    entry.Take collector number row.point t.taken.held
+    (length (after t.before.def.step t.before.state (Raw row.point)).records)
+
+pub taken_entry : {D : Type 0} (collector number : ℕ) (row : RawRow) (old new : List (Told D))
+    (t : IsRowTaken collector number row old new) → HasEntry row.tag (entry_of collector number row old new t) old new
+taken_entry collector number row old new t = record {
+  before = t.before;
+  after = t.after;
+  there = t.there;
+  tape = ap (λ c. c.tape) t.taken.changed;
+  changed = t.changed;
+}
+
+-- one entry of a kind
+pub one_entry : (IsOf : Entry → Type 0) (e : Entry) → IsOf e → All IsOf (e ∷ [])
+one_entry IsOf e is = λ k d below. at k d below
+  where
+    at : (k : ℕ) (d : Entry) → k < 1 → IsOf (get_or (e ∷ []) k d)
+    at zero d below = is
+    at (suc k) d below = absurd (omega (arith, below))
+
+-- the cells are longer by it
+pub taken_longer : {D : Type 0} (collector number : ℕ) (row : RawRow) (old new : List (Told D))
+    → IsRowTaken collector number row old new → AreLonger IsTaken old new
+taken_longer collector number row old new t =
+    subst (AreLonger IsTaken old) (sym t.changed) (longer_set IsTaken old old row.tag t.after t.before
+    (slice_get_within old row.tag t.before t.there)
+    (subst (λ c. IsLonger IsTaken c t.after) (sym (get_or_from_slice_get old row.tag t.before t.before t.there)) (record {
+      more = entry_of collector number row old new t ∷ [];
+      each = one_entry IsTaken (entry_of collector number row old new t) tt;
+      tape = ap (λ c. c.tape) t.taken.changed;
+      same_def = ap (λ c. c.def) t.taken.changed;
+      same_opening = ap (λ c. c.opening) t.taken.changed;
+    })) (all_longer IsTaken old))
+
+-- the row at a place of a collector's file, where it lacks
+pub missing_take : (tags collector place : ℕ) (rows : List RawRow) (works : List Reached) (row : RawRow) (d e : Reached)
+    → IsOver take_item tags collector rows works → place < length rows → All (IsValueOf tags) rows
+    → lacks (get_or works collector d) place ≡ true
+    → IfSome (get_or (get_or works collector d).items place None) (λ item. IsNext item.unit (get_or works collector d).items
+    (place_at (get_or works collector d) item.unit) (place_at (get_or works collector d) item.unit))
+    → IsCaughtTo place collector works
+    → IsMissing collector place (get_or rows place row).tag (Take collector (place + 1) (get_or rows place row).point) works
+    (get_or works collector e)
+missing_take tags collector place rows works row d e over within values lack next caught =
+    subst (IsMissing collector place (get_or rows place row).tag (Take collector (place + 1) (get_or rows place row).point) works)
+    (get_or_default works collector d e over.there)
+    (missing_row take_item tags collector (get_or rows place row).tag place
+    (Take collector (place + 1) (get_or rows place row).point) row rows works (get_or works collector d) over
+    (get_or_default works collector d (get_or works collector d) over.there) within refl
+    (All-get_or (IsValueOf tags) rows place row within values).known lack next caught)

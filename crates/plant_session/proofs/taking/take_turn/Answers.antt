@@ -1,0 +1,82 @@
+use Rattle.std.proofs.Common.{◌≡◌, ◌∙◌, ◌+◌, false, true, ap, sym, subst, arith, refl, get_or, length, set, is_some}
+use Rattle.std.proofs.lemmas.List.{get_or_default}
+use Rattle.std.proofs.lemmas.List.Elements.{All-get_or}
+use Rattle.plant_status.specs.declared.mismatch.Seen.TheVariants.{Take}
+use Rattle.tape_audit.specs.Agendas.{take_item}
+use Rattle.tape_audit.specs.Found.{IsAdvanced, lacks}
+use Rattle.tape_audit.specs.Tapes.{take_of}
+use Rattle.plant_session.specs.Cells.{AreAllFound, AreLonger, IsOver, IsTaken, IsValueOf}
+use Rattle.plant_session.proofs.Longer.{all_longer}
+use Rattle.plant_session.proofs.TakeTurns.{missing_take, taken_entry, taken_longer}
+use Rattle.plant_session.proofs.Turns.{IsMissing, all_known, caught_past_row, caught_row, due_next, found_turn, missing_row, over_turn, row_within}
+use Rattle.plant_session.proofs.taking.take_turn.Goals as goal
+
+pub lacks-requires : goal.lacks-requires
+lacks-requires g c =
+    let works = c.args.works.now in
+    let d = c.index-works-collector.result in
+    row_within take_item (length c.args.cells.now) c.args.collector c.args.place c.args.rows.now works
+    (get_or works c.args.collector d) c.requires.over
+    (get_or_default works c.args.collector d (get_or works c.args.collector d) c.requires.over.there) c.requires.within
+
+pub returns-then-not-lacks-clause-caught : goal.returns-then-not-lacks-clause-caught
+returns-then-not-lacks-clause-caught g c =
+    let works = c.args.works.now in
+    let d = c.index-works-collector.result in
+    caught_past_row c.args.collector c.args.place works (get_or works c.args.collector d)
+    (get_or_default works c.args.collector d (get_or works c.args.collector d) c.requires.over.there) c.requires.over.there
+    (sym c.lacks.ensures.lacks ∙ c.if-not-lacks.true) c.requires.caught
+
+pub take_row-requires-clause-value : goal.take_row-requires-clause-value
+take_row-requires-clause-value g c =
+    All-get_or (IsValueOf (length c.args.cells.now)) c.args.rows.now c.args.place _ c.requires.within c.requires.values
+
+pub returns-in-Err-clause-longer : goal.returns-in-Err-clause-longer
+returns-in-Err-clause-longer g c =
+    subst (AreLonger IsTaken c.args.cells.now) (sym c.in-Err.ensures.unchanged) (all_longer IsTaken c.args.cells.now)
+
+pub advance-requires-clause-known : goal.advance-requires-clause-known
+advance-requires-clause-known g c =
+    (missing_take (length c.args.cells.now) c.args.collector c.args.place c.args.rows.now c.args.works.now _
+    c.index-works-collector.result c.index-works-collector-2.result c.requires.over c.requires.within c.requires.values
+    (sym c.lacks.ensures.lacks ∙ c.if-not-lacks.false) c.lacks.ensures.next c.requires.caught).known
+
+pub advance-requires-clause-due : goal.advance-requires-clause-due
+advance-requires-clause-due g c =
+    ap is_some (due_next c.args.collector c.args.place _ _ c.args.works.now _
+    (missing_take (length c.args.cells.now) c.args.collector c.args.place c.args.rows.now c.args.works.now _
+    c.index-works-collector.result c.index-works-collector-2.result c.requires.over c.requires.within c.requires.values
+    (sym c.lacks.ensures.lacks ∙ c.if-not-lacks.false) c.lacks.ensures.next c.requires.caught))
+
+pub returns-clause-over : goal.returns-clause-over
+returns-clause-over g c =
+    let works = c.args.works.now in
+    let e = c.index-works-collector-2.result in
+    subst (λ n. IsOver take_item n c.args.collector c.args.rows.now (set works c.args.collector c.advance.new.self))
+    (sym (taken_longer c.args.collector (c.args.place + 1) _ c.args.cells.now c.take_row.new.cells c.in_default.ensures.taken).as_many)
+    (over_turn take_item (length c.args.cells.now) c.args.collector _ c.args.rows.now works (get_or works c.args.collector e)
+    c.advance.new.self (get_or_default works c.args.collector e (get_or works c.args.collector e) c.requires.over.there)
+    c.advance.ensures c.requires.over)
+
+pub returns-clause-found : goal.returns-clause-found
+returns-clause-found g c =
+    let m = missing_take (length c.args.cells.now) c.args.collector c.args.place c.args.rows.now c.args.works.now _
+    c.index-works-collector.result c.index-works-collector-2.result c.requires.over c.requires.within c.requires.values
+    (sym c.lacks.ensures.lacks ∙ c.if-not-lacks.false) c.lacks.ensures.next c.requires.caught in
+    let value = All-get_or (IsValueOf (length c.args.cells.now)) c.args.rows.now c.args.place _ c.requires.within c.requires.values in
+    found_turn take_of c.args.collector c.args.place _ _ _ c.args.cells.now c.take_row.new.cells c.args.works.now _
+    c.advance.new.self m c.advance.ensures refl
+    (taken_entry c.args.collector (c.args.place + 1) _ c.args.cells.now c.take_row.new.cells c.in_default.ensures.taken)
+    (all_known take_item (length c.args.cells.now) c.args.collector _ c.args.rows.now c.args.works.now c.requires.over value.known)
+    c.requires.found
+
+pub returns-clause-caught : goal.returns-clause-caught
+returns-clause-caught g c =
+    caught_row c.args.collector c.args.place _ _ c.args.works.now _ c.advance.new.self
+    (missing_take (length c.args.cells.now) c.args.collector c.args.place c.args.rows.now c.args.works.now _
+    c.index-works-collector.result c.index-works-collector-2.result c.requires.over c.requires.within c.requires.values
+    (sym c.lacks.ensures.lacks ∙ c.if-not-lacks.false) c.lacks.ensures.next c.requires.caught) c.advance.ensures
+
+pub returns-clause-longer : goal.returns-clause-longer
+returns-clause-longer g c =
+    taken_longer c.args.collector (c.args.place + 1) _ c.args.cells.now c.take_row.new.cells c.in_default.ensures.taken
