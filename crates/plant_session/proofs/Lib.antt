@@ -2,3 +2,4 @@ pub mod Longer
 pub mod Turns
 pub mod Refused
 pub mod TakeTurns
+pub mod Files

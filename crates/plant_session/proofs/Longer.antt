@@ -36,6 +36,13 @@ longer_trans IsOf a b c first second = record {
 pub all_longer : {D : Type 0} (IsOf : Entry → Type 0) (cells : List (Told D)) → AreLonger IsOf cells cells
 all_longer IsOf cells = record { as_many = refl; each = λ tag d. longer_refl IsOf (get_or cells tag d) }
 
+pub all_longer_trans : {D : Type 0} (IsOf : Entry → Type 0) (a b c : List (Told D)) → AreLonger IsOf a b → AreLonger IsOf b c
+    → AreLonger IsOf a c
+all_longer_trans IsOf a b c first second = record {
+  as_many = second.as_many ∙ first.as_many;
+  each = λ tag d. longer_trans IsOf (get_or a tag d) (get_or b tag d) (get_or c tag d) (first.each tag d) (second.each tag d);
+}
+
 -- one of the cells gained entries
 pub longer_set : {D : Type 0} (IsOf : Entry → Type 0) (first now : List (Told D)) (tag : ℕ) (c d : Told D)
     → tag < length now → IsLonger IsOf (get_or now tag d) c → AreLonger IsOf first now → AreLonger IsOf first (set now tag c)

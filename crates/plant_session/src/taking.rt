@@ -3,7 +3,7 @@ ghost use Rattle.std.specs.Prelude.{◌≡◌, ◌+◌, ◌^◌, ◌<◌, All, I
 ghost use Rattle.calc_refresh.specs.Lists.{lists_of};
 ghost use Rattle.tape_audit.specs.Agendas.{take_item};
 ghost use Rattle.tape_audit.specs.Tapes.{take_of};
-ghost use Rattle.plant_session.specs.Cells.{AreAllFound, AreAllShown, AreLonger, AreOthersSame, AreOver, IsCaught, IsCaughtTo, IsOver, IsTaken, IsValueOf};
+ghost use Rattle.plant_session.specs.Cells.{AreAllFound, AreAllShown, AreLonger, AreOthersSame, AreOver, IsCaughtTo, IsOver, IsTaken, IsValueOf};
 ghost use Rattle.plant_session.specs.Refusals.{IsTakeRefusal, take_status};
 ghost use Rattle.plant_session.specs.Taking.{IsRowTaken};
 
@@ -34,7 +34,7 @@ pub fn take_missing<D: Disk, R: Wait>(
     ensures refused { IfErr result (IsTakeRefusal rooms.now cells.new) }
 {
     for collector in 0..files.len() {
-        if let Err(why) = take_file(rt, cells, files, rooms, works, collector) {
+        if let Err(why) = take_file(rt, cells, &files[collector], rooms, works, collector) {
             return Err(why);
         }
     }
@@ -45,26 +45,24 @@ pub fn take_missing<D: Disk, R: Wait>(
 fn take_file<D: Disk, R: Wait>(
     rt: &R,
     cells: &mut [Cell<D>],
-    files: &[Vec<RawRow>],
+    rows: &[RawRow],
     rooms: &[u32],
     works: &mut [Progress<'_>],
     collector: usize,
 ) -> Result<(), Status>
     requires rooms { length rooms.now ≡ length cells.old }
-    requires over { AreOver take_item (length cells.old) (lists_of files.now) works.old }
-    requires values { All (All (IsValueOf (length cells.old))) (lists_of files.now) }
+    requires over { IsOver take_item (length cells.old) collector rows.now works.old }
+    requires values { All (IsValueOf (length cells.old)) rows.now }
+    requires few { collector < 2 ^ 32 }
+    requires few_rows { length rows.now < 2 ^ 32 }
     requires found { AreAllFound take_of cells.old works.old }
-    requires there { collector < length files.now }
-    requires few_files { length files.now < 2 ^ 32 }
-    requires few_rows { All (λ rows. length rows < 2 ^ 32) (lists_of files.now) }
-    ensures over { AreOver take_item (length cells.new) (lists_of files.now) works.new }
+    ensures over { IsOver take_item (length cells.new) collector rows.now works.new }
     ensures found { AreAllFound take_of cells.new works.new }
-    ensures caught { OnOk result (IsCaught collector works.new) }
+    ensures caught { OnOk result (IsCaughtTo (length rows.now) collector works.new) }
     ensures others { AreOthersSame collector works.old works.new }
     ensures longer { AreLonger IsTaken cells.old cells.new }
     ensures refused { IfErr result (IsTakeRefusal rooms.now cells.new) }
 {
-    let rows = &files[collector];
     for place in 0..rows.len() {
         if let Err(why) = take_turn(rt, cells, rows, rooms, works, collector, place) {
             return Err(why);

@@ -1,0 +1,84 @@
+-- The files of all workers, one after another.
+use Rattle.std.proofs.Common.{◌≡◌, ◌≢◌, ℕ, ◌+◌, ◌<◌, ◌≤◌, inl, inr, List, [], ◌∷◌, length, map, get_or, Option, None, Some, Vec, refl, sym, ap, subst, ◌∙◌, arith}
+use Rattle.std.specs.Prelude.{slice_get}
+use Rattle.std.specs.declared.alloc.Global.{Global}
+use Rattle.std.specs.Option.{option_map_or}
+use Rattle.std.proofs.lemmas.Bool.{cases_eq, cases_lt}
+use Rattle.std.proofs.lemmas.List.{get_or-map, get_or_default, length-map}
+use Rattle.std.proofs.lemmas.Option.{slice_get-get_or, slice_get_past}
+use Rattle.plant_status.specs.declared.mismatch.Seen.{Seen}
+use Rattle.calc_refresh.specs.Lists.{lists_of}
+use Rattle.tag_cell.specs.declared.entry.Entry.{Entry}
+use Rattle.tag_cell.specs.Told.{Told}
+use Rattle.tape_audit.specs.declared.agenda.Item.{Item}
+use Rattle.tape_audit.specs.declared.walk.Shown.{Shown}
+use Rattle.tape_audit.specs.Agendas.{due, numbered}
+use Rattle.tape_audit.specs.Found.{IsCaughtUp, Reached, found, found_of}
+use Rattle.tape_audit.proofs.Catching.{caught_whole}
+use Rattle.tape_audit.proofs.Numbers.{length-numbered}
+use Rattle.plant_session.specs.Cells.{AreAllFound, AreAllShown, AreOthersSame, AreOver, IsCaughtTo, IsOver, file_due}
+
+-- the rows of a file
+pub file_at : {A : Type 0} (files : List (Vec A Global)) (i : ℕ) (v : Vec A Global) (d : List A) → i < length files
+    → v ≡ get_or files i v → v.items ≡ get_or (lists_of files) i d
+file_at files i v d within is =
+    ap (λ (w : Vec _ Global). w.items) is ∙ sym (get_or-map (λ (w : Vec _ Global). w.items) files i v d within)
+
+-- there are as many
+pub file_within : {A : Type 0} (files : List (Vec A Global)) (i : ℕ) → i < length files → i < length (lists_of files)
+file_within files i within = omega (arith, within, length-map files (λ (w : Vec _ Global). w.items))
+
+-- the progress of one worker is over the rows of its file
+pub over_file : {A : Type 0} (item_of : ℕ → ℕ → A → Option Item) (tags : ℕ) (files : List (List A)) (works : List Reached)
+    (worker : ℕ) (rows d : List A) → AreOver item_of tags files works → worker < length files → rows ≡ get_or files worker d
+    → IsOver item_of tags worker rows works
+over_file item_of tags files works worker rows d over within is = record {
+  there = omega (arith, within, over.as_many);
+  items = λ p. over.items worker d p within ∙ ap (numbered (item_of worker) 1) (sym is);
+  units = λ w p below. over.units w p below;
+}
+
+-- so all are still, once one of them has gone on
+pub over_again : {A : Type 0} (item_of : ℕ → ℕ → A → Option Item) (tags more : ℕ) (files : List (List A))
+    (old new : List Reached) (worker : ℕ) (rows d : List A) → AreOver item_of tags files old → worker < length files
+    → rows ≡ get_or files worker d → IsOver item_of more worker rows new → AreOthersSame worker old new
+    → AreOver item_of more files new
+over_again item_of tags more files old new worker rows d over within is one others = record {
+  as_many = others.as_many ∙ over.as_many;
+  items = λ w e p below. elim (cases_eq w worker) [
+    | inl same ↦ subst (λ n. (get_or new n p).items ≡ numbered (item_of n) 1 (get_or files n e)) (sym same)
+        (one.items p ∙ ap (numbered (item_of worker) 1) (is ∙ get_or_default files worker d e within))
+    | inr differ ↦ ap (λ r. r.items) (others.same w p differ) ∙ over.items w e p below
+  ];
+  units = λ w p below. one.units w p below;
+}
+
+-- where none of the rows of a file lacks, all that are due at a tag were found there
+pub shown_all : {D A : Type 0} (work : Entry → Option Shown) (item_of : ℕ → ℕ → A → Option Item) (tags : ℕ)
+    (files : List (List A)) (cells : List (Told D)) (works : List Reached) → AreOver item_of tags files works
+    → AreAllFound work cells works → ((w : ℕ) → w < length files → IsCaughtTo (length (get_or files w [])) w works)
+    → AreAllShown work item_of files cells
+shown_all work item_of tags files cells works over found_so caught = record {
+  each = λ tag worker d below. (found_so.each tag d below).each worker ∙ elim (cases_lt worker (length files)) [
+    | inl within ↦ whole tag worker within
+    | inr past ↦ ap (λ o. option_map_or (λ p. found p tag) o [])
+        (slice_get_past works worker (omega (arith, past, over.as_many)))
+        ∙ sym (ap (λ o. option_map_or (λ rows. due tag (numbered (item_of worker) 1 rows)) o [])
+        (slice_get_past files worker past))
+  ];
+}
+  where
+    none : Reached
+    none = record { items = []; at = [] }
+
+    whole : (tag worker : ℕ) → worker < length files → found_of works worker tag ≡ file_due item_of files worker tag
+    whole tag worker within =
+        let p = get_or works worker none in
+        let rows = get_or files worker [] in
+        let items : p.items ≡ numbered (item_of worker) 1 rows = over.items worker [] none within in
+        let size : length rows ≡ length p.items = sym (ap length items ∙ length-numbered (item_of worker) 1 rows) in
+        ap (λ o. option_map_or (λ q. found q tag) o [])
+        (slice_get-get_or works worker none (omega (arith, within, over.as_many)))
+        ∙ (caught_whole p tag (subst (λ n. IsCaughtUp n p) size (caught worker within none))
+        ∙ (ap (due tag) items ∙ sym (ap (λ o. option_map_or (λ l. due tag (numbered (item_of worker) 1 l)) o [])
+        (slice_get-get_or files worker [] within))))

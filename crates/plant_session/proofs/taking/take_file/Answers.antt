@@ -1,0 +1,31 @@
+use Rattle.std.proofs.Common.{◌≡◌, ◌∙◌, ap, sym, subst, arith, refl, length}
+use Rattle.tape_audit.specs.Agendas.{take_item}
+use Rattle.plant_session.specs.Cells.{IsOver, IsTaken}
+use Rattle.plant_session.proofs.Longer.{all_longer, all_longer_trans}
+use Rattle.plant_session.proofs.Turns.{others_stay, others_trans}
+use Rattle.plant_session.proofs.taking.take_file.Goals as goal
+
+pub loop-place-init : goal.loop-place-init
+loop-place-init g c = record {
+  over = c.requires.over;
+  found = c.requires.found;
+  caught = λ p i below. absurd (omega (arith, below));
+  others = others_stay c.args.collector c.args.works.now;
+  longer = all_longer IsTaken c.args.cells.now;
+}
+
+pub returns-in-Err-clause-longer : goal.returns-in-Err-clause-longer
+returns-in-Err-clause-longer g c =
+    all_longer_trans IsTaken c.args.cells.now c.loop-place.cells c.take_turn.new.cells c.loop-place.invariant.longer
+    c.in-Err.ensures.longer
+
+pub loop-place-preserved : goal.loop-place-preserved
+loop-place-preserved g c = record {
+  over = c.in_default.ensures.over;
+  found = c.in_default.ensures.found;
+  caught = c.in_default.ensures.caught;
+  others = others_trans c.args.collector c.args.works.now c.loop-place.works c.take_turn.new.works
+      c.loop-place.invariant.others c.in_default.ensures.others;
+  longer = all_longer_trans IsTaken c.args.cells.now c.loop-place.cells c.take_turn.new.cells c.loop-place.invariant.longer
+      c.in_default.ensures.longer;
+}

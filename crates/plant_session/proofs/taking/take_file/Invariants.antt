@@ -1,0 +1,14 @@
+use Rattle.std.proofs.Common.{◌≡◌, length}
+use Rattle.tape_audit.specs.Agendas.{take_item}
+use Rattle.tape_audit.specs.Tapes.{take_of}
+use Rattle.plant_session.specs.Cells.{AreAllFound, AreLonger, AreOthersSame, IsCaughtTo, IsOver, IsTaken}
+use Rattle.plant_session.proofs.taking.take_file.Given as goal
+
+abbrev pub invariant-loop-place : goal.invariant-loop-place
+invariant-loop-place g l = record {
+  over : IsOver take_item (length l.cells) l.collector l.rows l.works;
+  found : AreAllFound take_of l.cells l.works;
+  caught : IsCaughtTo l.place l.collector l.works;
+  others : AreOthersSame l.collector l.initial.works l.works;
+  longer : AreLonger IsTaken l.initial.cells l.cells;
+}
