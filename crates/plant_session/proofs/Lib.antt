@@ -3,3 +3,4 @@ pub mod Turns
 pub mod Refused
 pub mod TakeTurns
 pub mod Files
+pub mod AskTurns

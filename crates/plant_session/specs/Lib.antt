@@ -1,3 +1,4 @@
+pub mod Asking
 pub mod Cells
 pub mod Openings
 pub mod Refusals

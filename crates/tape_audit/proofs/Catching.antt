@@ -14,7 +14,7 @@ lacks_some : (p : Reached) (i : ℕ) (item : Item) → get_or p.items i None ≡
     → lacks p i ≡ nat_le (place_at p item.unit) i
 lacks_some p i item is = rw is refl
 
-lacks_none : (p : Reached) (i : ℕ) → get_or p.items i None ≡ None → lacks p i ≡ false
+pub lacks_none : (p : Reached) (i : ℕ) → get_or p.items i None ≡ None → lacks p i ≡ false
 lacks_none p i none = rw none refl
 
 -- a row that is due somewhere is an item of that unit
