@@ -4,3 +4,4 @@ pub mod Refused
 pub mod TakeTurns
 pub mod Files
 pub mod AskTurns
+pub mod FindingTurns

@@ -1,5 +1,6 @@
 pub mod Asking
 pub mod Cells
+pub mod Finding
 pub mod Openings
 pub mod Refusals
 pub mod Taking

@@ -1,0 +1,34 @@
+-- Rows that are found on the tapes of all cells, and the first entry that is another one.
+use Rattle.std.specs.Prelude.{◌≡◌, ℕ, ◌<◌, List, length, slice_get, slice_index_or, Option, Some}
+use Rattle.plant_status.specs.declared.mismatch.Place.TheVariants.{Take, Ask}
+use Rattle.plant_status.specs.declared.mismatch.Seen.{Seen}
+use Rattle.plant_status.specs.declared.status.Status.{Status}
+use Rattle.plant_status.specs.declared.status.Status.TheVariants.{Mismatch}
+use Rattle.tag_cell.specs.declared.entry.Entry.{Entry}
+use Rattle.tag_cell.specs.Told.{Told}
+use Rattle.tape_audit.specs.declared.walk.Shown.{Shown}
+use Rattle.tape_audit.specs.Found.{IsDifference, Reached}
+use Rattle.tape_audit.specs.Tapes.{ask_of, take_of}
+
+-- the rows and the units of each worker are as they were
+pub record AreSameRows (old new : List Reached) : Type 0 where
+  pub as_many : length new ≡ length old
+  pub items : (worker : ℕ) (p : Reached) → (slice_index_or new worker p).items ≡ (slice_index_or old worker p).items
+  pub units : (worker : ℕ) (p : Reached) → length (slice_index_or new worker p).at ≡ length (slice_index_or old worker p).at
+
+-- an entry of a tag's tape is not its worker's next row there
+pub record IsMismatchAt {D : Type 0} (work : Entry → Option Shown) (cells : List (Told D)) (works : List Reached)
+    (tag place : ℕ) (kept told : Seen) : Type 0 where
+  pub cell : Told D
+  pub there : slice_get cells tag ≡ Some cell
+  pub differs : IsDifference work tag cell.tape works place kept told
+
+-- it is a take
+abbrev pub IsTakeMismatch : {D : Type 0} → List (Told D) → List Reached → Status → Type 0
+IsTakeMismatch cells works (Mismatch (Take tag place) kept told) = IsMismatchAt take_of cells works tag place kept told
+IsTakeMismatch cells works other = ⊥
+
+-- it is a question
+abbrev pub IsAskMismatch : {D : Type 0} → List (Told D) → List Reached → Status → Type 0
+IsAskMismatch cells works (Mismatch (Ask tag place) kept told) = IsMismatchAt ask_of cells works tag place kept told
+IsAskMismatch cells works other = ⊥
