@@ -5,3 +5,4 @@ pub mod TakeTurns
 pub mod Files
 pub mod AskTurns
 pub mod FindingTurns
+pub mod Starts

@@ -3,4 +3,5 @@ pub mod Cells
 pub mod Finding
 pub mod Openings
 pub mod Refusals
+pub mod Starting
 pub mod Taking

@@ -1,0 +1,103 @@
+-- Workers whose rows are gone over for the first time, one more.
+use Rattle.std.proofs.Common.{◌≡◌, ◌≢◌, ℕ, ◌+◌, ◌<◌, ◌≤◌, inl, inr, List, [], ◌∷◌, ◌++◌, All, length, get_or, Option, None, Some, IfSome, pos, refl, sym, ap, subst, ◌∙◌, arith}
+use Rattle.std.proofs.lemmas.Bool.{cases_eq, cases_lt}
+use Rattle.std.proofs.lemmas.List.{get_or_append_left, get_or_default, get_or_past, get_or_push, length_push}
+use Rattle.std.proofs.lemmas.List.Elements.{All-from_get_or, All-get_or}
+use Rattle.value_rows.specs.declared.asked.Query.{Query}
+use Rattle.value_rows.specs.declared.asked.Query.TheVariants as query
+use Rattle.value_rows.specs.declared.raw.RawRow.{RawRow}
+use Rattle.tape_audit.specs.declared.agenda.Item.{Item}
+use Rattle.tape_audit.specs.Agendas.{ask_item, numbered, take_item}
+use Rattle.tape_audit.specs.Found.{IsUnfound, Reached}
+use Rattle.tape_audit.proofs.Numbers.{length-numbered, numbered_at}
+use Rattle.plant_session.specs.Cells.{AreOver, IsQueryOf, IsValueOf}
+use Rattle.plant_session.specs.Starting.{AreUnfound}
+
+-- the first workers are started over the rows of their files
+pub record AreStarted {A : Type 0} (item_of : ℕ → ℕ → A → Option Item) (tags upto : ℕ) (files : List (List A))
+    (works : List Reached) : Type 0 where
+  pub as_many : length works ≡ upto
+  pub items : (w : ℕ) (rows : List A) (p : Reached) → w < upto
+      → (get_or works w p).items ≡ numbered (item_of w) 1 (get_or files w rows)
+  pub units : (w : ℕ) (p : Reached) → w < upto → length (get_or works w p).at ≡ tags
+  pub unfound : (w : ℕ) (p : Reached) → w < upto → (tag : ℕ) → tag < tags → IsUnfound tag (get_or works w p)
+
+-- one more
+pub started_more : {A : Type 0} (item_of : ℕ → ℕ → A → Option Item) (tags upto : ℕ) (files : List (List A))
+    (works : List Reached) (q : Reached) (rows : List A) → upto < length files → rows ≡ get_or files upto []
+    → q.items ≡ numbered (item_of upto) 1 rows → length q.at ≡ tags → ((tag : ℕ) → tag < tags → IsUnfound tag q)
+    → AreStarted item_of tags upto files works → AreStarted item_of tags (upto + 1) files (works ++ q ∷ [])
+started_more item_of tags upto files works q rows within is items units unfound before = record {
+  as_many = length_push works q ∙ ap (λ n. n + 1) before.as_many;
+  items = λ w e p below. elim (cases_eq w upto) [
+    | inl same ↦ subst (λ n. (get_or (works ++ q ∷ []) n p).items ≡ numbered (item_of n) 1 (get_or files n e)) (sym same)
+        (ap (λ x. x.items) (here p) ∙ (items ∙ ap (numbered (item_of upto) 1) (is ∙ get_or_default files upto [] e within)))
+    | inr differ ↦ ap (λ x. x.items) (there w p (omega (arith, below, differ)))
+        ∙ before.items w e p (omega (arith, below, differ))
+  ];
+  units = λ w p below. elim (cases_eq w upto) [
+    | inl same ↦ subst (λ n. length (get_or (works ++ q ∷ []) n p).at ≡ tags) (sym same) (ap (λ x. length x.at) (here p) ∙ units)
+    | inr differ ↦ ap (λ x. length x.at) (there w p (omega (arith, below, differ))) ∙ before.units w p (omega (arith, below, differ))
+  ];
+  unfound = λ w p below tag known. elim (cases_eq w upto) [
+    | inl same ↦ subst (λ n. IsUnfound tag (get_or (works ++ q ∷ []) n p)) (sym same)
+        (subst (IsUnfound tag) (sym (here p)) (unfound tag known))
+    | inr differ ↦ subst (IsUnfound tag) (sym (there w p (omega (arith, below, differ))))
+        (before.unfound w p (omega (arith, below, differ)) tag known)
+  ];
+}
+  where
+    here : (p : Reached) → get_or (works ++ q ∷ []) upto p ≡ q
+    here p = get_or_push works q p upto before.as_many
+
+    there : (w : ℕ) (p : Reached) → w < upto → get_or (works ++ q ∷ []) w p ≡ get_or works w p
+    there w p below = get_or_append_left works (q ∷ []) p w (omega (arith, below, before.as_many))
+
+-- all of them
+pub started_all : {A : Type 0} (item_of : ℕ → ℕ → A → Option Item) (tags upto : ℕ) (files : List (List A))
+    (works : List Reached) → upto ≡ length files → AreStarted item_of tags upto files works
+    → AreOver item_of tags files works
+started_all item_of tags upto files works end so = record {
+  as_many = so.as_many ∙ end;
+  items = λ w rows p below. so.items w rows p (omega (arith, below, end));
+  units = λ w p below. so.units w p (omega (arith, below, so.as_many));
+}
+
+pub started_unfound : {A : Type 0} (item_of : ℕ → ℕ → A → Option Item) (tags upto : ℕ) (files : List (List A))
+    (works : List Reached) → AreStarted item_of tags upto files works → AreUnfound tags works
+started_unfound item_of tags upto files works so =
+    let none : Reached = record { items = []; at = [] } in
+    record {
+      units = All-from_get_or (λ p. length p.at ≡ tags) works none (λ i below. so.units i none (omega (arith, below, so.as_many)));
+      each = All-from_get_or (λ p. (tag : ℕ) → tag < tags → IsUnfound tag p) works none (λ i below.
+          so.unfound i none (omega (arith, below, so.as_many)));
+    }
+
+-- each row is due at a tag that there is
+pub known_takes : (tags collector : ℕ) (rows : List RawRow) → All (IsValueOf tags) rows
+    → (i : ℕ) → IfSome (get_or (numbered (take_item collector) 1 rows) i None) (λ item. item.unit < tags)
+known_takes tags collector rows each i = elim (cases_lt i (length rows)) [
+  | inl below ↦
+      let row : RawRow = get_or rows i (record { tag = 0; point = record { t = 0; v = pos 0 } }) in
+      subst (λ o. IfSome o (λ item. item.unit < tags)) (sym (numbered_at (take_item collector) 1 rows i _ None below))
+      (All-get_or (IsValueOf tags) rows i row below each).known
+  | inr past ↦ subst (λ o. IfSome o (λ item. item.unit < tags))
+      (sym (get_or_past (numbered (take_item collector) 1 rows) i None
+      (omega (arith, past, length-numbered (take_item collector) 1 rows)))) tt
+]
+
+pub known_asks : (tags reader : ℕ) (queries : List Query) → All (IsQueryOf tags) queries
+    → (i : ℕ) → IfSome (get_or (numbered (ask_item reader) 1 queries) i None) (λ item. item.unit < tags)
+known_asks tags reader queries each i = elim (cases_lt i (length queries)) [
+  | inl below ↦ subst (λ o. IfSome o (λ item. item.unit < tags))
+      (sym (numbered_at (ask_item reader) 1 queries i (query.Snap 0) None below))
+      (due (get_or queries i (query.Snap 0)) (All-get_or (IsQueryOf tags) queries i (query.Snap 0) below each))
+  | inr past ↦ subst (λ o. IfSome o (λ item. item.unit < tags))
+      (sym (get_or_past (numbered (ask_item reader) 1 queries) i None
+      (omega (arith, past, length-numbered (ask_item reader) 1 queries)))) tt
+]
+  where
+    due : (q : Query) → IsQueryOf tags q → IfSome (ask_item reader (i + 1) q) (λ item. item.unit < tags)
+    due (query.Tag tag asked) known = known.0
+    due (query.Snap tag) known = tt
+    due (query.Row group calc k) known = tt

@@ -1,0 +1,43 @@
+use Rattle.std.proofs.Common.{◌≡◌, ◌∙◌, ◌<◌, ◌+◌, ◌^◌, [], All, ap, sym, subst, arith, length, get_or}
+use Rattle.std.proofs.lemmas.List.Elements.{All-get_or}
+use Rattle.calc_refresh.specs.Lists.{lists_of}
+use Rattle.tape_audit.specs.Agendas.{take_item}
+use Rattle.tape_audit.proofs.Numbers.{length-numbered}
+use Rattle.plant_session.specs.Cells.{IsValueOf}
+use Rattle.plant_session.proofs.Files.{file_at, file_within}
+use Rattle.plant_session.proofs.Starts.{AreStarted, known_takes, started_all, started_more, started_unfound}
+use Rattle.plant_session.proofs.starting.collectors_of.Goals as goal
+
+pub new-requires-clause-few : goal.new-requires-clause-few
+new-requires-clause-few c =
+    let files = c.args.files.now in
+    let at = c.loop-collector.collector in
+    let file : c.deref.result.now ≡ get_or (lists_of files) at [] = c.deref.ensures.value
+    ∙ file_at files at c.index-files-collector.result [] c.loop-collector-test.true c.index-files-collector.is in
+    let few : length (get_or (lists_of files) at []) < 2 ^ 32 = All-get_or (λ l. length l < 2 ^ 32) (lists_of files) at []
+    (file_within files at c.loop-collector-test.true) c.requires.few_rows in
+    omega (arith, few, ap length file, length-numbered (take_item at) 1 c.deref.result.now)
+
+pub new-requires-clause-units : goal.new-requires-clause-units
+new-requires-clause-units c =
+    let files = c.args.files.now in
+    let at = c.loop-collector.collector in
+    let file : c.deref.result.now ≡ get_or (lists_of files) at [] = c.deref.ensures.value
+    ∙ file_at files at c.index-files-collector.result [] c.loop-collector-test.true c.index-files-collector.is in
+    known_takes c.args.tags at c.deref.result.now (subst (All (IsValueOf c.args.tags)) (sym file)
+    (All-get_or (All (IsValueOf c.args.tags)) (lists_of files) at [] (file_within files at c.loop-collector-test.true)
+    c.requires.values))
+
+pub loop-collector-preserved : goal.loop-collector-preserved
+loop-collector-preserved c =
+    let files = c.args.files.now in
+    let at = c.loop-collector.collector in
+    let file : c.deref.result.now ≡ get_or (lists_of files) at [] = c.deref.ensures.value
+    ∙ file_at files at c.index-files-collector.result [] c.loop-collector-test.true c.index-files-collector.is in
+    record {
+      started = subst (AreStarted take_item c.args.tags (at + 1) (lists_of files)) (sym c.push_reserved.ensures.items)
+          (started_more take_item c.args.tags at (lists_of files) c.loop-collector.works.items c.in_ok-work.work c.deref.result.now
+          (file_within files at c.loop-collector-test.true) file c.in_ok-work.ensures.items c.in_ok-work.ensures.units
+          c.in_ok-work.ensures.unfound c.loop-collector.invariant.started);
+      room = omega (arith, c.loop-collector.invariant.room, c.push_reserved.ensures.capacity);
+    }
