@@ -1,5 +1,6 @@
 // Sessions of workers over one tag in memory, whose passes hold them at their steps.
-ghost use Rattle.std.specs.Prelude.{◌≡◌, All, IfOk, length};
+ghost use Rattle.std.specs.Prelude.{◌≡◌, All, IfOk, IfSome, length};
+ghost use Rattle.std.specs.Arc.{arc_value};
 ghost use Rattle.snapshot_table.specs.Boards.{LooksAt, PostsTo};
 ghost use Rattle.snapshot_table.specs.Snaps.{nothing};
 
@@ -16,7 +17,7 @@ use std::sync::{Arc, Mutex, Wait};
 use std::test::Fail;
 use std::thread::{self, Threads};
 use tag_cell::{Cell, Entry, PullNo, TagHistory, open_cell};
-use trend_num::{CalcValue, Point, Snap, TagQuery, WantOfMemory, in_range};
+use trend_num::{CalcValue, Point, Snap, TagQuery, WantOfMemory, in_range, tuning_ok};
 use value_rows::{Query, RawRow};
 
 // How often a held worker looks whether the others have come before it is stopped, where they come and where they do not.
@@ -186,6 +187,16 @@ fn board_for(
     }
 }
 
+// A board that two share.
+fn twice(alloc: Global, board: Board) -> Option<(Arc<Board, Global>, Arc<Board, Global>)>
+    ensures first { IfSome result (λ made. arc_value made.0 ≡ board) }
+    ensures second { IfSome result (λ made. arc_value made.1 ≡ board) }
+{
+    let first = Arc::new(alloc, board).ok()?;
+    let second = Arc::try_clone(&first).ok()?;
+    Some((first, second))
+}
+
 // What a session leaves: the notes, and the history of its one tag.
 #[derive(Drop)]
 struct Ran {
@@ -194,7 +205,7 @@ struct Ran {
 }
 
 // A session over one new tag that has room for so many takes. With `filled`, so many values are taken before it.
-fn ran<P: Passes, R: Threads + Wait + Sync>(
+fn session_over<P: Passes, R: Threads + Wait + Sync>(
     rt: &R,
     alloc: Global,
     room: u32,
@@ -203,21 +214,45 @@ fn ran<P: Passes, R: Threads + Wait + Sync>(
     passes: &mut P,
 ) -> Option<Ran> {
     let def = tag(false, 0)?;
-    let (board, poster, lookers) = board_for(rt, alloc, work.readers.len() as u32).ok()?;
-    let board = Arc::new(alloc, board).ok()?;
-    let shared = Arc::try_clone(&board).ok()?;
+    let readers = u32::try_from(work.readers.len()).ok()?;
+    let Ok((board, poster, lookers)) = board_for(rt, alloc, readers) else {
+        return None
+    };
+    let Some((board, shared)) = twice(alloc, board) else {
+        return None
+    };
     let dev = MemDisk::new(Vec::new(alloc), Vec::new(alloc));
+    if !tuning_ok(&def.tuning) {
+        return None;
+    }
     let mut cell = open_cell(rt, alloc, dev, &def, 64, room, shared, poster).ok()?;
     fill(rt, &mut cell, filled)?;
-    let cells = [Mutex::new(cell)];
+    work_over(rt, alloc, cell, &board, lookers, work, passes)
+}
+
+// The same over a cell that is open.
+fn work_over<P: Passes, R: Threads + Wait + Sync>(
+    rt: &R,
+    alloc: Global,
+    cell: Cell<MemDisk>,
+    board: &Board,
+    lookers: Vec<Looker>,
+    work: &Work,
+    passes: &mut P,
+) -> Option<Ran>
+    requires one { length board.now ≡ 1 }
+    requires looks { All (LooksAt board.now) lookers.items }
+{
+    let mut cells = Vec::new(alloc);
+    cells.push(Mutex::new(cell)).ok()?;
     if !work.fits(cells.len(), 1) || lookers.len() != work.readers.len() {
         return None;
     }
     let groups = Puller {
         answers: AtomicU64::new(0),
     };
-    let notes = run_session(rt, alloc, &cells, &board, lookers, &groups, work, passes).ok()?;
-    let [cell] = cells;
+    let notes = run_session(rt, alloc, &cells, board, lookers, &groups, work, passes).ok()?;
+    let cell = cells.pop()?;
     let (_, history) = cell.into_inner().into_history();
     Some(Ran { notes, history })
 }
@@ -292,7 +327,9 @@ fn one_collector(alloc: Global, rows: Vec<RawRow>) -> Option<Work> {
 // as `queries` goes, and a refresher of two turns.
 fn one_of_each(alloc: Global, queries: &[Query]) -> Option<Work> {
     let mut work = one_collector(alloc, rows_of(alloc, "0,0 1,5")?)?;
-    work.readers.push(Vec::from_slice(alloc, queries).ok()?).ok()?;
+    work.readers
+        .push(Vec::from_slice(alloc, queries).ok()?)
+        .ok()?;
     work.refreshers.push(Refresh { group: 0, turns: 2 }).ok()?;
     Some(work)
 }
@@ -326,21 +363,24 @@ fn taken_rows(alloc: Global, history: &TagHistory) -> Option<Vec<u64>> {
 // Whether the entry at the place of a note is the take that it tells.
 fn stands(history: &TagHistory, collector: u32, note: &TakeNote) -> bool {
     match history.tape.get(note.place as usize) {
-        Some(Entry::Take {
-            collector: by,
-            row,
-            point,
-            ..
-        }) => *by == collector && *row == note.row && *point == note.point,
+        Some(
+            Entry::Take {
+                collector: by,
+                row,
+                point,
+                ..
+            },
+        ) => *by == collector && *row == note.row && *point == note.point,
         _ => false,
     }
 }
 
 // Whether each take of each note stands at its place on the tape.
 fn all_stand(ran: &Ran) -> bool {
-    ran.notes
+    ran.notes.iter().all(|note| note
+        .takes
         .iter()
-        .all(|note| note.takes.iter().all(|take| stands(&ran.history, note.worker, take)))
+        .all(|take| stands(&ran.history, note.worker, take)))
 }
 
 // Whether the workers ended so.
@@ -363,7 +403,7 @@ fn two_collectors_take_in_turn(rt: HostRuntime) -> Result<(), Fail> {
         stops: 0,
     };
     let work = two_collectors(rt.alloc(), "0,0 10,10", "5,5 15,15").ok_or("memory")?;
-    let ran = ran(&rt, rt.alloc(), 4, 0, &work, &mut gates).ok_or("refused")?;
+    let ran = session_over(&rt, rt.alloc(), 4, 0, &work, &mut gates).ok_or("refused")?;
     assert!(rt; ended_by(&ran, &[Ending::Ended, Ending::Ended]));
     let rows = taken_rows(rt.alloc(), &ran.history).ok_or("memory")?;
     assert_eq!(rt; rows.as_slice(), [1, 1, 2, 2].as_slice());
@@ -383,7 +423,7 @@ fn alone_at_a_gate<R: Threads + Wait + Sync>(rt: &R, alloc: Global) -> Option<(R
         stops: 0,
     };
     let work = one_collector(alloc, rows_of(alloc, "0,0 10,10")?)?;
-    let ran = ran(rt, alloc, 4, 0, &work, &mut gates)?;
+    let ran = session_over(rt, alloc, 4, 0, &work, &mut gates)?;
     Some((ran, gates.stops))
 }
 
@@ -391,7 +431,10 @@ fn alone_at_a_gate<R: Threads + Wait + Sync>(rt: &R, alloc: Global) -> Option<(R
 fn a_collector_whose_fellow_does_not_come_is_halted(rt: HostRuntime) -> Result<(), Fail> {
     let (ran, stops) = alone_at_a_gate(&rt, rt.alloc()).ok_or("refused")?;
     assert!(rt; ended_by(&ran, &[Ending::Halted]));
-    assert_eq!(rt; letters(rt.alloc(), &ran.history).ok_or("memory")?.as_str(), "t");
+    assert_eq!(rt;
+        letters(rt.alloc(), &ran.history).ok_or("memory")?.as_str(),
+        "t"
+    );
     assert_eq!(rt; stops, 1);
     Ok(())
 }
@@ -400,9 +443,12 @@ fn a_collector_whose_fellow_does_not_come_is_halted(rt: HostRuntime) -> Result<(
 fn a_shut_pass_halts_the_first_worker(rt: HostRuntime) -> Result<(), Fail> {
     let mut shut = Shut { stops: 0 };
     let work = two_collectors(rt.alloc(), "0,0", "5,5").ok_or("memory")?;
-    let ran = ran(&rt, rt.alloc(), 4, 0, &work, &mut shut).ok_or("refused")?;
+    let ran = session_over(&rt, rt.alloc(), 4, 0, &work, &mut shut).ok_or("refused")?;
     assert!(rt; ended_by(&ran, &[Ending::Halted, Ending::Ended]));
-    assert_eq!(rt; letters(rt.alloc(), &ran.history).ok_or("memory")?.as_str(), "tc");
+    assert_eq!(rt;
+        letters(rt.alloc(), &ran.history).ok_or("memory")?.as_str(),
+        "tc"
+    );
     assert_eq!(rt; shut.stops, 1);
     Ok(())
 }
@@ -430,7 +476,7 @@ fn a_take_an_answer_and_a_pull_stand_before_the_second_ones(rt: HostRuntime) -> 
         query: TagQuery::At { t: 0 },
     };
     let work = one_of_each(rt.alloc(), &[query, query]).ok_or("memory")?;
-    let ran = ran(&rt, rt.alloc(), 2, 0, &work, &mut gates).ok_or("refused")?;
+    let ran = session_over(&rt, rt.alloc(), 2, 0, &work, &mut gates).ok_or("refused")?;
     assert!(rt; ended_by(&ran, &[Ending::Ended, Ending::Ended, Ending::Ended]));
     let text = letters(rt.alloc(), &ran.history).ok_or("memory")?;
     assert_eq!(rt; count_of('t', text.as_str(), 3), 1);
@@ -443,7 +489,7 @@ fn a_take_an_answer_and_a_pull_stand_before_the_second_ones(rt: HostRuntime) -> 
 fn a_collector_commits_after_64_rows_and_after_its_last(rt: HostRuntime) -> Result<(), Fail> {
     let rows = rising(rt.alloc(), 65).ok_or("memory")?;
     let work = one_collector(rt.alloc(), rows).ok_or("memory")?;
-    let ran = ran(&rt, rt.alloc(), 65, 0, &work, &mut OpenPasses).ok_or("refused")?;
+    let ran = session_over(&rt, rt.alloc(), 65, 0, &work, &mut OpenPasses).ok_or("refused")?;
     assert!(rt; ended_by(&ran, &[Ending::Ended]));
     let text = letters(rt.alloc(), &ran.history).ok_or("memory")?;
     assert_eq!(rt; text.len(), 67);
@@ -460,7 +506,15 @@ const MOST_TAKEN: u32 = 1_048_576;
 fn a_full_tag_ends_its_collector(rt: HostRuntime) -> Result<(), Fail> {
     let rows = rows_of(rt.alloc(), "2000000,0 2000001,1").ok_or("memory")?;
     let work = one_collector(rt.alloc(), rows).ok_or("memory")?;
-    let ran = ran(&rt, rt.alloc(), MOST_TAKEN + 2, MOST_TAKEN, &work, &mut OpenPasses).ok_or("refused")?;
+    let ran = session_over(
+        &rt,
+        rt.alloc(),
+        MOST_TAKEN + 2,
+        MOST_TAKEN,
+        &work,
+        &mut OpenPasses,
+    )
+    .ok_or("refused")?;
     let full = CellNo::Full {
         records: MOST_TAKEN - 1,
     };
@@ -473,21 +527,31 @@ fn a_full_tag_ends_its_collector(rt: HostRuntime) -> Result<(), Fail> {
 fn a_tape_without_room_ends_its_collector(rt: HostRuntime) -> Result<(), Fail> {
     let rows = rows_of(rt.alloc(), "0,0 1,1 2,2").ok_or("memory")?;
     let work = one_collector(rt.alloc(), rows).ok_or("memory")?;
-    let ran = ran(&rt, rt.alloc(), 2, 0, &work, &mut OpenPasses).ok_or("refused")?;
+    let ran = session_over(&rt, rt.alloc(), 2, 0, &work, &mut OpenPasses).ok_or("refused")?;
     let full = CellNo::RoomFull { room: 2 };
     assert!(rt; ended_by(&ran, &[Ending::Tag { tag: 0, why: full }]));
-    assert_eq!(rt; letters(rt.alloc(), &ran.history).ok_or("memory")?.as_str(), "tt");
+    assert_eq!(rt;
+        letters(rt.alloc(), &ran.history).ok_or("memory")?.as_str(),
+        "tt"
+    );
     Ok(())
 }
 
 // Whether a reader was told a snapshot and an empty row of the group, at place 0 of its tape.
 fn told_a_snap_and_a_row(note: &WorkerNote) -> bool {
     match note.told.as_slice() {
-        [Told::Snap { tag: 0, snap }, Told::Row {
-            group: 0,
-            place: 0,
-            reply: None,
-        }] => *snap == Snap { taken: 0, held: None },
+        [
+            Told::Snap { tag: 0, snap },
+            Told::Row {
+                group: 0,
+                place: 0,
+                reply: None,
+            },
+        ] => *snap
+            == Snap {
+                taken: 0,
+                held: None,
+            },
         _ => false,
     }
 }
@@ -504,7 +568,7 @@ fn a_snapshot_is_told_from_the_board_and_a_row_by_the_group(rt: HostRuntime) -> 
     ];
     let mut work = one_of_each(rt.alloc(), &queries).ok_or("memory")?;
     work.collectors.clear();
-    let ran = ran(&rt, rt.alloc(), 2, 0, &work, &mut OpenPasses).ok_or("refused")?;
+    let ran = session_over(&rt, rt.alloc(), 2, 0, &work, &mut OpenPasses).ok_or("refused")?;
     assert!(rt; ended_by(&ran, &[Ending::Ended, Ending::Ended]));
     assert!(rt; ran.notes.first().is_some_and(told_a_snap_and_a_row));
     assert!(rt; ran.notes.last().is_some_and(|note| note.turns == 2));
