@@ -1,8 +1,11 @@
--- The poster of a new board of one tag.
-use Rattle.std.proofs.Common.{◌≡◌, List, [], ◌∷◌, ◌++◌, length, arith}
+-- The poster and the lookers of a new board of one tag.
+use Rattle.std.proofs.Common.{◌≡◌, ℕ, List, [], ◌∷◌, ◌++◌, length, replicate, refl, subst, sym, arith}
+use Rattle.std.specs.Prelude.{All}
+use Rattle.std.proofs.lemmas.List.{length-replicate}
+use Rattle.std.proofs.lemmas.List.Elements.{All-replicate}
 use Rattle.atomic_table.specs.Seated.{TableId}
 use Rattle.snapshot_table.specs.Snaps.{nothing}
-use Rattle.snapshot_table.specs.Boards.{Posting, PostsTo, new_posters}
+use Rattle.snapshot_table.specs.Boards.{Looking, LooksAt, Posting, PostsTo, new_looker, new_posters}
 
 -- it posts to that tag
 pub lone_posts : (board : List TableId) (rest : List Posting) (p : Posting) → length board ≡ 1
@@ -21,3 +24,10 @@ lone_is_new (c ∷ []) [] p one same = grind arith
 lone_is_new (c ∷ []) (x ∷ []) p one same = grind arith
 lone_is_new (c ∷ []) (x ∷ y ∷ rest) p one same = grind arith
 lone_is_new (c ∷ d ∷ board) rest p one same = grind arith
+
+-- the lookers of a new board look at it
+pub all_look : (board : List TableId) (n : ℕ) (lookers : List Looking) → lookers ≡ replicate n (new_looker board)
+    → All (LooksAt board) lookers
+all_look board n lookers are =
+    let looks : LooksAt board (new_looker board) = record { cells = refl; seen = length-replicate (length board) nothing } in
+    subst (All (LooksAt board)) (sym are) (All-replicate (LooksAt board) n (new_looker board) looks)

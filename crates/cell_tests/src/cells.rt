@@ -16,7 +16,7 @@ use trend_num::{
 };
 
 // A tag of lines that sends each value and keeps each bend, and one of steps.
-fn tag(step: bool, comp_dev: u64) -> Option<TagDef> {
+pub(crate) fn tag(step: bool, comp_dev: u64) -> Option<TagDef> {
     let tuning = Tuning {
         exc_dev: 0,
         exc_max: 1_000_000,

@@ -5,3 +5,5 @@
 mod boards;
 #[cfg(test)]
 mod cells;
+#[cfg(test)]
+mod workers;

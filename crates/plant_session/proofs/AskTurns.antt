@@ -16,7 +16,7 @@ use Rattle.tape_audit.proofs.Catching.{lacks_none}
 use Rattle.tape_audit.proofs.Numbers.{numbered_at}
 use Rattle.trend_num.specs.Queries.{IsTagQuery}
 use Rattle.plant_session.specs.Asking.{IsRowAsked}
-use Rattle.plant_session.specs.Cells.{AreLonger, IsAsked, IsCaughtTo, IsLonger, IsOver, IsQueryOf}
+use Rattle.plant_session.specs.Cells.{AreLonger, IsAsked, IsCaughtTo, IsLonger, IsOver, IsKnownAsk}
 use Rattle.plant_session.proofs.Longer.{all_longer, longer_set}
 use Rattle.plant_session.proofs.TakeTurns.{one_entry}
 use Rattle.plant_session.proofs.Turns.{HasEntry, IsMissing, caught_past_row, missing_row}
@@ -65,10 +65,10 @@ missing_ask tags reader place tag q queries works row d e over within is below l
     below lack next caught)
 
 -- a question that is about a tag, by the rows of the file
-pub query_there : (tags place tag : ℕ) (q : TagQuery) (queries : List Query) (row : Query) → All (IsQueryOf tags) queries
+pub query_there : (tags place tag : ℕ) (q : TagQuery) (queries : List Query) (row : Query) → All (IsKnownAsk tags) queries
     → place < length queries → get_or queries place row ≡ query.Tag tag q → (tag < tags) × IsTagQuery q
 query_there tags place tag q queries row each within is =
-    subst (IsQueryOf tags) is (All-get_or (IsQueryOf tags) queries place row within each)
+    subst (IsKnownAsk tags) is (All-get_or (IsKnownAsk tags) queries place row within each)
 
 -- any other question leaves nothing on a tag's tape
 pub caught_other : (tags reader place : ℕ) (queries : List Query) (works : List Reached) (row : Query) (d : Reached)

@@ -10,7 +10,8 @@ use Rattle.tape_audit.specs.declared.agenda.Item.{Item}
 use Rattle.tape_audit.specs.Agendas.{ask_item, numbered, take_item}
 use Rattle.tape_audit.specs.Found.{IsUnfound, Reached}
 use Rattle.tape_audit.proofs.Numbers.{length-numbered, numbered_at}
-use Rattle.plant_session.specs.Cells.{AreOver, IsQueryOf, IsValueOf}
+use Rattle.collector_pool.specs.Work.{IsRowOf}
+use Rattle.plant_session.specs.Cells.{AreOver, IsKnownAsk}
 use Rattle.plant_session.specs.Starting.{AreUnfound}
 
 -- the first workers are started over the rows of their files
@@ -74,30 +75,30 @@ started_unfound item_of tags upto files works so =
     }
 
 -- each row is due at a tag that there is
-pub known_takes : (tags collector : ℕ) (rows : List RawRow) → All (IsValueOf tags) rows
+pub known_takes : (tags collector : ℕ) (rows : List RawRow) → All (IsRowOf tags) rows
     → (i : ℕ) → IfSome (get_or (numbered (take_item collector) 1 rows) i None) (λ item. item.unit < tags)
 known_takes tags collector rows each i = elim (cases_lt i (length rows)) [
   | inl below ↦
       let row : RawRow = get_or rows i (record { tag = 0; point = record { t = 0; v = pos 0 } }) in
       subst (λ o. IfSome o (λ item. item.unit < tags)) (sym (numbered_at (take_item collector) 1 rows i _ None below))
-      (All-get_or (IsValueOf tags) rows i row below each).known
+      (All-get_or (IsRowOf tags) rows i row below each).tag
   | inr past ↦ subst (λ o. IfSome o (λ item. item.unit < tags))
       (sym (get_or_past (numbered (take_item collector) 1 rows) i None
       (omega (arith, past, length-numbered (take_item collector) 1 rows)))) tt
 ]
 
-pub known_asks : (tags reader : ℕ) (queries : List Query) → All (IsQueryOf tags) queries
+pub known_asks : (tags reader : ℕ) (queries : List Query) → All (IsKnownAsk tags) queries
     → (i : ℕ) → IfSome (get_or (numbered (ask_item reader) 1 queries) i None) (λ item. item.unit < tags)
 known_asks tags reader queries each i = elim (cases_lt i (length queries)) [
   | inl below ↦ subst (λ o. IfSome o (λ item. item.unit < tags))
       (sym (numbered_at (ask_item reader) 1 queries i (query.Snap 0) None below))
-      (due (get_or queries i (query.Snap 0)) (All-get_or (IsQueryOf tags) queries i (query.Snap 0) below each))
+      (due (get_or queries i (query.Snap 0)) (All-get_or (IsKnownAsk tags) queries i (query.Snap 0) below each))
   | inr past ↦ subst (λ o. IfSome o (λ item. item.unit < tags))
       (sym (get_or_past (numbered (ask_item reader) 1 queries) i None
       (omega (arith, past, length-numbered (ask_item reader) 1 queries)))) tt
 ]
   where
-    due : (q : Query) → IsQueryOf tags q → IfSome (ask_item reader (i + 1) q) (λ item. item.unit < tags)
+    due : (q : Query) → IsKnownAsk tags q → IfSome (ask_item reader (i + 1) q) (λ item. item.unit < tags)
     due (query.Tag tag asked) known = known.0
     due (query.Snap tag) known = tt
     due (query.Row group calc k) known = tt

@@ -12,7 +12,8 @@ use Rattle.std.proofs.lemmas.List.Elements.{All-get_or}
 use Rattle.trend_model.specs.History.{Raw}
 use Rattle.trend_model.specs.State.{after}
 use Rattle.tag_cell.specs.Told.{Told}
-use Rattle.plant_session.specs.Cells.{AreLonger, IsCaughtTo, IsLonger, IsOver, IsTaken, IsValueOf}
+use Rattle.collector_pool.specs.Work.{IsRowOf}
+use Rattle.plant_session.specs.Cells.{AreLonger, IsCaughtTo, IsLonger, IsOver, IsTaken}
 use Rattle.plant_session.specs.Taking.{IsRowTaken}
 use Rattle.plant_session.proofs.Longer.{all_longer, longer_set}
 use Rattle.plant_session.proofs.Turns.{HasEntry, IsMissing, missing_row}
@@ -58,7 +59,7 @@ taken_longer collector number row old new t =
 
 -- the row at a place of a collector's file, where it lacks
 pub missing_take : (tags collector place : ℕ) (rows : List RawRow) (works : List Reached) (row : RawRow) (d e : Reached)
-    → IsOver take_item tags collector rows works → place < length rows → All (IsValueOf tags) rows
+    → IsOver take_item tags collector rows works → place < length rows → All (IsRowOf tags) rows
     → lacks (get_or works collector d) place ≡ true
     → IfSome (get_or (get_or works collector d).items place None) (λ item. IsNext item.unit (get_or works collector d).items
     (place_at (get_or works collector d) item.unit) (place_at (get_or works collector d) item.unit))
@@ -71,4 +72,4 @@ missing_take tags collector place rows works row d e over within values lack nex
     (missing_row take_item tags collector (get_or rows place row).tag place
     (Take collector (place + 1) (get_or rows place row).point) row rows works (get_or works collector d) over
     (get_or_default works collector d (get_or works collector d) over.there) within refl
-    (All-get_or (IsValueOf tags) rows place row within values).known lack next caught)
+    (All-get_or (IsRowOf tags) rows place row within values).tag lack next caught)

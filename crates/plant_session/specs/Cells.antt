@@ -2,10 +2,8 @@
 use Rattle.std.specs.Prelude.{◌≡◌, ◌≢◌, ℕ, ◌<◌, List, [], ◌++◌, All, length, slice_get, slice_index_or, Option, ⊤}
 use Rattle.std.specs.Option.{option_map_or}
 use Rattle.trend_num.specs.Queries.{IsTagQuery}
-use Rattle.trend_num.specs.Ranges.{InRange}
 use Rattle.value_rows.specs.declared.asked.Query.{Query}
 use Rattle.value_rows.specs.declared.asked.Query.TheVariants as query
-use Rattle.value_rows.specs.declared.raw.RawRow.{RawRow}
 use Rattle.tag_cell.specs.declared.entry.Entry.{Entry}
 use Rattle.tag_cell.specs.declared.entry.Entry.TheVariants.{Take, Ask, Pull, Commit}
 use Rattle.tag_cell.specs.Told.{Told}
@@ -91,12 +89,7 @@ pub record AreOthersSame (worker : ℕ) (old new : List Reached) : Type 0 where
   pub as_many : length new ≡ length old
   pub same : (w : ℕ) (p : Reached) → w ≢ worker → slice_index_or new w p ≡ slice_index_or old w p
 
--- a value of one of so many tags, in range
-pub record IsValueOf (tags : ℕ) (row : RawRow) : Type 0 where
-  pub known : row.tag < tags
-  pub in_range : InRange row.point
-
 -- a question of one of so many tags, if it is of a tag
-abbrev pub IsQueryOf : ℕ → Query → Type 0
-IsQueryOf tags (query.Tag tag asked) = (tag < tags) × IsTagQuery asked
-IsQueryOf tags other = ⊤
+abbrev pub IsKnownAsk : ℕ → Query → Type 0
+IsKnownAsk tags (query.Tag tag asked) = (tag < tags) × IsTagQuery asked
+IsKnownAsk tags other = ⊤

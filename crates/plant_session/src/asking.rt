@@ -5,7 +5,7 @@ ghost use Rattle.calc_refresh.specs.Lists.{lists_of};
 ghost use Rattle.tape_audit.specs.Agendas.{ask_item};
 ghost use Rattle.tape_audit.specs.Tapes.{ask_of};
 ghost use Rattle.plant_session.specs.Asking.{IsRowAsked};
-ghost use Rattle.plant_session.specs.Cells.{AreAllFound, AreAllShown, AreLonger, AreOthersSame, AreOver, IsAsked, IsCaughtTo, IsOver, IsQueryOf};
+ghost use Rattle.plant_session.specs.Cells.{AreAllFound, AreAllShown, AreLonger, AreOthersSame, AreOver, IsAsked, IsCaughtTo, IsOver, IsKnownAsk};
 
 use disk_model::Disk;
 use tag_cell::Cell;
@@ -21,7 +21,7 @@ pub fn ask_missing<D: Disk>(
     works: &mut [Progress<'_>],
 ) -> Result<(), WantOfMemory>
     requires over { AreOver ask_item (length cells.old) (lists_of files.now) works.old }
-    requires queries { All (All (IsQueryOf (length cells.old))) (lists_of files.now) }
+    requires queries { All (All (IsKnownAsk (length cells.old))) (lists_of files.now) }
     requires found { AreAllFound ask_of cells.old works.old }
     requires few_files { length files.now < 2 ^ 32 }
     requires few_rows { All (λ queries. length queries < 2 ^ 32) (lists_of files.now) }
@@ -42,7 +42,7 @@ fn ask_file<D: Disk>(
     reader: usize,
 ) -> Result<(), WantOfMemory>
     requires over { IsOver ask_item (length cells.old) reader queries.now works.old }
-    requires queries { All (IsQueryOf (length cells.old)) queries.now }
+    requires queries { All (IsKnownAsk (length cells.old)) queries.now }
     requires few { reader < 2 ^ 32 }
     requires few_rows { length queries.now < 2 ^ 32 }
     requires found { AreAllFound ask_of cells.old works.old }
@@ -67,7 +67,7 @@ fn ask_turn<D: Disk>(
     place: usize,
 ) -> Result<(), WantOfMemory>
     requires over { IsOver ask_item (length cells.old) reader queries.now works.old }
-    requires queries { All (IsQueryOf (length cells.old)) queries.now }
+    requires queries { All (IsKnownAsk (length cells.old)) queries.now }
     requires within { place < length queries.now }
     requires few { reader < 2 ^ 32 }
     requires few_rows { length queries.now < 2 ^ 32 }

@@ -2,7 +2,8 @@
 ghost use Rattle.std.specs.Prelude.{◌^◌, ◌<◌, All, IfOk, length};
 ghost use Rattle.calc_refresh.specs.Lists.{lists_of};
 ghost use Rattle.tape_audit.specs.Agendas.{ask_item, take_item};
-ghost use Rattle.plant_session.specs.Cells.{AreOver, IsQueryOf, IsValueOf};
+ghost use Rattle.collector_pool.specs.Work.{IsRowOf};
+ghost use Rattle.plant_session.specs.Cells.{AreOver, IsKnownAsk};
 ghost use Rattle.plant_session.specs.Starting.{AreUnfound};
 
 use std::alloc::Global;
@@ -17,7 +18,7 @@ pub fn collectors_of<'a>(
 ) -> Result<Vec<Progress<'a>>, WantOfMemory>
     requires few { length files.now < 2 ^ 32 }
     requires few_rows { All (λ rows. length rows < 2 ^ 32) (lists_of files.now) }
-    requires values { All (All (IsValueOf tags)) (lists_of files.now) }
+    requires values { All (All (IsRowOf tags)) (lists_of files.now) }
     ensures over { IfOk result (λ works. AreOver take_item tags (lists_of files.now) works.items) }
     ensures unfound { IfOk result (λ works. AreUnfound tags works.items) }
 {
@@ -41,7 +42,7 @@ pub fn readers_of<'a>(
 ) -> Result<Vec<Progress<'a>>, WantOfMemory>
     requires few { length files.now < 2 ^ 32 }
     requires few_rows { All (λ queries. length queries < 2 ^ 32) (lists_of files.now) }
-    requires queries { All (All (IsQueryOf tags)) (lists_of files.now) }
+    requires queries { All (All (IsKnownAsk tags)) (lists_of files.now) }
     ensures over { IfOk result (λ works. AreOver ask_item tags (lists_of files.now) works.items) }
     ensures unfound { IfOk result (λ works. AreUnfound tags works.items) }
 {

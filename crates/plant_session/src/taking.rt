@@ -3,7 +3,8 @@ ghost use Rattle.std.specs.Prelude.{◌≡◌, ◌+◌, ◌^◌, ◌<◌, All, I
 ghost use Rattle.calc_refresh.specs.Lists.{lists_of};
 ghost use Rattle.tape_audit.specs.Agendas.{take_item};
 ghost use Rattle.tape_audit.specs.Tapes.{take_of};
-ghost use Rattle.plant_session.specs.Cells.{AreAllFound, AreAllShown, AreLonger, AreOthersSame, AreOver, IsCaughtTo, IsOver, IsTaken, IsValueOf};
+ghost use Rattle.collector_pool.specs.Work.{IsRowOf};
+ghost use Rattle.plant_session.specs.Cells.{AreAllFound, AreAllShown, AreLonger, AreOthersSame, AreOver, IsCaughtTo, IsOver, IsTaken};
 ghost use Rattle.plant_session.specs.Refusals.{IsTakeRefusal, take_status};
 ghost use Rattle.plant_session.specs.Taking.{IsRowTaken};
 
@@ -25,7 +26,7 @@ pub fn take_missing<D: Disk, R: Wait>(
 ) -> Result<(), Status>
     requires rooms { length rooms.now ≡ length cells.old }
     requires over { AreOver take_item (length cells.old) (lists_of files.now) works.old }
-    requires values { All (All (IsValueOf (length cells.old))) (lists_of files.now) }
+    requires values { All (All (IsRowOf (length cells.old))) (lists_of files.now) }
     requires found { AreAllFound take_of cells.old works.old }
     requires few_files { length files.now < 2 ^ 32 }
     requires few_rows { All (λ rows. length rows < 2 ^ 32) (lists_of files.now) }
@@ -52,7 +53,7 @@ fn take_file<D: Disk, R: Wait>(
 ) -> Result<(), Status>
     requires rooms { length rooms.now ≡ length cells.old }
     requires over { IsOver take_item (length cells.old) collector rows.now works.old }
-    requires values { All (IsValueOf (length cells.old)) rows.now }
+    requires values { All (IsRowOf (length cells.old)) rows.now }
     requires few { collector < 2 ^ 32 }
     requires few_rows { length rows.now < 2 ^ 32 }
     requires found { AreAllFound take_of cells.old works.old }
@@ -83,7 +84,7 @@ fn take_turn<D: Disk, R: Wait>(
 ) -> Result<(), Status>
     requires rooms { length rooms.now ≡ length cells.old }
     requires over { IsOver take_item (length cells.old) collector rows.now works.old }
-    requires values { All (IsValueOf (length cells.old)) rows.now }
+    requires values { All (IsRowOf (length cells.old)) rows.now }
     requires within { place < length rows.now }
     requires few { collector < 2 ^ 32 }
     requires few_rows { length rows.now < 2 ^ 32 }
@@ -117,7 +118,7 @@ fn take_row<D: Disk, R: Wait>(
     number: u64,
 ) -> Result<(), Status>
     requires rooms { length rooms.now ≡ length cells.old }
-    requires value { IsValueOf (length cells.old) row }
+    requires value { IsRowOf (length cells.old) row }
     ensures taken { OnOk result (IsRowTaken collector number row cells.old cells.new) }
     ensures unchanged { OnErr result (cells.new ≡ cells.old) }
     ensures refused { IfErr result (IsTakeRefusal rooms.now cells.old) }

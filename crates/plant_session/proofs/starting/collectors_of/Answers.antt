@@ -3,7 +3,7 @@ use Rattle.std.proofs.lemmas.List.Elements.{All-get_or}
 use Rattle.calc_refresh.specs.Lists.{lists_of}
 use Rattle.tape_audit.specs.Agendas.{take_item}
 use Rattle.tape_audit.proofs.Numbers.{length-numbered}
-use Rattle.plant_session.specs.Cells.{IsValueOf}
+use Rattle.collector_pool.specs.Work.{IsRowOf}
 use Rattle.plant_session.proofs.Files.{file_at, file_within}
 use Rattle.plant_session.proofs.Starts.{AreStarted, known_takes, started_all, started_more, started_unfound}
 use Rattle.plant_session.proofs.starting.collectors_of.Goals as goal
@@ -24,8 +24,8 @@ new-requires-clause-units c =
     let at = c.loop-collector.collector in
     let file : c.deref.result.now ≡ get_or (lists_of files) at [] = c.deref.ensures.value
     ∙ file_at files at c.index-files-collector.result [] c.loop-collector-test.true c.index-files-collector.is in
-    known_takes c.args.tags at c.deref.result.now (subst (All (IsValueOf c.args.tags)) (sym file)
-    (All-get_or (All (IsValueOf c.args.tags)) (lists_of files) at [] (file_within files at c.loop-collector-test.true)
+    known_takes c.args.tags at c.deref.result.now (subst (All (IsRowOf c.args.tags)) (sym file)
+    (All-get_or (All (IsRowOf c.args.tags)) (lists_of files) at [] (file_within files at c.loop-collector-test.true)
     c.requires.values))
 
 pub loop-collector-preserved : goal.loop-collector-preserved

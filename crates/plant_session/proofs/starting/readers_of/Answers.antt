@@ -3,7 +3,7 @@ use Rattle.std.proofs.lemmas.List.Elements.{All-get_or}
 use Rattle.calc_refresh.specs.Lists.{lists_of}
 use Rattle.tape_audit.specs.Agendas.{ask_item}
 use Rattle.tape_audit.proofs.Numbers.{length-numbered}
-use Rattle.plant_session.specs.Cells.{IsQueryOf}
+use Rattle.plant_session.specs.Cells.{IsKnownAsk}
 use Rattle.plant_session.proofs.Files.{file_at, file_within}
 use Rattle.plant_session.proofs.Starts.{AreStarted, known_asks, started_all, started_more, started_unfound}
 use Rattle.plant_session.proofs.starting.readers_of.Goals as goal
@@ -24,8 +24,8 @@ new-requires-clause-units c =
     let at = c.loop-reader.reader in
     let file : c.deref.result.now ≡ get_or (lists_of files) at [] = c.deref.ensures.value
     ∙ file_at files at c.index-files-reader.result [] c.loop-reader-test.true c.index-files-reader.is in
-    known_asks c.args.tags at c.deref.result.now (subst (All (IsQueryOf c.args.tags)) (sym file)
-    (All-get_or (All (IsQueryOf c.args.tags)) (lists_of files) at [] (file_within files at c.loop-reader-test.true)
+    known_asks c.args.tags at c.deref.result.now (subst (All (IsKnownAsk c.args.tags)) (sym file)
+    (All-get_or (All (IsKnownAsk c.args.tags)) (lists_of files) at [] (file_within files at c.loop-reader-test.true)
     c.requires.queries))
 
 pub loop-reader-preserved : goal.loop-reader-preserved

@@ -7,7 +7,8 @@ use Rattle.calc_refresh.specs.Lists.{lists_of}
 use Rattle.tape_audit.specs.Agendas.{take_item}
 use Rattle.tape_audit.specs.Found.{IsCaughtUp}
 use Rattle.tape_audit.specs.Tapes.{take_of}
-use Rattle.plant_session.specs.Cells.{IsCaughtTo, IsTaken, IsValueOf}
+use Rattle.collector_pool.specs.Work.{IsRowOf}
+use Rattle.plant_session.specs.Cells.{IsCaughtTo, IsTaken}
 use Rattle.plant_session.proofs.Files.{file_at, file_within, over_again, over_file, shown_all}
 use Rattle.plant_session.proofs.Longer.{all_longer, all_longer_trans}
 use Rattle.plant_session.proofs.taking.take_missing.Goals as goal
@@ -33,10 +34,10 @@ take_file-requires-clause-values g c =
     let files = c.args.files.now in
     let at = c.loop-collector.collector in
     let tags = length c.args.cells.now in
-    subst (λ n. All (IsValueOf n) c.deref.result.now) (sym c.loop-collector.invariant.longer.as_many)
-    (subst (All (IsValueOf tags)) (sym (c.deref.ensures.value
+    subst (λ n. All (IsRowOf n) c.deref.result.now) (sym c.loop-collector.invariant.longer.as_many)
+    (subst (All (IsRowOf tags)) (sym (c.deref.ensures.value
     ∙ file_at files at c.index-files-collector.result [] c.loop-collector-test.true c.index-files-collector.is))
-    (All-get_or (All (IsValueOf tags)) (lists_of files) at [] (file_within files at c.loop-collector-test.true) c.requires.values))
+    (All-get_or (All (IsRowOf tags)) (lists_of files) at [] (file_within files at c.loop-collector-test.true) c.requires.values))
 
 pub take_file-requires-clause-few_rows : goal.take_file-requires-clause-few_rows
 take_file-requires-clause-few_rows g c =

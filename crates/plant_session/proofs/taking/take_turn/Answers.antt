@@ -5,7 +5,8 @@ use Rattle.plant_status.specs.declared.mismatch.Seen.TheVariants.{Take}
 use Rattle.tape_audit.specs.Agendas.{take_item}
 use Rattle.tape_audit.specs.Found.{IsAdvanced, lacks}
 use Rattle.tape_audit.specs.Tapes.{take_of}
-use Rattle.plant_session.specs.Cells.{AreAllFound, AreLonger, IsOver, IsTaken, IsValueOf}
+use Rattle.collector_pool.specs.Work.{IsRowOf}
+use Rattle.plant_session.specs.Cells.{AreAllFound, AreLonger, IsOver, IsTaken}
 use Rattle.plant_session.proofs.Longer.{all_longer}
 use Rattle.plant_session.proofs.TakeTurns.{missing_take, taken_entry, taken_longer}
 use Rattle.plant_session.proofs.Turns.{IsMissing, all_known, caught_past_row, caught_row, due_next, found_turn, missing_row, over_turn, row_within}
@@ -29,7 +30,7 @@ returns-then-not-lacks-clause-caught g c =
 
 pub take_row-requires-clause-value : goal.take_row-requires-clause-value
 take_row-requires-clause-value g c =
-    All-get_or (IsValueOf (length c.args.cells.now)) c.args.rows.now c.args.place _ c.requires.within c.requires.values
+    All-get_or (IsRowOf (length c.args.cells.now)) c.args.rows.now c.args.place _ c.requires.within c.requires.values
 
 pub returns-in-Err-clause-longer : goal.returns-in-Err-clause-longer
 returns-in-Err-clause-longer g c =
@@ -63,11 +64,11 @@ returns-clause-found g c =
     let m = missing_take (length c.args.cells.now) c.args.collector c.args.place c.args.rows.now c.args.works.now _
     c.index-works-collector.result c.index-works-collector-2.result c.requires.over c.requires.within c.requires.values
     (sym c.lacks.ensures.lacks ∙ c.if-not-lacks.false) c.lacks.ensures.next c.requires.caught in
-    let value = All-get_or (IsValueOf (length c.args.cells.now)) c.args.rows.now c.args.place _ c.requires.within c.requires.values in
+    let value = All-get_or (IsRowOf (length c.args.cells.now)) c.args.rows.now c.args.place _ c.requires.within c.requires.values in
     found_turn take_of c.args.collector c.args.place _ _ _ c.args.cells.now c.take_row.new.cells c.args.works.now _
     c.advance.new.self m c.advance.ensures refl
     (taken_entry c.args.collector (c.args.place + 1) _ c.args.cells.now c.take_row.new.cells c.in_default.ensures.taken)
-    (all_known take_item (length c.args.cells.now) c.args.collector _ c.args.rows.now c.args.works.now c.requires.over value.known)
+    (all_known take_item (length c.args.cells.now) c.args.collector _ c.args.rows.now c.args.works.now c.requires.over value.tag)
     c.requires.found
 
 pub returns-clause-caught : goal.returns-clause-caught

@@ -1,0 +1,576 @@
+// Sessions of workers over one tag in memory, whose passes hold them at their steps.
+ghost use Rattle.std.specs.Prelude.{◌≡◌, All, IfOk, IfSome, length};
+ghost use Rattle.std.specs.Arc.{arc_value};
+ghost use Rattle.snapshot_table.specs.Boards.{LooksAt, PostsTo};
+ghost use Rattle.snapshot_table.specs.Snaps.{nothing};
+
+use crate::cells::tag;
+use collector_pool::{
+    CellNo, Ending, GroupTurns, Refresh, TakeNote, Told, TurnNo, Work, WorkerNote, run_session,
+};
+use disk_model::MemDisk;
+use plant_status::{OpenPasses, Pass, Passes};
+use snapshot_table::{Board, Looker, Poster, new_board};
+use std::alloc::Global;
+use std::sync::atomic::{AtomicU64, Ordering};
+use std::sync::{Arc, Mutex, Wait};
+use std::test::Fail;
+use std::thread::{self, Threads};
+use tag_cell::{Cell, Entry, PullNo, TagHistory, open_cell};
+use trend_num::{CalcValue, Point, Snap, TagQuery, WantOfMemory, in_range, tuning_ok};
+use value_rows::{Query, RawRow};
+
+// How often a held worker looks whether the others have come before it is stopped, where they come and where they do not.
+const PATIENT: u64 = 50_000_000;
+
+const BRIEF: u64 = 10_000;
+
+// Passes that hold each worker, at each step but its first, until so many workers have asked for their step of that number.
+#[derive(Drop)]
+struct Gates<'a> {
+    asked: &'a AtomicU64,
+    workers: u64,
+    looks: u64,
+    stops: u64,
+}
+
+// No pass may be dropped, so each has to be given back.
+struct Gate<'a> {
+    asked: &'a AtomicU64,
+    workers: u64,
+    looks: u64,
+    stops: u64,
+}
+
+impl<'a> Pass for Gate<'a> {
+    ghost stops = { λ gate. gate.stops };
+
+    fn pass(&mut self, step: u64) -> bool {
+        if step == 0 {
+            return true;
+        }
+        self.asked.fetch_add(1, Ordering::SeqCst);
+        for _ in 0..self.looks {
+            if self.asked.load(Ordering::SeqCst) >= self.workers.saturating_mul(step) {
+                return true;
+            }
+            thread::yield_now();
+        }
+        self.stops = self.stops.saturating_add(1);
+        false
+    }
+}
+
+impl<'a> Passes for Gates<'a> {
+    type One = Gate<'a>;
+
+    ghost stops = { λ gates. gates.stops };
+
+    fn hand(&mut self, _worker: u32) -> Gate<'a> {
+        Gate {
+            asked: self.asked,
+            workers: self.workers,
+            looks: self.looks,
+            stops: 0,
+        }
+    }
+
+    fn give_back(&mut self, one: Gate<'a>) {
+        let Gate {
+            asked: _,
+            workers: _,
+            looks: _,
+            stops,
+        } = one;
+        self.stops = self.stops.saturating_add(stops);
+    }
+}
+
+// Passes that stop worker 0 at its first step.
+#[derive(Drop)]
+struct Shut {
+    stops: u64,
+}
+
+struct ShutPass {
+    shut: bool,
+    stops: u64,
+}
+
+impl Pass for ShutPass {
+    ghost stops = { λ pass. pass.stops };
+
+    fn pass(&mut self, _step: u64) -> bool {
+        if self.shut {
+            self.stops = self.stops.saturating_add(1);
+        }
+        !self.shut
+    }
+}
+
+impl Passes for Shut {
+    type One = ShutPass;
+
+    ghost stops = { λ passes. passes.stops };
+
+    fn hand(&mut self, worker: u32) -> ShutPass {
+        ShutPass {
+            shut: worker == 0,
+            stops: 0,
+        }
+    }
+
+    fn give_back(&mut self, one: ShutPass) {
+        let ShutPass { shut: _, stops } = one;
+        self.stops = self.stops.saturating_add(stops);
+    }
+}
+
+// One group without calculations: a turn pulls from the first tag, and an answer is none.
+#[derive(Drop)]
+struct Puller {
+    answers: AtomicU64,
+}
+
+impl GroupTurns<MemDisk> for Puller {
+    ghost groups = { λ _. 1 };
+
+    fn refresh<R: Wait>(
+        &self,
+        rt: &R,
+        group: u32,
+        cells: &[Mutex<Cell<MemDisk>>],
+    ) -> Result<(), TurnNo> {
+        let Some(cell) = cells.first() else {
+            return Ok(());
+        };
+        let mut cell = cell.lock(rt);
+        match cell.pull(group, 0) {
+            Ok(_) => Ok(()),
+            Err(PullNo::WantOfMemory) => Err(TurnNo::WantOfMemory),
+            Err(PullNo::Ahead { from, acked }) => Err(TurnNo::Ahead {
+                input: 0,
+                version: from,
+                records: acked,
+            }),
+        }
+    }
+
+    fn ask<R: Wait>(
+        &self,
+        _rt: &R,
+        _reader: u32,
+        _row: u64,
+        _group: u32,
+        _calc: u32,
+        _k: u64,
+    ) -> Result<(u64, Option<CalcValue>), TurnNo> {
+        Ok((self.answers.fetch_add(1, Ordering::SeqCst), None))
+    }
+}
+
+// A board of one tag, its poster, and so many lookers.
+fn board_for(
+    rt: &impl Wait,
+    alloc: Global,
+    readers: u32,
+) -> Result<(Board, Poster, Vec<Looker>), WantOfMemory>
+    ensures one { IfOk result (λ made. length made.0 ≡ 1) }
+    ensures posts { IfOk result (λ made. PostsTo made.0 made.1) }
+    ensures unposted { IfOk result (λ made. made.1.last ≡ nothing) }
+    ensures looks { IfOk result (λ made. All (LooksAt made.0) made.2.items) }
+{
+    let (board, mut posters, lookers) = new_board(rt, alloc, 1, readers)?;
+    match posters.pop() {
+        Some(poster) => Ok((board, poster, lookers)),
+        None => Err(WantOfMemory),
+    }
+}
+
+// A board that two share.
+fn twice(alloc: Global, board: Board) -> Option<(Arc<Board, Global>, Arc<Board, Global>)>
+    ensures first { IfSome result (λ made. arc_value made.0 ≡ board) }
+    ensures second { IfSome result (λ made. arc_value made.1 ≡ board) }
+{
+    let first = Arc::new(alloc, board).ok()?;
+    let second = Arc::try_clone(&first).ok()?;
+    Some((first, second))
+}
+
+// What a session leaves: the notes, and the history of its one tag.
+#[derive(Drop)]
+struct Ran {
+    notes: Vec<WorkerNote>,
+    history: TagHistory,
+}
+
+// A session over one new tag that has room for so many takes. With `filled`, so many values are taken before it.
+fn session_over<P: Passes, R: Threads + Wait + Sync>(
+    rt: &R,
+    alloc: Global,
+    room: u32,
+    filled: u32,
+    work: &Work,
+    passes: &mut P,
+) -> Option<Ran> {
+    let def = tag(false, 0)?;
+    let readers = u32::try_from(work.readers.len()).ok()?;
+    let Ok((board, poster, lookers)) = board_for(rt, alloc, readers) else {
+        return None
+    };
+    let Some((board, shared)) = twice(alloc, board) else {
+        return None
+    };
+    let dev = MemDisk::new(Vec::new(alloc), Vec::new(alloc));
+    if !tuning_ok(&def.tuning) {
+        return None;
+    }
+    let mut cell = open_cell(rt, alloc, dev, &def, 64, room, shared, poster).ok()?;
+    fill(rt, &mut cell, filled)?;
+    work_over(rt, alloc, cell, &board, lookers, work, passes)
+}
+
+// The same over a cell that is open.
+fn work_over<P: Passes, R: Threads + Wait + Sync>(
+    rt: &R,
+    alloc: Global,
+    cell: Cell<MemDisk>,
+    board: &Board,
+    lookers: Vec<Looker>,
+    work: &Work,
+    passes: &mut P,
+) -> Option<Ran>
+    requires one { length board.now ≡ 1 }
+    requires looks { All (LooksAt board.now) lookers.items }
+{
+    let mut cells = Vec::new(alloc);
+    cells.push(Mutex::new(cell)).ok()?;
+    if !work.fits(cells.len(), 1) || lookers.len() != work.readers.len() {
+        return None;
+    }
+    let groups = Puller {
+        answers: AtomicU64::new(0),
+    };
+    let notes = run_session(rt, alloc, &cells, board, lookers, &groups, work, passes).ok()?;
+    let cell = cells.pop()?;
+    let (_, history) = cell.into_inner().into_history();
+    Some(Ran { notes, history })
+}
+
+// Takes so many values, each of which but the last is kept.
+fn fill<R: Wait>(rt: &R, cell: &mut Cell<MemDisk>, count: u32) -> Option<()> {
+    for i in 0..count {
+        let p = Point {
+            t: u64::from(i),
+            v: i64::from(i % 2),
+        };
+        if !in_range(p) {
+            return None;
+        }
+        cell.take(rt, 0, u64::from(i), p).ok()?;
+    }
+    Some(())
+}
+
+// The rows of a text such as `0,0 10,10`, of the first tag.
+fn rows_of(alloc: Global, text: &str) -> Option<Vec<RawRow>> {
+    let mut rows = Vec::new(alloc);
+    for value in text.split(' ') {
+        let (t, v) = value.split_once(',')?;
+        let point = Point {
+            t: t.parse().ok()?,
+            v: v.parse().ok()?,
+        };
+        rows.push(RawRow { tag: 0, point }).ok()?;
+    }
+    Some(rows)
+}
+
+// So many rows of the first tag, each of one value more.
+fn rising(alloc: Global, count: u32) -> Option<Vec<RawRow>> {
+    let mut rows = Vec::new(alloc);
+    for i in 0..count {
+        let point = Point {
+            t: u64::from(i),
+            v: i64::from(i),
+        };
+        rows.push(RawRow { tag: 0, point }).ok()?;
+    }
+    Some(rows)
+}
+
+// The work of these collectors alone.
+fn collecting(alloc: Global, collectors: Vec<Vec<RawRow>>) -> Work {
+    Work {
+        collectors,
+        readers: Vec::new(alloc),
+        refreshers: Vec::new(alloc),
+    }
+}
+
+// Two collectors of these rows.
+fn two_collectors(alloc: Global, first: &str, second: &str) -> Option<Work> {
+    let mut collectors = Vec::new(alloc);
+    collectors.push(rows_of(alloc, first)?).ok()?;
+    collectors.push(rows_of(alloc, second)?).ok()?;
+    Some(collecting(alloc, collectors))
+}
+
+// One collector of these rows.
+fn one_collector(alloc: Global, rows: Vec<RawRow>) -> Option<Work> {
+    let mut collectors = Vec::new(alloc);
+    collectors.push(rows).ok()?;
+    Some(collecting(alloc, collectors))
+}
+
+// A collector of two rows, a reader that asks twice what stands at 0, then for the snapshot and for a row of a group, as far
+// as `queries` goes, and a refresher of two turns.
+fn one_of_each(alloc: Global, queries: &[Query]) -> Option<Work> {
+    let mut work = one_collector(alloc, rows_of(alloc, "0,0 1,5")?)?;
+    work.readers
+        .push(Vec::from_slice(alloc, queries).ok()?)
+        .ok()?;
+    work.refreshers.push(Refresh { group: 0, turns: 2 }).ok()?;
+    Some(work)
+}
+
+// The entries of a tape in order: t, a, p and c for a take, an answer, a pull and a commit.
+fn letters(alloc: Global, history: &TagHistory) -> Option<String> {
+    let mut text = String::new(alloc);
+    for entry in &history.tape {
+        let letter = match entry {
+            Entry::Take { .. } => 't',
+            Entry::Ask { .. } => 'a',
+            Entry::Pull { .. } => 'p',
+            Entry::Commit { .. } => 'c',
+        };
+        text.push(letter).ok()?;
+    }
+    Some(text)
+}
+
+// The rows of the takes of a tape, in order.
+fn taken_rows(alloc: Global, history: &TagHistory) -> Option<Vec<u64>> {
+    let mut rows = Vec::new(alloc);
+    for entry in &history.tape {
+        if let Entry::Take { row, .. } = entry {
+            rows.push(*row).ok()?;
+        }
+    }
+    Some(rows)
+}
+
+// Whether the entry at the place of a note is the take that it tells.
+fn stands(history: &TagHistory, collector: u32, note: &TakeNote) -> bool {
+    match history.tape.get(note.place as usize) {
+        Some(
+            Entry::Take {
+                collector: by,
+                row,
+                point,
+                ..
+            },
+        ) => *by == collector && *row == note.row && *point == note.point,
+        _ => false,
+    }
+}
+
+// Whether each take of each note stands at its place on the tape.
+fn all_stand(ran: &Ran) -> bool {
+    ran.notes.iter().all(|note| note
+        .takes
+        .iter()
+        .all(|take| stands(&ran.history, note.worker, take)))
+}
+
+// Whether the workers ended so.
+fn ended_by(ran: &Ran, endings: &[Ending]) -> bool {
+    ran.notes.len() == endings.len()
+        && ran
+            .notes
+            .iter()
+            .zip(endings)
+            .all(|(note, ending)| note.ending == *ending)
+}
+
+#[test]
+fn two_collectors_take_in_turn(rt: HostRuntime) -> Result<(), Fail> {
+    let asked = AtomicU64::new(0);
+    let mut gates = Gates {
+        asked: &asked,
+        workers: 2,
+        looks: PATIENT,
+        stops: 0,
+    };
+    let work = two_collectors(rt.alloc(), "0,0 10,10", "5,5 15,15").ok_or("memory")?;
+    let ran = session_over(&rt, rt.alloc(), 4, 0, &work, &mut gates).ok_or("refused")?;
+    assert!(rt; ended_by(&ran, &[Ending::Ended, Ending::Ended]));
+    let rows = taken_rows(rt.alloc(), &ran.history).ok_or("memory")?;
+    assert_eq!(rt; rows.as_slice(), [1, 1, 2, 2].as_slice());
+    assert!(rt; all_stand(&ran));
+    assert_eq!(rt; ran.history.acked, 4);
+    assert_eq!(rt; gates.stops, 0);
+    Ok(())
+}
+
+// A collector that waits for another one that does not come.
+fn alone_at_a_gate<R: Threads + Wait + Sync>(rt: &R, alloc: Global) -> Option<(Ran, u64)> {
+    let asked = AtomicU64::new(0);
+    let mut gates = Gates {
+        asked: &asked,
+        workers: 2,
+        looks: BRIEF,
+        stops: 0,
+    };
+    let work = one_collector(alloc, rows_of(alloc, "0,0 10,10")?)?;
+    let ran = session_over(rt, alloc, 4, 0, &work, &mut gates)?;
+    Some((ran, gates.stops))
+}
+
+#[test]
+fn a_collector_whose_fellow_does_not_come_is_halted(rt: HostRuntime) -> Result<(), Fail> {
+    let (ran, stops) = alone_at_a_gate(&rt, rt.alloc()).ok_or("refused")?;
+    assert!(rt; ended_by(&ran, &[Ending::Halted]));
+    assert_eq!(rt;
+        letters(rt.alloc(), &ran.history).ok_or("memory")?.as_str(),
+        "t"
+    );
+    assert_eq!(rt; stops, 1);
+    Ok(())
+}
+
+#[test]
+fn a_shut_pass_halts_the_first_worker(rt: HostRuntime) -> Result<(), Fail> {
+    let mut shut = Shut { stops: 0 };
+    let work = two_collectors(rt.alloc(), "0,0", "5,5").ok_or("memory")?;
+    let ran = session_over(&rt, rt.alloc(), 4, 0, &work, &mut shut).ok_or("refused")?;
+    assert!(rt; ended_by(&ran, &[Ending::Halted, Ending::Ended]));
+    assert_eq!(rt;
+        letters(rt.alloc(), &ran.history).ok_or("memory")?.as_str(),
+        "tc"
+    );
+    assert_eq!(rt; shut.stops, 1);
+    Ok(())
+}
+
+// How often a letter stands at the begin of a text, of so many letters that are no commit.
+fn count_of(letter: char, text: &str, among: usize) -> usize {
+    text.chars()
+        .filter(|c| *c != 'c')
+        .take(among)
+        .filter(|c| *c == letter)
+        .count()
+}
+
+#[test]
+fn a_take_an_answer_and_a_pull_stand_before_the_second_ones(rt: HostRuntime) -> Result<(), Fail> {
+    let asked = AtomicU64::new(0);
+    let mut gates = Gates {
+        asked: &asked,
+        workers: 3,
+        looks: PATIENT,
+        stops: 0,
+    };
+    let query = Query::Tag {
+        tag: 0,
+        query: TagQuery::At { t: 0 },
+    };
+    let work = one_of_each(rt.alloc(), &[query, query]).ok_or("memory")?;
+    let ran = session_over(&rt, rt.alloc(), 2, 0, &work, &mut gates).ok_or("refused")?;
+    assert!(rt; ended_by(&ran, &[Ending::Ended, Ending::Ended, Ending::Ended]));
+    let text = letters(rt.alloc(), &ran.history).ok_or("memory")?;
+    assert_eq!(rt; count_of('t', text.as_str(), 3), 1);
+    assert_eq!(rt; count_of('a', text.as_str(), 3), 1);
+    assert_eq!(rt; count_of('p', text.as_str(), 3), 1);
+    Ok(())
+}
+
+#[test]
+fn a_collector_commits_after_64_rows_and_after_its_last(rt: HostRuntime) -> Result<(), Fail> {
+    let rows = rising(rt.alloc(), 65).ok_or("memory")?;
+    let work = one_collector(rt.alloc(), rows).ok_or("memory")?;
+    let ran = session_over(&rt, rt.alloc(), 65, 0, &work, &mut OpenPasses).ok_or("refused")?;
+    assert!(rt; ended_by(&ran, &[Ending::Ended]));
+    let text = letters(rt.alloc(), &ran.history).ok_or("memory")?;
+    assert_eq!(rt; text.len(), 67);
+    assert_eq!(rt; text.as_str().find('c'), Some(64));
+    assert!(rt; text.as_str().ends_with("ctc"));
+    assert_eq!(rt; ran.history.acked, 65);
+    Ok(())
+}
+
+// The most values that are taken while each but the last is kept.
+const MOST_TAKEN: u32 = 1_048_576;
+
+#[test]
+fn a_full_tag_ends_its_collector(rt: HostRuntime) -> Result<(), Fail> {
+    let rows = rows_of(rt.alloc(), "2000000,0 2000001,1").ok_or("memory")?;
+    let work = one_collector(rt.alloc(), rows).ok_or("memory")?;
+    let ran = session_over(
+        &rt,
+        rt.alloc(),
+        MOST_TAKEN + 2,
+        MOST_TAKEN,
+        &work,
+        &mut OpenPasses,
+    )
+    .ok_or("refused")?;
+    let full = CellNo::Full {
+        records: MOST_TAKEN - 1,
+    };
+    assert!(rt; ended_by(&ran, &[Ending::Tag { tag: 0, why: full }]));
+    assert_eq!(rt; ran.history.recs.len(), 1_048_575);
+    Ok(())
+}
+
+#[test]
+fn a_tape_without_room_ends_its_collector(rt: HostRuntime) -> Result<(), Fail> {
+    let rows = rows_of(rt.alloc(), "0,0 1,1 2,2").ok_or("memory")?;
+    let work = one_collector(rt.alloc(), rows).ok_or("memory")?;
+    let ran = session_over(&rt, rt.alloc(), 2, 0, &work, &mut OpenPasses).ok_or("refused")?;
+    let full = CellNo::RoomFull { room: 2 };
+    assert!(rt; ended_by(&ran, &[Ending::Tag { tag: 0, why: full }]));
+    assert_eq!(rt;
+        letters(rt.alloc(), &ran.history).ok_or("memory")?.as_str(),
+        "tt"
+    );
+    Ok(())
+}
+
+// Whether a reader was told a snapshot and an empty row of the group, at place 0 of its tape.
+fn told_a_snap_and_a_row(note: &WorkerNote) -> bool {
+    match note.told.as_slice() {
+        [
+            Told::Snap { tag: 0, snap },
+            Told::Row {
+                group: 0,
+                place: 0,
+                reply: None,
+            },
+        ] => *snap
+            == Snap {
+                taken: 0,
+                held: None,
+            },
+        _ => false,
+    }
+}
+
+#[test]
+fn a_snapshot_is_told_from_the_board_and_a_row_by_the_group(rt: HostRuntime) -> Result<(), Fail> {
+    let queries = [
+        Query::Snap { tag: 0 },
+        Query::Row {
+            group: 0,
+            calc: 0,
+            k: 3,
+        },
+    ];
+    let mut work = one_of_each(rt.alloc(), &queries).ok_or("memory")?;
+    work.collectors.clear();
+    let ran = session_over(&rt, rt.alloc(), 2, 0, &work, &mut OpenPasses).ok_or("refused")?;
+    assert!(rt; ended_by(&ran, &[Ending::Ended, Ending::Ended]));
+    assert!(rt; ran.notes.first().is_some_and(told_a_snap_and_a_row));
+    assert!(rt; ran.notes.last().is_some_and(|note| note.turns == 2));
+    Ok(())
+}

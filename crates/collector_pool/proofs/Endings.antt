@@ -1,0 +1,155 @@
+-- How workers end whose calls were refused.
+use Rattle.std.proofs.Common.{◌≡◌, ℕ, ◌<◌, ◌≤◌, true, List, length, get_or, take, refl, sym, subst, inl, inr, ap, ◌∙◌}
+use Rattle.std.specs.Prelude.{slice_range, IfErr, IfOk, OnOk, MatchResult, Option, None, Some, Result, Ok, Err}
+use Rattle.std.specs.Option.{option_map}
+use Rattle.value_rows.specs.declared.asked.Query.{Query}
+use Rattle.value_rows.specs.declared.asked.Query.TheVariants as ask
+use Rattle.value_rows.specs.declared.raw.RawRow.{RawRow}
+use Rattle.tag_cell.specs.declared.entry.CommitNo.{CommitNo}
+use Rattle.tag_cell.specs.declared.entry.CommitNo.TheVariants as commit
+use Rattle.tag_cell.specs.declared.entry.TakeNo.{TakeNo}
+use Rattle.tag_cell.specs.Told.{Told as CellTold, IsTakenBy, take_refusal}
+use Rattle.collector_pool.specs.declared.group_turns.TurnNo.{TurnNo}
+use Rattle.collector_pool.specs.declared.group_turns.TurnNo.TheVariants as turn
+use Rattle.collector_pool.specs.declared.note.CellNo.{CellNo}
+use Rattle.collector_pool.specs.declared.note.Ending.{Ending}
+use Rattle.collector_pool.specs.declared.note.Ending.TheVariants.{Ended, Halted, Tag, Group, WantOfMemory}
+use Rattle.collector_pool.specs.declared.note.TakeNote.{TakeNote}
+use Rattle.collector_pool.specs.declared.work.Refresh.{Refresh}
+use Rattle.collector_pool.specs.Notes.{AsksGroup, EndsAtCommit, EndsAtQuery, EndsCollector, EndsReader, EndsRefresher, IsNoteOfTake, IsRefusedCommit, RefusesRow, halts}
+use Rattle.collector_pool.specs.Refusals.{refusal_of_take, ending_of_commit, ending_of_turn}
+use Rattle.collector_pool.proofs.Firsts.{any_at, any_of_range, found_at}
+
+-- a row that was taken is noted
+pub note_of_take : (D : Type 0) (collector number : ℕ) (row : RawRow) (old new : CellTold D) (r : Result TakeNote CellNo)
+    → OnOk r (IsTakenBy collector number row.point old new)
+    → IfOk r (λ note. note ≡ record { tag = row.tag; row = number; point = row.point; place = length old.tape })
+    → IfOk r (IsNoteOfTake D collector number row)
+note_of_take D collector number row old new (Ok note) taken is = record {
+  tag = ap (λ n. n.tag) is;
+  number_is = ap (λ n. n.row) is;
+  point = ap (λ n. n.point) is;
+  before = old;
+  after = new;
+  taken = taken;
+  place = ap (λ n. n.place) is;
+}
+note_of_take D collector number row old new (Err why) taken is = tt
+
+-- a row that was not taken was refused by its tag
+pub refused_row : (D : Type 0) (row : RawRow) (cell : CellTold D) (r : Result TakeNote CellNo)
+    → MatchResult r (λ _. take_refusal cell ≡ None) (λ why. option_map refusal_of_take (take_refusal cell) ≡ Some why)
+    → IfErr r (RefusesRow D row row.tag)
+refused_row D row cell (Ok note) is = tt
+refused_row D row cell (Err why) is = by_refusal (take_refusal cell) refl is
+  where
+    by_refusal : (refusal : Option TakeNo) → take_refusal cell ≡ refusal → option_map refusal_of_take refusal ≡ Some why
+        → RefusesRow D row row.tag why
+    by_refusal None was is = cc
+    by_refusal (Some refusal) was is = record { tag_is = refl; cell = cell; no = refusal; refused = was; why_is = cc }
+
+-- a reader whom a group refused ends at its query
+pub ends_at_row : (refuses : ℕ → TurnNo → Type 0) (group calc k : ℕ) (no : TurnNo) → refuses group no
+    → EndsAtQuery refuses (ask.Row group calc k) (ending_of_turn group no)
+ends_at_row refuses group calc k (turn.Ahead input version records) refused = (refl, tt, refused)
+ends_at_row refuses group calc k (turn.CellLimit cells) refused = (refl, tt, refused)
+ends_at_row refuses group calc k (turn.CopyLimit records) refused = (refl, tt, refused)
+ends_at_row refuses group calc k turn.Broken refused = (refl, tt, refused)
+ends_at_row refuses group calc k turn.DeviceFault refused = (refl, tt, refused)
+ends_at_row refuses group calc k turn.WantOfMemory refused = tt
+
+-- a reader that ends at its next query
+pub ends_reader : (refuses : ℕ → TurnNo → Type 0) (queries : List Query) (i : ℕ) (d : Query) (ending : Ending)
+    → i < length queries → EndsAtQuery refuses (get_or queries i d) ending → EndsReader refuses queries i ending
+ends_reader refuses queries i d Ended within ends = absurd ends
+ends_reader refuses queries i d Halted within ends = absurd ends
+ends_reader refuses queries i d (Tag tag why) within ends = absurd ends
+ends_reader refuses queries i d (Group group why) within ends =
+    (found_at (AsksGroup group) queries i d within ends.0, ends.1, ends.2)
+ends_reader refuses queries i d WantOfMemory within ends = within
+
+-- and was not stopped
+pub query_stops_none : (refuses : ℕ → TurnNo → Type 0) (query : Query) (ending : Ending) → EndsAtQuery refuses query ending
+    → halts ending ≡ 0
+query_stops_none refuses query Ended ends = refl
+query_stops_none refuses query Halted ends = absurd ends
+query_stops_none refuses query (Tag tag why) ends = refl
+query_stops_none refuses query (Group group why) ends = refl
+query_stops_none refuses query WantOfMemory ends = refl
+
+-- a refresher whom its group refused a turn
+pub ends_refresher : (refuses : ℕ → TurnNo → Type 0) (refresh : Refresh) (turns : ℕ) (no : TurnNo) → turns < refresh.turns
+    → refuses refresh.group no → EndsRefresher refuses refresh turns (ending_of_turn refresh.group no)
+ends_refresher refuses refresh turns (turn.Ahead input version records) few refused = (few, refl, tt, refused)
+ends_refresher refuses refresh turns (turn.CellLimit cells) few refused = (few, refl, tt, refused)
+ends_refresher refuses refresh turns (turn.CopyLimit records) few refused = (few, refl, tt, refused)
+ends_refresher refuses refresh turns turn.Broken few refused = (few, refl, tt, refused)
+ends_refresher refuses refresh turns turn.DeviceFault few refused = (few, refl, tt, refused)
+ends_refresher refuses refresh turns turn.WantOfMemory few refused = few
+
+-- a tag that refused a commit
+pub refused_commit : (D : Type 0) (tag : ℕ) (why : CommitNo) (cell : CellTold D) (ending : Ending)
+    → (why ≡ commit.Broken → cell.journal.failed ≡ true) → (why ≡ commit.DeviceFault → cell.journal.failed ≡ true)
+    → ending ≡ ending_of_commit tag why → IsRefusedCommit D tag ending
+refused_commit D tag why cell ending broken faulted is =
+    record { no = why; ending_is = is; cell = cell; broken = λ memory. by_why why refl memory }
+  where
+    by_why : (w : CommitNo) → why ≡ w → (why ≡ commit.WantOfMemory → ⊥) → cell.journal.failed ≡ true
+    by_why commit.Broken was memory = broken was
+    by_why commit.DeviceFault was memory = faulted was
+    by_why commit.WantOfMemory was memory = absurd (memory was)
+
+-- a collector that ends at a commit of one of these rows
+pub ends_at_commit : (D : Type 0) (rows : List RawRow) (i : ℕ) (d : RawRow) (ending : Ending) → i < length rows
+    → IsRefusedCommit D (get_or rows i d).tag ending → EndsAtCommit D rows ending
+ends_at_commit D rows i d ending within refused = record {
+  tag = (get_or rows i d).tag;
+  of_a_row = any_at (λ (r : RawRow). r.tag ≡ (get_or rows i d).tag) rows i d within refl;
+  refused = refused;
+}
+
+-- what a refused commit can end by
+abbrev IsOfCommit : Ending → Type 0
+IsOfCommit (Tag tag why) = Unit {0}
+IsOfCommit WantOfMemory = Unit {0}
+IsOfCommit ending = ⊥
+
+is_of_commit : (tag : ℕ) (why : CommitNo) → IsOfCommit (ending_of_commit tag why)
+is_of_commit tag commit.Broken = tt
+is_of_commit tag commit.DeviceFault = tt
+is_of_commit tag commit.WantOfMemory = tt
+
+-- a collector that ends at a commit of some of the rows that it took
+pub ends_collector : (D : Type 0) (rows : List RawRow) (since taken : ℕ) (ending : Ending) → since ≤ taken → taken ≤ length rows
+    → EndsAtCommit D (slice_range rows since taken) ending → EndsCollector D rows taken ending
+ends_collector D rows since taken ending order within ends =
+    let of_commit : IsOfCommit ending = subst IsOfCommit (sym ends.refused.ending_is) (is_of_commit ends.tag ends.refused.no) in
+    let whole : EndsAtCommit D (take taken rows) ending = record {
+      tag = ends.tag;
+      of_a_row = any_of_range (λ (r : RawRow). r.tag ≡ ends.tag) rows since taken order within ends.of_a_row;
+      refused = ends.refused;
+    } in
+    by_ending ending of_commit whole
+  where
+    by_ending : (e : Ending) → IsOfCommit e → EndsAtCommit D (take taken rows) e → EndsCollector D rows taken e
+    by_ending Ended of_commit whole = absurd of_commit
+    by_ending Halted of_commit whole = absurd of_commit
+    by_ending (Tag tag why) of_commit whole = inr whole
+    by_ending (Group group why) of_commit whole = absurd of_commit
+    by_ending WantOfMemory of_commit whole = within
+
+-- and was not stopped
+pub commit_stops_none : (D : Type 0) (rows : List RawRow) (ending : Ending) → EndsAtCommit D rows ending → halts ending ≡ 0
+commit_stops_none D rows ending ends = ap halts ends.refused.ending_is ∙ by_why ends.refused.no
+  where
+    by_why : (why : CommitNo) → halts (ending_of_commit ends.tag why) ≡ 0
+    by_why commit.Broken = refl
+    by_why commit.DeviceFault = refl
+    by_why commit.WantOfMemory = refl
+
+-- a collector whose next row is refused
+pub ends_at_take : (D : Type 0) (rows : List RawRow) (taken : ℕ) (d : RawRow) (why : CellNo) → taken < length rows
+    → RefusesRow D (get_or rows taken d) (get_or rows taken d).tag why
+    → EndsCollector D rows taken (Tag (get_or rows taken d).tag why)
+ends_at_take D rows taken d why within refused =
+    inl (found_at (λ (r : RawRow). RefusesRow D r (get_or rows taken d).tag why) rows taken d within refused)

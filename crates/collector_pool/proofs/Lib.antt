@@ -1,0 +1,6 @@
+pub mod Firsts
+pub mod Endings
+pub mod Seats
+pub mod Gathering
+pub mod Sessions
+pub mod Leaving

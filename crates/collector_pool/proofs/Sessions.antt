@@ -1,0 +1,114 @@
+-- The notes of all workers, once they have ended.
+use Rattle.std.proofs.Common.{◌≡◌, ℕ, suc, zero, ◌<◌, List, [], ◌∷◌, length, map, get_or, refl, sym, ◌∙◌, ap, subst, arith}
+use Rattle.std.proofs.lemmas.List.{length-map}
+use Rattle.std.specs.Prelude.{All, Option, Vec}
+use Rattle.std.specs.declared.alloc.Global.{Global}
+use Rattle.atomic_table.specs.Seated.{TableId}
+use Rattle.trend_num.specs.declared.value.CalcValue.{CalcValue}
+use Rattle.value_rows.specs.declared.asked.Query.{Query}
+use Rattle.value_rows.specs.declared.raw.RawRow.{RawRow}
+use Rattle.snapshot_table.specs.Boards.{Looking, LooksAt}
+use Rattle.collector_pool.specs.declared.group_turns.TurnNo.{TurnNo}
+use Rattle.collector_pool.specs.declared.note.WorkerNote.{WorkerNote}
+use Rattle.collector_pool.specs.declared.slot.Role.{Role}
+use Rattle.collector_pool.specs.declared.slot.Role.TheVariants.{Collector, Reader, Refresher}
+use Rattle.collector_pool.specs.declared.slot.Slot.{Slot}
+use Rattle.collector_pool.specs.declared.work.Refresh.{Refresh}
+use Rattle.collector_pool.specs.declared.work.Work.{Work}
+use Rattle.collector_pool.specs.Notes.{AreNotesOf, IsCollectorNote, IsNoteAt, IsReaderNote, IsRefresherNote, halts}
+use Rattle.collector_pool.specs.RowAsk.{RowAsk}
+use Rattle.collector_pool.specs.Slots.{AreDone, AreSeated, IsNoteAs, IsRoleOf, worker_of}
+use Rattle.collector_pool.specs.Work.{worker_count}
+use Rattle.collector_pool.proofs.Firsts.{same_item}
+
+-- an element of a list
+element : {A : Type 0} (xs : List A) (i : ℕ) → i < length xs → A
+element [] i few = absurd (omega arith)
+element (x ∷ xs) zero few = x
+element (x ∷ xs) (suc i) few = element xs i (omega arith)
+
+-- the length of a mapped list
+mapped_length : {A B : Type 0} (f : A → B) (xs : List A) → length (map f xs) ≡ length xs
+mapped_length f xs = simp length-map
+
+-- an element of a mapped list
+mapped_at : {A B : Type 0} (f : A → B) (xs : List A) (i : ℕ) (d : A) (e : B) → i < length xs
+    → get_or (map f xs) i e ≡ f (get_or xs i d)
+mapped_at f [] i d e few = absurd (omega arith)
+mapped_at f (x ∷ xs) zero d e few = refl
+mapped_at f (x ∷ xs) (suc i) d e few = mapped_at f xs i d e (omega arith)
+
+module _ (D : Type 0) (tells : RowAsk → ℕ → Option CalcValue → Type 0) (refuses : ℕ → TurnNo → Type 0) (w : Work) where
+  -- the note of a worker in its role is that of its place
+  note_at : (board : List TableId) (role : Role) (place : ℕ) (n : WorkerNote) → n.worker ≡ place → worker_of w role ≡ place
+      → IsRoleOf w board role → IsNoteAs D tells refuses w role n → IsNoteAt D tells refuses w place n
+  note_at board (Collector c) place n number here role note = record {
+    numbered = number;
+    collector = λ rows few.
+        subst (λ (i : ℕ). IsCollectorNote D i (get_or w.collectors.items i rows).items n) here (note rows);
+    reader = λ r queries few is. absurd (omega arith);
+    refresher = λ r refresh few is. absurd (omega arith);
+  }
+  note_at board (Reader r looker) place n number here role note = record {
+    numbered = number;
+    collector = λ rows few. absurd (omega arith);
+    reader = λ i queries few is.
+        let same : r ≡ i = omega arith in
+        subst (λ (k : ℕ). IsReaderNote D tells refuses k (get_or w.readers.items k queries).items n) same (note queries);
+    refresher = λ i refresh few is. let within = role.0 in absurd (omega arith);
+  }
+  note_at board (Refresher r) place n number here role note = record {
+    numbered = number;
+    collector = λ rows few. absurd (omega arith);
+    reader = λ i queries few is. absurd (omega arith);
+    refresher = λ i refresh few is.
+        let same : r ≡ i = omega arith in
+        subst (λ (k : ℕ). IsRefresherNote refuses (get_or w.refreshers.items k refresh) n) same (note refresh);
+  }
+
+  -- the notes of slots whose workers were seated and have ended
+  pub notes_of : {O : Type 0} (stops : O → ℕ) (board : List TableId) (lookers : List Looking) (old new : List (Slot O))
+      (notes : List WorkerNote) → AreSeated stops w lookers old → All (LooksAt board) lookers → length old ≡ worker_count w
+      → length new ≡ length old → AreDone D tells refuses stops w old new → notes ≡ map (λ s. s.note) new
+      → AreNotesOf D tells refuses w notes
+  notes_of stops board lookers old new notes seated looks count same done are = record {
+    count = ap length are ∙ (mapped_length (λ s. s.note) new ∙ (same ∙ count));
+    each = λ place n few.
+        let few' : place < length new = omega (arith, ap length are, mapped_length (λ (s : Slot _). s.note) new) in
+        let few'' : place < length old = omega arith in
+        let d = element new place few' in
+        let ended = done.each place d few'' in
+        let ready = seated.ready board looks place d few'' in
+        let number = seated.numbered place d few'' in
+        let is : get_or notes place n ≡ (get_or new place d).note =
+        ap (λ l. get_or l place n) are ∙ mapped_at (λ s. s.note) new place d n few' in
+        rw is
+        (note_at board (get_or old place d).role place (get_or new place d).note (ended.worker ∙ number)
+        (sym ready.worker ∙ number) ready.role ended.note);
+  }
+
+-- the pass of each of these slots has stopped its worker as often as the note says
+pub all_stopped : {O : Type 0} (D : Type 0) (tells : RowAsk → ℕ → Option CalcValue → Type 0) (refuses : ℕ → TurnNo → Type 0)
+    (w : Work) (stops : O → ℕ) (old new : List (Slot O)) → length new ≡ length old → AreDone D tells refuses stops w old new
+    → All (λ s. stops s.pass ≡ halts s.note.ending) new
+all_stopped D tells refuses w stops old new same done = λ k d few. (done.each k d (omega arith)).stopped
+
+-- the note of a collector, a reader or a refresher is that of its role
+pub as_collector : (D : Type 0) (w : Work) (collector : ℕ) (rows : Vec RawRow Global) (n : WorkerNote)
+    → collector < length w.collectors.items → rows ≡ get_or w.collectors.items collector rows → IsCollectorNote D collector rows.items n
+    → (d : Vec RawRow Global) → IsCollectorNote D collector (get_or w.collectors.items collector d).items n
+as_collector D w collector rows n few is note d =
+    subst (λ (r : Vec RawRow Global). IsCollectorNote D collector r.items n) (is ∙ same_item w.collectors.items collector rows d few) note
+
+pub as_reader : (D : Type 0) (tells : RowAsk → ℕ → Option CalcValue → Type 0) (refuses : ℕ → TurnNo → Type 0) (w : Work) (reader : ℕ)
+    (queries : Vec Query Global) (n : WorkerNote) → reader < length w.readers.items → queries ≡ get_or w.readers.items reader queries
+    → IsReaderNote D tells refuses reader queries.items n
+    → (d : Vec Query Global) → IsReaderNote D tells refuses reader (get_or w.readers.items reader d).items n
+as_reader D tells refuses w reader queries n few is note d =
+    subst (λ (q : Vec Query Global). IsReaderNote D tells refuses reader q.items n) (is ∙ same_item w.readers.items reader queries d few) note
+
+pub as_refresher : (refuses : ℕ → TurnNo → Type 0) (w : Work) (refresher : ℕ) (d : Refresh) (n : WorkerNote)
+    → refresher < length w.refreshers.items → IsRefresherNote refuses (get_or w.refreshers.items refresher d) n
+    → (e : Refresh) → IsRefresherNote refuses (get_or w.refreshers.items refresher e) n
+as_refresher refuses w refresher d n few note e =
+    subst (λ (r : Refresh). IsRefresherNote refuses r n) (same_item w.refreshers.items refresher d e few) note

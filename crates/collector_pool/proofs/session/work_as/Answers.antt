@@ -1,0 +1,25 @@
+use Rattle.collector_pool.proofs.Sessions.{as_collector, as_reader, as_refresher}
+use Rattle.collector_pool.proofs.session.work_as.Goals as goal
+
+pub returns-in-Collector-clause-note : goal.returns-in-Collector-clause-note
+returns-in-Collector-clause-note g c =
+    let few = rw c.in-Collector.is at c.requires.role in
+    let note = rw c.deref.ensures.value at c.collect.ensures.note in
+    rw c.in-Collector.is
+    (as_collector g.row.D.Denot c.args.work.now c.in-Collector.collector c.index-rows.result.now c.collect.result few
+    c.index-rows.ensures note)
+
+pub returns-in-Reader-clause-note : goal.returns-in-Reader-clause-note
+returns-in-Reader-clause-note g c =
+    let role = rw c.in-Reader.is at c.requires.role in
+    let note = rw c.deref-in-Reader.ensures.value at c.read.ensures.note in
+    rw c.in-Reader.is
+    (as_reader g.row.D.Denot _ _ c.args.work.now c.in-Reader.reader c.index-queries.result.now c.read.result role.0
+    c.index-queries.ensures note)
+
+pub returns-in-Refresher-clause-note : goal.returns-in-Refresher-clause-note
+returns-in-Refresher-clause-note g c =
+    let few = rw c.in-Refresher.is at c.requires.role in
+    let note = rw c.index-turns.ensures at c.refresh.ensures.note in
+    rw c.in-Refresher.is
+    (as_refresher _ c.args.work.now c.in-Refresher.refresher c.index-turns.result.now c.refresh.result few note)

@@ -1,0 +1,5 @@
+pub mod RowAsk
+pub mod Work
+pub mod Refusals
+pub mod Notes
+pub mod Slots

@@ -1,0 +1,186 @@
+-- What the note of a worker says: of its own work, in order, and how it ended.
+use Rattle.std.specs.Prelude.{◌≡◌, ◌≢◌, ◌⊎◌, ℕ, suc, ◌+◌, ◌<◌, ◌≤◌, true, List, [], ◌∷◌, Any, IsSomeAnd, Option, Some, Vec, length, slice_get, slice_index_or, fold, take}
+use Rattle.std.specs.declared.alloc.Global.{Global}
+use Rattle.trend_num.specs.declared.query.TagQuery.{TagQuery}
+use Rattle.trend_num.specs.declared.value.CalcValue.{CalcValue}
+use Rattle.trend_model.specs.Contents.{closed_points}
+use Rattle.plant_status.specs.Pass.{sum_of_counts}
+use Rattle.interp_read.specs.declared.query.Reply.{Reply}
+use Rattle.interp_read.specs.Replies.{Answers}
+use Rattle.value_rows.specs.declared.asked.Query.{Query}
+use Rattle.value_rows.specs.declared.asked.Query.TheVariants as ask
+use Rattle.value_rows.specs.declared.raw.RawRow.{RawRow}
+use Rattle.tag_cell.specs.declared.entry.CommitNo.{CommitNo}
+use Rattle.tag_cell.specs.declared.entry.CommitNo.TheVariants as commit
+use Rattle.tag_cell.specs.declared.entry.TakeNo.{TakeNo}
+use Rattle.tag_cell.specs.Told.{Told as CellTold, IsAskedBy, IsTakenBy, take_refusal}
+use Rattle.collector_pool.specs.declared.group_turns.TurnNo.{TurnNo}
+use Rattle.collector_pool.specs.declared.group_turns.TurnNo.TheVariants as turn
+use Rattle.collector_pool.specs.declared.note.CellNo.{CellNo}
+use Rattle.collector_pool.specs.declared.note.Ending.{Ending}
+use Rattle.collector_pool.specs.declared.note.Ending.TheVariants.{Ended, Halted, Tag, Group, WantOfMemory}
+use Rattle.collector_pool.specs.declared.note.TakeNote.{TakeNote}
+use Rattle.collector_pool.specs.declared.note.Told.{Told}
+use Rattle.collector_pool.specs.declared.note.Told.TheVariants as told
+use Rattle.collector_pool.specs.declared.note.WorkerNote.{WorkerNote}
+use Rattle.collector_pool.specs.declared.work.Refresh.{Refresh}
+use Rattle.collector_pool.specs.declared.work.Work.{Work}
+use Rattle.collector_pool.specs.Refusals.{refusal_of_take, ending_of_commit}
+use Rattle.collector_pool.specs.RowAsk.{RowAsk}
+use Rattle.collector_pool.specs.Work.{worker_count}
+
+-- these are of the first of the items, in order, as P says of the number of an item, the item, and what is of it. The items
+-- are numbered from here on
+abbrev pub AreOfFirst : {A B : Type 0} → (ℕ → A → B → Type 0) → ℕ → List A → List B → Type 0
+AreOfFirst P n items [] = Unit {0}
+AreOfFirst P n [] (x ∷ xs) = ⊥
+AreOfFirst P n (item ∷ items) (x ∷ xs) = P n item x × AreOfFirst P (suc n) items xs
+
+-- ---- collectors
+
+-- a tag took this row of a collector, and this is the note of it
+pub record IsNoteOfTake (D : Type 0) (collector number : ℕ) (row : RawRow) (note : TakeNote) : Type 0 where
+  pub tag : note.tag ≡ row.tag
+  pub number_is : note.row ≡ number
+  pub point : note.point ≡ row.point
+  pub before : CellTold D
+  pub after : CellTold D
+  pub taken : IsTakenBy collector number row.point before after
+  pub place : note.place ≡ length before.tape
+
+-- a tag refused to take this row
+pub record RefusesRow (D : Type 0) (row : RawRow) (tag : ℕ) (why : CellNo) : Type 0 where
+  pub tag_is : tag ≡ row.tag
+  pub cell : CellTold D
+  pub no : TakeNo
+  pub refused : take_refusal cell ≡ Some no
+  pub why_is : why ≡ refusal_of_take no
+
+-- a collector ends so at a refused commit of a tag, which is broken then
+pub record IsRefusedCommit (D : Type 0) (tag : ℕ) (ending : Ending) : Type 0 where
+  pub no : CommitNo
+  pub ending_is : ending ≡ ending_of_commit tag no
+  pub cell : CellTold D
+  pub broken : no ≢ commit.WantOfMemory → cell.journal.failed ≡ true
+
+-- a collector ends so at a refused commit of a tag of one of these rows
+pub record EndsAtCommit (D : Type 0) (rows : List RawRow) (ending : Ending) : Type 0 where
+  pub tag : ℕ
+  pub of_a_row : Any (λ row. row.tag ≡ tag) rows
+  pub refused : IsRefusedCommit D tag ending
+
+-- how a collector of these rows ends that has taken so many
+abbrev pub EndsCollector : Type 0 → List RawRow → ℕ → Ending → Type 0
+EndsCollector D rows taken Ended = taken ≡ length rows
+EndsCollector D rows taken Halted = taken < length rows
+EndsCollector D rows taken WantOfMemory = taken ≤ length rows
+EndsCollector D rows taken (Tag tag why) =
+    IsSomeAnd (slice_get rows taken) (λ row. RefusesRow D row tag why) ⊎ EndsAtCommit D (take taken rows) (Tag tag why)
+EndsCollector D rows taken (Group group why) = ⊥
+
+-- the note of a collector of these rows: it took the first of them, in order
+pub record IsCollectorNote (D : Type 0) (collector : ℕ) (rows : List RawRow) (n : WorkerNote) : Type 0 where
+  pub takes : AreOfFirst (IsNoteOfTake D collector) 1 rows n.takes.items
+  pub ending : EndsCollector D rows (length n.takes.items) n.ending
+  pub no_answers : n.told.items ≡ []
+  pub no_turns : n.turns ≡ 0
+
+-- ---- readers
+
+-- a tag answered this question so, at this place of its tape
+pub record IsAnswerOf (D : Type 0) (reader number : ℕ) (query : TagQuery) (place : ℕ) (reply : Reply) : Type 0 where
+  pub before : CellTold D
+  pub after : CellTold D
+  pub asked : IsAskedBy reader number query reply before after
+  pub answers : Answers before.def.step (closed_points before.state.records before.state.summary.held) query reply
+  pub place_is : place ≡ length before.tape
+
+-- this was told for a query of a reader
+abbrev pub IsToldFor : Type 0 → (RowAsk → ℕ → Option CalcValue → Type 0) → ℕ → ℕ → Query → Told → Type 0
+IsToldFor D tells reader number (ask.Tag tag query) (told.Tag asked place reply) =
+    (asked ≡ tag) × IsAnswerOf D reader number query place reply
+IsToldFor D tells reader number (ask.Snap tag) (told.Snap looked snap) = looked ≡ tag
+IsToldFor D tells reader number (ask.Row group calc k) (told.Row asked place reply) =
+    (asked ≡ group) × tells (record { reader = reader; row = number; group = group; calc = calc; k = k }) place reply
+IsToldFor D tells reader number query other = ⊥
+
+-- why a group made no turn, or gave no answer, beside want of memory
+abbrev pub IsOfGroup : TurnNo → Type 0
+IsOfGroup turn.WantOfMemory = ⊥
+IsOfGroup why = Unit {0}
+
+-- a query to this group
+abbrev pub AsksGroup : ℕ → Query → Type 0
+AsksGroup group (ask.Row asked calc k) = asked ≡ group
+AsksGroup group query = ⊥
+
+-- how a reader ends whose query is refused
+abbrev pub EndsAtQuery : (ℕ → TurnNo → Type 0) → Query → Ending → Type 0
+EndsAtQuery refuses query WantOfMemory = Unit {0}
+EndsAtQuery refuses query (Group group why) = AsksGroup group query × IsOfGroup why × refuses group why
+EndsAtQuery refuses query ending = ⊥
+
+-- how a reader of these queries ends that was told so many
+abbrev pub EndsReader : (ℕ → TurnNo → Type 0) → List Query → ℕ → Ending → Type 0
+EndsReader refuses queries answered Ended = answered ≡ length queries
+EndsReader refuses queries answered Halted = answered < length queries
+EndsReader refuses queries answered WantOfMemory = answered < length queries
+EndsReader refuses queries answered (Group group why) =
+    IsSomeAnd (slice_get queries answered) (AsksGroup group) × IsOfGroup why × refuses group why
+EndsReader refuses queries answered (Tag tag why) = ⊥
+
+-- the note of a reader of these queries: the first of them were answered, in order
+pub record IsReaderNote (D : Type 0) (tells : RowAsk → ℕ → Option CalcValue → Type 0) (refuses : ℕ → TurnNo → Type 0) (reader : ℕ)
+    (queries : List Query) (n : WorkerNote) : Type 0 where
+  pub told : AreOfFirst (IsToldFor D tells reader) 1 queries n.told.items
+  pub ending : EndsReader refuses queries (length n.told.items) n.ending
+  pub no_takes : n.takes.items ≡ []
+  pub no_turns : n.turns ≡ 0
+
+-- ---- refreshers
+
+-- how a refresher ends that has made so many turns
+abbrev pub EndsRefresher : (ℕ → TurnNo → Type 0) → Refresh → ℕ → Ending → Type 0
+EndsRefresher refuses refresh turns Ended = turns ≡ refresh.turns
+EndsRefresher refuses refresh turns Halted = turns < refresh.turns
+EndsRefresher refuses refresh turns WantOfMemory = turns < refresh.turns
+EndsRefresher refuses refresh turns (Group group why) =
+    (turns < refresh.turns) × (group ≡ refresh.group) × IsOfGroup why × refuses group why
+EndsRefresher refuses refresh turns (Tag tag why) = ⊥
+
+-- the note of a refresher
+pub record IsRefresherNote (refuses : ℕ → TurnNo → Type 0) (refresh : Refresh) (n : WorkerNote) : Type 0 where
+  pub ending : EndsRefresher refuses refresh n.turns n.ending
+  pub no_takes : n.takes.items ≡ []
+  pub no_answers : n.told.items ≡ []
+
+-- ---- a session
+
+-- the note of the worker at a place
+pub record IsNoteAt (D : Type 0) (tells : RowAsk → ℕ → Option CalcValue → Type 0) (refuses : ℕ → TurnNo → Type 0) (w : Work)
+    (place : ℕ) (n : WorkerNote) : Type 0 where
+  pub numbered : n.worker ≡ place
+  pub collector : (rows : Vec RawRow Global) → place < length w.collectors.items
+      → IsCollectorNote D place (slice_index_or w.collectors.items place rows).items n
+  pub reader : (reader : ℕ) (queries : Vec Query Global) → reader < length w.readers.items
+      → place ≡ length w.collectors.items + reader
+      → IsReaderNote D tells refuses reader (slice_index_or w.readers.items reader queries).items n
+  pub refresher : (refresher : ℕ) (refresh : Refresh) → refresher < length w.refreshers.items
+      → place ≡ length w.collectors.items + length w.readers.items + refresher
+      → IsRefresherNote refuses (slice_index_or w.refreshers.items refresher refresh) n
+
+-- the notes of all workers: the collectors, then the readers, then the refreshers
+pub record AreNotesOf (D : Type 0) (tells : RowAsk → ℕ → Option CalcValue → Type 0) (refuses : ℕ → TurnNo → Type 0) (w : Work)
+    (notes : List WorkerNote) : Type 0 where
+  pub count : length notes ≡ worker_count w
+  pub each : (place : ℕ) (n : WorkerNote) → place < length notes
+      → IsNoteAt D tells refuses w place (slice_index_or notes place n)
+
+-- how often a worker that ended so was stopped by its pass
+abbrev pub halts : Ending → ℕ
+halts Halted = 1
+halts ending = 0
+
+-- the stops of passes that had counted so many, with those of these workers
+abbrev pub stops_with : ℕ → List WorkerNote → ℕ
+stops_with stops notes = fold (λ count n. sum_of_counts count (halts n.ending)) stops notes

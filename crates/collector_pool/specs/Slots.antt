@@ -1,0 +1,70 @@
+-- What a worker has before it begins, and what it leaves.
+use Rattle.std.specs.Prelude.{◌≡◌, ℕ, ◌+◌, ◌<◌, List, [], ◌∷◌, ◌++◌, All, Option, Vec, length, slice_index_or}
+use Rattle.std.specs.declared.alloc.Global.{Global}
+use Rattle.atomic_table.specs.Seated.{TableId}
+use Rattle.trend_num.specs.declared.value.CalcValue.{CalcValue}
+use Rattle.value_rows.specs.declared.asked.Query.{Query}
+use Rattle.value_rows.specs.declared.raw.RawRow.{RawRow}
+use Rattle.snapshot_table.specs.Boards.{Looking, LooksAt}
+use Rattle.collector_pool.specs.declared.group_turns.TurnNo.{TurnNo}
+use Rattle.collector_pool.specs.declared.note.WorkerNote.{WorkerNote}
+use Rattle.collector_pool.specs.declared.slot.Role.{Role}
+use Rattle.collector_pool.specs.declared.slot.Role.TheVariants.{Collector, Reader, Refresher}
+use Rattle.collector_pool.specs.declared.slot.Slot.{Slot}
+use Rattle.collector_pool.specs.declared.work.Refresh.{Refresh}
+use Rattle.collector_pool.specs.declared.work.Work.{Work}
+use Rattle.collector_pool.specs.Notes.{IsCollectorNote, IsReaderNote, IsRefresherNote, halts}
+use Rattle.collector_pool.specs.RowAsk.{RowAsk}
+
+-- the number of the worker of this role
+abbrev pub worker_of : Work → Role → ℕ
+worker_of w (Collector collector) = collector
+worker_of w (Reader reader looker) = length w.collectors.items + reader
+worker_of w (Refresher refresher) = length w.collectors.items + length w.readers.items + refresher
+
+-- a role of this work, whose looker looks at this board
+abbrev pub IsRoleOf : Work → List TableId → Role → Type 0
+IsRoleOf w board (Collector collector) = collector < length w.collectors.items
+IsRoleOf w board (Reader reader looker) = (reader < length w.readers.items) × LooksAt board looker
+IsRoleOf w board (Refresher refresher) = refresher < length w.refreshers.items
+
+-- the note of a worker of this role
+abbrev pub IsNoteAs : Type 0 → (RowAsk → ℕ → Option CalcValue → Type 0) → (ℕ → TurnNo → Type 0) → Work → Role → WorkerNote → Type 0
+IsNoteAs D tells refuses w (Collector collector) n =
+    (rows : Vec RawRow Global) → IsCollectorNote D collector (slice_index_or w.collectors.items collector rows).items n
+IsNoteAs D tells refuses w (Reader reader looker) n =
+    (queries : Vec Query Global) → IsReaderNote D tells refuses reader (slice_index_or w.readers.items reader queries).items n
+IsNoteAs D tells refuses w (Refresher refresher) n =
+    (refresh : Refresh) → IsRefresherNote refuses (slice_index_or w.refreshers.items refresher refresh) n
+
+-- a slot whose worker may begin
+pub record IsReady {O : Type 0} (stops : O → ℕ) (w : Work) (board : List TableId) (s : Slot O) : Type 0 where
+  pub role : IsRoleOf w board s.role
+  pub worker : s.note.worker ≡ worker_of w s.role
+  pub fresh : stops s.pass ≡ 0
+
+-- one more worker has its slot, in this role
+pub record IsSeatedAs {O : Type 0} (stops : O → ℕ) (role : Role) (old new : List (Slot O)) : Type 0 where
+  pub slot : Slot O
+  pub slots : new ≡ old ++ slot ∷ []
+  pub role_is : slot.role ≡ role
+  pub worker : slot.note.worker ≡ length old
+  pub fresh : stops slot.pass ≡ 0
+
+-- the workers of these slots are numbered, and may begin where the lookers look at a board
+pub record AreSeated {O : Type 0} (stops : O → ℕ) (w : Work) (lookers : List Looking) (slots : List (Slot O)) : Type 0 where
+  pub numbered : (place : ℕ) (d : Slot O) → place < length slots → (slice_index_or slots place d).note.worker ≡ place
+  pub ready : (board : List TableId) → All (LooksAt board) lookers → All (IsReady stops w board) slots
+
+-- a slot whose worker has ended
+pub record IsDone {O : Type 0} (D : Type 0) (tells : RowAsk → ℕ → Option CalcValue → Type 0) (refuses : ℕ → TurnNo → Type 0)
+    (stops : O → ℕ) (w : Work) (old new : Slot O) : Type 0 where
+  pub worker : new.note.worker ≡ old.note.worker
+  pub note : IsNoteAs D tells refuses w old.role new.note
+  pub stopped : stops new.pass ≡ halts new.note.ending
+
+-- slots whose workers have ended
+pub record AreDone {O : Type 0} (D : Type 0) (tells : RowAsk → ℕ → Option CalcValue → Type 0) (refuses : ℕ → TurnNo → Type 0)
+    (stops : O → ℕ) (w : Work) (old new : List (Slot O)) : Type 0 where
+  pub each : (i : ℕ) (d : Slot O) → i < length old
+      → IsDone D tells refuses stops w (slice_index_or old i d) (slice_index_or new i d)

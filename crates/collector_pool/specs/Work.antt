@@ -1,0 +1,30 @@
+-- What the workers of a session have to do, and the plants that it is work for.
+use Rattle.std.specs.Prelude.{ℕ, ◌+◌, ◌^◌, ◌<◌, All, length}
+use Rattle.trend_num.specs.Queries.{IsTagQuery}
+use Rattle.trend_num.specs.Ranges.{InRange}
+use Rattle.value_rows.specs.declared.asked.Query.{Query}
+use Rattle.value_rows.specs.declared.asked.Query.TheVariants.{Tag, Snap, Row}
+use Rattle.value_rows.specs.declared.raw.RawRow.{RawRow}
+use Rattle.collector_pool.specs.declared.work.Work.{Work}
+
+-- how many workers there are: one for each collector, each reader and each refresher
+abbrev pub worker_count : Work → ℕ
+worker_count w = length w.collectors.items + length w.readers.items + length w.refreshers.items
+
+-- a row of one of so many tags, with a point in range
+pub record IsRowOf (tags : ℕ) (row : RawRow) : Type 0 where
+  pub tag : row.tag < tags
+  pub point : InRange row.point
+
+-- a query of one of so many tags, with times in range, or of one of so many groups
+abbrev pub IsQueryOf : ℕ → ℕ → Query → Type 0
+IsQueryOf tags groups (Tag tag query) = (tag < tags) × IsTagQuery query
+IsQueryOf tags groups (Snap tag) = tag < tags
+IsQueryOf tags groups (Row group calc k) = group < groups
+
+-- work for a plant of so many tags and groups, whose workers have numbers
+pub record IsWorkOf (tags groups : ℕ) (w : Work) : Type 0 where
+  pub few : worker_count w < 2 ^ 32
+  pub rows : All (λ rows. All (IsRowOf tags) rows.items) w.collectors.items
+  pub queries : All (λ queries. All (IsQueryOf tags groups) queries.items) w.readers.items
+  pub turns : All (λ refresh. refresh.group < groups) w.refreshers.items

@@ -1,0 +1,170 @@
+// A collector: it takes its rows in order, and commits what it took.
+ghost use Rattle.std.specs.Prelude.{◌≡◌, ◌==◌, ◌||◌, ◌%◌, ℕ, ◌+◌, ◌<◌, ◌≤◌, [], All, Any, IfErr, IfOk, IsErrOf, OnErr, OnOk, Some, MatchResult, None, length, true};
+ghost use Rattle.std.specs.Option.{option_map};
+ghost use Rattle.trend_num.specs.Ranges.{InRange};
+ghost use Rattle.tag_cell.specs.declared.entry.CommitNo.TheVariants.{Broken, DeviceFault};
+ghost use Rattle.tag_cell.specs.Told.{IsTakenBy, take_refusal, waits};
+ghost use Rattle.collector_pool.specs.Notes.{AreOfFirst, EndsAtCommit, EndsCollector, IsCollectorNote, IsNoteOfTake, IsRefusedCommit, RefusesRow, halts};
+ghost use Rattle.collector_pool.specs.Refusals.{refusal_of_take};
+ghost use Rattle.collector_pool.specs.Work.{IsRowOf};
+
+use crate::note::{CellNo, Ending, TakeNote, WorkerNote, ending_of_commit, make_room};
+use disk_model::Disk;
+use plant_status::Pass;
+use std::alloc::Global;
+use std::sync::{Mutex, Wait};
+use tag_cell::{Cell, CommitNo};
+use value_rows::RawRow;
+
+// After so many rows a collector commits.
+const ROWS_OF_COMMIT: usize = 64;
+
+// The work of a collector.
+pub(crate) fn collect<R: Wait, D: Disk, O: Pass>(
+    rt: &R,
+    alloc: Global,
+    cells: &[Mutex<Cell<D>>],
+    worker: u32,
+    collector: u32,
+    rows: &[RawRow],
+    pass: &mut O,
+) -> WorkerNote
+    requires rows { All (IsRowOf (length cells.now)) rows.now }
+    requires fresh { O.stops pass.old ≡ 0 }
+    ensures worker { result.worker ≡ worker }
+    ensures note { IsCollectorNote D collector rows.now result }
+    ensures stops { O.stops pass.new ≡ halts result.ending }
+{
+    let mut note = WorkerNote::new(alloc, worker);
+    note.ending = take_rows(rt, cells, collector, rows, pass, &mut note.takes);
+    note
+}
+
+// Takes the rows, each noted, and answers how the collector ends.
+fn take_rows<R: Wait, D: Disk, O: Pass>(
+    rt: &R,
+    cells: &[Mutex<Cell<D>>],
+    collector: u32,
+    rows: &[RawRow],
+    pass: &mut O,
+    takes: &mut Vec<TakeNote>,
+) -> Ending
+    requires rows { All (IsRowOf (length cells.now)) rows.now }
+    requires fresh { O.stops pass.old ≡ 0 }
+    requires none { takes.old.items ≡ [] }
+    ensures takes { AreOfFirst (IsNoteOfTake D collector) 1 rows.now takes.new.items }
+    ensures ending { EndsCollector D rows.now (length takes.new.items) result }
+    ensures stops { O.stops pass.new ≡ halts result }
+{
+    if make_room(takes, rows.len()).is_err() {
+        return Ending::WantOfMemory;
+    }
+    let mut committed = 0;
+    for (i, row) in rows.iter().enumerate() {
+        if !pass.pass(i as u64) {
+            return Ending::Halted;
+        }
+        match take_row(rt, cells, collector, i as u64 + 1, *row) {
+            Ok(note) => takes.push_reserved(note),
+            Err(why) => return Ending::Tag { tag: row.tag, why },
+        }
+        let taken = i + 1;
+        if is_due(taken, rows.len()) {
+            if let Err(ending) = commit_tags(rt, cells, &rows[committed..taken]) {
+                return ending;
+            }
+            committed = taken;
+        }
+    }
+    Ending::Ended
+}
+
+// Whether a collector of so many rows commits after this one: a multiple of 64, or the last.
+fn is_due(number: usize, rows: usize) -> bool
+    ensures { result ≡ ((number % 64 == 0) || (number == rows)) }
+{
+    number % ROWS_OF_COMMIT == 0 || number == rows
+}
+
+// Takes a row under the lock of its tag.
+fn take_row<R: Wait, D: Disk>(
+    rt: &R,
+    cells: &[Mutex<Cell<D>>],
+    collector: u32,
+    number: u64,
+    row: RawRow,
+) -> Result<TakeNote, CellNo>
+    requires { IsRowOf (length cells.now) row }
+    ensures noted { IfOk result (IsNoteOfTake D collector number row) }
+    ensures refused { IfErr result (RefusesRow D row row.tag) }
+{
+    let mut cell = cells[row.tag as usize].lock(rt);
+    take_into(rt, &mut cell, collector, number, row)
+}
+
+// Takes a row into the cell of its tag, and makes the note of it.
+fn take_into<R: Wait, D: Disk>(
+    rt: &R,
+    cell: &mut Cell<D>,
+    collector: u32,
+    number: u64,
+    row: RawRow,
+) -> Result<TakeNote, CellNo>
+    requires { InRange row.point }
+    ensures taken { OnOk result (IsTakenBy collector number row.point cell.old cell.new) }
+    ensures noted { IfOk result (λ note. note ≡ record { tag = row.tag; row = number; point = row.point; place = length cell.old.tape }) }
+    ensures refused { MatchResult result (λ _. take_refusal cell.old ≡ None) (λ why. option_map refusal_of_take (take_refusal cell.old) ≡ Some why) }
+    ensures unchanged { OnErr result (cell.new ≡ cell.old) }
+{
+    let receipt = cell.take(rt, collector, number, row.point)?;
+    Ok(TakeNote {
+        tag: row.tag,
+        row: number,
+        point: row.point,
+        place: receipt.place,
+    })
+}
+
+// Commits each tag of these rows, one after the other, or answers how the collector ends.
+fn commit_tags<R: Wait, D: Disk>(
+    rt: &R,
+    cells: &[Mutex<Cell<D>>],
+    rows: &[RawRow],
+) -> Result<(), Ending>
+    requires { All (IsRowOf (length cells.now)) rows.now }
+    ensures { IfErr result (EndsAtCommit D rows.now) }
+{
+    for (i, row) in rows.iter().enumerate() {
+        if rows[..i].iter().all(|earlier| earlier.tag != row.tag) {
+            commit_tag(rt, cells, row.tag)?;
+        }
+    }
+    Ok(())
+}
+
+// Commits a tag under its lock, until nothing waits there.
+fn commit_tag<R: Wait, D: Disk>(rt: &R, cells: &[Mutex<Cell<D>>], tag: u32) -> Result<(), Ending>
+    requires { tag < length cells.now }
+    ensures { IfErr result (IsRefusedCommit D tag) }
+{
+    let mut cell = cells[tag as usize].lock(rt);
+    match commit_all(&mut cell) {
+        Ok(()) => Ok(()),
+        Err(no) => Err(ending_of_commit(tag, no)),
+    }
+}
+
+// Commits until nothing waits.
+fn commit_all<D: Disk>(cell: &mut Cell<D>) -> Result<(), CommitNo>
+    ensures committed { OnOk result (waits cell.new ≡ 0) }
+    ensures same_state { cell.new.state ≡ cell.old.state }
+    ensures broken { IsErrOf result Broken → cell.new.journal.failed ≡ true }
+    ensures faulted { IsErrOf result DeviceFault → cell.new.journal.failed ≡ true }
+{
+    loop {
+        let done = cell.commit()?;
+        if done.waiting == 0 {
+            return Ok(());
+        }
+    }
+}

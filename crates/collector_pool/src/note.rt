@@ -1,0 +1,167 @@
+// What a worker tells of what it did.
+ghost use Rattle.std.specs.Prelude.{◌≡◌, ◌+◌, ◌<◌, ◌≤◌, [], IfOk, OnErr, OnOk, vec_capacity, vec_len};
+ghost use Rattle.collector_pool.specs.Refusals.{ending_of_commit, ending_of_turn};
+
+use crate::group_turns::TurnNo;
+use interp_read::Reply;
+use std::alloc::Global;
+use tag_cell::{CommitNo, TakeNo};
+use trend_num::{CalcValue, Point, Snap, WantOfMemory};
+
+/// A row that a collector took.
+#[derive(Clone, Copy, Debug, PartialEq, Eq)]
+pub struct TakeNote {
+    /// The tag, counted from 0.
+    pub tag: u32,
+    /// The row of the collector, counted from 1.
+    pub row: u64,
+    pub point: Point,
+    /// Where the entry of the take stands on the tag's tape, counted from 0.
+    pub place: u64,
+}
+
+/// What a reader was told.
+#[derive(Drop)]
+pub enum Told {
+    /// The answer of a tag, and where its entry stands on the tag's tape.
+    Tag {
+        tag: u32,
+        place: u64,
+        reply: Reply,
+    },
+    /// The snapshot that the board showed of a tag.
+    Snap {
+        tag: u32,
+        snap: Snap,
+    },
+    /// The answer of a group, and where its entry stands on the group's tape.
+    Row {
+        group: u32,
+        place: u64,
+        reply: Option<CalcValue>,
+    },
+}
+
+/// Why a tag took no more values, or acknowledged none.
+#[derive(Clone, Copy, Debug, PartialEq, Eq)]
+pub enum CellNo {
+    /// One more event could bring too many records.
+    Full { records: u32 },
+    /// The tape has as many takes as it has room for.
+    RoomFull { room: u32 },
+    /// An earlier commit answered DeviceFault.
+    Broken,
+    /// A call of the device failed.
+    DeviceFault,
+}
+
+/// How a worker ended.
+#[derive(Clone, Copy, Debug, PartialEq, Eq)]
+pub enum Ending {
+    /// All its work is done.
+    Ended,
+    /// Its pass did not let it take its next step.
+    Halted,
+    /// A tag refused a value or a commit.
+    Tag { tag: u32, why: CellNo },
+    /// A group refused a turn or an answer, and not for want of memory.
+    Group { group: u32, why: TurnNo },
+    WantOfMemory,
+}
+
+/// What a worker did, and how it ended.
+#[derive(Drop)]
+pub struct WorkerNote {
+    /// The worker, counted from 0: the collectors, then the readers, then the refreshers.
+    pub worker: u32,
+    /// What it took, as a collector.
+    pub takes: Vec<TakeNote>,
+    /// What it was told, as a reader.
+    pub told: Vec<Told>,
+    /// How many turns it made, as a refresher.
+    pub turns: u32,
+    pub ending: Ending,
+}
+
+impl WorkerNote {
+    // The note of a worker that has not begun.
+    pub(crate) fn new(alloc: Global, worker: u32) -> WorkerNote
+        ensures worker { result.worker ≡ worker }
+        ensures takes { result.takes.items ≡ [] }
+        ensures told { result.told.items ≡ [] }
+        ensures turns { result.turns ≡ 0 }
+    {
+        WorkerNote {
+            worker,
+            takes: Vec::new(alloc),
+            told: Vec::new(alloc),
+            turns: 0,
+            ending: Ending::Ended,
+        }
+    }
+}
+
+// An empty list with room for so many items.
+pub(crate) fn with_room<T>(alloc: Global, count: usize) -> Result<Vec<T>, WantOfMemory>
+    ensures none { IfOk result (λ list. list.items ≡ []) }
+    ensures room { IfOk result (λ list. count ≤ vec_capacity list) }
+{
+    match Vec::with_capacity(alloc, count) {
+        Ok(list) => Ok(list),
+        Err(_) => Err(WantOfMemory),
+    }
+}
+
+// Makes room for so many items more. Where there are none, it succeeds.
+pub(crate) fn make_room<T: Drop>(list: &mut Vec<T>, count: usize) -> Result<(), WantOfMemory>
+    ensures same { list.new.items ≡ list.old.items }
+    ensures room { OnOk result (vec_len list.old + count ≤ vec_capacity list.new) }
+    ensures some { OnErr result (0 < count) }
+{
+    if count == 0 {
+        return Ok(());
+    }
+    list.reserve(count).map_err(|_| WantOfMemory)
+}
+
+impl From<TakeNo> for CellNo {
+    ghost use Rattle.std.specs.Prelude.{◌≡◌};
+    ghost use Rattle.collector_pool.specs.Refusals.{refusal_of_take};
+
+    ghost from_gives = { λ take no. no ≡ refusal_of_take take };
+
+    fn from(take: TakeNo) -> CellNo {
+        match take {
+            TakeNo::Full { records } => CellNo::Full { records },
+            TakeNo::RoomFull { room } => CellNo::RoomFull { room },
+            TakeNo::Broken => CellNo::Broken,
+        }
+    }
+}
+
+// How a collector ends whose commit of this tag was refused.
+pub(crate) fn ending_of_commit(tag: u32, no: CommitNo) -> Ending
+    ensures { result ≡ ending_of_commit tag no }
+{
+    match no {
+        CommitNo::Broken => Ending::Tag {
+            tag,
+            why: CellNo::Broken,
+        },
+        CommitNo::DeviceFault => Ending::Tag {
+            tag,
+            why: CellNo::DeviceFault,
+        },
+        CommitNo::WantOfMemory => Ending::WantOfMemory,
+    }
+}
+
+// How a worker ends whom this group refused.
+pub(crate) fn ending_of_turn(group: u32, no: TurnNo) -> Ending
+    ensures { result ≡ ending_of_turn group no }
+{
+    match no {
+        TurnNo::WantOfMemory => Ending::WantOfMemory,
+        why => Ending::Group { group, why },
+    }
+}

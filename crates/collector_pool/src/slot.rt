@@ -1,0 +1,17 @@
+// A worker's place in a session: its role, its pass and its note.
+use crate::note::WorkerNote;
+use snapshot_table::Looker;
+
+// What a worker is, with its number among its kind.
+#[derive(Drop)]
+pub enum Role {
+    Collector(u32),
+    Reader(u32, Looker),
+    Refresher(u32),
+}
+
+pub struct Slot<O> {
+    pub role: Role,
+    pub pass: O,
+    pub note: WorkerNote,
+}

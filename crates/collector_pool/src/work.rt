@@ -1,0 +1,90 @@
+// What the workers of a session have to do.
+ghost use Rattle.std.specs.Prelude.{◌↔◌, ◌<◌, ◌^◌, All, IsTrue};
+ghost use Rattle.trend_num.specs.Queries.{IsTagQuery};
+ghost use Rattle.collector_pool.specs.Work.{worker_count, IsQueryOf, IsRowOf, IsWorkOf};
+
+use trend_num::{MAX_T, TagQuery, in_range};
+use value_rows::{Query, RawRow};
+
+/// How often a refresher refreshes its group.
+#[derive(Clone, Copy, Debug, PartialEq, Eq)]
+pub struct Refresh {
+    /// The group, counted from 0.
+    pub group: u32,
+    pub turns: u32,
+}
+
+/// What each worker has to do: the rows of each collector, the queries of each reader, and the refreshers.
+#[derive(Debug, Drop)]
+pub struct Work {
+    pub collectors: Vec<Vec<RawRow>>,
+    pub readers: Vec<Vec<Query>>,
+    pub refreshers: Vec<Refresh>,
+}
+
+impl Work {
+    /// Whether it is work for a plant of so many tags and groups: no row, query or turn is of another one, points and times
+    /// are in range, and the workers can be numbered.
+    pub fn fits(&self, tags: usize, groups: u32) -> bool
+        ensures { IsTrue result ↔ IsWorkOf tags groups self.now }
+    {
+        self.can_be_numbered()
+            && self.collectors.iter().all(|rows| rows_fit(tags, rows))
+            && self
+                .readers
+                .iter()
+                .all(|queries| queries_fit(tags, groups, queries))
+            && self.refreshers.iter().all(|refresh| refresh.group < groups)
+    }
+
+    // Whether there are fewer than 2^32 workers.
+    fn can_be_numbered(&self) -> bool
+        ensures { IsTrue result ↔ (worker_count self.now < 2 ^ 32) }
+    {
+        let most = u32::MAX as usize;
+        let (collectors, readers) = (self.collectors.len(), self.readers.len());
+        collectors <= most
+            && readers <= most - collectors
+            && self.refreshers.len() <= most - collectors - readers
+    }
+}
+
+// Whether each row is of one of so many tags, and its point in range.
+fn rows_fit(tags: usize, rows: &[RawRow]) -> bool
+    ensures { IsTrue result ↔ All (IsRowOf tags) rows.now }
+{
+    rows.iter().all(|row| row_fits(tags, *row))
+}
+
+fn row_fits(tags: usize, row: RawRow) -> bool
+    ensures { IsTrue result ↔ IsRowOf tags row }
+{
+    (row.tag as usize) < tags && in_range(row.point)
+}
+
+// Whether each query is of one of so many tags or groups, and its times in range.
+fn queries_fit(tags: usize, groups: u32, queries: &[Query]) -> bool
+    ensures { IsTrue result ↔ All (IsQueryOf tags groups) queries.now }
+{
+    queries.iter().all(|query| query_fits(tags, groups, *query))
+}
+
+fn query_fits(tags: usize, groups: u32, query: Query) -> bool
+    ensures { IsTrue result ↔ IsQueryOf tags groups query }
+{
+    match query {
+        Query::Tag { tag, query } => (tag as usize) < tags && times_fit(query),
+        Query::Snap { tag } => (tag as usize) < tags,
+        Query::Row { group, .. } => group < groups,
+    }
+}
+
+fn times_fit(query: TagQuery) -> bool
+    ensures { IsTrue result ↔ IsTagQuery query }
+{
+    match query {
+        TagQuery::At { t } => t <= MAX_T,
+        TagQuery::Points { from, to } => from <= to && to <= MAX_T,
+        TagQuery::Window { from, to, .. } => from < to && to <= MAX_T,
+    }
+}
