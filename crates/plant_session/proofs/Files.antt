@@ -1,10 +1,11 @@
 -- The files of all workers, one after another.
-use Rattle.std.proofs.Common.{◌≡◌, ◌≢◌, ℕ, ◌+◌, ◌<◌, ◌≤◌, inl, inr, List, [], ◌∷◌, length, map, get_or, Option, None, Some, Vec, refl, sym, ap, subst, ◌∙◌, arith}
+use Rattle.std.proofs.Common.{◌≡◌, ◌≢◌, ℕ, ◌+◌, ◌<◌, ◌≤◌, inl, inr, List, [], ◌∷◌, All, length, map, get_or, Option, None, Some, Vec, refl, sym, ap, subst, ◌∙◌, arith}
 use Rattle.std.specs.Prelude.{slice_get}
 use Rattle.std.specs.declared.alloc.Global.{Global}
 use Rattle.std.specs.Option.{option_map_or}
 use Rattle.std.proofs.lemmas.Bool.{cases_eq, cases_lt}
 use Rattle.std.proofs.lemmas.List.{get_or-map, get_or_default, length-map}
+use Rattle.std.proofs.lemmas.List.Elements.{All-map}
 use Rattle.std.proofs.lemmas.Option.{slice_get-get_or, slice_get_past}
 use Rattle.plant_status.specs.declared.mismatch.Seen.{Seen}
 use Rattle.calc_refresh.specs.Lists.{lists_of}
@@ -28,6 +29,11 @@ file_at files i v d within is =
 pub file_within : {A : Type 0} (files : List (Vec A Global)) (i : ℕ) → i < length files → i < length (lists_of files)
 file_within files i within = omega (arith, within, length-map files (λ (w : Vec _ Global). w.items))
 
+-- what is so of each file is so of each list of rows
+pub each_file : {A : Type 0} (P : List A → Type 0) (files : List (Vec A Global)) → All (λ v. P v.items) files
+    → All P (lists_of files)
+each_file {A = A} P files each = All-map {X = List A} P (λ (v : Vec A Global). v.items) files each
+
 -- the progress of one worker is over the rows of its file
 pub over_file : {A : Type 0} (item_of : ℕ → ℕ → A → Option Item) (tags : ℕ) (files : List (List A)) (works : List Reached)
     (worker : ℕ) (rows d : List A) → AreOver item_of tags files works → worker < length files → rows ≡ get_or files worker d
@@ -44,6 +50,7 @@ pub over_again : {A : Type 0} (item_of : ℕ → ℕ → A → Option Item) (tag
     → rows ≡ get_or files worker d → IsOver item_of more worker rows new → AreOthersSame worker old new
     → AreOver item_of more files new
 over_again item_of tags more files old new worker rows d over within is one others = record {
+  few = over.few;
   as_many = others.as_many ∙ over.as_many;
   items = λ w e p below. elim (cases_eq w worker) [
     | inl same ↦ subst (λ n. (get_or new n p).items ≡ numbered (item_of n) 1 (get_or files n e)) (sym same)

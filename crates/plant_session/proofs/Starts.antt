@@ -1,5 +1,5 @@
 -- Workers whose rows are gone over for the first time, one more.
-use Rattle.std.proofs.Common.{◌≡◌, ◌≢◌, ℕ, ◌+◌, ◌<◌, ◌≤◌, inl, inr, List, [], ◌∷◌, ◌++◌, All, length, get_or, Option, None, Some, IfSome, pos, refl, sym, ap, subst, ◌∙◌, arith}
+use Rattle.std.proofs.Common.{◌≡◌, ◌≢◌, ℕ, ◌+◌, ◌^◌, ◌<◌, ◌≤◌, inl, inr, List, [], ◌∷◌, ◌++◌, All, length, get_or, Option, None, Some, IfSome, pos, refl, sym, ap, subst, ◌∙◌, arith}
 use Rattle.std.proofs.lemmas.Bool.{cases_eq, cases_lt}
 use Rattle.std.proofs.lemmas.List.{get_or_append_left, get_or_default, get_or_past, get_or_push, length_push}
 use Rattle.std.proofs.lemmas.List.Elements.{All-from_get_or, All-get_or}
@@ -56,9 +56,10 @@ started_more item_of tags upto files works q rows within is items units unfound 
 
 -- all of them
 pub started_all : {A : Type 0} (item_of : ℕ → ℕ → A → Option Item) (tags upto : ℕ) (files : List (List A))
-    (works : List Reached) → upto ≡ length files → AreStarted item_of tags upto files works
+    (works : List Reached) → upto ≡ length files → length files < 2 ^ 32 → AreStarted item_of tags upto files works
     → AreOver item_of tags files works
-started_all item_of tags upto files works end so = record {
+started_all item_of tags upto files works end few so = record {
+  few = few;
   as_many = so.as_many ∙ end;
   items = λ w rows p below. so.items w rows p (omega (arith, below, end));
   units = λ w p below. so.units w p (omega (arith, below, so.as_many));

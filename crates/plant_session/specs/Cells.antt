@@ -1,5 +1,5 @@
 -- Cells that have gained entries.
-use Rattle.std.specs.Prelude.{◌≡◌, ◌≢◌, ℕ, ◌<◌, List, [], ◌++◌, All, length, slice_get, slice_index_or, Option, ⊤}
+use Rattle.std.specs.Prelude.{◌≡◌, ◌≢◌, ℕ, ◌^◌, ◌<◌, List, [], ◌++◌, All, length, slice_get, slice_index_or, Option, ⊤}
 use Rattle.std.specs.Option.{option_map_or}
 use Rattle.trend_num.specs.Queries.{IsTagQuery}
 use Rattle.value_rows.specs.declared.asked.Query.{Query}
@@ -64,6 +64,7 @@ pub record AreAllShown {D A : Type 0} (work : Entry → Option Shown) (item_of :
 -- each worker's progress is over the rows of its file, at so many tags
 pub record AreOver {A : Type 0} (item_of : ℕ → ℕ → A → Option Item) (tags : ℕ) (files : List (List A)) (works : List Reached)
     : Type 0 where
+  pub few : length files < 2 ^ 32
   pub as_many : length works ≡ length files
   pub items : (worker : ℕ) (rows : List A) (p : Reached) → worker < length files
       → (slice_index_or works worker p).items ≡ numbered (item_of worker) 1 (slice_index_or files worker rows)

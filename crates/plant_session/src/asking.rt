@@ -21,10 +21,8 @@ pub fn ask_missing<D: Disk>(
     works: &mut [Progress<'_>],
 ) -> Result<(), WantOfMemory>
     requires over { AreOver ask_item (length cells.old) (lists_of files.now) works.old }
-    requires queries { All (All (IsKnownAsk (length cells.old))) (lists_of files.now) }
+    requires queries { All (λ queries. All (IsKnownAsk (length cells.old)) queries.items) files.now }
     requires found { AreAllFound ask_of cells.old works.old }
-    requires few_files { length files.now < 2 ^ 32 }
-    requires few_rows { All (λ queries. length queries < 2 ^ 32) (lists_of files.now) }
     ensures shown { OnOk result (AreAllShown ask_of ask_item (lists_of files.now) cells.new) }
     ensures longer { AreLonger IsAsked cells.old cells.new }
 {
@@ -44,7 +42,6 @@ fn ask_file<D: Disk>(
     requires over { IsOver ask_item (length cells.old) reader queries.now works.old }
     requires queries { All (IsKnownAsk (length cells.old)) queries.now }
     requires few { reader < 2 ^ 32 }
-    requires few_rows { length queries.now < 2 ^ 32 }
     requires found { AreAllFound ask_of cells.old works.old }
     ensures over { IsOver ask_item (length cells.new) reader queries.now works.new }
     ensures found { AreAllFound ask_of cells.new works.new }
@@ -70,7 +67,6 @@ fn ask_turn<D: Disk>(
     requires queries { All (IsKnownAsk (length cells.old)) queries.now }
     requires within { place < length queries.now }
     requires few { reader < 2 ^ 32 }
-    requires few_rows { length queries.now < 2 ^ 32 }
     requires found { AreAllFound ask_of cells.old works.old }
     requires caught { IsCaughtTo place reader works.old }
     ensures over { IsOver ask_item (length cells.new) reader queries.now works.new }

@@ -1,5 +1,5 @@
 // The progress of workers of whose rows none was found yet.
-ghost use Rattle.std.specs.Prelude.{◌^◌, ◌<◌, All, IfOk, length};
+ghost use Rattle.std.specs.Prelude.{◌↔◌, ◌^◌, ◌<◌, All, IfOk, IsTrue};
 ghost use Rattle.calc_refresh.specs.Lists.{lists_of};
 ghost use Rattle.tape_audit.specs.Agendas.{ask_item, take_item};
 ghost use Rattle.collector_pool.specs.Work.{IsRowOf};
@@ -10,20 +10,25 @@ use std::alloc::Global;
 use tape_audit::{Agenda, Progress, Rows, WantOfMemory};
 use value_rows::{Query, RawRow};
 
-/// The progress of each collector over the rows of its file, of so many tags.
+/// The progress of each collector over the rows of its file, of so many tags. More than 2^32 - 1 files or rows are refused, as
+/// memory that is not there.
 pub fn collectors_of<'a>(
     alloc: Global,
     files: &'a [Vec<RawRow>],
     tags: u32,
 ) -> Result<Vec<Progress<'a>>, WantOfMemory>
-    requires few { length files.now < 2 ^ 32 }
-    requires few_rows { All (λ rows. length rows < 2 ^ 32) (lists_of files.now) }
-    requires values { All (All (IsRowOf tags)) (lists_of files.now) }
+    requires { All (λ rows. All (IsRowOf tags) rows.items) files.now }
     ensures over { IfOk result (λ works. AreOver take_item tags (lists_of files.now) works.items) }
     ensures unfound { IfOk result (λ works. AreUnfound tags works.items) }
 {
+    if !is_small(files.len()) {
+        return Err(WantOfMemory);
+    }
     let mut works = Vec::with_capacity(alloc, files.len())?;
     for (collector, rows) in files.iter().enumerate() {
+        if !is_small(rows.len()) {
+            return Err(WantOfMemory);
+        }
         let agenda = Agenda {
             worker: collector as u32,
             rows: Rows::Takes(rows),
@@ -34,20 +39,25 @@ pub fn collectors_of<'a>(
     Ok(works)
 }
 
-/// The progress of each reader over the questions of its file, of so many tags.
+/// The progress of each reader over the questions of its file, of so many tags. More than 2^32 - 1 files or questions are
+/// refused, as memory that is not there.
 pub fn readers_of<'a>(
     alloc: Global,
     files: &'a [Vec<Query>],
     tags: u32,
 ) -> Result<Vec<Progress<'a>>, WantOfMemory>
-    requires few { length files.now < 2 ^ 32 }
-    requires few_rows { All (λ queries. length queries < 2 ^ 32) (lists_of files.now) }
-    requires queries { All (All (IsKnownAsk tags)) (lists_of files.now) }
+    requires { All (λ queries. All (IsKnownAsk tags) queries.items) files.now }
     ensures over { IfOk result (λ works. AreOver ask_item tags (lists_of files.now) works.items) }
     ensures unfound { IfOk result (λ works. AreUnfound tags works.items) }
 {
+    if !is_small(files.len()) {
+        return Err(WantOfMemory);
+    }
     let mut works = Vec::with_capacity(alloc, files.len())?;
     for (reader, queries) in files.iter().enumerate() {
+        if !is_small(queries.len()) {
+            return Err(WantOfMemory);
+        }
         let agenda = Agenda {
             worker: reader as u32,
             rows: Rows::Asks(queries),
@@ -56,4 +66,11 @@ pub fn readers_of<'a>(
         works.push_reserved(work);
     }
     Ok(works)
+}
+
+// Whether a number has places that are `u32`.
+fn is_small(count: usize) -> bool
+    ensures { IsTrue result ↔ (count < 2 ^ 32) }
+{
+    count <= u32::MAX as usize
 }

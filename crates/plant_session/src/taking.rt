@@ -26,10 +26,8 @@ pub fn take_missing<D: Disk, R: Wait>(
 ) -> Result<(), Status>
     requires rooms { length rooms.now ≡ length cells.old }
     requires over { AreOver take_item (length cells.old) (lists_of files.now) works.old }
-    requires values { All (All (IsRowOf (length cells.old))) (lists_of files.now) }
+    requires values { All (λ rows. All (IsRowOf (length cells.old)) rows.items) files.now }
     requires found { AreAllFound take_of cells.old works.old }
-    requires few_files { length files.now < 2 ^ 32 }
-    requires few_rows { All (λ rows. length rows < 2 ^ 32) (lists_of files.now) }
     ensures shown { OnOk result (AreAllShown take_of take_item (lists_of files.now) cells.new) }
     ensures longer { AreLonger IsTaken cells.old cells.new }
     ensures refused { IfErr result (IsTakeRefusal rooms.now cells.new) }
@@ -55,7 +53,6 @@ fn take_file<D: Disk, R: Wait>(
     requires over { IsOver take_item (length cells.old) collector rows.now works.old }
     requires values { All (IsRowOf (length cells.old)) rows.now }
     requires few { collector < 2 ^ 32 }
-    requires few_rows { length rows.now < 2 ^ 32 }
     requires found { AreAllFound take_of cells.old works.old }
     ensures over { IsOver take_item (length cells.new) collector rows.now works.new }
     ensures found { AreAllFound take_of cells.new works.new }
@@ -87,7 +84,6 @@ fn take_turn<D: Disk, R: Wait>(
     requires values { All (IsRowOf (length cells.old)) rows.now }
     requires within { place < length rows.now }
     requires few { collector < 2 ^ 32 }
-    requires few_rows { length rows.now < 2 ^ 32 }
     requires found { AreAllFound take_of cells.old works.old }
     requires caught { IsCaughtTo place collector works.old }
     ensures over { IsOver take_item (length cells.new) collector rows.now works.new }

@@ -8,7 +8,7 @@ use Rattle.tape_audit.specs.Agendas.{ask_item}
 use Rattle.tape_audit.specs.Found.{IsCaughtUp}
 use Rattle.tape_audit.specs.Tapes.{ask_of}
 use Rattle.plant_session.specs.Cells.{IsCaughtTo, IsAsked, IsKnownAsk}
-use Rattle.plant_session.proofs.Files.{file_at, file_within, over_again, over_file, shown_all}
+use Rattle.plant_session.proofs.Files.{each_file, file_at, file_within, over_again, over_file, shown_all}
 use Rattle.plant_session.proofs.Longer.{all_longer, all_longer_trans}
 use Rattle.plant_session.proofs.asking.ask_missing.Goals as goal
 
@@ -36,15 +36,7 @@ ask_file-requires-clause-queries g c =
     subst (λ n. All (IsKnownAsk n) c.deref.result.now) (sym c.loop-reader.invariant.longer.as_many)
     (subst (All (IsKnownAsk tags)) (sym (c.deref.ensures.value
     ∙ file_at files at c.index-files-reader.result [] c.loop-reader-test.true c.index-files-reader.is))
-    (All-get_or (All (IsKnownAsk tags)) (lists_of files) at [] (file_within files at c.loop-reader-test.true) c.requires.queries))
-
-pub ask_file-requires-clause-few_rows : goal.ask_file-requires-clause-few_rows
-ask_file-requires-clause-few_rows g c =
-    let files = c.args.files.now in
-    let at = c.loop-reader.reader in
-    subst (λ l. length l < 2 ^ 32) (sym (c.deref.ensures.value
-    ∙ file_at files at c.index-files-reader.result [] c.loop-reader-test.true c.index-files-reader.is))
-    (All-get_or (λ l. length l < 2 ^ 32) (lists_of files) at [] (file_within files at c.loop-reader-test.true) c.requires.few_rows)
+    (All-get_or (All (IsKnownAsk tags)) (lists_of files) at [] (file_within files at c.loop-reader-test.true) (each_file (All (IsKnownAsk tags)) files c.requires.queries)))
 
 pub returns-in_err-ask_file-clause-longer : goal.returns-in_err-ask_file-clause-longer
 returns-in_err-ask_file-clause-longer g c =

@@ -4,19 +4,19 @@ use Rattle.calc_refresh.specs.Lists.{lists_of}
 use Rattle.tape_audit.specs.Agendas.{ask_item}
 use Rattle.tape_audit.proofs.Numbers.{length-numbered}
 use Rattle.plant_session.specs.Cells.{IsKnownAsk}
-use Rattle.plant_session.proofs.Files.{file_at, file_within}
+use Rattle.plant_session.proofs.Files.{each_file, file_at, file_within}
 use Rattle.plant_session.proofs.Starts.{AreStarted, known_asks, started_all, started_more, started_unfound}
 use Rattle.plant_session.proofs.starting.readers_of.Goals as goal
 
 pub new-requires-clause-few : goal.new-requires-clause-few
 new-requires-clause-few c =
-    let files = c.args.files.now in
-    let at = c.loop-reader.reader in
-    let file : c.deref.result.now ≡ get_or (lists_of files) at [] = c.deref.ensures.value
-    ∙ file_at files at c.index-files-reader.result [] c.loop-reader-test.true c.index-files-reader.is in
-    let few : length (get_or (lists_of files) at []) < 2 ^ 32 = All-get_or (λ l. length l < 2 ^ 32) (lists_of files) at []
-    (file_within files at c.loop-reader-test.true) c.requires.few_rows in
-    omega (arith, few, ap length file, length-numbered (ask_item at) 1 c.deref.result.now)
+    omega (
+      arith,
+      length-numbered (ask_item c.loop-reader.reader) 1 c.deref.result.now,
+      c.deref.ensures.len,
+      c.len.ensures,
+      c.is_small-in-loop-reader.ensures.0 c.if-not-is_small-2.false,
+    )
 
 pub new-requires-clause-units : goal.new-requires-clause-units
 new-requires-clause-units c =
@@ -26,7 +26,7 @@ new-requires-clause-units c =
     ∙ file_at files at c.index-files-reader.result [] c.loop-reader-test.true c.index-files-reader.is in
     known_asks c.args.tags at c.deref.result.now (subst (All (IsKnownAsk c.args.tags)) (sym file)
     (All-get_or (All (IsKnownAsk c.args.tags)) (lists_of files) at [] (file_within files at c.loop-reader-test.true)
-    c.requires.queries))
+    (each_file (All (IsKnownAsk c.args.tags)) files c.requires)))
 
 pub loop-reader-preserved : goal.loop-reader-preserved
 loop-reader-preserved c =

@@ -9,7 +9,7 @@ use Rattle.tape_audit.specs.Found.{IsCaughtUp}
 use Rattle.tape_audit.specs.Tapes.{take_of}
 use Rattle.collector_pool.specs.Work.{IsRowOf}
 use Rattle.plant_session.specs.Cells.{IsCaughtTo, IsTaken}
-use Rattle.plant_session.proofs.Files.{file_at, file_within, over_again, over_file, shown_all}
+use Rattle.plant_session.proofs.Files.{each_file, file_at, file_within, over_again, over_file, shown_all}
 use Rattle.plant_session.proofs.Longer.{all_longer, all_longer_trans}
 use Rattle.plant_session.proofs.taking.take_missing.Goals as goal
 
@@ -37,15 +37,7 @@ take_file-requires-clause-values g c =
     subst (λ n. All (IsRowOf n) c.deref.result.now) (sym c.loop-collector.invariant.longer.as_many)
     (subst (All (IsRowOf tags)) (sym (c.deref.ensures.value
     ∙ file_at files at c.index-files-collector.result [] c.loop-collector-test.true c.index-files-collector.is))
-    (All-get_or (All (IsRowOf tags)) (lists_of files) at [] (file_within files at c.loop-collector-test.true) c.requires.values))
-
-pub take_file-requires-clause-few_rows : goal.take_file-requires-clause-few_rows
-take_file-requires-clause-few_rows g c =
-    let files = c.args.files.now in
-    let at = c.loop-collector.collector in
-    subst (λ l. length l < 2 ^ 32) (sym (c.deref.ensures.value
-    ∙ file_at files at c.index-files-collector.result [] c.loop-collector-test.true c.index-files-collector.is))
-    (All-get_or (λ l. length l < 2 ^ 32) (lists_of files) at [] (file_within files at c.loop-collector-test.true) c.requires.few_rows)
+    (All-get_or (All (IsRowOf tags)) (lists_of files) at [] (file_within files at c.loop-collector-test.true) (each_file (All (IsRowOf tags)) files c.requires.values)))
 
 pub returns-in-Err-clause-longer : goal.returns-in-Err-clause-longer
 returns-in-Err-clause-longer g c =
