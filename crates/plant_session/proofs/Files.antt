@@ -8,7 +8,10 @@ use Rattle.std.proofs.lemmas.List.{get_or-map, get_or_default, length-map}
 use Rattle.std.proofs.lemmas.List.Elements.{All-map}
 use Rattle.std.proofs.lemmas.Option.{slice_get-get_or, slice_get_past}
 use Rattle.plant_status.specs.declared.mismatch.Seen.{Seen}
+use Rattle.value_rows.specs.declared.asked.Query.{Query}
+use Rattle.value_rows.specs.declared.asked.Query.TheVariants as query
 use Rattle.calc_refresh.specs.Lists.{lists_of}
+use Rattle.collector_pool.specs.Work.{IsQueryOf}
 use Rattle.tag_cell.specs.declared.entry.Entry.{Entry}
 use Rattle.tag_cell.specs.Told.{Told}
 use Rattle.tape_audit.specs.declared.agenda.Item.{Item}
@@ -17,7 +20,7 @@ use Rattle.tape_audit.specs.Agendas.{due, numbered}
 use Rattle.tape_audit.specs.Found.{IsCaughtUp, Reached, found, found_of}
 use Rattle.tape_audit.proofs.Catching.{caught_whole}
 use Rattle.tape_audit.proofs.Numbers.{length-numbered}
-use Rattle.plant_session.specs.Cells.{AreAllFound, AreAllShown, AreOthersSame, AreOver, IsCaughtTo, IsOver, file_due}
+use Rattle.plant_session.specs.Cells.{AreAllFound, AreAllShown, AreOthersSame, AreOver, IsCaughtTo, IsKnownAsk, IsOver, file_due}
 
 -- the rows of a file
 pub file_at : {A : Type 0} (files : List (Vec A Global)) (i : ℕ) (v : Vec A Global) (d : List A) → i < length files
@@ -89,3 +92,14 @@ shown_all work item_of tags files cells works over found_so caught = record {
         ∙ (caught_whole p tag (subst (λ n. IsCaughtUp n p) size (caught worker within none))
         ∙ (ap (due tag) items ∙ sym (ap (λ o. option_map_or (λ l. due tag (numbered (item_of worker) 1 l)) o [])
         (slice_get-get_or files worker [] within))))
+
+-- questions of readers that are of a plant's tags and groups are of its tags
+pub known_asks_of : (tags groups : ℕ) (files : List (Vec Query Global))
+    → All (λ queries. All (IsQueryOf tags groups) queries.items) files
+    → All (λ queries. All (IsKnownAsk tags) queries.items) files
+known_asks_of tags groups files each = λ k d below. λ i e within. one (get_or (get_or files k d).items i e) (each k d below i e within)
+  where
+    one : (q : Query) → IsQueryOf tags groups q → IsKnownAsk tags q
+    one (query.Tag tag asked) known = known
+    one (query.Snap tag) known = tt
+    one (query.Row group calc k) known = tt

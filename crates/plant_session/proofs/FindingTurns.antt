@@ -10,11 +10,13 @@ use Rattle.plant_status.specs.declared.mismatch.Seen.{Seen}
 use Rattle.plant_status.specs.declared.mismatch.Seen.TheVariants.{Nothing}
 use Rattle.tag_cell.specs.declared.entry.Entry.{Entry}
 use Rattle.tag_cell.specs.Told.{Told}
+use Rattle.tape_audit.specs.declared.agenda.Item.{Item}
 use Rattle.tape_audit.specs.declared.walk.Shown.{Shown}
 use Rattle.tape_audit.specs.Agendas.{IsNext, due}
 use Rattle.tape_audit.specs.Found.{AreFound, AreFurther, IsDifference, IsUnfound, Reached, place_at, shown_by}
 use Rattle.tape_audit.proofs.Walking.{found_beside}
-use Rattle.plant_session.specs.Cells.{AreAllFound}
+use Rattle.plant_session.specs.Cells.{AreAllFound, AreOver}
+use Rattle.plant_session.specs.Starting.{AreUnfound}
 use Rattle.plant_session.specs.Finding.{AreSameRows, IsMismatchAt}
 
 -- the tapes of the first tags were gone over, and those behind were not
@@ -28,14 +30,13 @@ pub record AreFoundTo {D : Type 0} (work : Entry → Option Shown) (upto : ℕ) 
 
 -- before the first tag
 pub found_none : {D : Type 0} (work : Entry → Option Shown) (cells : List (Told D)) (works : List Reached)
-    → All (λ p. length p.at ≡ length cells) works → All (λ p. (tag : ℕ) → tag < length cells → IsUnfound tag p) works
-    → AreFoundTo work 0 cells works works
-found_none work cells works units unfound = record {
+    → AreUnfound (length cells) works → AreFoundTo work 0 cells works works
+found_none work cells works unfound = record {
   same = record { as_many = refl; items = λ w p. refl; units = λ w p. refl };
-  units = λ w p below. All-get_or (λ q. length q.at ≡ length cells) works w p below units;
+  units = λ w p below. All-get_or (λ q. length q.at ≡ length cells) works w p below unfound.units;
   found = λ tag d below. absurd (omega (arith, below));
   unfound = λ tag w p from within below.
-      All-get_or (λ q. (t : ℕ) → t < length cells → IsUnfound t q) works w p below unfound tag within;
+      All-get_or (λ q. (t : ℕ) → t < length cells → IsUnfound t q) works w p below unfound.each tag within;
 }
 
 -- what the walk over the next tag's tape asks
@@ -120,3 +121,13 @@ mismatch_here work tag place kept told cells c first now within is same d = reco
           ap (option_and_then (next worker)) (slice_get_past now worker (omega (arith, past, same.as_many)))
           ∙ sym (ap (option_and_then (next worker)) (slice_get_past first worker past))
     ]
+
+-- progress over files is over them still
+pub over_same : {A : Type 0} (item_of : ℕ → ℕ → A → Option Item) (tags : ℕ) (files : List (List A)) (old new : List Reached)
+    → AreSameRows old new → AreOver item_of tags files old → AreOver item_of tags files new
+over_same item_of tags files old new same over = record {
+  few = over.few;
+  as_many = same.as_many ∙ over.as_many;
+  items = λ w rows p below. same.items w p ∙ over.items w rows p below;
+  units = λ w p below. same.units w p ∙ over.units w p (omega (arith, below, same.as_many));
+}

@@ -1,11 +1,12 @@
 use Rattle.std.proofs.Common.{subst}
 use Rattle.tape_audit.specs.Found.{AreFound, IsDifference}
+use Rattle.tape_audit.specs.Agendas.{ask_item}
 use Rattle.tape_audit.specs.Tapes.{ask_of}
-use Rattle.plant_session.proofs.FindingTurns.{found_next_tag, found_none, known_next, mismatch_here, rows_after, unfound_next}
+use Rattle.plant_session.proofs.FindingTurns.{found_next_tag, found_none, known_next, mismatch_here, over_same, rows_after, unfound_next}
 use Rattle.plant_session.proofs.finding.find_all_asks.Goals as goal
 
 pub loop-tag-init : goal.loop-tag-init
-loop-tag-init g c = found_none ask_of c.args.cells.now c.args.works.now c.requires.units c.requires.unfound
+loop-tag-init g c = found_none ask_of c.args.cells.now c.args.works.now c.requires.unfound
 
 pub find_asks-requires-clause-known : goal.find_asks-requires-clause-known
 find_asks-requires-clause-known g c =
@@ -38,3 +39,13 @@ loop-tag-preserved g c =
     c.loop-tag-test.true c.index-cells-tag.is
     c.loop-tag.invariant c.in_default.ensures.further
     (subst (λ l. AreFound ask_of c.loop-tag.tag l c.find_asks.new.works) c.tape.ensures c.in_default.ensures.found)
+
+pub returns-in-Err-clause-over : goal.returns-in-Err-clause-over
+returns-in-Err-clause-over g c = λ tags files over.
+    over_same ask_item tags files c.args.works.now c.find_asks.new.works
+    (rows_after ask_of c.loop-tag.tag c.args.cells.now c.args.works.now c.loop-tag.works c.find_asks.new.works
+    c.loop-tag.invariant c.in-Err.ensures.further) over
+
+pub returns-clause-over : goal.returns-clause-over
+returns-clause-over g c = λ tags files over.
+    over_same ask_item tags files c.args.works.now c.loop-tag.works c.loop-tag.invariant.same over

@@ -1,11 +1,12 @@
 use Rattle.std.proofs.Common.{subst}
 use Rattle.tape_audit.specs.Found.{AreFound, IsDifference}
+use Rattle.tape_audit.specs.Agendas.{take_item}
 use Rattle.tape_audit.specs.Tapes.{take_of}
-use Rattle.plant_session.proofs.FindingTurns.{found_next_tag, found_none, known_next, mismatch_here, rows_after, unfound_next}
+use Rattle.plant_session.proofs.FindingTurns.{found_next_tag, found_none, known_next, mismatch_here, over_same, rows_after, unfound_next}
 use Rattle.plant_session.proofs.finding.find_all_takes.Goals as goal
 
 pub loop-tag-init : goal.loop-tag-init
-loop-tag-init g c = found_none take_of c.args.cells.now c.args.works.now c.requires.units c.requires.unfound
+loop-tag-init g c = found_none take_of c.args.cells.now c.args.works.now c.requires.unfound
 
 pub find_takes-requires-clause-known : goal.find_takes-requires-clause-known
 find_takes-requires-clause-known g c =
@@ -38,3 +39,13 @@ loop-tag-preserved g c =
     c.loop-tag-test.true c.index-cells-tag.is
     c.loop-tag.invariant c.in_default.ensures.further
     (subst (λ l. AreFound take_of c.loop-tag.tag l c.find_takes.new.works) c.tape.ensures c.in_default.ensures.found)
+
+pub returns-in-Err-clause-over : goal.returns-in-Err-clause-over
+returns-in-Err-clause-over g c = λ tags files over.
+    over_same take_item tags files c.args.works.now c.find_takes.new.works
+    (rows_after take_of c.loop-tag.tag c.args.cells.now c.args.works.now c.loop-tag.works c.find_takes.new.works
+    c.loop-tag.invariant c.in-Err.ensures.further) over
+
+pub returns-clause-over : goal.returns-clause-over
+returns-clause-over g c = λ tags files over.
+    over_same take_item tags files c.args.works.now c.loop-tag.works c.loop-tag.invariant.same over
