@@ -6,3 +6,4 @@ pub mod Files
 pub mod AskTurns
 pub mod FindingTurns
 pub mod Starts
+pub mod EntryKinds

@@ -1,9 +1,10 @@
 // The questions of readers that tapes lack are answered.
-ghost use Rattle.std.specs.Prelude.{◌≡◌, ◌+◌, ◌^◌, ◌<◌, All, OnErr, OnOk, length};
+ghost use Rattle.std.specs.Prelude.{◌≡◌, ◌+◌, ◌^◌, ◌<◌, List, All, OnErr, OnOk, length};
 ghost use Rattle.trend_num.specs.Queries.{IsTagQuery};
+ghost use Rattle.value_rows.specs.declared.raw.RawRow.{RawRow};
 ghost use Rattle.calc_refresh.specs.Lists.{lists_of};
-ghost use Rattle.tape_audit.specs.Agendas.{ask_item};
-ghost use Rattle.tape_audit.specs.Tapes.{ask_of};
+ghost use Rattle.tape_audit.specs.Agendas.{ask_item, take_item};
+ghost use Rattle.tape_audit.specs.Tapes.{ask_of, take_of};
 ghost use Rattle.plant_session.specs.Asking.{IsRowAsked};
 ghost use Rattle.plant_session.specs.Cells.{AreAllFound, AreAllShown, AreLonger, AreOthersSame, AreOver, IsAsked, IsCaughtTo, IsOver, IsKnownAsk};
 
@@ -24,6 +25,8 @@ pub fn ask_missing<D: Disk>(
     requires queries { All (λ queries. All (IsKnownAsk (length cells.old)) queries.items) files.now }
     requires found { AreAllFound ask_of cells.old works.old }
     ensures shown { OnOk result (AreAllShown ask_of ask_item (lists_of files.now) cells.new) }
+    ensures takes { (taken : List (List RawRow)) → AreAllShown take_of take_item taken cells.old
+        → AreAllShown take_of take_item taken cells.new }
     ensures longer { AreLonger IsAsked cells.old cells.new }
 {
     for reader in 0..files.len() {

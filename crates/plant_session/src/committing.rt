@@ -1,8 +1,12 @@
 // What waits on cells is acknowledged.
-ghost use Rattle.std.specs.Prelude.{◌≡◌, ◌⊎◌, ◌^◌, ◌<◌, All, IfErr, OnOk, length, true};
+ghost use Rattle.std.specs.Prelude.{◌≡◌, ◌⊎◌, ◌^◌, ◌<◌, List, All, IfErr, OnOk, length, true};
+ghost use Rattle.value_rows.specs.declared.asked.Query.{Query};
+ghost use Rattle.value_rows.specs.declared.raw.RawRow.{RawRow};
+ghost use Rattle.tape_audit.specs.Agendas.{ask_item, take_item};
+ghost use Rattle.tape_audit.specs.Tapes.{ask_of, take_of};
 ghost use Rattle.tag_cell.specs.declared.entry.CommitNo.TheVariants.{WantOfMemory as NoMemory};
 ghost use Rattle.tag_cell.specs.Told.{waits};
-ghost use Rattle.plant_session.specs.Cells.{AreLonger, IsCommitted, IsLonger};
+ghost use Rattle.plant_session.specs.Cells.{AreAllShown, AreLonger, IsCommitted, IsLonger};
 ghost use Rattle.plant_session.specs.Refusals.{IsCommitRefusal, commit_status};
 
 use disk_model::Disk;
@@ -14,6 +18,10 @@ use tag_cell::{Cell, CommitNo};
 pub fn commit_all<D: Disk>(cells: &mut [Cell<D>]) -> Result<(), Status>
     requires few { length cells.old < 2 ^ 32 }
     ensures none_waits { OnOk result (All (λ c. waits c ≡ 0) cells.new) }
+    ensures takes { (taken : List (List RawRow)) → AreAllShown take_of take_item taken cells.old
+        → AreAllShown take_of take_item taken cells.new }
+    ensures asks { (asked : List (List Query)) → AreAllShown ask_of ask_item asked cells.old
+        → AreAllShown ask_of ask_item asked cells.new }
     ensures longer { AreLonger IsCommitted cells.old cells.new }
     ensures refused { IfErr result (IsCommitRefusal cells.new) }
 {

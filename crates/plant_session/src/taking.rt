@@ -1,8 +1,9 @@
 // The rows of collectors that tapes lack are taken.
-ghost use Rattle.std.specs.Prelude.{◌≡◌, ◌+◌, ◌^◌, ◌<◌, All, IfErr, OnErr, OnOk, length};
+ghost use Rattle.std.specs.Prelude.{◌≡◌, ◌+◌, ◌^◌, ◌<◌, List, All, IfErr, OnErr, OnOk, length};
 ghost use Rattle.calc_refresh.specs.Lists.{lists_of};
 ghost use Rattle.tape_audit.specs.Agendas.{take_item};
-ghost use Rattle.tape_audit.specs.Tapes.{take_of};
+ghost use Rattle.tape_audit.specs.Found.{Reached};
+ghost use Rattle.tape_audit.specs.Tapes.{ask_of, take_of};
 ghost use Rattle.collector_pool.specs.Work.{IsRowOf};
 ghost use Rattle.plant_session.specs.Cells.{AreAllFound, AreAllShown, AreLonger, AreOthersSame, AreOver, IsCaughtTo, IsOver, IsTaken};
 ghost use Rattle.plant_session.specs.Refusals.{IsTakeRefusal, take_status};
@@ -29,6 +30,7 @@ pub fn take_missing<D: Disk, R: Wait>(
     requires values { All (λ rows. All (IsRowOf (length cells.old)) rows.items) files.now }
     requires found { AreAllFound take_of cells.old works.old }
     ensures shown { OnOk result (AreAllShown take_of take_item (lists_of files.now) cells.new) }
+    ensures asks { (asked : List Reached) → AreAllFound ask_of cells.old asked → AreAllFound ask_of cells.new asked }
     ensures longer { AreLonger IsTaken cells.old cells.new }
     ensures refused { IfErr result (IsTakeRefusal rooms.now cells.new) }
 {

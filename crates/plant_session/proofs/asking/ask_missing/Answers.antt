@@ -4,11 +4,12 @@ use Rattle.std.proofs.lemmas.Bool.{cases_eq}
 use Rattle.std.proofs.lemmas.List.{length-map}
 use Rattle.std.proofs.lemmas.List.Elements.{All-get_or}
 use Rattle.calc_refresh.specs.Lists.{lists_of}
-use Rattle.tape_audit.specs.Agendas.{ask_item}
+use Rattle.tape_audit.specs.Agendas.{ask_item, take_item}
 use Rattle.tape_audit.specs.Found.{IsCaughtUp}
-use Rattle.tape_audit.specs.Tapes.{ask_of}
+use Rattle.tape_audit.specs.Tapes.{ask_of, take_of}
 use Rattle.plant_session.specs.Cells.{IsCaughtTo, IsAsked, IsKnownAsk}
 use Rattle.plant_session.proofs.Files.{each_file, file_at, file_within, over_again, over_file, shown_all}
+use Rattle.plant_session.proofs.EntryKinds.{asked_takes, longer_shown}
 use Rattle.plant_session.proofs.Longer.{all_longer, all_longer_trans}
 use Rattle.plant_session.proofs.asking.ask_missing.Goals as goal
 
@@ -72,3 +73,13 @@ returns-clause-shown g c =
     shown_all ask_of ask_item (length c.loop-reader.cells) (lists_of files) c.loop-reader.cells c.loop-reader.works
     end.over end.found (λ w below. end.caught w
     (omega (arith, below, c.loop-reader-test.false, c.loop-reader.auto, length-map files (λ (v : Vec _ Global). v.items))))
+
+pub returns-in_err-ask_file-clause-takes : goal.returns-in_err-ask_file-clause-takes
+returns-in_err-ask_file-clause-takes g c = λ taken.
+    longer_shown take_of take_item IsAsked taken c.args.cells.now c.ask_file.new.cells asked_takes
+    (all_longer_trans IsAsked c.args.cells.now c.loop-reader.cells c.ask_file.new.cells c.loop-reader.invariant.longer
+    c.ask_file.ensures.longer)
+
+pub returns-clause-takes : goal.returns-clause-takes
+returns-clause-takes g c = λ taken.
+    longer_shown take_of take_item IsAsked taken c.args.cells.now c.loop-reader.cells asked_takes c.loop-reader.invariant.longer

@@ -6,10 +6,11 @@ use Rattle.std.proofs.lemmas.List.Elements.{All-get_or}
 use Rattle.calc_refresh.specs.Lists.{lists_of}
 use Rattle.tape_audit.specs.Agendas.{take_item}
 use Rattle.tape_audit.specs.Found.{IsCaughtUp}
-use Rattle.tape_audit.specs.Tapes.{take_of}
+use Rattle.tape_audit.specs.Tapes.{ask_of, take_of}
 use Rattle.collector_pool.specs.Work.{IsRowOf}
 use Rattle.plant_session.specs.Cells.{IsCaughtTo, IsTaken}
 use Rattle.plant_session.proofs.Files.{each_file, file_at, file_within, over_again, over_file, shown_all}
+use Rattle.plant_session.proofs.EntryKinds.{longer_found, taken_asks}
 use Rattle.plant_session.proofs.Longer.{all_longer, all_longer_trans}
 use Rattle.plant_session.proofs.taking.take_missing.Goals as goal
 
@@ -73,3 +74,13 @@ returns-clause-shown g c =
     shown_all take_of take_item (length c.loop-collector.cells) (lists_of files) c.loop-collector.cells c.loop-collector.works
     end.over end.found (λ w below. end.caught w
     (omega (arith, below, c.loop-collector-test.false, c.loop-collector.auto, length-map files (λ (v : Vec _ Global). v.items))))
+
+pub returns-in-Err-clause-asks : goal.returns-in-Err-clause-asks
+returns-in-Err-clause-asks g c = λ asked.
+    longer_found ask_of IsTaken c.args.cells.now c.take_file.new.cells asked taken_asks
+    (all_longer_trans IsTaken c.args.cells.now c.loop-collector.cells c.take_file.new.cells c.loop-collector.invariant.longer
+    c.in-Err.ensures.longer)
+
+pub returns-clause-asks : goal.returns-clause-asks
+returns-clause-asks g c = λ asked.
+    longer_found ask_of IsTaken c.args.cells.now c.loop-collector.cells asked taken_asks c.loop-collector.invariant.longer
