@@ -77,7 +77,7 @@ fn take_all(rt: &impl Wait, cell: &mut Cell<MemDisk>, values: &str) -> Option<()
 }
 
 // A cell on a new device that has taken these values: one of a step tag, or one of lines that keeps each bend.
-fn filled(
+pub(crate) fn filled(
     rt: &impl Wait,
     alloc: Global,
     step: bool,

@@ -6,4 +6,6 @@ mod boards;
 #[cfg(test)]
 mod cells;
 #[cfg(test)]
+mod sessions;
+#[cfg(test)]
 mod workers;

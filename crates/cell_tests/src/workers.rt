@@ -273,7 +273,7 @@ fn fill<R: Wait>(rt: &R, cell: &mut Cell<MemDisk>, count: u32) -> Option<()> {
 }
 
 // The rows of a text such as `0,0 10,10`, of the first tag.
-fn rows_of(alloc: Global, text: &str) -> Option<Vec<RawRow>> {
+pub(crate) fn rows_of(alloc: Global, text: &str) -> Option<Vec<RawRow>> {
     let mut rows = Vec::new(alloc);
     for value in text.split(' ') {
         let (t, v) = value.split_once(',')?;
@@ -335,7 +335,7 @@ fn one_of_each(alloc: Global, queries: &[Query]) -> Option<Work> {
 }
 
 // The entries of a tape in order: t, a, p and c for a take, an answer, a pull and a commit.
-fn letters(alloc: Global, history: &TagHistory) -> Option<String> {
+pub(crate) fn letters(alloc: Global, history: &TagHistory) -> Option<String> {
     let mut text = String::new(alloc);
     for entry in &history.tape {
         let letter = match entry {

@@ -1,0 +1,145 @@
+// What a session makes up once its workers have ended: the rows and the questions that a tape lacks, and commits.
+ghost use Rattle.std.specs.Prelude.{◌≡◌, length};
+ghost use Rattle.collector_pool.specs.Work.{IsWorkOf};
+
+use crate::cells::{filled, tag};
+use crate::workers::{letters, rows_of};
+use collector_pool::Work;
+use disk_model::MemDisk;
+use plant_session::{
+    Kept, Status, ask_missing, collectors_of, commit_all, compare_openings, find_all_asks,
+    find_all_takes, readers_of, take_missing,
+};
+use plant_status::{Place, Seen};
+use std::alloc::Global;
+use std::sync::Wait;
+use std::test::Fail;
+use tag_cell::{Cell, TagOpening};
+use trend_num::{Point, TagQuery};
+use value_rows::Query;
+
+// The work of collectors, whose rows are parted by `;`, and of a reader that asks what stands at 5, and for a snapshot.
+fn work_of(alloc: Global, files: &str) -> Option<Work> {
+    let mut collectors = Vec::new(alloc);
+    for rows in files.split(';') {
+        collectors.push(rows_of(alloc, rows)?).ok()?;
+    }
+    let query = TagQuery::At { t: 5 };
+    let queries = [Query::Tag { tag: 0, query }, Query::Snap { tag: 0 }];
+    let mut readers = Vec::new(alloc);
+    readers.push(Vec::from_slice(alloc, &queries).ok()?).ok()?;
+    Some(Work {
+        collectors,
+        readers,
+        refreshers: Vec::new(alloc),
+    })
+}
+
+// Does what the tape of the one cell lacks, of so many rows in all.
+#[tactic(auto, using(plant_session::proofs::Files::known_asks_of))]
+fn make_up(
+    rt: &impl Wait,
+    alloc: Global,
+    cells: &mut [Cell<MemDisk>],
+    work: &Work,
+    rows: u32,
+) -> Result<(), Status>
+    requires one { length cells.old ≡ 1 }
+    requires work { IsWorkOf 1 0 work.now }
+{
+    let Ok(mut takes) = collectors_of(alloc, &work.collectors, 1) else {
+        return Err(Status::WantOfMemory);
+    };
+    let Ok(mut asks) = readers_of(alloc, &work.readers, 1) else {
+        return Err(Status::WantOfMemory);
+    };
+    find_all_takes(cells, &mut takes)?;
+    find_all_asks(cells, &mut asks)?;
+    take_missing(rt, cells, &work.collectors, &[rows], &mut takes)?;
+    let Ok(()) = ask_missing(cells, &work.readers, &mut asks) else {
+        return Err(Status::WantOfMemory);
+    };
+    commit_all(cells)
+}
+
+// A cell that has taken the first row of collector 0, `0,0`, with room for so many takes.
+fn begun(rt: &impl Wait, alloc: Global, room: u32) -> Option<Cell<MemDisk>> {
+    filled(rt, alloc, false, 64, room, "0,0")
+}
+
+// Makes up what a begun cell lacks of these files, and tells what its tape has then, or why it is refused.
+fn made_up(
+    rt: &impl Wait,
+    alloc: Global,
+    room: u32,
+    rows: u32,
+    files: &str,
+) -> Option<Result<String, Status>> {
+    let work = work_of(alloc, files)?;
+    if !work.fits(1, 0) {
+        return None;
+    }
+    let mut cells = [begun(rt, alloc, room)?];
+    if let Err(why) = make_up(rt, alloc, &mut cells, &work, rows) {
+        return Some(Err(why));
+    }
+    let [cell] = cells;
+    let (_, history) = cell.into_history();
+    Some(Ok(letters(alloc, &history)?))
+}
+
+#[test]
+fn what_the_workers_left_is_made_up(rt: HostRuntime) -> Result<(), Fail> {
+    let text = made_up(&rt, rt.alloc(), 3, 3, "0,0 20,0;10,5").ok_or("memory")?;
+    let Ok(text) = text else {
+        return Err("refused".into());
+    };
+    assert_eq!(rt; text.as_str(), "tttac");
+    Ok(())
+}
+
+#[test]
+fn a_take_of_no_row_is_a_mismatch(rt: HostRuntime) -> Result<(), Fail> {
+    let told = made_up(&rt, rt.alloc(), 3, 3, "1,0 20,0;10,5").ok_or("memory")?;
+    let seen = |t| Seen::Take {
+        collector: 0,
+        row: 1,
+        point: Point { t, v: 0 },
+    };
+    let mismatch = Status::Mismatch {
+        place: Place::Take { tag: 0, place: 0 },
+        kept: seen(0),
+        told: seen(1),
+    };
+    assert!(rt; told.is_err_and(|why| why == mismatch));
+    Ok(())
+}
+
+#[test]
+fn too_little_room_is_a_mismatch_at_the_takes(rt: HostRuntime) -> Result<(), Fail> {
+    let told = made_up(&rt, rt.alloc(), 2, 3, "0,0 20,0;10,5").ok_or("memory")?;
+    let mismatch = Status::Mismatch {
+        place: Place::Takes { tag: 0 },
+        kept: Seen::Number(2),
+        told: Seen::Number(3),
+    };
+    assert!(rt; told.is_err_and(|why| why == mismatch));
+    Ok(())
+}
+
+#[test]
+fn an_opening_is_compared_with_what_was_kept(rt: HostRuntime) -> Result<(), Fail> {
+    let cell = begun(&rt, rt.alloc(), 2).ok_or("refused")?;
+    let opening = TagOpening {
+        recs: Vec::new(rt.alloc()),
+        summary: cell.opening().summary,
+        moment: cell.opening().moment,
+        faults: 7,
+    };
+    let def = tag(false, 0).ok_or("name")?;
+    let known = Kept { def, opening };
+    let differs = compare_openings(&cell, &known).err().ok_or("same")?;
+    assert_eq!(rt; differs.kept, Seen::Number(0));
+    assert_eq!(rt; differs.told, Seen::Number(7));
+    Ok(())
+}
