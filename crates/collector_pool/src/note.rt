@@ -106,10 +106,7 @@ pub(crate) fn with_room<T>(alloc: Global, count: usize) -> Result<Vec<T>, WantOf
     ensures none { IfOk result (λ list. list.items ≡ []) }
     ensures room { IfOk result (λ list. count ≤ vec_capacity list) }
 {
-    match Vec::with_capacity(alloc, count) {
-        Ok(list) => Ok(list),
-        Err(_) => Err(WantOfMemory),
-    }
+    Ok(Vec::with_capacity(alloc, count)?)
 }
 
 // Makes room for so many items more. Where there are none, it succeeds.
@@ -121,7 +118,7 @@ pub(crate) fn make_room<T: Drop>(list: &mut Vec<T>, count: usize) -> Result<(), 
     if count == 0 {
         return Ok(());
     }
-    list.reserve(count).map_err(|_| WantOfMemory)
+    Ok(list.reserve(count)?)
 }
 
 impl From<TakeNo> for CellNo {
