@@ -1,5 +1,5 @@
 -- A row of a collector that was taken.
-use Rattle.std.proofs.Common.{◌≡◌, ℕ, zero, suc, ◌+◌, ◌<◌, List, [], ◌∷◌, ◌++◌, All, length, get_or, set, None, Some, IfSome, true, refl, sym, ap, subst, ◌∙◌, arith}
+use Rattle.std.proofs.Common.{◌≡◌, ℕ, zero, suc, ◌+◌, ◌<◌, List, [], ◌∷◌, All, length, get_or, None, IfSome, true, refl, sym, ap, subst, arith}
 use Rattle.std.proofs.lemmas.Option.{get_or_from_slice_get, slice_get_within}
 use Rattle.value_rows.specs.declared.raw.RawRow.{RawRow}
 use Rattle.tag_cell.specs.declared.entry.Entry.{Entry}

@@ -5,7 +5,7 @@ use Rattle.trend_num.specs.Queries.{IsTagQuery}
 use Rattle.value_rows.specs.declared.asked.Query.{Query}
 use Rattle.value_rows.specs.declared.asked.Query.TheVariants as query
 use Rattle.tag_cell.specs.declared.entry.Entry.{Entry}
-use Rattle.tag_cell.specs.declared.entry.Entry.TheVariants.{Take, Ask, Pull, Commit}
+use Rattle.tag_cell.specs.declared.entry.Entry.TheVariants.{Take, Ask, Commit}
 use Rattle.tag_cell.specs.Told.{Told}
 use Rattle.tape_audit.specs.declared.walk.Shown.{Shown}
 use Rattle.tape_audit.specs.Agendas.{due, numbered}

@@ -1,5 +1,5 @@
 -- Rows that are found on the tapes of all cells, and the first entry that is another one.
-use Rattle.std.specs.Prelude.{◌≡◌, ℕ, ◌<◌, List, length, slice_get, slice_index_or, Option, Some}
+use Rattle.std.specs.Prelude.{◌≡◌, ℕ, List, length, slice_get, slice_index_or, Option, Some}
 use Rattle.plant_status.specs.declared.mismatch.Place.TheVariants.{Take, Ask}
 use Rattle.plant_status.specs.declared.mismatch.Seen.{Seen}
 use Rattle.plant_status.specs.declared.status.Status.{Status}

@@ -1,4 +1,4 @@
-use Rattle.std.proofs.Common.{◌≡◌, refl, get_or}
+use Rattle.std.proofs.Common.{refl, get_or}
 use Rattle.std.proofs.lemmas.Option.{slice_get-get_or}
 use Rattle.plant_session.proofs.asking.ask_row.Goals as goal
 

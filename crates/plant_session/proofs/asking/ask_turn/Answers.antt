@@ -1,9 +1,8 @@
-use Rattle.std.proofs.Common.{◌≡◌, ◌∙◌, ◌+◌, false, true, ap, sym, subst, arith, refl, [], get_or, length, set, is_some}
+use Rattle.std.proofs.Common.{◌∙◌, ◌+◌, ap, sym, subst, refl, [], get_or, length, set, is_some}
 use Rattle.std.proofs.lemmas.List.{get_or_default}
 use Rattle.tape_audit.specs.Agendas.{ask_item}
-use Rattle.tape_audit.specs.Found.{IsAdvanced, lacks}
 use Rattle.tape_audit.specs.Tapes.{ask_of}
-use Rattle.plant_session.specs.Cells.{AreAllFound, AreLonger, IsAsked, IsOver}
+use Rattle.plant_session.specs.Cells.{AreLonger, IsAsked, IsOver}
 use Rattle.plant_session.proofs.AskTurns.{asked_entry, asked_longer, caught_other, missing_ask, query_there}
 use Rattle.plant_session.proofs.Longer.{all_longer}
 use Rattle.plant_session.proofs.Turns.{all_known, caught_past_row, caught_row, due_next, found_turn, others_stay, over_turn, row_within}

@@ -1,11 +1,11 @@
-use Rattle.std.proofs.Common.{◌≡◌, ◌∙◌, ◌<◌, ◌+◌, ◌^◌, [], All, ap, sym, subst, arith, length, get_or}
+use Rattle.std.proofs.Common.{◌≡◌, ◌∙◌, ◌+◌, [], All, sym, subst, arith, get_or}
 use Rattle.std.proofs.lemmas.List.Elements.{All-get_or}
 use Rattle.calc_refresh.specs.Lists.{lists_of}
 use Rattle.tape_audit.specs.Agendas.{ask_item}
 use Rattle.tape_audit.proofs.Numbers.{length-numbered}
 use Rattle.plant_session.specs.Cells.{IsKnownAsk}
 use Rattle.plant_session.proofs.Files.{each_file, file_at, file_within}
-use Rattle.plant_session.proofs.Starts.{AreStarted, known_asks, started_all, started_more, started_unfound}
+use Rattle.plant_session.proofs.Starts.{AreStarted, known_asks, started_more}
 use Rattle.plant_session.proofs.starting.readers_of.Goals as goal
 
 pub new-requires-clause-few : goal.new-requires-clause-few

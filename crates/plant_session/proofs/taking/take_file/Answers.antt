@@ -1,6 +1,5 @@
-use Rattle.std.proofs.Common.{◌≡◌, ◌∙◌, ap, sym, subst, arith, refl, length}
-use Rattle.tape_audit.specs.Agendas.{take_item}
-use Rattle.plant_session.specs.Cells.{IsOver, IsTaken}
+use Rattle.std.proofs.Common.{arith}
+use Rattle.plant_session.specs.Cells.{IsTaken}
 use Rattle.plant_session.proofs.Longer.{all_longer, all_longer_trans}
 use Rattle.plant_session.proofs.Turns.{others_stay, others_trans}
 use Rattle.plant_session.proofs.taking.take_file.Goals as goal

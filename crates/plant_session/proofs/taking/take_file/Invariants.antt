@@ -1,4 +1,4 @@
-use Rattle.std.proofs.Common.{◌≡◌, length}
+use Rattle.std.proofs.Common.{length}
 use Rattle.tape_audit.specs.Agendas.{take_item}
 use Rattle.tape_audit.specs.Tapes.{take_of}
 use Rattle.plant_session.specs.Cells.{AreAllFound, AreLonger, AreOthersSame, IsCaughtTo, IsOver, IsTaken}

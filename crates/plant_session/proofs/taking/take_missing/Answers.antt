@@ -1,4 +1,4 @@
-use Rattle.std.proofs.Common.{◌≡◌, ◌∙◌, ◌<◌, ◌^◌, [], All, ap, sym, subst, inl, inr, arith, length, get_or, Vec}
+use Rattle.std.proofs.Common.{◌≡◌, ◌∙◌, [], All, sym, subst, inl, inr, arith, length, get_or, Vec}
 use Rattle.std.specs.declared.alloc.Global.{Global}
 use Rattle.std.proofs.lemmas.Bool.{cases_eq}
 use Rattle.std.proofs.lemmas.List.{length-map}

@@ -1,4 +1,4 @@
-use Rattle.std.proofs.Common.{◌≡◌, ◌∙◌, Some, ap, sym, subst, arith, refl, get_or}
+use Rattle.std.proofs.Common.{sym, subst, refl, get_or}
 use Rattle.std.proofs.lemmas.Option.{slice_get-get_or}
 use Rattle.plant_session.specs.Refusals.{IsTakeRefusal}
 use Rattle.plant_session.proofs.Refused.{take_refused}

@@ -1,15 +1,13 @@
-use Rattle.std.proofs.Common.{◌≡◌, ◌∙◌, ◌+◌, false, true, ap, sym, subst, arith, refl, get_or, length, set, is_some}
+use Rattle.std.proofs.Common.{◌∙◌, ◌+◌, ap, sym, subst, refl, get_or, length, set, is_some}
 use Rattle.std.proofs.lemmas.List.{get_or_default}
 use Rattle.std.proofs.lemmas.List.Elements.{All-get_or}
-use Rattle.plant_status.specs.declared.mismatch.Seen.TheVariants.{Take}
 use Rattle.tape_audit.specs.Agendas.{take_item}
-use Rattle.tape_audit.specs.Found.{IsAdvanced, lacks}
 use Rattle.tape_audit.specs.Tapes.{take_of}
 use Rattle.collector_pool.specs.Work.{IsRowOf}
-use Rattle.plant_session.specs.Cells.{AreAllFound, AreLonger, IsOver, IsTaken}
+use Rattle.plant_session.specs.Cells.{AreLonger, IsOver, IsTaken}
 use Rattle.plant_session.proofs.Longer.{all_longer}
 use Rattle.plant_session.proofs.TakeTurns.{missing_take, taken_entry, taken_longer}
-use Rattle.plant_session.proofs.Turns.{IsMissing, all_known, caught_past_row, caught_row, due_next, found_turn, missing_row, over_turn, row_within}
+use Rattle.plant_session.proofs.Turns.{all_known, caught_past_row, caught_row, due_next, found_turn, over_turn, row_within}
 use Rattle.plant_session.proofs.taking.take_turn.Goals as goal
 
 pub lacks-requires : goal.lacks-requires
