@@ -1,0 +1,4 @@
+pub mod FieldLaws
+pub mod Spellings
+pub mod RowLaws
+pub mod VersionLaws
