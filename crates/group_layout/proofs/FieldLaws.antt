@@ -1,5 +1,5 @@
 -- Fields one behind the other: those that are kept, and the first that is not.
-use Rattle.std.proofs.Common.{◌≡◌, inl, inr, ℕ, ◌+◌, ◌*◌, ◌<◌, ◌≤◌, Bool, All, List, [], ◌∷◌, ◌++◌, length, get_or, take, drop, Option, None, Some, Result, Err, IsErrOf, refl, sym, ap, ◌∙◌, subst, arith, append_assoc, length-append}
+use Rattle.std.proofs.Common.{◌≡◌, inl, inr, ℕ, ◌+◌, ◌<◌, ◌≤◌, Bool, true, false, All, List, [], ◌∷◌, ◌++◌, length, get_or, take, drop, Option, None, Some, Result, Err, IsErrOf, refl, sym, ap, ◌∙◌, subst, arith, append_assoc, length-append}
 use Rattle.std.proofs.Math.Seq.{take-add}
 use Rattle.std.proofs.lemmas.List.{append-nil, drop-drop}
 use Rattle.std.proofs.lemmas.List.Elements.{All-append, All-cons, All-nil}
@@ -102,3 +102,30 @@ pub told_through : {T U : Type 0} (r : Result T ScanNo) (y e : ScanNo) (a : ℕ)
 told_through r y e a byte is same told =
     let inner : e ≡ Damaged a byte = cc in
     ap Err inner
+
+-- ---- in a part
+
+-- the first field of the next part that breaks
+pub breaks_part : (c : List ℕ) (fields fs rest : List Field) (a : ℕ) (byte : Option ℕ) → KeptUpTo c fields (fs ++ rest)
+    → BreaksFirst c fs a byte → BreaksFirst c fields a byte
+breaks_part c fields fs rest a byte so_far breaks =
+    breaks_after c fields (fs ++ rest) a byte so_far (breaks_within c fs rest a byte breaks)
+
+-- a single field with no rule breaks where the image ends in it
+one_breaks : (c : List ℕ) (f field : Field) (before behind : List Field) (a : ℕ) (byte : Option ℕ)
+    → f ∷ [] ≡ before ++ field ∷ behind → Breaks c field a byte → Breaks c f a byte
+one_breaks c f field [] behind a byte are breaks =
+    subst (λ x. Breaks c x a byte) (sym (head_is f field behind are)) breaks
+  where
+    head_is : (x y : Field) (ys : List Field) → x ∷ [] ≡ y ∷ ys → x ≡ y
+    head_is x y ys e = cc
+one_breaks c f field (x ∷ before) behind a byte are breaks =
+    absurd (omega (arith, ap length are, length-append before (field ∷ behind)))
+
+pub only_ends : (c : List ℕ) (at n a : ℕ) (byte : Option ℕ) → BreaksFirst c (field_of at n true ∷ []) a byte
+    → EndsIn c (field_of at n true) a byte
+only_ends c at n a byte first =
+    elim (one_breaks c (field_of at n true) first.field first.before first.behind a byte first.are first.breaks) [
+      | inl ends ↦ ends
+      | inr broken ↦ absurd (cc (broken.broken))
+    ]

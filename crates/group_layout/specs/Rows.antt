@@ -1,10 +1,15 @@
 -- The rows that blocks give: each block replaces or adds the rows that it lists.
-use Rattle.std.specs.Prelude.{◌≡◌, ℕ, ◌+◌, ◌<◌, Bool, ◌&&◌, List, [], ◌∷◌, All, length, flat_map, slice_get, Option, None, Some, option_and_then, nat_eq, if◌then◌else◌}
+use Rattle.std.specs.Prelude.{◌≡◌, ℕ, ◌+◌, ◌<◌, Bool, ◌&&◌, List, [], ◌∷◌, All, length, flat_map, slice_get, map, Vec, Option, None, Some, option_and_then, nat_eq, if◌then◌else◌}
+use Rattle.std.specs.declared.alloc.Global.{Global}
 use Rattle.trend_num.specs.declared.value.Bad.TheVariants.{NoData, DivZero, Range}
 use Rattle.trend_num.specs.declared.value.CalcValue.{CalcValue}
 use Rattle.trend_num.specs.declared.value.CalcValue.TheVariants.{Num, Bad}
 use Rattle.group_layout.specs.declared.block.BlockRow.{BlockRow}
 use Rattle.group_layout.specs.Blocks.{Parts, unsaved, last_of, end_of, block_size}
+
+-- the lists that these are
+abbrev pub lists_of : {A : Type 0} → List (Vec A Global) → List (List A)
+lists_of vs = map (λ v. v.items) vs
 
 -- the value of a row
 abbrev pub value_of : BlockRow → CalcValue

@@ -5,6 +5,7 @@ mod block;
 mod field;
 mod reader;
 mod row_reader;
+mod saved;
 mod writer;
 
 pub use block::{Block, BlockRow, Blocks};

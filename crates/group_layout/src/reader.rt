@@ -2,7 +2,7 @@
 ghost use Rattle.std.specs.Prelude.{◌≡◌, ℕ, ◌+◌, ◌*◌, ◌^◌, ◌<◌, ◌≤◌, All, Option, IfOk, IsErrOf, OnOk, length, map, slice_index, nat_eq, vec_len};
 ghost use Rattle.archive_file.specs.declared.failure.ScanNo.TheVariants.{Damaged, DeviceFault};
 ghost use Rattle.group_layout.specs.Fields.{BreaksFirst, Keeps, Spells};
-ghost use Rattle.group_layout.specs.Blocks.{AreBlocks, AreDamaged, MayFollow, block_fields, block_image, block_size, end_of, parts_of, version_fields, versions_image};
+ghost use Rattle.group_layout.specs.Blocks.{AreBlocks, AreDamaged, MayFollow, block_fields, block_image, block_size, end_of, last_of, parts_of, unsaved, version_fields, versions_image};
 
 use crate::block::{Block, Blocks};
 use crate::field::{Field, byte_at, check, long_at, short_at};
@@ -26,21 +26,12 @@ pub(crate) fn parse_blocks(
     ensures damaged { (a : ℕ) (byte : Option ℕ) → IsErrOf result (Damaged a byte) → AreDamaged c.now calcs inputs at a byte }
     ensures no_fault { IsErrOf result DeviceFault → ⊥ }
 {
-    let Ok(versions) = vec![in alloc; 0; inputs as usize] else {
-        return Err(ScanNo::WantOfMemory);
-    };
-    let unsaved = Block {
-        number: 0,
-        versions,
-        windows: 0,
-        rows: Vec::new(alloc),
-    };
+    let unsaved = unsaved_block(alloc, inputs)?;
     check(c, &[Field::new(at, 1, true)])?;
     let mut list = Vec::new(alloc);
     let mut next = at;
-    while byte_at(c, next) == OPEN {
-        let before = list.last().unwrap_or(&unsaved);
-        let block = read_block(alloc, c, next, calcs, before)?;
+    'walk: while byte_at(c, next) == OPEN {
+        let block = read_block(alloc, c, next, calcs, last_or(&list, &unsaved))?;
         next += size_of_block(&block);
         let Ok(()) = list.push(block) else {
             return Err(ScanNo::WantOfMemory);
@@ -50,6 +41,33 @@ pub(crate) fn parse_blocks(
         list,
         end: next as u64,
     })
+}
+
+// What was before the first save: so many inputs at version 0.
+fn unsaved_block(alloc: Global, inputs: u32) -> Result<Block, ScanNo>
+    ensures unsaved { IfOk result (λ b. parts_of b ≡ unsaved inputs) }
+    ensures undamaged { (a : ℕ) (byte : Option ℕ) → IsErrOf result (Damaged a byte) → ⊥ }
+    ensures no_fault { IsErrOf result DeviceFault → ⊥ }
+{
+    let Ok(versions) = vec![in alloc; 0; inputs as usize] else {
+        return Err(ScanNo::WantOfMemory);
+    };
+    Ok(Block {
+        number: 0,
+        versions,
+        windows: 0,
+        rows: Vec::new(alloc),
+    })
+}
+
+// The last of some blocks, or another one where there is none.
+fn last_or<'a>(list: &'a [Block], unsaved: &'a Block) -> &'a Block
+    ensures { parts_of result.now ≡ last_of (parts_of unsaved.now) (map parts_of list.now) }
+{
+    match list {
+        [] => unsaved,
+        [.., last] => last,
+    }
 }
 
 // How many bytes a block has, from its gate to the next one.
@@ -111,7 +129,7 @@ fn is_next(before: u64, number: u64) -> bool
 fn read_versions(alloc: Global, c: &[u8], at: usize, before: &[u32]) -> Result<Vec<u32>, ScanNo>
     requires there { at ≤ length c.now }
     requires small { length c.now < 2 ^ 63 }
-    ensures len { IfOk result (λ v. vec_len v ≡ length before.now) }
+    ensures len { IfOk result (λ v. length v.items ≡ length before.now) }
     ensures rises { IfOk result (λ v. (i : ℕ) → i < length before.now → slice_index before.now i ≤ slice_index v.items i) }
     ensures spelled { IfOk result (λ v. Spells c.now at (versions_image v.items) (at + 4 * length before.now)) }
     ensures kept { OnOk result (All (Keeps c.now) (version_fields c.now before.now at)) }

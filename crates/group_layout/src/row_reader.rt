@@ -28,7 +28,7 @@ pub(crate) fn read_rows(
 ) -> Result<Vec<BlockRow>, ScanNo>
     requires there { at ≤ length c.now }
     requires small { length c.now < 2 ^ 63 }
-    ensures len { IfOk result (λ v. vec_len v ≡ count) }
+    ensures len { IfOk result (λ v. length v.items ≡ count) }
     ensures rows { IfOk result (λ v. AreRows calcs windows v.items) }
     ensures spelled { IfOk result (λ v. Spells c.now at (rows_image v.items) (at + 17 * count)) }
     ensures kept { OnOk result (All (Keeps c.now) (rows_fields c.now calcs windows None at count)) }
