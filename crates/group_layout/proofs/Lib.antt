@@ -5,3 +5,5 @@ pub mod VersionLaws
 pub mod BlockLaws
 pub mod Walks
 pub mod SavedRows
+pub mod Heads
+pub mod Beginnings

@@ -62,3 +62,14 @@ last_is b (y ∷ z ∷ bs) x some is =
   where
     place : length (y ∷ z ∷ bs) - 1 ≡ suc (length (z ∷ bs) - 1)
     place = omega arith
+
+-- the last block lies before the end
+last_before : (at : ℕ) (b : Parts) (bs : List Parts) → block_size (last_of b bs) ≤ end_of (at + block_size b) bs
+last_before at b [] = omega arith
+last_before at b (x ∷ bs) = last_before (at + block_size b) x bs
+
+-- where there is a window there is a block
+pub last_fits : (at inputs k : ℕ) (bs : List Parts) → k < (last_of (unsaved inputs) bs).windows
+    → block_size (last_of (unsaved inputs) bs) ≤ end_of at bs
+last_fits at inputs k [] low = absurd (omega arith)
+last_fits at inputs k (b ∷ bs) low = last_before at b bs

@@ -44,7 +44,7 @@ pub(crate) fn parse_blocks(
 }
 
 // What was before the first save: so many inputs at version 0.
-fn unsaved_block(alloc: Global, inputs: u32) -> Result<Block, ScanNo>
+pub(crate) fn unsaved_block(alloc: Global, inputs: u32) -> Result<Block, ScanNo>
     ensures unsaved { IfOk result (λ b. parts_of b ≡ unsaved inputs) }
     ensures undamaged { (a : ℕ) (byte : Option ℕ) → IsErrOf result (Damaged a byte) → ⊥ }
     ensures no_fault { IsErrOf result DeviceFault → ⊥ }
@@ -61,7 +61,7 @@ fn unsaved_block(alloc: Global, inputs: u32) -> Result<Block, ScanNo>
 }
 
 // The last of some blocks, or another one where there is none.
-fn last_or<'a>(list: &'a [Block], unsaved: &'a Block) -> &'a Block
+pub(crate) fn last_or<'a>(list: &'a [Block], unsaved: &'a Block) -> &'a Block
     ensures { parts_of result.now ≡ last_of (parts_of unsaved.now) (map parts_of list.now) }
 {
     match list {
@@ -71,7 +71,7 @@ fn last_or<'a>(list: &'a [Block], unsaved: &'a Block) -> &'a Block
 }
 
 // How many bytes a block has, from its gate to the next one.
-fn size_of_block(b: &Block) -> usize
+pub(crate) fn size_of_block(b: &Block) -> usize
     requires { block_size (parts_of b.now) < 2 ^ 64 }
     ensures { result ≡ block_size (parts_of b.now) }
 {
