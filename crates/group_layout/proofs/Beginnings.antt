@@ -134,6 +134,14 @@ pub holds_there : (c : List ℕ) (at : ℕ) (bytes : List ℕ) → Holds at byte
 holds_there c at bytes holds some =
     omega (arith, ap length holds, length-take (length bytes) (drop at c), length-drop at c)
 
+-- six fields that are kept
+all_six : (c : List ℕ) (f g h i j k : Field) → Keeps c f → Keeps c g → Keeps c h → Keeps c i → Keeps c j → Keeps c k
+    → All (Keeps c) (f ∷ g ∷ h ∷ i ∷ j ∷ k ∷ [])
+all_six c f g h i j k kf kg kh ki kj kk =
+    All-cons (Keeps c) f (g ∷ h ∷ i ∷ j ∷ k ∷ []) kf (All-cons (Keeps c) g (h ∷ i ∷ j ∷ k ∷ []) kg
+    (All-cons (Keeps c) h (i ∷ j ∷ k ∷ []) kh (All-cons (Keeps c) i (j ∷ k ∷ []) ki
+    (All-cons (Keeps c) j (k ∷ []) kj (All-cons (Keeps c) k [] kk (All-nil (Keeps c)))))))
+
 -- the head with a text is a layout of it without blocks
 pub head_is : (text c : List ℕ) → length text < 2 ^ 32 → IsOpen 0 c → Holds 1 (head_image text) c → IsEmpty text c
 head_is text c small opened holds = record {
@@ -181,11 +189,9 @@ head_is text c small opened holds = record {
 
     fields : All (Keeps c) (head_fields c)
     fields =
-        All-cons (Keeps c) _ _ (kept 1 80 (lit< tt) (letter 0 (lit< tt)))
-        (All-cons (Keeps c) _ _ (kept 2 72 (lit< tt) (letter 1 (lit< tt)))
-        (All-cons (Keeps c) _ _ (kept 3 71 (lit< tt) (letter 2 (lit< tt)))
-        (All-cons (Keeps c) _ _ (kept 4 49 (lit< tt) (letter 3 (lit< tt)))
-        (All-cons (Keeps c) _ _ size_kept (All-cons (Keeps c) _ _ text_kept (All-nil (Keeps c)))))))
+        all_six c (letter_field c 1 80) (letter_field c 2 72) (letter_field c 3 71) (letter_field c 4 49) (field_of 5 4 true)
+        (field_of 9 (short_at c 5 + 1) true) (kept 1 80 (lit< tt) (letter 0 (lit< tt))) (kept 2 72 (lit< tt) (letter 1 (lit< tt)))
+        (kept 3 71 (lit< tt) (letter 2 (lit< tt))) (kept 4 49 (lit< tt) (letter 3 (lit< tt))) size_kept text_kept
 
 -- ---- while it is written
 
