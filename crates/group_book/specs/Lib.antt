@@ -2,4 +2,4 @@ pub mod Tapes
 pub mod Histories
 pub mod Crashes
 pub mod Told
-pub mod Openings
+pub mod Refusals

@@ -42,20 +42,24 @@ pub fn new_book<D: Disk>(
         moment: 0,
         faults: 0,
     };
+    let def = copy_of(def)?;
+    let versions = zeros(alloc, def.inputs)?;
+    let saved_versions = zeros(alloc, def.inputs)?;
+    let saved_rows = empty_rows(alloc, def.calcs.defs().len())?;
     Ok(Book {
         alloc,
         group,
-        def: copy_of(def)?,
+        def,
         text: Vec::new(alloc),
         tags,
         opening,
         tape: Vec::new(alloc),
         sheet,
-        versions: zeros(alloc, def.inputs)?,
+        versions,
         dev: None,
         number: 0,
-        saved_versions: zeros(alloc, def.inputs)?,
-        saved_rows: empty_rows(alloc, def.calcs.defs().len())?,
+        saved_versions,
+        saved_rows,
         end: 0,
         failed: false,
     })

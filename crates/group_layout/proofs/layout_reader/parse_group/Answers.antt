@@ -1,4 +1,4 @@
-use Rattle.std.proofs.Common.{◌≡◌, ◌+◌, ◌≤◌, true, arith, map, subst, sym, ap, ◌∙◌, length}
+use Rattle.std.proofs.Common.{◌≡◌, ◌+◌, ◌≤◌, true, refl, arith, map, subst, sym, ap, ◌∙◌, length}
 use Rattle.std.proofs.lemmas.Result.{err_from_is_err_and}
 use Rattle.group_layout.specs.Blocks.{AreBlocks, AreDamaged, parts_of}
 use Rattle.group_layout.specs.Images.{IsOfText, blocks_at}
@@ -14,7 +14,7 @@ returns-in_err-blocks-clause-damaged c = λ a byte told.
     let out = err_from_is_err_and c.from_residual-in_err-blocks.result c.from_residual-in_err-blocks.ensures.1 in
     let is : IsOfText x.text.now x.c.now = record {
       head = head_found x.c.now (omega arith) (omega (arith, c.byte_at.ensures, c.if-byte_at-ne-OPEN.false)) c.in_ok-check_head.ensures.kept;
-      same = c.if-not-is_text.ensures.same;
+      same = c.if-not-is_text.ensures.same refl;
     } in
     let place : 9 + c.short_at-size.result ≡ blocks_at (length x.text.now)
         = omega (arith, text_place x.text.now x.c.now is, c.short_at-size.ensures) in
@@ -29,7 +29,7 @@ returns-in_err-saved-clause-damaged c = λ a byte told.
     let out = err_from_is_err_and c.from_residual-in_err-saved.result c.from_residual-in_err-saved.ensures.1 in
     let is : IsOfText x.text.now x.c.now = record {
       head = head_found x.c.now (omega arith) (omega (arith, c.byte_at.ensures, c.if-byte_at-ne-OPEN.false)) c.in_ok-check_head.ensures.kept;
-      same = c.if-not-is_text.ensures.same;
+      same = c.if-not-is_text.ensures.same refl;
     } in
     let place : 9 + c.short_at-size.result ≡ blocks_at (length x.text.now)
         = omega (arith, text_place x.text.now x.c.now is, c.short_at-size.ensures) in
