@@ -1,6 +1,6 @@
 -- Versions that never fall, and copies cut to them.
-use Rattle.std.proofs.Common.{◌≡◌, ℕ, zero, suc, ◌+◌, ◌<◌, ◌≤◌, List, [], ◌∷◌, ◌++◌, length, map, get_or, take, replicate, refl, sym, ap, ◌∙◌, subst, arith, length-append, take-append-le}
-use Rattle.std.proofs.lemmas.List.{take_all}
+use Rattle.std.proofs.Common.{◌≡◌, ℕ, zero, suc, ◌+◌, ◌<◌, ◌≤◌, List, [], ◌∷◌, ◌++◌, length, map, get_or, take, replicate, refl, sym, ap, ◌∙◌, subst, arith, length-append}
+use Rattle.std.proofs.lemmas.List.{take-append-le, take_all}
 use Rattle.trend_num.specs.declared.archive.Rec.{Rec}
 use Rattle.sheet_law.specs.Touched.{longer}
 use Rattle.group_book.specs.Tapes.{cut}
@@ -33,13 +33,13 @@ longer_rises (rs ∷ rss) (more ∷ mores) =
     let rest = longer_rises rss mores in
     record {
       inputs = let same = rest.inputs in ap suc same;
-      rises = λ i low. rising i low;
+      rises = λ i low. rising rest i low;
     }
   where
-    rising : (i : ℕ) → i < length (map length (rs ∷ rss))
+    rising : NeverFall (map length rss) (map length (longer rss mores)) → (i : ℕ) → i < length (map length (rs ∷ rss))
         → get_or (map length (rs ∷ rss)) i 0 ≤ get_or (map length ((rs ++ more) ∷ longer rss mores)) i 0
-    rising zero low = omega (arith, length-append rs more)
-    rising (suc i) low = (longer_rises rss mores).rises i (omega arith)
+    rising rest zero low = omega (arith, length-append rs more)
+    rising rest (suc i) low = rest.rises i (omega arith)
 
 -- copies that grew are cut to the same
 pub cut-longer : (vs : List ℕ) (rss mores : List (List Rec)) → NeverFall vs (map length rss) → cut vs (longer rss mores) ≡ cut vs rss

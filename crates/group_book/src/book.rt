@@ -35,14 +35,19 @@ pub struct Book<D: Disk> {
 }
 
 impl<D: Disk> Model for Book<D> {
-    ghost use Rattle.std.specs.Prelude.{map};
+    ghost use Rattle.std.specs.Coded.{codes};
+    ghost use Rattle.calc_check.specs.Code.{group_code};
+    ghost use Rattle.calc_refresh.specs.Code.{sheet_code};
+    ghost use Rattle.calc_refresh.specs.Lists.{lists_of};
     ghost use Rattle.disk_model.specs.Moments.{LeftSince};
     ghost use Rattle.calc_refresh.specs.Sheet.{grid_of};
     ghost use Rattle.group_book.specs.Crashes.{IsSafe};
     ghost use Rattle.group_book.specs.Histories.{IsLegal};
-    ghost use Rattle.group_book.specs.Told.{Told, Saved, IsDefined, IsKept};
+    ghost use Rattle.group_book.specs.Told.{Told, Saved, IsDefined, IsKept, count_of, trace_of};
 
     ghost Value = { Told D };
+
+    ghost coded = { Prim.hlevel (codes, group_code, sheet_code) };
 
     ghost view = { λ b. record {
       group = b.group;

@@ -1,9 +1,11 @@
 //! A group of a running plant, as it lies under its lock.
 #![tactic(auto)]
 
+mod ask;
 mod book;
 mod history;
 mod making;
+mod publish;
 mod refusal;
 mod turn;
 
