@@ -1,3 +1,4 @@
 pub mod Cuts
 pub mod Turns
 pub mod Fresh
+pub mod LegalTurns
