@@ -2,3 +2,4 @@ pub mod Cuts
 pub mod Turns
 pub mod Fresh
 pub mod LegalTurns
+pub mod Pulls
