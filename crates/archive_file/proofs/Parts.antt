@@ -8,7 +8,7 @@ use Rattle.std.proofs.lemmas.Nat.{from_be_bytes-to_be_bytes_8, from_be_bytes-to_
 use Rattle.trend_num.specs.declared.point.Point.{Point}
 use Rattle.trend_num.specs.declared.archive.Summary.{Summary}
 use Rattle.trend_num.specs.declared.tuning.Tuning.{Tuning}
-use Rattle.trend_num.specs.Ranges.{InRange, IsTuned, last_time, largest_value}
+use Rattle.trend_num.specs.Ranges.{InRange, TuningInRange, last_time, largest_value}
 use Rattle.archive_file.specs.Fields.{number_bytes, place_bytes, point_at}
 use Rattle.archive_file.specs.Summaries.{flags, places_image, tuning_bytes, summary_image, IsSummary}
 use Rattle.archive_file.proofs.Points.{place_at-bytes}
@@ -46,7 +46,7 @@ time_read : (n : ℕ) → n ≤ last_time → from_be_bytes w64 (0 ∷ 0 ∷ num
 time_read n small = ap (from_be_bytes w64) (time_wide n small) ∙ from_be_bytes-to_be_bytes_8 n (omega arith)
 
 -- the five numbers of a tuning are read of its bytes, one after the other
-pub tuning_read : (t : Tuning) (b r1 r2 r3 r4 : List ℕ) → IsTuned t → b ≡ tuning_bytes (Some t) → r1
+pub tuning_read : (t : Tuning) (b r1 r2 r3 r4 : List ℕ) → TuningInRange t → b ≡ tuning_bytes (Some t) → r1
     ≡ drop 7 b → r2 ≡ drop 6 r1 → r3 ≡ drop 7 r2 → r4 ≡ drop 6 r3
     → record {
       exc_dev = from_be_bytes w64 (0 ∷ take 7 b);
@@ -155,9 +155,9 @@ parts_read s b r1 r2 r3 r4 r5 r6 r7 r8 there whole is e1 e2 flag e3 e4 e5 e6 e7 
     }
 
 -- a tuning that is there
-pub tuning_some : (o : Option Tuning) (r : List ℕ) (t : Tuning) → is_some o ≡ true → IfSome o IsTuned → r
+pub tuning_some : (o : Option Tuning) (r : List ℕ) (t : Tuning) → is_some o ≡ true → IfSome o TuningInRange → r
     ≡ tuning_bytes o
-    → ((u : Tuning) → IsTuned u → r ≡ tuning_bytes (Some u) → t ≡ u) → Some t ≡ o
+    → ((u : Tuning) → TuningInRange u → r ≡ tuning_bytes (Some u) → t ≡ u) → Some t ≡ o
 tuning_some None r t there tuned is reads = absurd (cc (there))
 tuning_some (Some u) r t there tuned is reads = ap Some (reads u tuned is)
 

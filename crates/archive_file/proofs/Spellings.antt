@@ -4,7 +4,7 @@ use Rattle.std.proofs.Common.{IfSome, refl, sym, ap, ◌∙◌, arith}
 use Rattle.trend_num.specs.declared.archive.Rec.{Rec}
 use Rattle.trend_num.specs.declared.archive.Summary.{Summary}
 use Rattle.trend_num.specs.declared.tuning.Tuning.{Tuning}
-use Rattle.trend_num.specs.Ranges.{InRange, IsTuned}
+use Rattle.trend_num.specs.Ranges.{InRange, TuningInRange}
 use Rattle.archive_file.specs.Records.{rec_image, recs_image}
 use Rattle.archive_file.specs.Places.{AreInRange}
 use Rattle.archive_file.specs.Summaries.{tuning_bytes, summary_image, IsSummary}
@@ -25,7 +25,7 @@ one_list (r ∷ rs) (x ∷ xs) inside other counted same =
     let rest = one_list rs xs inside.1 other.1 (omega (arith, counted)) (ap (drop 17) same) in
     λ i. first i ∷ rest i
 
-one_tuning : (o q : Option Tuning) → is_some o ≡ is_some q → IfSome o IsTuned → IfSome q IsTuned
+one_tuning : (o q : Option Tuning) → is_some o ≡ is_some q → IfSome o TuningInRange → IfSome q TuningInRange
     → tuning_bytes o ≡ tuning_bytes q → o ≡ q
 one_tuning None None there inside other same = refl
 one_tuning None (Some u) there inside other same = absurd (cc (there))

@@ -3,7 +3,7 @@ use Rattle.std.specs.Prelude.{◌≡◌, ℕ, ◌+◌, ◌^◌, ◌<◌, Bool, t
 use Rattle.std.specs.Prelude.{None, Some, is_some, IfSome}
 use Rattle.trend_num.specs.declared.archive.Summary.{Summary}
 use Rattle.trend_num.specs.declared.tuning.Tuning.{Tuning}
-use Rattle.trend_num.specs.Ranges.{InRange, IsTuned}
+use Rattle.trend_num.specs.Ranges.{InRange, TuningInRange}
 use Rattle.archive_file.specs.Fields.{number_bytes, place_bytes}
 
 -- a tuning in 32 bytes; zeros where it is absent
@@ -48,4 +48,4 @@ pub record IsSummary (s : Summary) : Type 0 where
   pub hinge : IfSome s.hinge InRange
   pub upper : IfSome s.upper InRange
   pub lower : IfSome s.lower InRange
-  pub tuning : IfSome s.tuning IsTuned
+  pub tuning : IfSome s.tuning TuningInRange

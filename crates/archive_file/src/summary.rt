@@ -4,7 +4,7 @@ ghost use Rattle.archive_file.specs.Fields.{point_at};
 ghost use Rattle.arrayvec.specs.ArrayVec.{array_vec_len};
 ghost use Rattle.trend_num.specs.declared.archive.Summary.{Summary};
 ghost use Rattle.trend_num.specs.declared.tuning.Tuning.{Tuning};
-ghost use Rattle.trend_num.specs.Ranges.{InRange, IsTuned};
+ghost use Rattle.trend_num.specs.Ranges.{InRange, TuningInRange};
 ghost use Rattle.archive_file.specs.Summaries.{flag, flags, places_image, tuning_bytes, summary_image, IsSummary};
 
 use crate::field::{
@@ -139,7 +139,7 @@ fn take_place(bytes: &[u8], there: bool) -> (Option<Point>, &[u8])
 // The tuning in the 32 bytes at the front.
 fn tuning_at(bytes: &[u8]) -> Tuning
     requires { 32 ≤ length bytes.now }
-    ensures { (t : Tuning) → IsTuned t → bytes.now ≡ tuning_bytes (Some t) → result ≡ t }
+    ensures { (t : Tuning) → TuningInRange t → bytes.now ≡ tuning_bytes (Some t) → result ≡ t }
 {
     let (exc_dev, rest) = take_deviation(bytes);
     let (exc_max, rest) = take_time(rest);
@@ -191,7 +191,7 @@ fn is_in_range(p: Option<Point>) -> bool
 
 // Whether a tuning is in range, if it is there.
 fn is_tuned(tuning: Option<Tuning>) -> bool
-    ensures { IsTrue result ↔ IfSome tuning IsTuned }
+    ensures { IsTrue result ↔ IfSome tuning TuningInRange }
 {
     match tuning {
         Some(t) => tuning_ok(&t),

@@ -1,5 +1,5 @@
 -- What a proof sees of files that are read by name, and what a read of one gives.
-use Rattle.std.specs.Prelude.{◌≡◌, ℕ, ◌<◌, ◌≤◌, List, [], ◌∷◌, length, take, drop, ⊤, bytes_eq, cond, map, Vec, String, string_bytes, Option, None, Some}
+use Rattle.std.specs.Prelude.{◌≡◌, ℕ, ◌<◌, ◌≤◌, List, [], ◌∷◌, length, take, drop, ⊤, bytes_eq, nat_le, if◌then◌else◌, map, Vec, String, string_bytes, Option, None, Some, IfSome}
 use Rattle.std.specs.declared.alloc.Global.{Global}
 
 -- what is told of a file: nothing, that there is none of its name, or the bytes that it holds
@@ -34,6 +34,12 @@ IsLongerThan Untold limit = ⊤
 IsLongerThan Missing limit = ⊥
 IsLongerThan (Holds all) limit = limit < length all
 
+-- ---- faults
+
+-- where it is told whose read failed last, it is that of the file of this name
+abbrev pub IsFaultOf : Option (List ℕ) → List ℕ → Type 0
+IsFaultOf failed name = IfSome failed (λ n. n ≡ name)
+
 -- ---- files in memory
 
 -- files by name, of which the first of a name counts
@@ -43,7 +49,7 @@ NamedFiles = List (List ℕ × List ℕ)
 -- the bytes of the file of a name
 abbrev pub bytes_of : NamedFiles → List ℕ → Option (List ℕ)
 bytes_of [] name = None
-bytes_of (f ∷ fs) name = cond (bytes_eq f.0 name) (Some f.1) (bytes_of fs name)
+bytes_of (f ∷ fs) name = if bytes_eq f.0 name then Some f.1 else bytes_of fs name
 
 abbrev pub told_by : Option (List ℕ) → FileTold
 told_by None = Missing
@@ -57,9 +63,19 @@ told_of files name = told_by (bytes_of files name)
 abbrev pub named : List (String Global × Vec ℕ Global) → NamedFiles
 named files = map (λ f. (string_bytes f.0, f.1.items)) files
 
--- files in memory: their names and bytes, the numbers of the calls that are to fail, and the counts
+-- the most bytes of a name that files in memory remember
+abbrev pub most_remembered : ℕ
+most_remembered = 255
+
+-- what files in memory remember of a name: all of it, or nothing where it is longer
+abbrev pub remembered : List ℕ → Option (List ℕ)
+remembered name = if nat_le (length name) most_remembered then Some name else None
+
+-- files in memory: their names and bytes, the numbers of the calls that are to fail, the counts, and what they remember of the
+-- name whose read failed last
 pub record FilesState : Type 0 where
   pub files : NamedFiles
   pub failing_calls : List ℕ
   pub calls : ℕ
   pub faults : ℕ
+  pub failed_name : Option (List ℕ)

@@ -1,6 +1,6 @@
 // Where the bytes of files come from, by name.
-ghost use Rattle.std.specs.Prelude.{◌≡◌, ◌<◌, ◌≤◌, ℕ, List, length, take, IfOk, OnOk, OnErr};
-ghost use Rattle.byte_io.specs.Files.{FileTold, HasAt, EndsBy};
+ghost use Rattle.std.specs.Prelude.{◌≡◌, ◌<◌, ◌≤◌, ℕ, List, length, take, Option, IfOk, OnOk, OnErr};
+ghost use Rattle.byte_io.specs.Files.{FileTold, HasAt, EndsBy, IsFaultOf};
 ghost use Rattle.byte_io.specs.Outside.{next_count};
 
 use crate::Failed;
@@ -13,6 +13,9 @@ pub trait Files {
     /// How often a read has failed.
     ghost fault_count: { Self → ℕ };
 
+    /// The name of the file whose read failed last, where that is told.
+    ghost failed_name: { Self → Option (List ℕ) };
+
     /// Reads some bytes of a file, from place `at` on, to the front of `buf`, and returns how many. A read
     /// of none into a buffer with room is the end of the file. A read of a file that is missing fails. The
     /// files stay as they are.
@@ -22,5 +25,6 @@ pub trait Files {
         ensures end { IfOk result (λ n. n ≡ 0 → 0 < length buf.new → EndsBy (told self.old name.now) at) }
         ensures stays { told self.new ≡ told self.old }
         ensures no_fault { OnOk result (fault_count self.new ≡ fault_count self.old) }
-        ensures one_fault { OnErr result (fault_count self.new ≡ next_count (fault_count self.old)) };
+        ensures one_fault { OnErr result (fault_count self.new ≡ next_count (fault_count self.old)) }
+        ensures whose { OnErr result (IsFaultOf (failed_name self.new) name.now) };
 }

@@ -36,12 +36,15 @@ impl<R: rt::Files> Files for DirFiles<R>
 where
     R::File: FileExt,
 {
+    ghost use Rattle.std.specs.Prelude.{None};
     ghost use Rattle.byte_io.specs.Files.{Untold};
     ghost use Rattle.byte_io.specs.Folders.{folder_faults};
 
     ghost told = { λ _ _. Untold };
 
     ghost fault_count = { folder_faults };
+
+    ghost failed_name = { λ _. None };
 
     fn read_at(&mut self, name: &str, at: u64, buf: &mut [u8]) -> Result<usize, Failed> {
         if let Ok(file) = File::open(&self.rt, name) {

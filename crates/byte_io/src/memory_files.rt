@@ -1,22 +1,28 @@
 // Files in memory, whose reads fail at the calls that they are told to. They serve tests.
 ghost use Rattle.std.specs.Prelude.{◌≡◌, ◌↔◌, ◌⊎◌, ◌<◌, ◌≤◌, ◌++◌, length, take, drop, min, None, IfNone, IfOk, OnOk, OnErr, IfSome, IsErr, Some, Contains};
 ghost use Rattle.byte_io.specs.Outside.{next_count};
-ghost use Rattle.byte_io.specs.Files.{HasAt, EndsBy, IsLongerThan, bytes_of, told_of, named};
+ghost use Rattle.byte_io.specs.Files.{HasAt, EndsBy, IsFaultOf, bytes_of, told_of, named, remembered};
 
 use crate::memory::Calls;
 use crate::{Failed, Files};
+use arrayvec::ArrayString;
 use std::marker::Model;
 
+// The most bytes of a name that is remembered.
+const MAX_REMEMBERED: usize = 255;
+
 /// Files in memory. A clause sees them as the names and bytes of the files, of which the first of a name
-/// counts, the numbers of the calls that are to fail, counted from 0, and how many calls and faults there
-/// were.
+/// counts, the numbers of the calls that are to fail, counted from 0, how many calls and faults there
+/// were, and the name whose read failed last, where it has at most 255 bytes.
 #[derive(Debug, Drop)]
 pub struct MemFiles {
     files: Vec<(String, Vec<u8>)>,
     calls: Calls,
+    failed_name: Option<ArrayString<MAX_REMEMBERED>>,
 }
 
 impl Model for MemFiles {
+    ghost use Rattle.std.specs.Option.{option_map};
     ghost use Rattle.byte_io.specs.Files.{FilesState, named};
 
     ghost Value = { FilesState };
@@ -26,6 +32,7 @@ impl Model for MemFiles {
       failing_calls = s.calls.failing.items;
       calls = s.calls.count;
       faults = s.calls.faults;
+      failed_name = option_map (λ t. t.bytes) s.failed_name;
     } };
 }
 
@@ -36,10 +43,12 @@ impl MemFiles {
         ensures failing { result.failing_calls ≡ fail.items }
         ensures calls { result.calls ≡ 0 }
         ensures faults { result.faults ≡ 0 }
+        ensures failed_name { result.failed_name ≡ None }
     {
         MemFiles {
             files,
             calls: Calls::new(fail),
+            failed_name: None,
         }
     }
 
@@ -55,6 +64,14 @@ impl MemFiles {
         ensures { result ≡ self.now.faults }
     {
         self.calls.faults
+    }
+
+    // Counts a failed read of the file of this name, and tells it.
+    fn fault(&mut self, name: &str) -> Failed
+        ensures { self.new ≡ record self.old { faults = next_count self.old.faults; failed_name = remembered name.now } }
+    {
+        self.failed_name = ArrayString::from(name).ok();
+        self.calls.fault()
     }
 }
 
@@ -88,6 +105,8 @@ impl Files for MemFiles {
 
     ghost fault_count = { λ s. s.faults };
 
+    ghost failed_name = { λ s. s.failed_name };
+
     /// Gives as many bytes as there are from the place on and fit the buffer.
     fn read_at(&mut self, name: &str, at: u64, buf: &mut [u8]) -> Result<usize, Failed>
         ensures bound { IfOk result (λ n. n ≤ length buf.new) }
@@ -97,6 +116,7 @@ impl Files for MemFiles {
         ensures stays { told_of self.new.files ≡ told_of self.old.files }
         ensures no_fault { OnOk result (self.new.faults ≡ self.old.faults) }
         ensures one_fault { OnErr result (self.new.faults ≡ next_count self.old.faults) }
+        ensures whose { OnErr result (IsFaultOf self.new.failed_name name.now) }
 
         // Which calls fail, and what each changes.
         ensures failed { IsErr result ↔
@@ -108,12 +128,15 @@ impl Files for MemFiles {
         ensures count { IfOk result (λ n. IfSome (bytes_of self.old.files name.now) (λ all.
             n ≡ min (length (drop at all)) (length buf.old))) }
         ensures untouched { OnErr result (buf.new ≡ buf.old) }
+
+        // A name is remembered where it is no longer than that.
+        ensures remembers { OnErr result (self.new.failed_name ≡ remembered name.now) }
     {
         if self.calls.begin() {
-            return Err(self.calls.fault());
+            return Err(self.fault(name));
         }
         let Some(bytes) = find(&self.files, name) else {
-            return Err(self.calls.fault());
+            return Err(self.fault(name));
         };
         Ok(copy_from(bytes, at, buf))
     }

@@ -46,7 +46,7 @@ pub fn check(alloc: Global, inputs: &[Name], calcs: Vec<CalcDef>) -> Result<Chec
     if let Some(fault) = first_fault(inputs, &calcs) {
         return Err(fault);
     }
-    let inputs = Vec::from_slice(alloc, inputs).map_err(|_| CheckNo::WantOfMemory)?;
+    let inputs = Vec::from_slice(alloc, inputs)?;
     Ok(Checked {
         alloc,
         inputs,
@@ -74,7 +74,7 @@ impl Checked {
     pub fn copy(&self) -> Result<Checked, WantOfMemory>
         ensures { IfOk result (λ copy. copy ≡ self.now) }
     {
-        let inputs = Vec::from_slice(self.alloc, &self.inputs).map_err(|_| WantOfMemory)?;
+        let inputs = Vec::from_slice(self.alloc, &self.inputs)?;
         let calcs = copied_defs(self.alloc, &self.calcs)?;
         Ok(Checked {
             alloc: self.alloc,

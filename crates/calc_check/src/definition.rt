@@ -18,11 +18,11 @@ pub struct CalcDef {
 pub(crate) fn copied_defs(alloc: Global, defs: &[CalcDef]) -> Result<Vec<CalcDef>, WantOfMemory>
     ensures { IfOk result (λ copy. map calculation copy.items ≡ map calculation defs.now) }
 {
-    let mut copy = Vec::with_capacity(alloc, defs.len()).map_err(|_| WantOfMemory)?;
+    let mut copy = Vec::with_capacity(alloc, defs.len())?;
     for def in defs {
         let expr = copied(alloc, &def.expr)?;
         let name = def.name;
-        copy.push(CalcDef { name, expr }).map_err(|_| WantOfMemory)?;
+        copy.push(CalcDef { name, expr })?;
     }
     Ok(copy)
 }

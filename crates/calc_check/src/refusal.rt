@@ -1,5 +1,6 @@
 // Why calculations are refused.
 
+use std::alloc::AllocError;
 use trend_num::Name;
 
 /// What is wrong with the first name that stands for nothing, left to right in the first calculation with such a
@@ -13,4 +14,15 @@ pub enum CheckNo {
     Forward { calc: u32, name: Name },
     /// No memory was found.
     WantOfMemory,
+}
+
+impl From<AllocError> for CheckNo {
+    ghost use Rattle.std.specs.Prelude.{◌≡◌};
+    ghost use Rattle.calc_check.specs.declared.refusal.CheckNo.TheVariants.{WantOfMemory};
+
+    ghost from_gives = { λ _ no. no ≡ WantOfMemory };
+
+    fn from(_: AllocError) -> CheckNo {
+        CheckNo::WantOfMemory
+    }
 }

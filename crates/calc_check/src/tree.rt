@@ -10,7 +10,7 @@ use trend_num::{WantOfMemory, same_name};
 fn boxed(alloc: Global, e: Expr) -> Result<Box<Expr>, WantOfMemory>
     ensures { IfOk result (λ b. b.value ≡ e) }
 {
-    Box::new(alloc, e).map_err(|_| WantOfMemory)
+    Ok(Box::new(alloc, e)?)
 }
 
 /// A copy of a tree.

@@ -8,6 +8,7 @@ use Rattle.std.proofs.lemmas.Str.{encode_ascii}
 use Rattle.std.specs.Bool.{Decides}
 use Rattle.std.specs.List.{list_all}
 use Rattle.trend_num.specs.Names.{IsName, is_name_byte}
+use Rattle.trend_num.proofs.NameText.{both_left, both_right, byte_small}
 use Rattle.calc_parser.specs.Tokens.{is_name}
 use lib.Utf8.{encode}
 
@@ -20,32 +21,18 @@ name_byte_at name i all below =
       | false ↦ λ e. absurd (false≢true (sym (list_all_at is_name_byte name i 0 below e) ∙ all))
     ] refl
 
--- a byte of a name is a character of its own
-name_byte_small : (b : ℕ) → is_name_byte b ≡ true → b < 128
-name_byte_small b test = grind (arith, nat_tests)
-
 -- one more byte of a name is written as one character
 pub one_more_byte : (base name before after : List ℕ) (i c : ℕ) → list_all is_name_byte name ≡ true
     → i < length name
     → before ≡ base ++ take i name → c ≡ get_or name i 0 → after ≡ before ++ encode c
     → after ≡ base ++ take (i + 1) name
 one_more_byte base name before after i c all below so_far byte written =
-    let small : c < 128 = omega (arith, name_byte_small (get_or name i 0) (name_byte_at name i all below)) in
+    let small : c < 128 = omega (arith, byte_small (get_or name i 0) (name_byte_at name i all below)) in
     written
     ∙ ap (λ l. before ++ l) (encode_ascii c small ∙ ap (λ b. b ∷ []) byte)
     ∙ ap (λ l. l ++ get_or name i 0 ∷ []) so_far
     ∙ append_assoc base (take i name) (get_or name i 0 ∷ [])
     ∙ ap (λ l. base ++ l) (sym (take_more name i 0 below))
-
--- the left of two tests
-pub both_left : (b c : Bool) → (b && c) ≡ true → b ≡ true
-both_left true c e = refl
-both_left false c e = e
-
--- the right of two tests
-pub both_right : (b c : Bool) → (b && c) ≡ true → c ≡ true
-both_right true c e = e
-both_right false c e = cc e
 
 -- the test tells which bytes are a name
 pub name_decides : (bytes : List ℕ) → Decides (is_name bytes) (IsName bytes)

@@ -25,7 +25,7 @@ use Rattle.calc_parser.specs.declared.token.Token.{Token}
 use Rattle.calc_parser.specs.Canonical.{spelling, spelled, measure_word}
 use Rattle.calc_parser.specs.Tokens.{Piece, Lexeme, is_letter, is_name, largest_number, ill, measured_or, numeral_of, measure_of, other_word, word_of, word_at, name_of, quoted_of, less_of, greater_of, sign_of, or_ill, token_at, lexemes, tokens_of}
 use Rattle.calc_parser.proofs.Lexing.{run_passes}
-use Rattle.calc_parser.proofs.Names.{both_left, both_right}
+use Rattle.trend_num.proofs.NameText.{both_left, both_right}
 use Rattle.calc_parser.proofs.Written.{IsWritten, AllWritten}
 
 -- a number's digits, and what they spell

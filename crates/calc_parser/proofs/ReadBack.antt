@@ -22,7 +22,7 @@ use Rattle.calc_parser.specs.Canonical.{spelling, spelled}
 use Rattle.calc_parser.specs.Tokens.{Piece, Lexeme, ill, is_letter, is_name, largest_number, numeral_of, word_at, word_of, or_ill, name_of, quoted_of, less_of, greater_of, token_at, lexemes, tokens_of}
 use Rattle.calc_parser.proofs.Apart.{is_wordy, is_comparing, clash, next_of, Apart}
 use Rattle.calc_parser.proofs.Lexing.{token_first}
-use Rattle.calc_parser.proofs.Names.{both_left, both_right}
+use Rattle.trend_num.proofs.NameText.{both_left, both_right}
 use Rattle.calc_parser.proofs.Pieces.{IsDecimal, decimal_is}
 use Rattle.calc_parser.proofs.Written.{IsWritten, AllWritten}
 

@@ -9,13 +9,13 @@ use crate::parser::Stop;
 use crate::token::{Pick, Product, Sum};
 use crate::{Cmp, Expr, Op};
 use std::alloc::Global;
+use trend_num::WantOfMemory;
 
 /// A tree in a box.
-fn boxed(alloc: Global, e: Expr) -> Result<Box<Expr>, Stop>
-    ensures boxed { IfOk result (λ b. b.value ≡ e) }
-    ensures refused { IfErr result (λ why. why ≡ Stop.WantOfMemory) }
+fn boxed(alloc: Global, e: Expr) -> Result<Box<Expr>, WantOfMemory>
+    ensures { IfOk result (λ b. b.value ≡ e) }
 {
-    Box::new(alloc, e).map_err(|_| Stop::WantOfMemory)
+    Ok(Box::new(alloc, e)?)
 }
 
 pub(crate) fn negated(alloc: Global, a: Expr) -> Result<Expr, Stop>

@@ -11,7 +11,7 @@ use crate::Expr;
 use crate::builder::{absolute, chosen, compared, negated, pick_op, product_op, sum_op, two};
 use crate::token::{Pick, Sum, Token};
 use std::alloc::Global;
-use trend_num::Name;
+use trend_num::{Name, WantOfMemory};
 
 /// The deepest nesting of a formula.
 const DEEPEST: u32 = 32;
@@ -25,6 +25,17 @@ pub(crate) enum Stop {
     Deep,
     /// No memory was found.
     WantOfMemory,
+}
+
+impl From<WantOfMemory> for Stop {
+    ghost use Rattle.std.specs.Prelude.{◌≡◌};
+    ghost use Rattle.calc_parser.specs.declared.parser.Stop.TheVariants.{WantOfMemory};
+
+    ghost from_gives = { λ _ stop. stop ≡ WantOfMemory };
+
+    fn from(_: WantOfMemory) -> Stop {
+        Stop::WantOfMemory
+    }
 }
 
 /// A reader of tokens, which stays at a token that it refuses.

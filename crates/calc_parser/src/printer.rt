@@ -18,7 +18,7 @@ pub fn print(alloc: Global, e: &Expr) -> Result<String, WantOfMemory>
         → IsFormula (string_bytes s) (tree_of e.now)) }
 {
     let mut text = String::new(alloc);
-    put(&mut text, e).map_err(|_| WantOfMemory)?;
+    put(&mut text, e)?;
     Ok(text)
 }
 

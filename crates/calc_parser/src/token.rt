@@ -80,8 +80,8 @@ impl Lexed {
         ensures tokens { OnOk result (self.new.tokens.items ≡ self.old.tokens.items ++ token ∷ []) }
         ensures places { OnOk result (self.new.places.items ≡ self.old.places.items ++ place ∷ []) }
     {
-        self.tokens.push(token).map_err(|_| WantOfMemory)?;
-        self.places.push(place).map_err(|_| WantOfMemory)?;
+        self.tokens.push(token)?;
+        self.places.push(place)?;
         Ok(())
     }
 }

@@ -345,6 +345,27 @@ fn a_crash_after_any_call_leaves_what_was_acknowledged(rt: HostRuntime) -> Resul
     Ok(())
 }
 
+// Takes late values, each of which is a record, until one is refused; tells why.
+fn fill_up(rt: &impl Wait, cell: &mut Cell<MemDisk>) -> Option<TakeNo> {
+    for row in 0..1_048_600 {
+        if let Some(no) = refusal(rt, cell, row, 0, 0) {
+            return Some(no);
+        }
+    }
+    None
+}
+
+#[test]
+fn a_tag_at_its_limit_of_records_answers_full(rt: HostRuntime) -> Result<(), Fail> {
+    let mut cell = filled(&rt, rt.alloc(), false, 1, 1_048_700, "1,0").ok_or("refused")?;
+    assert_eq!(rt;
+        fill_up(&rt, &mut cell),
+        Some(TakeNo::Full { records: 1_048_575 })
+    );
+    assert_eq!(rt; cell.tape().len(), 1_048_575);
+    Ok(())
+}
+
 // Takes so many values as rows of a collector, each under the lock; tells how many were taken.
 fn take_under_lock<R: Wait>(
     rt: &R,

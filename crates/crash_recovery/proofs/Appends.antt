@@ -27,8 +27,8 @@ use Rattle.crash_recovery.specs.Journals.{AllRecover, RecoversEither, SeatedOn, 
 use Rattle.crash_recovery.specs.Seats.{LaidOn, restarted}
 use Rattle.crash_recovery.proofs.Replays.{replay_append, fit_append}
 use Rattle.crash_recovery.proofs.Stored.{KeepsStored, lane_replayed, replays, recovers_kept, recovers_same}
-use Rattle.crash_recovery.proofs.SettledDevices.{now_shown, shown_now, shown_both, during_from, shown_from}
-use Rattle.crash_recovery.proofs.SettledDevices.{opened_after}
+use Rattle.crash_recovery.proofs.DeviceReads.{now_shown, shown_now, shown_both, during_from, shown_from}
+use Rattle.crash_recovery.proofs.DeviceReads.{opened_after}
 use Rattle.crash_recovery.proofs.Places.{OnlyLane, only_lane, moved, laid_moved, seated_on, settled_on}
 use Rattle.crash_recovery.proofs.Places.{laid_shown, laid_again, reaches_on}
 

@@ -15,7 +15,7 @@ use Rattle.trend_num.specs.declared.archive.Rec.{Rec}
 use Rattle.trend_num.specs.declared.archive.Summary.{Summary}
 use Rattle.trend_num.specs.declared.tag_def.TagDef.{TagDef}
 use Rattle.trend_num.specs.declared.tuning.Tuning.{Tuning}
-use Rattle.trend_num.specs.Ranges.{InRange, IsTuned}
+use Rattle.trend_num.specs.Ranges.{InRange, TuningInRange}
 use Rattle.trend_model.specs.History.{Raw}
 use Rattle.trend_model.specs.Lists.{Each}
 use Rattle.trend_model.specs.Parts.{ArePartsOk}
@@ -48,8 +48,8 @@ use Rattle.crash_recovery.proofs.Counting.{counting_new}
 use Rattle.device_layout.proofs.SlotNumbers.{length-summary_image, taken_spelled, records_spelled}
 use Rattle.device_layout.proofs.SlotNumbers.{summary_of_parts}
 use Rattle.crash_recovery.proofs.Stored.{records_known, not_new, recovers_same}
-use Rattle.crash_recovery.proofs.SettledDevices.{now_shown, shown_now, shown_so, shown_both, during_from}
-use Rattle.crash_recovery.proofs.SettledDevices.{shown_from, opened_after}
+use Rattle.crash_recovery.proofs.DeviceReads.{now_shown, shown_now, shown_so, shown_both, during_from}
+use Rattle.crash_recovery.proofs.DeviceReads.{shown_from, opened_after}
 use Rattle.crash_recovery.proofs.Places.{OnlySpare, apart_lane, slot_within, gate_within, others_kept}
 use Rattle.crash_recovery.proofs.Places.{front_kept, first_kept, log_kept, only_spare, settled_on, laid_shown}
 use Rattle.crash_recovery.proofs.Places.{laid_again, reaches_on}
@@ -76,12 +76,12 @@ holds_long at bytes c le holds =
 -- the parts of a core's state fit each other
 pub record IsFit (u : Tuning) (step : Bool) (r : State) : Type 0 where
   pub tuned : r.summary.tuning ≡ Some u
-  pub tuned_ok : IsTuned u
+  pub tuned_ok : TuningInRange u
   pub parts : ArePartsOk u step r.records r.summary
 
 -- those of a core do
 pub fit_of : (u : Tuning) (step : Bool) (r : State) (sm : Summary) → sm ≡ r.summary
-    → r.summary.tuning ≡ Some u → IsTuned u
+    → r.summary.tuning ≡ Some u → TuningInRange u
     → ((v : Tuning) → sm.tuning ≡ Some v → sm.taken < 10 ^ 18 → ArePartsOk v step r.records sm)
     → r.summary.taken < 10 ^ 18 → IsFit u step r
 fit_of u step r sm same tuned ok parts countable = record {

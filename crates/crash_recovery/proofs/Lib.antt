@@ -6,7 +6,7 @@ pub mod Counting
 pub mod Done
 pub mod LanePlaces
 pub mod Logged
-pub mod MadeSeats
+pub mod NewSeats
 pub mod Numbered
 pub mod Openings
 pub mod PartsFound
@@ -15,7 +15,7 @@ pub mod Places
 pub mod Recovered
 pub mod Replays
 pub mod Restarts
-pub mod SettledDevices
+pub mod DeviceReads
 pub mod Stored
 pub mod Takes
 pub mod Turns

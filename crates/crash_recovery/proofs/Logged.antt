@@ -28,7 +28,7 @@ use Rattle.crash_recovery.specs.Journals.{AllRecover, IsInUse, log_end, IsLaid}
 use Rattle.crash_recovery.specs.Seats.{spare_slot, LaidOn, IsLogged, ReadyOn}
 use Rattle.crash_recovery.proofs.Pieces.{same_piece}
 use Rattle.crash_recovery.proofs.Stored.{KeepsStored, KeepsLane, recovers_same}
-use Rattle.crash_recovery.proofs.SettledDevices.{now_shown, shown_now, shown_both, during_from, shown_from}
+use Rattle.crash_recovery.proofs.DeviceReads.{now_shown, shown_now, shown_both, during_from, shown_from}
 use Rattle.crash_recovery.proofs.Places.{OnlySpare, slot_within, gate_within, behind_kept, only_spare}
 use Rattle.crash_recovery.proofs.Places.{laid_moved, settled_on, laid_shown, laid_again}
 

@@ -26,7 +26,7 @@ use Rattle.device_layout.specs.declared.failure.OpenNo.{OpenNo}
 use Rattle.device_layout.specs.declared.failure.OpenNo.TheVariants.{DeviceFault, Damaged, OtherTag, Full}
 use Rattle.device_layout.specs.declared.failure.OpenNo.TheVariants.{WantOfMemory}
 use Rattle.device_layout.specs.Damages.{IsTagDamage}
-use Rattle.crash_recovery.specs.Standing.{ImageStands, StandsOpened}
+use Rattle.crash_recovery.specs.TagImages.{ImageStands, StandsOpened}
 use Rattle.device_layout.proofs.OneState.{one_state}
 use Rattle.trend_num.specs.Limits.{most_records}
 

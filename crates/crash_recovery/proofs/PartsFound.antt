@@ -14,7 +14,7 @@ use Rattle.device_layout.specs.declared.slot.Slot.{Slot}
 use Rattle.device_layout.specs.Recovery.{no_summary, summary_place, HasSummary}
 use Rattle.device_layout.specs.Damages.{IsTagDamage}
 use Rattle.device_layout.specs.Readings.{CountsSummary, IsFoundOn, IsReadFrom}
-use Rattle.device_layout.proofs.Made.{no_parts}
+use Rattle.device_layout.proofs.NewLayout.{no_parts}
 use Rattle.device_layout.proofs.Reading.{parts_broken, here_at}
 
 -- before the first checkpoint they can be those of a tag

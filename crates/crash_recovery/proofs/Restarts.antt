@@ -18,7 +18,7 @@ use Rattle.device_layout.specs.Recovery.{Recovers}
 use Rattle.crash_recovery.specs.Journals.{AllRecover, IsInUse, IsLaid, IsOverrun}
 use Rattle.crash_recovery.specs.Seats.{LaidOn, OverrunOn, restarted}
 use Rattle.crash_recovery.proofs.Stored.{KeepsLane, recovers_same}
-use Rattle.crash_recovery.proofs.SettledDevices.{shown_now, shown_both, during_from, shown_from}
+use Rattle.crash_recovery.proofs.DeviceReads.{shown_now, shown_both, during_from, shown_from}
 use Rattle.crash_recovery.proofs.Places.{OnlyLane, only_lane, laid_moved, settled_on, laid_shown, laid_again}
 
 -- only the lane has changed

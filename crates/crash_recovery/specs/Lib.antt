@@ -1,4 +1,4 @@
 pub mod Journals
 pub mod Seats
 pub mod Opening
-pub mod Standing
+pub mod TagImages

@@ -5,7 +5,7 @@ ghost use Rattle.trend_model.specs.History.{Event, Origin, Tune};
 ghost use Rattle.trend_model.specs.State.{State};
 ghost use Rattle.device_layout.specs.Recovery.{Recovers};
 ghost use Rattle.crash_recovery.specs.Opening.{IsOpenedAs, RecoversSame};
-ghost use Rattle.crash_recovery.specs.Standing.{ImageStands, StandsOpened};
+ghost use Rattle.crash_recovery.specs.TagImages.{ImageStands, StandsOpened};
 
 /// For each history for which a tag's device stood, what is opened of it stands for that history where the wanted tuning is
 /// in force after it, and else for that history and a retuning. So does each image that recovers the same, or that as it is

@@ -3,7 +3,7 @@ ghost use Rattle.std.specs.Prelude.{◌≡◌, ◌≢◌, ◌⊎◌, ◌+◌, �
 ghost use Rattle.std.specs.Prelude.{length, IfOk, IfErr, OnOk, OnErr};
 ghost use Rattle.trend_num.specs.Limits.{most_records};
 ghost use Rattle.trend_num.specs.declared.tag_def.TagDef.{TagDef};
-ghost use Rattle.trend_num.specs.Ranges.{IsTuned};
+ghost use Rattle.trend_num.specs.Ranges.{TuningInRange};
 ghost use Rattle.trend_model.specs.State.{State, nothing_taken};
 ghost use Rattle.disk_model.specs.Traces.{Synced, noted};
 ghost use Rattle.disk_model.specs.Images.{IsSettled};
@@ -58,7 +58,7 @@ pub fn open_tag<D: Disk>(
 ) -> Result<Opened<D>, OpenFail<D>>
     requires some { 1 ≤ lane_slots }
     requires few { lane_slots ≤ 65536 }
-    requires tuned { IsTuned def.now.tuning }
+    requires tuned { TuningInRange def.now.tuning }
 
     // A crash at any moment leaves an image that one before might have left, or that recovers what the device recovered at
     // the start, or that as it is opened.
@@ -163,7 +163,7 @@ fn read_tag<L: Ledger, D: Disk>(
     requires some_parts { 0 < L.parts }
     requires some { 1 ≤ lane_slots }
     requires few { lane_slots ≤ 65536 }
-    requires tuned { IsTuned def.now.tuning }
+    requires tuned { TuningInRange def.now.tuning }
     ensures any_moment { During (D.trace dev.old) (D.trace dev.new) (IsLeftOrSame def.now (D.trace dev.old)) }
     ensures opened { IfOk result (λ r.
         IsReadAs def.now (D.trace dev.old) (D.trace dev.new) r.retuned r.core.state) }
@@ -207,7 +207,7 @@ fn made<D: Disk>(
 ) -> Result<Read, OpenNo>
     requires some { 1 ≤ lane_slots }
     requires few { lane_slots ≤ 65536 }
-    requires tuned { IsTuned def.now.tuning }
+    requires tuned { TuningInRange def.now.tuning }
     requires new { Shows (D.trace dev.old) IsNew }
     requires settled { IsSettled (D.trace dev.old) }
     ensures any_moment { During (D.trace dev.old) (D.trace dev.new)
@@ -258,7 +258,7 @@ fn read_back<L: Ledger, D: Disk>(
     steps: &mut Steps<L>,
 ) -> Result<Read, OpenNo>
     requires opened { Shows (D.trace dev.old) IsBegun }
-    requires tuned { IsTuned def.now.tuning }
+    requires tuned { TuningInRange def.now.tuning }
     ensures opened { IfOk result (λ r. Shows (D.trace dev.old) (λ c. (s : State) × IsRecovered def.now c s
         × OpensAs def.now r.retuned s r.core.state)) }
     ensures seat { IfOk result (λ r. Shows (D.trace dev.old) (IsSeat r.seat)) }
@@ -297,7 +297,7 @@ fn tuned<L: Ledger>(
     def: &TagDef,
     steps: &mut Steps<L>,
 ) -> Result<Read, OpenNo>
-    requires tuned { IsTuned def.now.tuning }
+    requires tuned { TuningInRange def.now.tuning }
     requires room { 2 ≤ core.spare }
     requires countable { core.state.summary.taken < 2 ^ 64 - 1 }
     requires step { core.step ≡ def.now.step }

@@ -1,7 +1,7 @@
 // The test of what a device stores: whether its records and its summary can be those of a tag.
 ghost use Rattle.std.specs.Prelude.{◌≡◌, ℕ, [], None, IfErr, IfOk, OnOk};
 ghost use Rattle.trend_num.specs.declared.tag_def.TagDef.{TagDef};
-ghost use Rattle.trend_num.specs.Ranges.{IsTuned};
+ghost use Rattle.trend_num.specs.Ranges.{TuningInRange};
 ghost use Rattle.trend_model.specs.Parts.{ArePartsOk};
 ghost use Rattle.disk_model.specs.Calls.{CountsFault, Reaches, Shows};
 ghost use Rattle.device_layout.specs.declared.failure.OpenNo.TheVariants.{DeviceFault};
@@ -17,7 +17,7 @@ use tag_core::parts_ok;
 /// first checkpoint there are none.
 fn test_parts<D: Disk>(dev: &mut D, stored: &Stored, step: bool) -> Result<(), OpenNo>
     requires long { Reaches (D.trace dev.old) 400 }
-    requires tuned { IsTuned stored.now.tuning }
+    requires tuned { TuningInRange stored.now.tuning }
     requires none { stored.now.slot ≡ None
         → (stored.now.summary ≡ no_summary) × (stored.now.recs.items ≡ []) }
     ensures parts { OnOk result
@@ -47,11 +47,11 @@ pub(crate) fn read_parts<D: Disk>(
     step: bool,
 ) -> Result<Stored, OpenNo>
     requires long { Reaches (D.trace dev.old) 400 }
-    requires tuned { IsTuned header.now.def.tuning }
+    requires tuned { TuningInRange header.now.def.tuning }
     ensures stored { (def : TagDef) → def.step ≡ step
         → Shows (D.trace dev.old) (HasLayout def header.now.slots header.now.def.tuning)
         → IfOk result (λ x. Shows (D.trace dev.old) (IsReadFrom def header.now.slots x)) }
-    ensures tuned { IfOk result (λ x. IsTuned x.tuning) }
+    ensures tuned { IfOk result (λ x. TuningInRange x.tuning) }
     ensures parts { IfOk result (λ x. ArePartsOk x.tuning step x.recs.items x.summary) }
     ensures cause { (def : TagDef) → def.step ≡ step
         → Shows (D.trace dev.old) (HasLayout def header.now.slots header.now.def.tuning)

@@ -3,7 +3,7 @@ ghost use Rattle.std.specs.Prelude.{◌≡◌, ◌+◌, ◌*◌, ◌^◌, ◌<�
 ghost use Rattle.std.specs.List.{All};
 ghost use Rattle.trend_num.specs.Limits.{most_records};
 ghost use Rattle.trend_num.specs.declared.tag_def.TagDef.{TagDef};
-ghost use Rattle.trend_num.specs.Ranges.{InRange, IsTuned};
+ghost use Rattle.trend_num.specs.Ranges.{InRange, TuningInRange};
 ghost use Rattle.trend_model.specs.History.{Raw};
 ghost use Rattle.trend_model.specs.Parts.{ArePartsOk};
 ghost use Rattle.trend_model.specs.State.{replay};
@@ -151,7 +151,7 @@ pub(crate) fn read_core<L: Ledger, D: Disk>(
     requires some { 1 ≤ slots }
     requires few { slots ≤ 65536 }
     requires there { Reaches (D.trace dev.old) (400 + 1035 * slots) }
-    requires tuned { IsTuned stored.tuning }
+    requires tuned { TuningInRange stored.tuning }
     requires parts { ArePartsOk stored.tuning step stored.recs.items stored.summary }
     ensures recovered { (def : TagDef) → def.step ≡ step → Shows (D.trace dev.old) (IsReadFrom def slots stored)
         → IfOk result (λ r. Shows (D.trace dev.old) (λ c. IsRecovered def c r.1.state)) }

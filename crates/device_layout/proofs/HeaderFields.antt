@@ -7,7 +7,7 @@ use Rattle.std.proofs.lemmas.Bool.{leb-true, le-leb, lt-leb, ne_eqb, and_parts}
 use Rattle.std.proofs.lemmas.List.Elements.{All-from_get_or}
 use Rattle.std.proofs.lemmas.List.Sums.{list_all-from_AllPass}
 use Rattle.trend_num.specs.Names.{is_name_byte, IsName}
-use Rattle.trend_num.specs.Ranges.{last_time, largest_value, IsTuned}
+use Rattle.trend_num.specs.Ranges.{last_time, largest_value, TuningInRange}
 use Rattle.device_layout.specs.Headers.{most_slots, number_at, name_in, tuning_in, slots_in}
 use Rattle.device_layout.specs.Headers.{IsHeader}
 
@@ -56,7 +56,7 @@ module _ (h : List ℕ) (ok : IsHeader h) where
           ∙ name_byte (6 + k) (omega arith) (omega (arith, long))
 
   -- the numbers are a tuning
-  pub header_tuned : IsTuned (tuning_in h)
+  pub header_tuned : TuningInRange (tuning_in h)
   header_tuned = record {
     exc_dev = leb-true (number_at h 70) largest_value
         (rw (behind_name 70 (omega arith)) at (ok.fields 70 (omega arith) (omega arith)));

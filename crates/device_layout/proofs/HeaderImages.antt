@@ -13,7 +13,7 @@ use Rattle.std.proofs.lemmas.List.Sums.{AllPass-from_list_all}
 use Rattle.std.proofs.lemmas.Nat.{from_be_bytes-to_be_bytes_8, from_be_bytes-to_be_bytes_4}
 use Rattle.trend_num.specs.declared.tag_def.TagDef.{TagDef}
 use Rattle.trend_num.specs.Names.{is_name_byte, IsName}
-use Rattle.trend_num.specs.Ranges.{last_time, largest_value, IsTuned}
+use Rattle.trend_num.specs.Ranges.{last_time, largest_value, TuningInRange}
 use Rattle.archive_file.specs.Fields.{number_bytes}
 use Rattle.archive_file.proofs.Joins.{joined, joined_5}
 use Rattle.device_layout.specs.Firsts.{HoldsFrom}
@@ -167,7 +167,7 @@ module _ (gate : ℕ) (def : TagDef) (slots : ℕ) (name : IsName def.name) wher
       ∙ from_be_bytes-to_be_bytes_4 slots small
 
   -- the definition of the tag
-  pub def_image : IsTuned def.tuning → def_in (header_with gate def slots) ≡ def
+  pub def_image : TuningInRange def.tuning → def_in (header_with gate def slots) ≡ def
   def_image tuned = λ i. record { name = same_name i; tuning = same_tuning i; step = same_step i }
     where
       same_name : name_in (header_with gate def slots) ≡ def.name
@@ -236,7 +236,7 @@ module _ (gate : ℕ) (def : TagDef) (slots : ℕ) (name : IsName def.name) wher
       ∙ ap (λ b. leb b 1) step_there ∙ flag_small def.step
 
   -- each field keeps the layout
-  fields_ok : IsTuned def.tuning → 1 ≤ slots → slots ≤ 65536
+  fields_ok : TuningInRange def.tuning → 1 ≤ slots → slots ≤ 65536
       → HoldsFrom (is_field_ok (header_with gate def slots)) 1 128
   fields_ok tuned some few i low high =
       let h = header_with gate def slots in
@@ -270,7 +270,7 @@ module _ (gate : ℕ) (def : TagDef) (slots : ℕ) (name : IsName def.name) wher
       (λ within. refl))))))))))))
 
   -- all of it is a header
-  pub header_made : IsTuned def.tuning → 1 ≤ slots → slots ≤ 65536 → IsHeader (header_with gate def slots)
+  pub header_made : TuningInRange def.tuning → 1 ≤ slots → slots ≤ 65536 → IsHeader (header_with gate def slots)
   header_made tuned some few = record {
     size = omega (arith, length-header_image def slots name);
     fields = fields_ok tuned some few;

@@ -8,7 +8,7 @@ use Rattle.std.proofs.lemmas.Bool.{cases_eq}
 use Rattle.std.proofs.lemmas.List.{get_or-append_right, get_or-replicate, length-replicate}
 use Rattle.trend_num.specs.declared.tag_def.TagDef.{TagDef}
 use Rattle.trend_num.specs.Names.{IsName}
-use Rattle.trend_num.specs.Ranges.{IsTuned}
+use Rattle.trend_num.specs.Ranges.{TuningInRange}
 use Rattle.trend_model.specs.State.{nothing_taken}
 use Rattle.disk_model.specs.Traces.{Wrote, WroteInPart, Synced, Idle, Trace, seen, written}
 use Rattle.disk_model.specs.Images.{MayLeave, Now, FromOld, IsSettled}
@@ -23,7 +23,7 @@ use Rattle.disk_model.specs.Gates.{IsNew}
 use Rattle.device_layout.specs.Recovery.{Recovers}
 use Rattle.device_layout.specs.Layouts.{IsMade}
 use Rattle.device_layout.proofs.HeaderImages.{length-header_image}
-use Rattle.device_layout.proofs.Made.{made_recovers}
+use Rattle.device_layout.proofs.NewLayout.{made_recovers}
 
 -- ---- the gate is closed
 
@@ -122,7 +122,7 @@ module _ (def : TagDef) (slots : ℕ) (bytes : List ℕ) (name : IsName def.name
           (length-header_image def slots name) (omega arith)
           ∙ get_or-replicate (272 + 1035 * slots) (i - 1 - 127) 0 0 (omega arith)
 
-  module _ (tuned : IsTuned def.tuning) (some : 1 ≤ slots) (few : slots ≤ 65536) (o o1 : Option Trace)
+  module _ (tuned : TuningInRange def.tuning) (some : 1 ≤ slots) (few : slots ≤ 65536) (o o1 : Option Trace)
       (closed : During o o1 IsNew) where
     -- and so does the whole layout
     pub layout_recovers : (o2 : Option Trace) → During o1 o2 (FromOld o1 (IsGuarded 1 bytes 0))

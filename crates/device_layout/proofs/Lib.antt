@@ -3,7 +3,7 @@ pub mod Firsts
 pub mod HeaderFields
 pub mod HeaderImages
 pub mod LayoutMoments
-pub mod Made
+pub mod NewLayout
 pub mod OneState
 pub mod Reading
 pub mod Shows

@@ -9,7 +9,7 @@ use Rattle.std.proofs.lemmas.List.{drop-drop, drop_at}
 use Rattle.trend_num.specs.declared.point.Point.{Point}
 use Rattle.trend_num.specs.declared.archive.Summary.{Summary}
 use Rattle.trend_num.specs.declared.tuning.Tuning.{Tuning}
-use Rattle.trend_num.specs.Ranges.{InRange, IsTuned, last_time, largest_value}
+use Rattle.trend_num.specs.Ranges.{InRange, TuningInRange, last_time, largest_value}
 use Rattle.archive_file.specs.Fields.{number_bytes, place_bytes, point_at}
 use Rattle.archive_file.specs.Summaries.{flags, tuning_bytes, summary_image, IsSummary}
 use Rattle.archive_file.proofs.Points.{point_at-bytes}
@@ -82,7 +82,7 @@ number_passes : (there : Bool) (n m most : ℕ) → n ≡ m → m ≤ most → (
 number_passes there n m most is small = or_right (not there) _ (le-leb n most (omega (arith, is)))
 
 -- those of one that is there
-numbers_there : (t : Tuning) (there : Bool) (b : List ℕ) → IsTuned t → drop 96 b ≡ tuning_bytes (Some t)
+numbers_there : (t : Tuning) (there : Bool) (b : List ℕ) → TuningInRange t → drop 96 b ≡ tuning_bytes (Some t)
     → DoNumbersPass there b
 numbers_there t there b tuned is =
     let r5 = number_bytes 6 t.comp_max in
@@ -108,7 +108,7 @@ numbers_there t there b tuned is =
           tuned.comp_max;
     }
 
-numbers_pass : (o : Option Tuning) (there : Bool) (b : List ℕ) → there ≡ is_some o → IfSome o IsTuned
+numbers_pass : (o : Option Tuning) (there : Bool) (b : List ℕ) → there ≡ is_some o → IfSome o TuningInRange
     → drop 96 b ≡ tuning_bytes o → DoNumbersPass there b
 numbers_pass None there b flag tuned is = numbers_absent there b (not_from_false there flag)
 numbers_pass (Some t) there b flag tuned is = numbers_there t there b tuned is

@@ -7,7 +7,7 @@ use Rattle.trend_num.specs.declared.point.Point.{Point}
 use Rattle.trend_num.specs.declared.archive.Rec.{Rec}
 use Rattle.trend_num.specs.declared.archive.Summary.{Summary}
 use Rattle.trend_num.specs.declared.tuning.Tuning.{Tuning}
-use Rattle.trend_num.specs.Ranges.{InRange, IsTuned}
+use Rattle.trend_num.specs.Ranges.{InRange, TuningInRange}
 use Rattle.trend_model.specs.Lists.{IfThere}
 use Rattle.trend_model.specs.Parts.{PendingFits, IsBegunOrBlank, ArePartsOk}
 use Rattle.archive_file.specs.Fields.{place_bytes}
@@ -89,7 +89,7 @@ pending_beside u (Some q) (Some w) fits there = refl
 
 -- records and a summary that can be those of a tag: the summary has a spelling
 pub summary_of_parts : (u : Tuning) (step : Bool) (rs : List Rec) (s : Summary) → ArePartsOk u step rs s
-    → s.tuning ≡ Some u → IsTuned u → IsSummary s
+    → s.tuning ≡ Some u → TuningInRange u → IsSummary s
 summary_of_parts u step rs s ok told tuned =
     let ruled = ok.ruled in
     let stand = stands_together step u.comp_dev rs s.held s.hinge s.upper s.lower ruled.whole in
@@ -105,5 +105,5 @@ summary_of_parts u step rs s ok told tuned =
       hinge = if_some InRange s.hinge ruled.hinge_is;
       upper = if_some InRange s.upper ruled.upper_is;
       lower = if_some InRange s.lower ruled.lower_is;
-      tuning = subst (λ o. IfSome o IsTuned) (sym told) tuned;
+      tuning = subst (λ o. IfSome o TuningInRange) (sym told) tuned;
     }

@@ -8,7 +8,7 @@ use Rattle.std.proofs.lemmas.List.{drop_more}
 use Rattle.trend_num.specs.declared.point.Point.{Point}
 use Rattle.trend_num.specs.declared.archive.Summary.{Summary}
 use Rattle.trend_num.specs.declared.tuning.Tuning.{Tuning}
-use Rattle.trend_num.specs.Ranges.{InRange, IsTuned, last_time, largest_value}
+use Rattle.trend_num.specs.Ranges.{InRange, TuningInRange, last_time, largest_value}
 use Rattle.archive_file.specs.Fields.{place_bytes, point_at}
 use Rattle.archive_file.specs.Summaries.{flags, places_image, tuning_bytes, summary_image, IsSummary}
 use Rattle.archive_file.proofs.Points.{IsBytes}
@@ -38,7 +38,7 @@ point_inside false p ok = tt
 tuning_inside : (there : Bool) (t : Tuning) → (not there || leb t.exc_dev largest_value) ≡ true
     → (not there || leb t.exc_max last_time) ≡ true → (not there || leb t.comp_dev largest_value) ≡ true
     → (not there || leb t.comp_min last_time) ≡ true → (not there || leb t.comp_max last_time) ≡ true
-    → IfSome (cond there (Some t) None) IsTuned
+    → IfSome (cond there (Some t) None) TuningInRange
 tuning_inside true t exc_dev exc_max comp_dev comp_min comp_max = record {
   exc_dev = leb-true _ _ exc_dev;
   exc_max = leb-true _ _ exc_max;

@@ -3,7 +3,7 @@ ghost use Rattle.std.specs.Prelude.{◌≡◌, ◌+◌, ◌-◌, ◌<◌, ◌≤
 ghost use Rattle.std.specs.Prelude.{length, replicate, slice_index};
 ghost use Rattle.arrayvec.specs.ArrayVec.{array_vec_len};
 ghost use Rattle.trend_num.specs.Names.{is_name_byte, IsName};
-ghost use Rattle.trend_num.specs.Ranges.{IsTuned};
+ghost use Rattle.trend_num.specs.Ranges.{TuningInRange};
 ghost use Rattle.device_layout.specs.Headers.{most_slots, number_at, name_in, tuning_in, slots_in, def_in};
 ghost use Rattle.device_layout.specs.Headers.{is_field_ok, IsHeader, IsHeaderBroken};
 ghost use Rattle.device_layout.specs.Headers.{tuning_image, header_image};
@@ -40,7 +40,7 @@ pub struct Header {
 /// first field that breaks the layout.
 pub fn read_header(h: &[u8; HEADER_LEN]) -> Result<Header, usize>
     ensures header { IfOk result (λ x. IsHeader h.now × (x.def ≡ def_in h.now) × (x.slots ≡ slots_in h.now)) }
-    ensures tuned { IfOk result (λ x. IsTuned x.def.tuning) }
+    ensures tuned { IfOk result (λ x. TuningInRange x.def.tuning) }
     ensures slots { IfOk result (λ x. (1 ≤ x.slots) × (x.slots ≤ 65536)) }
     ensures broken { IfErr result (IsHeaderBroken h.now) }
     ensures within { IfErr result (λ at. at < 128) }

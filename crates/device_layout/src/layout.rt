@@ -1,7 +1,7 @@
 // The layout of a new device.
 ghost use Rattle.std.specs.Prelude.{◌≡◌, ◌+◌, ◌*◌, ◌≤◌, ◌++◌, replicate, Some, IfSome, IfOk, OnOk, IsErrOf};
 ghost use Rattle.trend_num.specs.Names.{IsName};
-ghost use Rattle.trend_num.specs.Ranges.{IsTuned};
+ghost use Rattle.trend_num.specs.Ranges.{TuningInRange};
 ghost use Rattle.trend_model.specs.State.{nothing_taken};
 ghost use Rattle.disk_model.specs.Traces.{seen};
 ghost use Rattle.disk_model.specs.Images.{Now, IsSettled};
@@ -42,7 +42,7 @@ pub fn make_layout<D: Disk>(
 ) -> Result<(), PutNo>
     requires some { 1 ≤ slots }
     requires few { slots ≤ 65536 }
-    requires tuned { IsTuned def.now.tuning }
+    requires tuned { TuningInRange def.now.tuning }
     requires new { IfSome (D.trace dev.old) (λ t. IsNew (seen (Some t))) }
     requires settled { IsSettled (D.trace dev.old) }
     ensures any_moment { During (D.trace dev.old) (D.trace dev.new)

@@ -3,7 +3,7 @@ ghost use Rattle.std.specs.Prelude.{◌≡◌, ◌+◌, ◌*◌, ◌^◌, ◌<�
 ghost use Rattle.std.specs.Prelude.{[], None, Some, Err, IfOk, IfErr, OnOk, OnErr};
 ghost use Rattle.trend_num.specs.declared.tuning.Tuning.{Tuning};
 ghost use Rattle.trend_num.specs.declared.tag_def.TagDef.{TagDef};
-ghost use Rattle.trend_num.specs.Ranges.{IsTuned};
+ghost use Rattle.trend_num.specs.Ranges.{TuningInRange};
 ghost use Rattle.disk_model.specs.Calls.{CountsFault, HasCause, HasLength, Reaches, Reads};
 ghost use Rattle.disk_model.specs.Gates.{IsBegun};
 ghost use Rattle.archive_file.specs.Places.{HasRecords};
@@ -53,7 +53,7 @@ pub const LANE: u64 = 400;
 pub fn read_layout<D: Disk>(dev: &mut D, def: &TagDef) -> Result<Header, OpenNo>
     requires { Shows (D.trace dev.old) IsBegun }
     ensures layout { IfOk result (λ h. Shows (D.trace dev.old) (HasLayout def.now h.slots h.def.tuning)) }
-    ensures tuned { IfOk result (λ h. IsTuned h.def.tuning) }
+    ensures tuned { IfOk result (λ h. TuningInRange h.def.tuning) }
     ensures slots { IfOk result (λ h. (1 ≤ h.slots) × (h.slots ≤ 65536)) }
     ensures cause { IfErr result (IsCause def.now (D.trace dev.old)) }
     ensures same { D.trace dev.new ≡ D.trace dev.old }
@@ -80,7 +80,7 @@ pub fn read_layout<D: Disk>(dev: &mut D, def: &TagDef) -> Result<Header, OpenNo>
 fn header_of<D: Disk>(dev: &mut D, len: u64) -> Result<Header, OpenNo>
     requires { HasLength (D.trace dev.old) len }
     ensures header { IfOk result (λ h. Shows (D.trace dev.old) (HasHeader h)) }
-    ensures tuned { IfOk result (λ h. IsTuned h.def.tuning) }
+    ensures tuned { IfOk result (λ h. TuningInRange h.def.tuning) }
     ensures slots { IfOk result (λ h. (1 ≤ h.slots) × (h.slots ≤ 65536)) }
     ensures cause { (def : TagDef) → Shows (D.trace dev.old) IsBegun
         → IfErr result (IsCause def (D.trace dev.old)) }
@@ -224,11 +224,11 @@ fn in_force(made: Tuning, tuning: Option<Tuning>) -> Tuning
 /// tested.
 pub fn read_stored<D: Disk>(alloc: Global, dev: &mut D, header: &Header) -> Result<Stored, OpenNo>
     requires long { Reaches (D.trace dev.old) 400 }
-    requires tuned { IsTuned header.now.def.tuning }
+    requires tuned { TuningInRange header.now.def.tuning }
     ensures found { (def : TagDef)
         → Shows (D.trace dev.old) (HasLayout def header.now.slots header.now.def.tuning)
         → IfOk result (λ x. Shows (D.trace dev.old) (IsFoundOn def header.now.slots x)) }
-    ensures tuned { IfOk result (λ x. IsTuned x.tuning) }
+    ensures tuned { IfOk result (λ x. TuningInRange x.tuning) }
     ensures none { IfOk result (λ x. x.slot ≡ None → (x.summary ≡ no_summary) × (x.recs.items ≡ [])) }
     ensures cause { (def : TagDef)
         → Shows (D.trace dev.old) (HasLayout def header.now.slots header.now.def.tuning)

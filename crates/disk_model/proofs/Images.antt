@@ -1,12 +1,12 @@
 -- What a crash may leave after one call more, or after some.
 use Rattle.std.proofs.Common.{◌≡◌, ◌⊎◌, inl, inr, ℕ, ◌<◌, List, [], ◌∷◌, ◌++◌, length, get_or, Option, None, Some, Result, Ok, Err, refl, sym, ◌∙◌, subst, arith}
-use Rattle.disk_model.specs.Traces.{Event, Wrote, WroteInPart, Resized, ResizedInPart, Synced, Idle, Trace, content, seen, noted}
+use Rattle.disk_model.specs.Traces.{DeviceCall, Wrote, WroteInPart, Resized, ResizedInPart, Synced, Idle, Trace, content, seen, noted}
 use Rattle.disk_model.specs.Images.{IsOutside, IsTorn, IsBetween, IsImage, MayLeave, IsSettled, FromOld, IsUntouched, KeepsUntouched}
 use Rattle.disk_model.specs.Calls.{IsNoted}
 use Rattle.disk_model.proofs.Bytes.{torn_written, torn_self, between_resized, between_self}
 
 -- what a read gives is an image
-pub honest : (first : List ℕ) (es : List Event) → IsImage first es (content first es)
+pub honest : (first : List ℕ) (es : List DeviceCall) → IsImage first es (content first es)
 honest first [] = refl
 honest first (Wrote at bytes ∷ es) = (content first es, honest first es, torn_written (content first es) at bytes)
 honest first (WroteInPart at bytes ∷ es) = (content first es, honest first es, torn_self at (length bytes) (content first es))
@@ -17,17 +17,17 @@ honest first (Idle ∷ es) = honest first es
 
 -- so it is of a device that tells its calls
 pub present : (t : Trace) → MayLeave (Some t) (seen (Some t))
-present t = record { image = honest t.first t.events }
+present t = record { image = honest t.first t.calls }
 
 -- a place that a write left alone, and the calls before it too
-torn_keeps : (es : List Event) (at n : ℕ) (d mid c : List ℕ) → KeepsUntouched es d mid → IsTorn at n mid c
+torn_keeps : (es : List DeviceCall) (at n : ℕ) (d mid c : List ℕ) → KeepsUntouched es d mid → IsTorn at n mid c
     → (i : ℕ) → i < length d → IsOutside at n i → IsUntouched es i → (i < length c) × (get_or c i 0 ≡ get_or d i 0)
 torn_keeps es at n d mid c keeps torn i there out untouched =
     let before = keeps i there untouched in
     (omega (arith, before.0, torn.no_shorter), torn.outside i before.0 out ∙ before.1)
 
 -- a place that a change of the length left alone, and the calls before it too
-cut_keeps : (es : List Event) (len : ℕ) (d mid c : List ℕ) → KeepsUntouched es d mid → IsBetween len mid c
+cut_keeps : (es : List DeviceCall) (len : ℕ) (d mid c : List ℕ) → KeepsUntouched es d mid → IsBetween len mid c
     → (i : ℕ) → i < length d → i < len → IsUntouched es i → (i < length c) × (get_or c i 0 ≡ get_or d i 0)
 cut_keeps es len d mid c keeps between i there short untouched =
     let before = keeps i there untouched in
@@ -35,7 +35,7 @@ cut_keeps es len d mid c keeps between i there short untouched =
     (reached, between.both i before.0 reached ∙ before.1)
 
 -- an image by these calls after those keeps what these did not touch of one by those
-pub kept : (first : List ℕ) (since before : List Event) (c : List ℕ) → IsImage first (since ++ before) c
+pub kept : (first : List ℕ) (since before : List DeviceCall) (c : List ℕ) → IsImage first (since ++ before) c
     → (d : List ℕ) × IsImage first before d × KeepsUntouched since d c
 kept first [] before c image = (c, image, λ i there untouched. (there, refl))
 kept first (Wrote at bytes ∷ since) before c image =
@@ -55,14 +55,14 @@ kept first (Synced ∷ since) before c image =
 kept first (Idle ∷ since) before c image = kept first since before c image
 
 -- after a sync there is one image, so bytes that no call touched since are the same in all
-pub kept_since_sync : (first : List ℕ) (since before : List Event) (c : List ℕ) → IsImage first (since ++ Synced ∷ before) c
+pub kept_since_sync : (first : List ℕ) (since before : List DeviceCall) (c : List ℕ) → IsImage first (since ++ Synced ∷ before) c
     → KeepsUntouched since (content first before) c
 kept_since_sync first since before c image =
     let earlier = kept first since (Synced ∷ before) c image in
     subst (λ d. KeepsUntouched since d c) earlier.1 earlier.2
 
 -- a device that tells its calls tells one of four things after one more
-pub cases_noted : {T E : Type 0} (whole part : Event) (r : Result T E) (old new : Option Trace) → IsNoted whole part r old new
+pub cases_noted : {T E : Type 0} (whole part : DeviceCall) (r : Result T E) (old new : Option Trace) → IsNoted whole part r old new
     → (new ≡ noted whole old) ⊎ ((new ≡ noted part old) ⊎ ((new ≡ noted Idle old) ⊎ (new ≡ old)))
 cases_noted whole part (Ok x) old new is = inl is
 cases_noted whole part (Err e) old new is = inr is
@@ -85,7 +85,7 @@ after_idle (Some t) c may = record { image = may.image }
 -- an image after a sync that was done
 after_sync : (old : Option Trace) (c : List ℕ) → MayLeave (noted Synced old) c → MayLeave old c
 after_sync None c may = absurd may.image
-after_sync (Some t) c may = record { image = subst (IsImage t.first t.events) (sym may.image) (honest t.first t.events) }
+after_sync (Some t) c may = record { image = subst (IsImage t.first t.calls) (sym may.image) (honest t.first t.calls) }
 
 -- whatever a write answered, an image after it comes from one before it by a torn write
 pub wrote_now : {T E : Type 0} (r : Result T E) (old new : Option Trace) (at : ℕ) (bytes c : List ℕ)

@@ -4,36 +4,36 @@ use Rattle.std.proofs.lemmas.List.{length-replicate}
 use Rattle.disk_model.specs.declared.memory_disk.Pick.{Pick}
 use Rattle.disk_model.specs.declared.memory_disk.Pick.TheVariants.{Old, New, Fill}
 use Rattle.disk_model.specs.declared.memory_log.Note.{Note}
-use Rattle.disk_model.specs.Traces.{Event, Wrote, WroteInPart, Resized, ResizedInPart, Synced, Idle, written, resized, content}
+use Rattle.disk_model.specs.Traces.{DeviceCall, Wrote, WroteInPart, Resized, ResizedInPart, Synced, Idle, written, resized, content}
 use Rattle.disk_model.specs.Images.{IsTorn, IsBetween, IsImage}
 use Rattle.disk_model.specs.Memory.{picked, picked_bytes, picked_length}
-use Rattle.disk_model.specs.Logs.{write_event, resize_event, event_of, idles, events_after}
+use Rattle.disk_model.specs.Logs.{write_call, resize_call, call_of, idles, calls_after}
 use Rattle.disk_model.proofs.Bytes.{torn_written, torn_self, torn_as, between_resized, between_self}
 
--- one note more is one event more, after the idle calls before it
-pub events_after-push : (es : List Event) (ns : List Note) (n : Note) → events_after es (ns ++ n ∷ []) ≡ event_of n.call ∷ idles n.idle (events_after es ns)
-events_after-push es [] n = refl
-events_after-push es (m ∷ ns) n = events_after-push (event_of m.call ∷ idles m.idle es) ns n
+-- one note more is one call more, after the idle ones before it
+pub calls_after-push : (es : List DeviceCall) (ns : List Note) (n : Note) → calls_after es (ns ++ n ∷ []) ≡ call_of n.call ∷ idles n.idle (calls_after es ns)
+calls_after-push es [] n = refl
+calls_after-push es (m ∷ ns) n = calls_after-push (call_of m.call ∷ idles m.idle es) ns n
 
 -- idle calls change nothing of what a read gives
-pub content-idles : (first : List ℕ) (n : ℕ) (es : List Event) → content first (idles n es) ≡ content first es
+pub content-idles : (first : List ℕ) (n : ℕ) (es : List DeviceCall) → content first (idles n es) ≡ content first es
 content-idles first zero es = refl
 content-idles first (suc n) es = content-idles first n es
 
 -- nor of the picked image
-pub picked-idles : (pick : Pick) (first : List ℕ) (n : ℕ) (es : List Event) → picked pick first (idles n es) ≡ picked pick first es
+pub picked-idles : (pick : Pick) (first : List ℕ) (n : ℕ) (es : List DeviceCall) → picked pick first (idles n es) ≡ picked pick first es
 picked-idles pick first zero es = refl
 picked-idles pick first (suc n) es = picked-idles pick first n es
 
 -- what a read gives after a write that was done whole or not
-pub content-write : (whole : Bool) (first : List ℕ) (es : List Event) (at : ℕ) (bytes : List ℕ)
-    → content first (write_event whole at bytes ∷ es) ≡ cond whole (written (content first es) at bytes) (content first es)
+pub content-write : (whole : Bool) (first : List ℕ) (es : List DeviceCall) (at : ℕ) (bytes : List ℕ)
+    → content first (write_call whole at bytes ∷ es) ≡ cond whole (written (content first es) at bytes) (content first es)
 content-write true first es at bytes = refl
 content-write false first es at bytes = refl
 
 -- what a read gives after a change of the length that was done whole or not
-pub content-resize : (whole : Bool) (first : List ℕ) (es : List Event) (len : ℕ)
-    → content first (resize_event whole len ∷ es) ≡ cond whole (resized (content first es) len) (content first es)
+pub content-resize : (whole : Bool) (first : List ℕ) (es : List DeviceCall) (len : ℕ)
+    → content first (resize_call whole len ∷ es) ≡ cond whole (resized (content first es) len) (content first es)
 content-resize true first es len = refl
 content-resize false first es len = refl
 
@@ -50,7 +50,7 @@ between_picked New image len = between_resized image len
 between_picked (Fill b) image len = between_resized image len
 
 -- the picked image is one that a crash may leave
-pub picked_image : (pick : Pick) (first : List ℕ) (es : List Event) → IsImage first es (picked pick first es)
+pub picked_image : (pick : Pick) (first : List ℕ) (es : List DeviceCall) → IsImage first es (picked pick first es)
 picked_image pick first [] = refl
 picked_image pick first (Wrote at bytes ∷ es) = (picked pick first es, picked_image pick first es, torn_picked pick bytes (picked pick first es) at)
 picked_image pick first (WroteInPart at bytes ∷ es) = (picked pick first es, picked_image pick first es, torn_picked pick bytes (picked pick first es) at)

@@ -1,34 +1,34 @@
 -- How what a crash at any moment might have left goes on from call to call.
 use Rattle.std.proofs.Common.{◌≡◌, ◌⊎◌, inl, inr, ⊎_elim, ℕ, ◌≤◌, List, [], ◌∷◌, ◌++◌, length, Option, None, Some, IfSome, Result, refl, sym, ◌∙◌, ap, subst, arith, append_assoc, length-append}
-use Rattle.disk_model.specs.Traces.{Event, Idle, Trace, noted, moment}
+use Rattle.disk_model.specs.Traces.{DeviceCall, Idle, Trace, noted, moment}
 use Rattle.disk_model.specs.Images.{IsImage, MayLeave, Now}
 use Rattle.disk_model.specs.Moments.{WasImageSince, LeftSince, ComesAfter, During}
 use Rattle.disk_model.specs.Calls.{IsNoted}
 use Rattle.disk_model.proofs.Images.{cases_noted}
 
 -- an image now is one since any moment
-present_events : (first : List ℕ) (es : List Event) (m : ℕ) (c : List ℕ) → IsImage first es c → WasImageSince first es m c
-present_events first [] m c image = image
-present_events first (e ∷ es) m c image = inl image
+present_calls : (first : List ℕ) (es : List DeviceCall) (m : ℕ) (c : List ℕ) → IsImage first es c → WasImageSince first es m c
+present_calls first [] m c image = image
+present_calls first (e ∷ es) m c image = inl image
 
 pub counts_now : (o : Option Trace) (m : ℕ) (c : List ℕ) → MayLeave o c → LeftSince o m c
 counts_now None m c may = absurd may.image
-counts_now (Some t) m c may = record { image = present_events t.first t.events m c may.image }
+counts_now (Some t) m c may = record { image = present_calls t.first t.calls m c may.image }
 
 -- since this moment there is no other
-pub only_events : (first : List ℕ) (es : List Event) (m : ℕ) (c : List ℕ) → length es ≤ m → WasImageSince first es m c → IsImage first es c
-only_events first [] m c le was = was
-only_events first (e ∷ es) m c le (inl now) = now
-only_events first (e ∷ es) m c le (inr before) = absurd (omega (arith, le, before.0))
+pub only_calls : (first : List ℕ) (es : List DeviceCall) (m : ℕ) (c : List ℕ) → length es ≤ m → WasImageSince first es m c → IsImage first es c
+only_calls first [] m c le was = was
+only_calls first (e ∷ es) m c le (inl now) = now
+only_calls first (e ∷ es) m c le (inr before) = absurd (omega (arith, le, before.0))
 
 pub only_now : (o : Option Trace) (c : List ℕ) → LeftSince o (moment o) c → MayLeave o c
 only_now None c left = absurd left.image
-only_now (Some t) c left = record { image = only_events t.first t.events (length t.events) c (omega arith) left.image }
+only_now (Some t) c left = record { image = only_calls t.first t.calls (length t.calls) c (omega arith) left.image }
 
 -- nor since any moment that is not before the clock, which counts the calls that the device tells
-pub only_since : (o : Option Trace) (ticks m : ℕ) (c : List ℕ) → IfSome o (λ t. length t.events ≡ ticks) → ticks ≤ m → LeftSince o m c → MayLeave o c
+pub only_since : (o : Option Trace) (ticks m : ℕ) (c : List ℕ) → IfSome o (λ t. length t.calls ≡ ticks) → ticks ≤ m → LeftSince o m c → MayLeave o c
 only_since None ticks m c told le left = absurd left.image
-only_since (Some t) ticks m c told le left = record { image = only_events t.first t.events m c (omega (arith, told, le)) left.image }
+only_since (Some t) ticks m c told le left = record { image = only_calls t.first t.calls m c (omega (arith, told, le)) left.image }
 
 -- a device comes after itself
 after_self : (o : Option Trace) → ComesAfter o o
@@ -36,7 +36,7 @@ after_self None = tt
 after_self (Some t) = (refl, [], refl)
 
 -- it comes after what it came after before one call more
-after_one : (start old : Option Trace) (e : Event) → ComesAfter start old → ComesAfter start (noted e old)
+after_one : (start old : Option Trace) (e : DeviceCall) → ComesAfter start old → ComesAfter start (noted e old)
 after_one None None e later = tt
 after_one None (Some t) e later = absurd later
 after_one (Some s) None e later = absurd later
@@ -49,15 +49,15 @@ after_both None (Some t) c ab bc = absurd ab
 after_both (Some s) None c ab bc = absurd ab
 after_both (Some s) (Some t) None ab bc = absurd bc
 after_both (Some s) (Some t) (Some u) ab bc =
-    (bc.0 ∙ ab.0, bc.1 ++ ab.1, bc.2 ∙ ap (λ es. bc.1 ++ es) ab.2 ∙ sym (append_assoc bc.1 ab.1 s.events))
+    (bc.0 ∙ ab.0, bc.1 ++ ab.1, bc.2 ∙ ap (λ es. bc.1 ++ es) ab.2 ∙ sym (append_assoc bc.1 ab.1 s.calls))
 
 -- an image since a moment before some calls is one since these calls, or one before them
-parted_events : (first : List ℕ) (es before : List Event) (m : ℕ) (c : List ℕ) → WasImageSince first (es ++ before) m c
+parted_calls : (first : List ℕ) (es before : List DeviceCall) (m : ℕ) (c : List ℕ) → WasImageSince first (es ++ before) m c
     → WasImageSince first (es ++ before) (length before) c ⊎ WasImageSince first before m c
-parted_events first [] before m c was = inr was
-parted_events first (e ∷ es) before m c (inl now) = inl (inl now)
-parted_events first (e ∷ es) before m c (inr was) =
-    ⊎_elim (λ since. inl (inr (omega (arith, length-append es before), since))) (λ earlier. inr earlier) (parted_events first es before m c was.1)
+parted_calls first [] before m c was = inr was
+parted_calls first (e ∷ es) before m c (inl now) = inl (inl now)
+parted_calls first (e ∷ es) before m c (inr was) =
+    ⊎_elim (λ since. inl (inr (omega (arith, length-append es before), since))) (λ earlier. inr earlier) (parted_calls first es before m c was.1)
 
 -- the same of a device that comes after another
 pub parted : (b c : Option Trace) (m : ℕ) (x : List ℕ) → ComesAfter b c → LeftSince c m x → LeftSince c (moment b) x ⊎ LeftSince b m x
@@ -65,9 +65,9 @@ parted None None m x later left = absurd left.image
 parted None (Some u) m x later left = absurd later
 parted (Some t) None m x later left = absurd later
 parted (Some t) (Some u) m x later left =
-    ⊎_elim (λ since. inl (record { image = subst (λ es. WasImageSince u.first es (length t.events) x) (sym later.2) since }))
-    (λ earlier. inr (record { image = subst (λ first. WasImageSince first t.events m x) later.0 earlier }))
-    (parted_events u.first later.1 t.events m x (subst (λ es. WasImageSince u.first es m x) later.2 left.image))
+    ⊎_elim (λ since. inl (record { image = subst (λ es. WasImageSince u.first es (length t.calls) x) (sym later.2) since }))
+    (λ earlier. inr (record { image = subst (λ first. WasImageSince first t.calls m x) later.0 earlier }))
+    (parted_calls u.first later.1 t.calls m x (subst (λ es. WasImageSince u.first es m x) later.2 left.image))
 
 -- before the first call
 pub started : (o : Option Trace) (P : List ℕ → Type 0) → Now o P → During o o P
@@ -89,7 +89,7 @@ in_turn a b c P ab bc = record {
 }
 
 -- one call more, after which each image has P
-one_more : (start old : Option Trace) (e : Event) (P : List ℕ → Type 0) → During start old P → Now (noted e old) P → During start (noted e old) P
+one_more : (start old : Option Trace) (e : DeviceCall) (P : List ℕ → Type 0) → During start old P → Now (noted e old) P → During start (noted e old) P
 one_more start None e P so_far now = record { later = after_one start None e so_far.later; each = λ c left. absurd left.image }
 one_more start (Some t) e P so_far now = record {
   later = after_one start (Some t) e so_far.later;
@@ -97,10 +97,10 @@ one_more start (Some t) e P so_far now = record {
 }
 
 -- one call, whatever it answered
-pub goes_on : {T E : Type 0} (whole part : Event) (r : Result T E) (start old new : Option Trace) (P : List ℕ → Type 0) → During start old P
+pub goes_on : {T E : Type 0} (whole part : DeviceCall) (r : Result T E) (start old new : Option Trace) (P : List ℕ → Type 0) → During start old P
     → IsNoted whole part r old new → Now new P → During start new P
 goes_on whole part r start old new P so_far is now =
-    let step : (e : Event) → new ≡ noted e old → During start new P =
+    let step : (e : DeviceCall) → new ≡ noted e old → During start new P =
     λ e same. subst (λ o. During start o P) (sym same) (one_more start old e P so_far (subst (λ o. Now o P) same now)) in
     elim (cases_noted whole part r old new is) [
       | inl done ↦ step whole done

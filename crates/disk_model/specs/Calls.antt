@@ -1,6 +1,6 @@
 -- What the calls of a device say and do.
 use Rattle.std.specs.Prelude.{◌≡◌, ◌⊎◌, ℕ, ◌+◌, ◌-◌, ◌^◌, ◌<◌, ◌≤◌, min, List, length, take, drop, Option, Result, MatchResult, IfSome, OnOk, OnErr, IsErrOf}
-use Rattle.disk_model.specs.Traces.{Event, Idle, Trace, seen, noted}
+use Rattle.disk_model.specs.Traces.{DeviceCall, Idle, Trace, seen, noted}
 
 -- one more, or the same at the end of the type
 abbrev pub next_count : ℕ → ℕ
@@ -57,5 +57,5 @@ Reads o at bytes = IfSome o (λ t. bytes ≡ take (length bytes) (drop at (seen 
 
 -- the calls that a device tells after one more: that call, or where it failed the same in part, or an idle one, or, at the end
 -- of the clock, none
-abbrev pub IsNoted : {T E : Type 0} → Event → Event → Result T E → Option Trace → Option Trace → Type 0
+abbrev pub IsNoted : {T E : Type 0} → DeviceCall → DeviceCall → Result T E → Option Trace → Option Trace → Type 0
 IsNoted whole part result old new = MatchResult result (λ _. new ≡ noted whole old) (λ _. (new ≡ noted part old) ⊎ (new ≡ noted Idle old) ⊎ (new ≡ old))

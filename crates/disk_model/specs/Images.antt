@@ -1,7 +1,7 @@
 -- What a crash may leave of a device: between two syncs each written range, and all past the old end, may hold any bytes, and
 -- the length is any between the least and the greatest; other bytes stay; after a sync there is what a read gives.
 use Rattle.std.specs.Prelude.{◌≡◌, ◌⊎◌, ℕ, ◌+◌, ◌<◌, ◌≤◌, min, max, List, [], ◌∷◌, length, slice_index, Option, IsSomeAnd}
-use Rattle.disk_model.specs.Traces.{Event, Wrote, WroteInPart, Resized, ResizedInPart, Synced, Idle, Trace, content, seen}
+use Rattle.disk_model.specs.Traces.{DeviceCall, Wrote, WroteInPart, Resized, ResizedInPart, Synced, Idle, Trace, content, seen}
 
 -- a place outside of the n places from at on
 abbrev pub IsOutside : ℕ → ℕ → ℕ → Type 0
@@ -20,7 +20,7 @@ pub record IsBetween (len : ℕ) (old new : List ℕ) : Type 0 where
   pub both : (i : ℕ) → i < length old → i < length new → slice_index new i ≡ slice_index old i
 
 -- an image that a crash may leave after these calls, the newest first
-abbrev pub IsImage : List ℕ → List Event → List ℕ → Type 0
+abbrev pub IsImage : List ℕ → List DeviceCall → List ℕ → Type 0
 IsImage first [] c = c ≡ first
 IsImage first (Wrote at bytes ∷ es) c = (d : List ℕ) × IsImage first es d × IsTorn at (length bytes) d c
 IsImage first (WroteInPart at bytes ∷ es) c = (d : List ℕ) × IsImage first es d × IsTorn at (length bytes) d c
@@ -31,7 +31,7 @@ IsImage first (Idle ∷ es) c = IsImage first es c
 
 -- an image that a crash now may leave; of a device that does not tell its calls nothing is said
 pub record MayLeave (o : Option Trace) (c : List ℕ) : Type 0 where
-  pub image : IsSomeAnd o (λ t. IsImage t.first t.events c)
+  pub image : IsSomeAnd o (λ t. IsImage t.first t.calls c)
 
 -- each image that a crash now may leave has P
 pub record Now (o : Option Trace) (P : List ℕ → Type 0) : Type 0 where
@@ -46,7 +46,7 @@ abbrev pub FromOld : Option Trace → (List ℕ → List ℕ → Type 0) → Lis
 FromOld o R c = (d : List ℕ) × MayLeave o d × R d c
 
 -- no call among these wrote at the place or cut it off
-abbrev pub IsUntouched : List Event → ℕ → Type 0
+abbrev pub IsUntouched : List DeviceCall → ℕ → Type 0
 IsUntouched [] i = Unit {0}
 IsUntouched (Wrote at bytes ∷ es) i = IsOutside at (length bytes) i × IsUntouched es i
 IsUntouched (WroteInPart at bytes ∷ es) i = IsOutside at (length bytes) i × IsUntouched es i
@@ -56,5 +56,5 @@ IsUntouched (Synced ∷ es) i = IsUntouched es i
 IsUntouched (Idle ∷ es) i = IsUntouched es i
 
 -- new has each byte of old that these calls left alone
-abbrev pub KeepsUntouched : List Event → List ℕ → List ℕ → Type 0
+abbrev pub KeepsUntouched : List DeviceCall → List ℕ → List ℕ → Type 0
 KeepsUntouched es old new = (i : ℕ) → i < length old → IsUntouched es i → (i < length new) × (slice_index new i ≡ slice_index old i)

@@ -2,7 +2,7 @@
 use Rattle.std.specs.Prelude.{◌≡◌, ◌⊎◌, ℕ, ◌≤◌, List, [], ◌∷◌, length, replicate, Contains, Option, IsSomeAnd, Result, IsErr, is_ok, if◌then◌else◌}
 use Rattle.disk_model.specs.declared.memory_disk.Pick.{Pick}
 use Rattle.disk_model.specs.declared.memory_disk.Pick.TheVariants.{Old, New, Fill}
-use Rattle.disk_model.specs.Traces.{Event, Wrote, WroteInPart, Resized, ResizedInPart, Synced, Idle, Trace, written, resized, content}
+use Rattle.disk_model.specs.Traces.{DeviceCall, Wrote, WroteInPart, Resized, ResizedInPart, Synced, Idle, Trace, written, resized, content}
 use Rattle.disk_model.specs.Calls.{next_count}
 
 -- a device in memory: its trace, the numbers of the calls that are to fail, the number from which all are to fail, and its counts
@@ -39,7 +39,7 @@ picked_length (Fill b) image len = resized image len
 
 -- The image that is picked: none of what was done since the last sync, all of it, or all of it with one byte in place of each
 -- that was written. Of calls that failed, a write counts as done and a change of the length does not.
-abbrev pub picked : Pick → List ℕ → List Event → List ℕ
+abbrev pub picked : Pick → List ℕ → List DeviceCall → List ℕ
 picked pick first [] = first
 picked pick first (Wrote at bytes ∷ es) = picked_bytes pick bytes (picked pick first es) at
 picked pick first (WroteInPart at bytes ∷ es) = picked_bytes pick bytes (picked pick first es) at

@@ -20,7 +20,7 @@ device_of (d ∷ ds) name = cond (bytes_eq d.0 name) (Some d.1) (device_of ds na
 
 -- a device that holds nothing
 abbrev pub empty_trace : Trace
-empty_trace = record { first = []; events = [] }
+empty_trace = record { first = []; calls = [] }
 
 abbrev pub trace_or_empty : Option DiskState → Trace
 trace_or_empty None = empty_trace

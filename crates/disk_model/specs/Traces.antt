@@ -3,18 +3,18 @@ use Rattle.std.specs.Prelude.{ℕ, ◌+◌, ◌-◌, List, [], ◌∷◌, ◌++�
 
 -- a call that may change what a crash leaves. A call in part answered that it failed, and may have done some of its work;
 -- an idle one did none
-pub data Event : Type 0 where
-  Wrote : (at : ℕ) (bytes : List ℕ) → Event
-  WroteInPart : (at : ℕ) (bytes : List ℕ) → Event
-  Resized : (len : ℕ) → Event
-  ResizedInPart : (len : ℕ) → Event
-  Synced : Event
-  Idle : Event
+pub data DeviceCall : Type 0 where
+  Wrote : (at : ℕ) (bytes : List ℕ) → DeviceCall
+  WroteInPart : (at : ℕ) (bytes : List ℕ) → DeviceCall
+  Resized : (len : ℕ) → DeviceCall
+  ResizedInPart : (len : ℕ) → DeviceCall
+  Synced : DeviceCall
+  Idle : DeviceCall
 
 -- the first bytes, and the calls since, the newest first
 pub record Trace : Type 0 where
   pub first : List ℕ
-  pub events : List Event
+  pub calls : List DeviceCall
 
 -- the bytes with others written over them and past their end
 abbrev pub written : List ℕ → ℕ → List ℕ → List ℕ
@@ -25,7 +25,7 @@ abbrev pub resized : List ℕ → ℕ → List ℕ
 resized old len = take len old ++ replicate (len - length old) 0
 
 -- what a read gives
-abbrev pub content : List ℕ → List Event → List ℕ
+abbrev pub content : List ℕ → List DeviceCall → List ℕ
 content first [] = first
 content first (Wrote at bytes ∷ es) = written (content first es) at bytes
 content first (WroteInPart at bytes ∷ es) = content first es
@@ -37,14 +37,14 @@ content first (Idle ∷ es) = content first es
 -- what a read gives of a device that tells its calls
 abbrev pub seen : Option Trace → List ℕ
 seen None = []
-seen (Some t) = content t.first t.events
+seen (Some t) = content t.first t.calls
 
 -- one call more
-abbrev pub noted : Event → Option Trace → Option Trace
+abbrev pub noted : DeviceCall → Option Trace → Option Trace
 noted e None = None
-noted e (Some t) = Some (record { first = t.first; events = e ∷ t.events })
+noted e (Some t) = Some (record { first = t.first; calls = e ∷ t.calls })
 
 -- how many calls were told
 abbrev pub moment : Option Trace → ℕ
 moment None = 0
-moment (Some t) = length t.events
+moment (Some t) = length t.calls

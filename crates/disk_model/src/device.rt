@@ -63,5 +63,5 @@ pub trait Disk {
         ensures { result ≡ fault_count self.now };
 
     /// The clock counts the calls that the device tells.
-    ghost told: { (d : Self) → IfSome (trace d) (λ t. length t.events ≡ ticks d) };
+    ghost told: { (d : Self) → IfSome (trace d) (λ t. length t.calls ≡ ticks d) };
 }

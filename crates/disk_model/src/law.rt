@@ -1,6 +1,6 @@
 // What the disk model says of every trace of calls.
 ghost use Rattle.std.specs.Prelude.{◌≡◌, ◌<◌, ◌++◌, ◌∷◌, ℕ, List, Some, length, slice_index};
-ghost use Rattle.disk_model.specs.Traces.{Event, Synced, Trace, content, seen, noted};
+ghost use Rattle.disk_model.specs.Traces.{DeviceCall, Synced, Trace, content, seen, noted};
 ghost use Rattle.disk_model.specs.Images.{IsImage, MayLeave, IsSettled, IsUntouched, KeepsUntouched};
 
 /// What a read gives is one of the images that a crash now may leave.
@@ -15,12 +15,12 @@ pub fn a_sync_leaves_one_image()
 
 /// An image of a longer trace is one of a shorter one, but for the places that were written or cut off since.
 pub fn a_later_image_keeps_what_no_call_touched()
-    ensures { (first : List ℕ) (since before : List Event) (c : List ℕ) → IsImage first (since ++ before) c →
+    ensures { (first : List ℕ) (since before : List DeviceCall) (c : List ℕ) → IsImage first (since ++ before) c →
         (d : List ℕ) × IsImage first before d × KeepsUntouched since d c }
 {}
 
 /// Bytes outside of the ranges that were written or cut off since the last sync are the same in every image.
 pub fn bytes_outside_are_the_same()
-    ensures { (first : List ℕ) (since before : List Event) (c : List ℕ) → IsImage first (since ++ Synced ∷ before) c →
+    ensures { (first : List ℕ) (since before : List DeviceCall) (c : List ℕ) → IsImage first (since ++ Synced ∷ before) c →
         KeepsUntouched since (content first before) c }
 {}

@@ -1,6 +1,6 @@
 // A device in memory, which fails at the calls that it is told to, and gives the images that a crash may leave.
 ghost use Rattle.std.specs.Prelude.{◌≡◌, ◌⊎◌, ◌↔◌, ◌+◌, ◌-◌, ◌^◌, ◌<◌, ◌≤◌, [], ◌∷◌, length, take, drop, Option, None, Some, IfOk, IsErr, OnOk, OnErr, IsTrue, Contains, MatchResult, IsSomeAnd, IsOk, is_ok, if◌then◌else◌};
-ghost use Rattle.disk_model.specs.Logs.{log_first, log_events};
+ghost use Rattle.disk_model.specs.Logs.{log_first, log_calls};
 ghost use Rattle.disk_model.specs.Traces.{Trace, Wrote, WroteInPart, Resized, ResizedInPart, Synced, Idle, seen, noted};
 ghost use Rattle.disk_model.specs.Images.{MayLeave};
 ghost use Rattle.disk_model.specs.Calls.{next_count, Rose, HasCause, IsTimed, Reaches, Reads, IsNoted};
@@ -79,11 +79,11 @@ impl Model for MemDisk {
 
     ghost Value = { DiskState };
 
-    ghost use Rattle.disk_model.specs.Logs.{log_first, log_events};
+    ghost use Rattle.disk_model.specs.Logs.{log_first, log_calls};
     ghost use Rattle.disk_model.specs.Disks.{IsKept};
 
     ghost view = { λ d. record {
-      trace = record { first = log_first d.log; events = log_events d.log };
+      trace = record { first = log_first d.log; calls = log_calls d.log };
       failing_calls = d.calls.failing.items;
       stop = d.calls.stop;
       calls = d.calls.count;
@@ -98,7 +98,7 @@ impl MemDisk {
 
     /// A device of these bytes, whose calls with a number in `fail`, counted from 0, fail.
     pub fn new(bytes: Vec<u8>, fail: Vec<u64>) -> MemDisk
-        ensures trace { result.trace ≡ record { first = bytes.items; events = [] } }
+        ensures trace { result.trace ≡ record { first = bytes.items; calls = [] } }
         ensures failing { result.failing_calls ≡ fail.items }
         ensures stop { result.stop ≡ None }
         ensures calls { result.calls ≡ 0 }
@@ -126,7 +126,7 @@ impl MemDisk {
     /// A new device that holds an image which a crash now may leave: the picked one.
     pub fn crash(&self, pick: Pick) -> Result<MemDisk, WantOfMemory>
         ensures trace { IfOk result (λ d. d.trace
-            ≡ record { first = picked pick self.now.trace.first self.now.trace.events; events = [] }) }
+            ≡ record { first = picked pick self.now.trace.first self.now.trace.calls; calls = [] }) }
         ensures image { IfOk result (λ d. MayLeave (Some self.now.trace) d.trace.first) }
         ensures failing { IfOk result (λ d. d.failing_calls ≡ []) }
         ensures stop { IfOk result (λ d. d.stop ≡ None) }
@@ -172,10 +172,10 @@ fn end(
     noted: Result<(), AllocError>,
     whole: bool,
 ) -> Result<(), Failed>
-    requires { OnErr noted (length (log_events log.old) < 2 ^ 64 - 1) }
+    requires { OnErr noted (length (log_calls log.old) < 2 ^ 64 - 1) }
     ensures first { log_first log.new ≡ log_first log.old }
     ensures content { log.new.content.items ≡ log.old.content.items }
-    ensures events { log_events log.new ≡ (if is_ok noted then log_events log.old else Idle ∷ log_events log.old) }
+    ensures told { log_calls log.new ≡ (if is_ok noted then log_calls log.old else Idle ∷ log_calls log.old) }
     ensures ok { IsOk result ↔ (IsTrue whole × IsOk noted) }
     ensures calls { calls.new ≡ record calls.old { faults = (if is_ok result then calls.old.faults else next_count calls.old.faults) } }
     ensures cause { HasCause calls.old.faults calls.new.faults result }
@@ -195,7 +195,7 @@ impl Disk for MemDisk {
 
     ghost trace = { λ s. Some s.trace };
 
-    ghost ticks = { λ s. length s.trace.events };
+    ghost ticks = { λ s. length s.trace.calls };
 
     ghost fault_count = { λ s. s.faults };
 
@@ -204,7 +204,7 @@ impl Disk for MemDisk {
     fn len(&mut self) -> Result<u64, Failed>
         ensures length { IfOk result (λ n. length (seen (Some self.old.trace)) ≡ n) }
         ensures same { Some self.new.trace ≡ Some self.old.trace }
-        ensures untimed { length self.new.trace.events ≡ length self.old.trace.events }
+        ensures untimed { length self.new.trace.calls ≡ length self.old.trace.calls }
         ensures cause { HasCause self.old.faults self.new.faults result }
         ensures called { IsCalled self.old self.new result }
         ensures failed_only { IsErr result → IsToFail self.old }
@@ -219,7 +219,7 @@ impl Disk for MemDisk {
         requires { Reaches (Some self.old.trace) (at + length buf.old) }
         ensures bytes { OnOk result (Reads (Some self.old.trace) at buf.new) }
         ensures same { Some self.new.trace ≡ Some self.old.trace }
-        ensures untimed { length self.new.trace.events ≡ length self.old.trace.events }
+        ensures untimed { length self.new.trace.calls ≡ length self.old.trace.calls }
         ensures cause { HasCause self.old.faults self.new.faults result }
         ensures called { IsCalled self.old self.new result }
         ensures failed_only { IsErr result → IsToFail self.old }
@@ -236,7 +236,7 @@ impl Disk for MemDisk {
     fn write_at(&mut self, at: u64, bytes: &[u8]) -> Result<(), Failed>
         ensures noted { IsNoted (Wrote at bytes.now) (WroteInPart at bytes.now) result
             (Some self.old.trace) (Some self.new.trace) }
-        ensures clock { IsTimed (length self.old.trace.events) (length self.new.trace.events) result }
+        ensures clock { IsTimed (length self.old.trace.calls) (length self.new.trace.calls) result }
         ensures cause { HasCause self.old.faults self.new.faults result }
         ensures called { IsCalled self.old self.new result }
     {
@@ -252,7 +252,7 @@ impl Disk for MemDisk {
     fn cut(&mut self, len: u64) -> Result<(), Failed>
         ensures noted { IsNoted (Resized len) (ResizedInPart len) result
             (Some self.old.trace) (Some self.new.trace) }
-        ensures clock { IsTimed (length self.old.trace.events) (length self.new.trace.events) result }
+        ensures clock { IsTimed (length self.old.trace.calls) (length self.new.trace.calls) result }
         ensures cause { HasCause self.old.faults self.new.faults result }
         ensures called { IsCalled self.old self.new result }
     {
@@ -267,7 +267,7 @@ impl Disk for MemDisk {
     /// It fails also where there is no memory to note it.
     fn sync(&mut self) -> Result<(), Failed>
         ensures noted { IsNoted Synced Idle result (Some self.old.trace) (Some self.new.trace) }
-        ensures clock { IsTimed (length self.old.trace.events) (length self.new.trace.events) result }
+        ensures clock { IsTimed (length self.old.trace.calls) (length self.new.trace.calls) result }
         ensures cause { HasCause self.old.faults self.new.faults result }
         ensures called { IsCalled self.old self.new result }
     {

@@ -3,7 +3,7 @@ ghost use Rattle.std.specs.Prelude.{◌≡◌, ◌+◌, ◌-◌, ◌^◌, ◌<�
 ghost use Rattle.std.specs.Vec.{vec_capacity};
 ghost use Rattle.disk_model.specs.Traces.{Synced, Idle, written, resized, content};
 ghost use Rattle.disk_model.specs.Memory.{picked, picked_bytes, picked_length};
-ghost use Rattle.disk_model.specs.Logs.{event_of, write_event, resize_event, first_of, log_first, log_events};
+ghost use Rattle.disk_model.specs.Logs.{call_of, write_call, resize_call, first_of, log_first, log_calls};
 
 use crate::memory_disk::Pick;
 use std::alloc::AllocError;
@@ -43,7 +43,7 @@ pub(crate) struct Log {
 impl Log {
     pub(crate) fn new(bytes: Vec<u8>) -> Log
         ensures first { log_first result ≡ bytes.items }
-        ensures events { log_events result ≡ [] }
+        ensures told { log_calls result ≡ [] }
         ensures content { result.content.items ≡ bytes.items }
     {
         let alloc = *bytes.allocator();
@@ -57,9 +57,9 @@ impl Log {
 
     // A call that did nothing.
     pub(crate) fn rest(&mut self)
-        requires { length (log_events self.old) < 2 ^ 64 - 1 }
+        requires { length (log_calls self.old) < 2 ^ 64 - 1 }
         ensures first { log_first self.new ≡ log_first self.old }
-        ensures events { log_events self.new ≡ Idle ∷ log_events self.old }
+        ensures told { log_calls self.new ≡ Idle ∷ log_calls self.old }
         ensures content { self.new.content.items ≡ self.old.content.items }
     {
         self.idle += 1;
@@ -68,11 +68,11 @@ impl Log {
     // A write, which fails in part unless it is whole.
     pub(crate) fn write(&mut self, at: u64, bytes: &[u8], whole: bool) -> Result<(), AllocError>
         ensures first { log_first self.new ≡ log_first self.old }
-        ensures events { OnOk result
-            (log_events self.new ≡ write_event whole at bytes.now ∷ log_events self.old) }
+        ensures told { OnOk result
+            (log_calls self.new ≡ write_call whole at bytes.now ∷ log_calls self.old) }
         ensures content { OnOk result (self.new.content.items
             ≡ (if whole then written self.old.content.items at bytes.now else self.old.content.items)) }
-        ensures err { OnErr result (log_events self.new ≡ log_events self.old) }
+        ensures err { OnErr result (log_calls self.new ≡ log_calls self.old) }
         ensures err_content { OnErr result (self.new.content.items ≡ self.old.content.items) }
     {
         let copy = bytes.to_vec(*self.content.allocator())?;
@@ -91,11 +91,11 @@ impl Log {
     // A change of the length, which fails in part unless it is whole.
     pub(crate) fn resize(&mut self, len: u64, whole: bool) -> Result<(), AllocError>
         ensures first { log_first self.new ≡ log_first self.old }
-        ensures events { OnOk result
-            (log_events self.new ≡ resize_event whole len ∷ log_events self.old) }
+        ensures told { OnOk result
+            (log_calls self.new ≡ resize_call whole len ∷ log_calls self.old) }
         ensures content { OnOk result (self.new.content.items
             ≡ (if whole then resized self.old.content.items len else self.old.content.items)) }
-        ensures err { OnErr result (log_events self.new ≡ log_events self.old) }
+        ensures err { OnErr result (log_calls self.new ≡ log_calls self.old) }
         ensures err_content { OnErr result (self.new.content.items ≡ self.old.content.items) }
     {
         self.prepare()?;
@@ -109,9 +109,9 @@ impl Log {
     // A sync.
     pub(crate) fn sync(&mut self) -> Result<(), AllocError>
         ensures first { log_first self.new ≡ log_first self.old }
-        ensures events { OnOk result (log_events self.new ≡ Synced ∷ log_events self.old) }
+        ensures told { OnOk result (log_calls self.new ≡ Synced ∷ log_calls self.old) }
         ensures content { self.new.content.items ≡ self.old.content.items }
-        ensures err { OnErr result (log_events self.new ≡ log_events self.old) }
+        ensures err { OnErr result (log_calls self.new ≡ log_calls self.old) }
     {
         self.prepare()?;
         self.note(Call::Sync);
@@ -121,7 +121,7 @@ impl Log {
     // Keeps the first bytes apart, and makes room for a note.
     fn prepare(&mut self) -> Result<(), AllocError>
         ensures first { log_first self.new ≡ log_first self.old }
-        ensures events { log_events self.new ≡ log_events self.old }
+        ensures told { log_calls self.new ≡ log_calls self.old }
         ensures content { self.new.content.items ≡ self.old.content.items }
         ensures apart { OnOk result (IsSome self.new.base) }
         ensures room { OnOk result (vec_len self.new.notes < vec_capacity self.new.notes) }
@@ -136,7 +136,7 @@ impl Log {
     fn note(&mut self, call: Call)
         requires { vec_len self.old.notes < vec_capacity self.old.notes }
         ensures base { self.new.base ≡ self.old.base }
-        ensures events { log_events self.new ≡ event_of call ∷ log_events self.old }
+        ensures told { log_calls self.new ≡ call_of call ∷ log_calls self.old }
         ensures content { self.new.content.items ≡ self.old.content.items }
     {
         let idle = self.idle;
@@ -158,7 +158,7 @@ impl Log {
 
     // The picked one of the images that a crash now may leave.
     pub(crate) fn picked(&self, pick: Pick) -> Result<Vec<u8>, AllocError>
-        ensures { IfOk result (λ v. v.items ≡ picked pick (log_first self.now) (log_events self.now)) }
+        ensures { IfOk result (λ v. v.items ≡ picked pick (log_first self.now) (log_calls self.now)) }
     {
         let alloc = *self.content.allocator();
         let mut content = self.first().to_vec(alloc)?;
@@ -190,7 +190,7 @@ fn replay(
     image: &mut Vec<u8>,
 ) -> Result<(), AllocError>
     ensures { (first : _) (es : _) → held.old.items ≡ content first es → image.old.items ≡ picked pick first es →
-        OnOk result ((held.new.items ≡ content first (event_of call.now ∷ es)) × (image.new.items ≡ picked pick first (event_of call.now ∷ es))) }
+        OnOk result ((held.new.items ≡ content first (call_of call.now ∷ es)) × (image.new.items ≡ picked pick first (call_of call.now ∷ es))) }
 {
     match call {
         Call::Write { at, bytes, whole } => {

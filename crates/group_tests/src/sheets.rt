@@ -213,6 +213,30 @@ fn rows_are_as_worked_by_hand(rt: HostRuntime) -> Result<(), Fail> {
     Ok(())
 }
 
+/// So many late records at one time.
+fn late_records(rt: &impl Abort, alloc: Global, count: usize) -> Result<Vec<Rec>, Fail>
+    ensures { IfOk result (λ recs. IsCopy recs.items) }
+{
+    let kind = Kind::Late;
+    let point = Point { t: 0, v: 0 };
+    let recs = vec![in alloc; Rec { kind, point }; count]?;
+    assert!(rt; in_range(point) && recs.len() < 4_000_000);
+    Ok(recs)
+}
+
+#[test]
+fn a_sheet_has_no_more_than_two_million_records(rt: HostRuntime) -> Result<(), Fail> {
+    let alloc = rt.alloc();
+    let def = def_of(&rt, alloc, 1, 1000, "avg('T1')")?;
+    let mut sheet = new_sheet(alloc, &def)?;
+    let deltas = [late_records(&rt, alloc, 2_097_152)?];
+    assert_eq!(rt; tell(&mut sheet, &deltas), Ok(()));
+    let one_more = [late_records(&rt, alloc, 1)?];
+    let no = SheetNo::CopyLimit { records: 2_097_153 };
+    assert_eq!(rt; tell(&mut sheet, &one_more), Err(no));
+    Ok(())
+}
+
 /// The row of a text.
 fn row_of(rt: &impl Abort, alloc: Global, text: &str) -> Result<Vec<CalcValue>, Fail>
     ensures { IfOk result (λ row. length row.items < 2 ^ 32) }

@@ -125,5 +125,5 @@ fn completed(first: Vec<Point>, more: bool, last: Option<Point>) -> Result<Point
 fn push_point(list: &mut Vec<Point>, p: Point) -> Result<(), WantOfMemory>
     ensures { OnOk result (list.new.items ≡ list.old.items ++ p ∷ []) }
 {
-    list.push(p).map_err(|_| WantOfMemory)
+    Ok(list.push(p)?)
 }

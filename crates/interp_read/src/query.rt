@@ -24,7 +24,7 @@ impl Reply {
             Reply::At(reading) => Ok(Reply::At(*reading)),
             Reply::Window(value) => Ok(Reply::Window(*value)),
             Reply::Points(points) => {
-                let list = Vec::from_slice(alloc, &points.list).map_err(|_| WantOfMemory)?;
+                let list = Vec::from_slice(alloc, &points.list)?;
                 let more = points.more;
                 Ok(Reply::Points(PointList { list, more }))
             }

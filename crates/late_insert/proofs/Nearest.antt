@@ -12,7 +12,7 @@ use Rattle.trend_num.specs.declared.point.Point.{Point}
 use Rattle.trend_num.specs.declared.archive.Rec.{Rec}
 use Rattle.trend_model.specs.Content.{late_at, is_late_record}
 use Rattle.trend_model.specs.Contents.{IsRising, IsFloor, IsCeil, points_of}
-use Rattle.late_insert.specs.Standing.{StandsAt}
+use Rattle.late_insert.specs.Places.{StandsAt}
 use Rattle.trend_model.proofs.Placing.{time, rising_head, rising_tail}
 use Rattle.late_insert.proofs.Reading.{count_gap}
 use Rattle.late_insert.proofs.Found.{found, late_found, late_is}

@@ -1,5 +1,5 @@
 pub mod Totals
-pub mod Standing
+pub mod Places
 pub mod Moves
 pub mod Pages
 pub mod PageTotals

@@ -7,7 +7,7 @@ ghost use Rattle.trend_num.specs.Ranges.{InRange};
 ghost use Rattle.trend_model.specs.Content.{is_late_record, late_at};
 ghost use Rattle.trend_model.specs.Parts.{last_point};
 ghost use Rattle.trend_model.specs.Contents.{IsCeil, IsContentOf, IsFloor, IsRising, listed, placed, points_of};
-ghost use Rattle.late_insert.specs.Standing.{StandsAt};
+ghost use Rattle.late_insert.specs.Places.{StandsAt};
 ghost use Rattle.late_insert.specs.PageTotals.{IsPageOf};
 
 use crate::directory::{Page, page_of};
@@ -65,7 +65,7 @@ impl Content {
     {
         let frames = points / 64 + 2;
         let mut pool = Pool::reserve(alloc, frames).map_err(|_| WantOfMemory)?;
-        let mut pages = Vec::with_capacity(alloc, frames as usize).map_err(|_| WantOfMemory)?;
+        let mut pages = Vec::with_capacity(alloc, frames as usize)?;
         first_page(&mut pool, &mut pages);
         Ok(Content {
             pool,

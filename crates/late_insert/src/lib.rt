@@ -1,17 +1,17 @@
 //! The content of an archive's records: what they read as, one point for each time.
 //!
-//! A content is seen as a list of records that rises in time: at each time the last Late record, where there
-//! is one, else the last Kept one. That list is defined in `trend_model`, where a law says that it reads as
-//! the records do. It is kept in pages of up to 128 records, each in a frame of a pool. A record behind all
-//! others goes into the last page, or into a fresh one where that is full, so pages that are filled in order
-//! are full. A content that is made of a list of records fills a fresh page with a run of them at once. Any
-//! other full page is split into two halves with one new frame, so a put moves the records of one page at
-//! most, and the entries of the list of pages. All memory is taken when a content is made.
+//! A content is seen as a list of records that rises in time, and as the room for more: at each time the last Late
+//! record, where there is one, else the last Kept one. That list is defined in `trend_model`, where a law says that it
+//! reads as the records do. Each call says what it finds in that list or makes of it. A put takes room for a new time
+//! alone. `page` tells the totals of a page that has a place, whichever page that is, and `runs` goes over all points
+//! of a range in order.
 //!
-//! Each page keeps totals of its points: the areas under their line and under their stair, the least value
-//! and the greatest. The list of pages keeps the place and the time of each one's first record, so every
-//! look-up searches, and none walks. `runs` goes over the points of a range in runs that stand in one page
-//! each: a whole page answers by its totals, a part of one by its points.
+//! How it is kept, which no clause says. The records stand in pages of up to 128, each in a frame of a pool. A record
+//! behind all others goes into the last page, or into a fresh one where that is full; a run of them fills a fresh page
+//! at once. Any other full page is split into two halves with one new frame, so a put moves the records of one page,
+//! and the entries of the list of pages. Each page keeps totals of its points: the areas under their line and under
+//! their stair, the least value and the greatest; a run that is a whole page answers by them. The list of pages keeps
+//! the place and the time of each one's first record, so a look-up searches.
 #![tactic(auto)]
 
 mod array;

@@ -1,7 +1,7 @@
 // All of the input, a piece at a time.
 ghost use Rattle.std.specs.Prelude.{◌≡◌, ◌+◌, ◌<◌, ◌≤◌, [], List, ℕ, true, length, take, slice_range, IfOk, IfErr, OnOk, OnErr, vec_len};
 ghost use Rattle.std.specs.Io.KnownBytes.{Keeps};
-ghost use Rattle.trend_num.specs.Ranges.{IsTuned};
+ghost use Rattle.trend_num.specs.Ranges.{TuningInRange};
 ghost use Rattle.trend_num.specs.declared.tuning.Tuning.{Tuning};
 ghost use Rattle.trend_model.specs.History.{Origin};
 ghost use Rattle.byte_io.specs.Outside.{CountsOneFault};
@@ -33,7 +33,7 @@ pub(crate) fn read_input<L: Ledger, I: Source>(
     input: &mut I,
     blank: Blank,
 ) -> Result<Intake, Status>
-    requires tuned { IsTuned tuning }
+    requires tuned { TuningInRange tuning }
     requires name { blank.name ≡ L.name }
     requires parts { blank.parts ≡ L.parts }
     requires some { 0 < L.parts }

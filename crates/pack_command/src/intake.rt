@@ -1,6 +1,6 @@
 // What the rows of an input have come to so far.
 ghost use Rattle.std.specs.Prelude.{◌≡◌, ◌+◌, ◌-◌, ◌<◌, ◌≤◌, [], List, ℕ, Bool, true, false, length, drop, min, IfOk, Result};
-ghost use Rattle.trend_num.specs.Ranges.{InRange, IsTuned};
+ghost use Rattle.trend_num.specs.Ranges.{InRange, TuningInRange};
 ghost use Rattle.trend_model.specs.History.{Origin};
 ghost use Rattle.point_text.specs.FirstPoint.{HasNoFeed};
 ghost use Rattle.pack_command.specs.Pack.{most_rows, origin_of};
@@ -40,7 +40,7 @@ pub(crate) struct Intake {
 impl Intake {
     /// Before the first row.
     pub(crate) fn new(alloc: Global, tuning: Tuning) -> Result<Intake, WantOfMemory>
-        requires { IsTuned tuning }
+        requires { TuningInRange tuning }
         ensures ready { IfOk result (λ i. IsReady i.core i.rows) }
         ensures come { IfOk result (λ i. HasCome true (origin_of tuning) [] [] i.core i.rows i.standing) }
     {

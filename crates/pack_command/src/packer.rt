@@ -1,6 +1,6 @@
 // The command: the input's points, taken into an archive.
 ghost use Rattle.std.specs.Prelude.{◌≡◌, IfOk, IfErr};
-ghost use Rattle.trend_num.specs.Ranges.{IsTuned};
+ghost use Rattle.trend_num.specs.Ranges.{TuningInRange};
 ghost use Rattle.pack_command.specs.Pack.{IsPackRefusal, IsPrinted, status_of_rows};
 
 use crate::archive::ArchiveText;
@@ -16,7 +16,7 @@ use trend_num::Tuning;
 
 /// What `pack` prints for its standard input, or why it prints nothing.
 pub fn pack<I: Source>(alloc: Global, tuning: Tuning, input: &mut I) -> Result<ArchiveText, Status>
-    requires { IsTuned tuning }
+    requires { TuningInRange tuning }
     ensures printed { IfOk result (λ text.
         IsPrinted tuning (I.meaning input.old) (I.meaning input.new) text) }
     ensures refused { IfErr result (IsPackRefusal tuning (I.meaning input.old) (I.meaning input.new)) }

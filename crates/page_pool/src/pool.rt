@@ -6,12 +6,20 @@ ghost use Rattle.page_pool.specs.Lending.{LendsFrame};
 
 use crate::Frame;
 use crate::frame::empty;
-use std::alloc::Global;
+use std::alloc::{AllocError, Global};
 use std::marker::Model;
 
 /// There is no memory for so many frames.
 #[derive(Clone, Copy, Debug, PartialEq, Eq)]
 pub struct WantOfMemory;
+
+impl From<AllocError> for WantOfMemory {
+    ghost from_gives = { λ _ no. no ≡ record {} };
+
+    fn from(_: AllocError) -> WantOfMemory {
+        WantOfMemory
+    }
+}
 
 /// No frame is spare.
 #[derive(Clone, Copy, Debug, PartialEq, Eq)]
@@ -69,8 +77,8 @@ impl Pool {
         ensures value { IfOk result (λ pool. pool ≡ replicate frames None) }
         ensures spare { IfOk result (λ pool. spare_of pool ≡ frames) }
     {
-        let slots = Vec::with_capacity(alloc, frames as usize).map_err(|_| WantOfMemory)?;
-        let free = Vec::with_capacity(alloc, frames as usize).map_err(|_| WantOfMemory)?;
+        let slots = Vec::with_capacity(alloc, frames as usize)?;
+        let free = Vec::with_capacity(alloc, frames as usize)?;
         Ok(Pool {
             slots,
             free,

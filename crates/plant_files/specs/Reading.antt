@@ -1,5 +1,5 @@
 -- Files that are read whole, within a limit, and why one is not.
-use Rattle.std.specs.Prelude.{◌≡◌, ℕ, ◌+◌, ◌≤◌, List, length, ⊤, Result, Ok, Err}
+use Rattle.std.specs.Prelude.{◌≡◌, ℕ, ◌+◌, ◌≤◌, List, length, slice_get, ⊤, Option, Some, IfSome, Result, Ok, Err}
 use Rattle.byte_io.specs.Files.{FileTold, IsWhole, IsLongerThan}
 use Rattle.byte_io.specs.Outside.{next_count}
 use Rattle.trend_num.specs.declared.refusal.What.{What}
@@ -41,3 +41,7 @@ faults_told other faults = faults
 abbrev pub faults_after : {A : Type 0} → Result A Status → ℕ → ℕ
 faults_after (Ok a) faults = faults
 faults_after (Err why) faults = faults_told why faults
+
+-- where it is told whose read failed last, it is that of the file of the reader at a place, by the names of all readers' files
+abbrev pub IsFaultOfReader : List (List ℕ) → ℕ → Option (List ℕ) → Type 0
+IsFaultOfReader names place failed = IfSome failed (λ name. slice_get names place ≡ Some name)

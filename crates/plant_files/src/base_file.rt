@@ -1,8 +1,11 @@
 // The base of a plant.
-ghost use Rattle.std.specs.Prelude.{◌≡◌, ◌≢◌, All, length, IfOk, IfErr};
+ghost use Rattle.std.specs.Prelude.{◌≡◌, ◌≢◌, All, length, IfOk, IfErr, IsErrOf};
 ghost use Rattle.std.specs.List.{AllPairs};
-ghost use Rattle.trend_num.specs.Ranges.{IsTuned};
+ghost use Rattle.trend_num.specs.Ranges.{TuningInRange};
 ghost use Rattle.tag_base.specs.Groups.{IsSound};
+ghost use Rattle.byte_io.specs.Files.{IsFaultOf};
+ghost use Rattle.plant_status.specs.declared.file.FileId.{FileId};
+ghost use Rattle.plant_status.specs.declared.status.Status.TheVariants.{ReadFault};
 ghost use Rattle.plant_files.specs.Reading.{faults_after};
 ghost use Rattle.plant_files.specs.Texts.{IsBaseFile, IsBaseRefusal, tag_names};
 
@@ -18,11 +21,12 @@ use tag_base::{Base, read_base};
 pub fn base_of<F: Files>(alloc: Global, files: &mut F, name: &str) -> Result<Base, Status>
     ensures base { IfOk result (IsBaseFile (F.told files.old name.now)) }
     ensures sound { IfOk result (λ base. All (IsSound (length base.tags.items)) base.groups.items) }
-    ensures tuned { IfOk result (λ base. All (λ tag. IsTuned tag.tuning) base.tags.items) }
+    ensures tuned { IfOk result (λ base. All (λ tag. TuningInRange tag.tuning) base.tags.items) }
     ensures distinct { IfOk result (λ base. AllPairs (λ x y. x ≢ y) (tag_names base.tags.items)) }
     ensures refused { IfErr result (IsBaseRefusal (F.told files.old name.now)) }
     ensures stays { F.told files.new ≡ F.told files.old }
     ensures faults { F.fault_count files.new ≡ faults_after result (F.fault_count files.old) }
+    ensures whose { (which : FileId) → IsErrOf result (ReadFault which) → IsFaultOf (F.failed_name files.new) name.now }
 {
     let file = FileId::Base;
     match whole_of(alloc, files, name, file, What::TextBytes, MAX_TEXT_BYTES) {

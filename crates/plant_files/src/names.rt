@@ -15,7 +15,7 @@ pub(crate) fn names_of_tags(alloc: Global, tags: &[TagDef]) -> Result<Vec<Name>,
 {
     let mut names = Vec::new(alloc);
     for tag in tags {
-        names.push(tag.name).map_err(|_| WantOfMemory)?;
+        names.push(tag.name)?;
     }
     Ok(names)
 }
@@ -28,7 +28,7 @@ fn names_of_group(alloc: Global, group: &GroupDef) -> Result<GroupNames, WantOfM
     let defs = group.calcs.defs();
     let mut calcs = Vec::new(alloc);
     for def in defs {
-        calcs.push(def.name).map_err(|_| WantOfMemory)?;
+        calcs.push(def.name)?;
     }
     Ok(GroupNames {
         name: group.name,
@@ -49,7 +49,7 @@ pub(crate) fn names_of_groups(
     let mut names = Vec::new(alloc);
     for group in groups {
         let named = names_of_group(alloc, group)?;
-        names.push(named).map_err(|_| WantOfMemory)?;
+        names.push(named)?;
     }
     Ok(names)
 }

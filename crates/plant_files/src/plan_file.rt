@@ -1,5 +1,8 @@
 // The plan of a plant.
-ghost use Rattle.std.specs.Prelude.{◌≡◌, ◌<◌, All, vec_len, IfOk, IfErr};
+ghost use Rattle.std.specs.Prelude.{◌≡◌, ◌<◌, All, vec_len, IfOk, IfErr, IsErrOf};
+ghost use Rattle.byte_io.specs.Files.{IsFaultOf};
+ghost use Rattle.plant_status.specs.declared.file.FileId.{FileId};
+ghost use Rattle.plant_status.specs.declared.status.Status.TheVariants.{ReadFault};
 ghost use Rattle.plant_files.specs.Reading.{faults_after};
 ghost use Rattle.plant_files.specs.Texts.{IsPlanFile, IsPlanRefusal};
 
@@ -23,6 +26,7 @@ pub fn plan_of<F: Files>(
     ensures refused { IfErr result (IsPlanRefusal base.now.groups.items (F.told files.old name.now)) }
     ensures stays { F.told files.new ≡ F.told files.old }
     ensures faults { F.fault_count files.new ≡ faults_after result (F.fault_count files.old) }
+    ensures whose { (which : FileId) → IsErrOf result (ReadFault which) → IsFaultOf (F.failed_name files.new) name.now }
 {
     let file = FileId::Plan;
     match whole_of(alloc, files, name, file, What::TextBytes, MAX_TEXT_BYTES) {

@@ -1,9 +1,10 @@
 // What the readers of a plan ask.
-ghost use Rattle.std.specs.Prelude.{◌≡◌, ◌≢◌, ◌<◌, ◌^◌, All, length, vec_len, IfOk, IfErr};
-ghost use Rattle.plant_status.specs.declared.status.Status.TheVariants.{WantOfMemory};
+ghost use Rattle.std.specs.Prelude.{◌≡◌, ◌≢◌, ◌<◌, ◌^◌, ℕ, All, length, vec_len, IfOk, IfErr, IsErrOf};
+ghost use Rattle.plant_status.specs.declared.file.FileId.TheVariants.{Reader};
+ghost use Rattle.plant_status.specs.declared.status.Status.TheVariants.{ReadFault, WantOfMemory};
 ghost use Rattle.tag_base.specs.Groups.{IsSound};
 ghost use Rattle.value_rows.specs.Asked.{IsQuery};
-ghost use Rattle.plant_files.specs.Reading.{faults_after};
+ghost use Rattle.plant_files.specs.Reading.{IsFaultOfReader, faults_after};
 ghost use Rattle.plant_files.specs.Asked.{AreReaderFiles, AreQueries, IsFirstRefused, IsQueryOf, IsQueriesRefusal};
 
 use crate::names::{names_of_groups, names_of_tags};
@@ -23,6 +24,7 @@ fn queries_over<F: Files>(
     tags: &[Name],
     groups: &[GroupNames],
 ) -> Result<Vec<ReaderQueries>, Status>
+    requires few_readers { length readers.now < 2 ^ 32 }
     requires few_tags { length tags.now < 2 ^ 32 }
     requires few_groups { length groups.now < 2 ^ 32 }
     requires few_calcs { All (λ g. vec_len g.calcs < 2 ^ 32) groups.now }
@@ -33,6 +35,8 @@ fn queries_over<F: Files>(
         IsFirstRefused tags.now groups.now (F.told files.old) readers.now why) }
     ensures stays { F.told files.new ≡ F.told files.old }
     ensures faults { F.fault_count files.new ≡ faults_after result (F.fault_count files.old) }
+    ensures whose { (place : ℕ) → IsErrOf result (ReadFault (Reader place))
+        → IsFaultOfReader readers.now place (F.failed_name files.new) }
 {
     let mut lists = Vec::new(alloc);
     for reader in readers {
@@ -63,6 +67,8 @@ pub fn queries_of<F: Files>(
     ensures refused { IfErr result (IsQueriesRefusal base.now (F.told files.old) plan.now.readers.items) }
     ensures stays { F.told files.new ≡ F.told files.old }
     ensures faults { F.fault_count files.new ≡ faults_after result (F.fault_count files.old) }
+    ensures whose { (place : ℕ) → IsErrOf result (ReadFault (Reader place))
+        → IsFaultOfReader plan.now.readers.items place (F.failed_name files.new) }
 {
     let Ok(tags) = names_of_tags(alloc, &base.tags) else {
         return Err(Status::WantOfMemory);

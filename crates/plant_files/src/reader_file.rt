@@ -1,6 +1,9 @@
 // What one reader asks.
-ghost use Rattle.std.specs.Prelude.{◌≡◌, ◌<◌, ◌^◌, All, length, vec_len, IfOk, IfErr};
+ghost use Rattle.std.specs.Prelude.{◌≡◌, ◌<◌, ◌^◌, All, length, vec_len, IfOk, IfErr, IsErrOf};
 ghost use Rattle.value_rows.specs.Asked.{IsQuery};
+ghost use Rattle.byte_io.specs.Files.{IsFaultOf};
+ghost use Rattle.plant_status.specs.declared.file.FileId.{FileId};
+ghost use Rattle.plant_status.specs.declared.status.Status.TheVariants.{ReadFault};
 ghost use Rattle.plant_files.specs.Reading.{faults_after};
 ghost use Rattle.plant_files.specs.Asked.{IsReaderFile, IsReaderRefusal, reader_at, row_status};
 
@@ -81,6 +84,7 @@ pub(crate) fn queries_in<F: Files>(
     ensures refused { IfErr result (IsReaderRefusal tags.now groups.now file (F.told files.old name.now)) }
     ensures stays { F.told files.new ≡ F.told files.old }
     ensures faults { F.fault_count files.new ≡ faults_after result (F.fault_count files.old) }
+    ensures whose { (which : FileId) → IsErrOf result (ReadFault which) → IsFaultOf (F.failed_name files.new) name.now }
 {
     let name = name.text();
     match whole_of(alloc, files, name, file, What::FileBytes, MAX_FILE_BYTES) {

@@ -1,5 +1,8 @@
 // All of a file, or the status of its refusal.
-ghost use Rattle.std.specs.Prelude.{◌≡◌, ◌+◌, ◌<◌, ◌^◌, IfOk, IfErr};
+ghost use Rattle.std.specs.Prelude.{◌≡◌, ◌+◌, ◌<◌, ◌^◌, IfOk, IfErr, IsErrOf};
+ghost use Rattle.byte_io.specs.Files.{IsFaultOf};
+ghost use Rattle.plant_status.specs.declared.file.FileId.{FileId};
+ghost use Rattle.plant_status.specs.declared.status.Status.TheVariants.{ReadFault};
 ghost use Rattle.plant_files.specs.Reading.{IsRead, IsReadRefusal, faults_after};
 
 use byte_io::{Files, ReadNo, read_file};
@@ -20,6 +23,7 @@ pub(crate) fn whole_of<F: Files>(
     ensures refused { IfErr result (IsReadRefusal file what most (F.told files.old name.now)) }
     ensures stays { F.told files.new ≡ F.told files.old }
     ensures faults { F.fault_count files.new ≡ faults_after result (F.fault_count files.old) }
+    ensures whose { (which : FileId) → IsErrOf result (ReadFault which) → IsFaultOf (F.failed_name files.new) name.now }
 {
     match read_file(alloc, files, name, most) {
         Ok(bytes) => Ok(bytes),

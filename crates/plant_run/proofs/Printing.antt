@@ -1,17 +1,17 @@
 -- What is printed of a text or of a refusal, and what a status tells.
-use Rattle.std.proofs.Common.{◌≡◌, inl, inr, ℕ, ◌^◌, ◌<◌, List, None, Some, Result, Ok, Err, IfOk, IfErr, OnOk, OnErr, ◌≢◌, String, Global, string_bytes, refl, sym, subst, ap, ◌∙◌}
+use Rattle.std.proofs.Common.{◌≡◌, inl, inr, ℕ, ◌^◌, ◌<◌, List, Result, Ok, Err, IfOk, IfErr, OnOk, OnErr, ◌≢◌, String, Global, string_bytes, refl, sym, subst, ap, ◌∙◌}
 use Rattle.byte_io.specs.Outside.{Outside, CountsNoFault, IsWritten, IsCutShort}
 use Rattle.plant_files.specs.Asked.{ToldFiles}
 use Rattle.plant_files.specs.Reading.{faults_after, faults_told}
 use Rattle.store_commands.specs.Commands.{Devices, IsCheckRefusal, IsTrendRefusal, OfBase, OfGroup, OfPlan, OfReader, OfTag, OfMemory}
 use Rattle.disk_model.specs.Calls.{Rose}
 use Rattle.tag_store.specs.Refusals.{CountsStore}
-use Rattle.trend_num.specs.declared.tuning.Tuning.{Tuning}
 use Rattle.plant_status.specs.declared.unit.Unit.{Unit}
 use Rattle.plant_status.specs.declared.unit.Unit.TheVariants.{Tag, Group}
 use Rattle.plant_status.specs.declared.status.Status.{Status}
 use Rattle.plant_status.specs.declared.status.Status.TheVariants.{Done, BadWords, BadText, BadRow, ReadFault, WriteFault, DeviceFault, Damaged, OtherTag, Limit, Mismatch, Halted, WantOfMemory, NotYet}
 use Rattle.plant_run.specs.CommandLine.{Form, Pack, Check, Trend, Unknown}
+use Rattle.store_commands.proofs.Faults.{of_none}
 use Rattle.plant_run.specs.Run.{World, CountsFor, EndsFor, KeepsFor, IsPrintedSo, IsTold, PrintsSo, WhereDone}
 
 module _ (IsText : List ℕ → Type 0) (IsRefusal : Status → Type 0) (before now : Outside) where
@@ -90,6 +90,14 @@ done_so P IsRefusal before now (Err why) status fact refusal no_done no_fault pr
     of_refusal (Halted worker) is = tt
     of_refusal WantOfMemory is = tt
     of_refusal NotYet is = tt
+
+-- a fact of each refusal, and of what was printed, is one of the status once the answer was printed
+pub ended_so : (P : Status → Type 0) (before now : Outside) (answer : Result (String Global) Status) (status : Status)
+    → P Done → P WriteFault → IfErr answer P → IfOk answer (λ text. IsPrintedSo (string_bytes text) before now status)
+    → IfErr answer (λ why. (status ≡ why) × IsTold before now why) → P status
+ended_so P before now (Ok text) status done fault refused (inl is) told = subst P (sym is.0) done
+ended_so P before now (Ok text) status done fault refused (inr cut) told = subst P (sym cut.0) fault
+ended_so P before now (Err why) status done fault refused printed told = subst P (sym told.0) refused
 
 -- the faults of the store that an answer tells are those that its status tells, once it was printed
 pub counts_so : (IsRefusal : Status → Type 0) (before now : Outside) (answer : Result (String Global) Status) (status : Status)
@@ -186,9 +194,12 @@ pub memory_ends : (form : Form) (before now : World) → CountsNoFault before.in
     → now.device_faults ≡ before.device_faults → now.input ≡ before.input → EndsFor form before now WantOfMemory
 memory_ends (Pack tuning) before now same told faults devices left = ((same, told), faults, devices)
 memory_ends (Check base) before now same told faults devices left =
-    ((inr (inr refl), told), record { durable = tt; file_faults = faults; device_faults = λ few. devices; input = left })
-memory_ends (Trend base plan) before now same told faults devices left =
-    ((OfMemory refl, told), record { durable = tt; file_faults = faults; device_faults = λ few. devices; input = left })
+    ((inr (inr refl), told), record { durable = tt; file_faults = faults; device_faults = λ few. devices; input = left }, λ which same. cc)
+memory_ends (Trend base plan) before now same told faults devices left = (
+  (OfMemory refl, told),
+  record { durable = tt; file_faults = faults; device_faults = λ few. devices; input = left },
+  of_none base plan before.files now.failed_name WantOfMemory (λ which same. cc),
+)
 memory_ends Unknown before now same told faults devices left = (inr refl, told, faults, devices, left)
 
 -- devices that are as they were are kept

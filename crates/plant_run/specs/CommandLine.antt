@@ -3,7 +3,7 @@ use Rattle.std.specs.Prelude.{ℕ, cond, List, [], ◌∷◌, Option, None, Some
 use Rattle.std.specs.Str.{bytes_eq}
 use Rattle.trend_num.specs.declared.tuning.Tuning.{Tuning}
 use Rattle.trend_num.specs.Numerals.{numeral, natural_upto}
-use Rattle.trend_num.specs.Ranges.{IsTuned, last_time, largest_value}
+use Rattle.trend_num.specs.Ranges.{TuningInRange, last_time, largest_value}
 use Rattle.plant_run.specs.declared.command_line.Form.{Form as FormOfWords}
 use Rattle.plant_run.specs.declared.command_line.Form.TheVariants as form
 
@@ -55,8 +55,8 @@ form_of (verb ∷ exc_dev ∷ exc_max ∷ comp_dev ∷ comp_min ∷ comp_max ∷
 form_of words = Unknown
 
 -- a form whose tuning, if it has one, is in range
-abbrev pub IsTunedForm : Form → Type 0
-IsTunedForm (Pack tuning) = IsTuned tuning
-IsTunedForm (Check base) = Unit {0}
-IsTunedForm (Trend base plan) = Unit {0}
-IsTunedForm Unknown = Unit {0}
+abbrev pub FormInRange : Form → Type 0
+FormInRange (Pack tuning) = TuningInRange tuning
+FormInRange (Check base) = Unit {0}
+FormInRange (Trend base plan) = Unit {0}
+FormInRange Unknown = Unit {0}

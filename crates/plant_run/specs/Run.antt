@@ -1,19 +1,21 @@
 -- How a run of the program ends: what it has read and printed, and what became of the devices, in each status.
-use Rattle.std.specs.Prelude.{◌≡◌, ◌⊎◌, ℕ, ◌^◌, ◌<◌, List, None}
+use Rattle.std.specs.Prelude.{◌≡◌, ◌⊎◌, ℕ, ◌^◌, ◌<◌, List, Option, None}
 use Rattle.trend_num.specs.declared.point.Point.{Point}
 use Rattle.trend_num.specs.declared.tuning.Tuning.{Tuning}
 use Rattle.trend_model.specs.Walk.{records, held}
 use Rattle.trend_model.specs.Bound.{IsBounded}
 use Rattle.byte_io.specs.Outside.{Outside, CountsNoFault, IsWritten, IsCutShort}
+use Rattle.byte_io.specs.Files.{IsFaultOf}
 use Rattle.point_text.specs.Text.{archive_text}
 use Rattle.plant_status.specs.Status.{code_of, line_of}
+use Rattle.plant_status.specs.declared.file.FileId.{FileId}
 use Rattle.plant_status.specs.declared.status.Status.{Status}
-use Rattle.plant_status.specs.declared.status.Status.TheVariants.{Done, BadWords, DeviceFault, WriteFault, WantOfMemory}
+use Rattle.plant_status.specs.declared.status.Status.TheVariants.{Done, BadWords, ReadFault, DeviceFault, WriteFault, WantOfMemory}
 use Rattle.plant_files.specs.Asked.{ToldFiles}
 use Rattle.plant_files.specs.Reading.{faults_told}
 use Rattle.pack_command.specs.Pack.{IsRead, IsPackRefusal, first_full, history_of, origin_of}
 use Rattle.disk_model.specs.Calls.{Rose}
-use Rattle.store_commands.specs.Commands.{Devices, IsDurable, IsChecked, IsCheckRefusal, IsTrend, IsTrendRefusal, AreKept}
+use Rattle.store_commands.specs.Commands.{Devices, IsDurable, IsFaultOfNamed, IsChecked, IsCheckRefusal, IsTrend, IsTrendRefusal, AreKept}
 use Rattle.plant_run.specs.CommandLine.{Form, Pack, Check, Trend, Unknown, form_of}
 
 -- all of the input was read, and this is the text of what its history keeps. That is near all values of the history.
@@ -39,21 +41,24 @@ IsPrintedSo text before now status = ((status ≡ Done) × IsWritten before now 
     ⊎ ((status ≡ WriteFault) × IsCutShort before now text)
 
 -- what a run finds outside: the meanings of the input and of the output, what is told of files by name and how often a read of
--- them has failed, and the traces of devices by name and how often a call of the store has failed
+-- them has failed, and whose failed last where that is told, and the traces of devices by name and how often a call of the store
+-- has failed
 pub record World : Type 0 where
   pub input : Outside
   pub output : Outside
   pub files : ToldFiles
   pub file_faults : ℕ
+  pub failed_name : Option (List ℕ)
   pub devices : Devices
   pub device_faults : ℕ
 
-abbrev pub world : Outside → Outside → ToldFiles → ℕ → Devices → ℕ → World
-world input output files file_faults devices device_faults = record {
+abbrev pub world : Outside → Outside → ToldFiles → ℕ → Option (List ℕ) → Devices → ℕ → World
+world input output files file_faults failed_name devices device_faults = record {
   input = input;
   output = output;
   files = files;
   file_faults = file_faults;
+  failed_name = failed_name;
   devices = devices;
   device_faults = device_faults;
 }
@@ -96,11 +101,13 @@ EndsFor (Check base) before now status =
     (IsCheckRefusal base before.files before.devices now.devices before.device_faults now.device_faults)
     before.output now.output status
     × EndsOver base before now status
+    × ((which : FileId) → status ≡ ReadFault which → IsFaultOf now.failed_name base)
 EndsFor (Trend base plan) before now status =
     PrintsSo (IsTrend base plan before.files before.devices)
     (IsTrendRefusal base plan before.files before.devices now.devices before.device_faults now.device_faults)
     before.output now.output status
     × EndsOver base before now status
+    × IsFaultOfNamed base plan before.files now.failed_name status
 EndsFor Unknown before now status =
     ((status ≡ BadWords) ⊎ (status ≡ WantOfMemory)) × IsTold before.output now.output status
     × (now.file_faults ≡ before.file_faults)

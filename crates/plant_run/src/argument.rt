@@ -33,9 +33,9 @@ pub fn run_args<R: Threads + Wait + Sync, I: Source, F: Files, O: Sink, S: Store
 ) -> ExitCode
     // The words are the arguments after the first.
     ensures ends { IfOk args (λ given. EndsWithCode (map string_bytes (drop 1 (into_iter_items given)))
-        (world (I.meaning input.old) (O.meaning out.old) (F.told files.old) (F.fault_count files.old)
+        (world (I.meaning input.old) (O.meaning out.old) (F.told files.old) (F.fault_count files.old) (F.failed_name files.old)
         (S.device_at store.old) (S.fault_count store.old))
-        (world (I.meaning input.new) (O.meaning out.new) (F.told files.new) (F.fault_count files.new)
+        (world (I.meaning input.new) (O.meaning out.new) (F.told files.new) (F.fault_count files.new) (F.failed_name files.new)
         (S.device_at store.new) (S.fault_count store.new)) (exit_status result)) }
     ensures bad_words { IfOk args (λ given. form_of (map string_bytes (drop 1 (into_iter_items given))) ≡ Unknown
         → (exit_status result ≡ code_of Status.BadWords) ⊎ (exit_status result ≡ code_of Status.WantOfMemory)) }

@@ -1,7 +1,7 @@
 // The words of a command line.
 ghost use Rattle.std.specs.Prelude.{◌≡◌, ◌≤◌, map, string_bytes, IfSome};
-ghost use Rattle.trend_num.specs.Ranges.{IsTuned};
-ghost use Rattle.plant_run.specs.CommandLine.{IsTunedForm, asked, form_of, number_upto, packing, tuning_of};
+ghost use Rattle.trend_num.specs.Ranges.{TuningInRange};
+ghost use Rattle.plant_run.specs.CommandLine.{FormInRange, asked, form_of, number_upto, packing, tuning_of};
 
 use trend_num::{MAX_DEV, MAX_T, Tuning, numeral};
 
@@ -21,7 +21,7 @@ pub(crate) enum Form<'w> {
 /// What these words ask for.
 pub(crate) fn form_of(words: &[String]) -> Form<'_>
     ensures form { asked result ≡ form_of (map string_bytes words.now) }
-    ensures tuned { IsTunedForm (asked result) }
+    ensures tuned { FormInRange (asked result) }
 {
     match words {
         [verb, base] if verb.as_str() == "check" => Form::Check {
@@ -45,9 +45,9 @@ pub(crate) fn form_of(words: &[String]) -> Form<'_>
 
 /// To pack with a tuning, where there is one.
 fn packing<'w>(tuning: Option<Tuning>) -> Form<'w>
-    requires { IfSome tuning IsTuned }
+    requires { IfSome tuning TuningInRange }
     ensures form { asked result ≡ packing tuning }
-    ensures tuned { IsTunedForm (asked result) }
+    ensures tuned { FormInRange (asked result) }
 {
     match tuning {
         Some(tuning) => Form::Pack(tuning),
@@ -65,7 +65,7 @@ fn tuning_of(
     comp_max: &[u8],
 ) -> Option<Tuning>
     ensures value { result ≡ tuning_of exc_dev.now exc_max.now comp_dev.now comp_min.now comp_max.now }
-    ensures tuned { IfSome result IsTuned }
+    ensures tuned { IfSome result TuningInRange }
 {
     Some(Tuning {
         exc_dev: number_upto(MAX_DEV, exc_dev)?,

@@ -1,6 +1,6 @@
 // The top call, and the line of a refusal.
 ghost use Rattle.std.specs.Prelude.{◌≡◌, ◌↔◌, ◌⊎◌, ◌≢◌, map, string_bytes, IfOk, IfErr, OnOk, OnErr};
-ghost use Rattle.trend_num.specs.Ranges.{IsTuned};
+ghost use Rattle.trend_num.specs.Ranges.{TuningInRange};
 ghost use Rattle.plant_run.specs.CommandLine.{Unknown, form_of};
 ghost use Rattle.plant_run.specs.Run.{EndsIn, IsNotPacked, IsPacked, IsPrintedSo, IsTold, KeepsFor, PrintsSo, world};
 
@@ -30,9 +30,9 @@ pub fn run<R: Threads + Wait + Sync, I: Source, F: Files, O: Sink, S: Store>(
 ) -> Status
     // What was read and printed where it ends so. Want of memory alone has no other cause.
     ensures ends { EndsIn (map string_bytes words.now)
-        (world (I.meaning input.old) (O.meaning out.old) (F.told files.old) (F.fault_count files.old)
+        (world (I.meaning input.old) (O.meaning out.old) (F.told files.old) (F.fault_count files.old) (F.failed_name files.old)
         (S.device_at store.old) (S.fault_count store.old))
-        (world (I.meaning input.new) (O.meaning out.new) (F.told files.new) (F.fault_count files.new)
+        (world (I.meaning input.new) (O.meaning out.new) (F.told files.new) (F.fault_count files.new) (F.failed_name files.new)
         (S.device_at store.new) (S.fault_count store.new)) result }
 
     // What a crash at any moment leaves of the devices.
@@ -54,7 +54,7 @@ pub fn run<R: Threads + Wait + Sync, I: Source, F: Files, O: Sink, S: Store>(
 
 /// Packs the input, and prints what it keeps.
 fn run_pack<I: Source, O: Sink>(alloc: Global, tuning: Tuning, input: &mut I, out: &mut O) -> Status
-    requires { IsTuned tuning }
+    requires { TuningInRange tuning }
     ensures ends { PrintsSo (IsPacked tuning (I.meaning input.old) (I.meaning input.new))
         (IsNotPacked tuning (I.meaning input.old) (I.meaning input.new)) (O.meaning out.old) (O.meaning out.new) result }
     ensures known { result ≢ Status.BadWords }

@@ -1,4 +1,5 @@
 // Why a text is not read.
+use std::alloc::AllocFailed;
 use thiserror::Error;
 use trend_num::Reason;
 
@@ -14,4 +15,15 @@ pub enum RowNo {
     /// No memory was found.
     #[error("out of memory")]
     WantOfMemory,
+}
+
+impl<T: Drop> From<AllocFailed<T>> for RowNo {
+    ghost use Rattle.std.specs.Prelude.{◌≡◌};
+    ghost use Rattle.point_text.specs.declared.failure.RowNo.TheVariants.{WantOfMemory};
+
+    ghost from_gives = { λ _ no. no ≡ WantOfMemory };
+
+    fn from(_: AllocFailed<T>) -> RowNo {
+        RowNo::WantOfMemory
+    }
 }

@@ -74,7 +74,7 @@ impl Board {
             taken: 0,
             held: None,
         };
-        let (shelf, pass) = Shelf::ruled(alloc, shown_of(last)).map_err(|_| WantOfMemory)?;
+        let (shelf, pass) = Shelf::ruled(alloc, shown_of(last))?;
         push(&mut self.shelves, shelf)?;
         Ok(Poster { tag, last, pass })
     }
@@ -150,5 +150,5 @@ impl Board {
 fn push<T: Drop>(list: &mut Vec<T>, item: T) -> Result<(), WantOfMemory>
     ensures { OnOk result (list.new.items ≡ list.old.items ++ item ∷ []) }
 {
-    list.push(item).map_err(|_| WantOfMemory)
+    Ok(list.push(item)?)
 }

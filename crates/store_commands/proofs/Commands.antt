@@ -17,9 +17,9 @@ use Rattle.plant_status.specs.declared.status.Status.TheVariants.{Damaged, Other
 use Rattle.plant_files.specs.Reading.{faults_told}
 use Rattle.disk_model.specs.Traces.{Trace}
 use Rattle.tag_store.specs.Tags.{AreDistinct}
-use Rattle.tag_store.specs.Refusals.{CountsStore, IsRefusal}
-use Rattle.trend_command.specs.Told.{IsAsked}
-use Rattle.std.proofs.Common.{Option, Result, Ok, Err, IfErr, inl, inr, ◌∷◌, ◌^◌, ◌<◌, ◌≤◌}
+use Rattle.tag_store.specs.Refusals.{IsRefusal}
+use Rattle.trend_command.specs.Replies.{IsAsked}
+use Rattle.std.proofs.Common.{Option, Result, Ok, Err, IfErr, ◌∷◌}
 
 -- a fact of each image of a list is one of each element
 pub all_of_map : {X Y : Type 0} (f : X → Y) (P : Y → Type 0) (xs : List X) → All P (map f xs) → All (λ x. P (f x)) xs
@@ -75,13 +75,6 @@ found_some v found same = eqb-false (vec_len v) 0 found (omega (arith, v.ok, ap 
 pub if_err : {T E : Type 0} (r : Result T E) (P Q : E → Type 0) → ((e : E) → P e → Q e) → IfErr r P → IfErr r Q
 if_err (Ok x) P Q follows p = tt
 if_err (Err e) P Q follows p = follows e p
-
--- one fault more is not fewer
-pub counts_on : {T : Type 0} (r : Result T Status) (before now : ℕ) → before < 2 ^ 64 → CountsStore r before now
-    → before ≤ now
-counts_on (Ok x) before now small counts = omega (arith, counts)
-counts_on (Err why) before now small (inl same) = omega (arith, same)
-counts_on (Err why) before now small (inr more) = let rose = more.2 in omega (arith, rose, small)
 
 -- there is one list of queries for each file
 pub as_many_lists : (tags : List (List ℕ)) (groups : List GroupNames) (told : ToldFiles) (files : List (List ℕ))

@@ -1,6 +1,6 @@
 // The tags of a base, opened.
 ghost use Rattle.std.specs.Prelude.{◌≡◌, ◌≢◌, ◌^◌, ◌<◌, ℕ, All, AllPairs, length, IfOk, IfErr};
-ghost use Rattle.trend_num.specs.Ranges.{IsTuned};
+ghost use Rattle.trend_num.specs.Ranges.{TuningInRange};
 ghost use Rattle.plant_files.specs.Reading.{faults_told};
 ghost use Rattle.plant_files.specs.Texts.{tag_names};
 ghost use Rattle.tag_store.specs.Tags.{AllStaySame, AreLeft, AreOpened, AreOthersSame};
@@ -19,7 +19,7 @@ pub(crate) fn open_base<S: Store>(
     store: &mut S,
     base: &Base,
 ) -> Result<Vec<TagCore>, Status>
-    requires tuned { All (λ tag. IsTuned tag.tuning) base.now.tags.items }
+    requires tuned { All (λ tag. TuningInRange tag.tuning) base.now.tags.items }
     requires distinct { AllPairs (λ x y. x ≢ y) (tag_names base.now.tags.items) }
     requires few { length base.now.tags.items < 2 ^ 32 }
     ensures opened { IfOk result (λ cores. AreOpened base.now.tags.items (S.device_at store.old) cores.items) }

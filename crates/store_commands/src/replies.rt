@@ -1,8 +1,8 @@
 // The command `trend`.
 ghost use Rattle.std.specs.Prelude.{◌^◌, ◌<◌, ◌≤◌, ◌≡◌, length, map, string_bytes, All, IfOk, IfErr, OnOk};
-ghost use Rattle.trend_command.specs.Told.{IsAsked, trend_text};
+ghost use Rattle.trend_command.specs.Replies.{IsAsked, trend_text};
 ghost use Rattle.plant_files.specs.Reading.{faults_after};
-ghost use Rattle.store_commands.specs.Commands.{AreKept, IsDurable, IsTrend, IsTrendRefusal};
+ghost use Rattle.store_commands.specs.Commands.{AreKept, IsDurable, IsFaultOfNamed, IsTrend, IsTrendRefusal};
 ghost use Rattle.tag_store.specs.Refusals.{CountsStore};
 
 use crate::opened::open_base;
@@ -32,10 +32,10 @@ pub fn trend<F: Files, S: Store>(
     ensures kept { AreKept name.now (F.told files.old) (S.device_at store.old) (S.device_at store.new) }
     ensures stays { F.told files.new ≡ F.told files.old }
     ensures file_faults { F.fault_count files.new ≡ faults_after result (F.fault_count files.old) }
+    ensures whose { IfErr result (IsFaultOfNamed name.now plan_name.now (F.told files.old) (F.failed_name files.new)) }
     ensures durable { OnOk result (IsDurable name.now (F.told files.old) (S.device_at store.old) (S.device_at store.new)) }
     ensures counts { S.fault_count store.old < 2 ^ 64
         → CountsStore result (S.fault_count store.old) (S.fault_count store.new) }
-    ensures store_faults { S.fault_count store.old < 2 ^ 64 → S.fault_count store.old ≤ S.fault_count store.new }
 {
     let base = match base_of(alloc, files, name) {
         Ok(base) => base,

@@ -1,5 +1,8 @@
 // The command `check`.
 ghost use Rattle.std.specs.Prelude.{◌^◌, ◌<◌, ◌≤◌, ◌≡◌, string_bytes, IfOk, IfErr, OnOk};
+ghost use Rattle.byte_io.specs.Files.{IsFaultOf};
+ghost use Rattle.plant_status.specs.declared.file.FileId.{FileId};
+ghost use Rattle.plant_status.specs.declared.status.Status.TheVariants.{ReadFault};
 ghost use Rattle.plant_files.specs.Reading.{faults_after};
 ghost use Rattle.store_commands.specs.Commands.{AreKept, IsCheckRefusal, IsChecked, IsDurable};
 ghost use Rattle.tag_store.specs.Refusals.{CountsStore};
@@ -26,10 +29,10 @@ pub fn check<F: Files, S: Store>(
     ensures kept { AreKept name.now (F.told files.old) (S.device_at store.old) (S.device_at store.new) }
     ensures stays { F.told files.new ≡ F.told files.old }
     ensures file_faults { F.fault_count files.new ≡ faults_after result (F.fault_count files.old) }
+    ensures whose { IfErr result (λ why. (which : FileId) → why ≡ ReadFault which → IsFaultOf (F.failed_name files.new) name.now) }
     ensures durable { OnOk result (IsDurable name.now (F.told files.old) (S.device_at store.old) (S.device_at store.new)) }
     ensures counts { S.fault_count store.old < 2 ^ 64
         → CountsStore result (S.fault_count store.old) (S.fault_count store.new) }
-    ensures store_faults { S.fault_count store.old < 2 ^ 64 → S.fault_count store.old ≤ S.fault_count store.new }
 {
     let base = match base_of(alloc, files, name) {
         Ok(base) => base,

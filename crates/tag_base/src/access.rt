@@ -158,7 +158,7 @@ fn tables_of<'t>(alloc: Global, items: &'t [Value]) -> Result<Option<Vec<&'t Tab
         let Some(table) = item.as_table() else {
             return Ok(None);
         };
-        tables.push(table).map_err(|_| WantOfMemory)?;
+        tables.push(table)?;
     }
     Ok(Some(tables))
 }

@@ -2,7 +2,7 @@
 ghost use Rattle.std.specs.Prelude.{◌≡◌, ◌≤◌, false, vec_len, All, Err, IfOk, None, option_map, length};
 ghost use Rattle.std.specs.Str.{is_utf8};
 ghost use Rattle.toml.specs.View.{table_view};
-ghost use Rattle.trend_num.specs.Ranges.{IsTuned};
+ghost use Rattle.trend_num.specs.Ranges.{TuningInRange};
 ghost use Rattle.tag_base.specs.Answers.{Answers, Reads, broken};
 ghost use Rattle.tag_base.specs.Bases.{tables_of, base_arrays, base_tables, BaseRead};
 ghost use Rattle.tag_base.specs.Groups.{IsSound};
@@ -77,7 +77,7 @@ pub fn read_base(alloc: Global, bytes: &[u8]) -> Result<Base, TextNo>
     // Bytes that are no text break the first rule, whatever memory there is.
     ensures no_text { is_utf8 bytes.now ≡ false → result ≡ Err (broken 1 0) }
     ensures sound { IfOk result (λ base. All (IsSound (length base.tags.items)) base.groups.items) }
-    ensures tuned { IfOk result (λ base. All (λ tag. IsTuned tag.tuning) base.tags.items) }
+    ensures tuned { IfOk result (λ base. All (λ tag. TuningInRange tag.tuning) base.tags.items) }
 {
     let document = document(alloc, bytes)?;
     let tables = base_tables(alloc, &document)?;

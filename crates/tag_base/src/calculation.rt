@@ -45,7 +45,7 @@ fn calc_text(
     if is_taken(earlier, &name) {
         return Ok(None);
     }
-    let formula = String::from_str(alloc, formula).map_err(|_| WantOfMemory)?;
+    let formula = String::from_str(alloc, formula)?;
     Ok(Some(CalcText { name, formula }))
 }
 
@@ -73,7 +73,7 @@ fn calcs_of(alloc: Global, tables: &[&Table]) -> Result<Option<Vec<CalcText>>, W
         let Some(calc) = calc_text(alloc, &calcs, table)? else {
             return Ok(None);
         };
-        calcs.push(calc).map_err(|_| WantOfMemory)?;
+        calcs.push(calc)?;
     }
     Ok(Some(calcs))
 }
@@ -107,8 +107,7 @@ fn defs_of(alloc: Global, place: u32, texts: &[CalcText]) -> Result<Vec<CalcDef>
             Err(why) => return Err(refusal(place, why)),
         };
         let name = text.name;
-        defs.push(CalcDef { name, expr })
-            .map_err(|_| TextNo::WantOfMemory)?;
+        defs.push(CalcDef { name, expr })?;
     }
     Ok(defs)
 }
@@ -144,10 +143,7 @@ pub(crate) fn checked(
     ensures names { IfOk result (λ checked. checked.inputs ≡ inputs.now) }
     ensures as_many { IfOk result (λ checked. length checked.calcs ≡ length texts.now) }
 {
-    let defs = match defs_of(alloc, place, texts) {
-        Ok(defs) => defs,
-        Err(why) => return Err(why),
-    };
+    let defs = defs_of(alloc, place, texts)?;
     match check(alloc, inputs, defs) {
         Ok(checked) => Ok(checked),
         Err(CheckNo::WantOfMemory) => Err(TextNo::WantOfMemory),

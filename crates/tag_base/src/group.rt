@@ -92,11 +92,7 @@ fn group_text(
 fn places_of(alloc: Global, inputs: &[Input]) -> Result<Vec<u32>, WantOfMemory>
     ensures { IfOk result (λ places. places.items ≡ map (λ i. i.place) inputs.now) }
 {
-    inputs
-        .iter()
-        .map(|input| input.place)
-        .collect(alloc)
-        .map_err(|_| WantOfMemory)
+    Ok(inputs.iter().map(|input| input.place).collect(alloc)?)
 }
 
 /// The names of inputs.
@@ -105,7 +101,7 @@ fn names_of(alloc: Global, inputs: &[Input]) -> Result<Vec<Name>, WantOfMemory>
 {
     let mut names = Vec::new(alloc);
     for input in inputs {
-        names.push(input.name).map_err(|_| WantOfMemory)?;
+        names.push(input.name)?;
     }
     Ok(names)
 }
@@ -152,12 +148,9 @@ pub(crate) fn groups_of(
 {
     let mut groups = Vec::new(alloc);
     for table in tables {
-        let group = match group_of(alloc, tags, &groups, table) {
-            Ok(group) => group,
+        match group_of(alloc, tags, &groups, table) {
+            Ok(group) => groups.push(group)?,
             Err(why) => return Err(why),
-        };
-        if groups.push(group).is_err() {
-            return Err(TextNo::WantOfMemory);
         }
     }
     Ok(groups)

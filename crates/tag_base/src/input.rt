@@ -77,7 +77,7 @@ fn inputs_of(
         let Some(input) = named_input(tags, &inputs, name) else {
             return Ok(None);
         };
-        inputs.push(input).map_err(|_| WantOfMemory)?;
+        inputs.push(input)?;
     }
     Ok(Some(inputs))
 }

@@ -87,7 +87,7 @@ fn file_of(alloc: Global, table: &Table) -> Result<Option<FileName>, WantOfMemor
     if text.is_empty() || text.len() > MAX_NAME {
         return Ok(None);
     }
-    let text = String::from_str(alloc, text).map_err(|_| WantOfMemory)?;
+    let text = String::from_str(alloc, text)?;
     Ok(Some(FileName::new(text)))
 }
 
@@ -102,7 +102,7 @@ fn files_of(alloc: Global, rule: u8, tables: &[&Table]) -> Result<Vec<FileName>,
         let Some(file) = file_of(alloc, table)? else {
             return Err(broken(rule, files.len()));
         };
-        files.push(file).map_err(|_| TextNo::WantOfMemory)?;
+        files.push(file)?;
     }
     Ok(files)
 }
@@ -164,9 +164,7 @@ fn refreshers_of(
         let Some(refresher) = refresher_of(groups, &refreshers, table) else {
             return Err(broken(5, refreshers.len()));
         };
-        refreshers
-            .push(refresher)
-            .map_err(|_| TextNo::WantOfMemory)?;
+        refreshers.push(refresher)?;
     }
     Ok(refreshers)
 }

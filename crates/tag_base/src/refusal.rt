@@ -2,6 +2,7 @@
 ghost use Rattle.std.specs.Prelude.{◌≡◌, ◌≤◌, Ok, OnOk};
 ghost use Rattle.tag_base.specs.Answers.{broken, limited};
 
+use std::alloc::AllocFailed;
 use thiserror::Error;
 use trend_num::{WantOfMemory, What};
 
@@ -28,6 +29,17 @@ impl From<WantOfMemory> for TextNo {
     ghost from_gives = { λ _ why. why ≡ WantOfMemory };
 
     fn from(_: WantOfMemory) -> TextNo {
+        TextNo::WantOfMemory
+    }
+}
+
+impl<T: Drop> From<AllocFailed<T>> for TextNo {
+    ghost use Rattle.std.specs.Prelude.{◌≡◌};
+    ghost use Rattle.tag_base.specs.declared.refusal.TextNo.TheVariants.{WantOfMemory};
+
+    ghost from_gives = { λ _ why. why ≡ WantOfMemory };
+
+    fn from(_: AllocFailed<T>) -> TextNo {
         TextNo::WantOfMemory
     }
 }

@@ -2,7 +2,7 @@
 ghost use Rattle.std.specs.Prelude.{◌≡◌, ◌<◌, [], map, length, vec_len, All, IfOk, IfSome, option_map};
 ghost use Rattle.toml.specs.Data.{get_member};
 ghost use Rattle.toml.specs.View.{view, table_view};
-ghost use Rattle.trend_num.specs.Ranges.{IsTuned};
+ghost use Rattle.trend_num.specs.Ranges.{TuningInRange};
 ghost use Rattle.tag_base.specs.Answers.{Answers};
 ghost use Rattle.tag_base.specs.Tags.{is_text_if_there, has_tag_form, tuning_at, step_of, tag_place, new_tag_name, tag_of, tags_after};
 
@@ -39,7 +39,7 @@ fn has_tag_form(table: &Table) -> bool
 /// The tuning of a table, where its five numbers are whole numbers in their ranges.
 fn tuning_at(table: &Table) -> Option<Tuning>
     ensures tuning { result ≡ tuning_at (table_view table.now) }
-    ensures tuned { IfSome result IsTuned }
+    ensures tuned { IfSome result TuningInRange }
 {
     Some(Tuning {
         exc_dev: number_at(table, "exc_dev", 0, MAX_DEV)?,
@@ -82,7 +82,7 @@ fn new_tag_name(earlier: &[TagDef], table: &Table) -> Option<Name>
 /// The tag of a table after some tags, or the first rule that it breaks.
 fn tag_of(earlier: &[TagDef], table: &Table) -> Result<TagDef, TextNo>
     ensures tag { result ≡ tag_of earlier.now (table_view table.now) }
-    ensures tuned { IfOk result (λ tag. IsTuned tag.tuning) }
+    ensures tuned { IfOk result (λ tag. TuningInRange tag.tuning) }
 {
     if !has_tag_form(table) {
         return Err(broken(3, earlier.len()));
@@ -104,14 +104,12 @@ pub(crate) fn tags_of(alloc: Global, tables: &[&Table]) -> Result<Vec<TagDef>, T
     ensures tags { Answers (λ tags. tags.items) result
         (tags_after [] (map (λ t. table_view t.now) tables.now)) }
     ensures as_many { IfOk result (λ tags. vec_len tags ≡ length tables.now) }
-    ensures tuned { IfOk result (λ tags. All (λ tag. IsTuned tag.tuning) tags.items) }
+    ensures tuned { IfOk result (λ tags. All (λ tag. TuningInRange tag.tuning) tags.items) }
 {
     let mut tags = Vec::new(alloc);
     for table in tables {
-        match tag_of(&tags, table) {
-            Ok(tag) => tags.push(tag).map_err(|_| TextNo::WantOfMemory)?,
-            Err(why) => return Err(why),
-        }
+        let tag = tag_of(&tags, table)?;
+        tags.push(tag)?;
     }
     Ok(tags)
 }

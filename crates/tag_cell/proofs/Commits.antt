@@ -244,7 +244,7 @@ commit_kept def o tape tape' rest next n m acked' failed failed' old new ticks f
 -- what a crash leaves is safe then
 pub commit_safe : (def : TagDef) (o : TagOpening) (tape tape' : List Entry) (trace : Option Trace) (next n m acked' : ℕ)
     → IsSafe def o tape (LeftSince trace) → tape' ≡ tape ++ Commit m acked' ∷ [] → next + n ≤ length tape
-    → acked' ≡ o.summary.taken + length (taken (take (next + n) tape')) → IfSome trace (λ t. length t.events ≡ m)
+    → acked' ≡ o.summary.taken + length (taken (take (next + n) tape')) → IfSome trace (λ t. length t.calls ≡ m)
     → (IsCountable o tape' → AllRecover def trace (acked_state def o tape' (next + n)))
     → IsSafe def o tape' (LeftSince trace)
 commit_safe def o tape tape' trace next n m acked' safe longer within are counted recovers =

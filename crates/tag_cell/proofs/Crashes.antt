@@ -108,7 +108,7 @@ le_when m t is = grind (arith, nat_tests)
 pub safe_commit : (def : TagDef) (o : TagOpening) (tape tape' : List Entry) (trace : Option Trace) (m acked count : ℕ)
     → IsSafe def o tape (LeftSince trace) → tape' ≡ tape ++ Commit m acked ∷ []
     → acked ≡ o.summary.taken + count → count ≤ length (taken tape)
-    → IfSome trace (λ t. length t.events ≡ m)
+    → IfSome trace (λ t. length t.calls ≡ m)
     → (IsCountable o tape → AllRecover def trace (state_after def.step o (take count (taken tape))))
     → IsSafe def o tape' (LeftSince trace)
 safe_commit def o tape tape' trace m acked count safe longer are within counted recovers =

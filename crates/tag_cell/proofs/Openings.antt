@@ -75,7 +75,7 @@ open_kept def o tape failed trace ticks faults none fine recovers moment same =
     })
 
 pub open_safe : (def : TagDef) (o : TagOpening) (tape : List Entry) (trace : Option Trace) (ticks : ℕ) → tape ≡ []
-    → IfSome trace (λ t. length t.events ≡ ticks) → o.moment ≡ ticks
+    → IfSome trace (λ t. length t.calls ≡ ticks) → o.moment ≡ ticks
     → (o.summary.taken < 10 ^ 18 → AllRecover def trace (opened o)) → IsSafe def o tape (LeftSince trace)
 open_safe def o tape trace ticks none counted moment recovers = subst (λ (l : List Entry). IsSafe def o l (LeftSince trace)) (sym none) (record {
   images = λ few t c since left. record {

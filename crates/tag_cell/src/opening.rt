@@ -1,7 +1,7 @@
 // A cell is opened.
 ghost use Rattle.std.specs.Prelude.{◌≡◌, ◌⊎◌, ◌*◌, ◌^◌, ◌<◌, ◌≤◌, [], IfOk, IfErr, Some, true, false, length};
 ghost use Rattle.std.specs.Arc.{arc_value};
-ghost use Rattle.trend_num.specs.Ranges.{IsTuned};
+ghost use Rattle.trend_num.specs.Ranges.{TuningInRange};
 ghost use Rattle.trend_model.specs.State.{State};
 ghost use Rattle.trend_model.specs.Contents.{listed};
 ghost use Rattle.device_layout.specs.declared.failure.OpenNo.TheVariants.{WantOfMemory as NoMemory};
@@ -38,7 +38,7 @@ pub fn open_cell<D: Disk, R: Wait>(
 ) -> Result<Cell<D>, OpenFail<D>>
     requires some { 1 ≤ lane_slots }
     requires few { lane_slots ≤ 65536 }
-    requires tuned { IsTuned def.now.tuning }
+    requires tuned { TuningInRange def.now.tuning }
     requires here { PostsTo (arc_value board) poster }
     requires unposted { poster.last ≡ nothing }
     ensures any_moment { IfOk result (λ c. StaysSame def.now (D.trace dev) (D.trace c.journal.dev)) }

@@ -5,7 +5,7 @@ use Rattle.trend_num.specs.declared.point.Point.{Point}
 use Rattle.trend_num.specs.Limits.{most_records}
 use Rattle.trend_num.specs.declared.sending.Sending.{Sending}
 use Rattle.trend_num.specs.declared.tuning.Tuning.{Tuning}
-use Rattle.trend_num.specs.Ranges.{InRange, IsTuned}
+use Rattle.trend_num.specs.Ranges.{InRange, TuningInRange}
 use Rattle.trend_model.specs.History.{Event, Origin, Raw, Tune, Tuned, Sent}
 use Rattle.trend_model.specs.State.{State, Stands, pushed_out, gained, offered, turned, archive_on, archived, state_with, after_under, after}
 use Rattle.trend_model.specs.Orders.{AllPoints, tuned_by}
@@ -97,7 +97,7 @@ pub turned_state : (old new : Compressed) (taken then : ℕ) (last waiting last_
 turned_state old new taken then last waiting last_then waiting_then e t = rw (t.compressed, t.last_is, t.pending_is, t.counted) refl
 
 -- one more event keeps what is true of each core
-core_on : (u : Tuning) (step : Bool) (s : State) (e : Event) → IsCore u step s → AllPoints InRange (e ∷ []) → IsTuned (tuned_by u e)
+core_on : (u : Tuning) (step : Bool) (s : State) (e : Event) → IsCore u step s → AllPoints InRange (e ∷ []) → TuningInRange (tuned_by u e)
     → length s.records + 2 ≤ most_records → IsCore (tuned_by u e) step (after step s e)
 core_on u step s e core here tuned room = record {
   tuned = subst (λ t. (after_under step s e t).summary.tuning ≡ Some (tuned_by u e)) (sym core.tuned) (ap Some (tuning_is u step s e));
@@ -109,7 +109,7 @@ core_on u step s e core here tuned room = record {
 -- so it does of the parts
 pub core_turned : (old new : Compressed) (taken then : ℕ) (last waiting last_then waiting_then : Option Point) (e : Event)
     → Turns old new taken then last waiting last_then waiting_then e → IsCore old.tuning old.step (state_of old taken last waiting)
-    → AllPoints InRange (e ∷ []) → IsTuned (tuned_by old.tuning e) → length old.records + 2 ≤ most_records
+    → AllPoints InRange (e ∷ []) → TuningInRange (tuned_by old.tuning e) → length old.records + 2 ≤ most_records
     → IsCore new.tuning new.step (state_of new then last_then waiting_then)
 core_turned old new taken then last waiting last_then waiting_then e t core here tuned room =
     let s = state_of old taken last waiting in

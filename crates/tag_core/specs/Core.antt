@@ -3,7 +3,7 @@ use Rattle.std.specs.Prelude.{◌≡◌, ℕ, ◌+◌, ◌≤◌, pos, Bool, tru
 use Rattle.trend_num.specs.Limits.{most_records}
 use Rattle.trend_num.specs.declared.point.Point.{Point}
 use Rattle.trend_num.specs.declared.tuning.Tuning.{Tuning}
-use Rattle.trend_num.specs.Ranges.{InRange, IsTuned}
+use Rattle.trend_num.specs.Ranges.{InRange, TuningInRange}
 use Rattle.trend_model.specs.History.{Event, Sent, InOrder, Late, Tuned}
 use Rattle.trend_model.specs.Walk.{is_short}
 use Rattle.trend_model.specs.Doors.{is_admitted, is_not_steeper}
@@ -19,7 +19,7 @@ pub record Core : Type 0 where
 -- what is true of the state of each core of this kind, u being its tuning
 pub record IsCore (u : Tuning) (step : Bool) (s : State) : Type 0 where
   pub tuned : s.summary.tuning ≡ Some u
-  pub tuned_ok : IsTuned u
+  pub tuned_ok : TuningInRange u
   pub ruled : IsRuled InRange u step s.records s.summary
   pub few : length s.records ≤ most_records
 

@@ -1,7 +1,7 @@
 // The records, the hinge and the doors of a tag.
 ghost use Rattle.std.specs.Prelude.{◌≡◌, ◌+◌, ◌^◌, ◌<◌, ◌≤◌, [], ◌∷◌, ◌++◌, IfOk, None, Some, vec_capacity};
 ghost use Rattle.std.specs.Option.{option_or};
-ghost use Rattle.trend_num.specs.Ranges.{InRange, IsTuned};
+ghost use Rattle.trend_num.specs.Ranges.{InRange, TuningInRange};
 ghost use Rattle.trend_model.specs.History.{InOrder, Tuned};
 ghost use Rattle.trend_model.specs.Lists.{IfThere};
 ghost use Rattle.trend_model.specs.State.{gained, line_after, pushed_out, stair_after};
@@ -32,7 +32,7 @@ pub(crate) struct Compressor {
 
 impl Model for Compressor {
     ghost use Rattle.std.specs.Prelude.{◌<◌, ◌^◌, vec_capacity};
-    ghost use Rattle.trend_num.specs.Ranges.{IsTuned};
+    ghost use Rattle.trend_num.specs.Ranges.{TuningInRange};
     ghost use Rattle.tag_core.specs.Compressed.{Compressed, HangAt, lower_of, upper_of};
 
     ghost Value = { Compressed };
@@ -47,7 +47,7 @@ impl Model for Compressor {
       places = vec_capacity c.recs;
     } };
 
-    ghost invariant = { λ c. IsTuned c.tuning × HangAt c.tuning.comp_dev c.hinge c.doors × (vec_capacity c.recs < 2 ^ 32) };
+    ghost invariant = { λ c. TuningInRange c.tuning × HangAt c.tuning.comp_dev c.hinge c.doors × (vec_capacity c.recs < 2 ^ 32) };
 }
 
 impl Compressor {
@@ -58,7 +58,7 @@ impl Compressor {
         step: bool,
         places: u32,
     ) -> Result<Compressor, AllocError>
-        requires { IsTuned tuning }
+        requires { TuningInRange tuning }
         ensures { IfOk result (λ c. c ≡ record {
           tuning = tuning;
           step = step;
@@ -87,7 +87,7 @@ impl Compressor {
         hinge: Option<Point>,
         doors: Option<Doors>,
     ) -> Compressor
-        requires tuned { IsTuned tuning }
+        requires tuned { TuningInRange tuning }
         requires hang { HangAt tuning.comp_dev hinge doors }
         requires places { vec_capacity recs < 2 ^ 32 }
         ensures { result ≡ record {
@@ -120,7 +120,7 @@ impl Compressor {
     #[inline]
     pub(crate) fn tuning(&self) -> &Tuning
         ensures value { result.now ≡ self.now.tuning }
-        ensures tuned { IsTuned result.now }
+        ensures tuned { TuningInRange result.now }
     {
         &self.tuning
     }
@@ -203,7 +203,7 @@ impl Compressor {
     )
         requires placed { ArePlaced self.old.hinge held }
         requires waiting { IfThere (IsNext held) waiting }
-        requires tuned { IsTuned tuning }
+        requires tuned { TuningInRange tuning }
         requires room { 2 ≤ spare_of self.old }
         ensures after { self.new ≡ compressed_after self.old held (Tuned tuning ∷ pushed_out waiting) }
         ensures adds { AddsTwo self.old self.new }
@@ -217,7 +217,7 @@ impl Compressor {
     /// Keeps the held point, where values are since the hinge, and goes on by this tuning.
     fn end_span(&mut self, held: Option<Point>, tuning: Tuning)
         requires placed { ArePlaced self.old.hinge held }
-        requires tuned { IsTuned tuning }
+        requires tuned { TuningInRange tuning }
         requires room { 0 < spare_of self.old }
         ensures { self.new ≡ compressed_after self.old held (Tuned tuning ∷ []) }
     {

@@ -4,7 +4,7 @@ ghost use Rattle.trend_model.specs.Content.{is_late_record};
 ghost use Rattle.trend_model.specs.Doors.{IsNotSteeper, down};
 ghost use Rattle.trend_num.specs.declared.archive.Rec.{Rec};
 ghost use Rattle.trend_num.specs.declared.tuning.Tuning.{Tuning};
-ghost use Rattle.trend_num.specs.Ranges.{InRange, IsTuned, largest_value};
+ghost use Rattle.trend_num.specs.Ranges.{InRange, TuningInRange, largest_value};
 ghost use Rattle.trend_model.specs.Lists.{Each, IfThere};
 ghost use Rattle.trend_model.specs.Parts.{AreDoorsAt, ArePartsOk, BeginsKept, DoorsFit, IsBegun, IsBegunOrBlank, IsBlank, IsLateBefore, PendingFits, PointsRise, kept_points, last_point};
 ghost use Rattle.trend_num.specs.declared.point.Point.{Point};
@@ -17,7 +17,7 @@ use trend_num::{Kind, MAX_RECORDS, Point, Rec, Steps, Summary, Tuning, in_range}
 
 /// Whether these records and this summary can be those of a tag of this tuning and this kind. It takes no memory.
 pub fn parts_ok(tuning: &Tuning, step: bool, recs: &[Rec], summary: &Summary) -> bool
-    requires { IsTuned tuning.now }
+    requires { TuningInRange tuning.now }
     ensures { IsTrue result ↔ ArePartsOk tuning.now step recs.now summary.now }
 {
     counts_ok(recs, summary)

@@ -1,6 +1,6 @@
 // Whether a value goes on in the span since the hinge.
 ghost use Rattle.std.specs.Prelude.{◌≡◌, ◌+◌, ◌<◌, ◌&&◌, ◌||◌, cond, pos};
-ghost use Rattle.trend_num.specs.Ranges.{InRange, IsTuned};
+ghost use Rattle.trend_num.specs.Ranges.{InRange, TuningInRange};
 ghost use Rattle.trend_model.specs.Doors.{is_not_steeper};
 ghost use Rattle.trend_model.specs.State.{joins};
 ghost use Rattle.trend_model.specs.Walk.{is_early, is_near, is_short};
@@ -17,7 +17,7 @@ pub(crate) fn joins<L: Ledger>(
     p: Point,
     steps: &mut Steps<L>,
 ) -> bool
-    requires tuned { IsTuned tuning.now }
+    requires tuned { TuningInRange tuning.now }
     requires deviation { doors.now.deviation ≡ tuning.now.comp_dev }
     requires range { InRange p }
     requires after { doors.now.hinge.t < p.t }
@@ -32,7 +32,7 @@ pub(crate) fn joins<L: Ledger>(
 /// near in time to be kept.
 #[inline]
 pub(crate) fn stays(tuning: &Tuning, hinge: Point, p: Point) -> bool
-    requires tuned { IsTuned tuning.now }
+    requires tuned { TuningInRange tuning.now }
     requires hinge { InRange hinge }
     ensures { result ≡ (is_short tuning.now hinge p && (is_near tuning.now hinge p || is_early tuning.now hinge p)) }
 {
@@ -42,7 +42,7 @@ pub(crate) fn stays(tuning: &Tuning, hinge: Point, p: Point) -> bool
 /// Whether p is not too long after the hinge.
 #[inline]
 pub(crate) fn is_short(tuning: &Tuning, hinge: Point, p: Point) -> bool
-    requires tuned { IsTuned tuning.now }
+    requires tuned { TuningInRange tuning.now }
     requires hinge { InRange hinge }
     ensures { result ≡ is_short tuning.now hinge p }
 {
@@ -52,7 +52,7 @@ pub(crate) fn is_short(tuning: &Tuning, hinge: Point, p: Point) -> bool
 /// Whether p is too near in time to the hinge to be kept.
 #[inline]
 pub(crate) fn is_early(tuning: &Tuning, hinge: Point, p: Point) -> bool
-    requires tuned { IsTuned tuning.now }
+    requires tuned { TuningInRange tuning.now }
     requires hinge { InRange hinge }
     ensures { result ≡ is_early tuning.now hinge p }
 {

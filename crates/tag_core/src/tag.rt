@@ -3,7 +3,7 @@ ghost use Rattle.std.specs.Prelude.{◌≡◌, ◌↔◌, ◌+◌, ◌-◌, ◌*
 ghost use Rattle.trend_num.specs.declared.archive.Rec.{Rec};
 ghost use Rattle.trend_num.specs.declared.point.Point.{Point};
 ghost use Rattle.trend_num.specs.declared.tuning.Tuning.{Tuning};
-ghost use Rattle.trend_num.specs.Ranges.{InRange, IsTuned};
+ghost use Rattle.trend_num.specs.Ranges.{InRange, TuningInRange};
 ghost use Rattle.trend_num.specs.Limits.{most_records};
 ghost use Rattle.trend_model.specs.History.{Event, Origin, Raw, Tune};
 ghost use Rattle.trend_model.specs.Contents.{IsNotBefore, listed};
@@ -69,14 +69,14 @@ impl TagCore {
         step: bool,
         room: u32,
     ) -> Result<TagCore, WantOfMemory>
-        requires { IsTuned tuning }
+        requires { TuningInRange tuning }
         ensures state { IfOk result (λ core. core.state ≡ nothing_taken tuning) }
         ensures step { IfOk result (λ core. core.step ≡ step) }
         ensures spare { IfOk result (λ core. core.spare ≡ 2 * room) }
         ensures stands { IfOk result (λ core. Stands (record { tuning = tuning; step = step }) [] core.state) }
     {
         let places = room.checked_mul(2).ok_or(WantOfMemory)?;
-        let compressor = Compressor::new(alloc, tuning, step, places).map_err(|_| WantOfMemory)?;
+        let compressor = Compressor::new(alloc, tuning, step, places)?;
         Ok(TagCore {
             compressor,
             gate: Gate::new(),
@@ -95,7 +95,7 @@ impl TagCore {
         summary: &Summary,
         room: u32,
     ) -> Result<TagCore, WantOfMemory>
-        requires tuned { IsTuned tuning }
+        requires tuned { TuningInRange tuning }
         requires parts { ArePartsOk tuning step recs.now summary.now }
         ensures records { IfOk result (λ core. core.state.records ≡ recs.now) }
         ensures summary { IfOk result (λ core. core.state.summary ≡ record summary.now { tuning = Some tuning }) }
@@ -115,15 +115,14 @@ impl TagCore {
         summary: &Summary,
         room: u32,
     ) -> Result<TagCore, WantOfMemory>
-        requires tuned { IsTuned tuning }
+        requires tuned { TuningInRange tuning }
         requires parts { ArePartsOk tuning step recs.items summary.now }
         ensures records { IfOk result (λ core. core.state.records ≡ recs.items) }
         ensures summary { IfOk result (λ core. core.state.summary ≡ record summary.now { tuning = Some tuning }) }
         ensures step { IfOk result (λ core. core.step ≡ step) }
         ensures room { IfOk result (λ core. 2 * room ≤ core.spare) }
     {
-        recs.reserve_exact(2 * room as usize)
-            .map_err(|_| WantOfMemory)?;
+        recs.reserve_exact(2 * room as usize)?;
         Self::resumed(tuning, step, recs, summary)
     }
 
@@ -135,7 +134,7 @@ impl TagCore {
         recs: Vec<Rec>,
         summary: &Summary,
     ) -> Result<TagCore, WantOfMemory>
-        requires tuned { IsTuned tuning }
+        requires tuned { TuningInRange tuning }
         requires parts { ArePartsOk tuning step recs.items summary.now }
         ensures records { IfOk result (λ core. core.state.records ≡ recs.items) }
         ensures summary { IfOk result (λ core. core.state.summary ≡ record summary.now { tuning = Some tuning }) }
@@ -201,7 +200,7 @@ impl TagCore {
     /// Takes a new tuning: a value that waits is sent under the old one, the held point is kept, and then the new one is
     /// in force. It takes no memory.
     pub fn retune<L: Ledger>(&mut self, tuning: Tuning, steps: &mut Steps<L>) -> Result<Took, Full>
-        requires tuned { IsTuned tuning }
+        requires tuned { TuningInRange tuning }
         requires room { 2 ≤ self.old.spare }
         requires countable { self.old.state.summary.taken < 2 ^ 64 - 1 }
 
@@ -330,7 +329,7 @@ impl TagCore {
     /// The tuning in force.
     pub fn tuning(&self) -> Tuning
         ensures value { self.now.state.summary.tuning ≡ Some result }
-        ensures tuned { IsTuned result }
+        ensures tuned { TuningInRange result }
     {
         *self.compressor.tuning()
     }
@@ -369,7 +368,7 @@ fn copied(alloc: Global, recs: &[Rec], places: usize) -> Result<Vec<Rec>, WantOf
     ensures records { IfOk result (λ v. v.items ≡ recs.now) }
     ensures places { IfOk result (λ v. vec_capacity v ≡ places) }
 {
-    let mut copied = Vec::with_capacity(alloc, places).map_err(|_| WantOfMemory)?;
+    let mut copied = Vec::with_capacity(alloc, places)?;
     for rec in recs {
         copied.push_reserved(*rec);
     }
@@ -378,7 +377,7 @@ fn copied(alloc: Global, recs: &[Rec], places: usize) -> Result<Vec<Rec>, WantOf
 
 /// The doors of a summary, where it has them.
 fn doors_of(tuning: &Tuning, step: bool, recs: &[Rec], summary: &Summary) -> Option<Doors>
-    requires tuned { IsTuned tuning.now }
+    requires tuned { TuningInRange tuning.now }
     requires parts { ArePartsOk tuning.now step recs.now summary.now }
     ensures upper { upper_of result ≡ summary.now.upper }
     ensures lower { lower_of result ≡ summary.now.lower }

@@ -1,4 +1,3 @@
 pub mod Devices
-pub mod NameText
 pub mod Turns
 pub mod Endings

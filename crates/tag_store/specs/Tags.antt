@@ -9,7 +9,7 @@ use Rattle.disk_model.specs.Traces.{Trace}
 use Rattle.device_layout.specs.Recovery.{Recovers}
 use Rattle.disk_model.specs.Calls.{Shows}
 use Rattle.crash_recovery.specs.Opening.{IsOpenedAs, StaysSame, RecoversThen, MakesLayout, GainsSync}
-use Rattle.crash_recovery.specs.Standing.{ImageStands, StandsOpened}
+use Rattle.crash_recovery.specs.TagImages.{ImageStands, StandsOpened}
 
 -- what a tag's device is called
 abbrev pub device_name : List ℕ → List ℕ

@@ -1,6 +1,6 @@
 // The device of one tag.
 ghost use Rattle.std.specs.Prelude.{◌≡◌, ◌≢◌, ◌^◌, ◌<◌, ℕ, List, IfOk, IfErr, string_bytes};
-ghost use Rattle.trend_num.specs.Ranges.{IsTuned};
+ghost use Rattle.trend_num.specs.Ranges.{TuningInRange};
 ghost use Rattle.disk_model.specs.Calls.{CountsFault};
 ghost use Rattle.device_layout.specs.declared.failure.OpenNo.TheVariants.{DeviceFault};
 ghost use Rattle.device_layout.specs.Readings.{IsCause};
@@ -10,7 +10,6 @@ ghost use Rattle.tag_store.specs.Tags.{device_name, trace_of, IsOpened, IsLeft};
 use crash_recovery::{OpenFail, OpenNo, Opened, open_tag};
 use disk_model::{Disk, Store};
 use std::alloc::{AllocError, Global};
-use std::str;
 use tag_core::TagCore;
 use trend_num::{Name, TagDef};
 
@@ -23,7 +22,7 @@ pub(crate) fn open_device<S: Store>(
     store: &mut S,
     def: &TagDef,
 ) -> Result<TagCore, OpenNo>
-    requires tuned { IsTuned def.now.tuning }
+    requires tuned { TuningInRange def.now.tuning }
     ensures same { StaysSame def.now (trace_of (S.device_at store.old) def.now)
         (trace_of (S.device_at store.new) def.now) }
     ensures opened { IfOk result (IsOpened def.now (trace_of (S.device_at store.old) def.now)) }
@@ -50,24 +49,13 @@ pub(crate) fn open_device<S: Store>(
 fn device_name(alloc: Global, name: &Name) -> Result<String, AllocError>
     ensures { IfOk result (λ text. string_bytes text ≡ device_name name.now) }
 {
-    let name = name_text(name);
+    let name = name.text();
     format!(in alloc; "{name}.tag")
-}
-
-// The text of a name.
-#[tactic(auto, using(crate::proofs::NameText::name_is_text))]
-fn name_text(name: &Name) -> &str
-    ensures { result.now ≡ name.now }
-{
-    match str::from_utf8(name.bytes()) {
-        Ok(text) => text,
-        Err(_) => unreachable!(),
-    }
 }
 
 // The tag that a device holds, or why it is not opened; and the device.
 fn open_core<D: Disk>(alloc: Global, dev: D, def: &TagDef) -> (D, Result<TagCore, OpenNo>)
-    requires tuned { IsTuned def.now.tuning }
+    requires tuned { TuningInRange def.now.tuning }
     ensures same { StaysSame def.now (D.trace dev) (D.trace result.0) }
     ensures opened { IfOk result.1 (IsOpened def.now (D.trace dev)) }
     ensures left { IfOk result.1 (IsLeft def.now (D.trace dev) (D.trace result.0)) }

@@ -1,6 +1,6 @@
 // Opening the tags of a base.
 ghost use Rattle.std.specs.Prelude.{◌≡◌, ◌^◌, ◌<◌, ◌≤◌, length, All, IfOk, IfErr};
-ghost use Rattle.trend_num.specs.Ranges.{IsTuned};
+ghost use Rattle.trend_num.specs.Ranges.{TuningInRange};
 ghost use Rattle.tag_store.specs.Tags.{AreDistinct, AreOpened, AreLeft, AreOthersSame, AllStaySame, records_in};
 ghost use Rattle.trend_num.specs.Limits.{most_stored};
 ghost use Rattle.tag_store.specs.Refusals.{status_of, IsRefusal, CountsStore};
@@ -24,7 +24,7 @@ pub fn open_tags<S: Store>(
     store: &mut S,
     tags: &[TagDef],
 ) -> Result<Vec<TagCore>, Status>
-    requires tuned { All (λ def. IsTuned def.tuning) tags.now }
+    requires tuned { All (λ def. TuningInRange def.tuning) tags.now }
     requires few { length tags.now < 2 ^ 32 }
 
     // Where no two tags have one name: each core is what its tag's device recovers.

@@ -1,5 +1,4 @@
 // Lines of a report, as an independent program prints them.
-ghost use Rattle.trend_report.specs.Lines.{HasText};
 
 use std::alloc::Global;
 use std::process::Abort;
@@ -31,9 +30,7 @@ fn a_tag_is_told(rt: HostRuntime) -> Result<(), Fail> {
 }
 
 // A reply to the fifth query of the first reader is told so.
-fn tells(rt: &impl Abort, alloc: Global, reply: ReplyText, want: &str) -> Result<(), Fail>
-    requires { HasText reply }
-{
+fn tells(rt: &impl Abort, alloc: Global, reply: ReplyText, want: &str) -> Result<(), Fail> {
     let text = reply_text(alloc, 1, 5, &reply)?;
     assert_eq!(rt; text.as_str(), want);
     Ok(())

@@ -1,5 +1,5 @@
 -- What a tag answers.
-use Rattle.std.proofs.Common.{◌≡◌, ℕ, ◌<◌, Bool, List, [], Option, length, get_or, nat_lt, refl, ap, ap₂, arith}
+use Rattle.std.proofs.Common.{◌≡◌, ℕ, ◌<◌, Bool, List, [], length, get_or, nat_lt, refl, ap, ap₂, arith}
 use Rattle.std.specs.Prelude.{◌↔◌, IsTrue}
 use Rattle.std.specs.Option.{option_map_or}
 use Rattle.std.proofs.lemmas.Bool.Decides.{nat_tests}
@@ -10,12 +10,11 @@ use Rattle.trend_num.specs.declared.query.TagQuery.TheVariants as ask
 use Rattle.trend_model.specs.Reads.{points_from_to}
 use Rattle.interp_read.specs.declared.query.Reply.{Reply}
 use Rattle.interp_read.specs.declared.query.Reply.TheVariants.{At, Points, Window}
-use Rattle.interp_read.specs.Replies.{Answers, IsReadableReply}
+use Rattle.interp_read.specs.Replies.{Answers}
 use Rattle.value_rows.specs.declared.asked.Query.TheVariants.{Tag, Snap}
 use Rattle.tag_core.specs.Core.{Core}
-use Rattle.trend_report.specs.Lines.{HasText, answer_text, number_text, points_text, reading_text}
-use Rattle.trend_report.specs.declared.reply_line.ReplyText.TheVariants as reply_to
-use Rattle.trend_command.specs.Told.{answer_in, points_in, snapshot_in, told}
+use Rattle.trend_report.specs.Lines.{answer_text, number_text, points_text, reading_text}
+use Rattle.trend_command.specs.Replies.{answer_in, points_in, snapshot_in, told}
 
 -- an answer is printed as what a tag answers
 pub answer_told : (core : Core) (query : TagQuery) (reply : Reply) → Answers core.step (points_in core) query reply
@@ -34,12 +33,6 @@ answer_told core (ask.Points start end) (At r) is = absurd is
 answer_told core (ask.Points start end) (Window v) is = absurd is
 answer_told core (ask.Window m start end) (At r) is = absurd is
 answer_told core (ask.Window m start end) (Points l) is = absurd is
-
--- and has a text
-pub answer_texts : (reply : Reply) → IsReadableReply reply → HasText (reply_to.Tag reply)
-answer_texts (At r) is = is
-answer_texts (Points l) is = tt
-answer_texts (Window v) is = tt
 
 -- the tag at a place answers
 pub tag_told : (cores : List Core) (i : ℕ) (core : Core) (query : TagQuery) → i < length cores

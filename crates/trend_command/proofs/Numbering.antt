@@ -7,7 +7,7 @@ use Rattle.value_rows.specs.declared.asked.Query.{Query}
 use Rattle.tag_core.specs.Core.{Core}
 use Rattle.trend_report.specs.declared.reply_line.ReplyText.{ReplyText}
 use Rattle.trend_report.specs.Lines.{reply_text, told_text}
-use Rattle.trend_command.specs.Told.{replies_from, reply_line, told, told_from}
+use Rattle.trend_command.specs.Replies.{replies_from, reply_line, told, told_from}
 
 -- the reply to one query more
 replies_push : (cores : List Core) (reader row : ℕ) (qs : List Query) (q : Query)

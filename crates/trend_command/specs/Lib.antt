@@ -1,4 +1,4 @@
 -- what readers are told
-pub mod Told
+pub mod Replies
 -- what private functions alone cite
 pub mod Contents

@@ -2,10 +2,9 @@
 ghost use Rattle.std.specs.Prelude.{◌≡◌, IfOk, length};
 ghost use Rattle.trend_num.specs.Queries.{IsTagQuery};
 ghost use Rattle.trend_model.specs.Contents.{listed};
-ghost use Rattle.trend_report.specs.Lines.{HasText, answer_text, told_text};
-ghost use Rattle.trend_report.specs.declared.reply_line.ReplyText.TheVariants.{Tag};
+ghost use Rattle.trend_report.specs.Lines.{answer_text, told_text};
 ghost use Rattle.trend_command.specs.Contents.{AreContentsOf};
-ghost use Rattle.trend_command.specs.Told.{IsAsked, answer_in, told};
+ghost use Rattle.trend_command.specs.Replies.{IsAsked, answer_in, told};
 
 use interp_read::{Reply, TagQuery};
 use late_insert::Content;
@@ -25,8 +24,7 @@ pub(crate) fn reply_to(
 ) -> Result<ReplyText, WantOfMemory>
     requires contents { AreContentsOf cores.now contents.now }
     requires asked { IsAsked (length cores.now) query }
-    ensures has_text { IfOk result HasText }
-    ensures told { IfOk result (λ reply. told_text reply ≡ told cores.now query) }
+    ensures { IfOk result (λ reply. told_text reply ≡ told cores.now query) }
 {
     match query {
         Query::Tag { tag, query } => {
@@ -51,7 +49,7 @@ fn snapshot(core: &TagCore) -> Snap
 }
 
 /// What a tag answers to a question.
-#[tactic(auto, using(crate::proofs::Answering::answer_texts, crate::proofs::Answering::answer_told))]
+#[tactic(auto, using(crate::proofs::Answering::answer_told))]
 fn answer_of(
     alloc: Global,
     core: &TagCore,
@@ -60,8 +58,7 @@ fn answer_of(
 ) -> Result<Reply, WantOfMemory>
     requires content { content.now.records ≡ listed core.now.state.records }
     requires asked { IsTagQuery query }
-    ensures has_text { IfOk result (λ reply. HasText (Tag reply)) }
-    ensures told { IfOk result (λ reply. answer_text reply ≡ answer_in core.now query) }
+    ensures { IfOk result (λ reply. answer_text reply ≡ answer_in core.now query) }
 {
     answer(alloc, content, core.held(), core.step(), query)
 }

@@ -15,7 +15,7 @@ pub(crate) fn contents_of(alloc: Global, cores: &[TagCore]) -> Result<Vec<Conten
     let mut contents = Vec::new(alloc);
     for core in cores {
         let content = content_of(alloc, core)?;
-        contents.push(content).map_err(|_| WantOfMemory)?;
+        contents.push(content)?;
     }
     Ok(contents)
 }

@@ -1,7 +1,7 @@
 // All replies, in one text.
 ghost use Rattle.std.specs.Prelude.{◌≡◌, ◌++◌, ◌<◌, ◌^◌, All, IfOk, OnOk, length, map, string_bytes};
 ghost use Rattle.trend_command.specs.Contents.{AreContentsOf};
-ghost use Rattle.trend_command.specs.Told.{IsAsked, replies_from, trend_text};
+ghost use Rattle.trend_command.specs.Replies.{IsAsked, replies_from, trend_text};
 
 use crate::answer::reply_to;
 use crate::contents::contents_of;
@@ -66,5 +66,5 @@ fn put_replies(
 fn put_text(text: &mut String, more: &str) -> Result<(), WantOfMemory>
     ensures { OnOk result (string_bytes text.new ≡ string_bytes text.old ++ more.now) }
 {
-    text.push_str(more).map_err(|_| WantOfMemory)
+    Ok(text.push_str(more)?)
 }

@@ -20,7 +20,7 @@ use Rattle.trend_model.proofs.Near.{within_more, within_between}
 use Rattle.trend_model.proofs.Sent.{same_there, flushed, last_in_order_is}
 use Rattle.trend_model.proofs.Order.{same_in_order, not_above, last_is_sent, sent_in_flushed, sent_rises, flushed_rises}
 use Rattle.trend_model.proofs.Walks.{held_is_prior}
-use Rattle.trend_model.proofs.Made.{IsMade, force_is, made_at, made_at_flushed, sent_of_made}
+use Rattle.trend_model.proofs.SentTunings.{IsMade, force_is, made_at, made_at_flushed, sent_of_made}
 use Rattle.trend_model.proofs.Chain.{NoneKept, IsSpanNear, not_before, older}
 use Rattle.trend_model.proofs.WalkLaw.{IsWalk, walk_holds}
 use Rattle.trend_model.proofs.ContentLaw.{IsEnd, closed_there, closed_point, kept_was_sent, span_walked}

@@ -14,7 +14,7 @@ use Rattle.trend_model.specs.Orders.{RisesInTime}
 use Rattle.trend_model.specs.Bound.{IsNear}
 use Rattle.trend_model.proofs.Near.{within_left, within_right}
 use Rattle.trend_model.proofs.Order.{same_in_order, not_late, time_of, time_of_sent}
-use Rattle.trend_model.proofs.Made.{IsMade, made_more}
+use Rattle.trend_model.proofs.SentTunings.{IsMade, made_more}
 
 -- ---- members of lists
 

@@ -6,7 +6,7 @@ use Rattle.trend_model.specs.Lists.{IfThere}
 use Rattle.trend_model.specs.History.{Sent, InOrder, Late, Tuned}
 use Rattle.trend_model.specs.Walk.{kept, late, is_short, is_early, is_near}
 use Rattle.trend_model.specs.State.{Archive, keeps, holds, joins, line_after, stair_after, ends_at, archive_on, archived}
-use Rattle.trend_model.proofs.Made.{force_sent}
+use Rattle.trend_model.proofs.SentTunings.{force_sent}
 
 -- what is so of both ways on is so of the one that is taken
 pub cond_by : {A : Type 0} (P : A → Type 0) (b : Bool) (x y : A) → (b ≡ true → P x) → (b ≡ false → P y)

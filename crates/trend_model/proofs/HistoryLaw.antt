@@ -15,7 +15,7 @@ use Rattle.trend_model.specs.Orders.{AllPoints, tuned_by}
 use Rattle.trend_model.proofs.Doors.{under_of_within, over_of_within}
 use Rattle.trend_model.proofs.Sent.{flushed, tune_sends, comes_late, goes, waits, happens}
 use Rattle.trend_model.proofs.Order.{not_late, same_in_order, sent_in_flushed, sent_rises}
-use Rattle.trend_model.proofs.Made.{force_sent, force_is, sent_of_made}
+use Rattle.trend_model.proofs.SentTunings.{force_sent, force_is, sent_of_made}
 use Rattle.trend_model.proofs.Since.{IsFitted}
 use Rattle.trend_model.proofs.WalkLaw.{IsWalked, walk_holds}
 use Rattle.trend_model.proofs.RulesLaw.{after_ruled, after_more}

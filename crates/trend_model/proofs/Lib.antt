@@ -8,7 +8,7 @@ pub mod Offers
 pub mod Sent
 pub mod Order
 pub mod Walks
-pub mod Made
+pub mod SentTunings
 pub mod Chain
 pub mod Since
 pub mod WalkLaw

@@ -9,7 +9,7 @@ use Rattle.trend_model.specs.Orders.{RisesInTime}
 use Rattle.trend_model.specs.State.{pushed_out}
 use Rattle.trend_model.proofs.Sent.{same_there, not_both, not_far, flushed, tune_sends, comes_late, goes, waits, happens, last_in_order_is}
 use Rattle.trend_model.proofs.Order.{same_in_order, not_late, time_of_sent, not_above, last_is_sent, new_after, flushed_rises}
-use Rattle.trend_model.proofs.Made.{force_sent, force_is, IsMade, made_more, sent_of_made}
+use Rattle.trend_model.proofs.SentTunings.{force_sent, force_is, IsMade, made_more, sent_of_made}
 use Rattle.trend_model.proofs.Chain.{same_time, older, not_before}
 
 -- y lies strictly between two sent neighbours, and is near the first of them, as the second is, by the tuning under

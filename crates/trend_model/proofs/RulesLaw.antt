@@ -14,7 +14,7 @@ use Rattle.trend_model.specs.State.{Offer, Turn, turn_of, offered, offered_in_or
 use Rattle.trend_model.specs.Parts.{PendingFits, IsBegunOrBlank, IsRuled, ArePartsOk}
 use Rattle.trend_model.specs.Orders.{AllPoints, tuned_by}
 use Rattle.trend_model.proofs.Sent.{not_far}
-use Rattle.trend_model.proofs.Made.{force_sent}
+use Rattle.trend_model.proofs.SentTunings.{force_sent}
 use Rattle.trend_model.proofs.Following.{cond_by, held_after, Follows, held_archived, tuning_archived, Grows, grows_none, grows_archived}
 use Rattle.trend_model.proofs.Fine.{IsFine, fine_archived}
 

@@ -9,7 +9,7 @@ use Rattle.trend_model.specs.History.{Origin, Sent, InOrder, Late, Tuned}
 use Rattle.trend_model.specs.Orders.{RisesInTime}
 use Rattle.trend_model.specs.Bound.{IsNear}
 use Rattle.trend_model.proofs.Order.{same_in_order, not_late, time_of, time_of_sent, IsNew}
-use Rattle.trend_model.proofs.Made.{force_sent, IsMade, sent_of_made}
+use Rattle.trend_model.proofs.SentTunings.{force_sent, IsMade, sent_of_made}
 use Rattle.trend_model.proofs.Chain.{IsClear, IsSpan, IsSpanNear, same_time, near_left}
 
 -- the last of the values since the hinge, or the hinge

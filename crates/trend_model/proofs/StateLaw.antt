@@ -12,7 +12,7 @@ use Rattle.trend_model.specs.Orders.{RisesInTime}
 use Rattle.trend_model.proofs.Doors.{doors_decide, doors_hang, doors_swing}
 use Rattle.trend_model.proofs.Sent.{same_there, not_both}
 use Rattle.trend_model.proofs.Order.{sent_rises}
-use Rattle.trend_model.proofs.Made.{force_is}
+use Rattle.trend_model.proofs.SentTunings.{force_is}
 use Rattle.trend_model.proofs.Walks.{line_by, stair_by, held_is_prior}
 use Rattle.trend_model.proofs.Chain.{rest_rises}
 use Rattle.trend_model.proofs.WalkLaw.{IsWalked, walk_holds}

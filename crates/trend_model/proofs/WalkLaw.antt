@@ -14,7 +14,7 @@ use Rattle.trend_model.specs.Examples.{lines, stairs}
 use Rattle.trend_model.proofs.Doors.{pass_each, second_of_both, within_test}
 use Rattle.trend_model.proofs.Walks.{line_by, stair_by}
 use Rattle.trend_model.proofs.Order.{time_of, time_of_sent}
-use Rattle.trend_model.proofs.Made.{force_sent, sent_of_made}
+use Rattle.trend_model.proofs.SentTunings.{force_sent, sent_of_made}
 use Rattle.trend_model.proofs.Since.{IsFitted, IsSince, since_none, since_late, since_adds, sent_of_late, sent_of_tuned, last_span}
 use Rattle.trend_model.proofs.Chain.{IsChain, among_left, among_right, near_right, kept_of_late, chain_recorded, chain_more, chain_first, chain_keeps}
 

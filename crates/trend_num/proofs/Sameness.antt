@@ -1,5 +1,5 @@
 -- What a derived `==` says.
-use Rattle.std.proofs.Common.{◌≡◌, ℕ, ◌-◌, ℤ, Bool, true, ◌&&◌, List, ◌++◌, length, take, replicate, Option, None, Some, nat_eq, refl, sym, ap, ap₂, ◌∙◌, subst}
+use Rattle.std.proofs.Common.{◌≡◌, ℕ, ◌-◌, ℤ, Bool, ◌&&◌, List, ◌++◌, length, take, replicate, Option, None, Some, nat_eq, refl, sym, ap, ap₂, ◌∙◌}
 use Rattle.std.specs.Bool.{Decides}
 use Rattle.std.specs.Option.{option_eq}
 use Rattle.std.specs.Ordering.{int_eq}

@@ -16,8 +16,8 @@ pub record InRange (p : Point) : Type 0 where
   pub time : p.t ≤ last_time
   pub value : unsigned_abs p.v ≤ largest_value
 
--- a tuning of two deviations and three times
-pub record IsTuned (tuning : Tuning) : Type 0 where
+-- a tuning whose two deviations and three times are in range
+pub record TuningInRange (tuning : Tuning) : Type 0 where
   pub exc_dev : tuning.exc_dev ≤ largest_value
   pub exc_max : tuning.exc_max ≤ last_time
   pub comp_dev : tuning.comp_dev ≤ largest_value

@@ -4,6 +4,7 @@ ghost use Rattle.std.specs.List.{list_all};
 ghost use Rattle.trend_num.specs.Names.{IsName, is_name_byte};
 
 use std::marker::Model;
+use std::str;
 
 /// The most bytes of a name.
 const MAX_LEN: usize = 64;
@@ -45,6 +46,17 @@ impl Name {
         ensures name { IsName result.now }
     {
         &self.bytes[..usize::from(self.len)]
+    }
+
+    /// Its text.
+    #[tactic(auto, using(crate::proofs::NameText::name_is_text))]
+    pub fn text(&self) -> &str
+        ensures { result.now ≡ self.now }
+    {
+        match str::from_utf8(self.bytes()) {
+            Ok(text) => text,
+            Err(_) => unreachable!(),
+        }
     }
 }
 

@@ -1,5 +1,7 @@
 // Why a text, a row or a count is refused.
 
+use std::alloc::{AllocError, AllocFailed};
+
 /// A quantity that has a limit.
 #[derive(Clone, Copy, Debug, PartialEq, Eq)]
 pub enum What {
@@ -45,3 +47,23 @@ pub enum Reason {
 /// No memory was found.
 #[derive(Clone, Copy, Debug, PartialEq, Eq)]
 pub struct WantOfMemory;
+
+impl From<AllocError> for WantOfMemory {
+    ghost use Rattle.std.specs.Prelude.{◌≡◌};
+
+    ghost from_gives = { λ _ no. no ≡ record {} };
+
+    fn from(_: AllocError) -> WantOfMemory {
+        WantOfMemory
+    }
+}
+
+impl<T: Drop> From<AllocFailed<T>> for WantOfMemory {
+    ghost use Rattle.std.specs.Prelude.{◌≡◌};
+
+    ghost from_gives = { λ _ no. no ≡ record {} };
+
+    fn from(_: AllocFailed<T>) -> WantOfMemory {
+        WantOfMemory
+    }
+}

@@ -1,6 +1,6 @@
 // The tuning of a tag.
 ghost use Rattle.std.specs.Prelude.{◌↔◌, IsTrue};
-ghost use Rattle.trend_num.specs.Ranges.{IsTuned};
+ghost use Rattle.trend_num.specs.Ranges.{TuningInRange};
 
 use crate::point::{MAX_T, MAX_V};
 
@@ -27,7 +27,7 @@ pub const MAX_DEV: u64 = MAX_V as u64;
 
 /// Whether both deviations are at most 10^15 and the three times at most `MAX_T`.
 pub fn tuning_ok(t: &Tuning) -> bool
-    ensures { IsTrue result ↔ IsTuned t.now }
+    ensures { IsTrue result ↔ TuningInRange t.now }
 {
     t.exc_dev <= MAX_DEV
         && t.exc_max <= MAX_T

@@ -1,1 +1,1 @@
-pub mod NameText
+pub mod Rounding

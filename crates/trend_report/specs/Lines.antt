@@ -1,5 +1,5 @@
 -- The lines of a report, byte for byte.
-use Rattle.std.specs.Prelude.{List, ◌++◌, Bool, true, false, Option, None, Some, codes, ℕ, ℤ}
+use Rattle.std.specs.Prelude.{List, ◌++◌, Bool, true, false, Option, None, Some, codes, ℕ, ℤ, pos, ◌==◌, if◌then◌else◌}
 use Rattle.std.specs.Fmt.{decimal, signed_decimal}
 use Rattle.std.specs.List.{flat_map}
 use Rattle.trend_num.specs.declared.point.Point.{Point}
@@ -8,7 +8,6 @@ use Rattle.trend_num.specs.declared.reading.Reading.TheVariants.{Exact, Line, Fl
 use Rattle.trend_model.specs.Reads.{rounded}
 use Rattle.interp_read.specs.declared.query.Reply.{Reply}
 use Rattle.interp_read.specs.declared.query.Reply.TheVariants.{At, Points, Window}
-use Rattle.interp_read.specs.Readable.{IsReadable}
 use Rattle.trend_num.specs.declared.value.Bad.{Bad as Cause}
 use Rattle.trend_num.specs.declared.value.Bad.TheVariants.{NoData, DivZero, Range}
 use Rattle.trend_num.specs.declared.value.CalcValue.{CalcValue}
@@ -41,10 +40,14 @@ tag_text l = codes "tag " ++ l.name ++ counts_text l ++ held_text l.held ++ code
 
 -- ---- replies
 
+-- the whole number next to a fraction, the upper one where two are as near; that over 0, which no read gives, is 0
+abbrev pub whole_of : ℤ → ℕ → ℤ
+whole_of num den = if den == 0 then pos 0 else rounded num den
+
 -- what stands at a time; a fraction is rounded
 abbrev pub reading_text : Reading → List ℕ
 reading_text (Exact v) = codes "exact " ++ signed_decimal v
-reading_text (Line f) = codes "line " ++ signed_decimal (rounded f.num f.den)
+reading_text (Line f) = codes "line " ++ signed_decimal (whole_of f.num f.den)
 reading_text (Flat v) = codes "flat " ++ signed_decimal v
 reading_text Nothing = codes "none"
 
@@ -86,9 +89,3 @@ told_text (Row value) = value_text value
 abbrev pub reply_text : ℕ → ℕ → ReplyText → List ℕ
 reply_text reader row r = codes "reply " ++ decimal reader ++ codes " " ++ decimal row ++ codes " "
     ++ told_text r ++ codes "\n"
-
--- a reply that has a text: its fraction, if it has one, can be rounded, as that of each read of points in
--- range
-abbrev pub HasText : ReplyText → Type 0
-HasText (Tag (At reading)) = IsReadable reading
-HasText other = Unit {0}

@@ -5,7 +5,6 @@
 //! one where two are as near. The one error is want of memory.
 #![tactic(auto)]
 
-mod name_text;
 mod point_text;
 mod reply_line;
 mod tag_line;

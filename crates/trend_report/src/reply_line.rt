@@ -1,13 +1,11 @@
 // The line of a reply.
 ghost use Rattle.std.specs.Prelude.{◌≡◌, ◌++◌, IfOk, OnOk, string_bytes, true};
-ghost use Rattle.trend_model.specs.Reads.{rounded};
-ghost use Rattle.interp_read.specs.Readable.{IsReadable, IsRoundable};
-ghost use Rattle.trend_report.specs.Lines.{HasText, answer_text, cause_text, number_text, points_text, reading_text, reply_text, told_text, value_text};
+ghost use Rattle.trend_report.specs.Lines.{answer_text, cause_text, number_text, points_text, reading_text, reply_text, told_text, value_text, whole_of};
 
 use crate::point_text::{put_held, put_point};
 use interp_read::{PointList, Reading, Reply};
 use std::alloc::{AllocError, Global};
-use trend_num::{Bad, CalcValue, Frac, Point, Snap, WantOfMemory, round_half_up};
+use trend_num::{Bad, CalcValue, Frac, Point, Snap, WantOfMemory};
 
 /// The answer to a query.
 #[derive(Drop)]
@@ -27,15 +25,13 @@ pub fn reply_text(
     row: u64,
     reply: &ReplyText,
 ) -> Result<String, WantOfMemory>
-    requires { HasText reply.now }
     ensures { IfOk result (λ text. string_bytes text ≡ reply_text reader row reply.now) }
 {
-    reply_line(alloc, reader, row, reply).map_err(|_| WantOfMemory)
+    Ok(reply_line(alloc, reader, row, reply)?)
 }
 
 /// The same, with the allocator's own error.
 fn reply_line(alloc: Global, reader: u32, row: u64, reply: &ReplyText) -> Result<String, AllocError>
-    requires { HasText reply.now }
     ensures { IfOk result (λ text. string_bytes text ≡ reply_text reader row reply.now) }
 {
     let mut text = String::new(alloc);
@@ -47,7 +43,6 @@ fn reply_line(alloc: Global, reader: u32, row: u64, reply: &ReplyText) -> Result
 
 /// Adds what is told.
 fn put_told(text: &mut String, reply: &ReplyText) -> Result<(), AllocError>
-    requires { HasText reply.now }
     ensures { OnOk result (string_bytes text.new ≡ string_bytes text.old ++ told_text reply.now) }
 {
     match reply {
@@ -64,7 +59,6 @@ fn put_told(text: &mut String, reply: &ReplyText) -> Result<(), AllocError>
 
 /// Adds what stands at a time.
 fn put_reading(text: &mut String, reading: Reading) -> Result<(), AllocError>
-    requires { IsReadable reading }
     ensures { OnOk result (string_bytes text.new ≡ string_bytes text.old ++ reading_text reading) }
 {
     match reading {
@@ -78,12 +72,17 @@ fn put_reading(text: &mut String, reading: Reading) -> Result<(), AllocError>
     }
 }
 
-/// The whole number next to a fraction.
+/// The whole number next to a fraction, the upper one where two are as near; 0 where it is over 0.
 fn rounded(f: Frac) -> i128
-    requires { IsRoundable f }
-    ensures { result ≡ rounded f.num f.den }
+    ensures { result ≡ whole_of f.num f.den }
 {
-    round_half_up(f.num, f.den)
+    if f.den == 0 {
+        return 0;
+    }
+    let den = i128::from(f.den);
+    let whole = f.num.div_euclid(den);
+    let rest = f.num.rem_euclid(den);
+    if 2 * rest < den { whole } else { whole + 1 }
 }
 
 /// Adds points.

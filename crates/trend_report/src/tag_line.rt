@@ -2,7 +2,6 @@
 ghost use Rattle.std.specs.Prelude.{◌≡◌, ◌++◌, codes, IfOk, OnOk, string_bytes};
 ghost use Rattle.trend_report.specs.Lines.{counts_text, tag_text};
 
-use crate::name_text::name_text;
 use crate::point_text::put_held;
 use std::alloc::{AllocError, Global};
 use trend_num::{Name, Point, WantOfMemory};
@@ -26,7 +25,7 @@ pub struct TagLine {
 pub fn tag_text(alloc: Global, line: &TagLine) -> Result<String, WantOfMemory>
     ensures { IfOk result (λ text. string_bytes text ≡ tag_text line.now) }
 {
-    tag_line(alloc, line).map_err(|_| WantOfMemory)
+    Ok(tag_line(alloc, line)?)
 }
 
 /// The same, with the allocator's own error.
@@ -45,7 +44,7 @@ fn tag_line(alloc: Global, line: &TagLine) -> Result<String, AllocError>
 fn put_name(text: &mut String, line: &TagLine) -> Result<(), AllocError>
     ensures { OnOk result (string_bytes text.new ≡ string_bytes text.old ++ (codes "tag " ++ line.now.name)) }
 {
-    let name = name_text(&line.name);
+    let name = line.name.text();
     write!(text, "tag {name}")
 }
 

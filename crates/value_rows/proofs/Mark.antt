@@ -2,7 +2,7 @@
 use Rattle.std.proofs.Common.{◌≡◌, ℕ, ◌&&◌, true, false, cond, List, [], ◌∷◌, length, map, nat_le, refl, sym, ap, ◌∙◌, arith}
 use Rattle.std.proofs.lemmas.Bool.Decides.{nat_tests}
 use Rattle.csv.specs.Reading.{is_bom, strip_bom}
-use Rattle.value_rows.specs.Standing.{AreFirstRows, Reads, has_mark, reads_behind}
+use Rattle.value_rows.specs.RowReader.{AreFirstRows, Reads, has_mark, reads_behind}
 use Rattle.value_rows.specs.Reading.{records_of}
 
 -- a text without one is read as it is

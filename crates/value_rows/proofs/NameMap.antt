@@ -14,7 +14,7 @@ use Rattle.std.specs.Ordering.{nat_cmp}
 use Rattle.std.specs.Str.{bytes_eq}
 use Rattle.value_rows.specs.Raw.{place_of}
 use Rattle.trend_num.specs.Names.{IsName}
-use Rattle.value_rows.specs.Standing.{ArePlaces, IsHint}
+use Rattle.value_rows.specs.RowReader.{ArePlaces, IsHint}
 
 -- the place of the first that passes, where there is one element more
 position_from-push : {X : Type 0} (test : X → Bool) (i : ℕ) (xs : List X) (x : X)

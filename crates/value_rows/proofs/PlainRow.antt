@@ -22,7 +22,7 @@ use Rattle.trend_num.proofs.Numbers.{digit_at, digit_code}
 use Rattle.point_text.specs.FirstPoint.{IsFirstPoint}
 use Rattle.point_text.specs.Row.{point_read, point_of_fields, point_of_line}
 use Rattle.value_rows.specs.Raw.{place_of, raw_row}
-use Rattle.value_rows.specs.Standing.{IsFirstRow, records_left}
+use Rattle.value_rows.specs.RowReader.{IsFirstRow, records_left}
 use Rattle.value_rows.specs.declared.raw.RawRow.{RawRow}
 use Rattle.value_rows.proofs.Left.{first_left, same_next}
 

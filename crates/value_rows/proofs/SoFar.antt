@@ -7,7 +7,7 @@ use Rattle.trend_num.specs.declared.refusal.Reason.{Reason}
 use Rattle.point_text.specs.declared.failure.RowNo.TheVariants.{BadRow, TooMany}
 use Rattle.point_text.proofs.RowList.{all_read, rows_from-all, rows_from-bad, rows_from-more}
 use Rattle.value_rows.specs.Reading.{records_of, rows_read}
-use Rattle.value_rows.specs.Standing.{HasLeft, IsNext, Reads, reads_behind}
+use Rattle.value_rows.specs.RowReader.{HasLeft, IsNext, Reads, reads_behind}
 
 -- of records that read so, these rows were read, as many as told and no more than there may be; the reader has the others left
 pub record AreSoFar {R : Type 0} (P : R → Type 0) (row_of : Reads R) (all : List (Result R Reason)) (most : ℕ) (r : Reader (Bor (List ℕ))) (rows : List R) (count : ℕ) : Type 0 where

@@ -6,4 +6,4 @@ pub mod Raw
 pub mod Asked
 -- what private functions alone cite
 pub mod Form
-pub mod Standing
+pub mod RowReader

@@ -3,7 +3,7 @@ ghost use Rattle.std.specs.Prelude.{◌≡◌, ◌<◌, ◌^◌, All, length, re
 ghost use Rattle.std.specs.BTreeMap.{BTreeMap};
 ghost use Rattle.trend_num.specs.Names.{IsName};
 ghost use Rattle.value_rows.specs.Raw.{place_of};
-ghost use Rattle.value_rows.specs.Standing.{ArePlaces, IsHint};
+ghost use Rattle.value_rows.specs.RowReader.{ArePlaces, IsHint};
 
 use std::alloc::Global;
 use std::collections::BTreeMap;
@@ -27,7 +27,7 @@ pub(crate) struct Places<'n> {
 
 impl<'n> Model for Places<'n> {
     ghost use Rattle.std.specs.Prelude.{ℕ, List};
-    ghost use Rattle.value_rows.specs.Standing.{HasPlaces};
+    ghost use Rattle.value_rows.specs.RowReader.{HasPlaces};
 
     ghost Value = { List (List ℕ) };
 
@@ -84,7 +84,7 @@ fn map_of<'n>(alloc: Global, names: &'n [Name]) -> Result<BTreeMap<&'n [u8], u32
     for i in 0..names.len() {
         let name = names[i].bytes();
         if !map.contains_key(name) {
-            map.insert(name, i as u32).map_err(|_| WantOfMemory)?;
+            map.insert(name, i as u32)?;
         }
     }
     Ok(map)
@@ -114,7 +114,7 @@ fn hints_of<'n>(
 fn empty_slots(alloc: Global) -> Result<Vec<u32>, WantOfMemory>
     ensures { IfOk result (λ hints. hints.items ≡ replicate SLOTS NOBODY) }
 {
-    Vec::from_elem(alloc, NOBODY, SLOTS).map_err(|_| WantOfMemory)
+    Ok(Vec::from_elem(alloc, NOBODY, SLOTS)?)
 }
 
 /// The slot of a name.

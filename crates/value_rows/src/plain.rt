@@ -3,7 +3,7 @@ ghost use Rattle.std.specs.Prelude.{◌≡◌, ◌<◌, ◌≤◌, ◌++◌, ◌
 ghost use Rattle.point_text.specs.declared.failure.RowNo.TheVariants.{WantOfMemory};
 ghost use Rattle.value_rows.specs.Raw.{IsRawRow, raw_row};
 ghost use Rattle.value_rows.specs.Reading.{records_of};
-ghost use Rattle.value_rows.specs.Standing.{AreFirstRows, IsFirstRow, has_mark, reads_behind};
+ghost use Rattle.value_rows.specs.RowReader.{AreFirstRows, IsFirstRow, has_mark, reads_behind};
 
 use crate::places::Places;
 use crate::raw::RawRow;

@@ -4,7 +4,7 @@ ghost use Rattle.csv.specs.Records.{fields_of};
 ghost use Rattle.point_text.specs.declared.failure.RowNo.TheVariants.{WantOfMemory};
 ghost use Rattle.trend_num.specs.declared.refusal.Reason.{Reason};
 ghost use Rattle.value_rows.specs.Reading.{AreRefusedFor, records_of, rows_of_text, rows_read};
-ghost use Rattle.value_rows.specs.Standing.{HasLeft, IsNext, reads_behind};
+ghost use Rattle.value_rows.specs.RowReader.{HasLeft, IsNext, reads_behind};
 
 use csv::{ByteRecord, ErrorKind, Reader, ReaderBuilder};
 use point_text::RowNo;
@@ -111,5 +111,5 @@ pub(crate) fn push<R: Copy + Drop>(rows: &mut Vec<R>, row: R) -> Result<(), RowN
     ensures rows { IfOk result (λ _. rows.new.items ≡ rows.old.items ++ row ∷ []) }
     ensures refused { IfErr result (λ why. why ≡ WantOfMemory) }
 {
-    rows.push(row).map_err(|_| RowNo::WantOfMemory)
+    Ok(rows.push(row)?)
 }

@@ -2,12 +2,14 @@
 //!
 //! A window of the closed content has a shape: its start as it reads, the points strictly inside, its end as
 //! it reads. `Windows` of the model says what each measure is of a list of points, for lines and for the
-//! stairs of a step tag; each call here says that of the closed content. One search for each end tells what
-//! is read there, whether the window is covered, and which points are inside. These are gone over in runs of
-//! one page each: whole pages answer by their totals, lines and stairs alike, and the pages at the ends by
-//! their points. A window takes no memory.
+//! stairs of a step tag; each call here says that of the closed content. No window is refused, and none needs
+//! an allocator.
 //!
 //! `answer` is one answer to each question about a tag: a read, a list of points, or a measure of a window.
+//!
+//! How a window is measured, which no clause says: one search for each end tells what is read there, whether
+//! the window is covered, and which points are inside. These are gone over in runs of one page each: whole
+//! pages answer by their totals, and the pages at the ends by their points.
 #![tactic(auto)]
 
 mod inside;

@@ -53,7 +53,7 @@ pub fn window_step(
 }
 
 /// A measure of the window of a line or a stair.
-fn value(
+pub(crate) fn value(
     content: &Content,
     held: Option<Point>,
     step: bool,

@@ -1,20 +1,19 @@
 // What a tag answers to a question.
-ghost use Rattle.std.specs.Prelude.{◌≡◌, ◌<◌, ◌≤◌, IfOk};
+ghost use Rattle.std.specs.Prelude.{◌≡◌, IfOk};
 ghost use Rattle.trend_num.specs.Queries.{IsTagQuery};
-ghost use Rattle.trend_num.specs.Ranges.{InRange, last_time};
+ghost use Rattle.trend_num.specs.Ranges.{InRange};
 ghost use Rattle.trend_model.specs.Contents.{IsNotBefore};
 ghost use Rattle.trend_model.specs.Lists.{IfThere};
 ghost use Rattle.trend_model.specs.Reads.{read_at};
-ghost use Rattle.trend_model.specs.Windows.{window_value};
 ghost use Rattle.interp_read.specs.Closing.{points_closed_by};
 ghost use Rattle.interp_read.specs.Readable.{IsReadable};
 ghost use Rattle.interp_read.specs.Replies.{Answers, IsReadableReply};
 
-use crate::measure::{window, window_step};
+use crate::measure::value;
 use interp_read::{Reading, Reply, at, at_step, points};
 use late_insert::Content;
 use std::alloc::Global;
-use trend_num::{Measure, Point, TagQuery, WantOfMemory};
+use trend_num::{Point, TagQuery, WantOfMemory};
 
 /// What a tag answers to a question about its closed content, by its line or, of a step tag, by its stair. The held point
 /// is not before a point of the content. The one error is want of memory, for the points that it lists.
@@ -38,7 +37,7 @@ pub fn answer(
             Ok(Reply::Points(list))
         }
         TagQuery::Window { measure, from, to } => {
-            let value = measured(content, held, step, measure, from, to);
+            let value = value(content, held, step, measure, from, to);
             Ok(Reply::Window(value))
         }
     }
@@ -55,27 +54,5 @@ fn reading(content: &Content, held: Option<Point>, step: bool, t: u64) -> Readin
         at_step(content, held, t)
     } else {
         at(content, held, t)
-    }
-}
-
-/// A measure of a window of a line or a stair.
-fn measured(
-    content: &Content,
-    held: Option<Point>,
-    step: bool,
-    measure: Measure,
-    from: u64,
-    to: u64,
-) -> Option<i128>
-    requires range { IfThere InRange held }
-    requires last { IfThere (IsNotBefore content.now.records) held }
-    requires order { from < to }
-    requires reach { to ≤ last_time }
-    ensures { result ≡ window_value step measure (points_closed_by held content.now.records) from to }
-{
-    if step {
-        window_step(content, held, measure, from, to)
-    } else {
-        window(content, held, measure, from, to)
     }
 }

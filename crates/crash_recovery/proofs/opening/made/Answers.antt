@@ -1,7 +1,7 @@
 use Rattle.disk_model.proofs.Moments.{started}
 use Rattle.disk_model.specs.Gates.{IsNew}
 use Rattle.device_layout.proofs.LayoutMoments.{new_now, new_recovers}
-use Rattle.crash_recovery.proofs.MadeSeats.{made_seated}
+use Rattle.crash_recovery.proofs.NewSeats.{made_seated}
 use Rattle.crash_recovery.proofs.opening.made.Goals as goal
 
 pub returns-in_default-clause-any_moment : goal.returns-in_default-clause-any_moment

@@ -1,5 +1,5 @@
 use Rattle.std.proofs.Common.{subst, sym, ◌∙◌, arith}
-use Rattle.trend_num.specs.Ranges.{IsTuned}
+use Rattle.trend_num.specs.Ranges.{TuningInRange}
 use Rattle.device_layout.specs.Headers.{is_field_ok, IsHeader}
 use Rattle.device_layout.proofs.Firsts.{holds_more}
 use Rattle.device_layout.proofs.HeaderFields.{header_tuned, header_slots}
@@ -22,7 +22,7 @@ returns-clause-header c = (header c, c.header_in.ensures.def, c.header_in.ensure
 
 pub returns-clause-tuned : goal.returns-clause-tuned
 returns-clause-tuned c =
-    subst (λ d. IsTuned d.tuning) (sym c.header_in.ensures.def) (header_tuned c.args.h.now (header c))
+    subst (λ d. TuningInRange d.tuning) (sym c.header_in.ensures.def) (header_tuned c.args.h.now (header c))
 
 pub returns-clause-slots : goal.returns-clause-slots
 returns-clause-slots c =

@@ -1,7 +1,11 @@
-use Rattle.std.proofs.Common.{refl, sym, ap, ◌∙◌, map, string_bytes}
-use Rattle.store_commands.specs.Commands.{IsCheckRefusal, IsChecked, IsTrend, IsTrendRefusal}
+use Rattle.std.proofs.Common.{◌≡◌, refl, sym, ap, ◌∙◌}
+use Rattle.byte_io.specs.Files.{IsFaultOf}
+use Rattle.plant_status.specs.declared.file.FileId.{FileId}
+use Rattle.plant_status.specs.declared.status.Status.TheVariants.{Done, ReadFault, WriteFault}
+use Rattle.store_commands.specs.Commands.{IsCheckRefusal, IsChecked, IsFaultOfNamed, IsTrend, IsTrendRefusal}
+use Rattle.store_commands.proofs.Faults.{of_none}
 use Rattle.plant_run.specs.CommandLine.{asked}
-use Rattle.plant_run.proofs.Printing.{answered_so, counts_so, done_so, faults_so, check_no_fault, check_not_done, check_rose, trend_no_fault, trend_not_done, trend_rose}
+use Rattle.plant_run.proofs.Printing.{answered_so, counts_so, done_so, faults_so, ended_so, check_no_fault, check_not_done, check_rose, trend_no_fault, trend_not_done, trend_rose}
 use Rattle.plant_run.proofs.top_call.run.Goals as goal
 
 pub returns-in-Check-clause-ends : goal.returns-in-Check-clause-ends
@@ -31,6 +35,8 @@ returns-in-Check-clause-ends g c =
             (c.check.ensures.counts few) c.check.ensures.refused (rose few) text line;
         input = refl;
       },
+      ended_so (λ status. (which : FileId) → status ≡ ReadFault which → IsFaultOf (g.F.Files.failed_name c.check.new.files) base)
+          before now c.check.result c.finish.result (λ which same. cc) (λ which same. cc) c.check.ensures.whose text line,
     )
 
 pub returns-in-Check-clause-devices : goal.returns-in-Check-clause-devices
@@ -64,6 +70,9 @@ returns-in-Trend-clause-ends g c =
             (c.trend.ensures.counts few) c.trend.ensures.refused (rose few) text line;
         input = refl;
       },
+      ended_so (IsFaultOfNamed base plan told (g.F.Files.failed_name c.trend.new.files)) before now c.trend.result
+          c.finish-in-Trend.result (of_none base plan told _ Done (λ which same. cc))
+          (of_none base plan told _ WriteFault (λ which same. cc)) c.trend.ensures.whose text line,
     )
 
 pub returns-in-Trend-clause-devices : goal.returns-in-Trend-clause-devices

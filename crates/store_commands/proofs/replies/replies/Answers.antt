@@ -1,5 +1,5 @@
 use Rattle.std.proofs.Common.{All, length, sym, subst}
-use Rattle.trend_command.specs.Told.{IsAsked}
+use Rattle.trend_command.specs.Replies.{IsAsked}
 use Rattle.store_commands.proofs.Commands.{all_of_map}
 use Rattle.store_commands.proofs.replies.replies.Goals as goal
 

@@ -1,7 +1,8 @@
-use Rattle.std.proofs.Common.{inr, refl, ◌∙◌, sym, ap, arith, length}
-use Rattle.trend_command.specs.Told.{trend_text}
+use Rattle.std.proofs.Common.{Err, inr, refl, ◌∙◌, sym, ap, arith, length}
+use Rattle.trend_command.specs.Replies.{trend_text}
 use Rattle.store_commands.specs.Commands.{OfGroup, OfPlan, OfReader, OfTag}
 use Rattle.store_commands.proofs.Commands.{found_empty, found_some, as_many_lists}
+use Rattle.store_commands.proofs.Faults.{of_base, of_none, of_plan, of_reader, tag_is_no_fault}
 use Rattle.store_commands.proofs.replies.trend.Goals as goal
 
 pub returns-then-not-is_empty-clause-refused : goal.returns-then-not-is_empty-clause-refused
@@ -82,3 +83,31 @@ replies-requires-clause-few g c =
       plan.few_readers,
       plan.readers.ok,
     )
+
+-- ---- whose read failed
+
+pub returns-in-Err-clause-whose : goal.returns-in-Err-clause-whose
+returns-in-Err-clause-whose g c =
+    of_base c.args.name.now c.args.plan_name.now _ _ c.in-Err.why _ c.in-Err.ensures.refused (λ which same. c.in-Err.ensures.whose which (ap Err same))
+
+pub returns-then-not-is_empty-clause-whose : goal.returns-then-not-is_empty-clause-whose
+returns-then-not-is_empty-clause-whose g c = of_none _ _ _ _ _ (λ which same. cc)
+
+pub returns-in-Err-plan_of-clause-whose : goal.returns-in-Err-plan_of-clause-whose
+returns-in-Err-plan_of-clause-whose g c =
+    of_plan c.args.name.now c.args.plan_name.now _ _ c.in-Err-plan_of.why _ _ c.in-Err-plan_of.ensures.refused
+    (λ which same. c.in-Err-plan_of.ensures.whose which (ap Err same))
+
+pub returns-in-Err-queries_of-clause-whose : goal.returns-in-Err-queries_of-clause-whose
+returns-in-Err-queries_of-clause-whose g c =
+    let stays = c.in-Ok-plan_of.ensures.stays ∙ c.in-Ok.ensures.stays in
+    of_reader c.args.name.now c.args.plan_name.now _ _ c.in-Err-queries_of.why c.in-Ok.base c.in-Ok-plan_of.plan c.in-Ok.ensures.base
+    (rw (← c.in-Ok.ensures.stays) c.in-Ok-plan_of.ensures.plan) (rw (← stays) c.in-Err-queries_of.ensures.refused)
+    (λ place same. c.in-Err-queries_of.ensures.whose place (ap Err same))
+
+pub returns-in-Err-open_base-clause-whose : goal.returns-in-Err-open_base-clause-whose
+returns-in-Err-open_base-clause-whose g c =
+    of_none _ _ _ _ _ (tag_is_no_fault _ _ _ _ _ c.in-Err-open_base.why c.in-Err-open_base.ensures.refused)
+
+pub returns-clause-whose : goal.returns-clause-whose
+returns-clause-whose g c = of_none _ _ _ _ _ (λ which same. cc)

@@ -1,5 +1,6 @@
 use Rattle.std.proofs.Common.{inl, inr, ◌∙◌, ap}
 use Rattle.store_commands.specs.Lines.{check_text}
+use Rattle.store_commands.proofs.Faults.{tag_is_no_fault}
 use Rattle.store_commands.proofs.tag_lines.check.Goals as goal
 
 pub returns-in-Err-open_base-clause-refused : goal.returns-in-Err-open_base-clause-refused
@@ -36,3 +37,7 @@ returns-in-Ok-check_text-clause-durable g c = record {
   opened = c.in-Ok-open_base.ensures.opened;
   left = c.in-Ok-open_base.ensures.left;
 }
+
+pub returns-in-Err-open_base-clause-whose : goal.returns-in-Err-open_base-clause-whose
+returns-in-Err-open_base-clause-whose g c = λ which same.
+    absurd (tag_is_no_fault _ _ _ _ _ c.in-Err-open_base.why c.in-Err-open_base.ensures.refused which same)

@@ -9,15 +9,15 @@ answer_of-requires-clause-content c =
     content_there c.args.cores.now c.args.contents.now c.in-Tag.tag c.index-cores-place.result
     c.index-contents-place.result c.requires.contents asked.0 c.index-cores-place.is c.index-contents-place.is
 
-pub returns-in_ok-reply-in-Tag-clause-told : goal.returns-in_ok-reply-in-Tag-clause-told
-returns-in_ok-reply-in-Tag-clause-told c =
+pub returns-in_ok-reply-in-Tag : goal.returns-in_ok-reply-in-Tag
+returns-in_ok-reply-in-Tag c =
     let asked = rw c.in-Tag.is at c.requires.asked in
-    rw c.in-Tag.is (c.in_ok-reply-in-Tag.ensures.told
+    rw c.in-Tag.is (c.in_ok-reply-in-Tag.ensures
     ∙ sym (tag_told c.args.cores.now c.in-Tag.tag c.index-cores-place.result c.in-Tag.query asked.0
     c.index-cores-place.is))
 
-pub returns-in-Snap-clause-told : goal.returns-in-Snap-clause-told
-returns-in-Snap-clause-told c =
+pub returns-in-Snap : goal.returns-in-Snap
+returns-in-Snap c =
     let asked = rw c.in-Snap.is at c.requires.asked in
     rw (c.in-Snap.is, c.snapshot.ensures.taken, c.snapshot.ensures.held)
     (sym (snap_told c.args.cores.now c.in-Snap.tag c.index-cores-tag.result asked c.index-cores-tag.is))

@@ -1,5 +1,5 @@
 use Rattle.std.proofs.Common.{◌≡◌, ◌++◌, take, string_bytes}
-use Rattle.trend_command.specs.Told.{replies_from}
+use Rattle.trend_command.specs.Replies.{replies_from}
 use Rattle.trend_command.proofs.replies.put_replies.Given as goal
 
 abbrev pub invariant-loop-place : goal.invariant-loop-place

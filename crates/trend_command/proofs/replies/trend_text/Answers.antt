@@ -1,5 +1,5 @@
 use Rattle.std.proofs.Common.{◌+◌, ◌++◌, ◌∙◌, ap, ap₂, sym}
-use Rattle.trend_command.specs.Told.{replies_from}
+use Rattle.trend_command.specs.Replies.{replies_from}
 use Rattle.trend_command.proofs.Numbering.{told_more}
 use Rattle.trend_command.proofs.replies.trend_text.Goals as goal
 

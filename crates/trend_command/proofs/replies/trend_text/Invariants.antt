@@ -1,5 +1,5 @@
 use Rattle.std.proofs.Common.{◌≡◌, map, take, string_bytes}
-use Rattle.trend_command.specs.Told.{told_from}
+use Rattle.trend_command.specs.Replies.{told_from}
 use Rattle.trend_command.proofs.replies.trend_text.Given as goal
 
 abbrev pub invariant-loop-place : goal.invariant-loop-place

@@ -1,9 +1,39 @@
-use Rattle.std.proofs.Common.{◌∙◌, arith}
-use Rattle.interp_read.proofs.Readable.{num_back, rounded_is}
+use Rattle.std.proofs.Common.{◌≡◌, ◌<◌, pos, ◌*ℤ◌, ◌+ℤ◌, ◌<ℤ◌, ◌≤ℤ◌, ap, ap₂, ◌∙◌, rules, arith}
+use Rattle.std.proofs.lemmas.Int.{ints}
+use Rattle.std.specs.Int.{int_div_euclid, int_rem_euclid}
+use mir.Syntax.{w128}
+use mir.Val.{of_z, to_z}
+use Rattle.trend_report.proofs.Rounding.{lower, rounded_told, upper}
 use Rattle.trend_report.proofs.reply_line.rounded.Goals as goal
 
-pub returns : goal.returns
-returns c =
-    let r = c.round_half_up.result in
-    let is = rounded_is c.args.f r c.requires c.round_half_up.ensures in
-    num_back r (omega (arith, is.1)) ∙ is.0
+pub returns-then-rest-den : goal.returns-then-rest-den
+returns-then-rest-den c =
+    let num = c.args.f.num in
+    let den = c.args.f.den in
+    let some : 0 < den = search rules in
+    let back : to_z w128 (of_z w128 num) ≡ num = search rules in
+    let whole_den : to_z w128 (of_z w128 c.from-den.result) ≡ c.from-den.result = search rules in
+    let den_back : to_z w128 (of_z w128 c.from-den.result) ≡ pos den = whole_den ∙ c.from-den.ensures in
+    let quotient = c.div_euclid-whole.ensures ∙ ap₂ int_div_euclid back den_back in
+    let rest = c.rem_euclid-rest.ensures.value ∙ ap₂ int_rem_euclid back den_back in
+    let whole_back : to_z w128 (of_z w128 c.div_euclid-whole.result) ≡ c.div_euclid-whole.result = search rules in
+    let rest_back : to_z w128 (of_z w128 c.rem_euclid-rest.result) ≡ c.rem_euclid-rest.result = search rules in
+    let less : (pos 2 *ℤ c.rem_euclid-rest.result) <ℤ pos den = omega (arith, ints) in
+    whole_back ∙ lower num c.div_euclid-whole.result c.rem_euclid-rest.result den some quotient rest less ∙ rounded_told num den some
+
+pub returns-else-rest-den : goal.returns-else-rest-den
+returns-else-rest-den c =
+    let num = c.args.f.num in
+    let den = c.args.f.den in
+    let some : 0 < den = search rules in
+    let back : to_z w128 (of_z w128 num) ≡ num = search rules in
+    let whole_den : to_z w128 (of_z w128 c.from-den.result) ≡ c.from-den.result = search rules in
+    let den_back : to_z w128 (of_z w128 c.from-den.result) ≡ pos den = whole_den ∙ c.from-den.ensures in
+    let quotient = c.div_euclid-whole.ensures ∙ ap₂ int_div_euclid back den_back in
+    let rest = c.rem_euclid-rest.ensures.value ∙ ap₂ int_rem_euclid back den_back in
+    let whole_back : to_z w128 (of_z w128 c.div_euclid-whole.result) ≡ c.div_euclid-whole.result = search rules in
+    let rest_back : to_z w128 (of_z w128 c.rem_euclid-rest.result) ≡ c.rem_euclid-rest.result = search rules in
+    let more : pos den ≤ℤ (pos 2 *ℤ c.rem_euclid-rest.result) = omega (arith, ints) in
+    let one_back : to_z w128 (of_z w128 (to_z w128 (of_z w128 c.div_euclid-whole.result) +ℤ pos 1)) ≡ to_z w128 (of_z w128 c.div_euclid-whole.result) +ℤ pos 1 = search rules in
+    one_back ∙ ap (λ x. x +ℤ pos 1) whole_back
+    ∙ upper num c.div_euclid-whole.result c.rem_euclid-rest.result den some quotient rest more ∙ rounded_told num den some

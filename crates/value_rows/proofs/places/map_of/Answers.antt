@@ -7,7 +7,7 @@ use Rattle.std.specs.Ordering.{nat_cmp}
 use Rattle.trend_num.specs.Names.{IsName}
 use Rattle.value_rows.proofs.NameMap.{there_already, put_next}
 use Rattle.value_rows.proofs.places.map_of.Goals as goal
-use Rattle.value_rows.proofs.places.map_of.Goals.{then-not-contains_key+in_ok-map_err, else-not-contains_key}
+use Rattle.value_rows.proofs.places.map_of.Goals.{then-not-contains_key+in_ok-insert, else-not-contains_key}
 
 pub loop-i-preserved : goal.loop-i-preserved
 loop-i-preserved c =
@@ -18,7 +18,7 @@ loop-i-preserved c =
     let so_far = c.loop-i.invariant in
     record {
       places = elim c.if-not-contains_key.branch [
-        | then-not-contains_key+in_ok-map_err w ↦
+        | then-not-contains_key+in_ok-insert w ↦
             let gone : is_some (get_by (λ k. slice_cmp nat_cmp name k.now) c.loop-i.map) ≡ false = search rules in
             rw w.map-is (put_next c.loop-i.map w.insert.new.self names i name c.loop-i-test.true here so_far.places gone (search rules))
         | else-not-contains_key w ↦ rw w.map-is (there_already c.loop-i.map names i name c.loop-i-test.true here so_far.places (sym w.if-not-contains_key.ensures))

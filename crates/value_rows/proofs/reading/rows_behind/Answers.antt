@@ -1,6 +1,6 @@
 use Rattle.std.proofs.Common.{◌≡◌, ◌<◌, sym, ◌∙◌, arith, rules, true, false}
 use Rattle.csv.specs.Records.{fields_of}
-use Rattle.value_rows.specs.Standing.{reads_behind}
+use Rattle.value_rows.specs.RowReader.{reads_behind}
 use Rattle.value_rows.proofs.SoFar.{all_so_far, more_than_most, bad_so_far, one_more, ended, went_on}
 use Rattle.value_rows.proofs.reading.rows_behind.Goals as goal
 

@@ -1,8 +1,8 @@
 use Rattle.std.proofs.Common.{[], ◌∙◌, ap}
-use Rattle.disk_model.specs.Logs.{events_after}
-use Rattle.disk_model.proofs.Logs.{events_after-push}
+use Rattle.disk_model.specs.Logs.{calls_after}
+use Rattle.disk_model.proofs.Logs.{calls_after-push}
 use Rattle.disk_model.proofs.memory_log.Log.note.Goals as goal
 
-pub returns-clause-events : goal.returns-clause-events
-returns-clause-events c =
-    ap (events_after []) c.in-Ok.ensures.items ∙ events_after-push [] c.args.self.now.notes.items _
+pub returns-clause-told : goal.returns-clause-told
+returns-clause-told c =
+    ap (calls_after []) c.in-Ok.ensures.items ∙ calls_after-push [] c.args.self.now.notes.items _

@@ -3,23 +3,23 @@ use Rattle.std.proofs.lemmas.List.{take_more, take_all}
 use Rattle.disk_model.specs.declared.memory_log.Note.{Note}
 use Rattle.disk_model.specs.Traces.{content}
 use Rattle.disk_model.specs.Memory.{picked}
-use Rattle.disk_model.specs.Logs.{log_first, event_of, idles, events_after}
-use Rattle.disk_model.proofs.Logs.{events_after-push, content-idles, picked-idles}
+use Rattle.disk_model.specs.Logs.{log_first, call_of, idles, calls_after}
+use Rattle.disk_model.proofs.Logs.{calls_after-push, content-idles, picked-idles}
 use Rattle.disk_model.proofs.memory_log.Log.picked.Goals as goal
 
--- the events of one note more
+-- the calls of one note more
 events_more : (ns : List Note) (i : ℕ) (n : Note) → i < length ns → n ≡ get_or ns i n
-    → events_after [] (take (i + 1) ns) ≡ event_of n.call ∷ idles n.idle (events_after [] (take i ns))
+    → calls_after [] (take (i + 1) ns) ≡ call_of n.call ∷ idles n.idle (calls_after [] (take i ns))
 events_more ns i n there is =
-    ap (events_after []) (take_more ns i n there) ∙ events_after-push [] (take i ns) (get_or ns i n)
-    ∙ ap (λ m. event_of m.call ∷ idles m.idle (events_after [] (take i ns))) (sym is)
+    ap (calls_after []) (take_more ns i n there) ∙ calls_after-push [] (take i ns) (get_or ns i n)
+    ∙ ap (λ m. call_of m.call ∷ idles m.idle (calls_after [] (take i ns))) (sym is)
 
 pub loop-note-preserved : goal.loop-note-preserved
 loop-note-preserved c =
     let first = log_first c.args.self.now in
     let ns = c.args.self.now.notes.items in
     let note = c.note-item.result in
-    let before = events_after [] (take c.loop-note.note-index ns) in
+    let before = calls_after [] (take c.loop-note.note-index ns) in
     let more = events_more ns c.loop-note.note-index note (omega (arith, c.loop-note-test.true, ap length c.deref-note-items.ensures.value)) (c.note-item.is ∙ ap (λ l. get_or l c.loop-note.note-index note) c.deref-note-items.ensures.value) in
     let here = idles note.idle before in
     let held = c.loop-note.invariant.held ∙ sym (content-idles first note.idle before) in
@@ -34,5 +34,5 @@ pub returns : goal.returns
 returns c =
     let first = log_first c.args.self.now in
     let ns = c.args.self.now.notes.items in
-    c.loop-note.invariant.image ∙ ap (λ l. picked c.args.pick first (events_after [] l)) (take_all c.loop-note.note-index ns (omega (arith, c.loop-note-test.false, ap length c.deref-note-items.ensures.value)))
-    ∙ sym (picked-idles c.args.pick first c.args.self.now.idle (events_after [] ns))
+    c.loop-note.invariant.image ∙ ap (λ l. picked c.args.pick first (calls_after [] l)) (take_all c.loop-note.note-index ns (omega (arith, c.loop-note-test.false, ap length c.deref-note-items.ensures.value)))
+    ∙ sym (picked-idles c.args.pick first c.args.self.now.idle (calls_after [] ns))

@@ -1,11 +1,11 @@
 use Rattle.std.proofs.Common.{◌≡◌, [], take}
 use Rattle.disk_model.specs.Traces.{content}
 use Rattle.disk_model.specs.Memory.{picked}
-use Rattle.disk_model.specs.Logs.{log_first, events_after}
+use Rattle.disk_model.specs.Logs.{log_first, calls_after}
 use Rattle.disk_model.proofs.memory_log.Log.picked.Given as goal
 
 abbrev pub invariant-loop-note : goal.invariant-loop-note
 invariant-loop-note l = record {
-  held : l.content.items ≡ content (log_first l.self) (events_after [] (take l.note-index l.self.notes.items));
-  image : l.image.items ≡ picked l.pick (log_first l.self) (events_after [] (take l.note-index l.self.notes.items));
+  held : l.content.items ≡ content (log_first l.self) (calls_after [] (take l.note-index l.self.notes.items));
+  image : l.image.items ≡ picked l.pick (log_first l.self) (calls_after [] (take l.note-index l.self.notes.items));
 }

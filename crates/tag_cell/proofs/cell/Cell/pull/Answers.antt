@@ -65,7 +65,7 @@ returns-clause-records g c =
     let are = durable_are s.def s.opening s.tape.items s.core.state s.next s.durable s.journal.acked c.self.invariant.0 c.self.invariant.3 in
     let front = durable_front s.def s.opening s.tape.items s.core.state s.next s.durable s.journal.acked c.self.invariant.0 c.self.invariant.3 in
     let durable : List Rec = (state_after s.def.step s.opening (done s.opening (walked (start s.opening) s.tape.items))).records in
-    c.in_ok-recs.ensures ∙ (ap (λ (l : List Rec). take (s.durable - c.args.from) (drop c.args.from l)) (c.recs.ensures.value ∙ front.1)
+    c.in_ok-recs.ensures.records ∙ (ap (λ (l : List Rec). take (s.durable - c.args.from) (drop c.args.from l)) (c.recs.ensures.value ∙ front.1)
     ∙ (handed durable front.0 c.args.from s.durable are c.if-from-upto.false
     ∙ ap (λ (t : Told _). drop c.args.from (durable_records t)) c.self.view_is))
 

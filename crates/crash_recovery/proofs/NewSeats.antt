@@ -3,13 +3,13 @@ use Rattle.std.proofs.Common.{ℕ, ◌≤◌, false, List, length, Option, None,
 use Rattle.std.proofs.Common.{sym, ap, arith}
 use Rattle.trend_num.specs.declared.tag_def.TagDef.{TagDef}
 use Rattle.trend_num.specs.Names.{IsName}
-use Rattle.trend_num.specs.Ranges.{IsTuned}
+use Rattle.trend_num.specs.Ranges.{TuningInRange}
 use Rattle.disk_model.specs.Traces.{Trace, seen}
 use Rattle.disk_model.specs.Images.{IsSettled}
 use Rattle.crash_recovery.specs.declared.seat.Seat.{Seat}
 use Rattle.crash_recovery.specs.Journals.{IsSeat, SeatedOn}
 use Rattle.device_layout.specs.Layouts.{IsMade}
-use Rattle.device_layout.proofs.Made.{made_room, made_points, made_lane, made_counting, made_header, made_slots}
+use Rattle.device_layout.proofs.NewLayout.{made_room, made_points, made_lane, made_counting, made_header, made_slots}
 
 -- the first lane slot of so many, before the first event
 abbrev pub first_seat : ℕ → Seat
@@ -21,7 +21,7 @@ first_seat slots = record {
   records = 0;
 }
 
-made_seat : (def : TagDef) (slots : ℕ) (c : List ℕ) → IsMade def slots c → IsTuned def.tuning → IsName def.name
+made_seat : (def : TagDef) (slots : ℕ) (c : List ℕ) → IsMade def slots c → TuningInRange def.tuning → IsName def.name
     → 1 ≤ slots → slots ≤ 65536 → IsSeat (first_seat slots) c
 made_seat def slots c made tuned name some few = record {
   laid = record {
@@ -45,7 +45,7 @@ made_seat def slots c made tuned name some few = record {
 }
 
 -- the same of a device
-pub made_seated : (def : TagDef) (slots : ℕ) (o : Option Trace) → IsTuned def.tuning → IsName def.name → 1 ≤ slots
+pub made_seated : (def : TagDef) (slots : ℕ) (o : Option Trace) → TuningInRange def.tuning → IsName def.name → 1 ≤ slots
     → slots ≤ 65536 → IfSome o (λ t. IsMade def slots (seen (Some t))) → IsSettled o → SeatedOn (first_seat slots) o
 made_seated def slots None tuned name some few made settled = tt
 made_seated def slots (Some t) tuned name some few made settled = record {

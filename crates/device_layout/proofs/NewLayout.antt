@@ -4,7 +4,7 @@ use Rattle.std.proofs.Common.{map, None, refl, sym, ◌∙◌, ap, subst, arith}
 use Rattle.trend_num.specs.declared.tuning.Tuning.{Tuning}
 use Rattle.trend_num.specs.declared.tag_def.TagDef.{TagDef}
 use Rattle.trend_num.specs.Names.{IsName}
-use Rattle.trend_num.specs.Ranges.{IsTuned}
+use Rattle.trend_num.specs.Ranges.{TuningInRange}
 use Rattle.trend_model.specs.History.{Raw}
 use Rattle.trend_model.specs.Parts.{ArePartsOk}
 use Rattle.trend_model.specs.State.{nothing_taken, replay}
@@ -65,7 +65,7 @@ module _ (def : TagDef) (slots : ℕ) (c : List ℕ) (made : IsMade def slots c)
   pub made_lane : (taken : ℕ) → IsLane slots c taken slots
   made_lane taken = record { sound = λ k there opened. absurd (made_shut k there opened) }
 
-  module _ (tuned : IsTuned def.tuning) (name : IsName def.name) (some : 1 ≤ slots)
+  module _ (tuned : TuningInRange def.tuning) (name : IsName def.name) (some : 1 ≤ slots)
       (few : slots ≤ 65536) where
     -- no summary counts
     pub made_counting : counting c ≡ None

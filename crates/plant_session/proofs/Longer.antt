@@ -1,0 +1,71 @@
+-- Cells that have gained entries of a kind, one after another.
+use Rattle.std.proofs.Common.{◌≡◌, ◌≢◌, ◌⊎◌, ℕ, ◌+◌, ◌<◌, ◌≤◌, inl, inr, List, [], ◌∷◌, ◌++◌, All, length, get_or, set, Some, true, refl, sym, ap, subst, ◌∙◌, arith, append-nil, append_assoc}
+use Rattle.std.specs.Prelude.{slice_get}
+use Rattle.std.proofs.lemmas.Bool.{cases_eq}
+use Rattle.std.proofs.lemmas.List.{get_or-set_same, get_or-set_other, get_or_default, length-set}
+use Rattle.std.proofs.lemmas.List.Elements.{All-append}
+use Rattle.std.proofs.lemmas.Option.{slice_get-get_or}
+use Rattle.tag_cell.specs.declared.entry.Entry.{Entry}
+use Rattle.tag_cell.specs.declared.entry.CommitNo.{CommitNo}
+use Rattle.tag_cell.specs.declared.entry.CommitNo.TheVariants as commit
+use Rattle.tag_cell.specs.Told.{Told}
+use Rattle.plant_session.specs.Cells.{AreLonger, IsLonger}
+use Rattle.plant_session.specs.Refusals.{IsCommitRefusal, IsSo, commit_status}
+
+-- a cell that gained nothing
+pub longer_refl : {D : Type 0} (IsOf : Entry → Type 0) (c : Told D) → IsLonger IsOf c c
+longer_refl IsOf c = record {
+  more = [];
+  each = λ k d below. absurd (omega (arith, below));
+  tape = sym (append-nil c.tape);
+  same_def = refl;
+  same_opening = refl;
+}
+
+-- a cell that gained entries twice
+pub longer_trans : {D : Type 0} (IsOf : Entry → Type 0) (a b c : Told D) → IsLonger IsOf a b → IsLonger IsOf b c
+    → IsLonger IsOf a c
+longer_trans IsOf a b c first second = record {
+  more = first.more ++ second.more;
+  each = All-append IsOf first.more second.more first.each second.each;
+  tape = second.tape ∙ (ap (λ l. l ++ second.more) first.tape ∙ append_assoc a.tape first.more second.more);
+  same_def = second.same_def ∙ first.same_def;
+  same_opening = second.same_opening ∙ first.same_opening;
+}
+
+pub all_longer : {D : Type 0} (IsOf : Entry → Type 0) (cells : List (Told D)) → AreLonger IsOf cells cells
+all_longer IsOf cells = record { as_many = refl; each = λ tag d. longer_refl IsOf (get_or cells tag d) }
+
+-- one of the cells gained entries
+pub longer_set : {D : Type 0} (IsOf : Entry → Type 0) (first now : List (Told D)) (tag : ℕ) (c d : Told D)
+    → tag < length now → IsLonger IsOf (get_or now tag d) c → AreLonger IsOf first now → AreLonger IsOf first (set now tag c)
+longer_set IsOf first now tag c d within step before = record {
+  as_many = length-set now tag c ∙ before.as_many;
+  each = λ other e. elim (cases_eq other tag) [
+    | inl same ↦ subst (λ n. IsLonger IsOf (get_or first n e) (get_or (set now tag c) n e)) (sym same)
+        (subst (λ x. IsLonger IsOf (get_or first tag e) x) (sym (get_or-set_same now tag c e within))
+        (longer_trans IsOf (get_or first tag e) (get_or now tag e) c (before.each tag e)
+        (subst (λ x. IsLonger IsOf x c) (get_or_default now tag d e within) step)))
+    | inr differ ↦ subst (λ x. IsLonger IsOf (get_or first other e) x) (sym (get_or-set_other now tag other c e differ))
+        (before.each other e)
+  ];
+}
+
+-- the cell of a tag that was just looked at
+so_here : {D : Type 0} (P : Told D → Type 0) (now : List (Told D)) (tag : ℕ) (c : Told D) → tag < length now → P c
+    → IsSo (set now tag c) tag P
+so_here P now tag c within so = record {
+  cell = c;
+  there = slice_get-get_or (set now tag c) tag c (omega (arith, within, length-set now tag c))
+      ∙ ap Some (get_or-set_same now tag c c within);
+  so = so;
+}
+
+-- why a commit of it was refused
+pub commit_refused : {D : Type 0} (now : List (Told D)) (tag : ℕ) (c : Told D) (no : CommitNo) → tag < length now
+    → (no ≡ commit.WantOfMemory) ⊎ (c.journal.failed ≡ true) → IsCommitRefusal (set now tag c) (commit_status tag no)
+commit_refused now tag c commit.Broken within (inl is) = absurd (cc)
+commit_refused now tag c commit.Broken within (inr failed) = so_here (λ x. x.journal.failed ≡ true) now tag c within failed
+commit_refused now tag c commit.DeviceFault within (inl is) = absurd (cc)
+commit_refused now tag c commit.DeviceFault within (inr failed) = so_here (λ x. x.journal.failed ≡ true) now tag c within failed
+commit_refused now tag c commit.WantOfMemory within why = tt

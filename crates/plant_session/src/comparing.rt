@@ -1,0 +1,107 @@
+// A cell is compared with the copy that was kept of its opening.
+ghost use Rattle.std.specs.Prelude.{◌≡◌, ◌↔◌, ◌≢◌, ◌<◌, ◌≤◌, All, IfErr, IsTrue, OnOk, length, slice_get, take};
+ghost use Rattle.plant_session.specs.Openings.{FirstDiffer, IsItem, IsOpeningDifference, RecordsDiffer, opening_items};
+
+use disk_model::Disk;
+use plant_status::Seen;
+use tag_cell::{Cell, TagOpening};
+use trend_num::{Rec, TagDef, same_name, same_rec, same_summary, same_tuning};
+
+/// What was kept of a tag as it was opened.
+#[derive(Drop)]
+pub struct Kept {
+    pub def: TagDef,
+    pub opening: TagOpening,
+}
+
+/// Where an opening differs from what was kept of it.
+#[derive(Clone, Copy)]
+pub struct Difference {
+    /// What the cell has there.
+    pub kept: Seen,
+    /// What the copy has there.
+    pub told: Seen,
+}
+
+/// Compares a cell's definition and opening with what was kept of them.
+pub fn compare_openings<D: Disk>(cell: &Cell<D>, known: &Kept) -> Result<(), Difference>
+    ensures same_def { OnOk result (cell.now.def ≡ known.now.def) }
+    ensures same_summary { OnOk result (cell.now.opening.summary ≡ known.now.opening.summary) }
+    ensures same_records { OnOk result (cell.now.opening.recs.items ≡ known.now.opening.recs.items) }
+    ensures same_moment { OnOk result (cell.now.opening.moment ≡ known.now.opening.moment) }
+    ensures same_faults { OnOk result (cell.now.opening.faults ≡ known.now.opening.faults) }
+    ensures differs { IfErr result (λ d. IsOpeningDifference cell.now.def cell.now.opening known.now.def known.now.opening
+        d.kept d.told) }
+{
+    let opening = cell.opening();
+    let found = opening_items(cell.def(), opening);
+    compare_items(&found, &opening_items(&known.def, &known.opening))?;
+    compare_records(&opening.recs, &known.opening.recs)
+}
+
+// What is compared before the records, in turn.
+fn opening_items(def: &TagDef, opening: &TagOpening) -> [Seen; 5]
+    ensures { result ≡ opening_items def.now opening.now }
+{
+    [
+        Seen::Def(*def),
+        Seen::Number(opening.faults),
+        Seen::Number(opening.moment),
+        Seen::Summary(opening.summary),
+        Seen::Number(opening.recs.len() as u64),
+    ]
+}
+
+// The first of these that differ.
+fn compare_items(found: &[Seen; 5], known: &[Seen; 5]) -> Result<(), Difference>
+    requires { All IsItem found.now }
+    ensures same { OnOk result (found.now ≡ known.now) }
+    ensures differs { IfErr result (λ d. FirstDiffer found.now known.now d.kept d.told) }
+{
+    for i in 0..5 {
+        if !same_item(&found[i], &known[i]) {
+            return Err(Difference {
+                kept: found[i],
+                told: known[i],
+            });
+        }
+    }
+    Ok(())
+}
+
+// Whether two items are the same.
+fn same_item(a: &Seen, b: &Seen) -> bool
+    requires { IsItem a.now }
+    ensures { IsTrue result ↔ (a.now ≡ b.now) }
+{
+    match (a, b) {
+        (Seen::Def(a), Seen::Def(b)) => same_def(a, b),
+        (Seen::Number(a), Seen::Number(b)) => a == b,
+        (Seen::Summary(a), Seen::Summary(b)) => same_summary(a, b),
+        _ => false,
+    }
+}
+
+// Whether two definitions agree in name, tuning and kind.
+fn same_def(a: &TagDef, b: &TagDef) -> bool
+    ensures { IsTrue result ↔ (a.now ≡ b.now) }
+{
+    same_name(&a.name, &b.name) && same_tuning(&a.tuning, &b.tuning) && a.step == b.step
+}
+
+// As many records are the same from the first one on as are told.
+fn compare_records(found: &[Rec], known: &[Rec]) -> Result<(), Difference>
+    requires as_many { length found.now ≡ length known.now }
+    ensures same { OnOk result (found.now ≡ known.now) }
+    ensures differs { IfErr result (λ d. RecordsDiffer found.now known.now d.kept d.told) }
+{
+    for i in 0..known.len() {
+        if !same_rec(&found[i], &known[i]) {
+            return Err(Difference {
+                kept: Seen::Number(i as u64),
+                told: Seen::Number(known.len() as u64),
+            });
+        }
+    }
+    Ok(())
+}

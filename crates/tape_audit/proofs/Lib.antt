@@ -1,0 +1,4 @@
+pub mod Numbers
+pub mod Links
+pub mod Walking
+pub mod Catching

@@ -1,0 +1,3 @@
+pub mod Agendas
+pub mod Found
+pub mod Tapes
