@@ -26,6 +26,20 @@ pub record IsAheadOf (versions : List ℕ) (input version records : ℕ) : Type 
   pub own : version ≡ slice_index versions input
   pub above : records < version
 
+-- why nothing is pulled for an input of this version
+abbrev pub IsAheadAt : ℕ → ℕ → RefreshNo → Type 0
+IsAheadAt input from (Ahead at version records) = (at ≡ input) × (version ≡ from) × (records < from)
+IsAheadAt input from (CellLimit cells) = ⊥
+IsAheadAt input from (CopyLimit records) = ⊥
+IsAheadAt input from WantOfMemory = Unit {0}
+
+-- why not all is pulled for inputs of these versions
+abbrev pub IsPullCause : List ℕ → RefreshNo → Type 0
+IsPullCause versions (Ahead input version records) = IsAheadOf versions input version records
+IsPullCause versions (CellLimit cells) = ⊥
+IsPullCause versions (CopyLimit records) = ⊥
+IsPullCause versions WantOfMemory = Unit {0}
+
 -- why a book of these versions is not refreshed
 abbrev pub IsRefreshCause : List ℕ → RefreshNo → Type 0
 IsRefreshCause versions (Ahead input version records) = IsAheadOf versions input version records

@@ -114,6 +114,11 @@ pub record GoesOn (copies : List (List Rec)) (ps : List Pulled) : Type 0 where
   pub upto : (i : ℕ) (p : Pulled) (rs : List Rec) → i < length ps
       → (slice_index_or ps i p).upto ≡ length (slice_index_or copies i rs) + length (slice_index_or ps i p).recs.items
 
+-- an input whose tag is not below the number of cells gets no record
+abbrev pub GivesNone : List ℕ → ℕ → List (List Rec) → Type 0
+GivesNone tags cells mores = (i : ℕ) (rs : List Rec) → i < length mores → cells ≤ slice_index tags i
+    → slice_index_or mores i rs ≡ []
+
 -- a question was answered so
 pub record IsAsked {D : Type 0} (reader row calc k : ℕ) (reply : Option CalcValue) (old new : Told D) : Type 0 where
   pub answer : reply ≡ cell_of old.sheet.rows calc k

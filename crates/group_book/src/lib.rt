@@ -6,6 +6,7 @@ mod book;
 mod history;
 mod making;
 mod publish;
+mod refresh;
 mod refusal;
 mod turn;
 
