@@ -26,6 +26,7 @@ use Rattle.group_book.specs.declared.turn.Turn.TheVariants.{Refresh, Ask, Save}
 use Rattle.group_book.specs.Tapes.{cut, saved_at, start, walked}
 use Rattle.group_book.specs.Histories.{IsLegal, IsRight}
 use Rattle.group_book.specs.Crashes.{IsSafe}
+use Rattle.group_book.specs.Saves.{ListsChanges}
 
 -- what the last save left: its number, the versions and the rows, and where the next block goes
 pub record Saved : Type 0 where
@@ -124,18 +125,12 @@ pub record IsAsked {D : Type 0} (reader row calc k : ℕ) (reply : Option CalcVa
   pub answer : reply ≡ cell_of old.sheet.rows calc k
   pub changed : new ≡ record old { tape = old.tape ++ Ask reader row calc k reply ∷ [] }
 
--- a block lists the cells that changed, sorted, and no other
-pub record ListsChanges (old new : List (List CalcValue)) (rows : List BlockRow) : Type 0 where
-  pub changed : (calc k : ℕ) → cell_of new calc k ≡ cell_of old calc k → listed_from None rows calc k ≡ None
-  pub others : (calc k : ℕ) → (cell_of new calc k ≡ cell_of old calc k → ⊥) → listed_from None rows calc k ≡ cell_of new calc k
-
 -- a block of a save
 pub record IsBlockOf {D : Type 0} (s : Told D) (b : Parts) : Type 0 where
   pub number : b.number ≡ s.saved.number + 1
   pub versions : b.versions ≡ versions_of s
   pub windows : b.windows ≡ complete_windows s.sheet.grid s.sheet.copies
-  pub rows : AreRows (length s.sheet.group.calcs) b.windows b.rows
-  pub changes : ListsChanges s.saved.rows s.sheet.rows b.rows
+  pub rows : ListsChanges (length s.sheet.group.calcs) b.windows s.saved.rows s.sheet.rows b.rows
 
 -- the rows are saved
 pub record IsSaved {D : Type 0} (now : ℕ) (dev : D) (end : ℕ) (old new : Told D) : Type 0 where

@@ -3,6 +3,7 @@
 
 mod ask;
 mod book;
+mod changes;
 mod history;
 mod making;
 mod publish;
