@@ -4,3 +4,4 @@ pub mod Fresh
 pub mod LegalTurns
 pub mod Pulls
 pub mod Listing
+pub mod Causes

@@ -13,7 +13,7 @@ use std::alloc::Global;
 use std::sync::ledger::Ledger;
 use std::sync::{Mutex, Wait};
 use tag_cell::{Cell, PullNo, Pulled, Receipt};
-use trend_num::{Steps, WantOfMemory};
+use trend_num::Steps;
 
 impl<D: Disk> Book<D> {
     /// Pulls from each input's cell under its lock, in the order of the inputs, and takes what was pulled into account. An input
@@ -32,8 +32,10 @@ impl<D: Disk> Book<D> {
         ensures unchanged { OnErr result (self.new ≡ self.old) }
         ensures cause { IfErr result (IsRefreshCause (versions_of self.old)) }
     {
-        let pulled = pull_all(self.alloc, rt, cells, self.group, &self.tags, &self.versions)?;
-        self.publish(pulled, steps)
+        match pull_all(self.alloc, rt, cells, self.group, &self.tags, &self.versions) {
+            Ok(pulled) => self.publish(pulled, steps),
+            Err(why) => Err(why),
+        }
     }
 }
 
@@ -57,8 +59,13 @@ fn pull_all<C: Disk, R: Wait>(
 {
     let mut pulled = Vec::new(alloc);
     for i in 0..tags.len() {
-        let one = pull_one(alloc, rt, cells, group, tags[i], i as u32, versions[i])?;
-        pulled.push(one).map_err(|_| RefreshNo::WantOfMemory)?;
+        let one = match pull_one(alloc, rt, cells, group, tags[i], i as u32, versions[i]) {
+            Ok(one) => one,
+            Err(why) => return Err(why),
+        };
+        let Ok(()) = pulled.push(one) else {
+            return Err(RefreshNo::WantOfMemory);
+        };
     }
     Ok(pulled)
 }
