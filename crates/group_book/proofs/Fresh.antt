@@ -65,6 +65,7 @@ module _ (def made : GroupDefParts) (same : made ≡ def) (o : GroupOpening) (s 
   pub fresh_kept : (text : List ℕ) (ticks faults : ℕ) → o.moment ≤ ticks → faults ≡ o.faults
       → IsKept text made o [] s.copies saved false None ticks faults
   fresh_kept text ticks faults before none = record {
+    shut = λ usable. tt;
     holds = λ usable right. tt;
     scratch = λ right.
         subst (λ rss. IsScratch made.calcs (grid_of made.start made.period) rss saved.rows) (sym (cut_now saved.versions saved_versions))

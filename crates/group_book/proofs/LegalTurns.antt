@@ -133,6 +133,7 @@ pub kept_asked : (text : List ℕ) (def : GroupDefParts) (o : GroupOpening) (tap
     → IsKept text def o tape copies saved failed trace ticks faults
     → IsKept text def o (tape ++ Ask reader row calc k reply ∷ []) copies saved failed trace ticks faults
 kept_asked text def o tape copies saved failed trace ticks faults reader row calc k reply kept = record {
+  shut = kept.shut;
   holds = kept.holds;
   scratch = kept.scratch;
   versions = kept.versions ∙ sym (saved-ask o.versions.items o.versions.items tape reader row calc k reply);
@@ -158,6 +159,7 @@ pub kept_refreshed : (text : List ℕ) (def : GroupDefParts) (o : GroupOpening) 
     → IsKept text def o tape copies saved failed trace ticks faults
     → IsKept text def o (tape ++ Refresh new ∷ []) (longer copies mores) saved failed trace ticks faults
 kept_refreshed text def o tape versions copies rows mores new saved failed trace ticks faults legal kept = record {
+  shut = kept.shut;
   holds = λ usable right. kept.holds usable (back right);
   scratch = λ right. subst (λ rss. IsScratch def.calcs (grid_of def.start def.period) rss saved.rows)
       (sym (cut-longer saved.versions copies mores low)) (kept.scratch (back right));

@@ -1,5 +1,5 @@
 -- The cells that changed, listed one after the other.
-use Rattle.std.proofs.Common.{◌≡◌, ⊎_elim, inl, inr, ◌⊎◌, ℕ, zero, suc, ◌+◌, ◌<◌, ◌≤◌, Bool, true, false, All, AllPairs, List, [], ◌∷◌, ◌++◌, length, get_or, Option, None, Some, nat_eq, nat_lt, ◌&&◌, ◌||◌, refl, sym, ap, ◌∙◌, subst, arith, le-leb, if◌then◌else◌}
+use Rattle.std.proofs.Common.{◌≡◌, ⊎_elim, inl, inr, ◌⊎◌, ℕ, zero, suc, ◌+◌, ◌<◌, ◌≤◌, Bool, true, false, All, AllPairs, List, [], ◌∷◌, ◌++◌, length, get_or, IfSome, IsSome, Option, None, Some, nat_eq, nat_lt, ◌&&◌, ◌||◌, refl, sym, ap, ◌∙◌, subst, arith, le-leb, if◌then◌else◌}
 use Rattle.std.proofs.lemmas.Bool.{cases_eq, cases_lt}
 use Rattle.std.proofs.lemmas.Bool.Decides.{nat_tests}
 use Rattle.std.proofs.lemmas.List.Elements.{All-nil, All-push, All-weaker}
@@ -33,7 +33,7 @@ before_self calc k = grind (arith, nat_tests)
 
 -- what does not come before the next place does not come before this one, and is not this one
 not_next : (x y calc k : ℕ) → comes_before x y calc (k + 1) ≡ false → comes_before x y calc k ≡ false
-not_next x y calc k no = grind (arith, nat_tests)
+not_next x y calc k absent = grind (arith, nat_tests)
 
 later_place : (x y calc k : ℕ) → comes_before x y calc k ≡ true → comes_before x y calc (k + 1) ≡ true
 later_place x y calc k before = grind (arith, nat_tests)
@@ -46,7 +46,7 @@ before_calc : (x y calc windows : ℕ) → y < windows → comes_before x y (cal
 before_calc x y calc windows low before = grind (arith, nat_tests)
 
 not_calc : (x y calc windows : ℕ) → comes_before x y (calc + 1) 0 ≡ false → comes_before x y calc windows ≡ false
-not_calc x y calc windows no = grind (arith, nat_tests)
+not_calc x y calc windows absent = grind (arith, nat_tests)
 
 after_calc : (x y calc windows : ℕ) → comes_before x y calc windows ≡ true → comes_before x y (calc + 1) 0 ≡ true
 after_calc x y calc windows before = grind (arith, nat_tests)
@@ -63,7 +63,7 @@ other_before : (x y calc k : ℕ) → comes_before x y calc k ≡ true → (nat_
 other_before x y calc k before = grind (arith, nat_tests)
 
 other_behind : (x y calc k : ℕ) → comes_before x y calc (k + 1) ≡ false → (nat_eq calc x && nat_eq k y) ≡ false
-other_behind x y calc k no = grind (arith, nat_tests)
+other_behind x y calc k absent = grind (arith, nat_tests)
 
 here_at : (calc k : ℕ) → (nat_eq calc calc && nat_eq k k) ≡ true
 here_at calc k = grind (arith, nat_tests)
@@ -108,8 +108,8 @@ listed_push rows calc k x y v =
 -- at another place, and at its own
 listed_other : (rows : List BlockRow) (calc k x y : ℕ) (v : CalcValue) → (nat_eq calc x && nat_eq k y) ≡ false
     → listed_from None (rows ++ row_of calc k v ∷ []) x y ≡ listed_from None rows x y
-listed_other rows calc k x y v no =
-    listed_push rows calc k x y v ∙ ap (λ b. if b then Some v else listed_from None rows x y) no
+listed_other rows calc k x y v absent =
+    listed_push rows calc k x y v ∙ ap (λ b. if b then Some v else listed_from None rows x y) absent
 
 listed_here : (rows : List BlockRow) (calc k : ℕ) (v : CalcValue) → listed_from None (rows ++ row_of calc k v ∷ []) calc k ≡ Some v
 listed_here rows calc k v =
@@ -121,7 +121,7 @@ listed_here rows calc k v =
 pub list_none : (old new : List (List CalcValue)) (calcs windows : ℕ) → ListedUpTo old new calcs windows 0 0 []
 list_none old new calcs windows = record {
   before = λ x y low before. absurd (cc (before, none_first x y));
-  behind = λ x y no. refl;
+  behind = λ x y absent. refl;
   each = λ in_range. All-nil (IsRow calcs windows);
   sorted = λ i j d low within. absurd (omega arith);
   low = All-nil (λ r. comes_before r.calc r.window 0 0 ≡ true);
@@ -139,7 +139,7 @@ module _ (old new : List (List CalcValue)) (calcs windows calc k : ℕ) (rows : 
           changed = λ is. absurd (is same);
         }))
     ];
-    behind = λ x y no. so_far.behind x y (not_next x y calc k no);
+    behind = λ x y absent. so_far.behind x y (not_next x y calc k absent);
     each = so_far.each;
     sorted = so_far.sorted;
     low = All-weaker (λ r. comes_before r.calc r.window calc k ≡ true) (λ r. comes_before r.calc r.window calc (k + 1) ≡ true)
@@ -162,7 +162,7 @@ module _ (old new : List (List CalcValue)) (calcs windows calc k : ℕ) (rows : 
           changed = λ e. listed_here rows calc k v ∙ sym is;
         }))
     ];
-    behind = λ x y no. listed_other rows calc k x y v (other_behind x y calc k no) ∙ so_far.behind x y (not_next x y calc k no);
+    behind = λ x y absent. listed_other rows calc k x y v (other_behind x y calc k absent) ∙ so_far.behind x y (not_next x y calc k absent);
     each = λ in_range. All-push (IsRow calcs windows) rows (row_of calc k v) (so_far.each in_range)
         (row_is calcs windows calc k v calc_low k_low (in_range.each calc k v is));
     sorted = all_pairs_push IsBefore rows (row_of calc k v) so_far.sorted (λ i d low. record {
@@ -183,7 +183,7 @@ pub list_next : (old new : List (List CalcValue)) (calcs windows calc : ℕ) (ro
     → ListedUpTo old new calcs windows calc windows rows → ListedUpTo old new calcs windows (calc + 1) 0 rows
 list_next old new calcs windows calc rows so_far = record {
   before = λ x y low before. so_far.before x y low (before_calc x y calc windows low before);
-  behind = λ x y no. so_far.behind x y (not_calc x y calc windows no);
+  behind = λ x y absent. so_far.behind x y (not_calc x y calc windows absent);
   each = so_far.each;
   sorted = so_far.sorted;
   low = All-weaker (λ r. comes_before r.calc r.window calc windows ≡ true) (λ r. comes_before r.calc r.window (calc + 1) 0 ≡ true)
@@ -197,3 +197,18 @@ list_all_cells old new calcs windows rows so_far = record {
   listed = λ calc k low within. so_far.before calc k within (all_last calc k calcs low);
   rows_are = λ in_range. record { each = so_far.each in_range; sorted = so_far.sorted };
 }
+
+-- one cell, whether or not it changed
+pub list_cell : (old new : List (List CalcValue)) (calcs windows calc k : ℕ) (rows rows' : List BlockRow) (now was : Option CalcValue)
+    → ListedUpTo old new calcs windows calc k rows → calc < calcs → k < windows → now ≡ cell_of new calc k → was ≡ cell_of old calc k
+    → IsSome now
+    → (((now ≡ was) × (rows' ≡ rows)) ⊎ ((now ≡ was → ⊥) × IfSome now (λ v. rows' ≡ rows ++ row_of calc k v ∷ [])))
+    → ListedUpTo old new calcs windows calc (k + 1) rows'
+list_cell old new calcs windows calc k rows rows' now was so_far calc_low k_low now_is was_is some (inl same) =
+    subst (ListedUpTo old new calcs windows calc (k + 1)) (sym same.1)
+    (list_kept old new calcs windows calc k rows so_far (sym now_is ∙ same.0 ∙ was_is))
+list_cell old new calcs windows calc k rows rows' (Some v) was so_far calc_low k_low now_is was_is some (inr changed) =
+    subst (ListedUpTo old new calcs windows calc (k + 1)) (sym changed.1)
+    (list_added old new calcs windows calc k rows so_far v calc_low k_low (sym now_is)
+    (λ e. changed.0 (now_is ∙ e ∙ sym was_is)))
+list_cell old new calcs windows calc k rows rows' None was so_far calc_low k_low now_is was_is some (inr changed) = absurd (cc (some))

@@ -5,6 +5,7 @@ use Rattle.std.specs.declared.alloc.Global.{Global}
 use Rattle.trend_num.specs.declared.archive.Rec.{Rec}
 use Rattle.trend_num.specs.declared.value.CalcValue.{CalcValue}
 use Rattle.disk_model.specs.Calls.{Rose}
+use Rattle.disk_model.specs.Gates.{IsShut}
 use Rattle.disk_model.specs.Images.{IsSettled}
 use Rattle.disk_model.specs.Moments.{LeftSince}
 use Rattle.disk_model.specs.Traces.{Trace, seen}
@@ -71,12 +72,18 @@ pub record Holds (text : List ℕ) (def : GroupDefParts) (saved : Saved) (c : Li
   pub versions : (last_of (unsaved def.inputs) blocks).versions ≡ saved.versions
   pub end : end_of (blocks_at (length text)) blocks ≡ saved.end
 
+-- a device that has settled, with a closed gate where the next block goes
+pub record IsReady (end : ℕ) (t : Trace) : Type 0 where
+  pub settled : IsSettled (Some t)
+  pub shut : IsShut end (seen (Some t))
+
 -- The device keeps what the last save left, for as long as no call of it failed. Where the opening is right that is one of the
 -- versions of the tape and the rows from scratch at it, and the device settled on it.
 pub record IsKept (text : List ℕ) (def : GroupDefParts) (o : GroupOpening) (tape : List Turn) (copies : List (List Rec))
     (saved : Saved) (failed : Bool) (trace : Option Trace) (ticks faults : ℕ) : Type 0 where
+  pub shut : failed ≡ false → IfSome trace (λ t. IsReady saved.end t)
   pub holds : failed ≡ false → IsRight def.calcs (grid_of def.start def.period) o copies
-      → IfSome trace (λ t. IsSettled (Some t) × Holds text def saved (seen (Some t)))
+      → IfSome trace (λ t. Holds text def saved (seen (Some t)))
   pub scratch : IsRight def.calcs (grid_of def.start def.period) o copies
       → IsScratch def.calcs (grid_of def.start def.period) (cut saved.versions copies) saved.rows
   pub versions : saved.versions ≡ saved_at o.versions.items o.versions.items tape

@@ -1,5 +1,5 @@
 // The cells of a sheet that changed since the last save.
-ghost use Rattle.std.specs.Prelude.{◌≡◌, ◌+◌, ◌<◌, IfOk, OnOk, length};
+ghost use Rattle.std.specs.Prelude.{◌≡◌, ◌≢◌, ◌⊎◌, ◌+◌, ◌<◌, ◌∷◌, ◌++◌, [], IfOk, IfSome, OnOk, length};
 ghost use Rattle.sheet_law.specs.Windows.{complete_windows};
 ghost use Rattle.calc_refresh.specs.Lists.{lists_of};
 ghost use Rattle.group_layout.specs.Rows.{cell_of};
@@ -43,11 +43,27 @@ fn add_changes(
 {
     for k in 0..windows {
         let new = sheet.row(calc, u64::from(k));
-        if new != saved_cell(saved, calc, k)
-            && let Some(value) = new
-        {
-            rows.push(row_of(calc, k, value))?;
-        }
+        add_change(rows, calc, k, new, saved_cell(saved, calc, k))?;
+    }
+    Ok(())
+}
+
+// Adds one cell, if its value is another one than before.
+fn add_change(
+    rows: &mut Vec<BlockRow>,
+    calc: u32,
+    k: u32,
+    new: Option<CalcValue>,
+    old: Option<CalcValue>,
+) -> Result<(), AllocError>
+    ensures { OnOk result (((new ≡ old) × (rows.new.items ≡ rows.old.items))
+        ⊎ ((new ≢ old) × IfSome new (λ v. rows.new.items ≡ rows.old.items ++ row_of calc k v ∷ []))) }
+{
+    if new == old {
+        return Ok(());
+    }
+    if let Some(value) = new {
+        rows.push(row_of(calc, k, value))?;
     }
     Ok(())
 }
