@@ -3,5 +3,4 @@ pub mod Turns
 pub mod Fresh
 pub mod LegalTurns
 pub mod Pulls
-pub mod Listing
 pub mod Causes

@@ -3,4 +3,3 @@ pub mod Histories
 pub mod Crashes
 pub mod Told
 pub mod Refusals
-pub mod Saves

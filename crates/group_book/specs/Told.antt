@@ -27,7 +27,6 @@ use Rattle.group_book.specs.declared.turn.Turn.TheVariants.{Refresh, Ask, Save}
 use Rattle.group_book.specs.Tapes.{cut, saved_at, start, walked}
 use Rattle.group_book.specs.Histories.{IsLegal, IsRight}
 use Rattle.group_book.specs.Crashes.{IsSafe}
-use Rattle.group_book.specs.Saves.{ListsChanges}
 
 -- what the last save left: its number, the versions and the rows, and where the next block goes
 pub record Saved : Type 0 where
@@ -131,26 +130,6 @@ GivesNone tags cells mores = (i : ℕ) (rs : List Rec) → i < length mores → 
 pub record IsAsked {D : Type 0} (reader row calc k : ℕ) (reply : Option CalcValue) (old new : Told D) : Type 0 where
   pub answer : reply ≡ cell_of old.sheet.rows calc k
   pub changed : new ≡ record old { tape = old.tape ++ Ask reader row calc k reply ∷ [] }
-
--- a block of a save
-pub record IsBlockOf {D : Type 0} (s : Told D) (b : Parts) : Type 0 where
-  pub number : b.number ≡ s.saved.number + 1
-  pub versions : b.versions ≡ versions_of s
-  pub windows : b.windows ≡ complete_windows s.sheet.grid s.sheet.copies
-  pub rows : ListsChanges (length s.sheet.group.calcs) b.windows s.saved.rows s.sheet.rows b.rows
-
--- the rows are saved
-pub record IsSaved {D : Type 0} (now : ℕ) (dev : D) (end : ℕ) (old new : Told D) : Type 0 where
-  pub changed : new ≡ record old {
-    tape = old.tape ++ Save (old.saved.number + 1) now ∷ [];
-    dev = Some dev;
-    saved = record { number = old.saved.number + 1; versions = versions_of old; rows = old.sheet.rows; end = end };
-  }
-
--- a book whose device failed: nothing else changed
-pub record IsFaulted {D : Type 0} (old new : Told D) : Type 0 where
-  pub failed : new.failed ≡ true
-  pub same : new ≡ record old { dev = new.dev; failed = true }
 
 -- ---- what is handed out at the end
 
