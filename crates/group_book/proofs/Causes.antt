@@ -1,12 +1,11 @@
 -- Why a book is not refreshed, from what was pulled and from its sheet.
-use Rattle.std.proofs.Common.{◌≡◌, inl, inr, ℕ, zero, suc, ◌+◌, ◌<◌, ◌≤◌, Bool, true, false, List, [], ◌∷◌, ◌++◌, All, length, map, get_or, Option, None, Some, Result, Ok, Err, IfErr, OnOk, nat_lt, refl, sym, ap, ◌∙◌, subst, arith, length-append, ltb-true, if◌then◌else◌}
+use Rattle.std.proofs.Common.{◌≡◌, inl, inr, ℕ, zero, suc, ◌+◌, ◌<◌, ◌≤◌, Bool, true, false, List, [], ◌∷◌, ◌++◌, length, map, get_or, None, Some, Result, Ok, Err, IfErr, OnOk, nat_lt, refl, sym, ap, ◌∙◌, subst, arith, length-append, ltb-true, if◌then◌else◌}
 use Rattle.std.proofs.Math.ListN.{get_or-append}
 use Rattle.std.proofs.Math.Seq.{get_or-append_seam}
 use Rattle.std.proofs.lemmas.Bool.{cases_lt}
 use Rattle.std.proofs.lemmas.List.{length-map, map-append}
 use Rattle.trend_num.specs.declared.archive.Rec.{Rec}
 use Rattle.tag_cell.specs.declared.entry.Pulled.{Pulled}
-use Rattle.calc_refresh.specs.declared.refusal.SheetNo.{SheetNo}
 use Rattle.calc_refresh.specs.declared.refusal.SheetNo.TheVariants as sheet
 use Rattle.calc_refresh.specs.Refreshed.{limit_fault, most_cells, most_copies}
 use Rattle.group_book.specs.declared.refusal.RefreshNo.{RefreshNo}
@@ -82,22 +81,22 @@ pub goes_more : (versions : List ℕ) (ps : List Pulled) (one : Pulled)
 goes_more versions ps one goes is k p low = elim (cases_lt k (length ps)) [
   | inl before ↦ subst (λ x. x.upto ≡ get_or versions k 0 + length x.recs.items) (sym (get_or-append ps (one ∷ []) p k before)) (goes k p before)
   | inr at ↦
-    let place : k ≡ length ps = omega (arith, low, length-append ps (one ∷ [])) in
-    subst (λ x. x.upto ≡ get_or versions k 0 + length x.recs.items)
-    (sym (ap (λ n. get_or (ps ++ one ∷ []) n p) place ∙ get_or-append_seam ps one [] p))
-    (subst (λ n. one.upto ≡ get_or versions n 0 + length one.recs.items) (sym place) is)
+      let place : k ≡ length ps = omega (arith, low, length-append ps (one ∷ [])) in
+      subst (λ x. x.upto ≡ get_or versions k 0 + length x.recs.items)
+      (sym (ap (λ n. get_or (ps ++ one ∷ []) n p) place ∙ get_or-append_seam ps one [] p))
+      (subst (λ n. one.upto ≡ get_or versions n 0 + length one.recs.items) (sym place) is)
 ]
 
 pub none_more : (tags : List ℕ) (cells : ℕ) (ps : List Pulled) (one : Pulled) → GivesNone tags cells (pulled_records ps)
     → (cells ≤ get_or tags (length ps) 0 → one.recs.items ≡ []) → GivesNone tags cells (pulled_records (ps ++ one ∷ []))
 none_more tags cells ps one none is i rs low beyond = elim (cases_lt i (length ps)) [
   | inl before ↦
-    ap (λ l. get_or l i rs) all ∙ get_or-append (pulled_records ps) (one.recs.items ∷ []) rs i (omega (arith, before, long))
-    ∙ none i rs (omega (arith, before, long)) beyond
+      ap (λ l. get_or l i rs) all ∙ get_or-append (pulled_records ps) (one.recs.items ∷ []) rs i (omega (arith, before, long))
+      ∙ none i rs (omega (arith, before, long)) beyond
   | inr at ↦
-    let place : i ≡ length ps = omega (arith, low, ap length all, length-append (pulled_records ps) (one.recs.items ∷ []), long) in
-    ap (λ l. get_or l i rs) all ∙ ap (λ n. get_or (pulled_records ps ++ one.recs.items ∷ []) n rs) (place ∙ sym long)
-    ∙ get_or-append_seam (pulled_records ps) one.recs.items [] rs ∙ is (subst (λ n. cells ≤ get_or tags n 0) place beyond)
+      let place : i ≡ length ps = omega (arith, low, ap length all, length-append (pulled_records ps) (one.recs.items ∷ []), long) in
+      ap (λ l. get_or l i rs) all ∙ ap (λ n. get_or (pulled_records ps ++ one.recs.items ∷ []) n rs) (place ∙ sym long)
+      ∙ get_or-append_seam (pulled_records ps) one.recs.items [] rs ∙ is (subst (λ n. cells ≤ get_or tags n 0) place beyond)
 ]
   where
     all : pulled_records (ps ++ one ∷ []) ≡ pulled_records ps ++ one.recs.items ∷ []
@@ -118,9 +117,11 @@ pub goes_from : (versions : List ℕ) (copies : List (List Rec)) (ps : List Pull
     → length ps ≡ length copies
     → ((k : ℕ) (p : Pulled) → k < length ps → (get_or ps k p).upto ≡ get_or versions k 0 + length (get_or ps k p).recs.items)
     → GoesOn copies ps
-goes_from versions copies ps are same goes = record { upto = λ i p rs low.
-  goes i p low
-  ∙ ap (λ n. n + length (get_or ps i p).recs.items) (ap (λ l. get_or l i 0) are ∙ version_at copies i rs (omega (arith, low, same))) }
+goes_from versions copies ps are same goes = record {
+  upto = λ i p rs low.
+      goes i p low
+      ∙ ap (λ n. n + length (get_or ps i p).recs.items) (ap (λ l. get_or l i 0) are ∙ version_at copies i rs (omega (arith, low, same)));
+}
 
 -- what was published, with what was pulled
 pub with_pulls : {T E D : Type 0} (r : Result T E) (mores : List (List Rec)) (old new : Told D) (tags : List ℕ) (cells : ℕ)

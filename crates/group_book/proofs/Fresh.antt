@@ -1,8 +1,7 @@
 -- A book that was just made.
-use Rattle.std.proofs.Common.{◌≡◌, ℕ, zero, suc, ◌+◌, ◌<◌, ◌≤◌, Bool, true, false, List, [], ◌∷◌, length, map, replicate, Option, None, Some, refl, sym, ap, ◌∙◌, subst, arith}
+use Rattle.std.proofs.Common.{◌≡◌, ℕ, zero, suc, ◌≤◌, false, List, [], ◌∷◌, length, map, replicate, None, refl, sym, ap, ◌∙◌, subst}
 use Rattle.std.proofs.lemmas.List.{length-replicate}
 use Rattle.trend_num.specs.declared.archive.Rec.{Rec}
-use Rattle.trend_num.specs.declared.value.CalcValue.{CalcValue}
 use Rattle.disk_model.specs.Moments.{LeftSince}
 use Rattle.calc_refresh.specs.declared.definition.GroupDefParts.{GroupDefParts}
 use Rattle.calc_refresh.specs.Lists.{lists_of}
@@ -11,7 +10,7 @@ use Rattle.calc_refresh.specs.Sheet.{IsGrid, IsGroup, SheetState, grid_of}
 use Rattle.sheet_law.specs.Scratch.{IsScratch}
 use Rattle.group_book.specs.declared.history.GroupOpening.{GroupOpening}
 use Rattle.group_book.specs.Crashes.{IsSafe}
-use Rattle.group_book.specs.Histories.{IsLegal, IsRight}
+use Rattle.group_book.specs.Histories.{IsLegal}
 use Rattle.group_book.specs.Tapes.{cut}
 use Rattle.group_book.specs.Told.{IsDefined, IsKept, Saved}
 use Rattle.group_book.proofs.Cuts.{cut-all}

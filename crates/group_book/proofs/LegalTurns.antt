@@ -1,32 +1,29 @@
 -- A book's history after a question, and after a refresh.
-use Rattle.std.proofs.Common.{◌≡◌, inl, inr, ℕ, zero, suc, ◌+◌, ◌<◌, ◌≤◌, Bool, true, false, All, List, [], ◌∷◌, ◌++◌, Contains, length, map, get_or, slice_get, Vec, Option, None, Some, IfSome, option_and_then, nat_lt, ltb-true, ltb-false, refl, sym, ap, ◌∙◌, subst, arith, if◌then◌else◌, length-append}
+use Rattle.std.proofs.Common.{◌≡◌, ℕ, zero, suc, ◌≤◌, Bool, true, false, All, List, [], ◌∷◌, ◌++◌, Contains, length, map, get_or, slice_get, Vec, Option, None, Some, IfSome, option_and_then, nat_lt, ltb-true, ltb-false, refl, sym, ap, ◌∙◌, subst, arith, if◌then◌else◌, length-append}
 use Rattle.std.specs.Option.{option_map}
 use Rattle.std.specs.declared.alloc.Global.{Global}
 use Rattle.std.proofs.Math.ListN.{get_or-append}
-use Rattle.std.proofs.lemmas.Bool.{cases_lt}
 use Rattle.std.proofs.lemmas.List.Elements.{All-cons, All-head, All-nil, All-tail}
 use Rattle.std.proofs.lemmas.Option.{slice_get-map, slice_get_past}
 use Rattle.trend_num.specs.declared.archive.Rec.{Rec}
 use Rattle.trend_num.specs.declared.value.CalcValue.{CalcValue}
-use Rattle.disk_model.specs.Moments.{LeftSince}
 use Rattle.disk_model.specs.Traces.{Trace}
 use Rattle.calc_check.specs.Group.{Group}
 use Rattle.calc_refresh.specs.declared.definition.GroupDefParts.{GroupDefParts}
-use Rattle.calc_refresh.specs.Lists.{lists_of}
 use Rattle.calc_refresh.specs.Sheet.{grid_of}
 use Rattle.sheet_law.specs.declared.grid.Grid.{Grid}
-use Rattle.sheet_law.specs.Scratch.{IsScratch, column, values_at}
+use Rattle.sheet_law.specs.Scratch.{IsScratch, values_at}
 use Rattle.sheet_law.specs.Windows.{complete_windows}
 use Rattle.sheet_law.specs.Touched.{longer}
 use Rattle.group_layout.specs.Rows.{cell_of}
 use Rattle.group_book.specs.declared.turn.Turn.{Turn}
-use Rattle.group_book.specs.declared.turn.Turn.TheVariants.{Refresh, Ask, Save}
+use Rattle.group_book.specs.declared.turn.Turn.TheVariants.{Refresh, Ask}
 use Rattle.group_book.specs.declared.history.GroupOpening.{GroupOpening}
-use Rattle.group_book.specs.Tapes.{Walk, after_turn, cut, saved_at, start, versions_since, walked}
-use Rattle.group_book.specs.Histories.{FitAll, Fits, IsLegal, IsRight, NeverFall, scratch_at}
+use Rattle.group_book.specs.Tapes.{cut, saved_at, start, versions_since, walked}
+use Rattle.group_book.specs.Histories.{IsLegal, IsRight, NeverFall, scratch_at}
 use Rattle.group_book.specs.Crashes.{IsSafe, StandsForOne}
 use Rattle.group_book.specs.Told.{IsKept, Saved}
-use Rattle.group_book.proofs.Cuts.{cut-all, cut-longer, longer_rises, never_refl, never_trans}
+use Rattle.group_book.proofs.Cuts.{cut-all, cut-longer, longer_rises, never_refl}
 use Rattle.group_book.proofs.Turns.{fit_longer, fit_push, right_back, saved-ask, saved-refresh, saved_rises, since-ask, since-refresh, since_rises, walk_rises, walked-push}
 
 -- ---- a cell of rows from scratch
@@ -106,22 +103,24 @@ module _ (g : Group) (grid : Grid) (o : GroupOpening) (tape : List Turn) (versio
     -- what stood for one of the versions stands for it
     pub safe_refreshed : (text : List ℕ) (left : ℕ → List ℕ → Type 0) → IsSafe text g grid o copies tape left
         → IsSafe text g grid o (longer copies mores) (tape ++ Refresh new ∷ []) left
-    safe_refreshed text left safe = record { images = λ right t c since there.
-      let one = safe.images (right_back g grid o copies mores opened_low right) t c since there in
-      let list = versions_since t o.versions.items (o.versions.items ∷ []) tape in
-      let low = subst (NeverFall (get_or list one.among.0 one.versions)) at_end
+    safe_refreshed text left safe = record {
+      images = λ right t c since there.
+          let one = safe.images (right_back g grid o copies mores opened_low right) t c since there in
+          let list = versions_since t o.versions.items (o.versions.items ∷ []) tape in
+          let low = subst (NeverFall (get_or list one.among.0 one.versions)) at_end
           (since_rises g grid o copies t (start o) (o.versions.items ∷ []) tape legal.turns
           (All-cons (λ v. NeverFall v o.versions.items) o.versions.items [] (never_refl o.versions.items)
           (All-nil (λ v. NeverFall v o.versions.items))) one.among.0 one.versions one.among.1) in
-      record {
-        versions = one.versions;
-        rows = one.rows;
-        among = subst (λ l. Contains l one.versions) (sym (since-refresh t o.versions.items (o.versions.items ∷ []) tape new))
-            (contains_left list (new.items ∷ []) one.versions one.among);
-        stands = one.stands;
-        scratch = subst (λ rss. IsScratch g grid rss one.rows)
-            (sym (cut-longer one.versions copies mores (subst (λ v. NeverFall v (map length copies)) one.among.2 low))) one.scratch;
-      } }
+          record {
+            versions = one.versions;
+            rows = one.rows;
+            among = subst (λ l. Contains l one.versions) (sym (since-refresh t o.versions.items (o.versions.items ∷ []) tape new))
+                (contains_left list (new.items ∷ []) one.versions one.among);
+            stands = one.stands;
+            scratch = subst (λ rss. IsScratch g grid rss one.rows)
+                (sym (cut-longer one.versions copies mores (subst (λ v. NeverFall v (map length copies)) one.among.2 low))) one.scratch;
+          };
+    }
       where
         contains_left : (xs ys : List (List ℕ)) (x : List ℕ) → Contains xs x → Contains (xs ++ ys) x
         contains_left xs ys x is =
@@ -148,9 +147,11 @@ kept_asked text def o tape copies saved failed trace ticks faults reader row cal
 pub safe_asked : (text : List ℕ) (g : Group) (grid : Grid) (o : GroupOpening) (copies : List (List Rec)) (tape : List Turn)
     (left : ℕ → List ℕ → Type 0) (reader row calc k : ℕ) (reply : Option CalcValue)
     → IsSafe text g grid o copies tape left → IsSafe text g grid o copies (tape ++ Ask reader row calc k reply ∷ []) left
-safe_asked text g grid o copies tape left reader row calc k reply safe = record { images = λ right t c since there.
-  subst (λ l. StandsForOne text g grid copies l c)
-  (sym (since-ask t o.versions.items (o.versions.items ∷ []) tape reader row calc k reply)) (safe.images right t c since there) }
+safe_asked text g grid o copies tape left reader row calc k reply safe = record {
+  images = λ right t c since there.
+      subst (λ l. StandsForOne text g grid copies l c)
+      (sym (since-ask t o.versions.items (o.versions.items ∷ []) tape reader row calc k reply)) (safe.images right t c since there);
+}
 
 pub kept_refreshed : (text : List ℕ) (def : GroupDefParts) (o : GroupOpening) (tape : List Turn) (versions : List ℕ)
     (copies : List (List Rec)) (rows : List (List CalcValue)) (mores : List (List Rec)) (new : Vec ℕ Global) (saved : Saved)

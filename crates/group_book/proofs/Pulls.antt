@@ -1,5 +1,5 @@
 -- What was pulled of each input goes on from its copies.
-use Rattle.std.proofs.Common.{◌≡◌, ℕ, zero, suc, ◌+◌, ◌<◌, ◌≤◌, Bool, Option, List, [], ◌∷◌, ◌++◌, length, map, Vec, refl, sym, ap, ◌∙◌, subst, arith, length-append}
+use Rattle.std.proofs.Common.{◌≡◌, ℕ, suc, Bool, Option, List, [], ◌∷◌, ◌++◌, length, map, Vec, refl, sym, ap, ◌∙◌, subst, arith, length-append}
 use Rattle.trend_num.specs.declared.archive.Rec.{Rec}
 use Rattle.tag_cell.specs.declared.entry.Pulled.{Pulled}
 use Rattle.sheet_law.specs.Touched.{longer}
@@ -32,7 +32,7 @@ uptos_are [] (p ∷ ps) goes same = absurd (omega arith)
 uptos_are (rs ∷ copies) [] goes same = absurd (omega arith)
 uptos_are (rs ∷ copies) (p ∷ ps) goes same =
     let first : p.upto ≡ length (rs ++ p.recs.items)
-        = goes.upto 0 p rs (omega arith) ∙ sym (length-append rs p.recs.items) in
+    = goes.upto 0 p rs (omega arith) ∙ sym (length-append rs p.recs.items) in
     let rest = uptos_are copies ps (tail_goes rs copies p ps goes) (omega arith) in
     λ i. first i ∷ rest i
 
@@ -77,15 +77,15 @@ book_refreshed text def tags o tape tape' versions versions' entry s t mores sav
     tags_are = was.0.tags_are;
   },
   subst (λ (us : List ℕ). IsLegal def.calcs grid o tape' us t.copies t.rows) (reached ∙ sym same)
-  (subst (λ (l : List Turn). IsLegal def.calcs grid o l entry.items t.copies t.rows) (sym told)
-  (subst (λ (rss : List (List Rec)). IsLegal def.calcs grid o (tape ++ Refresh entry ∷ []) entry.items rss t.rows) (sym refreshed.copies)
-  (legal_refreshed def.calcs grid o tape versions s.copies s.rows was.1 mores t.rows entry reached_here scratch))),
+      (subst (λ (l : List Turn). IsLegal def.calcs grid o l entry.items t.copies t.rows) (sym told)
+      (subst (λ (rss : List (List Rec)). IsLegal def.calcs grid o (tape ++ Refresh entry ∷ []) entry.items rss t.rows) (sym refreshed.copies)
+      (legal_refreshed def.calcs grid o tape versions s.copies s.rows was.1 mores t.rows entry reached_here scratch))),
   subst (λ (l : List Turn). IsKept text def o l t.copies saved failed trace ticks faults) (sym told)
-  (subst (λ (rss : List (List Rec)). IsKept text def o (tape ++ Refresh entry ∷ []) rss saved failed trace ticks faults) (sym refreshed.copies)
-  (kept_refreshed text def o tape versions s.copies s.rows mores entry saved failed trace ticks faults was.1 was.2)),
+      (subst (λ (rss : List (List Rec)). IsKept text def o (tape ++ Refresh entry ∷ []) rss saved failed trace ticks faults) (sym refreshed.copies)
+      (kept_refreshed text def o tape versions s.copies s.rows mores entry saved failed trace ticks faults was.1 was.2)),
   subst (λ (l : List Turn). IsSafe text def.calcs grid o t.copies l left) (sym told)
-  (subst (λ (rss : List (List Rec)). IsSafe text def.calcs grid o rss (tape ++ Refresh entry ∷ []) left) (sym refreshed.copies)
-  (safe_refreshed def.calcs grid o tape versions s.copies s.rows was.1 mores t.rows entry reached_here scratch text left was.3)),
+      (subst (λ (rss : List (List Rec)). IsSafe text def.calcs grid o rss (tape ++ Refresh entry ∷ []) left) (sym refreshed.copies)
+      (safe_refreshed def.calcs grid o tape versions s.copies s.rows was.1 mores t.rows entry reached_here scratch text left was.3)),
 )
   where
     grid : Grid

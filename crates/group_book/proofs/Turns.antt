@@ -1,6 +1,6 @@
 -- Tapes with one more turn, and over copies that grew.
-use Rattle.std.proofs.Common.{◌≡◌, inl, inr, ℕ, ◌+◌, ◌<◌, ◌≤◌, Bool, true, false, All, List, [], ◌∷◌, ◌++◌, Contains, length, map, get_or, Option, None, Some, IfSome, nat_le, refl, sym, ap, ◌∙◌, subst, arith, if◌then◌else◌}
-use Rattle.std.proofs.lemmas.List.Elements.{All-append, All-cons, All-nil, All-push}
+use Rattle.std.proofs.Common.{◌≡◌, ℕ, Bool, true, false, All, List, [], ◌∷◌, ◌++◌, length, map, get_or, nat_le, refl, sym, ap, ◌∙◌, subst, if◌then◌else◌}
+use Rattle.std.proofs.lemmas.List.Elements.{All-cons, All-nil, All-push}
 use Rattle.trend_num.specs.declared.archive.Rec.{Rec}
 use Rattle.calc_check.specs.Group.{Group}
 use Rattle.calc_refresh.specs.Lists.{lists_of}
@@ -10,7 +10,7 @@ use Rattle.sheet_law.specs.Touched.{longer}
 use Rattle.group_book.specs.declared.turn.Turn.{Turn}
 use Rattle.group_book.specs.declared.turn.Turn.TheVariants.{Refresh, Ask, Save}
 use Rattle.group_book.specs.declared.history.GroupOpening.{GroupOpening}
-use Rattle.group_book.specs.Tapes.{Walk, after_turn, cut, saved_at, start, versions_since, walked}
+use Rattle.group_book.specs.Tapes.{Walk, after_turn, saved_at, versions_since, walked}
 use Rattle.group_book.specs.Histories.{FitAll, Fits, IsRight, NeverFall, scratch_at}
 use Rattle.group_book.proofs.Cuts.{cut-longer, never_refl, never_trans}
 
@@ -116,10 +116,11 @@ pub fit_longer : (g : Group) (grid : Grid) (o : GroupOpening) (copies mores : Li
 fit_longer g grid o copies mores w [] opened low fits = tt
 fit_longer g grid o copies mores w (Refresh versions ∷ es) opened low fits =
     (fits.0, fit_longer g grid o copies mores (after_turn w (Refresh versions)) es opened low fits.1)
-fit_longer g grid o copies mores w (Ask reader row calc k reply ∷ es) opened low fits =
-    (λ right. fits.0 (right_back g grid o copies mores opened right)
-    ∙ ap (λ rss. scratch_at g grid rss calc k) (sym (cut-longer w.versions copies mores
-    (never_trans w.versions (walked w es).versions (map length copies) (walk_rises g grid o copies w es fits.1) low))),
-    fit_longer g grid o copies mores w es opened low fits.1)
+fit_longer g grid o copies mores w (Ask reader row calc k reply ∷ es) opened low fits = (
+  λ right. fits.0 (right_back g grid o copies mores opened right)
+      ∙ ap (λ rss. scratch_at g grid rss calc k) (sym (cut-longer w.versions copies mores
+      (never_trans w.versions (walked w es).versions (map length copies) (walk_rises g grid o copies w es fits.1) low))),
+  fit_longer g grid o copies mores w es opened low fits.1,
+)
 fit_longer g grid o copies mores w (Save number moment ∷ es) opened low fits =
     (fits.0, fit_longer g grid o copies mores (after_turn w (Save number moment)) es opened low fits.1)

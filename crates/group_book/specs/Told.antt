@@ -1,6 +1,5 @@
 -- What a book is seen as, what its type keeps, and what its calls change.
-use Rattle.std.specs.Prelude.{◌≡◌, ◌⊎◌, ℕ, ◌+◌, ◌^◌, ◌<◌, ◌≤◌, Bool, true, false, List, [], ◌∷◌, ◌++◌, All, length, map, Option, None, Some, IfSome, slice_index, slice_index_or, Vec}
-use Rattle.std.specs.Ordering.{int_eq}
+use Rattle.std.specs.Prelude.{◌≡◌, ◌⊎◌, ℕ, ◌+◌, ◌<◌, ◌≤◌, Bool, true, false, List, [], ◌∷◌, ◌++◌, length, map, Option, None, Some, IfSome, slice_index, slice_index_or, Vec}
 use Rattle.std.specs.declared.alloc.Global.{Global}
 use Rattle.trend_num.specs.declared.archive.Rec.{Rec}
 use Rattle.trend_num.specs.declared.value.CalcValue.{CalcValue}
@@ -15,15 +14,13 @@ use Rattle.calc_refresh.specs.Lists.{lists_of}
 use Rattle.calc_refresh.specs.Refreshed.{IsRefreshed}
 use Rattle.calc_refresh.specs.Sheet.{IsGrid, IsGroup, SheetState, grid_of}
 use Rattle.sheet_law.specs.Scratch.{IsScratch}
-use Rattle.sheet_law.specs.Windows.{complete_windows}
-use Rattle.group_layout.specs.declared.block.BlockRow.{BlockRow}
-use Rattle.group_layout.specs.Blocks.{Parts, AreRows, end_of, last_of, unsaved}
+use Rattle.group_layout.specs.Blocks.{Parts, end_of, last_of, unsaved}
 use Rattle.group_layout.specs.Images.{HasSaved, blocks_at}
-use Rattle.group_layout.specs.Rows.{cell_of, listed_from}
+use Rattle.group_layout.specs.Rows.{cell_of}
 use Rattle.group_book.specs.declared.history.GroupHistory.{GroupHistory}
 use Rattle.group_book.specs.declared.history.GroupOpening.{GroupOpening}
 use Rattle.group_book.specs.declared.turn.Turn.{Turn}
-use Rattle.group_book.specs.declared.turn.Turn.TheVariants.{Refresh, Ask, Save}
+use Rattle.group_book.specs.declared.turn.Turn.TheVariants.{Refresh, Ask}
 use Rattle.group_book.specs.Tapes.{cut, saved_at, start, walked}
 use Rattle.group_book.specs.Histories.{IsLegal, IsRight}
 use Rattle.group_book.specs.Crashes.{IsSafe}

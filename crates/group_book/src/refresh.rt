@@ -32,7 +32,14 @@ impl<D: Disk> Book<D> {
         ensures unchanged { OnErr result (self.new ≡ self.old) }
         ensures cause { IfErr result (IsRefreshCause (versions_of self.old)) }
     {
-        match pull_all(self.alloc, rt, cells, self.group, &self.tags, &self.versions) {
+        match pull_all(
+            self.alloc,
+            rt,
+            cells,
+            self.group,
+            &self.tags,
+            &self.versions,
+        ) {
             Ok(pulled) => self.publish(pulled, steps),
             Err(why) => Err(why),
         }

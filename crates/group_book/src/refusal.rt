@@ -10,8 +10,12 @@ pub enum RefreshNo {
         records: u32,
     },
     /// There would be more cells, complete windows times calculations, than a sheet may have.
-    CellLimit { cells: u64 },
+    CellLimit {
+        cells: u64,
+    },
     /// There would be more records in all copies together than a sheet may have.
-    CopyLimit { records: u64 },
+    CopyLimit {
+        records: u64,
+    },
     WantOfMemory,
 }

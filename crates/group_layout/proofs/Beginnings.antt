@@ -1,6 +1,6 @@
 -- What a crash leaves while a group's device is begun, or a block is added.
-use Rattle.std.proofs.Common.{◌≡◌, ◌≢◌, inl, inr, ⊎_elim, ℕ, zero, suc, ◌+◌, ◌-◌, ◌*◌, ◌^◌, ◌<◌, ◌≤◌, true, Bool, All, List, [], ◌∷◌, ◌++◌, flat_map, length, get_or, take, drop, Option, None, Some, IfSome, Result, refl, sym, ◌∙◌, ap, subst, arith, lit<, nat_eq, length-append, length-take, length-drop, eq-eqb}
-use Rattle.std.specs.Int.{w32, from_be_bytes, to_be_bytes}
+use Rattle.std.proofs.Common.{◌≡◌, ◌≢◌, inl, inr, ⊎_elim, ℕ, zero, suc, ◌+◌, ◌*◌, ◌^◌, ◌<◌, ◌≤◌, true, All, List, [], ◌∷◌, ◌++◌, length, get_or, take, drop, Option, None, Some, Result, refl, sym, ◌∙◌, ap, subst, arith, lit<, length-append, length-take, length-drop, eq-eqb}
+use Rattle.std.specs.Int.{w32, from_be_bytes}
 use Rattle.std.proofs.lemmas.Bool.{cases_eq}
 use Rattle.std.proofs.Math.Seq.{take-add}
 use Rattle.std.proofs.lemmas.List.{get_or-take, get_or-drop, drop-drop, take-take, take_at}
@@ -8,10 +8,10 @@ use Rattle.std.proofs.lemmas.List.Elements.{All-cons, All-nil}
 use Rattle.std.proofs.lemmas.Grind.{same_number_lists}
 use Rattle.std.proofs.lemmas.Nat.{from_be_bytes-to_be_bytes_4}
 use Rattle.disk_model.specs.Traces.{Wrote, WroteInPart, Synced, Idle, Trace, seen, written}
-use Rattle.disk_model.specs.Images.{MayLeave, Now, FromOld, IsSettled, IsOutside}
+use Rattle.disk_model.specs.Images.{MayLeave, Now, FromOld, IsSettled}
 use Rattle.disk_model.specs.Moments.{During}
 use Rattle.disk_model.specs.Calls.{IsNoted, HasLength, Reaches, Sees, Shows}
-use Rattle.disk_model.specs.Gates.{Holds, IsBegun, IsClosing, IsGuarded, IsNew, IsOpen, IsShut, open_byte}
+use Rattle.disk_model.specs.Gates.{Holds, IsClosing, IsGuarded, IsOpen, IsShut, open_byte}
 use Rattle.disk_model.proofs.Images.{present, wrote_now, synced_now}
 use Rattle.disk_model.proofs.Moments.{started, during_now, weaker, in_turn, goes_on}
 use Rattle.archive_file.specs.Fields.{number_bytes}
@@ -19,7 +19,7 @@ use Rattle.group_layout.specs.declared.block.BlockRow.{BlockRow}
 use Rattle.group_layout.specs.declared.field.Field.{Field}
 use Rattle.group_layout.specs.Fields.{Keeps, short_at}
 use Rattle.group_layout.specs.Blocks.{Parts, block_image, block_size, row_image, rows_image, versions_image}
-use Rattle.group_layout.specs.Images.{HasHead, IsOfOther, IsOfText, IsUnsaved, blocks_at, head_fields, letter_field, letters, text_in}
+use Rattle.group_layout.specs.Images.{IsUnsaved, head_fields, letter_field, letters, text_in}
 use Rattle.group_layout.specs.Readings.{IsEmpty, SavesNothing, head_image}
 use Rattle.group_layout.proofs.FieldLaws.{field_of}
 
@@ -172,7 +172,7 @@ head_is text c small opened holds = record {
     closed e =
         let place : 9 + length text ≡ 9 + length text + 0 = omega arith in
         let zero_there : get_or c (9 + length text) 0 ≡ 0
-            = ap (λ n. get_or c n 0) place ∙ holds_byte c (9 + length text) (0 ∷ []) 0 (holds_right c 9 text (0 ∷ []) behind) (lit< tt) in
+        = ap (λ n. get_or c n 0) place ∙ holds_byte c (9 + length text) (0 ∷ []) 0 (holds_right c 9 text (0 ∷ []) behind) (lit< tt) in
         absurd (omega (arith, e, zero_there))
 
     letter : (i : ℕ) → i < 4 → get_or c (1 + i) 0 ≡ get_or letters i 0
@@ -232,12 +232,16 @@ module _ (text bytes : List ℕ) (small : length text < 2 ^ 32) (is : bytes ≡ 
 pub shut_guarded : (o : Option Trace) (at : ℕ) (bytes : List ℕ) (gate : ℕ) → Now o (IsShut gate)
     → During o o (FromOld o (IsGuarded at bytes gate))
 shut_guarded o at bytes gate shut = started o (FromOld o (IsGuarded at bytes gate)) (record {
-  each = λ c may. (c, may, record {
-    whole = λ opened. absurd ((shut.each c may).closed opened);
-    outside = λ i there out other. refl;
-    no_shorter = omega arith;
-    no_longer = omega arith;
-  });
+  each = λ c may. (
+    c,
+    may,
+    record {
+      whole = λ opened. absurd ((shut.each c may).closed opened);
+      outside = λ i there out other. refl;
+      no_shorter = omega arith;
+      no_longer = omega arith;
+    },
+  );
 })
 
 -- how many bytes the rows have

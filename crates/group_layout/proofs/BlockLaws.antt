@@ -1,12 +1,12 @@
 -- A block, read in turn: its number, the versions, how many windows and rows, the rows, and the next gate.
-use Rattle.std.proofs.Common.{◌≡◌, ℕ, suc, ◌+◌, ◌-◌, ◌*◌, ◌<◌, ◌≤◌, Bool, true, All, List, [], ◌∷◌, ◌++◌, length, get_or, take, drop, None, Option, Result, refl, sym, ap, ◌∙◌, subst, arith, nat_eq, nat_le, lit<, eqb-true, leb-true, length-append}
+use Rattle.std.proofs.Common.{◌≡◌, ℕ, ◌+◌, ◌*◌, ◌<◌, ◌≤◌, true, All, List, [], ◌∷◌, ◌++◌, length, get_or, None, sym, ap, ◌∙◌, subst, arith, nat_eq, nat_le, lit<, eqb-true, leb-true}
 use Rattle.archive_file.specs.Fields.{number_bytes}
 use Rattle.archive_file.proofs.Points.{IsBytes}
 use Rattle.group_layout.specs.declared.block.BlockRow.{BlockRow}
 use Rattle.group_layout.specs.declared.field.Field.{Field}
-use Rattle.group_layout.specs.Fields.{BreaksFirst, Keeps, Spells, long_at, short_at}
+use Rattle.group_layout.specs.Fields.{Keeps, Spells, long_at, short_at}
 use Rattle.group_layout.specs.Blocks.{Parts, AreRows, MayFollow, block_fields, block_image, block_size, rows_fields, rows_image, version_fields, versions_image}
-use Rattle.group_layout.proofs.FieldLaws.{KeptUpTo, breaks_after, breaks_within, field_of, kept_all, kept_more, kept_none, spells_both}
+use Rattle.group_layout.proofs.FieldLaws.{KeptUpTo, field_of, kept_more, kept_none, spells_both}
 use Rattle.group_layout.proofs.Spellings.{spells_long, spells_short}
 
 module _ (c : List ℕ) (calcs gate : ℕ) (before : Parts) (number at windows count : ℕ) (vs : List ℕ)
@@ -93,18 +93,18 @@ module _ (c : List ℕ) (calcs gate : ℕ) (before : Parts) (number at windows c
     block_spelled bytes versions row_bytes long =
         let none = field_of 0 0 true in
         let first : Spells c (gate + 1) (number_bytes 8 number) (gate + 9)
-            = subst (λ n. Spells c (gate + 1) (number_bytes 8 n) (gate + 9)) (sym number_is)
-            (subst (Spells c (gate + 1) (number_bytes 8 (long_at c (gate + 1)))) (omega arith)
-            (spells_long c (gate + 1) bytes (kept 0 none (lit< tt)).there)) in
+        = subst (λ n. Spells c (gate + 1) (number_bytes 8 n) (gate + 9)) (sym number_is)
+        (subst (Spells c (gate + 1) (number_bytes 8 (long_at c (gate + 1)))) (omega arith)
+        (spells_long c (gate + 1) bytes (kept 0 none (lit< tt)).there)) in
         let second : Spells c (gate + 9) (versions_image us) at
-            = subst (Spells c (gate + 9) (versions_image us)) (sym at_is) versions in
+        = subst (Spells c (gate + 9) (versions_image us)) (sym at_is) versions in
         let third : Spells c at (number_bytes 4 windows) (at + 4)
-            = subst (λ n. Spells c at (number_bytes 4 n) (at + 4)) (sym windows_is)
-            (spells_short c at bytes (counts 0 none (lit< tt)).there) in
+        = subst (λ n. Spells c at (number_bytes 4 n) (at + 4)) (sym windows_is)
+        (spells_short c at bytes (counts 0 none (lit< tt)).there) in
         let fourth : Spells c (at + 4) (number_bytes 4 (length rows)) (at + 8)
-            = subst (λ n. Spells c (at + 4) (number_bytes 4 n) (at + 8)) (sym (long ∙ count_is))
-            (subst (Spells c (at + 4) (number_bytes 4 (short_at c (at + 4)))) (omega arith)
-            (spells_short c (at + 4) bytes (counts 1 none (lit< tt)).there)) in
+        = subst (λ n. Spells c (at + 4) (number_bytes 4 n) (at + 8)) (sym (long ∙ count_is))
+        (subst (Spells c (at + 4) (number_bytes 4 (short_at c (at + 4)))) (omega arith)
+        (spells_short c (at + 4) bytes (counts 1 none (lit< tt)).there)) in
         let end : at + 8 + 17 * count ≡ gate + (17 + 4 * length us + 17 * length rows) = omega (arith, at_is, same, long) in
         subst (Spells c (gate + 1) (block_image (record { number = number; versions = us; windows = windows; rows = rows }))) end
         (spells_both c (gate + 1) (gate + 9) _ (number_bytes 8 number) _ first

@@ -1,12 +1,12 @@
 -- Fields one behind the other: those that are kept, and the first that is not.
-use Rattle.std.proofs.Common.{◌≡◌, inl, inr, ℕ, ◌+◌, ◌<◌, ◌≤◌, Bool, true, false, All, List, [], ◌∷◌, ◌++◌, length, get_or, take, drop, Option, None, Some, Result, Err, IsErrOf, refl, sym, ap, ◌∙◌, subst, arith, append_assoc, length-append}
+use Rattle.std.proofs.Common.{◌≡◌, inl, inr, ℕ, ◌≤◌, Bool, true, All, List, [], ◌∷◌, ◌++◌, length, take, drop, Option, Result, Err, IsErrOf, refl, sym, ap, ◌∙◌, subst, arith, append_assoc, length-append}
 use Rattle.std.proofs.Math.Seq.{take-add}
 use Rattle.std.proofs.lemmas.List.{append-nil, drop-drop}
 use Rattle.std.proofs.lemmas.List.Elements.{All-append, All-cons, All-nil}
 use Rattle.archive_file.specs.declared.failure.ScanNo.{ScanNo}
 use Rattle.archive_file.specs.declared.failure.ScanNo.TheVariants.{Damaged}
 use Rattle.group_layout.specs.declared.field.Field.{Field}
-use Rattle.group_layout.specs.Fields.{Spells, Keeps, EndsIn, IsBroken, Breaks, BreaksFirst}
+use Rattle.group_layout.specs.Fields.{Spells, Keeps, EndsIn, Breaks, BreaksFirst}
 
 -- a field at a place, and whether it is kept
 abbrev pub field_of : ℕ → ℕ → Bool → Field

@@ -1,10 +1,10 @@
 -- The head of a layout: its definition text, and where the blocks begin.
-use Rattle.std.proofs.Common.{◌≡◌, ℕ, ◌+◌, ◌-◌, ◌<◌, ◌≤◌, true, List, length, take, drop, get_or, Option, None, Some, refl, sym, ap, ◌∙◌, subst, arith, lit<, length-take, length-drop}
+use Rattle.std.proofs.Common.{◌≡◌, ℕ, ◌+◌, ◌<◌, ◌≤◌, true, List, length, drop, get_or, Option, None, Some, sym, ap, subst, arith, lit<, length-take, length-drop}
 use Rattle.disk_model.specs.Calls.{Shows}
-use Rattle.disk_model.specs.Traces.{Trace, seen}
+use Rattle.disk_model.specs.Traces.{Trace}
 use Rattle.disk_model.specs.Gates.{open_byte}
 use Rattle.group_layout.specs.Fields.{Keeps, short_at}
-use Rattle.group_layout.specs.Images.{HasHead, IsOfText, blocks_at, head_fields, text_in}
+use Rattle.group_layout.specs.Images.{HasHead, IsOfText, blocks_at, head_fields}
 use Rattle.group_layout.proofs.FieldLaws.{field_of}
 
 -- what is read of all bytes holds of what a read gives

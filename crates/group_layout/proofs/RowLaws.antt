@@ -1,5 +1,5 @@
 -- A row whose fields are kept.
-use Rattle.std.proofs.Common.{◌≡◌, ℕ, suc, ◌+◌, ◌-◌, ◌<◌, ◌≤◌, inl, inr, true, List, [], ◌∷◌, ◌++◌, All, AllPairs, length, get_or, MatchOption, length-append, Option, None, Some, refl, sym, ap, ◌∙◌, subst, arith, lit<, ltb-true, leb-true}
+use Rattle.std.proofs.Common.{◌≡◌, ℕ, suc, ◌+◌, ◌-◌, ◌<◌, ◌≤◌, inl, inr, true, List, [], ◌∷◌, ◌++◌, All, AllPairs, length, get_or, MatchOption, length-append, Option, None, Some, sym, ap, ◌∙◌, subst, arith, lit<, ltb-true, leb-true}
 use Rattle.std.specs.Int.{w64, cast_signed}
 use Rattle.std.proofs.Math.Seq.{get_or-append_seam}
 use Rattle.std.proofs.lemmas.Bool.{and_parts, cases_lt}
@@ -80,10 +80,14 @@ sorted_push rows None r sorted is order =
     (λ k d low. absurd (omega (arith, ap length is.is_last)))
 sorted_push rows (Some l) r sorted is order =
     all_pairs_push IsBefore rows r sorted (λ k d low. elim (cases_lt k (length is.is_last.0)) [
-      | inl before ↦ record { order = before_both (get_or rows k d).calc (get_or rows k d).window l.calc l.window r.calc r.window (subst (λ x. IsBefore (get_or rows k d) x) (at_last d)
-          (sorted k (length is.is_last.0) d before (omega (arith, long)))).order order }
-      | inr at ↦ record { order = subst (λ x. comes_before x.calc x.window r.calc r.window ≡ true)
-          (sym (ap (λ n. get_or rows n d) (same_place k low at) ∙ at_last d)) order }
+      | inl before ↦ record {
+        order = before_both (get_or rows k d).calc (get_or rows k d).window l.calc l.window r.calc r.window (subst (λ x. IsBefore (get_or rows k d) x) (at_last d)
+            (sorted k (length is.is_last.0) d before (omega (arith, long)))).order order;
+      }
+      | inr at ↦ record {
+        order = subst (λ x. comes_before x.calc x.window r.calc r.window ≡ true)
+            (sym (ap (λ n. get_or rows n d) (same_place k low at) ∙ at_last d)) order;
+      }
     ])
   where
     long : length rows ≡ length is.is_last.0 + 1

@@ -1,5 +1,5 @@
 -- The rows that blocks give, gathered row by row.
-use Rattle.std.proofs.Common.{◌≡◌, inl, inr, ℕ, zero, suc, ◌+◌, ◌<◌, ◌≤◌, Bool, true, false, List, [], ◌∷◌, ◌++◌, length, get_or, set, map, drop, flat_map, slice_get, option_and_then, length-append, Option, None, Some, nat_eq, ◌&&◌, refl, sym, ap, ◌∙◌, subst, arith, if◌then◌else◌}
+use Rattle.std.proofs.Common.{◌≡◌, inl, inr, ℕ, zero, suc, ◌+◌, ◌<◌, List, [], ◌∷◌, ◌++◌, length, get_or, map, drop, slice_get, option_and_then, length-append, Option, None, Some, refl, sym, ap, ◌∙◌, arith, if◌then◌else◌}
 use Rattle.std.proofs.lemmas.Bool.{cases_lt}
 use Rattle.std.proofs.lemmas.List.{drop_more, length-map}
 use Rattle.std.proofs.lemmas.List.Elements.{All-push}
@@ -60,9 +60,9 @@ rows_push calc windows bs rows row cells so_far is long values = record {
   values = λ x k low within. elim (cases_lt x calc) [
     | inl before ↦ ap (option_and_then (λ r. slice_get r k)) (slice_get_left x before) ∙ so_far.values x k before within
     | inr at ↦
-      let same : x ≡ calc = omega arith in
-      ap (option_and_then (λ r. slice_get r k)) (slice_get_last x (same ∙ sym so_far.calcs_are))
-      ∙ row_cell row cells k is (omega (arith, wide)) ∙ values k within ∙ ap (λ n. saved_value bs n k) (sym same)
+        let same : x ≡ calc = omega arith in
+        ap (option_and_then (λ r. slice_get r k)) (slice_get_last x (same ∙ sym so_far.calcs_are))
+        ∙ row_cell row cells k is (omega (arith, wide)) ∙ values k within ∙ ap (λ n. saved_value bs n k) (sym same)
   ];
 }
   where

@@ -1,5 +1,5 @@
 -- The versions of a block, read in turn.
-use Rattle.std.proofs.Common.{◌≡◌, ℕ, ◌+◌, ◌<◌, ◌≤◌, inl, inr, Bool, true, false, All, List, [], ◌∷◌, ◌++◌, length, get_or, drop, Option, Result, OnOk, IsErrOf, refl, sym, ap, ◌∙◌, subst, arith, nat_le}
+use Rattle.std.proofs.Common.{ℕ, ◌+◌, ◌<◌, All, List, [], ◌∷◌, ◌++◌, length, get_or, drop, Option, subst, nat_le}
 use Rattle.std.proofs.lemmas.List.{drop_more}
 use Rattle.group_layout.specs.declared.field.Field.{Field}
 use Rattle.group_layout.specs.Fields.{BreaksFirst, Keeps, short_at}

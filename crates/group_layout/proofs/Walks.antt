@@ -1,5 +1,5 @@
 -- Blocks one behind the other, and one more.
-use Rattle.std.proofs.Common.{◌≡◌, inl, inr, ℕ, suc, ◌+◌, ◌-◌, ◌<◌, ◌≤◌, List, [], ◌∷◌, ◌++◌, All, map, true, length, get_or, replicate, Option, refl, sym, ap, ◌∙◌, subst, arith, add_assoc}
+use Rattle.std.proofs.Common.{◌≡◌, inr, ℕ, suc, ◌+◌, ◌-◌, ◌<◌, ◌≤◌, List, [], ◌∷◌, ◌++◌, map, length, get_or, Option, refl, sym, ap, ◌∙◌, subst, arith}
 use Rattle.disk_model.specs.Gates.{IsOpen}
 use Rattle.group_layout.specs.declared.block.Block.{Block}
 use Rattle.group_layout.specs.Fields.{BreaksFirst, Spells}

@@ -1,5 +1,5 @@
 -- What an image of a group's device stands for, and where it is damaged.
-use Rattle.std.specs.Prelude.{◌≡◌, ◌≢◌, ◌⊎◌, ℕ, ◌+◌, Bool, true, List, [], ◌∷◌, All, codes, length, take, drop, replicate, slice_index, nat_eq, Option}
+use Rattle.std.specs.Prelude.{◌≡◌, ◌≢◌, ◌⊎◌, ℕ, ◌+◌, true, List, [], ◌∷◌, All, codes, length, take, drop, replicate, slice_index, nat_eq, Option}
 use Rattle.trend_num.specs.declared.value.CalcValue.{CalcValue}
 use Rattle.disk_model.specs.Gates.{IsBegun, IsNew}
 use Rattle.group_layout.specs.declared.field.Field.{Field}

@@ -1,5 +1,5 @@
 -- What was found on a group's device, and what a device is begun with.
-use Rattle.std.specs.Prelude.{◌≡◌, ◌⊎◌, ℕ, ◌+◌, List, [], ◌∷◌, ◌++◌, length}
+use Rattle.std.specs.Prelude.{◌≡◌, ◌⊎◌, ℕ, List, [], ◌∷◌, ◌++◌, length}
 use Rattle.disk_model.specs.Gates.{IsNew, IsShut}
 use Rattle.archive_file.specs.Fields.{number_bytes}
 use Rattle.group_layout.specs.declared.layout_reader.Found.{Found}

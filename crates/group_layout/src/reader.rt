@@ -96,7 +96,10 @@ fn read_block(
     ensures no_fault { IsErrOf result DeviceFault → ⊥ }
 {
     let number = long_at(c, gate + 1);
-    check(c, &[Field::new(gate + 1, 8, is_next(before.number, number))])?;
+    check(
+        c,
+        &[Field::new(gate + 1, 8, is_next(before.number, number))],
+    )?;
     let versions = read_versions(alloc, c, gate + 9, &before.versions)?;
     let at = gate + 9 + 4 * versions.len();
     let windows = short_at(c, at);

@@ -52,7 +52,10 @@ fn cells_of(
 }
 
 // The values of a row, or none where one is missing.
-fn whole_row(alloc: Global, cells: &[Option<CalcValue>]) -> Result<Option<Vec<CalcValue>>, AllocError>
+fn whole_row(
+    alloc: Global,
+    cells: &[Option<CalcValue>],
+) -> Result<Option<Vec<CalcValue>>, AllocError>
     ensures whole { IfOk result (λ o. IfSome o (λ v. map Some v.items ≡ cells.now)) }
     ensures missing { IfOk result (λ o. IfNone o ((k : ℕ) × (k < length cells.now) × ((d : Option CalcValue) → slice_index_or cells.now k d ≡ None))) }
 {

@@ -1,4 +1,4 @@
-use Rattle.std.proofs.Common.{◌≡◌, Err, ap, arith, refl, subst, sym}
+use Rattle.std.proofs.Common.{Err, ap, refl}
 use Rattle.group_book.proofs.refresh.pull_one.Goals as goal
 
 pub returns-in-Ok-clause-copied : goal.returns-in-Ok-clause-copied

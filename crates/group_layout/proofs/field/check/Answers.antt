@@ -1,4 +1,4 @@
-use Rattle.std.proofs.Common.{◌≡◌, ◌+◌, ◌∷◌, ◌++◌, Err, length, get_or, take, drop, sym, ap, ◌∙◌, subst, All}
+use Rattle.std.proofs.Common.{◌+◌, ◌++◌, Err, take, drop, sym, ap, ◌∙◌, subst, All}
 use Rattle.std.proofs.lemmas.Result.{err_from_is_err_and}
 use Rattle.std.proofs.lemmas.List.{drop_more, take-append-drop, take_all}
 use Rattle.std.proofs.lemmas.List.Elements.{All-more}

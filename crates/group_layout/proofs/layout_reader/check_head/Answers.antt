@@ -13,6 +13,6 @@ returns-clause-kept c =
     let size = c.new.ensures in
     let text = c.new-2.ensures ∙ ap (λ n. field_of 9 (n + 1) true) c.requires in
     let same : c.letter_field.result ∷ c.letter_field-2.result ∷ c.letter_field-3.result ∷ c.letter_field-4.result ∷ c.new.result
-        ∷ c.new-2.result ∷ [] ≡ head_fields c.args.c.now
-        = λ i. first i ∷ second i ∷ third i ∷ fourth i ∷ size i ∷ text i ∷ [] in
+    ∷ c.new-2.result ∷ [] ≡ head_fields c.args.c.now
+    = λ i. first i ∷ second i ∷ third i ∷ fourth i ∷ size i ∷ text i ∷ [] in
     subst (λ fields. OnOk c.check.result (All (Keeps c.args.c.now) fields)) same c.check.ensures.kept

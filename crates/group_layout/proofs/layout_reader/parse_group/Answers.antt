@@ -1,4 +1,4 @@
-use Rattle.std.proofs.Common.{◌≡◌, ◌+◌, ◌≤◌, true, refl, arith, map, subst, sym, ap, ◌∙◌, length}
+use Rattle.std.proofs.Common.{◌≡◌, ◌+◌, refl, arith, map, subst, length}
 use Rattle.std.proofs.lemmas.Result.{err_from_is_err_and}
 use Rattle.group_layout.specs.Blocks.{AreBlocks, AreDamaged, parts_of}
 use Rattle.group_layout.specs.Images.{IsOfText, blocks_at}
@@ -17,7 +17,7 @@ returns-in_err-blocks-clause-damaged c = λ a byte told.
       same = c.if-not-is_text.ensures.same refl;
     } in
     let place : 9 + c.short_at-size.result ≡ blocks_at (length x.text.now)
-        = omega (arith, text_place x.text.now x.c.now is, c.short_at-size.ensures) in
+    = omega (arith, text_place x.text.now x.c.now is, c.short_at-size.ensures) in
     BadBlock is
     (subst (λ at. AreDamaged x.c.now x.calcs x.inputs at a byte) place
     (c.in_err-blocks.ensures.damaged a byte (told_through c.from_residual-in_err-blocks.result out.0 _ a byte out.1 out.2 told)))
@@ -32,7 +32,7 @@ returns-in_err-saved-clause-damaged c = λ a byte told.
       same = c.if-not-is_text.ensures.same refl;
     } in
     let place : 9 + c.short_at-size.result ≡ blocks_at (length x.text.now)
-        = omega (arith, text_place x.text.now x.c.now is, c.short_at-size.ensures) in
+    = omega (arith, text_place x.text.now x.c.now is, c.short_at-size.ensures) in
     BadRows bs is (subst (λ at. AreBlocks x.c.now x.calcs x.inputs at bs) place c.in_ok-blocks.ensures.blocks)
     (subst (λ at. IsIncomplete x.calcs x.inputs at bs a byte) place
     (c.in_err-saved.ensures.damaged a byte (told_through c.from_residual-in_err-saved.result out.0 _ a byte out.1 out.2 told)))

@@ -1,5 +1,5 @@
-use Rattle.std.proofs.Common.{◌≡◌, ◌+◌, ◌∷◌, ◌++◌, [], length, ap, ◌∙◌, arith, subst}
-use Rattle.group_layout.specs.Blocks.{block_image, block_size, parts_of}
+use Rattle.std.proofs.Common.{◌+◌, ◌∷◌, ◌++◌, [], length, ap, arith}
+use Rattle.group_layout.specs.Blocks.{block_image, parts_of}
 use Rattle.group_layout.proofs.Beginnings.{length-block_image, shut_guarded, shut_reached}
 use Rattle.group_layout.proofs.making.put_block.Goals as goal
 

@@ -1,7 +1,7 @@
-use Rattle.std.proofs.Common.{◌≡◌, ◌+◌, ◌∷◌, ◌++◌, [], inl, inr, true, All, map, replicate, length, refl, sym, ap, ◌∙◌, subst, arith, lit<}
+use Rattle.std.proofs.Common.{◌+◌, ◌∷◌, [], inl, map, sym, ap, ◌∙◌, subst, arith}
 use Rattle.std.proofs.lemmas.Result.{err_from_is_err_and}
-use Rattle.group_layout.specs.Fields.{BreaksFirst, Keeps}
-use Rattle.group_layout.specs.Blocks.{AreDamaged, HasBlocks, Parts, block_size, end_of, last_of, parts_of, unsaved}
+use Rattle.group_layout.specs.Fields.{BreaksFirst}
+use Rattle.group_layout.specs.Blocks.{HasBlocks, block_size, end_of, last_of, parts_of, unsaved}
 use Rattle.group_layout.proofs.FieldLaws.{only_ends, told_through}
 use Rattle.group_layout.proofs.Walks.{end_of-push, parts-push, walk_breaks, walk_on}
 use Rattle.group_layout.proofs.reader.parse_blocks.Goals as goal
@@ -18,7 +18,7 @@ returns-in_err-block-clause-damaged c = λ a byte told.
     let x = c.args in
     let out = err_from_is_err_and c.from_residual-in_err-block.result c.from_residual-in_err-block.ensures.1 in
     let last = c.last_or.ensures ∙ ap (λ l. last_of (parts_of c.in_ok-unsaved.unsaved) (map parts_of l)) c.deref.ensures.value
-        ∙ ap (λ b. last_of b (map parts_of c.walk.list.items)) c.in_ok-unsaved.ensures.unsaved in
+    ∙ ap (λ b. last_of b (map parts_of c.walk.list.items)) c.in_ok-unsaved.ensures.unsaved in
     walk_breaks x.c.now x.calcs x.inputs x.at c.walk.next c.walk.list.items (parts_of c.last_or.result.now) a byte
     last c.walk.invariant.end c.walk.invariant.blocks (omega (arith, c.byte_at.ensures, c.walk-test.true))
     (c.in_err-block.ensures.damaged a byte
@@ -30,7 +30,7 @@ walk-preserved c =
     let b = c.in_ok-block.block in
     let bs = c.walk.list.items in
     let last = c.last_or.ensures ∙ ap (λ l. last_of (parts_of c.in_ok-unsaved.unsaved) (map parts_of l)) c.deref.ensures.value
-        ∙ ap (λ b. last_of b (map parts_of bs)) c.in_ok-unsaved.ensures.unsaved in
+    ∙ ap (λ b. last_of b (map parts_of bs)) c.in_ok-unsaved.ensures.unsaved in
     let pushed = c.in-Ok.ensures.items in
     record {
       there = omega (arith, c.in_ok-block.ensures.next, c.size_of_block-next.ensures);

@@ -1,11 +1,10 @@
-use Rattle.std.proofs.Common.{◌≡◌, ℕ, ◌+◌, ◌<◌, ◌≤◌, ◌∷◌, ◌++◌, [], inl, inr, true, All, get_or, length, refl, sym, ap, ◌∙◌, subst, arith, length-append, nat_le, lit<, leb-true}
+use Rattle.std.proofs.Common.{◌≡◌, ℕ, ◌+◌, ◌<◌, ◌≤◌, ◌∷◌, ◌++◌, [], inl, inr, true, All, get_or, length, sym, ap, ◌∙◌, subst, arith, length-append, nat_le, lit<, leb-true}
 use Rattle.std.proofs.Math.Seq.{get_or-append_seam}
 use Rattle.std.proofs.Math.ListN.{get_or-append}
 use Rattle.std.proofs.lemmas.Bool.{cases_lt}
 use Rattle.std.proofs.lemmas.Result.{err_from_is_err_and}
 use Rattle.archive_file.specs.Fields.{number_bytes}
 use Rattle.archive_file.proofs.Joins.{images_push}
-use Rattle.group_layout.specs.declared.field.Field.{Field}
 use Rattle.group_layout.specs.Fields.{BreaksFirst, Keeps, Spells, short_at}
 use Rattle.group_layout.specs.Blocks.{versions_image}
 use Rattle.group_layout.proofs.FieldLaws.{field_of, spells_both, told_through}
@@ -19,11 +18,11 @@ risen : (xs ys : _) (n y : ℕ) → length ys ≡ n → ((k : ℕ) → k < n →
 risen xs ys n y long below here k low = elim (cases_lt k n) [
   | inl before ↦ subst (λ v. get_or xs k 0 ≤ v) (sym (get_or-append ys (y ∷ []) 0 k (omega (arith, long)))) (below k before)
   | inr at ↦
-    let same : k ≡ length ys = omega (arith, long) in
-    let last : get_or (ys ++ y ∷ []) k 0 ≡ y = ap (λ i. get_or (ys ++ y ∷ []) i 0) same ∙ get_or-append_seam ys y [] 0 in
-    let place : k ≡ n = omega arith in
-    let moved : get_or xs k 0 ≡ get_or xs n 0 = ap (λ i. get_or xs i 0) place in
-    omega (arith, here, last, moved)
+      let same : k ≡ length ys = omega (arith, long) in
+      let last : get_or (ys ++ y ∷ []) k 0 ≡ y = ap (λ i. get_or (ys ++ y ∷ []) i 0) same ∙ get_or-append_seam ys y [] 0 in
+      let place : k ≡ n = omega arith in
+      let moved : get_or xs k 0 ≡ get_or xs n 0 = ap (λ i. get_or xs i 0) place in
+      omega (arith, here, last, moved)
 ]
 
 pub returns-in_err-check-clause-damaged : goal.returns-in_err-check-clause-damaged
@@ -46,7 +45,7 @@ loop-least-preserved c =
     let pushed = c.in-Ok.ensures.items in
     let kept = subst (λ f. All (Keeps x.c.now) (f ∷ [])) is c.in_ok-check.ensures.kept in
     let field : Keeps x.c.now (field_of l.next 4 (nat_le (get_or x.before.now l.least-index 0) (short_at x.c.now l.next)))
-        = kept 0 (field_of 0 0 true) (lit< tt) in
+    = kept 0 (field_of 0 0 true) (lit< tt) in
     record {
       place = omega arith;
       within = omega (arith, field.there);

@@ -1,5 +1,4 @@
 use Rattle.std.proofs.Common.{◌≡◌, ◌∷◌, [], All, OnOk, ap, ◌∙◌, ◌+◌, subst}
-use Rattle.group_layout.specs.declared.field.Field.{Field}
 use Rattle.group_layout.specs.Fields.{Keeps}
 use Rattle.group_layout.specs.Blocks.{row_fields}
 use Rattle.group_layout.proofs.FieldLaws.{field_of}
@@ -13,5 +12,5 @@ returns-clause-kept c =
     let third = c.new-3.ensures ∙ ap (field_of (a.at + 8) 1) c.is_kind.ensures in
     let fourth = c.new-4.ensures ∙ ap (field_of (a.at + 9) 8) c.is_value_ok.ensures in
     let same : c.new.result ∷ c.new-2.result ∷ c.new-3.result ∷ c.new-4.result ∷ [] ≡ row_fields a.calcs a.windows a.last a.row a.at
-        = λ i. first i ∷ second i ∷ third i ∷ fourth i ∷ [] in
+    = λ i. first i ∷ second i ∷ third i ∷ fourth i ∷ [] in
     subst (λ fields. OnOk c.check.result (All (Keeps a.c.now) fields)) same c.check.ensures.kept

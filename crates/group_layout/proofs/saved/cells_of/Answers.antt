@@ -1,6 +1,6 @@
-use Rattle.std.proofs.Common.{◌≡◌, ℕ, ◌+◌, ◌<◌, ◌++◌, None, drop, get_or, length, map, take, refl, sym, ap, ◌∙◌, subst, arith, take_at}
+use Rattle.std.proofs.Common.{◌≡◌, ◌+◌, ◌<◌, ◌++◌, None, drop, get_or, length, map, take, sym, ap, ◌∙◌, subst, arith, take_at}
 use Rattle.group_layout.specs.Blocks.{parts_of}
-use Rattle.group_layout.specs.Rows.{all_rows, listed_from, saved_value}
+use Rattle.group_layout.specs.Rows.{all_rows, listed_from}
 use Rattle.group_layout.proofs.SavedRows.{next_block}
 use Rattle.group_layout.proofs.saved.cells_of.Goals as goal
 
@@ -13,7 +13,7 @@ loop-block-preserved c =
     let calc = c.args.calc in
     let same_len : length new ≡ length old = omega arith in
     let written : take c.loop-block.cells.len (new ++ drop (length new) old) ≡ new
-        = take_at new (drop (length new) old) c.loop-block.cells.len (omega arith) in
+    = take_at new (drop (length new) old) c.loop-block.cells.len (omega arith) in
     record {
       len = ap length written ∙ same_len ∙ c.loop-block.invariant.len;
       cells = λ k low.

@@ -1,4 +1,4 @@
-use Rattle.std.proofs.Common.{◌≡◌, ℕ, ◌<◌, All, length, map}
+use Rattle.std.proofs.Common.{map}
 use Rattle.group_layout.specs.Blocks.{parts_of}
 use Rattle.group_layout.specs.Rows.{AreRowsOf, lists_of}
 use Rattle.group_layout.proofs.saved.rows_of.Given as goal

@@ -1,4 +1,4 @@
-use Rattle.std.proofs.Common.{◌≡◌, ◌+◌, ◌≤◌, List, ℕ, length, map, refl, sym, ap, ◌∙◌, subst, arith}
+use Rattle.std.proofs.Common.{◌≡◌, List, ℕ, length, sym, ap, ◌∙◌, subst}
 use Rattle.calc_refresh.specs.Refreshed.{cells_after}
 use Rattle.calc_refresh.specs.Lists.{total_length}
 use Rattle.sheet_law.specs.Touched.{longer}
@@ -12,7 +12,7 @@ publish-requires-clause-goes_on g c =
     let b = c.self.inside in
     let ps = c.in-Ok.pulled.items in
     let inputs : length ps ≡ length b.sheet.copies
-        = c.in-Ok.ensures.len ∙ ap length c.deref.ensures.value ∙ c.self.invariant.0.tags_are ∙ sym c.self.invariant.0.copies in
+    = c.in-Ok.ensures.len ∙ ap length c.deref.ensures.value ∙ c.self.invariant.0.tags_are ∙ sym c.self.invariant.0.copies in
     subst (λ (t : Told _). GoesOn t.sheet.copies ps) c.self.view_is
     (goes_from c.deref-2.result.now b.sheet.copies ps (c.deref-2.ensures.value ∙ c.self.invariant.1.copied) inputs
     c.in-Ok.ensures.goes_on)
