@@ -1,6 +1,7 @@
 // Questions about a tag, and records for a group.
-ghost use Rattle.std.specs.Prelude.{◌≡◌, ◌↔◌, ◌+◌, ◌-◌, ◌<◌, ◌≤◌, [], ◌∷◌, ◌++◌, drop, take, Err, IfOk, OnErr, OnOk, length, vec_len, vec_capacity};
+ghost use Rattle.std.specs.Prelude.{◌≡◌, ◌↔◌, ℕ, ◌+◌, ◌-◌, ◌^◌, ◌<◌, ◌≤◌, [], ◌∷◌, ◌++◌, All, drop, take, Err, IfOk, IsErrOf, OnErr, OnOk, length, vec_len, vec_capacity};
 ghost use Rattle.trend_num.specs.Queries.{IsTagQuery};
+ghost use Rattle.trend_num.specs.Ranges.{InRange};
 ghost use Rattle.trend_model.specs.Contents.{closed_points};
 ghost use Rattle.interp_read.specs.Replies.{Answers};
 ghost use Rattle.tag_cell.specs.declared.entry.Entry.TheVariants.{Pull};
@@ -60,8 +61,13 @@ impl<D: Disk> Cell<D> {
     /// is behind all of them. The cell is as it was after an error.
     pub fn pull(&mut self, group: u32, from: u32) -> Result<Pulled, PullNo>
         ensures ahead { (length (durable_records self.old) < from) ↔ (result ≡ Err (Ahead from (length (durable_records self.old)))) }
+        ensures carried { (f a : ℕ) → IsErrOf result (Ahead f a)
+            → (f ≡ from) × (a ≡ length (durable_records self.old)) × (a < from) }
         ensures upto { IfOk result (λ pulled. pulled.upto ≡ length (durable_records self.old)) }
         ensures records { IfOk result (λ pulled. pulled.recs.items ≡ drop from (durable_records self.old)) }
+        ensures in_range { IfOk result (λ pulled. All (λ r. InRange r.point) pulled.recs.items) }
+        ensures long { IfOk result (λ pulled. pulled.upto ≡ from + length pulled.recs.items) }
+        ensures short { IfOk result (λ pulled. length pulled.recs.items < 2 ^ 32) }
         ensures pulled { IfOk result (λ pulled. self.new ≡ record self.old { tape = self.old.tape ++ Pull group from pulled.upto ∷ [] }) }
         ensures unchanged { OnErr result (self.new ≡ self.old) }
     {
@@ -91,7 +97,9 @@ pub(crate) fn make_places(tape: &mut Vec<Entry>, takes_to_come: u32) -> Result<(
 fn copied(alloc: Global, recs: &[Rec], from: u32, upto: u32) -> Result<Vec<Rec>, WantOfMemory>
     requires order { from ≤ upto }
     requires within { upto ≤ length recs.now }
-    ensures { IfOk result (λ v. v.items ≡ take (upto - from) (drop from recs.now)) }
+    requires range { All (λ r. InRange r.point) recs.now }
+    ensures records { IfOk result (λ v. v.items ≡ take (upto - from) (drop from recs.now)) }
+    ensures in_range { IfOk result (λ v. All (λ r. InRange r.point) v.items) }
 {
     Vec::from_slice(alloc, &recs[from as usize..upto as usize]).map_err(|_| WantOfMemory)
 }

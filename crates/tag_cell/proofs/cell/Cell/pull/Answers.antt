@@ -1,4 +1,4 @@
-use Rattle.std.proofs.Common.{◌≡◌, ◌∙◌, ℕ, ◌+◌, ◌-◌, ◌<◌, ◌≤◌, Bool, List, [], ◌∷◌, ◌++◌, length, take, drop, Result, Ok, Err, ap, sym, subst, refl, arith, length-append}
+use Rattle.std.proofs.Common.{◌≡◌, ◌∙◌, ℕ, ◌+◌, ◌-◌, ◌<◌, ◌≤◌, Bool, List, [], ◌∷◌, ◌++◌, length, take, drop, Result, Ok, Err, ap, sym, subst, refl, arith, length-append, length-take, length-drop}
 use Rattle.std.proofs.lemmas.List.{append-nil}
 use Rattle.std.specs.Prelude.{vec_capacity, IsErrAnd}
 use Rattle.trend_num.specs.declared.archive.Rec.{Rec}
@@ -65,7 +65,7 @@ returns-clause-records g c =
     let are = durable_are s.def s.opening s.tape.items s.core.state s.next s.durable s.journal.acked c.self.invariant.0 c.self.invariant.3 in
     let front = durable_front s.def s.opening s.tape.items s.core.state s.next s.durable s.journal.acked c.self.invariant.0 c.self.invariant.3 in
     let durable : List Rec = (state_after s.def.step s.opening (done s.opening (walked (start s.opening) s.tape.items))).records in
-    c.in_ok-recs.ensures ∙ (ap (λ (l : List Rec). take (s.durable - c.args.from) (drop c.args.from l)) (c.recs.ensures.value ∙ front.1)
+    c.in_ok-recs.ensures.records ∙ (ap (λ (l : List Rec). take (s.durable - c.args.from) (drop c.args.from l)) (c.recs.ensures.value ∙ front.1)
     ∙ (handed durable front.0 c.args.from s.durable are c.if-from-upto.false
     ∙ ap (λ (t : Told _). drop c.args.from (durable_records t)) c.self.view_is))
 
@@ -100,3 +100,28 @@ invariant_of-self-2 g c =
       safe_entry s.def s.opening tape tape' e (LeftSince (g.D.Disk.trace dev)) tt was.5 longer,
       was.6,
     )
+
+pub returns-clause-long : goal.returns-clause-long
+returns-clause-long g c =
+    let s = c.self.inside in
+    let are = durable_are s.def s.opening s.tape.items s.core.state s.next s.durable s.journal.acked c.self.invariant.0 c.self.invariant.3 in
+    let front = durable_front s.def s.opening s.tape.items s.core.state s.next s.durable s.journal.acked c.self.invariant.0 c.self.invariant.3 in
+    let durable : List Rec = (state_after s.def.step s.opening (done s.opening (walked (start s.opening) s.tape.items))).records in
+    let recs = c.recs.result.now in
+    let within : s.durable ≤ length recs = omega (arith, are, ap length (c.recs.ensures.value ∙ front.1), length-append durable front.0) in
+    omega (
+      arith,
+      within,
+      c.if-from-upto.false,
+      ap length c.in_ok-recs.ensures.records,
+      length-take (s.durable - c.args.from) (drop c.args.from recs),
+      length-drop c.args.from recs,
+    )
+
+pub returns-then-from-upto-clause-carried : goal.returns-then-from-upto-clause-carried
+returns-then-from-upto-clause-carried g c = λ f a told.
+    let s = c.self.inside in
+    let are = durable_are s.def s.opening s.tape.items s.core.state s.next s.durable s.journal.acked c.self.invariant.0 c.self.invariant.3 in
+    let place : f ≡ c.args.from = cc (told) in
+    let carried : a ≡ s.durable = cc (told) in
+    (place, carried ∙ are ∙ ap (λ (t : Told _). length (durable_records t)) c.self.view_is, omega (arith, carried, c.if-from-upto.true))

@@ -1,0 +1,56 @@
+-- Versions that never fall, and copies cut to them.
+use Rattle.std.proofs.Common.{◌≡◌, ℕ, zero, suc, ◌<◌, ◌≤◌, List, [], ◌∷◌, ◌++◌, length, map, get_or, refl, sym, ap, ◌∙◌, subst, arith, length-append}
+use Rattle.std.proofs.lemmas.List.{take-append-le, take_all}
+use Rattle.trend_num.specs.declared.archive.Rec.{Rec}
+use Rattle.sheet_law.specs.Touched.{longer}
+use Rattle.group_book.specs.Tapes.{cut}
+use Rattle.group_book.specs.Histories.{NeverFall}
+
+pub never_refl : (vs : List ℕ) → NeverFall vs vs
+never_refl vs = record { inputs = refl; rises = λ i low. omega arith }
+
+pub never_trans : (a b c : List ℕ) → NeverFall a b → NeverFall b c → NeverFall a c
+never_trans a b c ab bc = record {
+  inputs = bc.inputs ∙ ab.inputs;
+  rises = λ i low.
+      let first = ab.rises i low in
+      let second = bc.rises i (subst (λ n. i < n) (sym ab.inputs) low) in
+      omega (arith, first, second);
+}
+
+-- behind the first one
+tail_rises : (v u : ℕ) (vs us : List ℕ) → NeverFall (v ∷ vs) (u ∷ us) → NeverFall vs us
+tail_rises v u vs us never = record {
+  inputs = let same = never.inputs in omega arith;
+  rises = λ i low. never.rises (suc i) (omega arith);
+}
+
+-- more records
+pub longer_rises : (rss mores : List (List Rec)) → NeverFall (map length rss) (map length (longer rss mores))
+longer_rises [] mores = never_refl []
+longer_rises (rs ∷ rss) [] = never_refl (map length (rs ∷ rss))
+longer_rises (rs ∷ rss) (more ∷ mores) =
+    let rest = longer_rises rss mores in
+    record {
+      inputs = let same = rest.inputs in ap suc same;
+      rises = λ i low. rising rest i low;
+    }
+  where
+    rising : NeverFall (map length rss) (map length (longer rss mores)) → (i : ℕ) → i < length (map length (rs ∷ rss))
+        → get_or (map length (rs ∷ rss)) i 0 ≤ get_or (map length ((rs ++ more) ∷ longer rss mores)) i 0
+    rising rest zero low = omega (arith, length-append rs more)
+    rising rest (suc i) low = rest.rises i (omega arith)
+
+-- copies that grew are cut to the same
+pub cut-longer : (vs : List ℕ) (rss mores : List (List Rec)) → NeverFall vs (map length rss) → cut vs (longer rss mores) ≡ cut vs rss
+cut-longer [] rss mores never = refl
+cut-longer (v ∷ vs) [] mores never = refl
+cut-longer (v ∷ vs) (rs ∷ rss) [] never = refl
+cut-longer (v ∷ vs) (rs ∷ rss) (more ∷ mores) never =
+    let low : v ≤ length rs = never.rises 0 (omega arith) in
+    λ i. take-append-le v rs more low i ∷ cut-longer vs rss mores (tail_rises v (length rs) vs (map length rss) never) i
+
+-- copies are cut to all they have
+pub cut-all : (rss : List (List Rec)) → cut (map length rss) rss ≡ rss
+cut-all [] = refl
+cut-all (rs ∷ rss) = λ i. take_all (length rs) rs (omega arith) i ∷ cut-all rss i

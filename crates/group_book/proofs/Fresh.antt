@@ -1,0 +1,82 @@
+-- A book that was just made.
+use Rattle.std.proofs.Common.{◌≡◌, ℕ, zero, suc, ◌≤◌, false, List, [], ◌∷◌, length, map, replicate, None, refl, sym, ap, ◌∙◌, subst}
+use Rattle.std.proofs.lemmas.List.{length-replicate}
+use Rattle.trend_num.specs.declared.archive.Rec.{Rec}
+use Rattle.disk_model.specs.Moments.{LeftSince}
+use Rattle.calc_refresh.specs.declared.definition.GroupDefParts.{GroupDefParts}
+use Rattle.calc_refresh.specs.Lists.{lists_of}
+use Rattle.calc_refresh.specs.Refreshed.{fresh}
+use Rattle.calc_refresh.specs.Sheet.{IsGrid, IsGroup, SheetState, grid_of}
+use Rattle.sheet_law.specs.Scratch.{IsScratch}
+use Rattle.group_book.specs.declared.history.GroupOpening.{GroupOpening}
+use Rattle.group_book.specs.Crashes.{IsSafe}
+use Rattle.group_book.specs.Histories.{IsLegal}
+use Rattle.group_book.specs.Tapes.{cut}
+use Rattle.group_book.specs.Told.{IsDefined, IsKept, Saved}
+use Rattle.group_book.proofs.Cuts.{cut-all}
+
+-- so many empty copies have version 0
+empty_versions : (n : ℕ) → map length (replicate {A = List Rec} n []) ≡ replicate n 0
+empty_versions zero = refl
+empty_versions (suc n) = ap (λ l. 0 ∷ l) (empty_versions n)
+
+module _ (def made : GroupDefParts) (same : made ≡ def) (o : GroupOpening) (s : SheetState) (vs : List ℕ) (saved : Saved)
+    (is : s ≡ fresh def.calcs (grid_of def.start def.period) (replicate def.inputs []) (replicate (length def.calcs.calcs) []))
+    (scratch : IsScratch s.group s.grid s.copies s.rows)
+    (vs_are : vs ≡ replicate def.inputs 0) (opened : o.versions.items ≡ replicate def.inputs 0)
+    (opened_rows : lists_of o.rows.items ≡ replicate (length def.calcs.calcs) [])
+    (saved_versions : saved.versions ≡ replicate def.inputs 0)
+    (saved_rows : saved.rows ≡ replicate (length def.calcs.calcs) []) where
+  -- the copies have these versions
+  copied : map length s.copies ≡ replicate def.inputs 0
+  copied = ap (λ x. map length x.copies) is ∙ empty_versions def.inputs
+
+  -- the rows are from scratch
+  from_scratch : IsScratch made.calcs (grid_of made.start made.period) s.copies s.rows
+  from_scratch =
+      subst (λ d. IsScratch d.calcs (grid_of d.start d.period) s.copies s.rows) (sym same)
+      (subst (λ g. IsScratch g (grid_of def.start def.period) s.copies s.rows) (ap (λ x. x.group) is)
+      (subst (λ w. IsScratch s.group w s.copies s.rows) (ap (λ x. x.grid) is) scratch))
+
+  -- cut to version 0 the copies are all there is
+  cut_now : (us : List ℕ) → us ≡ replicate def.inputs 0 → cut us s.copies ≡ s.copies
+  cut_now us are = ap (λ x. cut x s.copies) (are ∙ sym copied) ∙ cut-all s.copies
+
+  pub fresh_defined : (tags : List ℕ) → IsGroup def.inputs def.calcs → IsGrid (grid_of def.start def.period)
+      → length tags ≡ def.inputs → IsDefined made tags s
+  fresh_defined tags group grid long = subst (λ d. IsDefined d tags s) (sym same) (record {
+    group = group;
+    grid = grid;
+    same_group = ap (λ x. x.group) is;
+    same_grid = ap (λ x. x.grid) is;
+    copies = ap (λ x. length x.copies) is ∙ length-replicate {A = List Rec} def.inputs [];
+    tags_are = long;
+  })
+
+  pub fresh_legal : IsLegal made.calcs (grid_of made.start made.period) o [] vs s.copies s.rows
+  fresh_legal = record {
+    turns = tt;
+    last = vs_are ∙ sym opened;
+    copied = vs_are ∙ sym copied;
+    scratch = λ right. from_scratch;
+  }
+
+  pub fresh_kept : (text : List ℕ) (ticks faults : ℕ) → o.moment ≤ ticks → faults ≡ o.faults
+      → IsKept text made o [] s.copies saved false None ticks faults
+  fresh_kept text ticks faults before none = record {
+    shut = λ usable. tt;
+    holds = λ usable right. tt;
+    scratch = λ right.
+        subst (λ rss. IsScratch made.calcs (grid_of made.start made.period) rss saved.rows) (sym (cut_now saved.versions saved_versions))
+        (subst (IsScratch made.calcs (grid_of made.start made.period) s.copies) (ap (λ x. x.rows) is ∙ sym saved_rows) from_scratch);
+    versions = saved_versions ∙ sym opened;
+    inputs = ap length saved_versions ∙ length-replicate {A = ℕ} def.inputs 0 ∙ ap (λ d. d.inputs) (sym same);
+    number = tt;
+    past = before;
+    opened_before = before;
+    faultless = λ usable. none;
+    cause = λ failed. absurd (cc (failed));
+  }
+
+  pub fresh_safe : (text : List ℕ) → IsSafe text made.calcs (grid_of made.start made.period) o s.copies [] (LeftSince None)
+  fresh_safe text = record { images = λ right t c since left. absurd left.image }

@@ -1,0 +1,6 @@
+pub mod Cuts
+pub mod Turns
+pub mod Fresh
+pub mod LegalTurns
+pub mod Pulls
+pub mod Causes

@@ -1,0 +1,36 @@
+use Rattle.std.proofs.Common.{◌≡◌, ◌++◌, ◌∷◌, [], sym, ap, ◌∙◌, subst}
+use Rattle.calc_refresh.specs.Lists.{lists_of}
+use Rattle.calc_refresh.specs.Sheet.{grid_of}
+use Rattle.disk_model.specs.Moments.{LeftSince}
+use Rattle.group_layout.specs.Rows.{cell_of}
+use Rattle.group_book.specs.declared.turn.Turn.TheVariants.{Ask}
+use Rattle.group_book.specs.Crashes.{IsSafe}
+use Rattle.group_book.specs.Histories.{IsLegal}
+use Rattle.group_book.specs.Told.{IsKept, Saved, count_of, trace_of}
+use Rattle.group_book.proofs.LegalTurns.{kept_asked, legal_asked, safe_asked}
+use Rattle.group_book.proofs.book.Book.ask.Goals as goal
+
+pub invariant_of-self-2 : goal.invariant_of-self-2
+invariant_of-self-2 g c =
+    let b = c.self.inside in
+    let a = c.args in
+    let grid = grid_of b.def.start b.def.period in
+    let tape = b.tape.items in
+    let reply = cell_of b.sheet.rows a.calc a.k in
+    let saved : Saved = record { number = b.number; versions = b.saved_versions.items; rows = lists_of b.saved_rows.items; end = b.end } in
+    let told : c.push_reserved.new.self.items ≡ tape ++ Ask a.reader a.row a.calc a.k reply ∷ []
+    = c.push_reserved.ensures.items ∙ ap (λ l. l ++ Ask a.reader a.row a.calc a.k c.row-reply.result ∷ []) c.make_place.ensures.same
+    ∙ ap (λ r. tape ++ Ask a.reader a.row a.calc a.k r ∷ []) c.row-reply.ensures.value in
+    let left = LeftSince (trace_of g.D.Disk.trace b.dev) in (
+      c.self.invariant.0,
+      subst (λ l. IsLegal b.def.calcs grid b.opening l b.versions.items b.sheet.copies b.sheet.rows) (sym told)
+          (legal_asked b.def.calcs grid b.opening tape b.versions.items b.sheet.copies b.sheet.rows c.self.invariant.1 a.reader a.row
+          a.calc a.k),
+      subst (λ l. IsKept b.text.items b.def b.opening l b.sheet.copies saved b.failed (trace_of g.D.Disk.trace b.dev)
+          (count_of g.D.Disk.ticks b.dev) (count_of g.D.Disk.fault_count b.dev)) (sym told)
+          (kept_asked b.text.items b.def b.opening tape b.sheet.copies saved b.failed (trace_of g.D.Disk.trace b.dev)
+          (count_of g.D.Disk.ticks b.dev) (count_of g.D.Disk.fault_count b.dev) a.reader a.row a.calc a.k reply c.self.invariant.2),
+      subst (λ l. IsSafe b.text.items b.def.calcs grid b.opening b.sheet.copies l left) (sym told)
+          (safe_asked b.text.items b.def.calcs grid b.opening b.sheet.copies tape left a.reader a.row a.calc a.k reply
+          c.self.invariant.3),
+    )

@@ -1,0 +1,62 @@
+use Rattle.std.proofs.Common.{◌≡◌, ◌+◌, ◌++◌, ◌∷◌, [], List, map, length, refl, sym, ap, ◌∙◌, subst}
+use Rattle.calc_refresh.specs.Lists.{lists_of}
+use Rattle.calc_refresh.specs.Refreshed.{IsRefreshed, evaluated}
+use Rattle.group_book.specs.declared.turn.Turn.{Turn}
+use Rattle.group_book.specs.declared.turn.Turn.TheVariants.{Refresh}
+use Rattle.group_book.specs.Told.{GoesOn, Told, pulled_records}
+use Rattle.group_book.proofs.Pulls.{book_refreshed, published_by, versions_reached}
+use Rattle.group_book.proofs.book.Book.publish.Goals as goal
+
+pub invariant_of-self-2 : goal.invariant_of-self-2
+invariant_of-self-2 g c =
+    let b = c.self.inside in
+    let ps = c.args.pulled.items in
+    let s = c.apply.new.self in
+    let goes : GoesOn b.sheet.copies ps = subst (λ (t : Told _). GoesOn t.sheet.copies ps) (sym c.self.view_is) c.requires.goes_on in
+    let inputs : length ps ≡ length b.sheet.copies
+    = c.requires.inputs ∙ sym (ap (λ (t : Told _). t.def.inputs) c.self.view_is) ∙ sym c.self.invariant.0.copies in
+    let refreshed : IsRefreshed b.sheet s (pulled_records ps)
+    = subst (IsRefreshed b.sheet s) (ap lists_of c.deref-3.ensures.value ∙ c.in_ok-deltas.ensures) c.in_ok-apply.ensures.refreshed in
+    let entry = versions_reached b.sheet s ps c.in_ok-entry.entry.items goes inputs refreshed
+    (c.in_ok-entry.ensures ∙ ap (map (λ p. p.upto)) c.deref.ensures.value) in
+    let versions = versions_reached b.sheet s ps c.in_ok-versions.versions.items goes inputs refreshed
+    (c.in_ok-versions.ensures ∙ ap (map (λ p. p.upto)) c.deref-2.ensures.value) in
+    let told = c.push_reserved.ensures.items ∙ ap (λ (l : List Turn). l ++ Refresh c.in_ok-entry.entry ∷ []) c.make_place.ensures.same in
+    book_refreshed b.text.items b.def b.tags.items b.opening b.tape.items c.push_reserved.new.self.items b.versions.items
+    c.in_ok-versions.versions.items c.in_ok-entry.entry b.sheet s (pulled_records ps)
+    (record { number = b.number; versions = b.saved_versions.items; rows = lists_of b.saved_rows.items; end = b.end }) b.failed _ _ _ _
+    c.self.invariant refreshed entry versions told
+
+pub returns-clause-published : goal.returns-clause-published
+returns-clause-published g c =
+    let b = c.self.inside in
+    let ps = c.args.pulled.items in
+    let s = c.apply.new.self in
+    let goes : GoesOn b.sheet.copies ps = subst (λ (t : Told _). GoesOn t.sheet.copies ps) (sym c.self.view_is) c.requires.goes_on in
+    let inputs : length ps ≡ length b.sheet.copies
+    = c.requires.inputs ∙ sym (ap (λ (t : Told _). t.def.inputs) c.self.view_is) ∙ sym c.self.invariant.0.copies in
+    let refreshed : IsRefreshed b.sheet s (pulled_records ps)
+    = subst (IsRefreshed b.sheet s) (ap lists_of c.deref-3.ensures.value ∙ c.in_ok-deltas.ensures) c.in_ok-apply.ensures.refreshed in
+    let entry = versions_reached b.sheet s ps c.in_ok-entry.entry.items goes inputs refreshed
+    (c.in_ok-entry.ensures ∙ ap (map (λ p. p.upto)) c.deref.ensures.value) in
+    let told = c.push_reserved.ensures.items ∙ ap (λ (l : List Turn). l ++ Refresh c.in_ok-entry.entry ∷ []) c.make_place.ensures.same in
+    published_by (pulled_records ps) _ c.args.self.now s c.push_reserved.new.self.items c.in_ok-entry.entry c.self.view_is told entry
+    refreshed
+
+pub returns-clause-upto : goal.returns-clause-upto
+returns-clause-upto g c =
+    let b = c.self.inside in
+    let ps = c.args.pulled.items in
+    let s = c.apply.new.self in
+    let goes : GoesOn b.sheet.copies ps = subst (λ (t : Told _). GoesOn t.sheet.copies ps) (sym c.self.view_is) c.requires.goes_on in
+    let inputs : length ps ≡ length b.sheet.copies
+    = c.requires.inputs ∙ sym (ap (λ (t : Told _). t.def.inputs) c.self.view_is) ∙ sym c.self.invariant.0.copies in
+    let refreshed : IsRefreshed b.sheet s (pulled_records ps)
+    = subst (IsRefreshed b.sheet s) (ap lists_of c.deref-3.ensures.value ∙ c.in_ok-deltas.ensures) c.in_ok-apply.ensures.refreshed in
+    sym (versions_reached b.sheet s ps (map (λ p. p.upto) ps) goes inputs refreshed refl)
+
+pub returns-clause-steps : goal.returns-clause-steps
+returns-clause-steps g c =
+    c.in_ok-apply.ensures.steps
+    ∙ ap (λ mores. c.args.steps.now + evaluated c.self.inside.sheet mores) (ap lists_of c.deref-3.ensures.value ∙ c.in_ok-deltas.ensures)
+    ∙ ap (λ (t : Told _). c.args.steps.now + evaluated t.sheet (pulled_records c.args.pulled.items)) c.self.view_is

@@ -1,0 +1,39 @@
+use Rattle.std.proofs.Common.{◌≡◌, List, ℕ, length, sym, ap, ◌∙◌, subst}
+use Rattle.calc_refresh.specs.Refreshed.{cells_after}
+use Rattle.calc_refresh.specs.Lists.{total_length}
+use Rattle.sheet_law.specs.Touched.{longer}
+use Rattle.group_book.specs.Refusals.{IsPullCause}
+use Rattle.group_book.specs.Told.{GivesNone, GoesOn, Told, pulled_records, versions_of}
+use Rattle.group_book.proofs.Causes.{goes_from, pull_refused, sheet_refuses, with_pulls}
+use Rattle.group_book.proofs.book.Book.refresh.Goals as goal
+
+pub publish-requires-clause-goes_on : goal.publish-requires-clause-goes_on
+publish-requires-clause-goes_on g c =
+    let b = c.self.inside in
+    let ps = c.in-Ok.pulled.items in
+    let inputs : length ps ≡ length b.sheet.copies
+    = c.in-Ok.ensures.len ∙ ap length c.deref.ensures.value ∙ c.self.invariant.0.tags_are ∙ sym c.self.invariant.0.copies in
+    subst (λ (t : Told _). GoesOn t.sheet.copies ps) c.self.view_is
+    (goes_from c.deref-2.result.now b.sheet.copies ps (c.deref-2.ensures.value ∙ c.self.invariant.1.copied) inputs
+    c.in-Ok.ensures.goes_on)
+
+pub returns-in-Ok-clause-published : goal.returns-in-Ok-clause-published
+returns-in-Ok-clause-published g c =
+    let ps = c.in-Ok.pulled.items in
+    with_pulls c.publish.result (pulled_records ps) c.args.self.now c.publish.new.self c.args.self.now.tags (length c.args.cells.now)
+    c.publish.ensures.published
+    (subst (λ (l : List ℕ). GivesNone l (length c.args.cells.now) (pulled_records ps))
+    (c.deref.ensures.value ∙ ap (λ (t : Told _). t.tags) c.self.view_is) c.in-Ok.ensures.none)
+
+pub returns-in-Ok-clause-cause : goal.returns-in-Ok-clause-cause
+returns-in-Ok-clause-cause g c =
+    let mores = pulled_records c.in-Ok.pulled.items in
+    let s = c.args.self.now.sheet in
+    sheet_refuses (versions_of c.args.self.now) (cells_after s mores) (total_length (longer s.copies mores)) c.publish.result
+    c.publish.ensures.fault
+
+pub returns-in-Err-clause-cause : goal.returns-in-Err-clause-cause
+returns-in-Err-clause-cause g c =
+    pull_refused (versions_of c.args.self.now) c.in-Err.why
+    (subst (λ (l : List ℕ). IsPullCause l c.in-Err.why)
+    (c.deref-2.ensures.value ∙ c.self.invariant.1.copied ∙ ap (λ (t : Told _). versions_of t) c.self.view_is) c.in-Err.ensures.cause)

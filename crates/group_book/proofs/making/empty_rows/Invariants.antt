@@ -1,0 +1,6 @@
+use Rattle.std.proofs.Common.{◌≡◌, [], replicate}
+use Rattle.calc_refresh.specs.Lists.{lists_of}
+use Rattle.group_book.proofs.making.empty_rows.Given as goal
+
+abbrev pub invariant-loop : goal.invariant-loop
+invariant-loop l = lists_of l.rows.items ≡ replicate l.counter []

@@ -1,0 +1,29 @@
+-- What a crash leaves of a group's device.
+use Rattle.std.specs.Prelude.{ℕ, ◌≤◌, List, [], ◌∷◌, Contains, length}
+use Rattle.trend_num.specs.declared.archive.Rec.{Rec}
+use Rattle.trend_num.specs.declared.value.CalcValue.{CalcValue}
+use Rattle.calc_check.specs.Group.{Group}
+use Rattle.sheet_law.specs.declared.grid.Grid.{Grid}
+use Rattle.sheet_law.specs.Scratch.{IsScratch}
+use Rattle.group_layout.specs.Images.{StandsFor}
+use Rattle.group_book.specs.declared.turn.Turn.{Turn}
+use Rattle.group_book.specs.declared.history.GroupOpening.{GroupOpening}
+use Rattle.group_book.specs.Tapes.{cut, versions_since}
+use Rattle.group_book.specs.Histories.{IsRight}
+
+-- an image stands for one of these versions, and for the rows from scratch at it
+pub record StandsForOne (text : List ℕ) (g : Group) (grid : Grid) (copies : List (List Rec)) (since : List (List ℕ))
+    (c : List ℕ) : Type 0 where
+  pub versions : List ℕ
+  pub rows : List (List CalcValue)
+  pub among : Contains since versions
+  pub stands : StandsFor text (length g.inputs) (length g.calcs) c versions rows
+  pub scratch : IsScratch g grid (cut versions copies) rows
+
+-- At each moment since the opening an image that a crash then might have left, which `left` tells, stands for the versions and
+-- rows of the last save at that moment or before it, or of a refresh since; before the first save, for those of the opening or
+-- of a refresh. This is said where the opening is right.
+pub record IsSafe (text : List ℕ) (g : Group) (grid : Grid) (o : GroupOpening) (copies : List (List Rec)) (tape : List Turn)
+    (left : ℕ → List ℕ → Type 0) : Type 0 where
+  pub images : IsRight g grid o copies → (t : ℕ) (c : List ℕ) → o.moment ≤ t → left t c
+      → StandsForOne text g grid copies (versions_since t o.versions.items (o.versions.items ∷ []) tape) c

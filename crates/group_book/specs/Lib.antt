@@ -1,0 +1,5 @@
+pub mod Tapes
+pub mod Histories
+pub mod Crashes
+pub mod Told
+pub mod Refusals

@@ -1,0 +1,50 @@
+-- What a group's tape says: which versions its refreshes reached, and what its saves left.
+use Rattle.std.specs.Prelude.{ℕ, List, [], ◌∷◌, ◌++◌, take, Option, None, Some, nat_le, if◌then◌else◌}
+use Rattle.trend_num.specs.declared.archive.Rec.{Rec}
+use Rattle.group_book.specs.declared.turn.Turn.{Turn}
+use Rattle.group_book.specs.declared.turn.Turn.TheVariants.{Refresh, Ask, Save}
+use Rattle.group_book.specs.declared.history.GroupOpening.{GroupOpening}
+
+-- where one is on a tape: the versions so far, the number of the last save if there was one, and the moment of it or of the
+-- opening
+pub record Walk : Type 0 where
+  pub versions : List ℕ
+  pub number : Option ℕ
+  pub moment : ℕ
+
+-- at the opening
+abbrev pub start : GroupOpening → Walk
+start o = record { versions = o.versions.items; number = None; moment = o.moment }
+
+-- after one more turn
+abbrev pub after_turn : Walk → Turn → Walk
+after_turn w (Refresh versions) = record w { versions = versions.items }
+after_turn w (Ask reader row calc k reply) = w
+after_turn w (Save number moment) = record w { number = Some number; moment = moment }
+
+-- after these turns
+abbrev pub walked : Walk → List Turn → Walk
+walked w [] = w
+walked w (e ∷ es) = walked (after_turn w e) es
+
+-- the versions at the last save, where these are the versions so far and those at the last save so far
+abbrev pub saved_at : List ℕ → List ℕ → List Turn → List ℕ
+saved_at now saved [] = saved
+saved_at now saved (Refresh versions ∷ es) = saved_at versions.items saved es
+saved_at now saved (Ask reader row calc k reply ∷ es) = saved_at now saved es
+saved_at now saved (Save number moment ∷ es) = saved_at now now es
+
+-- the first records of each input, as many as its version says
+abbrev pub cut : List ℕ → List (List Rec) → List (List Rec)
+cut [] rss = []
+cut (v ∷ vs) [] = []
+cut (v ∷ vs) (rs ∷ rss) = take v rs ∷ cut vs rss
+
+-- The versions at the last save at a moment or before it, and those of each refresh since. These are the versions at the place
+-- where one is, and those since the last such save so far; where there was none, since the opening.
+abbrev pub versions_since : ℕ → List ℕ → List (List ℕ) → List Turn → List (List ℕ)
+versions_since t now since [] = since
+versions_since t now since (Refresh versions ∷ es) = versions_since t versions.items (since ++ versions.items ∷ []) es
+versions_since t now since (Ask reader row calc k reply ∷ es) = versions_since t now since es
+versions_since t now since (Save number moment ∷ es) =
+    versions_since t now (if nat_le moment t then now ∷ [] else since) es

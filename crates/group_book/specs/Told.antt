@@ -1,0 +1,143 @@
+-- What a book is seen as, what its type keeps, and what its calls change.
+use Rattle.std.specs.Prelude.{◌≡◌, ◌⊎◌, ℕ, ◌+◌, ◌<◌, ◌≤◌, Bool, true, false, List, [], ◌∷◌, ◌++◌, length, map, Option, None, Some, IfSome, slice_index, slice_index_or, Vec}
+use Rattle.std.specs.declared.alloc.Global.{Global}
+use Rattle.trend_num.specs.declared.archive.Rec.{Rec}
+use Rattle.trend_num.specs.declared.value.CalcValue.{CalcValue}
+use Rattle.disk_model.specs.Calls.{Rose}
+use Rattle.disk_model.specs.Gates.{IsShut}
+use Rattle.disk_model.specs.Images.{IsSettled}
+use Rattle.disk_model.specs.Moments.{LeftSince}
+use Rattle.disk_model.specs.Traces.{Trace, seen}
+use Rattle.tag_cell.specs.declared.entry.Pulled.{Pulled}
+use Rattle.calc_refresh.specs.declared.definition.GroupDefParts.{GroupDefParts}
+use Rattle.calc_refresh.specs.Lists.{lists_of}
+use Rattle.calc_refresh.specs.Refreshed.{IsRefreshed}
+use Rattle.calc_refresh.specs.Sheet.{IsGrid, IsGroup, SheetState, grid_of}
+use Rattle.sheet_law.specs.Scratch.{IsScratch}
+use Rattle.group_layout.specs.Blocks.{Parts, end_of, last_of, unsaved}
+use Rattle.group_layout.specs.Images.{HasSaved, blocks_at}
+use Rattle.group_layout.specs.Rows.{cell_of}
+use Rattle.group_book.specs.declared.history.GroupHistory.{GroupHistory}
+use Rattle.group_book.specs.declared.history.GroupOpening.{GroupOpening}
+use Rattle.group_book.specs.declared.turn.Turn.{Turn}
+use Rattle.group_book.specs.declared.turn.Turn.TheVariants.{Refresh, Ask}
+use Rattle.group_book.specs.Tapes.{cut, saved_at, start, walked}
+use Rattle.group_book.specs.Histories.{IsLegal, IsRight}
+use Rattle.group_book.specs.Crashes.{IsSafe}
+
+-- what the last save left: its number, the versions and the rows, and where the next block goes
+pub record Saved : Type 0 where
+  pub number : ℕ
+  pub versions : List ℕ
+  pub rows : List (List CalcValue)
+  pub end : ℕ
+
+-- a book on a device of this type, or without one
+pub record Told (D : Type 0) : Type 0 where
+  pub group : ℕ
+  pub def : GroupDefParts
+  pub text : List ℕ
+  pub tags : List ℕ
+  pub opening : GroupOpening
+  pub tape : List Turn
+  pub sheet : SheetState
+  pub dev : Option D
+  pub saved : Saved
+  pub failed : Bool
+
+-- the versions of the inputs
+abbrev pub versions_of : {D : Type 0} → Told D → List ℕ
+versions_of s = map length s.sheet.copies
+
+-- ---- what its type keeps
+
+-- the sheet is that of the definition, with one tag for each input
+pub record IsDefined (def : GroupDefParts) (tags : List ℕ) (s : SheetState) : Type 0 where
+  pub group : IsGroup def.inputs def.calcs
+  pub grid : IsGrid (grid_of def.start def.period)
+  pub same_group : s.group ≡ def.calcs
+  pub same_grid : s.grid ≡ grid_of def.start def.period
+  pub copies : length s.copies ≡ def.inputs
+  pub tags_are : length tags ≡ def.inputs
+
+-- what the device holds for as long as no call of it failed: the blocks of the saves so far, where the opening is right
+pub record Holds (text : List ℕ) (def : GroupDefParts) (saved : Saved) (c : List ℕ) : Type 0 where
+  pub blocks : List Parts
+  pub has : HasSaved text def.inputs (length def.calcs.calcs) c blocks saved.rows
+  pub number : (last_of (unsaved def.inputs) blocks).number ≡ saved.number
+  pub versions : (last_of (unsaved def.inputs) blocks).versions ≡ saved.versions
+  pub end : end_of (blocks_at (length text)) blocks ≡ saved.end
+
+-- a device that has settled, with a closed gate where the next block goes
+pub record IsReady (end : ℕ) (t : Trace) : Type 0 where
+  pub settled : IsSettled (Some t)
+  pub shut : IsShut end (seen (Some t))
+
+-- The device keeps what the last save left, for as long as no call of it failed. Where the opening is right that is one of the
+-- versions of the tape and the rows from scratch at it, and the device settled on it.
+pub record IsKept (text : List ℕ) (def : GroupDefParts) (o : GroupOpening) (tape : List Turn) (copies : List (List Rec))
+    (saved : Saved) (failed : Bool) (trace : Option Trace) (ticks faults : ℕ) : Type 0 where
+  pub shut : failed ≡ false → IfSome trace (λ t. IsReady saved.end t)
+  pub holds : failed ≡ false → IsRight def.calcs (grid_of def.start def.period) o copies
+      → IfSome trace (λ t. Holds text def saved (seen (Some t)))
+  pub scratch : IsRight def.calcs (grid_of def.start def.period) o copies
+      → IsScratch def.calcs (grid_of def.start def.period) (cut saved.versions copies) saved.rows
+  pub versions : saved.versions ≡ saved_at o.versions.items o.versions.items tape
+  pub inputs : length saved.versions ≡ def.inputs
+  pub number : IfSome (walked (start o) tape).number (λ n. n ≡ saved.number)
+  pub past : (walked (start o) tape).moment ≤ ticks
+  pub opened_before : o.moment ≤ ticks
+  pub faultless : failed ≡ false → faults ≡ o.faults
+  pub cause : failed ≡ true → Rose o.faults faults
+
+-- so many calls and faults, where there is a device
+abbrev pub count_of : {D : Type 0} → (D → ℕ) → Option D → ℕ
+count_of count None = 0
+count_of count (Some dev) = count dev
+
+-- what the device tells, where there is one
+abbrev pub trace_of : {D : Type 0} → (D → Option Trace) → Option D → Option Trace
+trace_of trace None = None
+trace_of trace (Some dev) = trace dev
+
+-- ---- what a call changes
+
+-- a refresh has taken these records of each input into account
+pub record IsPublished {D : Type 0} (mores : List (List Rec)) (old new : Told D) : Type 0 where
+  pub versions : Vec ℕ Global
+  pub versions_are : versions.items ≡ versions_of new
+  pub refreshed : IsRefreshed old.sheet new.sheet mores
+  pub changed : new ≡ record old { tape = old.tape ++ Refresh versions ∷ []; sheet = new.sheet }
+
+-- the records that were pulled
+abbrev pub pulled_records : List Pulled → List (List Rec)
+pulled_records ps = map (λ p. p.recs.items) ps
+
+-- what was pulled of an input goes on from its version
+pub record GoesOn (copies : List (List Rec)) (ps : List Pulled) : Type 0 where
+  pub upto : (i : ℕ) (p : Pulled) (rs : List Rec) → i < length ps
+      → (slice_index_or ps i p).upto ≡ length (slice_index_or copies i rs) + length (slice_index_or ps i p).recs.items
+
+-- an input whose tag is not below the number of cells gets no record
+abbrev pub GivesNone : List ℕ → ℕ → List (List Rec) → Type 0
+GivesNone tags cells mores = (i : ℕ) (rs : List Rec) → i < length mores → cells ≤ slice_index tags i
+    → slice_index_or mores i rs ≡ []
+
+-- a question was answered so
+pub record IsAsked {D : Type 0} (reader row calc k : ℕ) (reply : Option CalcValue) (old new : Told D) : Type 0 where
+  pub answer : reply ≡ cell_of old.sheet.rows calc k
+  pub changed : new ≡ record old { tape = old.tape ++ Ask reader row calc k reply ∷ [] }
+
+-- ---- what is handed out at the end
+
+-- the history of a book on a device that tells these calls, this clock and these faults
+pub record IsHistory (h : GroupHistory) (trace : Option Trace) (ticks faults : ℕ) : Type 0 where
+  pub group : IsGroup h.def.inputs h.def.calcs
+  pub grid : IsGrid (grid_of h.def.start h.def.period)
+  pub legal : IsLegal h.def.calcs (grid_of h.def.start h.def.period) h.opening h.tape.items h.versions.items
+      (lists_of h.copies.items) (lists_of h.rows.items)
+  pub safe : IsSafe h.text.items h.def.calcs (grid_of h.def.start h.def.period) h.opening (lists_of h.copies.items) h.tape.items
+      (LeftSince trace)
+  pub past : (walked (start h.opening) h.tape.items).moment ≤ ticks
+  pub opened_before : h.opening.moment ≤ ticks
+  pub faults_since : (faults ≡ h.opening.faults) ⊎ Rose h.opening.faults faults

@@ -1,0 +1,169 @@
+// A book: a group with all that lies under its lock.
+ghost use Rattle.std.specs.Prelude.{◌≡◌, ◌<◌, List, length, slice_index_or};
+ghost use Rattle.trend_num.specs.declared.archive.Rec.{Rec};
+ghost use Rattle.calc_refresh.specs.Lists.{lists_of};
+ghost use Rattle.group_book.specs.Told.{IsHistory, count_of, trace_of, versions_of};
+
+use crate::history::{GroupHistory, GroupOpening};
+use crate::turn::Turn;
+use calc_refresh::{CalcValue, GroupDefParts, Sheet};
+use disk_model::Disk;
+use std::alloc::Global;
+use std::marker::Model;
+
+/// A group of a plant that runs.
+#[derive(Drop)]
+pub struct Book<D: Disk> {
+    pub(crate) alloc: Global,
+    pub(crate) group: u32,
+    pub(crate) def: GroupDefParts,
+    pub(crate) text: Vec<u8>,
+    // The tag of each input.
+    pub(crate) tags: Vec<u32>,
+    pub(crate) opening: GroupOpening,
+    pub(crate) tape: Vec<Turn>,
+    pub(crate) sheet: Sheet,
+    // Of each input how many records are taken into account.
+    pub(crate) versions: Vec<u32>,
+    pub(crate) dev: Option<D>,
+    // The number of the last save, its versions and its rows, and where the next block goes.
+    pub(crate) number: u64,
+    pub(crate) saved_versions: Vec<u32>,
+    pub(crate) saved_rows: Vec<Vec<CalcValue>>,
+    pub(crate) end: u64,
+    pub(crate) failed: bool,
+}
+
+impl<D: Disk> Model for Book<D> {
+    ghost use Rattle.std.specs.Coded.{codes};
+    ghost use Rattle.calc_check.specs.Code.{group_code};
+    ghost use Rattle.calc_refresh.specs.Code.{sheet_code};
+    ghost use Rattle.calc_refresh.specs.Lists.{lists_of};
+    ghost use Rattle.disk_model.specs.Moments.{LeftSince};
+    ghost use Rattle.calc_refresh.specs.Sheet.{grid_of};
+    ghost use Rattle.group_book.specs.Crashes.{IsSafe};
+    ghost use Rattle.group_book.specs.Histories.{IsLegal};
+    ghost use Rattle.group_book.specs.Told.{Told, Saved, IsDefined, IsKept, count_of, trace_of};
+
+    ghost Value = { Told D };
+
+    ghost coded = { Prim.hlevel (codes, group_code, sheet_code) };
+
+    ghost view = { λ b. record {
+      group = b.group;
+      def = b.def;
+      text = b.text.items;
+      tags = b.tags.items;
+      opening = b.opening;
+      tape = b.tape.items;
+      sheet = b.sheet;
+      dev = b.dev;
+      saved = record { number = b.number; versions = b.saved_versions.items; rows = lists_of b.saved_rows.items; end = b.end };
+      failed = b.failed;
+    } };
+
+    ghost invariant = { λ b. IsDefined b.def b.tags.items b.sheet
+        × IsLegal b.def.calcs (grid_of b.def.start b.def.period) b.opening b.tape.items b.versions.items b.sheet.copies b.sheet.rows
+        × IsKept b.text.items b.def b.opening b.tape.items b.sheet.copies
+        (record { number = b.number; versions = b.saved_versions.items; rows = lists_of b.saved_rows.items; end = b.end }) b.failed
+        (trace_of D.trace b.dev) (count_of D.ticks b.dev) (count_of D.fault_count b.dev)
+        × IsSafe b.text.items b.def.calcs (grid_of b.def.start b.def.period) b.opening b.sheet.copies b.tape.items (LeftSince (trace_of D.trace b.dev)) };
+}
+
+impl<D: Disk> Book<D> {
+    /// Of an input how many records are taken into account.
+    pub fn version(&self, input: u32) -> u32
+        requires { input < self.now.def.inputs }
+        ensures { (d : List Rec) → result ≡ length (slice_index_or self.now.sheet.copies input d) }
+    {
+        self.versions[input as usize]
+    }
+
+    /// The group as it was opened.
+    pub fn opening(&self) -> &GroupOpening
+        ensures { result.now ≡ self.now.opening }
+    {
+        &self.opening
+    }
+
+    /// What the calls so far left, the oldest first.
+    pub fn tape(&self) -> &[Turn]
+        ensures { result.now ≡ self.now.tape }
+    {
+        &self.tape
+    }
+
+    /// The group, counted from 0.
+    pub fn group(&self) -> u32
+        ensures { result ≡ self.now.group }
+    {
+        self.group
+    }
+
+    /// The definition that it was made with.
+    pub fn def(&self) -> &GroupDefParts
+        ensures { result.now ≡ self.now.def }
+    {
+        &self.def
+    }
+
+    /// The definition text of its device; empty without a device.
+    pub fn text(&self) -> &[u8]
+        ensures { result.now ≡ self.now.text }
+    {
+        &self.text
+    }
+
+    /// How often a call of the device has failed; 0 without one.
+    pub fn device_faults(&self) -> u64
+        ensures { result ≡ count_of D.fault_count self.now.dev }
+    {
+        match &self.dev {
+            None => 0,
+            Some(dev) => dev.faults(),
+        }
+    }
+
+    /// The device, and all that happened to the group since it was opened.
+    pub fn into_history(self) -> (Option<D>, GroupHistory)
+        ensures device { result.0 ≡ self.dev }
+        ensures group { result.1.group ≡ self.group }
+        ensures def { result.1.def ≡ self.def }
+        ensures text { result.1.text.items ≡ self.text }
+        ensures opening { result.1.opening ≡ self.opening }
+        ensures tape { result.1.tape.items ≡ self.tape }
+        ensures versions { result.1.versions.items ≡ versions_of self }
+        ensures copies { lists_of result.1.copies.items ≡ self.sheet.copies }
+        ensures rows { lists_of result.1.rows.items ≡ self.sheet.rows }
+        ensures evals { result.1.evals ≡ self.sheet.evals }
+        ensures history { IsHistory result.1 (trace_of D.trace result.0) (count_of D.ticks result.0) (count_of D.fault_count result.0) }
+    {
+        let Book {
+            group,
+            def,
+            text,
+            opening,
+            tape,
+            sheet,
+            versions,
+            dev,
+            ..
+        } = self;
+        let evals = sheet.evals();
+        let parts = sheet.into_parts();
+        (
+            dev,
+            GroupHistory {
+                group,
+                def,
+                text,
+                opening,
+                tape,
+                versions,
+                copies: parts.copies,
+                rows: parts.rows,
+                evals,
+            },
+        )
+    }
+}

@@ -1,0 +1,107 @@
+// Records are taken into account.
+ghost use Rattle.std.specs.Prelude.{◌≡◌, ◌+◌, All, IfErr, IfOk, None, OnErr, OnOk, length, map, vec_len, vec_capacity, ◌<◌};
+ghost use Rattle.calc_refresh.specs.Lists.{lists_of};
+ghost use Rattle.calc_refresh.specs.Refreshed.{evaluated, fault_after};
+ghost use Rattle.calc_refresh.specs.Sheet.{IsCopy};
+ghost use Rattle.group_book.specs.Told.{GoesOn, IsPublished, pulled_records, versions_of};
+ghost use Rattle.group_book.specs.Refusals.{IsToldOf};
+
+use crate::book::Book;
+use crate::refusal::RefreshNo;
+use crate::turn::Turn;
+use calc_refresh::SheetNo;
+use disk_model::Disk;
+use std::alloc::Global;
+use std::sync::ledger::Ledger;
+use tag_cell::{Pulled, Receipt};
+use trend_num::{Rec, Steps, WantOfMemory};
+
+impl From<WantOfMemory> for RefreshNo {
+    ghost use Rattle.std.specs.Prelude.{◌≡◌};
+    ghost use Rattle.group_book.specs.declared.refusal.RefreshNo.TheVariants.{WantOfMemory as NoMemory};
+
+    ghost from_gives = { λ _ no. no ≡ NoMemory };
+
+    fn from(_: WantOfMemory) -> RefreshNo {
+        RefreshNo::WantOfMemory
+    }
+}
+
+impl From<SheetNo> for RefreshNo {
+    ghost use Rattle.std.specs.Prelude.{◌≡◌};
+    ghost use Rattle.group_book.specs.Refusals.{refusal_of};
+
+    ghost from_gives = { λ why no. no ≡ refusal_of why };
+
+    fn from(why: SheetNo) -> RefreshNo {
+        match why {
+            SheetNo::CellLimit { cells } => RefreshNo::CellLimit { cells },
+            SheetNo::CopyLimit { records } => RefreshNo::CopyLimit { records },
+            SheetNo::Shape { .. } | SheetNo::WantOfMemory => RefreshNo::WantOfMemory,
+        }
+    }
+}
+
+impl<D: Disk> Book<D> {
+    /// Takes what was pulled of each input into account, evaluates the windows that are newly complete or touched, and leaves one
+    /// Refresh, whose versions are where the pulls ended. It fails where the sheet would have more than 1,048,576 cells, else
+    /// where it would have more than 2,097,152 records; and where memory is wanting. The book is then as it was. It never
+    /// answers Ahead.
+    pub fn publish<L: Ledger>(
+        &mut self,
+        pulled: Vec<Pulled>,
+        steps: &mut Steps<L>,
+    ) -> Result<Receipt, RefreshNo>
+        requires inputs { length pulled.items ≡ self.old.def.inputs }
+        requires copied { All IsCopy (pulled_records pulled.items) }
+        requires goes_on { GoesOn self.old.sheet.copies pulled.items }
+        ensures published { OnOk result (IsPublished (pulled_records pulled.items) self.old self.new) }
+        ensures upto { OnOk result (versions_of self.new ≡ map (λ p. p.upto) pulled.items) }
+        ensures place { IfOk result (λ receipt. receipt.place ≡ length self.old.tape) }
+        ensures steps { OnOk result (steps.new ≡ steps.old + evaluated self.old.sheet (pulled_records pulled.items)) }
+        ensures within { OnOk result (fault_after self.old.sheet (pulled_records pulled.items) ≡ None) }
+        ensures unchanged { OnErr result (self.new ≡ self.old) }
+        ensures no_steps { OnErr result (steps.new ≡ steps.old) }
+        ensures fault { IfErr result (IsToldOf (fault_after self.old.sheet (pulled_records pulled.items))) }
+    {
+        let entry = uptos(self.alloc, &pulled)?;
+        let versions = uptos(self.alloc, &pulled)?;
+        let deltas = records_of(self.alloc, pulled)?;
+        make_place(&mut self.tape)?;
+        self.sheet.apply(&deltas, steps)?;
+        let place = self.tape.len() as u64;
+        self.versions = versions;
+        self.tape.push_reserved(Turn::Refresh { versions: entry });
+        Ok(Receipt { place })
+    }
+}
+
+// Where the pulls ended.
+fn uptos(alloc: Global, pulled: &[Pulled]) -> Result<Vec<u32>, WantOfMemory>
+    ensures { IfOk result (λ v. v.items ≡ map (λ p. p.upto) pulled.now) }
+{
+    let mut versions = Vec::with_capacity(alloc, pulled.len()).map_err(|_| WantOfMemory)?;
+    for one in pulled {
+        versions.push_reserved(one.upto);
+    }
+    Ok(versions)
+}
+
+// The records that were pulled, moved out.
+fn records_of(alloc: Global, pulled: Vec<Pulled>) -> Result<Vec<Vec<Rec>>, WantOfMemory>
+    ensures { IfOk result (λ v. lists_of v.items ≡ pulled_records pulled.items) }
+{
+    let mut lists = Vec::new(alloc);
+    for one in pulled {
+        lists.push(one.recs).map_err(|_| WantOfMemory)?;
+    }
+    Ok(lists)
+}
+
+// Makes a place on a tape.
+pub(crate) fn make_place(tape: &mut Vec<Turn>) -> Result<(), WantOfMemory>
+    ensures same { tape.new.items ≡ tape.old.items }
+    ensures room { OnOk result (vec_len tape.new < vec_capacity tape.new) }
+{
+    tape.reserve(1).map_err(|_| WantOfMemory)
+}

@@ -1,0 +1,12 @@
+use Rattle.std.proofs.Common.{subst}
+use Rattle.group_layout.specs.Images.{IsGroupDamage}
+use Rattle.group_layout.proofs.Heads.{shows_at}
+use Rattle.group_layout.proofs.layout_reader.read_group.Goals as goal
+
+pub returns-clause-damaged : goal.returns-clause-damaged
+returns-clause-damaged g c = λ a byte told.
+    let x = c.args in
+    shows_at (g.D.Disk.trace x.dev.now) c.in_ok-bytes.bytes.items
+    (λ s. IsGroupDamage x.text.now x.inputs x.calcs s a byte) c.in_ok-bytes.ensures.all
+    (subst (λ s. IsGroupDamage x.text.now x.inputs x.calcs s a byte) c.deref.ensures.value
+    (c.parse_group.ensures.damaged a byte told))

@@ -1,0 +1,62 @@
+use Rattle.std.proofs.Common.{◌≡◌, ℕ, ◌+◌, ◌<◌, ◌≤◌, ◌∷◌, ◌++◌, [], inl, inr, true, All, get_or, length, sym, ap, ◌∙◌, subst, arith, length-append, nat_le, lit<, leb-true}
+use Rattle.std.proofs.Math.Seq.{get_or-append_seam}
+use Rattle.std.proofs.Math.ListN.{get_or-append}
+use Rattle.std.proofs.lemmas.Bool.{cases_lt}
+use Rattle.std.proofs.lemmas.Result.{err_from_is_err_and}
+use Rattle.archive_file.specs.Fields.{number_bytes}
+use Rattle.archive_file.proofs.Joins.{images_push}
+use Rattle.group_layout.specs.Fields.{BreaksFirst, Keeps, Spells, short_at}
+use Rattle.group_layout.specs.Blocks.{versions_image}
+use Rattle.group_layout.proofs.FieldLaws.{field_of, spells_both, told_through}
+use Rattle.group_layout.proofs.Spellings.{spells_short}
+use Rattle.group_layout.proofs.VersionLaws.{version_breaks, version_more}
+use Rattle.group_layout.proofs.reader.read_versions.Goals as goal
+
+-- the numbers behind a list and one more
+risen : (xs ys : _) (n y : ℕ) → length ys ≡ n → ((k : ℕ) → k < n → get_or xs k 0 ≤ get_or ys k 0) → get_or xs n 0 ≤ y
+    → (k : ℕ) → k < n + 1 → get_or xs k 0 ≤ get_or (ys ++ y ∷ []) k 0
+risen xs ys n y long below here k low = elim (cases_lt k n) [
+  | inl before ↦ subst (λ v. get_or xs k 0 ≤ v) (sym (get_or-append ys (y ∷ []) 0 k (omega (arith, long)))) (below k before)
+  | inr at ↦
+      let same : k ≡ length ys = omega (arith, long) in
+      let last : get_or (ys ++ y ∷ []) k 0 ≡ y = ap (λ i. get_or (ys ++ y ∷ []) i 0) same ∙ get_or-append_seam ys y [] 0 in
+      let place : k ≡ n = omega arith in
+      let moved : get_or xs k 0 ≡ get_or xs n 0 = ap (λ i. get_or xs i 0) place in
+      omega (arith, here, last, moved)
+]
+
+pub returns-in_err-check-clause-damaged : goal.returns-in_err-check-clause-damaged
+returns-in_err-check-clause-damaged c = λ a byte told.
+    let x = c.args in
+    let l = c.loop-least in
+    let out = err_from_is_err_and c.from_residual.result c.from_residual.ensures.1 in
+    let is = c.new.ensures ∙ ap (λ v. field_of l.next 4 (nat_le (get_or x.before.now l.least-index 0) v)) c.short_at-version.ensures in
+    version_breaks x.c.now x.before.now x.at l.next l.least-index c.loop-least-test.true l.invariant.kept a byte
+    (subst (λ f. BreaksFirst x.c.now (f ∷ []) a byte) is
+    (c.in_err-check.ensures.damaged a byte (told_through c.from_residual.result out.0 _ a byte out.1 out.2 told)))
+
+pub loop-least-preserved : goal.loop-least-preserved
+loop-least-preserved c =
+    let x = c.args in
+    let l = c.loop-least in
+    let v = c.short_at-version.result in
+    let vs = l.versions.items in
+    let is = c.new.ensures ∙ ap (λ v. field_of l.next 4 (nat_le (get_or x.before.now l.least-index 0) v)) c.short_at-version.ensures in
+    let pushed = c.in-Ok.ensures.items in
+    let kept = subst (λ f. All (Keeps x.c.now) (f ∷ [])) is c.in_ok-check.ensures.kept in
+    let field : Keeps x.c.now (field_of l.next 4 (nat_le (get_or x.before.now l.least-index 0) (short_at x.c.now l.next)))
+    = kept 0 (field_of 0 0 true) (lit< tt) in
+    record {
+      place = omega arith;
+      within = omega (arith, field.there);
+      len = omega (arith, ap length pushed, length-append vs (v ∷ []));
+      rises = subst (λ ys. (k : ℕ) → k < l.least-index + 1 → get_or x.before.now k 0 ≤ get_or ys k 0) (sym pushed)
+          (risen x.before.now vs l.least-index v l.invariant.len l.invariant.rises
+          (omega (arith, leb-true _ _ field.kept, c.short_at-version.ensures)));
+      spelled = subst (λ bytes. Spells x.c.now x.at bytes (l.next + 4))
+          (sym (ap versions_image pushed ∙ images_push (number_bytes 4) vs v))
+          (spells_both x.c.now x.at l.next (l.next + 4) (versions_image vs) (number_bytes 4 v) l.invariant.spelled
+          (subst (λ n. Spells x.c.now l.next (number_bytes 4 n) (l.next + 4)) (sym c.short_at-version.ensures)
+          (spells_short x.c.now l.next (λ i. omega (arith, c.type_inv.c i)) field.there)));
+      kept = version_more x.c.now x.before.now x.at l.next l.least-index c.loop-least-test.true l.invariant.kept kept;
+    }

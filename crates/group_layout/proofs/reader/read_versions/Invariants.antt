@@ -1,0 +1,15 @@
+use Rattle.std.proofs.Common.{◌≡◌, ℕ, ◌+◌, ◌*◌, ◌<◌, ◌≤◌, drop, get_or, length}
+use Rattle.group_layout.specs.Fields.{Spells}
+use Rattle.group_layout.specs.Blocks.{version_fields, versions_image}
+use Rattle.group_layout.proofs.FieldLaws.{KeptUpTo}
+use Rattle.group_layout.proofs.reader.read_versions.Given as goal
+
+abbrev pub invariant-loop-least : goal.invariant-loop-least
+invariant-loop-least l = record {
+  place : l.next ≡ l.initial.next + 4 * l.least-index;
+  within : l.next ≤ length l.c;
+  len : length l.versions.items ≡ l.least-index;
+  rises : (k : ℕ) → k < l.least-index → get_or l.before k 0 ≤ get_or l.versions.items k 0;
+  spelled : Spells l.c l.initial.next (versions_image l.versions.items) l.next;
+  kept : KeptUpTo l.c (version_fields l.c l.before l.initial.next) (version_fields l.c (drop l.least-index l.before) l.next);
+}

@@ -1,0 +1,20 @@
+use Rattle.std.proofs.Common.{◌≡◌, ◌+◌, ◌-◌, ◌*◌, ◌≤◌, All, AllPairs, None, length}
+use Rattle.group_layout.specs.Fields.{Spells}
+use Rattle.group_layout.specs.Blocks.{IsBefore, IsRow, rows_fields, rows_image}
+use Rattle.group_layout.proofs.FieldLaws.{KeptUpTo}
+use Rattle.group_layout.proofs.RowLaws.{IsLastOf}
+use Rattle.group_layout.proofs.row_reader.read_rows.Given as goal
+
+abbrev pub invariant-loop : goal.invariant-loop
+invariant-loop l = record {
+  place : l.next ≡ l.initial.next + 17 * l.counter;
+  within : l.next ≤ length l.c;
+  below : l.counter ≤ l.count;
+  len : length l.rows.items ≡ l.counter;
+  spelled : Spells l.c l.initial.next (rows_image l.rows.items) l.next;
+  each : All (IsRow l.calcs l.windows) l.rows.items;
+  sorted : AllPairs IsBefore l.rows.items;
+  last : IsLastOf l.rows.items l.last;
+  kept : KeptUpTo l.c (rows_fields l.c l.calcs l.windows None l.initial.next l.count)
+      (rows_fields l.c l.calcs l.windows l.last l.next (l.count - l.counter));
+}

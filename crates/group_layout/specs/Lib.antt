@@ -1,0 +1,5 @@
+pub mod Fields
+pub mod Blocks
+pub mod Rows
+pub mod Images
+pub mod Readings

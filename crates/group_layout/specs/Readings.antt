@@ -1,0 +1,40 @@
+-- What was found on a group's device, and what a device is begun with.
+use Rattle.std.specs.Prelude.{◌≡◌, ◌⊎◌, ℕ, List, [], ◌∷◌, ◌++◌, length}
+use Rattle.disk_model.specs.Gates.{IsNew, IsShut}
+use Rattle.archive_file.specs.Fields.{number_bytes}
+use Rattle.group_layout.specs.declared.layout_reader.Found.{Found}
+use Rattle.group_layout.specs.declared.layout_reader.Found.TheVariants.{New, Other, Saved}
+use Rattle.group_layout.specs.declared.layout_reader.SavedGroup.{SavedGroup}
+use Rattle.group_layout.specs.Blocks.{Parts, end_of, last_of, unsaved}
+use Rattle.group_layout.specs.Images.{HasSaved, IsOfOther, IsOfText, IsUnsaved, blocks_at, letters}
+use Rattle.group_layout.specs.Rows.{lists_of}
+
+-- this was read of the blocks of a group
+pub record IsReadOf (text : List ℕ) (inputs calcs : ℕ) (c : List ℕ) (g : SavedGroup) : Type 0 where
+  pub blocks : List Parts
+  pub has : HasSaved text inputs calcs c blocks (lists_of g.rows.items)
+  pub number : g.number ≡ (last_of (unsaved inputs) blocks).number
+  pub versions : g.versions.items ≡ (last_of (unsaved inputs) blocks).versions
+  pub windows : g.windows ≡ (last_of (unsaved inputs) blocks).windows
+  pub end : g.end ≡ end_of (blocks_at (length text)) blocks
+
+-- this was found: no finished layout, the layout of another text, or that of this one
+abbrev pub IsFound : List ℕ → ℕ → ℕ → Found → List ℕ → Type 0
+IsFound text inputs calcs New c = IsNew c
+IsFound text inputs calcs Other c = IsOfOther text c
+IsFound text inputs calcs (Saved g) c = IsReadOf text inputs calcs c g
+
+-- ---- a device that is begun
+
+-- what stands behind the gate of the layout, up to the first block's gate, which is closed
+abbrev pub head_image : List ℕ → List ℕ
+head_image text = letters ++ (number_bytes 4 (length text) ++ (text ++ 0 ∷ []))
+
+-- a layout of this text without blocks
+pub record IsEmpty (text c : List ℕ) : Type 0 where
+  pub of_text : IsOfText text c
+  pub shut : IsShut (blocks_at (length text)) c
+
+-- nothing is saved for this text, whether or not its layout is there
+abbrev pub SavesNothing : List ℕ → List ℕ → Type 0
+SavesNothing text c = IsUnsaved text c ⊎ IsEmpty text c

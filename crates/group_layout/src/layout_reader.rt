@@ -1,0 +1,205 @@
+// Reading of a group's device: its definition text, and what its saves left.
+ghost use Rattle.std.specs.Prelude.{◌≡◌, ◌≢◌, ℕ, ◌+◌, ◌^◌, ◌<◌, ◌≤◌, true, false, All, Option, IfOk, IsErrOf, OnOk, length, map};
+ghost use Rattle.disk_model.specs.Calls.{CountsFault, Shows};
+ghost use Rattle.archive_file.specs.declared.failure.ScanNo.TheVariants.{Damaged, DeviceFault};
+ghost use Rattle.group_layout.specs.Fields.{BreaksFirst, Keeps, short_at};
+ghost use Rattle.group_layout.specs.Blocks.{AreBlocks, AreDamaged, end_of, last_of, parts_of, unsaved};
+ghost use Rattle.group_layout.specs.Rows.{AreRowsOf, IsIncomplete, lists_of};
+ghost use Rattle.group_layout.specs.Images.{IsGroupDamage, head_fields, letter_field, text_in};
+ghost use Rattle.group_layout.specs.Readings.{IsFound};
+
+use crate::block::Blocks;
+use crate::field::{Field, byte_at, check, short_at};
+use crate::reader::{last_or, parse_blocks, size_of_block, unsaved_block};
+use crate::saved::rows_of;
+use archive_file::{ScanNo, read_bytes};
+use disk_model::{Disk, OPEN};
+use std::alloc::Global;
+use trend_num::CalcValue;
+
+/// What the saves of a group left.
+#[derive(Drop)]
+pub struct SavedGroup {
+    /// The number of the last save; 0 before the first one.
+    pub number: u64,
+    /// Of each input how many records were taken into account.
+    pub versions: Vec<u32>,
+    /// How many windows were complete.
+    pub windows: u32,
+    /// Of each calculation its values in these windows.
+    pub rows: Vec<Vec<CalcValue>>,
+    /// Where the next block goes: the gate in front of it.
+    pub end: u64,
+}
+
+/// What stands on a group's device.
+#[derive(Drop)]
+pub enum Found {
+    /// No layout was finished.
+    New,
+    /// The layout of another definition text.
+    Other,
+    /// That of the wanted one.
+    Saved(SavedGroup),
+}
+
+/// Reads the device of a group with this definition text, and so many inputs and calculations, or names the first byte of the
+/// first field that breaks the layout.
+pub fn read_group<D: Disk>(
+    alloc: Global,
+    dev: &mut D,
+    text: &[u8],
+    inputs: u32,
+    calcs: u32,
+) -> Result<Found, ScanNo>
+    ensures found { IfOk result (λ f. Shows (D.trace dev.old) (IsFound text.now inputs calcs f)) }
+    ensures damaged { (a : ℕ) (byte : Option ℕ) → IsErrOf result (Damaged a byte)
+        → Shows (D.trace dev.old) (λ c. IsGroupDamage text.now inputs calcs c a byte) }
+    ensures cause { CountsFault result DeviceFault (D.fault_count dev.old) (D.fault_count dev.new) }
+    ensures same { D.trace dev.new ≡ D.trace dev.old }
+    ensures untimed { D.ticks dev.new ≡ D.ticks dev.old }
+{
+    let bytes = all_bytes(alloc, dev)?;
+    parse_group(alloc, &bytes, text, inputs, calcs)
+}
+
+/// Reads the blocks from the gate at a place on, of a group with so many inputs and calculations, or names the first byte of
+/// the first field that breaks a rule of blocks. Whether they give a value of each calculation in each window is not tested.
+pub fn read_blocks<D: Disk>(
+    alloc: Global,
+    dev: &mut D,
+    at: u64,
+    inputs: u32,
+    calcs: u32,
+) -> Result<Blocks, ScanNo>
+    ensures blocks { IfOk result (λ b. Shows (D.trace dev.old) (λ c. AreBlocks c calcs inputs at (map parts_of b.list.items))) }
+    ensures end { IfOk result (λ b. b.end ≡ end_of at (map parts_of b.list.items)) }
+    ensures damaged { (a : ℕ) (byte : Option ℕ) → IsErrOf result (Damaged a byte)
+        → Shows (D.trace dev.old) (λ c. AreDamaged c calcs inputs at a byte) }
+    ensures cause { CountsFault result DeviceFault (D.fault_count dev.old) (D.fault_count dev.new) }
+    ensures same { D.trace dev.new ≡ D.trace dev.old }
+    ensures untimed { D.ticks dev.new ≡ D.ticks dev.old }
+{
+    let bytes = all_bytes(alloc, dev)?;
+    parse_blocks(alloc, &bytes, at as usize, inputs, calcs)
+}
+
+// All bytes of a device.
+fn all_bytes<D: Disk>(alloc: Global, dev: &mut D) -> Result<Vec<u8>, ScanNo>
+    ensures all { IfOk result (λ v. Shows (D.trace dev.old) (λ c. v.items ≡ c)) }
+    ensures undamaged { (a : ℕ) (byte : Option ℕ) → IsErrOf result (Damaged a byte) → ⊥ }
+    ensures cause { CountsFault result DeviceFault (D.fault_count dev.old) (D.fault_count dev.new) }
+    ensures same { D.trace dev.new ≡ D.trace dev.old }
+    ensures untimed { D.ticks dev.new ≡ D.ticks dev.old }
+{
+    let Ok(len) = dev.len() else {
+        return Err(ScanNo::DeviceFault);
+    };
+    read_bytes(alloc, dev, 0, len as usize)
+}
+
+// What stands on an image.
+fn parse_group(
+    alloc: Global,
+    c: &[u8],
+    text: &[u8],
+    inputs: u32,
+    calcs: u32,
+) -> Result<Found, ScanNo>
+    requires { length c.now < 2 ^ 63 }
+    ensures found { IfOk result (λ f. IsFound text.now inputs calcs f c.now) }
+    ensures damaged { (a : ℕ) (byte : Option ℕ) → IsErrOf result (Damaged a byte) → IsGroupDamage text.now inputs calcs c.now a byte }
+    ensures no_fault { IsErrOf result DeviceFault → ⊥ }
+{
+    if c.len() <= 1 || byte_at(c, 0) != OPEN {
+        return Ok(Found::New);
+    }
+    let size = short_at(c, 5);
+    check_head(c, size)?;
+    let size = size as usize;
+    if !is_text(c, size, text) {
+        return Ok(Found::Other);
+    }
+    let blocks = parse_blocks(alloc, c, 9 + size, inputs, calcs)?;
+    let saved = gather(alloc, &blocks, 9 + size, inputs, calcs)?;
+    Ok(Found::Saved(saved))
+}
+
+// Refuses the head of a layout with a text of so many bytes, in the first field that is not there or breaks its rule.
+fn check_head(c: &[u8], size: u32) -> Result<(), ScanNo>
+    requires { size ≡ short_at c.now 5 }
+    ensures kept { OnOk result (All (Keeps c.now) (head_fields c.now)) }
+    ensures damaged { (a : ℕ) (byte : Option ℕ) → IsErrOf result (Damaged a byte) → BreaksFirst c.now (head_fields c.now) a byte }
+    ensures no_fault { IsErrOf result DeviceFault → ⊥ }
+    ensures long { OnOk result (9 + (size + 1) ≤ length c.now) }
+{
+    check(
+        c,
+        &[
+            letter_field(c, 1, b'P'),
+            letter_field(c, 2, b'H'),
+            letter_field(c, 3, b'G'),
+            letter_field(c, 4, b'1'),
+            Field::new(5, 4, true),
+            Field::new(9, size as usize + 1, true),
+        ],
+    )
+}
+
+// Whether the definition text, of so many bytes, is this one.
+fn is_text(c: &[u8], size: usize, text: &[u8]) -> bool
+    requires there { 9 + size ≤ length c.now }
+    requires size { size ≡ short_at c.now 5 }
+    ensures same { result ≡ true → text_in c.now ≡ text.now }
+    ensures other { result ≡ false → text_in c.now ≢ text.now }
+{
+    let (_, rest) = c.split_at(9);
+    let (found, _) = rest.split_at(size);
+    found == text
+}
+
+// One letter of the head.
+fn letter_field(c: &[u8], at: usize, letter: u8) -> Field
+    ensures { result ≡ letter_field c.now at letter }
+{
+    Field::new(at, 1, byte_at(c, at) == letter)
+}
+
+// What blocks behind a place give: refuses those that lack a value.
+fn gather(
+    alloc: Global,
+    blocks: &Blocks,
+    at: usize,
+    inputs: u32,
+    calcs: u32,
+) -> Result<SavedGroup, ScanNo>
+    requires { blocks.now.end ≡ end_of at (map parts_of blocks.now.list.items) }
+    ensures rows { IfOk result (λ g. AreRowsOf calcs g.windows (map parts_of blocks.now.list.items) (lists_of g.rows.items)) }
+    ensures number { IfOk result (λ g. g.number ≡ (last_of (unsaved inputs) (map parts_of blocks.now.list.items)).number) }
+    ensures versions { IfOk result (λ g. g.versions.items ≡ (last_of (unsaved inputs) (map parts_of blocks.now.list.items)).versions) }
+    ensures windows { IfOk result (λ g. g.windows ≡ (last_of (unsaved inputs) (map parts_of blocks.now.list.items)).windows) }
+    ensures end { IfOk result (λ g. g.end ≡ blocks.now.end) }
+    ensures damaged { (a : ℕ) (byte : Option ℕ) → IsErrOf result (Damaged a byte)
+        → IsIncomplete calcs inputs at (map parts_of blocks.now.list.items) a byte }
+    ensures no_fault { IsErrOf result DeviceFault → ⊥ }
+{
+    let unsaved = unsaved_block(alloc, inputs)?;
+    let last = last_or(&blocks.list, &unsaved);
+    let Ok(versions) = Vec::from_slice(alloc, &last.versions) else {
+        return Err(ScanNo::WantOfMemory);
+    };
+    match rows_of(alloc, &blocks.list, calcs, last.windows) {
+        Err(_) => Err(ScanNo::WantOfMemory),
+        Ok(None) => Err(ScanNo::Damaged {
+            at: blocks.end - size_of_block(last) as u64,
+            byte: Some(OPEN),
+        }),
+        Ok(Some(rows)) => Ok(SavedGroup {
+            number: last.number,
+            versions,
+            windows: last.windows,
+            rows,
+            end: blocks.end,
+        }),
+    }
+}

@@ -1,0 +1,154 @@
+// Reading the blocks of an image that is in memory.
+ghost use Rattle.std.specs.Prelude.{◌≡◌, ℕ, ◌+◌, ◌*◌, ◌^◌, ◌<◌, ◌≤◌, All, Option, IfOk, IsErrOf, OnOk, length, map, slice_index, nat_eq, vec_len};
+ghost use Rattle.archive_file.specs.declared.failure.ScanNo.TheVariants.{Damaged, DeviceFault};
+ghost use Rattle.group_layout.specs.Fields.{BreaksFirst, Keeps, Spells};
+ghost use Rattle.group_layout.specs.Blocks.{AreBlocks, AreDamaged, MayFollow, block_fields, block_image, block_size, end_of, last_of, parts_of, unsaved, version_fields, versions_image};
+
+use crate::block::{Block, Blocks};
+use crate::field::{Field, byte_at, check, long_at, short_at};
+use crate::row_reader::read_rows;
+use crate::writer::ROW_LEN;
+use archive_file::ScanNo;
+use disk_model::OPEN;
+use std::alloc::Global;
+
+// Reads the blocks from the gate at a place on, of a group with so many inputs and calculations.
+pub(crate) fn parse_blocks(
+    alloc: Global,
+    c: &[u8],
+    at: usize,
+    inputs: u32,
+    calcs: u32,
+) -> Result<Blocks, ScanNo>
+    requires { length c.now < 2 ^ 63 }
+    ensures blocks { IfOk result (λ blocks. AreBlocks c.now calcs inputs at (map parts_of blocks.list.items)) }
+    ensures end { IfOk result (λ blocks. blocks.end ≡ end_of at (map parts_of blocks.list.items)) }
+    ensures damaged { (a : ℕ) (byte : Option ℕ) → IsErrOf result (Damaged a byte) → AreDamaged c.now calcs inputs at a byte }
+    ensures no_fault { IsErrOf result DeviceFault → ⊥ }
+{
+    let unsaved = unsaved_block(alloc, inputs)?;
+    check(c, &[Field::new(at, 1, true)])?;
+    let mut list = Vec::new(alloc);
+    let mut next = at;
+    'walk: while byte_at(c, next) == OPEN {
+        let block = read_block(alloc, c, next, calcs, last_or(&list, &unsaved))?;
+        next += size_of_block(&block);
+        let Ok(()) = list.push(block) else {
+            return Err(ScanNo::WantOfMemory);
+        };
+    }
+    Ok(Blocks {
+        list,
+        end: next as u64,
+    })
+}
+
+// What was before the first save: so many inputs at version 0.
+pub(crate) fn unsaved_block(alloc: Global, inputs: u32) -> Result<Block, ScanNo>
+    ensures unsaved { IfOk result (λ b. parts_of b ≡ unsaved inputs) }
+    ensures undamaged { (a : ℕ) (byte : Option ℕ) → IsErrOf result (Damaged a byte) → ⊥ }
+    ensures no_fault { IsErrOf result DeviceFault → ⊥ }
+{
+    let Ok(versions) = vec![in alloc; 0; inputs as usize] else {
+        return Err(ScanNo::WantOfMemory);
+    };
+    Ok(Block {
+        number: 0,
+        versions,
+        windows: 0,
+        rows: Vec::new(alloc),
+    })
+}
+
+// The last of some blocks, or another one where there is none.
+pub(crate) fn last_or<'a>(list: &'a [Block], unsaved: &'a Block) -> &'a Block
+    ensures { parts_of result.now ≡ last_of (parts_of unsaved.now) (map parts_of list.now) }
+{
+    match list {
+        [] => unsaved,
+        [.., last] => last,
+    }
+}
+
+// How many bytes a block has, from its gate to the next one.
+pub(crate) fn size_of_block(b: &Block) -> usize
+    requires { block_size (parts_of b.now) < 2 ^ 64 }
+    ensures { result ≡ block_size (parts_of b.now) }
+{
+    17 + 4 * b.versions.len() + ROW_LEN * b.rows.len()
+}
+
+// The block behind the gate at a place, which follows another.
+fn read_block(
+    alloc: Global,
+    c: &[u8],
+    gate: usize,
+    calcs: u32,
+    before: &Block,
+) -> Result<Block, ScanNo>
+    requires gate { gate < length c.now }
+    requires small { length c.now < 2 ^ 63 }
+    ensures follows { IfOk result (λ b. MayFollow calcs (parts_of before.now) (parts_of b)) }
+    ensures spelled { IfOk result (λ b. Spells c.now (gate + 1) (block_image (parts_of b)) (gate + block_size (parts_of b))) }
+    ensures next { IfOk result (λ b. gate + block_size (parts_of b) < length c.now) }
+    ensures damaged { (a : ℕ) (byte : Option ℕ) → IsErrOf result (Damaged a byte)
+        → BreaksFirst c.now (block_fields c.now calcs (parts_of before.now) gate) a byte }
+    ensures no_fault { IsErrOf result DeviceFault → ⊥ }
+{
+    let number = long_at(c, gate + 1);
+    check(
+        c,
+        &[Field::new(gate + 1, 8, is_next(before.number, number))],
+    )?;
+    let versions = read_versions(alloc, c, gate + 9, &before.versions)?;
+    let at = gate + 9 + 4 * versions.len();
+    let windows = short_at(c, at);
+    check(
+        c,
+        &[
+            Field::new(at, 4, before.windows <= windows),
+            Field::new(at + 4, 4, true),
+        ],
+    )?;
+    let count = short_at(c, at + 4);
+    let rows = read_rows(alloc, c, at + 8, count, calcs, windows)?;
+    check(c, &[Field::new(at + 8 + ROW_LEN * rows.len(), 1, true)])?;
+    Ok(Block {
+        number,
+        versions,
+        windows,
+        rows,
+    })
+}
+
+// Whether a number is the one behind another.
+fn is_next(before: u64, number: u64) -> bool
+    ensures { result ≡ nat_eq number (before + 1) }
+{
+    number > 0 && number - 1 == before
+}
+
+// The versions from a place on, which are no less than those before.
+fn read_versions(alloc: Global, c: &[u8], at: usize, before: &[u32]) -> Result<Vec<u32>, ScanNo>
+    requires there { at ≤ length c.now }
+    requires small { length c.now < 2 ^ 63 }
+    ensures len { IfOk result (λ v. length v.items ≡ length before.now) }
+    ensures rises { IfOk result (λ v. (i : ℕ) → i < length before.now → slice_index before.now i ≤ slice_index v.items i) }
+    ensures spelled { IfOk result (λ v. Spells c.now at (versions_image v.items) (at + 4 * length before.now)) }
+    ensures kept { OnOk result (All (Keeps c.now) (version_fields c.now before.now at)) }
+    ensures damaged { (a : ℕ) (byte : Option ℕ) → IsErrOf result (Damaged a byte)
+        → BreaksFirst c.now (version_fields c.now before.now at) a byte }
+    ensures no_fault { IsErrOf result DeviceFault → ⊥ }
+{
+    let mut versions = Vec::new(alloc);
+    let mut next = at;
+    for least in before {
+        let version = short_at(c, next);
+        check(c, &[Field::new(next, 4, *least <= version)])?;
+        let Ok(()) = versions.push(version) else {
+            return Err(ScanNo::WantOfMemory);
+        };
+        next += 4;
+    }
+    Ok(versions)
+}

@@ -1,0 +1,169 @@
+// Reading the rows of a block.
+ghost use Rattle.std.specs.Prelude.{◌≡◌, ℕ, ◌+◌, ◌*◌, ◌^◌, ◌<◌, ◌≤◌, true, ◌&&◌, All, Option, None, IfOk, IsErrOf, OnOk, length, nat_le, nat_lt, vec_len};
+ghost use Rattle.archive_file.specs.declared.failure.ScanNo.TheVariants.{Damaged, DeviceFault, WantOfMemory};
+ghost use Rattle.group_layout.specs.declared.block.BlockRow.{BlockRow};
+ghost use Rattle.group_layout.specs.Fields.{BreaksFirst, Keeps, Spells};
+ghost use Rattle.group_layout.specs.Blocks.{AreRows, IsRow, is_calc_in_order, is_in_order, is_value_ok, row_at, row_fields, row_image, rows_fields, rows_image};
+
+use crate::block::BlockRow;
+use crate::field::{Field, byte_at, check, long_at, short_at};
+use crate::writer::ROW_LEN;
+use archive_file::ScanNo;
+use std::alloc::Global;
+
+// The largest kind of a row.
+const LAST_KIND: u8 = 3;
+
+// The largest number that a row may have, or its negative.
+const MOST_NUMBER: u64 = 1_000_000_000_000_000_000;
+
+// So many rows from a place on, each of one of so many calculations and in one of so many windows.
+pub(crate) fn read_rows(
+    alloc: Global,
+    c: &[u8],
+    at: usize,
+    count: u32,
+    calcs: u32,
+    windows: u32,
+) -> Result<Vec<BlockRow>, ScanNo>
+    requires there { at ≤ length c.now }
+    requires small { length c.now < 2 ^ 63 }
+    ensures len { IfOk result (λ v. length v.items ≡ count) }
+    ensures rows { IfOk result (λ v. AreRows calcs windows v.items) }
+    ensures spelled { IfOk result (λ v. Spells c.now at (rows_image v.items) (at + 17 * count)) }
+    ensures kept { OnOk result (All (Keeps c.now) (rows_fields c.now calcs windows None at count)) }
+    ensures damaged { (a : ℕ) (byte : Option ℕ) → IsErrOf result (Damaged a byte)
+        → BreaksFirst c.now (rows_fields c.now calcs windows None at count) a byte }
+    ensures no_fault { IsErrOf result DeviceFault → ⊥ }
+{
+    let mut rows = Vec::new(alloc);
+    let mut next = at;
+    let mut last = None;
+    for _ in 0..count {
+        let row = read_row(c, next, calcs, windows, last)?;
+        let Ok(()) = rows.push(row) else {
+            return Err(ScanNo::WantOfMemory);
+        };
+        last = Some(row);
+        next += ROW_LEN;
+    }
+    Ok(rows)
+}
+
+// The row at a place, behind the last one.
+fn read_row(
+    c: &[u8],
+    at: usize,
+    calcs: u32,
+    windows: u32,
+    last: Option<BlockRow>,
+) -> Result<BlockRow, ScanNo>
+    requires there { at ≤ length c.now }
+    requires small { length c.now < 2 ^ 63 }
+    ensures value { IfOk result (λ r. r ≡ row_at c.now at) }
+    ensures row { IfOk result (IsRow calcs windows) }
+    ensures order { IfOk result (λ r. is_in_order last r ≡ true) }
+    ensures spelled { IfOk result (λ r. Spells c.now at (row_image r) (at + 17)) }
+    ensures kept { OnOk result (All (Keeps c.now) (row_fields calcs windows last (row_at c.now at) at)) }
+    ensures damaged { (a : ℕ) (byte : Option ℕ) → IsErrOf result (Damaged a byte)
+        → BreaksFirst c.now (row_fields calcs windows last (row_at c.now at) at) a byte }
+    ensures no_fault { IsErrOf result DeviceFault → ⊥ }
+{
+    let row = row_at(c, at);
+    check_row(c, at, calcs, windows, last, row)?;
+    Ok(row)
+}
+
+// The row at a place.
+fn row_at(c: &[u8], at: usize) -> BlockRow
+    requires there { at ≤ length c.now }
+    requires small { length c.now < 2 ^ 63 }
+    ensures { result ≡ row_at c.now at }
+{
+    BlockRow {
+        calc: short_at(c, at),
+        window: short_at(c, at + 4),
+        kind: byte_at(c, at + 8),
+        value: long_at(c, at + 9).cast_signed(),
+    }
+}
+
+// Refuses a row at a place, behind the last one, in the first of its fields that is not there or breaks its rule.
+fn check_row(
+    c: &[u8],
+    at: usize,
+    calcs: u32,
+    windows: u32,
+    last: Option<BlockRow>,
+    row: BlockRow,
+) -> Result<(), ScanNo>
+    requires there { at ≤ length c.now }
+    requires small { length c.now < 2 ^ 63 }
+    ensures kept { OnOk result (All (Keeps c.now) (row_fields calcs windows last row at)) }
+    ensures damaged { (a : ℕ) (byte : Option ℕ) → IsErrOf result (Damaged a byte)
+        → BreaksFirst c.now (row_fields calcs windows last row at) a byte }
+    ensures no_fault { IsErrOf result DeviceFault → ⊥ }
+    ensures no_want { IsErrOf result WantOfMemory → ⊥ }
+{
+    check(
+        c,
+        &[
+            Field::new(at, 4, is_calc_ok(calcs, last, row)),
+            Field::new(at + 4, 4, is_window_ok(windows, last, row)),
+            Field::new(at + 8, 1, is_kind(row.kind)),
+            Field::new(at + 9, 8, is_value_ok(row)),
+        ],
+    )
+}
+
+// Whether a row is of one of so many calculations, and may come behind the last one by it.
+fn is_calc_ok(calcs: u32, last: Option<BlockRow>, row: BlockRow) -> bool
+    ensures { result ≡ (nat_lt row.calc calcs && is_calc_in_order last row) }
+{
+    row.calc < calcs && is_calc_in_order(last, row)
+}
+
+// Whether it is in one of so many windows, and may come behind the last one by that.
+fn is_window_ok(windows: u32, last: Option<BlockRow>, row: BlockRow) -> bool
+    ensures { result ≡ (nat_lt row.window windows && is_in_order last row) }
+{
+    row.window < windows && is_in_order(last, row)
+}
+
+// Whether a row may be of this kind.
+fn is_kind(kind: u8) -> bool
+    ensures { result ≡ nat_le kind 3 }
+{
+    kind <= LAST_KIND
+}
+
+// Whether a row may come behind the last one, by its calculation.
+fn is_calc_in_order(last: Option<BlockRow>, row: BlockRow) -> bool
+    ensures { result ≡ is_calc_in_order last row }
+{
+    match last {
+        None => true,
+        Some(last) => last.calc <= row.calc,
+    }
+}
+
+// Whether it may by its calculation and its window.
+fn is_in_order(last: Option<BlockRow>, row: BlockRow) -> bool
+    ensures { result ≡ is_in_order last row }
+{
+    match last {
+        None => true,
+        Some(last) => last.calc < row.calc || last.calc == row.calc && last.window < row.window,
+    }
+}
+
+// Whether a row of its kind may have its value.
+fn is_value_ok(row: BlockRow) -> bool
+    ensures { result ≡ is_value_ok row.kind row.value }
+{
+    if row.kind == 0 {
+        row.value.unsigned_abs() <= MOST_NUMBER
+    } else {
+        row.value == 0
+    }
+}
