@@ -164,8 +164,7 @@ fn refreshers_of(
         let Some(refresher) = refresher_of(groups, &refreshers, table) else {
             return Err(broken(5, refreshers.len()));
         };
-        refreshers
-            .push(refresher)?;
+        refreshers.push(refresher)?;
     }
     Ok(refreshers)
 }
