@@ -64,7 +64,10 @@ fn device_of(alloc: Global, at: usize, byte: u8) -> Result<MemDisk, Fail> {
 /// What was saved, as a text.
 fn saved_text(alloc: Global, saved: &SavedGroup) -> Result<String, Fail> {
     let version = saved.versions.first().ok_or("a version")?;
-    let mut text = format!(in alloc; "version {} number {} end {} rows", version, saved.number, saved.end)?;
+    let mut text = format!(in alloc;
+        "version {} number {} end {} rows",
+        version, saved.number, saved.end
+    )?;
     for row in &saved.rows {
         for value in row {
             if let CalcValue::Num(n) = value {
@@ -82,7 +85,12 @@ fn read_text(alloc: Global, dev: &mut MemDisk) -> Result<String, Fail> {
         Ok(Found::Other) => format!(in alloc; "other")?,
         Ok(Found::Saved(saved)) => saved_text(alloc, &saved)?,
         Err(ScanNo::Damaged { at, byte: None }) => format!(in alloc; "damaged {at} none")?,
-        Err(ScanNo::Damaged { at, byte: Some(byte) }) => format!(in alloc; "damaged {at} {byte}")?,
+        Err(
+            ScanNo::Damaged {
+                at,
+                byte: Some(byte),
+            },
+        ) => format!(in alloc; "damaged {at} {byte}")?,
         Err(_) => format!(in alloc; "not read")?,
     };
     Ok(text)

@@ -145,7 +145,11 @@ fn follow<R: Abort + Wait>(rt: &R, alloc: Global, line: &str) -> Result<(), Fail
     }
     let (_, history) = book.into_history();
     let count = line.rsplit('e').next().ok_or("a count")?;
-    assert_eq!(rt; format!(in alloc; "{}", history.evals)?.as_str(), count, "{line}");
+    assert_eq!(rt;
+        format!(in alloc; "{}", history.evals)?.as_str(),
+        count,
+        "{line}"
+    );
     Ok(())
 }
 
