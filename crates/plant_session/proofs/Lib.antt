@@ -7,3 +7,5 @@ pub mod AskTurns
 pub mod FindingTurns
 pub mod Starts
 pub mod EntryKinds
+pub mod Counting
+pub mod FullTapes

@@ -1,7 +1,9 @@
 -- Why a step of a session is refused.
-use Rattle.std.specs.Prelude.{◌≡◌, ℕ, ◌+◌, ◌<◌, ◌≤◌, List, length, slice_get, slice_index, Some, true, ⊤}
+use Rattle.std.specs.Prelude.{◌≡◌, ℕ, ◌+◌, ◌<◌, ◌≤◌, ◌≢◌, List, [], ◌∷◌, length, slice_get, slice_index, slice_index_or, Some, IsSome, true, nat_eq, ⊤}
 use Rattle.trend_num.specs.Limits.{most_records}
 use Rattle.trend_num.specs.declared.refusal.What.TheVariants.{Records}
+use Rattle.std.specs.List.{count_by}
+use Rattle.value_rows.specs.declared.raw.RawRow.{RawRow}
 use Rattle.plant_status.specs.declared.unit.Unit.TheVariants.{Tag}
 use Rattle.plant_status.specs.declared.mismatch.Place.TheVariants.{Takes}
 use Rattle.plant_status.specs.declared.mismatch.Seen.TheVariants.{Number}
@@ -13,12 +15,18 @@ use Rattle.tag_cell.specs.declared.entry.TakeNo.{TakeNo}
 use Rattle.tag_cell.specs.declared.entry.TakeNo.TheVariants as take_no
 use Rattle.tag_cell.specs.Told.{Told}
 use Rattle.tag_cell.specs.Tapes.{taken}
+use Rattle.tape_audit.specs.Found.{Reached, next_due}
 
 -- the cell of this tag is so
 pub record IsSo {D : Type 0} (cells : List (Told D)) (tag : ℕ) (P : Told D → Type 0) : Type 0 where
   pub cell : Told D
   pub there : slice_get cells tag ≡ Some cell
   pub so : P cell
+
+-- how many rows of files are of a tag
+abbrev pub rows_of : ℕ → List (List RawRow) → ℕ
+rows_of tag [] = 0
+rows_of tag (rows ∷ files) = count_by (λ r. nat_eq r.tag tag) rows + rows_of tag files
 
 -- a row is not taken: the tag's device has failed; its tape has as many takes as it has room for, and the number of the tag's
 -- rows is told beside; or it could have too many records
@@ -29,6 +37,21 @@ IsTakeRefusal rooms cells (Mismatch (Takes tag) kept told) = IsSo cells tag (λ 
 IsTakeRefusal rooms cells (Limit Records number) = (tag : ℕ) × IsSo cells tag (λ c.
     (number ≡ length c.state.records) × (most_records < number + 2))
 IsTakeRefusal rooms cells other = ⊥
+
+-- where a full tape is told, it is that of this tag
+abbrev pub IsOfTag : ℕ → Status → Type 0
+IsOfTag tag (Mismatch (Takes its_tag) kept told) = its_tag ≡ tag
+IsOfTag tag other = ⊤
+
+-- where a full tape is told, a row of this worker is due at its tag
+abbrev pub IsDueFor : ℕ → List Reached → Status → Type 0
+IsDueFor worker works (Mismatch (Takes tag) kept told) = (p : Reached) → IsSome (next_due (slice_index_or works worker p) tag)
+IsDueFor worker works other = ⊤
+
+-- where a difference is told, the two are not the same
+abbrev pub AreUnlike : Status → Type 0
+AreUnlike (Mismatch place kept told) = kept ≢ told
+AreUnlike other = ⊤
 
 -- what a row of a tag that is refused is answered with; so many rows are of that tag
 abbrev pub take_status : ℕ → ℕ → TakeNo → Status

@@ -1,12 +1,12 @@
 // The rows of collectors that tapes lack are taken.
-ghost use Rattle.std.specs.Prelude.{◌≡◌, ◌+◌, ◌^◌, ◌<◌, List, All, IfErr, OnErr, OnOk, length};
+ghost use Rattle.std.specs.Prelude.{◌≡◌, ℕ, ◌+◌, ◌^◌, ◌<◌, List, All, IfErr, OnErr, OnOk, length, slice_index};
 ghost use Rattle.calc_refresh.specs.Lists.{lists_of};
 ghost use Rattle.tape_audit.specs.Agendas.{take_item};
 ghost use Rattle.tape_audit.specs.Found.{Reached};
 ghost use Rattle.tape_audit.specs.Tapes.{ask_of, take_of};
 ghost use Rattle.collector_pool.specs.Work.{IsRowOf};
 ghost use Rattle.plant_session.specs.Cells.{AreAllFound, AreAllShown, AreLonger, AreOthersSame, AreOver, IsCaughtTo, IsOver, IsTaken};
-ghost use Rattle.plant_session.specs.Refusals.{IsTakeRefusal, take_status};
+ghost use Rattle.plant_session.specs.Refusals.{AreUnlike, IsDueFor, IsOfTag, IsTakeRefusal, rows_of, take_status};
 ghost use Rattle.plant_session.specs.Taking.{IsRowTaken};
 
 use disk_model::Disk;
@@ -17,7 +17,7 @@ use tape_audit::Progress;
 use value_rows::RawRow;
 
 /// Takes each row of the collectors that the tape of its tag lacks, in the order of the files. It ends at the first row that
-/// is refused. `rooms` tells how many rows of the files are of each tag.
+/// is refused. `rooms` tells how many rows of the files are of each tag; a tape without room has fewer takes than that.
 pub fn take_missing<D: Disk, R: Wait>(
     rt: &R,
     cells: &mut [Cell<D>],
@@ -29,10 +29,12 @@ pub fn take_missing<D: Disk, R: Wait>(
     requires over { AreOver take_item (length cells.old) (lists_of files.now) works.old }
     requires values { All (λ rows. All (IsRowOf (length cells.old)) rows.items) files.now }
     requires found { AreAllFound take_of cells.old works.old }
+    requires counted { (tag : ℕ) → tag < length rooms.now → slice_index rooms.now tag ≡ rows_of tag (lists_of files.now) }
     ensures shown { OnOk result (AreAllShown take_of take_item (lists_of files.now) cells.new) }
     ensures asks { (asked : List Reached) → AreAllFound ask_of cells.old asked → AreAllFound ask_of cells.new asked }
     ensures longer { AreLonger IsTaken cells.old cells.new }
     ensures refused { IfErr result (IsTakeRefusal rooms.now cells.new) }
+    ensures unlike { IfErr result AreUnlike }
 {
     for collector in 0..files.len() {
         if let Err(why) = take_file(rt, cells, &files[collector], rooms, works, collector) {
@@ -62,6 +64,7 @@ fn take_file<D: Disk, R: Wait>(
     ensures others { AreOthersSame collector works.old works.new }
     ensures longer { AreLonger IsTaken cells.old cells.new }
     ensures refused { IfErr result (IsTakeRefusal rooms.now cells.new) }
+    ensures due { IfErr result (IsDueFor collector works.new) }
 {
     for place in 0..rows.len() {
         if let Err(why) = take_turn(rt, cells, rows, rooms, works, collector, place) {
@@ -94,6 +97,7 @@ fn take_turn<D: Disk, R: Wait>(
     ensures others { AreOthersSame collector works.old works.new }
     ensures longer { AreLonger IsTaken cells.old cells.new }
     ensures refused { IfErr result (IsTakeRefusal rooms.now cells.new) }
+    ensures due { IfErr result (IsDueFor collector works.new) }
 {
     if !works[collector].lacks(place) {
         return Ok(());
@@ -120,6 +124,7 @@ fn take_row<D: Disk, R: Wait>(
     ensures taken { OnOk result (IsRowTaken collector number row cells.old cells.new) }
     ensures unchanged { OnErr result (cells.new ≡ cells.old) }
     ensures refused { IfErr result (IsTakeRefusal rooms.now cells.old) }
+    ensures of_tag { IfErr result (IsOfTag row.tag) }
 {
     let RawRow { tag, point } = row;
     match cells[tag as usize].take(rt, collector, number, point) {

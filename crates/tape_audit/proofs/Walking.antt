@@ -83,7 +83,7 @@ behind_shown : (unit : ℕ) (x : Option Item) (rest : List (Option Item)) (i : �
 behind_shown unit x rest i r None is same = rw is same
 behind_shown unit x rest i r (Some seen) is same = rw is same
 
-next_shown : (unit : ℕ) (items : List (Option Item)) (at : ℕ) → (at < length items → IsSome (due_at unit items at))
+pub next_shown : (unit : ℕ) (items : List (Option Item)) (at : ℕ) → (at < length items → IsSome (due_at unit items at))
     → slice_get (due unit items) (length (due unit (take at items))) ≡ due_at unit items at
 next_shown unit [] zero there = refl
 next_shown unit [] (suc i) there = refl

@@ -11,6 +11,7 @@ use Rattle.collector_pool.specs.Work.{IsRowOf}
 use Rattle.plant_session.specs.Cells.{IsCaughtTo, IsTaken}
 use Rattle.plant_session.proofs.Files.{each_file, file_at, file_within, over_again, over_file, shown_all}
 use Rattle.plant_session.proofs.EntryKinds.{longer_found, taken_asks}
+use Rattle.plant_session.proofs.FullTapes.{unlike}
 use Rattle.plant_session.proofs.Longer.{all_longer, all_longer_trans}
 use Rattle.plant_session.proofs.taking.take_missing.Goals as goal
 
@@ -84,3 +85,19 @@ returns-in-Err-clause-asks g c = λ asked.
 pub returns-clause-asks : goal.returns-clause-asks
 returns-clause-asks g c = λ asked.
     longer_found ask_of IsTaken c.args.cells.now c.loop-collector.cells asked taken_asks c.loop-collector.invariant.longer
+
+pub returns-in-Err-clause-unlike : goal.returns-in-Err-clause-unlike
+returns-in-Err-clause-unlike g c =
+    let files = c.args.files.now in
+    let at = c.loop-collector.collector in
+    let step = c.in-Err.ensures in
+    let file : c.deref.result.now ≡ get_or (lists_of files) at [] = c.deref.ensures.value
+        ∙ file_at files at c.index-files-collector.result [] c.loop-collector-test.true c.index-files-collector.is in
+    unlike (length c.take_file.new.cells) at c.args.rooms.now (lists_of files) c.take_file.new.cells c.take_file.new.works
+    (record { items = []; at = [] }) c.in-Err.why
+    (over_again take_item (length c.loop-collector.cells) (length c.take_file.new.cells) (lists_of files)
+    c.loop-collector.works c.take_file.new.works at c.deref.result.now [] c.loop-collector.invariant.over
+    (file_within files at c.loop-collector-test.true) file step.over step.others)
+    step.found (file_within files at c.loop-collector-test.true)
+    (omega (arith, c.requires.rooms, step.longer.as_many, c.loop-collector.invariant.longer.as_many)) c.requires.counted
+    step.refused step.due

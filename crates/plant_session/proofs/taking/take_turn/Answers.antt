@@ -5,6 +5,7 @@ use Rattle.tape_audit.specs.Agendas.{take_item}
 use Rattle.tape_audit.specs.Tapes.{take_of}
 use Rattle.collector_pool.specs.Work.{IsRowOf}
 use Rattle.plant_session.specs.Cells.{AreLonger, IsOver, IsTaken}
+use Rattle.plant_session.proofs.FullTapes.{due_for}
 use Rattle.plant_session.proofs.Longer.{all_longer}
 use Rattle.plant_session.proofs.TakeTurns.{missing_take, taken_entry, taken_longer}
 use Rattle.plant_session.proofs.Turns.{all_known, caught_past_row, caught_row, due_next, found_turn, over_turn, row_within}
@@ -79,3 +80,10 @@ returns-clause-caught g c =
 pub returns-clause-longer : goal.returns-clause-longer
 returns-clause-longer g c =
     taken_longer c.args.collector (c.args.place + 1) _ c.args.cells.now c.take_row.new.cells c.in_default.ensures.taken
+
+pub returns-in-Err-clause-due : goal.returns-in-Err-clause-due
+returns-in-Err-clause-due g c =
+    due_for c.args.collector c.args.place _ _ c.args.works.now c.index-works-collector.result c.in-Err.why
+    (missing_take (length c.args.cells.now) c.args.collector c.args.place c.args.rows.now c.args.works.now _
+    c.index-works-collector.result c.index-works-collector.result c.requires.over c.requires.within c.requires.values
+    (sym c.lacks.ensures.lacks ∙ c.if-not-lacks.false) c.lacks.ensures.next c.requires.caught) c.in-Err.ensures.of_tag
