@@ -8,7 +8,7 @@ use collector_pool::Work;
 use disk_model::MemDisk;
 use plant_session::{
     Kept, Status, ask_missing, collectors_of, commit_all, compare_openings, find_all_asks,
-    find_all_takes, readers_of, take_missing,
+    find_all_takes, readers_of, rooms_of, take_missing,
 };
 use plant_status::{Place, Seen};
 use std::alloc::Global;
@@ -35,14 +35,13 @@ fn work_of(alloc: Global, files: &str) -> Option<Work> {
     })
 }
 
-// Does what the tape of the one cell lacks, of so many rows in all.
+// Does what the tape of the one cell lacks.
 #[tactic(auto, using(plant_session::proofs::Files::known_asks_of))]
 fn make_up(
     rt: &impl Wait,
     alloc: Global,
     cells: &mut [Cell<MemDisk>],
     work: &Work,
-    rows: u32,
 ) -> Result<(), Status>
     requires one { length cells.old ≡ 1 }
     requires work { IsWorkOf 1 0 work.now }
@@ -50,12 +49,15 @@ fn make_up(
     let Ok(mut takes) = collectors_of(alloc, &work.collectors, 1) else {
         return Err(Status::WantOfMemory);
     };
+    let Ok(rooms) = rooms_of(alloc, &work.collectors, 1) else {
+        return Err(Status::WantOfMemory);
+    };
     let Ok(mut asks) = readers_of(alloc, &work.readers, 1) else {
         return Err(Status::WantOfMemory);
     };
     find_all_takes(cells, &mut takes)?;
     find_all_asks(cells, &mut asks)?;
-    take_missing(rt, cells, &work.collectors, &[rows], &mut takes)?;
+    take_missing(rt, cells, &work.collectors, &rooms, &mut takes)?;
     let Ok(()) = ask_missing(cells, &work.readers, &mut asks) else {
         return Err(Status::WantOfMemory);
     };
@@ -72,7 +74,6 @@ fn made_up(
     rt: &impl Wait,
     alloc: Global,
     room: u32,
-    rows: u32,
     files: &str,
 ) -> Option<Result<String, Status>> {
     let work = work_of(alloc, files)?;
@@ -80,7 +81,7 @@ fn made_up(
         return None;
     }
     let mut cells = [begun(rt, alloc, room)?];
-    if let Err(why) = make_up(rt, alloc, &mut cells, &work, rows) {
+    if let Err(why) = make_up(rt, alloc, &mut cells, &work) {
         return Some(Err(why));
     }
     let [cell] = cells;
@@ -90,7 +91,7 @@ fn made_up(
 
 #[test]
 fn what_the_workers_left_is_made_up(rt: HostRuntime) -> Result<(), Fail> {
-    let text = made_up(&rt, rt.alloc(), 3, 3, "0,0 20,0;10,5").ok_or("memory")?;
+    let text = made_up(&rt, rt.alloc(), 3, "0,0 20,0;10,5").ok_or("memory")?;
     let Ok(text) = text else {
         return Err("refused".into());
     };
@@ -100,7 +101,7 @@ fn what_the_workers_left_is_made_up(rt: HostRuntime) -> Result<(), Fail> {
 
 #[test]
 fn a_take_of_no_row_is_a_mismatch(rt: HostRuntime) -> Result<(), Fail> {
-    let told = made_up(&rt, rt.alloc(), 3, 3, "1,0 20,0;10,5").ok_or("memory")?;
+    let told = made_up(&rt, rt.alloc(), 3, "1,0 20,0;10,5").ok_or("memory")?;
     let seen = |t| Seen::Take {
         collector: 0,
         row: 1,
@@ -117,7 +118,7 @@ fn a_take_of_no_row_is_a_mismatch(rt: HostRuntime) -> Result<(), Fail> {
 
 #[test]
 fn too_little_room_is_a_mismatch_at_the_takes(rt: HostRuntime) -> Result<(), Fail> {
-    let told = made_up(&rt, rt.alloc(), 2, 3, "0,0 20,0;10,5").ok_or("memory")?;
+    let told = made_up(&rt, rt.alloc(), 2, "0,0 20,0;10,5").ok_or("memory")?;
     let mismatch = Status::Mismatch {
         place: Place::Takes { tag: 0 },
         kept: Seen::Number(2),

@@ -1,6 +1,6 @@
 -- How many takes a tape has, worker by worker, and how many rows a tag has.
-use Rattle.std.proofs.Common.{◌≡◌, ◌≢◌, ◌⊎◌, ℕ, zero, suc, ◌+◌, ◌<◌, ◌≤◌, inl, inr, Bool, true, false, cond, nat_eq, List, [], ◌∷◌, ◌++◌, length, get_or, take, drop, length-append, Option, None, Some, IsSome, refl, sym, ap, ap₂, subst, ◌∙◌, arith}
-use Rattle.std.specs.Prelude.{filter_map, option_and_then, slice_get, if◌then◌else◌}
+use Rattle.std.proofs.Common.{◌≡◌, ◌≢◌, ℕ, zero, suc, ◌+◌, ◌<◌, ◌≤◌, inl, inr, Bool, true, false, cond, nat_eq, List, [], ◌∷◌, ◌++◌, length, get_or, take, drop, length-append, Option, None, Some, IsSome, refl, sym, ap, ap₂, subst, ◌∙◌, arith}
+use Rattle.std.specs.Prelude.{slice_get}
 use Rattle.std.specs.List.{count_by}
 use Rattle.std.specs.Option.{option_map_or}
 use Rattle.std.proofs.lemmas.Bool.{cases_eq, cases_lt, false≢true}
@@ -16,8 +16,8 @@ use Rattle.tag_cell.specs.declared.entry.Entry.{Entry}
 use Rattle.tag_cell.specs.declared.entry.Entry.TheVariants.{Take, Ask, Pull, Commit}
 use Rattle.tag_cell.specs.Tapes.{taken}
 use Rattle.tape_audit.specs.declared.agenda.Item.{Item}
-use Rattle.tape_audit.specs.Agendas.{due, due_at, numbered, seen_at, take_item}
-use Rattle.tape_audit.specs.Found.{AreFound, Reached, found, found_of, next_due, place_at, seen_by, shown_by}
+use Rattle.tape_audit.specs.Agendas.{due, numbered, seen_at, take_item}
+use Rattle.tape_audit.specs.Found.{AreFound, Reached, found, found_of, next_due, place_at, shown_by}
 use Rattle.tape_audit.specs.Tapes.{take_of}
 use Rattle.tape_audit.proofs.Walking.{next_shown}
 use Rattle.plant_session.specs.Cells.{AreOver, file_due}
@@ -67,7 +67,7 @@ total_less w (suc n) c f g no_more from below fewer = elim (cases_eq w c) [
   | inr other ↦
       let here = no_more w (omega arith) in
       let rest = total_less (w + 1) n c f g (λ v small. no_more v (omega (arith, small))) (omega (arith, from, other))
-          (omega (arith, below)) fewer in
+      (omega (arith, below)) fewer in
       omega (arith, here, rest)
 ]
   where
@@ -120,14 +120,14 @@ taken_total n (Take c row p h k ∷ tape) none =
     let seen = seen.Take c row p in
     let here = shown_here c row e seen tape refl in
     let known : c < n = elim (cases_lt c n) [
-          | inl below ↦ below
-          | inr past ↦ absurd (some_none seen (shown_by take_of c tape) (sym here ∙ none c past))
-        ] in
+      | inl below ↦ below
+      | inr past ↦ absurd (some_none seen (shown_by take_of c tape) (sym here ∙ none c past))
+    ] in
     let rest = taken_total n tape (λ w past. sym (shown_beside c w e seen tape refl (λ is. omega (arith, past, known, is)))
-        ∙ none w past) in
+    ∙ none w past) in
     let more = total_one 0 n c (λ w. length (shown_by take_of w tape)) (λ w. length (shown_by take_of w (e ∷ tape)))
-        (omega arith) (omega (arith, known)) (ap length here ∙ omega arith)
-        (λ v other. ap length (shown_beside c v e seen tape refl other)) in
+    (omega arith) (omega (arith, known)) (ap length here ∙ omega arith)
+    (λ v other. ap length (shown_beside c v e seen tape refl other)) in
     omega (arith, rest, more)
   where
     some_none : (s : Seen) (l : List Seen) → s ∷ l ≡ [] → ⊥
@@ -168,7 +168,7 @@ due_count tag w n (r ∷ rest) = one (nat_eq r.tag tag) refl (due_count tag w (n
 due_most : (tag n : ℕ) (items : List (Option Item)) → length (due tag (take n items)) ≤ length (due tag items)
 due_most tag n items =
     let cut : due tag items ≡ due tag (take n items) ++ due tag (drop n items) =
-        ap (due tag) (sym (take-append-drop n items)) ∙ filter_map-append (seen_at tag) (take n items) (drop n items) in
+    ap (due tag) (sym (take-append-drop n items)) ∙ filter_map-append (seen_at tag) (take n items) (drop n items) in
     omega (arith, ap length cut, length-append (due tag (take n items)) (due tag (drop n items)))
 
 -- ---- a tape that lacks a row
@@ -181,9 +181,9 @@ takes_fewer tags tag collector files works tape d over found_so within due_so =
     let n = length files in
     let shown = taken_total n tape none in
     let so = total_same 0 n (λ w. length (shown_by take_of w tape)) (λ w. length (found_of works w tag))
-        (λ v. ap length (found_so.each v)) in
+    (λ v. ap length (found_so.each v)) in
     let fewer = total_less 0 n collector (λ w. length (found_of works w tag)) (λ w. length (file_due take_item files w tag))
-        most (omega arith) (omega (arith, within)) less in
+    most (omega arith) (omega (arith, within)) less in
     let rows = total_files tag files 0 (λ w. length (file_due take_item files w tag)) each in
     omega (arith, shown, so, fewer, rows)
   where
@@ -205,8 +205,12 @@ takes_fewer tags tag collector files works tape d over found_so within due_so =
     most : (v : ℕ) → v < 0 + length files → length (found_of works v tag) ≤ length (file_due take_item files v tag)
     most v below =
         let within_files : v < length files = omega (arith, below) in
-        omega (arith, ap length (found_is v within_files), ap length (due_is v within_files),
-        due_most tag (place_at (get_or works v d) tag) (get_or works v d).items)
+        omega (
+          arith,
+          ap length (found_is v within_files),
+          ap length (due_is v within_files),
+          due_most tag (place_at (get_or works v d) tag) (get_or works v d).items,
+        )
 
     less : length (found_of works collector tag) < length (file_due take_item files collector tag)
     less =

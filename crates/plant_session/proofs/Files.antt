@@ -1,11 +1,14 @@
 -- The files of all workers, one after another.
-use Rattle.std.proofs.Common.{◌≡◌, ℕ, ◌<◌, inl, inr, List, [], All, length, get_or, Option, Vec, sym, ap, subst, ◌∙◌, arith}
+use Rattle.std.proofs.Common.{◌∷◌, ◌+◌, nat_eq, take, ◌++◌, ◌≡◌, ℕ, ◌<◌, inl, inr, List, [], All, length, get_or, Option, Vec, sym, ap, subst, ◌∙◌, arith}
 use Rattle.std.specs.declared.alloc.Global.{Global}
 use Rattle.std.specs.Option.{option_map_or}
 use Rattle.std.proofs.lemmas.Bool.{cases_eq, cases_lt}
-use Rattle.std.proofs.lemmas.List.{get_or-map, get_or_default, length-map}
+use Rattle.std.proofs.lemmas.List.{map_more, get_or-map, get_or_default, length-map}
 use Rattle.std.proofs.lemmas.List.Elements.{All-map}
 use Rattle.std.proofs.lemmas.Option.{slice_get-get_or, slice_get_past}
+use Rattle.std.specs.List.{count_by}
+use Rattle.value_rows.specs.declared.raw.RawRow.{RawRow}
+use Rattle.plant_session.specs.Refusals.{rows_of}
 use Rattle.value_rows.specs.declared.asked.Query.{Query}
 use Rattle.value_rows.specs.declared.asked.Query.TheVariants as query
 use Rattle.calc_refresh.specs.Lists.{lists_of}
@@ -101,3 +104,16 @@ known_asks_of tags groups files each = λ k d below. λ i e within. one (get_or 
     one (query.Tag tag asked) known = known
     one (query.Snap tag) known = tt
     one (query.Row group calc k) known = tt
+
+-- the rows of one file more
+rows_push : (tag : ℕ) (files : List (List RawRow)) (rows : List RawRow)
+    → rows_of tag (files ++ rows ∷ []) ≡ rows_of tag files + count_by (λ r. nat_eq r.tag tag) rows
+rows_push tag [] rows = omega arith
+rows_push tag (x ∷ files) rows = (let rest = rows_push tag files rows in omega (arith, rest))
+
+pub rows_more : (tag i : ℕ) (files : List (Vec RawRow Global)) (v : Vec RawRow Global) → i < length files → v ≡ get_or files i v
+    → rows_of tag (lists_of (take (i + 1) files)) ≡ rows_of tag (lists_of (take i files)) + count_by (λ r. nat_eq r.tag tag) v.items
+rows_more tag i files v within is =
+    ap (rows_of tag) (map_more (λ (w : Vec RawRow Global). w.items) files i v within)
+    ∙ (rows_push tag (lists_of (take i files)) (get_or files i v).items
+    ∙ ap (λ (w : Vec RawRow Global). rows_of tag (lists_of (take i files)) + count_by (λ r. nat_eq r.tag tag) w.items) (sym is))

@@ -1,5 +1,5 @@
 -- A full tape that is told is one that lacks a row, so the two numbers are not the same.
-use Rattle.std.proofs.Common.{◌≡◌, ◌≢◌, ℕ, ◌<◌, ◌≤◌, List, [], length, get_or, Some, IsSome, is_some, refl, sym, ap, subst, ◌∙◌, arith}
+use Rattle.std.proofs.Common.{◌≡◌, ℕ, ◌<◌, List, length, get_or, IsSome, is_some, sym, ap, subst, ◌∙◌, arith}
 use Rattle.std.specs.Prelude.{slice_index}
 use Rattle.std.proofs.lemmas.List.{get_or_default}
 use Rattle.std.proofs.lemmas.Option.{get_or_from_slice_get, slice_get_within}
@@ -62,11 +62,11 @@ unlike tags collector rooms files cells works d (status.Mismatch (place.Takes ta
     let c = so.cell in
     let below = slice_get_within cells tag c so.there in
     let here : AreFound take_of tag c.tape works = subst (λ x. AreFound take_of tag x.tape works)
-        (get_or_from_slice_get cells tag c c so.there) (found_so.each tag c below) in
+    (get_or_from_slice_get cells tag c c so.there) (found_so.each tag c below) in
     let fewer = takes_fewer tags tag collector files works c.tape d over here within (due_so d) in
     let count = counted tag (omega (arith, below, as_many)) in
     λ same. (let numbers : c.room ≡ slice_index rooms tag = ap number_of (sym so.so.0 ∙ (same ∙ so.so.2)) in
-        omega (arith, numbers, so.so.1, fewer, count))
+    omega (arith, numbers, so.so.1, fewer, count))
 unlike tags collector rooms files cells works d (status.Mismatch (place.Take _ _) _ _) over found_so within as_many counted so due_so = absurd so
 unlike tags collector rooms files cells works d (status.Mismatch (place.Ask _ _) _ _) over found_so within as_many counted so due_so = absurd so
 unlike tags collector rooms files cells works d (status.Mismatch (place.RowAsk _ _) _ _) over found_so within as_many counted so due_so = absurd so

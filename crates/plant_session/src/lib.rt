@@ -20,5 +20,5 @@ pub use committing::commit_all;
 pub use comparing::{Difference, Kept, compare_openings};
 pub use finding::{find_all_asks, find_all_takes};
 pub use plant_status::Status;
-pub use starting::{collectors_of, readers_of};
+pub use starting::{collectors_of, readers_of, rooms_of};
 pub use taking::take_missing;

@@ -1,9 +1,11 @@
 // The progress of workers of whose rows none was found yet.
-ghost use Rattle.std.specs.Prelude.{◌↔◌, ◌^◌, ◌<◌, All, IfOk, IsTrue};
+ghost use Rattle.std.specs.Prelude.{◌≡◌, ◌↔◌, ℕ, ◌+◌, ◌^◌, ◌<◌, All, IfOk, IsTrue, OnOk, length, nat_eq, slice_index};
+ghost use Rattle.std.specs.List.{count_by};
 ghost use Rattle.calc_refresh.specs.Lists.{lists_of};
 ghost use Rattle.tape_audit.specs.Agendas.{ask_item, take_item};
 ghost use Rattle.collector_pool.specs.Work.{IsRowOf};
 ghost use Rattle.plant_session.specs.Cells.{AreOver, IsKnownAsk};
+ghost use Rattle.plant_session.specs.Refusals.{rows_of};
 ghost use Rattle.plant_session.specs.Starting.{AreUnfound};
 
 use std::alloc::Global;
@@ -66,6 +68,35 @@ pub fn readers_of<'a>(
         works.push_reserved(work);
     }
     Ok(works)
+}
+
+/// How many rows of the files are of each of so many tags. More than 2^32 - 1 of one tag are refused, as memory that is not
+/// there.
+pub fn rooms_of(alloc: Global, files: &[Vec<RawRow>], tags: u32) -> Result<Vec<u32>, WantOfMemory>
+    requires { All (λ rows. All (IsRowOf tags) rows.items) files.now }
+    ensures tags { IfOk result (λ rooms. length rooms.items ≡ tags) }
+    ensures counted { IfOk result (λ rooms. (tag : ℕ) → tag < tags
+        → slice_index rooms.items tag ≡ rows_of tag (lists_of files.now)) }
+{
+    let mut rooms = vec![in alloc; 0u32; tags as usize]?;
+    for rows in files {
+        count_rows(&mut rooms, rows)?;
+    }
+    Ok(rooms)
+}
+
+// Counts the rows of a file, each for its tag.
+fn count_rows(rooms: &mut Vec<u32>, rows: &[RawRow]) -> Result<(), WantOfMemory>
+    requires { All (IsRowOf (length rooms.old.items)) rows.now }
+    ensures tags { length rooms.new.items ≡ length rooms.old.items }
+    ensures counted { OnOk result ((tag : ℕ) → tag < length rooms.old.items
+        → slice_index rooms.new.items tag ≡ slice_index rooms.old.items tag + count_by (λ r. nat_eq r.tag tag) rows.now) }
+{
+    for row in rows {
+        let tag = row.tag as usize;
+        rooms[tag] = rooms[tag].checked_add(1).ok_or(WantOfMemory)?;
+    }
+    Ok(())
 }
 
 // Whether a number has places that are `u32`.

@@ -92,7 +92,7 @@ returns-in-Err-clause-unlike g c =
     let at = c.loop-collector.collector in
     let step = c.in-Err.ensures in
     let file : c.deref.result.now ≡ get_or (lists_of files) at [] = c.deref.ensures.value
-        ∙ file_at files at c.index-files-collector.result [] c.loop-collector-test.true c.index-files-collector.is in
+    ∙ file_at files at c.index-files-collector.result [] c.loop-collector-test.true c.index-files-collector.is in
     unlike (length c.take_file.new.cells) at c.args.rooms.now (lists_of files) c.take_file.new.cells c.take_file.new.works
     (record { items = []; at = [] }) c.in-Err.why
     (over_again take_item (length c.loop-collector.cells) (length c.take_file.new.cells) (lists_of files)
