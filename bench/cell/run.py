@@ -30,6 +30,18 @@ def below(name):
     return names
 
 
+def proofs(folder):
+    """The proof that a lone board's poster posts to it: that of the tests of cells."""
+    os.makedirs(os.path.join(folder, "alone"), exist_ok=True)
+    for source, name in [("Lone.antt", "Lone.antt"), ("cells/alone/Answers.antt", "alone/Answers.antt")]:
+        with open(os.path.join(ROOT, "crates", "cell_tests", "proofs", source)) as text:
+            told = text.read().replace("cell_tests.proofs.cells", "cell_bench.proofs").replace("cell_tests", "cell_bench")
+        with open(os.path.join(folder, name), "w") as out:
+            out.write(told)
+    with open(os.path.join(folder, "Lib.antt"), "w") as out:
+        out.write("pub mod Lone\n")
+
+
 def build(folder):
     """The program, built in a repository of its own, and the plain one."""
     names = below("tag_cell")
@@ -40,10 +52,11 @@ def build(folder):
     source = os.path.join(crates, "cell_bench", "src")
     os.makedirs(source, exist_ok=True)
     shutil.copyfile(os.path.join(HERE, "main.rattle"), os.path.join(source, "main.rt"))
+    proofs(os.path.join(crates, "cell_bench", "proofs"))
     with open(os.path.join(ROOT, "crates.txt")) as listed:
         lines = [line for line in listed if line.split(":")[0].split()[:1] and line.split(":")[0].split()[0] in names]
     with open(os.path.join(folder, "crates.txt"), "w") as out:
-        out.write("".join(lines) + "cell_bench may_wait=9: anyhow trend_num disk_model snapshot_table tag_cell\n")
+        out.write("".join(lines) + "cell_bench may_wait=9: anyhow atomic_table trend_num disk_model snapshot_table tag_cell\n")
     shutil.copyfile(os.path.join(ROOT, "HANDLES"), os.path.join(folder, "HANDLES"))
     subprocess.run(["rt", "run", "--jobs", "2"], cwd=os.path.dirname(source), stdin=subprocess.DEVNULL,
                    stdout=subprocess.DEVNULL, stderr=subprocess.DEVNULL, check=True)

@@ -20,13 +20,24 @@ RUNS = 3
 SINGLES = 1000
 SMALL, LARGE = 100_000, 1_000_000
 
+ANSWERS = """use Rattle.std.proofs.Common.{rules}
+use Rattle.calc_refresh.proofs.Inputs.{length-longer}
+use Rattle.refresh_bench.proofs.times.Goals as goal
+
+pub loop-i-init : goal.loop-i-init
+loop-i-init g c = search (rules, length-longer)
+
+pub loop-i-preserved : goal.loop-i-preserved
+loop-i-preserved g c = search (rules, length-longer)
+"""
+
 INVARIANTS = {
     "records": """use Rattle.std.proofs.Common.{All}
 use Rattle.trend_num.specs.Ranges.{InRange}
 use Rattle.refresh_bench.proofs.records.Given as goal
 
 abbrev pub invariant-loop-i : goal.invariant-loop-i
-invariant-loop-i l = All (λ r. InRange r.point) l.recs.items
+invariant-loop-i g l = All (λ r. InRange r.point) l.recs.items
 """,
     "times": """use Rattle.std.proofs.Common.{◌≡◌, length}
 use Rattle.refresh_bench.proofs.times.Given as goal
@@ -37,7 +48,7 @@ invariant-loop-i g l = length l.sheet.copies ≡ 1
     "main": """use Rattle.refresh_bench.proofs.main.Given as goal
 
 abbrev pub ghosts-times : goal.ghosts-times
-ghosts-times a = record { name = a.blank.name; parts = a.blank.parts }
+ghosts-times _ a = record { name = a.blank.name; parts = a.blank.parts }
 """,
 }
 
@@ -55,6 +66,8 @@ def build(folder):
         os.makedirs(os.path.join(crate, "proofs", name), exist_ok=True)
         with open(os.path.join(crate, "proofs", name, "Invariants.antt"), "w") as out:
             out.write(text)
+    with open(os.path.join(crate, "proofs", "times", "Answers.antt"), "w") as out:
+        out.write(ANSWERS)
     with open(os.path.join(ROOT, "crates.txt")) as listed:
         lines = [line for line in listed if line.split(":")[0] in BELOW]
     with open(os.path.join(folder, "crates.txt"), "w") as out:

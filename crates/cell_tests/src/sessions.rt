@@ -10,12 +10,12 @@ use plant_session::{
     Kept, Status, ask_missing, collectors_of, commit_all, compare_openings, find_all_asks,
     find_all_takes, readers_of, rooms_of, take_missing,
 };
-use plant_status::{Place, Seen};
+use plant_status::Seen;
 use std::alloc::Global;
 use std::sync::Wait;
 use std::test::Fail;
 use tag_cell::{Cell, TagOpening};
-use trend_num::{Point, TagQuery};
+use trend_num::TagQuery;
 use value_rows::Query;
 
 // The work of collectors, whose rows are parted by `;`, and of a reader that asks what stands at 5, and for a snapshot.
@@ -70,61 +70,44 @@ fn begun(rt: &impl Wait, alloc: Global, room: u32) -> Option<Cell<MemDisk>> {
 }
 
 // Makes up what a begun cell lacks of these files, and tells what its tape has then, or why it is refused.
-fn made_up(
-    rt: &impl Wait,
-    alloc: Global,
-    room: u32,
-    files: &str,
-) -> Option<Result<String, Status>> {
+fn made_up(rt: &impl Wait, alloc: Global, room: u32, files: &str) -> Option<String> {
     let work = work_of(alloc, files)?;
     if !work.fits(1, 0) {
         return None;
     }
-    let mut cells = [begun(rt, alloc, room)?];
-    if let Err(why) = make_up(rt, alloc, &mut cells, &work) {
-        return Some(Err(why));
+    let mut cells = Vec::new(alloc);
+    cells.push(begun(rt, alloc, room)?).ok()?;
+    if let Err(why) = make_up(rt, alloc, cells.as_mut_slice(), &work) {
+        return format!(in alloc; "{why:?}").ok();
     }
-    let [cell] = cells;
-    let (_, history) = cell.into_history();
-    Some(Ok(letters(alloc, &history)?))
+    let (_, history) = cells.pop()?.into_history();
+    letters(alloc, &history)
 }
 
 #[test]
 fn what_the_workers_left_is_made_up(rt: HostRuntime) -> Result<(), Fail> {
-    let text = made_up(&rt, rt.alloc(), 3, "0,0 20,0;10,5").ok_or("memory")?;
-    let Ok(text) = text else {
-        return Err("refused".into());
-    };
-    assert_eq!(rt; text.as_str(), "tttac");
+    let told = made_up(&rt, rt.alloc(), 3, "0,0 20,0;10,5").ok_or("memory")?;
+    assert_eq!(rt; told.as_str(), "tttac");
     Ok(())
 }
 
 #[test]
 fn a_take_of_no_row_is_a_mismatch(rt: HostRuntime) -> Result<(), Fail> {
     let told = made_up(&rt, rt.alloc(), 3, "1,0 20,0;10,5").ok_or("memory")?;
-    let seen = |t| Seen::Take {
-        collector: 0,
-        row: 1,
-        point: Point { t, v: 0 },
-    };
-    let mismatch = Status::Mismatch {
-        place: Place::Take { tag: 0, place: 0 },
-        kept: seen(0),
-        told: seen(1),
-    };
-    assert!(rt; told.is_err_and(|why| why == mismatch));
+    let kept = "Take { collector: 0, row: 1, point: Point { t: 0, v: 0 } }";
+    let row = "Take { collector: 0, row: 1, point: Point { t: 1, v: 0 } }";
+    let place = "Take { tag: 0, place: 0 }";
+    let mismatch =
+        format!(in rt.alloc(); "Mismatch {{ place: {place}, kept: {kept}, told: {row} }}")?;
+    assert_eq!(rt; told, mismatch);
     Ok(())
 }
 
 #[test]
 fn too_little_room_is_a_mismatch_at_the_takes(rt: HostRuntime) -> Result<(), Fail> {
     let told = made_up(&rt, rt.alloc(), 2, "0,0 20,0;10,5").ok_or("memory")?;
-    let mismatch = Status::Mismatch {
-        place: Place::Takes { tag: 0 },
-        kept: Seen::Number(2),
-        told: Seen::Number(3),
-    };
-    assert!(rt; told.is_err_and(|why| why == mismatch));
+    let mismatch = "Mismatch { place: Takes { tag: 0 }, kept: Number(2), told: Number(3) }";
+    assert_eq!(rt; told.as_str(), mismatch);
     Ok(())
 }
 
