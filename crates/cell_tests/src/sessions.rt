@@ -97,8 +97,9 @@ fn a_take_of_no_row_is_a_mismatch(rt: HostRuntime) -> Result<(), Fail> {
     let kept = "Take { collector: 0, row: 1, point: Point { t: 0, v: 0 } }";
     let row = "Take { collector: 0, row: 1, point: Point { t: 1, v: 0 } }";
     let place = "Take { tag: 0, place: 0 }";
-    let mismatch =
-        format!(in rt.alloc(); "Mismatch {{ place: {place}, kept: {kept}, told: {row} }}")?;
+    let mismatch = format!(in rt.alloc();
+        "Mismatch {{ place: {place}, kept: {kept}, told: {row} }}"
+    )?;
     assert_eq!(rt; told, mismatch);
     Ok(())
 }
