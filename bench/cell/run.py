@@ -16,7 +16,7 @@ HERE = os.path.dirname(os.path.abspath(__file__))
 ROOT = os.path.dirname(os.path.dirname(HERE))
 RUNS = 7
 TAKES = 1_000_000
-COMMITTED = 32_768
+COMMITTED = 8_192
 
 
 def below(name):
