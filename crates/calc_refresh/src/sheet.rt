@@ -178,6 +178,15 @@ impl Sheet {
         value_at(&self.rows, calc as usize, k as usize)
     }
 
+    /// Of each calculation its values in the windows 0, 1 and so on.
+    pub fn rows(&self) -> &[Vec<CalcValue>]
+        ensures rows { lists_of result.now ≡ self.now.rows }
+        ensures calcs { length result.now ≡ length self.now.group.calcs }
+        ensures few { length result.now ≤ 64 }
+    {
+        &self.rows
+    }
+
     /// How many values `apply` has evaluated since the sheet was made. The count stays at 2^64 - 1.
     pub fn evals(&self) -> u64
         ensures { result ≡ self.now.evals }

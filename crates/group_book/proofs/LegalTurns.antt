@@ -16,6 +16,7 @@ use Rattle.sheet_law.specs.Scratch.{IsScratch, values_at}
 use Rattle.sheet_law.specs.Windows.{complete_windows}
 use Rattle.sheet_law.specs.Touched.{longer}
 use Rattle.group_layout.specs.Rows.{cell_of}
+use Rattle.group_layout.proofs.RowsAdded.{cell_past}
 use Rattle.group_book.specs.declared.turn.Turn.{Turn}
 use Rattle.group_book.specs.declared.turn.Turn.TheVariants.{Refresh, Ask}
 use Rattle.group_book.specs.declared.history.GroupOpening.{GroupOpening}
@@ -24,16 +25,9 @@ use Rattle.group_book.specs.Histories.{IsLegal, IsRight, NeverFall, scratch_at}
 use Rattle.group_book.specs.Crashes.{IsSafe, StandsForOne}
 use Rattle.group_book.specs.Told.{IsKept, Saved}
 use Rattle.group_book.proofs.Cuts.{cut-all, cut-longer, longer_rises, never_refl}
-use Rattle.group_book.proofs.Turns.{fit_longer, fit_push, right_back, saved-ask, saved-refresh, saved_rises, since-ask, since-refresh, since_rises, walk_rises, walked-push}
+use Rattle.group_book.proofs.Turns.{contains_left, fit_longer, fit_push, right_back, saved-ask, saved-refresh, saved_rises, since-ask, since-refresh, since_rises, walk_rises, walked-push}
 
 -- ---- a cell of rows from scratch
-
--- each row has so many values, so there is none behind them
-cell_past : (rows : List (List CalcValue)) (calc k n : ℕ) → All (λ row. length row ≡ n) rows → n ≤ k → cell_of rows calc k ≡ None
-cell_past [] calc k n wide past = refl
-cell_past (row ∷ rows) zero k n wide past =
-    slice_get_past row k (omega (arith, All-head (λ r. length r ≡ n) row rows wide))
-cell_past (row ∷ rows) (suc calc) k n wide past = cell_past rows calc k n (All-tail (λ r. length r ≡ n) row rows wide) past
 
 -- a cell whose column is known
 cell_in : (row : Option (List CalcValue)) (value : Option CalcValue) (k : ℕ)
@@ -121,10 +115,6 @@ module _ (g : Group) (grid : Grid) (o : GroupOpening) (tape : List Turn) (versio
                 (sym (cut-longer one.versions copies mores (subst (λ v. NeverFall v (map length copies)) one.among.2 low))) one.scratch;
           };
     }
-      where
-        contains_left : (xs ys : List (List ℕ)) (x : List ℕ) → Contains xs x → Contains (xs ++ ys) x
-        contains_left xs ys x is =
-            (is.0, omega (arith, is.1, length-append xs ys), get_or-append xs ys x is.0 is.1 ∙ is.2)
 
 -- the device keeps what it kept
 pub kept_asked : (text : List ℕ) (def : GroupDefParts) (o : GroupOpening) (tape : List Turn) (copies : List (List Rec)) (saved : Saved)

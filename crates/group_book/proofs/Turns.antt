@@ -1,5 +1,7 @@
 -- Tapes with one more turn, and over copies that grew.
-use Rattle.std.proofs.Common.{◌≡◌, ℕ, Bool, true, false, All, List, [], ◌∷◌, ◌++◌, length, map, get_or, nat_le, refl, sym, ap, ◌∙◌, subst, if◌then◌else◌}
+use Rattle.std.proofs.Common.{◌≡◌, ℕ, Bool, true, false, All, List, [], ◌∷◌, ◌++◌, Contains, length, length-append, map, get_or, nat_le, refl, sym, ap, ◌∙◌, subst, arith, if◌then◌else◌}
+use Rattle.std.proofs.Math.ListN.{get_or-append}
+use Rattle.std.proofs.Math.Seq.{get_or-append_seam}
 use Rattle.std.proofs.lemmas.List.Elements.{All-cons, All-nil, All-push}
 use Rattle.trend_num.specs.declared.archive.Rec.{Rec}
 use Rattle.calc_check.specs.Group.{Group}
@@ -24,6 +26,13 @@ pub fit_push : (g : Group) (grid : Grid) (o : GroupOpening) (copies : List (List
     → FitAll g grid o copies w es → Fits g grid o copies (walked w es) e → FitAll g grid o copies w (es ++ e ∷ [])
 fit_push g grid o copies w [] e fits one = (one, tt)
 fit_push g grid o copies w (x ∷ es) e fits one = (fits.0, fit_push g grid o copies (after_turn w x) es e fits.1 one)
+
+-- an element of a list is one of a longer list, and so is what was added
+pub contains_left : (xs ys : List (List ℕ)) (x : List ℕ) → Contains xs x → Contains (xs ++ ys) x
+contains_left xs ys x is = (is.0, omega (arith, is.1, length-append xs ys), get_or-append xs ys x is.0 is.1 ∙ is.2)
+
+pub contains_last : (xs : List (List ℕ)) (x : List ℕ) → Contains (xs ++ x ∷ []) x
+contains_last xs x = (length xs, omega (arith, length-append xs (x ∷ [])), get_or-append_seam xs x [] x)
 
 -- ---- versions along a tape
 

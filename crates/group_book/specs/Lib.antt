@@ -2,4 +2,5 @@ pub mod Tapes
 pub mod Histories
 pub mod Crashes
 pub mod Told
+pub mod Saves
 pub mod Refusals

@@ -16,15 +16,17 @@
 
 mod ask;
 mod book;
+mod changes;
 mod history;
 mod making;
 mod publish;
 mod refresh;
 mod refusal;
+mod save;
 mod turn;
 
 pub use book::Book;
 pub use history::{GroupHistory, GroupOpening};
 pub use making::new_book;
-pub use refusal::RefreshNo;
+pub use refusal::{RefreshNo, SaveNo};
 pub use turn::Turn;

@@ -19,3 +19,13 @@ pub enum RefreshNo {
     },
     WantOfMemory,
 }
+
+/// Why a group is not saved.
+#[derive(Clone, Copy, Debug, PartialEq, Eq)]
+pub enum SaveNo {
+    /// An earlier save answered DeviceFault.
+    Broken,
+    /// A call of the device failed. The device is opened again before it is used.
+    DeviceFault,
+    WantOfMemory,
+}

@@ -135,7 +135,7 @@ holds_there c at bytes holds some =
     omega (arith, ap length holds, length-take (length bytes) (drop at c), length-drop at c)
 
 -- six fields that are kept
-all_six : (c : List ℕ) (f g h i j k : Field) → Keeps c f → Keeps c g → Keeps c h → Keeps c i → Keeps c j → Keeps c k
+pub all_six : (c : List ℕ) (f g h i j k : Field) → Keeps c f → Keeps c g → Keeps c h → Keeps c i → Keeps c j → Keeps c k
     → All (Keeps c) (f ∷ g ∷ h ∷ i ∷ j ∷ k ∷ [])
 all_six c f g h i j k kf kg kh ki kj kk =
     All-cons (Keeps c) f (g ∷ h ∷ i ∷ j ∷ k ∷ []) kf (All-cons (Keeps c) g (h ∷ i ∷ j ∷ k ∷ []) kg

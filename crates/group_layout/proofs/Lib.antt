@@ -7,3 +7,6 @@ pub mod Walks
 pub mod SavedRows
 pub mod Heads
 pub mod Beginnings
+pub mod BlockAdded
+pub mod RowsAdded
+pub mod Openings

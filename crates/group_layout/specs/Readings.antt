@@ -1,12 +1,15 @@
 -- What was found on a group's device, and what a device is begun with.
-use Rattle.std.specs.Prelude.{◌≡◌, ◌⊎◌, ℕ, List, [], ◌∷◌, ◌++◌, length}
+use Rattle.std.specs.Prelude.{◌≡◌, ◌⊎◌, ℕ, List, Option, [], ◌∷◌, ◌++◌, length}
+use Rattle.trend_num.specs.declared.value.CalcValue.{CalcValue}
 use Rattle.disk_model.specs.Gates.{IsNew, IsShut}
+use Rattle.disk_model.specs.Images.{MayLeave}
+use Rattle.disk_model.specs.Traces.{Trace, seen}
 use Rattle.archive_file.specs.Fields.{number_bytes}
 use Rattle.group_layout.specs.declared.layout_reader.Found.{Found}
 use Rattle.group_layout.specs.declared.layout_reader.Found.TheVariants.{New, Other, Saved}
 use Rattle.group_layout.specs.declared.layout_reader.SavedGroup.{SavedGroup}
 use Rattle.group_layout.specs.Blocks.{Parts, end_of, last_of, unsaved}
-use Rattle.group_layout.specs.Images.{HasSaved, IsOfOther, IsOfText, IsUnsaved, blocks_at, letters}
+use Rattle.group_layout.specs.Images.{HasSaved, IsOfOther, IsOfText, IsUnsaved, StandsFor, blocks_at, letters}
 use Rattle.group_layout.specs.Rows.{lists_of}
 
 -- this was read of the blocks of a group
@@ -38,3 +41,16 @@ pub record IsEmpty (text c : List ℕ) : Type 0 where
 -- nothing is saved for this text, whether or not its layout is there
 abbrev pub SavesNothing : List ℕ → List ℕ → Type 0
 SavesNothing text c = IsUnsaved text c ⊎ IsEmpty text c
+
+-- ---- while a device is opened
+
+-- an image stands for what these bytes stand for
+pub record StandsSame (text : List ℕ) (inputs calcs : ℕ) (before c : List ℕ) : Type 0 where
+  pub versions : List ℕ
+  pub rows : List (List CalcValue)
+  pub stood : StandsFor text inputs calcs before versions rows
+  pub stands : StandsFor text inputs calcs c versions rows
+
+-- it is one that a crash might have left before, or stands for the same
+abbrev pub IsLeftOrSame : List ℕ → ℕ → ℕ → Option Trace → List ℕ → Type 0
+IsLeftOrSame text inputs calcs o c = MayLeave o c ⊎ StandsSame text inputs calcs (seen o) c

@@ -166,7 +166,7 @@ fn letter_field(c: &[u8], at: usize, letter: u8) -> Field
 }
 
 // What blocks behind a place give: refuses those that lack a value.
-fn gather(
+pub(crate) fn gather(
     alloc: Global,
     blocks: &Blocks,
     at: usize,

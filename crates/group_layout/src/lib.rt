@@ -7,7 +7,8 @@
 //! (`specs/Fields.antt`).
 //!
 //! [`read_group`] tells a new device, that of another text, and that of the wanted one, whose rows it gathers; [`make_group`]
-//! begins a device anew, and a crash at any moment leaves one that has nothing saved for this text; [`put_block`] adds a block,
+//! begins a device anew, and a crash at any moment leaves one that has nothing saved for this text; [`open_group`] does one
+//! after the other, and a crash leaves what stands for the same versions and rows; [`put_block`] adds a block,
 //! and a crash at any moment leaves it whole behind its open gate, or the gate closed. [`block_bytes`] and [`read_blocks`] are the
 //! bytes of blocks alone.
 #![tactic(auto)]
@@ -16,6 +17,7 @@ mod block;
 mod field;
 mod layout_reader;
 mod making;
+mod opening;
 mod reader;
 mod row_reader;
 mod saved;
@@ -24,4 +26,5 @@ mod writer;
 pub use block::{Block, BlockRow, Blocks};
 pub use layout_reader::{Found, SavedGroup, read_blocks, read_group};
 pub use making::{make_group, put_block};
+pub use opening::open_group;
 pub use writer::block_bytes;

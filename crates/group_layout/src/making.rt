@@ -7,7 +7,7 @@ ghost use Rattle.disk_model.specs.Calls.{CountsFault, HasCause, Sees, Shows};
 ghost use Rattle.disk_model.specs.Gates.{IsGuarded, IsShut, open_byte};
 ghost use Rattle.archive_file.specs.declared.failure.PutNo.TheVariants.{DeviceFault, WantOfMemory as NoMemory};
 ghost use Rattle.group_layout.specs.Blocks.{block_image, block_size, parts_of};
-ghost use Rattle.group_layout.specs.Images.{IsUnsaved};
+ghost use Rattle.group_layout.specs.Images.{IsUnsaved, blocks_at};
 ghost use Rattle.group_layout.specs.Readings.{IsEmpty, SavesNothing, head_image};
 
 use crate::block::Block;
@@ -34,6 +34,7 @@ pub fn make_group<D: Disk>(alloc: Global, dev: &mut D, text: &[u8]) -> Result<()
     ensures any_moment { During (D.trace dev.old) (D.trace dev.new) (SavesNothing text.now) }
     ensures made { OnOk result (Shows (D.trace dev.new) (IsEmpty text.now)) }
     ensures settled { OnOk result (IsSettled (D.trace dev.new)) }
+    ensures ready { OnOk result (Now (D.trace dev.new) (IsShut (blocks_at (length text.now)))) }
     ensures no_memory { IsErrOf result NoMemory → dev.new ≡ dev.old }
     ensures cause { CountsFault result DeviceFault (D.fault_count dev.old) (D.fault_count dev.new) }
     ensures later { D.ticks dev.old ≤ D.ticks dev.new }
@@ -92,6 +93,7 @@ pub fn put_block<D: Disk>(alloc: Global, dev: &mut D, at: u64, b: &Block) -> Res
     ensures reads { OnOk result (Sees (D.trace dev.new)
         (written (written (seen (D.trace dev.old)) (at + 1) (block_image (parts_of b.now) ++ 0 ∷ [])) at (open_byte ∷ []))) }
     ensures settled { OnOk result (IsSettled (D.trace dev.new)) }
+    ensures ready { IfOk result (λ next. Now (D.trace dev.new) (IsShut next)) }
     ensures next { IfOk result (λ next. next ≡ at + block_size (parts_of b.now)) }
     ensures clock { OnOk result (D.ticks dev.new ≡ D.ticks dev.old + 4) }
     ensures no_memory { IsErrOf result NoMemory → dev.new ≡ dev.old }

@@ -1,4 +1,5 @@
 use Rattle.std.proofs.Common.{refl, ◌∙◌, arith}
+use Rattle.group_layout.proofs.BlockAdded.{layout_ready}
 use Rattle.group_layout.proofs.Beginnings.{layout_begun, nothing_yet, saves_nothing, shut_reached, unsaved_kept}
 use Rattle.group_layout.proofs.making.make_group.Goals as goal
 
@@ -30,3 +31,10 @@ returns-clause-made g c =
     layout_begun c.args.text.now c.deref.result.now (omega (arith, c.in-Ok.ensures))
     (c.deref.ensures.value ∙ c.in-Ok-head_bytes.ensures) _ _ c.close_layout.ensures.any_moment _
     c.write_guarded.ensures.any_moment c.in-Ok-write_guarded.ensures.reads
+
+pub returns-clause-ready : goal.returns-clause-ready
+returns-clause-ready g c =
+    layout_ready c.args.text.now _
+    (layout_begun c.args.text.now c.deref.result.now (omega (arith, c.in-Ok.ensures))
+    (c.deref.ensures.value ∙ c.in-Ok-head_bytes.ensures) _ _ c.close_layout.ensures.any_moment _
+    c.write_guarded.ensures.any_moment c.in-Ok-write_guarded.ensures.reads) c.in-Ok-write_guarded.ensures.settled

@@ -1,0 +1,370 @@
+-- A book's history after a save, and after one whose device failed.
+use Rattle.std.proofs.Common.{◌≡◌, ◌≢◌, ◌⊎◌, ⊎_elim, inl, inr, ℕ, zero, suc, ◌+◌, ◌<◌, ◌≤◌, Bool, true, false, All, List, [], ◌∷◌, ◌++◌, Contains, length, map, get_or, drop, take, slice_get, Option, None, Some, IfSome, nat_le, nat_lt, refl, sym, ap, ◌∙◌, subst, arith, lit<, le_trans, if◌then◌else◌}
+use Rattle.std.proofs.lemmas.Bool.{cases_eq}
+use Rattle.std.proofs.lemmas.Bool.Decides.{nat_tests}
+use Rattle.std.proofs.lemmas.List.{length-map, take-append-drop}
+use Rattle.std.proofs.lemmas.Option.{slice_get_within, get_or_from_slice_get}
+use Rattle.trend_num.specs.declared.archive.Rec.{Rec}
+use Rattle.trend_num.specs.declared.value.CalcValue.{CalcValue}
+use Rattle.disk_model.specs.Calls.{Rose, Sees}
+use Rattle.disk_model.specs.Gates.{IsGuarded, IsOpen, IsShut, open_byte}
+use Rattle.disk_model.specs.Images.{FromOld, IsSettled, MayLeave, Now}
+use Rattle.disk_model.specs.Moments.{During, LeftSince}
+use Rattle.disk_model.specs.Traces.{Trace, seen, written}
+use Rattle.disk_model.proofs.Bytes.{length-written}
+use Rattle.disk_model.proofs.Images.{present}
+use Rattle.disk_model.proofs.Moments.{during_now, only_since, parted}
+use Rattle.calc_check.specs.Group.{Group}
+use Rattle.calc_eval.specs.Number.{IsInRange}
+use Rattle.calc_eval.proofs.Range.{values_range}
+use Rattle.calc_refresh.specs.declared.definition.GroupDefParts.{GroupDefParts}
+use Rattle.calc_refresh.specs.Sheet.{IsGrid, IsGroup, grid_of}
+use Rattle.sheet_law.specs.declared.grid.Grid.{Grid}
+use Rattle.sheet_law.specs.Scratch.{IsScratch, points_by, values_at}
+use Rattle.sheet_law.specs.Touched.{longer}
+use Rattle.sheet_law.specs.Windows.{complete_windows, window_from, window_to}
+use Rattle.sheet_law.proofs.Complete.{complete_grow}
+use Rattle.group_layout.specs.Blocks.{MayFollow, Parts, block_image, block_size, end_of, last_of, unsaved}
+use Rattle.group_layout.specs.Images.{ByBlocks, HasSaved, StandsFor, blocks_at, versions_of}
+use Rattle.group_layout.specs.Rows.{AreRowsOf, cell_of}
+use Rattle.group_layout.proofs.BlockAdded.{block_closed, block_opened, written_byte}
+use Rattle.group_layout.proofs.RowsAdded.{IsAddedAt, rows_more}
+use Rattle.group_layout.proofs.Walks.{end_of-push, last_of-push}
+use Rattle.group_book.specs.declared.turn.Turn.{Turn}
+use Rattle.group_book.specs.declared.turn.Turn.TheVariants.{Refresh, Ask, Save}
+use Rattle.group_book.specs.declared.history.GroupOpening.{GroupOpening}
+use Rattle.group_book.specs.Tapes.{Walk, after_turn, cut, saved_at, start, versions_since, walked}
+use Rattle.group_book.specs.Histories.{IsLegal, IsRight, NeverFall, scratch_at}
+use Rattle.group_book.specs.Crashes.{IsSafe, StandsForOne}
+use Rattle.group_book.specs.Saves.{AreInRange, IsListed, IsOther, IsSame, ListsChanges}
+use Rattle.group_book.specs.Told.{Holds, IsKept, IsReady, Saved}
+use Rattle.group_book.proofs.Cuts.{cut-all, never_refl}
+use Rattle.group_book.proofs.LegalTurns.{at_end, cell_scratch}
+use Rattle.group_book.proofs.Turns.{contains_last, contains_left, fit_push, saved_rises, walked-push}
+
+-- ---- one save more on a tape
+
+-- the versions of the last save are those at the end
+saved-save : (w : Walk) (saved : List ℕ) (es : List Turn) (number moment : ℕ)
+    → saved_at w.versions saved (es ++ Save number moment ∷ []) ≡ (walked w es).versions
+saved-save w saved [] number moment = refl
+saved-save w saved (Refresh v ∷ es) number moment = saved-save (after_turn w (Refresh v)) saved es number moment
+saved-save w saved (Ask a b c d e ∷ es) number moment = saved-save w saved es number moment
+saved-save w saved (Save n m ∷ es) number moment = saved-save (after_turn w (Save n m)) w.versions es number moment
+
+-- from its moment on no others count
+since-save : (t : ℕ) (w : Walk) (since : List (List ℕ)) (es : List Turn) (number moment : ℕ)
+    → versions_since t w.versions since (es ++ Save number moment ∷ [])
+    ≡ (if nat_le moment t then (walked w es).versions ∷ [] else versions_since t w.versions since es)
+since-save t w since [] number moment = refl
+since-save t w since (Refresh v ∷ es) number moment =
+    since-save t (after_turn w (Refresh v)) (since ++ v.items ∷ []) es number moment
+since-save t w since (Ask a b c d e ∷ es) number moment = since-save t w since es number moment
+since-save t w since (Save n m ∷ es) number moment =
+    since-save t (after_turn w (Save n m)) (if nat_le m t then w.versions ∷ [] else since) es number moment
+
+-- the versions at the end, and those of the last save, are among those since a save
+since_has : (t : ℕ) (w : Walk) (saved : List ℕ) (since : List (List ℕ)) (es : List Turn) → Contains since w.versions
+    → Contains since saved
+    → Contains (versions_since t w.versions since es) (walked w es).versions
+    × Contains (versions_since t w.versions since es) (saved_at w.versions saved es)
+since_has t w saved since [] now last = (now, last)
+since_has t w saved since (Refresh v ∷ es) now last =
+    since_has t (after_turn w (Refresh v)) saved (since ++ v.items ∷ []) es (contains_last since v.items)
+    (contains_left since (v.items ∷ []) saved last)
+since_has t w saved since (Ask a b c d e ∷ es) now last = since_has t w saved since es now last
+since_has t w saved since (Save n m ∷ es) now last =
+    since_has t (after_turn w (Save n m)) w.versions (if nat_le m t then w.versions ∷ [] else since) es (either (nat_le m t))
+    (either (nat_le m t))
+  where
+    either : (b : Bool) → Contains (if b then w.versions ∷ [] else since) w.versions
+    either true = (0, lit< tt, refl)
+    either false = now
+
+-- ---- what the rows are
+
+-- rows from scratch are in the range of numbers
+scratch_range : (g : Group) (grid : Grid) (copies : List (List Rec)) (rows : List (List CalcValue)) → IsScratch g grid copies rows
+    → AreInRange rows
+scratch_range g grid copies rows scratch = record {
+  each = λ calc k v is. go calc k v (nat_lt k (complete_windows grid copies)) (sym (cell_scratch g grid copies rows calc k scratch) ∙ is);
+}
+  where
+    go : (calc k : ℕ) (v : CalcValue) (b : Bool) → (if b then slice_get (values_at g grid copies k) calc else None) ≡ Some v → IsInRange v
+    go calc k v true is =
+        let vs = values_at g grid copies k in
+        subst IsInRange (get_or_from_slice_get vs calc v v is)
+        (values_range g (points_by copies) (window_from grid k) (window_to grid k) calc v (slice_get_within vs calc v is))
+    go calc k v false is = absurd (cc (is))
+
+-- copies are what they are cut to, and the rest
+rest_of : List ℕ → List (List Rec) → List (List Rec)
+rest_of [] rss = []
+rest_of (v ∷ vs) [] = []
+rest_of (v ∷ vs) (rs ∷ rss) = drop v rs ∷ rest_of vs rss
+
+cut-rest : (vs : List ℕ) (rss : List (List Rec)) → length vs ≡ length rss → longer (cut vs rss) (rest_of vs rss) ≡ rss
+cut-rest [] [] same = refl
+cut-rest [] (rs ∷ rss) same = absurd (omega (arith, same))
+cut-rest (v ∷ vs) [] same = absurd (omega (arith, same))
+cut-rest (v ∷ vs) (rs ∷ rss) same = λ i. take-append-drop v rs i ∷ cut-rest vs rss (omega (arith, same)) i
+
+-- no fewer windows are complete
+cut_windows : (grid : Grid) (vs : List ℕ) (rss : List (List Rec)) → 0 < grid.period → length vs ≡ length rss
+    → complete_windows grid (cut vs rss) ≤ complete_windows grid rss
+cut_windows grid vs rss some same =
+    subst (λ x. complete_windows grid (cut vs rss) ≤ complete_windows grid x) (cut-rest vs rss same)
+    (complete_grow grid (cut vs rss) (rest_of vs rss) some)
+
+-- ---- the next block
+
+-- the block of a save
+pub record IsNextBlock (saved : Saved) (calcs : ℕ) (versions : List ℕ) (windows : ℕ) (rows : List (List CalcValue)) (b : Parts) : Type 0 where
+  pub number : b.number ≡ saved.number + 1
+  pub versions_are : b.versions ≡ versions
+  pub windows_are : b.windows ≡ windows
+  pub changes : ListsChanges calcs b.windows saved.rows rows b.rows
+
+-- what a device has while it is written
+abbrev pub IsWriting : Parts → ℕ → Option Trace → List ℕ → Type 0
+IsWriting b at old = FromOld old (IsGuarded (at + 1) (block_image b ++ 0 ∷ []) at)
+
+-- each image of a device that is ready has what is read
+holds_now : (text : List ℕ) (def : GroupDefParts) (saved : Saved) (o : Option Trace) → IfSome o (IsReady saved.end)
+    → IfSome o (λ t. Holds text def saved (seen (Some t))) → (d : List ℕ) → MayLeave o d → Holds text def saved d
+holds_now text def saved None ready has d may = absurd may.image
+holds_now text def saved (Some t) ready has d may = subst (Holds text def saved) (sym (ready.settled.each d may)) has
+
+module _ (text : List ℕ) (def : GroupDefParts) (o : GroupOpening) (tape : List Turn) (versions : List ℕ) (copies : List (List Rec))
+    (rows : List (List CalcValue)) (saved : Saved) (old : Option Trace) (ticks faults : ℕ)
+    (group : IsGroup def.inputs def.calcs) (grid : IsGrid (grid_of def.start def.period)) (inputs : length copies ≡ def.inputs)
+    (legal : IsLegal def.calcs (grid_of def.start def.period) o tape versions copies rows)
+    (kept : IsKept text def o tape copies saved false old ticks faults)
+    (b : Parts) (is : IsNextBlock saved (length def.calcs.calcs) versions (complete_windows (grid_of def.start def.period) copies) rows b) where
+  IsFine : Type 0
+  IsFine = IsRight def.calcs (grid_of def.start def.period) o copies
+
+  many : length saved.versions ≡ length copies
+  many = kept.inputs ∙ sym inputs
+
+  low : NeverFall saved.versions versions
+  low = subst (λ v. NeverFall v versions) (sym kept.versions)
+      (subst (NeverFall (saved_at o.versions.items o.versions.items tape)) (sym legal.last)
+      (saved_rises def.calcs (grid_of def.start def.period) o copies (start o) o.versions.items tape legal.turns
+      (never_refl o.versions.items)))
+
+  -- it may follow the blocks that are there
+  follows : IsFine → (d : List ℕ) → (h : Holds text def saved d) → MayFollow (length def.calcs.calcs) (last_of (unsaved def.inputs) h.blocks) b
+  follows right d h = record {
+    number = is.number ∙ ap (λ n. n + 1) (sym h.number);
+    inputs = ap length is.versions_are ∙ low.inputs ∙ ap length (sym h.versions);
+    rises = subst (λ vs. (i : ℕ) → i < length vs → get_or vs i 0 ≤ get_or b.versions i 0) (sym h.versions)
+        (subst (λ vs. (i : ℕ) → i < length saved.versions → get_or saved.versions i 0 ≤ get_or vs i 0) (sym is.versions_are) low.rises);
+    windows = more;
+    rows = is.changes.rows_are (scratch_range def.calcs (grid_of def.start def.period) copies rows (legal.scratch right));
+  }
+    where
+      before : IsScratch def.calcs (grid_of def.start def.period) (cut saved.versions copies) saved.rows
+      before = kept.scratch right
+
+      some : 0 < length saved.rows
+      some = omega (arith, before.calcs, group.some_calcs)
+
+      more : (last_of (unsaved def.inputs) h.blocks).windows ≤ b.windows
+      more = omega (arith, is.windows_are, h.has.rows_are.windows_are 0 [] some, before.windows 0 [] some,
+          cut_windows (grid_of def.start def.period) saved.versions copies (omega (arith, grid.some)) many)
+
+  -- with it the blocks give the rows
+  gives : IsFine → (d : List ℕ) → (h : Holds text def saved d) → AreRowsOf (length def.calcs.calcs) b.windows (h.blocks ++ b ∷ []) rows
+  gives right d h =
+      let now = legal.scratch right in
+      rows_more (length def.calcs.calcs) (last_of (unsaved def.inputs) h.blocks) b h.blocks saved.rows rows h.has.rows_are now.calcs
+      (subst (λ n. All (λ row. length row ≡ n) rows) (sym is.windows_are) now.windows)
+      (λ calc k calc_low within. added calc k (is.changes.listed calc k calc_low within))
+    where
+      added : (calc k : ℕ) → IsListed saved.rows rows b.rows calc k → IsAddedAt saved.rows rows b.rows calc k
+      added calc k (IsSame same none) = inl (same, none)
+      added calc k (IsOther other listed) = inr listed
+
+  -- what is saved then
+  pub next_saved : Saved
+  next_saved = record { number = b.number; versions = versions; rows = rows; end = saved.end + block_size b }
+
+  -- behind its open gate it is saved
+  holds_next : IsFine → (d c : List ℕ) → Holds text def saved d → IsGuarded (saved.end + 1) (block_image b ++ 0 ∷ []) saved.end d c
+      → IsOpen saved.end c → Holds text def next_saved c
+  holds_next right d c h guarded opened = record {
+    blocks = h.blocks ++ b ∷ [];
+    has = block_opened text d c def.inputs (length def.calcs.calcs) h.blocks saved.rows h.has b saved.end h.end guarded rows opened
+        (follows right d h) (gives right d h);
+    number = ap (λ (x : Parts). x.number) (last_of-push (unsaved def.inputs) h.blocks b);
+    versions = ap (λ (x : Parts). x.versions) (last_of-push (unsaved def.inputs) h.blocks b) ∙ is.versions_are;
+    end = end_of-push (blocks_at (length text)) h.blocks b ∙ ap (λ n. n + block_size b) h.end;
+  }
+
+  -- an image stands for what is saved
+  stands_for : (s : Saved) (c : List ℕ) → Holds text def s c
+      → StandsFor text (length def.calcs.inputs) (length def.calcs.calcs) c s.versions s.rows
+  stands_for s c h = subst (λ n. StandsFor text n (length def.calcs.calcs) c s.versions s.rows) (sym group.named)
+      (ByBlocks h.blocks h.has (sym h.versions))
+
+  IsEither : List ℕ → Type 0
+  IsEither c = Holds text def saved c ⊎ Holds text def next_saved c
+
+  -- while it is written an image has the old blocks, or it too
+  either_saved : IsFine → (c : List ℕ) → IsWriting b saved.end old c → IsEither c
+  either_saved right c from =
+      let h = holds_now text def saved old (kept.shut refl) (kept.holds refl right) from.0 from.1 in
+      elim (cases_eq (get_or c saved.end 0) open_byte) [
+        | inl opened ↦ inr (holds_next right from.0 c h from.2 opened)
+        | inr closed ↦ inl (record {
+            blocks = h.blocks;
+            has = block_closed text from.0 c def.inputs (length def.calcs.calcs) h.blocks saved.rows h.has b saved.end h.end from.2 closed;
+            number = h.number;
+            versions = h.versions;
+            end = h.end;
+          })
+      ]
+
+  -- ---- what a crash leaves
+
+  module _ (safe : IsSafe text def.calcs (grid_of def.start def.period) o copies tape (LeftSince old)) (new : Option Trace)
+      (during : During old new (IsWriting b saved.end old)) where
+    stands_one : IsFine → (t : ℕ) (c : List ℕ) → IsEither c
+        → StandsForOne text def.calcs (grid_of def.start def.period) copies
+        (versions_since t o.versions.items (o.versions.items ∷ []) tape) c
+    stands_one right t c either =
+        let has = since_has t (start o) o.versions.items (o.versions.items ∷ []) tape (0, lit< tt, refl) (0, lit< tt, refl) in
+        let since = versions_since t o.versions.items (o.versions.items ∷ []) tape in
+        elim either [
+          | inl was ↦ record {
+              versions = saved.versions;
+              rows = saved.rows;
+              among = subst (Contains since) (sym kept.versions) has.1;
+              stands = stands_for saved c was;
+              scratch = kept.scratch right;
+            }
+          | inr now ↦ record {
+              versions = versions;
+              rows = rows;
+              among = subst (Contains since) (sym legal.last) has.0;
+              stands = stands_for next_saved c now;
+              scratch = subst (λ rss. IsScratch def.calcs (grid_of def.start def.period) rss rows)
+                  (sym (ap (λ v. cut v copies) legal.copied ∙ cut-all copies)) (legal.scratch right);
+            }
+        ]
+
+    pub safe_writing : IsSafe text def.calcs (grid_of def.start def.period) o copies tape (LeftSince new)
+    safe_writing = record {
+      images = λ right t c since left. ⊎_elim
+          (λ now. stands_one right t c (either_saved right c (during.each c now)))
+          (λ before. safe.images right t c since before)
+          (parted old new t c during.later left);
+    }
+
+  -- ---- a save that failed
+
+  pub kept_faulted : (new : Option Trace) (ticks' faults' : ℕ) → ticks ≤ ticks' → Rose faults faults'
+      → IsKept text def o tape copies saved true new ticks' faults'
+  kept_faulted new ticks' faults' later rose = record {
+    shut = λ usable. absurd (cc (usable));
+    holds = λ usable right. absurd (cc (usable));
+    scratch = kept.scratch;
+    versions = kept.versions;
+    inputs = kept.inputs;
+    number = kept.number;
+    past = le_trans kept.past later;
+    opened_before = le_trans kept.opened_before later;
+    faultless = λ usable. absurd (cc (usable));
+    cause = λ failed. subst (λ n. Rose n faults') (kept.faultless refl) rose;
+  }
+
+  -- ---- a save that is done
+
+  module _ (new : Option Trace) (ticks' : ℕ) (later : ticks < ticks') (during : During old new (IsWriting b saved.end old))
+      (sees : Sees new (written (written (seen old) (saved.end + 1) (block_image b ++ 0 ∷ [])) saved.end (open_byte ∷ [])))
+      (settled : IsSettled new) (ready : Now new (IsShut (saved.end + block_size b)))
+      (told : IfSome new (λ t. length t.calls ≡ ticks')) where
+    turn : Turn
+    turn = Save b.number ticks'
+
+    pub legal_saved : IsLegal def.calcs (grid_of def.start def.period) o (tape ++ turn ∷ []) versions copies rows
+    legal_saved = record {
+      turns = fit_push def.calcs (grid_of def.start def.period) o copies (start o) tape turn legal.turns
+          (record { next = next (walked (start o) tape).number kept.number; later = omega (arith, kept.past, later) });
+      last = legal.last ∙ ap (λ (w : Walk). w.versions) (sym (walked-push (start o) tape turn));
+      copied = legal.copied;
+      scratch = legal.scratch;
+    }
+      where
+        next : (n : Option ℕ) → IfSome n (λ k. k ≡ saved.number) → IfSome n (λ last. b.number ≡ last + 1)
+        next None last = tt
+        next (Some n) last = is.number ∙ ap (λ k. k + 1) (sym last)
+
+    -- an image now has the block behind its open gate
+    holds_settled : IsFine → (c : List ℕ) → MayLeave new c → Holds text def next_saved c
+    holds_settled right c may =
+        let from = (during_now old new (IsWriting b saved.end old) during).each c may in
+        holds_next right from.0 c (holds_now text def saved old (kept.shut refl) (kept.holds refl right) from.0 from.1) from.2
+        (opened old new (kept.shut refl) during.later sees settled c may)
+      where
+        opened : (x y : Option Trace) → IfSome x (IsReady saved.end) → _ → Sees y (written (written (seen x) (saved.end + 1)
+            (block_image b ++ 0 ∷ [])) saved.end (open_byte ∷ [])) → IsSettled y → (c : List ℕ) → MayLeave y c → IsOpen saved.end c
+        opened x None shut after sees settled c may = absurd may.image
+        opened None (Some u) shut after sees settled c may = absurd after
+        opened (Some t) (Some u) shut after sees settled c may =
+            ap (λ l. get_or l saved.end 0) (settled.each c may ∙ sees)
+            ∙ written_byte (written (seen (Some t)) (saved.end + 1) (block_image b ++ 0 ∷ [])) saved.end open_byte
+            (omega (arith, shut.shut.there, length-written (seen (Some t)) (saved.end + 1) (block_image b ++ 0 ∷ [])
+            (omega (arith, shut.shut.there))))
+
+    pub kept_saved : (faults' : ℕ) → faults' ≡ faults
+        → IsKept text def o (tape ++ turn ∷ []) copies next_saved false new ticks' faults'
+    kept_saved faults' same = record {
+      shut = λ usable. shown new settled ready;
+      holds = λ usable right. held new (holds_settled right);
+      scratch = λ right. subst (λ rss. IsScratch def.calcs (grid_of def.start def.period) rss rows)
+          (sym (ap (λ v. cut v copies) legal.copied ∙ cut-all copies)) (legal.scratch right);
+      versions = legal.last ∙ sym (saved-save (start o) o.versions.items tape b.number ticks');
+      inputs = low.inputs ∙ kept.inputs;
+      number = subst (λ w. IfSome w.number (λ n. n ≡ b.number)) (sym (walked-push (start o) tape turn)) refl;
+      past = subst (λ w. w.moment ≤ ticks') (sym (walked-push (start o) tape turn)) (omega arith);
+      opened_before = omega (arith, kept.opened_before, later);
+      faultless = λ usable. same ∙ kept.faultless refl;
+      cause = λ failed. absurd (cc (failed));
+    }
+      where
+        shown : (x : Option Trace) → IsSettled x → Now x (IsShut (saved.end + block_size b))
+            → IfSome x (λ t. IsReady (saved.end + block_size b) t)
+        shown None settled ready = tt
+        shown (Some t) settled ready = record { settled = settled; shut = ready.each (seen (Some t)) (present t) }
+
+        held : (x : Option Trace) → ((c : List ℕ) → MayLeave x c → Holds text def next_saved c)
+            → IfSome x (λ t. Holds text def next_saved (seen (Some t)))
+        held None has = tt
+        held (Some t) has = has (seen (Some t)) (present t)
+
+    pub safe_saved : IsSafe text def.calcs (grid_of def.start def.period) o copies tape (LeftSince old)
+        → IsSafe text def.calcs (grid_of def.start def.period) o copies (tape ++ turn ∷ []) (LeftSince new)
+    safe_saved safe = record {
+      images = λ right t c since left.
+          subst (λ l. StandsForOne text def.calcs (grid_of def.start def.period) copies l c)
+          (sym (since-save t (start o) (o.versions.items ∷ []) tape b.number ticks'))
+          (by_moment right t c since left (nat_le ticks' t) refl);
+    }
+      where
+        after_moment : (t : ℕ) → nat_le ticks' t ≡ true → ticks' ≤ t
+        after_moment t e = grind (arith, nat_tests)
+
+        by_moment : IsFine → (t : ℕ) (c : List ℕ) → o.moment ≤ t → LeftSince new t c → (x : Bool) → nat_le ticks' t ≡ x
+            → StandsForOne text def.calcs (grid_of def.start def.period) copies
+            (if x then (walked (start o) tape).versions ∷ [] else versions_since t o.versions.items (o.versions.items ∷ []) tape) c
+        by_moment right t c since left true e = record {
+          versions = versions;
+          rows = rows;
+          among = subst (λ v. Contains (v ∷ []) versions) legal.last (0, lit< tt, refl);
+          stands = stands_for next_saved c (holds_settled right c (only_since new ticks' t c told (after_moment t e) left));
+          scratch = subst (λ rss. IsScratch def.calcs (grid_of def.start def.period) rss rows)
+              (sym (ap (λ v. cut v copies) legal.copied ∙ cut-all copies)) (legal.scratch right);
+        }
+        by_moment right t c since left false e = (safe_writing safe new during).images right t c since left

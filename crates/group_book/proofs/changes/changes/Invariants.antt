@@ -1,0 +1,7 @@
+use Rattle.std.proofs.Common.{length}
+use Rattle.calc_refresh.specs.Lists.{lists_of}
+use Rattle.group_book.specs.Saves.{ListedUpTo}
+use Rattle.group_book.proofs.changes.changes.Given as goal
+
+abbrev pub invariant-loop-calc : goal.invariant-loop-calc
+invariant-loop-calc l = ListedUpTo (lists_of l.saved) l.sheet.rows (length l.sheet.group.calcs) l.windows l.calc 0 l.rows.items

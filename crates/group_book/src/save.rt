@@ -1,0 +1,120 @@
+// The rows of a group are saved.
+ghost use Rattle.std.specs.Prelude.{◌≡◌, ◌↔◌, ◌+◌, IfOk, IsErrOf, IsOk, None, OnOk, Some, length, map, true, vec_len};
+ghost use Rattle.disk_model.specs.Calls.{CountsFault};
+ghost use Rattle.calc_refresh.specs.Lists.{lists_of};
+ghost use Rattle.sheet_law.specs.Windows.{complete_windows};
+ghost use Rattle.group_layout.specs.Blocks.{parts_of};
+ghost use Rattle.group_book.specs.declared.refusal.SaveNo.TheVariants.{Broken, DeviceFault, WantOfMemory as NoMemory};
+ghost use Rattle.group_book.specs.Saves.{IsFaulted, IsSaved, ListsChanges};
+ghost use Rattle.group_book.specs.Told.{count_of};
+
+use crate::book::Book;
+use crate::changes::changes;
+use crate::publish::make_place;
+use crate::refusal::SaveNo;
+use crate::turn::Turn;
+use archive_file::PutNo;
+use calc_refresh::{CalcValue, Sheet};
+use disk_model::Disk;
+use group_layout::{Block, put_block};
+use std::alloc::{AllocError, Global};
+use trend_num::WantOfMemory;
+
+impl From<WantOfMemory> for SaveNo {
+    ghost use Rattle.std.specs.Prelude.{◌≡◌};
+    ghost use Rattle.group_book.specs.declared.refusal.SaveNo.TheVariants.{WantOfMemory as NoMemory};
+
+    ghost from_gives = { λ _ no. no ≡ NoMemory };
+
+    fn from(_: WantOfMemory) -> SaveNo {
+        SaveNo::WantOfMemory
+    }
+}
+
+impl<D: Disk> Book<D> {
+    /// Saves the rows that changed since the last save, as one block behind the others, and leaves one Save. An equal value is
+    /// no change. A book without a device does nothing. It is Broken where an earlier save answered DeviceFault; that comes
+    /// where a call of the device fails. Want of memory comes before any call, also where the number of the save would pass
+    /// 2^64 - 1 or the device 2^64 bytes; the book is then as it was.
+    pub fn save(&mut self) -> Result<(), SaveNo>
+        ensures none { self.old.dev ≡ None → IsOk result × (self.new ≡ self.old) }
+        ensures broken { IsErrOf result Broken ↔ (self.old.failed ≡ true) }
+        ensures saved { (d : D) → self.old.dev ≡ Some d → OnOk result (IsSaved D.trace D.ticks d self.old self.new) }
+        ensures faulted { IsErrOf result DeviceFault → IsFaulted self.old self.new }
+        ensures cause { CountsFault result DeviceFault (count_of D.fault_count self.old.dev) (count_of D.fault_count self.new.dev) }
+        ensures untouched { IsErrOf result NoMemory → self.new ≡ self.old }
+        ensures still_broken { IsErrOf result Broken → self.new ≡ self.old }
+    {
+        if self.failed {
+            return Err(SaveNo::Broken);
+        }
+        let Some(dev) = &mut self.dev else {
+            return Ok(());
+        };
+        let versions = copy_of(self.alloc, &self.versions)?;
+        let rows = copy_rows(self.alloc, self.sheet.rows()).map_err(|_| WantOfMemory)?;
+        let block = next_block(self.alloc, &self.sheet, &self.versions, &self.saved_rows, self.number)?;
+        make_place(&mut self.tape)?;
+        match put_block(self.alloc, dev, self.end, &block) {
+            Ok(end) => {
+                let moment = dev.clock();
+                self.tape.push_reserved(Turn::Save {
+                    number: block.number,
+                    moment,
+                });
+                self.number = block.number;
+                self.saved_versions = versions;
+                self.saved_rows = rows;
+                self.end = end;
+                Ok(())
+            }
+            Err(PutNo::WantOfMemory) => Err(SaveNo::WantOfMemory),
+            Err(PutNo::DeviceFault) => {
+                self.failed = true;
+                Err(SaveNo::DeviceFault)
+            }
+        }
+    }
+}
+
+// The same versions again.
+fn copy_of(alloc: Global, versions: &[u32]) -> Result<Vec<u32>, WantOfMemory>
+    ensures { IfOk result (λ v. v.items ≡ versions.now) }
+{
+    Vec::from_slice(alloc, versions).map_err(|_| WantOfMemory)
+}
+
+// The block of the next save of a sheet with these versions, where these rows and this number are those of the last one.
+fn next_block(
+    alloc: Global,
+    sheet: &Sheet,
+    versions: &[u32],
+    saved: &[Vec<CalcValue>],
+    number: u64,
+) -> Result<Block, WantOfMemory>
+    ensures number { IfOk result (λ b. b.number ≡ number + 1) }
+    ensures versions { IfOk result (λ b. b.versions.items ≡ versions.now) }
+    ensures windows { IfOk result (λ b. b.windows ≡ complete_windows sheet.now.grid sheet.now.copies) }
+    ensures rows { IfOk result (λ b. ListsChanges (length sheet.now.group.calcs) b.windows (lists_of saved.now) sheet.now.rows b.rows.items) }
+{
+    let Some(number) = number.checked_add(1) else {
+        return Err(WantOfMemory);
+    };
+    Ok(Block {
+        number,
+        versions: copy_of(alloc, versions)?,
+        windows: sheet.windows(),
+        rows: changes(alloc, sheet, saved)?,
+    })
+}
+
+// The same rows again.
+pub(crate) fn copy_rows(alloc: Global, rows: &[Vec<CalcValue>]) -> Result<Vec<Vec<CalcValue>>, AllocError>
+    ensures { IfOk result (λ copy. lists_of copy.items ≡ lists_of rows.now) }
+{
+    let mut copy = Vec::with_capacity(alloc, rows.len())?;
+    for row in rows {
+        copy.push_reserved(Vec::from_slice(alloc, row)?);
+    }
+    Ok(copy)
+}

@@ -1,0 +1,122 @@
+-- A group's device while it is opened.
+use Rattle.std.proofs.Common.{◌≡◌, ◌⊎◌, inl, inr, ℕ, zero, suc, ◌+◌, ◌<◌, All, List, [], ◌∷◌, length, replicate, Option, None, Some, Result, Ok, Err, IfOk, refl, sym, ap, ◌∙◌, subst, arith}
+use Rattle.std.proofs.lemmas.List.{length-replicate}
+use Rattle.std.proofs.lemmas.List.Elements.{All-head, All-tail}
+use Rattle.trend_num.specs.declared.value.CalcValue.{CalcValue}
+use Rattle.disk_model.specs.Traces.{Synced, Idle, Trace, noted, seen}
+use Rattle.disk_model.specs.Images.{MayLeave}
+use Rattle.disk_model.specs.Moments.{During}
+use Rattle.disk_model.specs.Calls.{IsNoted, Shows}
+use Rattle.disk_model.proofs.Images.{synced_now}
+use Rattle.disk_model.proofs.Moments.{goes_on, in_turn, started, weaker}
+use Rattle.group_layout.specs.declared.layout_reader.Found.{Found}
+use Rattle.group_layout.specs.declared.layout_reader.Found.TheVariants.{New, Other, Saved}
+use Rattle.group_layout.specs.declared.layout_reader.SavedGroup.{SavedGroup}
+use Rattle.group_layout.specs.Images.{ByBlocks, ByNothing, HasSaved, IsUnsaved, StandsFor, blocks_at}
+use Rattle.group_layout.specs.Readings.{IsEmpty, IsFound, IsLeftOrSame, IsReadOf, SavesNothing, StandsSame}
+use Rattle.group_layout.specs.Rows.{AreRowsOf, lists_of}
+
+-- no blocks give rows without values
+none_given : (calcs : ℕ) (rows : List (List CalcValue)) → length rows ≡ calcs → All (λ row. length row ≡ 0) rows → rows ≡ replicate calcs []
+none_given zero [] long wide = refl
+none_given (suc n) [] long wide = absurd (omega (arith, long))
+none_given zero (row ∷ rows) long wide = absurd (omega (arith, long))
+none_given (suc n) (row ∷ rows) long wide =
+    ap (λ r. r ∷ rows) (empty row (All-head (λ r. length r ≡ 0) row rows wide))
+    ∙ ap (λ l. [] ∷ l) (none_given n rows (omega (arith, long)) (All-tail (λ r. length r ≡ 0) row rows wide))
+  where
+    empty : (r : List CalcValue) → length r ≡ 0 → r ≡ []
+    empty [] none = refl
+    empty (v ∷ r) none = absurd (omega (arith, none))
+
+pub no_rows : (calcs : ℕ) (rows : List (List CalcValue)) → AreRowsOf calcs 0 [] rows → rows ≡ replicate calcs []
+no_rows calcs rows are = none_given calcs rows are.calcs_are are.windows_are
+
+-- a layout without blocks has no rows
+pub empty_saved : (text : List ℕ) (inputs calcs : ℕ) (c : List ℕ) (rows : List (List CalcValue)) → IsEmpty text c → AreRowsOf calcs 0 [] rows
+    → HasSaved text inputs calcs c [] rows
+empty_saved text inputs calcs c rows empty are = record {
+  of_text = empty.of_text;
+  blocks = record { blocks = tt; shut = empty.shut };
+  rows_are = are;
+}
+
+-- so many rows without values
+no_rows_are : (calcs : ℕ) → AreRowsOf calcs 0 [] (replicate calcs [])
+no_rows_are calcs = record {
+  calcs_are = length-replicate {A = List CalcValue} calcs [];
+  windows_are = none calcs;
+  values = λ calc k low within. absurd (omega (arith, within));
+}
+  where
+    none : (n : ℕ) → All (λ row. length row ≡ 0) (replicate {A = List CalcValue} n [])
+    none zero k d low = absurd (omega (arith, low))
+    none (suc n) zero d low = refl
+    none (suc n) (suc k) d low = none n k d (omega (arith, low))
+
+-- what saves nothing stands for version 0
+stands_none : (text : List ℕ) (inputs calcs : ℕ) (c : List ℕ) → SavesNothing text c → StandsFor text inputs calcs c (replicate inputs 0) (replicate calcs [])
+stands_none text inputs calcs c (inl is) = ByNothing is refl refl
+stands_none text inputs calcs c (inr empty) = ByBlocks [] (empty_saved text inputs calcs c (replicate calcs []) empty (no_rows_are calcs)) refl
+
+pub saves_same : (text : List ℕ) (inputs calcs : ℕ) (s c : List ℕ) → IsUnsaved text s → SavesNothing text c
+    → StandsSame text inputs calcs s c
+saves_same text inputs calcs s c is nothing = record {
+  versions = replicate inputs 0;
+  rows = replicate calcs [];
+  stood = ByNothing is refl refl;
+  stands = stands_none text inputs calcs c nothing;
+}
+
+-- a sync leaves what might have been left before
+pub left_synced : {E : Type 0} (text : List ℕ) (inputs calcs : ℕ) (r : Result (Unit {0}) E) (o mid : Option Trace) → IsNoted Synced Idle r o mid
+    → During o mid (IsLeftOrSame text inputs calcs o)
+left_synced text inputs calcs r o mid noted =
+    goes_on Synced Idle r o o mid (IsLeftOrSame text inputs calcs o)
+    (started o (IsLeftOrSame text inputs calcs o) (record { each = λ c may. inl may })) noted
+    (record { each = λ c may. inl (synced_now r o mid c noted may) })
+
+-- a synced device shows what it showed
+pub shown_before : (o mid : Option Trace) (P : List ℕ → Type 0) → mid ≡ noted Synced o → Shows mid P → Shows o P
+shown_before None mid P synced is = tt
+shown_before (Some t) mid P synced is = subst (λ x. Shows x P) synced is
+
+-- what is begun behind a sync stands for what stood before
+pub left_begun : (text : List ℕ) (inputs calcs : ℕ) (o mid new : Option Trace) → mid ≡ noted Synced o → Shows mid (IsUnsaved text)
+    → During o mid (IsLeftOrSame text inputs calcs o) → During mid new (SavesNothing text)
+    → During o new (IsLeftOrSame text inputs calcs o)
+left_begun text inputs calcs o mid new synced is before begun =
+    in_turn o mid new (IsLeftOrSame text inputs calcs o) before
+    (weaker mid new (SavesNothing text) (IsLeftOrSame text inputs calcs o)
+    (λ c nothing. inr (saves_same text inputs calcs (seen o) c (unsaved_seen o mid synced is) nothing)) begun)
+  where
+    unsaved_seen : (x y : Option Trace) → y ≡ noted Synced x → Shows y (IsUnsaved text) → IsUnsaved text (seen x)
+    unsaved_seen None y synced is = inl (inl (omega arith))
+    unsaved_seen (Some t) y synced is = subst (λ x. Shows x (IsUnsaved text)) synced is
+
+-- the same images until a later device that is the same
+pub during_same : (o mid new : Option Trace) (P : List ℕ → Type 0) → new ≡ mid → During o mid P → During o new P
+during_same o mid new P same during = subst (λ x. During o x P) (sym same) during
+
+-- what was read of blocks is what they stand for
+pub read_stands : (text : List ℕ) (inputs calcs : ℕ) (o : Option Trace) (f : Found) (g : SavedGroup) → f ≡ Saved g
+    → Shows o (IsFound text inputs calcs f) → Shows o (λ c. StandsFor text inputs calcs c g.versions.items (lists_of g.rows.items))
+read_stands text inputs calcs None f g is found = tt
+read_stands text inputs calcs (Some t) f g is found =
+    let read : IsReadOf text inputs calcs (seen (Some t)) g = subst (λ x. IsFound text inputs calcs x (seen (Some t))) is found in
+    ByBlocks read.blocks read.has read.versions
+
+-- where no blocks were found nothing is saved
+pub found_unsaved : (text : List ℕ) (inputs calcs : ℕ) (o : Option Trace) (f : Found) → (f ≡ New) ⊎ (f ≡ Other)
+    → Shows o (IsFound text inputs calcs f) → Shows o (IsUnsaved text)
+found_unsaved text inputs calcs None f is found = tt
+found_unsaved text inputs calcs (Some t) f (inl is) found = inl (subst (λ x. IsFound text inputs calcs x (seen (Some t))) is found)
+found_unsaved text inputs calcs (Some t) f (inr is) found = inr (subst (λ x. IsFound text inputs calcs x (seen (Some t))) is found)
+
+-- so it stands for version 0
+pub unsaved_stands : {E : Type 0} (text : List ℕ) (inputs calcs : ℕ) (o : Option Trace) (r : Result SavedGroup E) → Shows o (IsUnsaved text)
+    → IfOk r (λ g. g.versions.items ≡ replicate inputs 0) → IfOk r (λ g. lists_of g.rows.items ≡ replicate calcs [])
+    → IfOk r (λ g. Shows o (λ c. StandsFor text inputs calcs c g.versions.items (lists_of g.rows.items)))
+unsaved_stands text inputs calcs o (Err e) is versions rows = tt
+unsaved_stands text inputs calcs None (Ok g) is versions rows = tt
+unsaved_stands text inputs calcs (Some t) (Ok g) is versions rows = ByNothing is versions rows

@@ -1,0 +1,53 @@
+use Rattle.std.proofs.Common.{subst}
+use Rattle.std.proofs.lemmas.Result.{err_from_is_err_and}
+use Rattle.disk_model.specs.Moments.{During}
+use Rattle.group_layout.specs.Images.{IsGroupDamage, IsUnsaved, StandsFor}
+use Rattle.group_layout.specs.Readings.{IsLeftOrSame, SavesNothing}
+use Rattle.group_layout.specs.Rows.{lists_of}
+use Rattle.group_layout.proofs.FieldLaws.{told_through}
+use Rattle.group_layout.proofs.Openings.{during_same, found_unsaved, left_begun, left_synced, read_stands, shown_before, unsaved_stands}
+use Rattle.group_layout.proofs.opening.open_group.Goals as goal
+
+pub returns-in_default-clause-any_moment : goal.returns-in_default-clause-any_moment
+returns-in_default-clause-any_moment g c =
+    left_synced c.args.text.now c.args.inputs c.args.calcs c.sync.result _ _ c.sync.ensures.noted
+
+pub returns-in_err-saved-clause-any_moment : goal.returns-in_err-saved-clause-any_moment
+returns-in_err-saved-clause-any_moment g c =
+    during_same _ _ _ (IsLeftOrSame c.args.text.now c.args.inputs c.args.calcs (g.D.Disk.trace c.args.dev.now)) c.read_group.ensures.same
+    (left_synced c.args.text.now c.args.inputs c.args.calcs c.sync.result _ _ c.sync.ensures.noted)
+
+pub returns-in_err-saved-clause-damaged : goal.returns-in_err-saved-clause-damaged
+returns-in_err-saved-clause-damaged g c = λ a byte told.
+    let out = err_from_is_err_and c.from_residual.result c.from_residual.ensures.1 in
+    shown_before _ _ (λ x. IsGroupDamage c.args.text.now c.args.inputs c.args.calcs x a byte) c.in-Ok.ensures.noted
+    (c.in_err-saved.ensures.damaged a byte (told_through c.from_residual.result out.0 _ a byte out.1 out.2 told))
+
+pub returns-in-Saved-clause-stood : goal.returns-in-Saved-clause-stood
+returns-in-Saved-clause-stood g c =
+    let x = c.args in
+    let saved = c.in-Saved.saved in
+    shown_before _ _ (λ l. StandsFor x.text.now x.inputs x.calcs l saved.versions.items (lists_of saved.rows.items)) c.in-Ok.ensures.noted
+    (read_stands x.text.now x.inputs x.calcs _ c.in_ok-saved.field-0 saved c.in-Saved.is c.in_ok-saved.ensures.found)
+
+pub returns-in-Saved-clause-any_moment : goal.returns-in-Saved-clause-any_moment
+returns-in-Saved-clause-any_moment g c =
+    during_same _ _ _ (IsLeftOrSame c.args.text.now c.args.inputs c.args.calcs (g.D.Disk.trace c.args.dev.now)) c.read_group.ensures.same
+    (left_synced c.args.text.now c.args.inputs c.args.calcs c.sync.result _ _ c.sync.ensures.noted)
+
+pub returns-clause-stood : goal.returns-clause-stood
+returns-clause-stood g c =
+    let x = c.args in
+    unsaved_stands x.text.now x.inputs x.calcs _ c.begin.result
+    (shown_before _ _ (IsUnsaved x.text.now) c.in-Ok.ensures.noted
+    (found_unsaved x.text.now x.inputs x.calcs _ c.in_ok-saved.field-0 c.in-New.is c.in_ok-saved.ensures.found))
+    c.begin.ensures.versions c.begin.ensures.rows
+
+pub returns-clause-any_moment : goal.returns-clause-any_moment
+returns-clause-any_moment g c =
+    let x = c.args in
+    let mid = g.D.Disk.trace c.sync.new.self in
+    left_begun x.text.now x.inputs x.calcs _ mid _ c.in-Ok.ensures.noted
+    (found_unsaved x.text.now x.inputs x.calcs mid c.in_ok-saved.field-0 c.in-New.is c.in_ok-saved.ensures.found)
+    (left_synced x.text.now x.inputs x.calcs c.sync.result _ _ c.sync.ensures.noted)
+    (subst (λ o. During o (g.D.Disk.trace c.begin.new.dev) (SavesNothing x.text.now)) c.read_group.ensures.same c.begin.ensures.any_moment)

@@ -1,0 +1,82 @@
+// A group's device is opened.
+ghost use Rattle.std.specs.Prelude.{◌≡◌, ℕ, ◌≤◌, [], Option, IfOk, IsErrOf, OnOk, length, replicate};
+ghost use Rattle.disk_model.specs.Images.{IsSettled, Now};
+ghost use Rattle.disk_model.specs.Moments.{During};
+ghost use Rattle.disk_model.specs.Calls.{CountsFault, Shows};
+ghost use Rattle.disk_model.specs.Gates.{IsShut};
+ghost use Rattle.archive_file.specs.declared.failure.ScanNo.TheVariants.{Damaged, DeviceFault};
+ghost use Rattle.group_layout.specs.Images.{IsGroupDamage, IsUnsaved, StandsFor};
+ghost use Rattle.group_layout.specs.Readings.{IsLeftOrSame, IsReadOf, SavesNothing};
+ghost use Rattle.group_layout.specs.Rows.{lists_of};
+
+use crate::block::Blocks;
+use crate::layout_reader::{Found, SavedGroup, gather, read_group};
+use crate::making::make_group;
+use archive_file::{PutNo, ScanNo};
+use disk_model::Disk;
+use std::alloc::Global;
+
+/// Opens the device of a group with this definition text, and so many inputs and calculations: syncs it, reads it, and begins
+/// it anew where it has no finished layout or that of another text. A crash at any moment leaves what it might have left
+/// before, or what stands for the same versions and rows. It names the first byte of the first field that breaks the layout;
+/// such a device is only synced.
+pub fn open_group<D: Disk>(
+    alloc: Global,
+    dev: &mut D,
+    text: &[u8],
+    inputs: u32,
+    calcs: u32,
+) -> Result<SavedGroup, ScanNo>
+    ensures stood { IfOk result (λ g. Shows (D.trace dev.old)
+        (λ c. StandsFor text.now inputs calcs c g.versions.items (lists_of g.rows.items))) }
+    ensures holds { IfOk result (λ g. Shows (D.trace dev.new) (λ c. IsReadOf text.now inputs calcs c g)) }
+    ensures ready { IfOk result (λ g. Now (D.trace dev.new) (IsShut g.end)) }
+    ensures settled { OnOk result (IsSettled (D.trace dev.new)) }
+    ensures any_moment { During (D.trace dev.old) (D.trace dev.new) (IsLeftOrSame text.now inputs calcs (D.trace dev.old)) }
+    ensures damaged { (a : ℕ) (byte : Option ℕ) → IsErrOf result (Damaged a byte)
+        → Shows (D.trace dev.old) (λ c. IsGroupDamage text.now inputs calcs c a byte) }
+    ensures cause { CountsFault result DeviceFault (D.fault_count dev.old) (D.fault_count dev.new) }
+    ensures later { D.ticks dev.old ≤ D.ticks dev.new }
+{
+    let Ok(()) = dev.sync() else {
+        return Err(ScanNo::DeviceFault);
+    };
+    match read_group(alloc, dev, text, inputs, calcs)? {
+        Found::Saved(saved) => return Ok(saved),
+        Found::New | Found::Other => {}
+    }
+    begin(alloc, dev, text, inputs, calcs)
+}
+
+// Begins a device anew, which has nothing saved for this text.
+fn begin<D: Disk>(
+    alloc: Global,
+    dev: &mut D,
+    text: &[u8],
+    inputs: u32,
+    calcs: u32,
+) -> Result<SavedGroup, ScanNo>
+    requires unsaved { Shows (D.trace dev.old) (IsUnsaved text.now) }
+    requires settled { IsSettled (D.trace dev.old) }
+    ensures versions { IfOk result (λ g. g.versions.items ≡ replicate inputs 0) }
+    ensures rows { IfOk result (λ g. lists_of g.rows.items ≡ replicate calcs []) }
+    ensures holds { IfOk result (λ g. Shows (D.trace dev.new) (λ c. IsReadOf text.now inputs calcs c g)) }
+    ensures ready { IfOk result (λ g. Now (D.trace dev.new) (IsShut g.end)) }
+    ensures settled { OnOk result (IsSettled (D.trace dev.new)) }
+    ensures any_moment { During (D.trace dev.old) (D.trace dev.new) (SavesNothing text.now) }
+    ensures undamaged { (a : ℕ) (byte : Option ℕ) → IsErrOf result (Damaged a byte) → ⊥ }
+    ensures cause { CountsFault result DeviceFault (D.fault_count dev.old) (D.fault_count dev.new) }
+    ensures later { D.ticks dev.old ≤ D.ticks dev.new }
+{
+    let at = 9 + text.len();
+    let none = Blocks {
+        list: Vec::new(alloc),
+        end: at as u64,
+    };
+    let saved = gather(alloc, &none, at, inputs, calcs)?;
+    match make_group(alloc, dev, text) {
+        Ok(()) => Ok(saved),
+        Err(PutNo::DeviceFault) => Err(ScanNo::DeviceFault),
+        Err(PutNo::WantOfMemory) => Err(ScanNo::WantOfMemory),
+    }
+}
