@@ -9,7 +9,7 @@ use Rattle.trend_num.specs.declared.value.CalcValue.{CalcValue}
 use Rattle.disk_model.specs.Calls.{Rose, Sees}
 use Rattle.disk_model.specs.Gates.{IsGuarded, IsOpen, IsShut, open_byte}
 use Rattle.disk_model.specs.Images.{FromOld, IsSettled, MayLeave, Now}
-use Rattle.disk_model.specs.Moments.{During, LeftSince}
+use Rattle.disk_model.specs.Moments.{ComesAfter, During, LeftSince}
 use Rattle.disk_model.specs.Traces.{Trace, seen, written}
 use Rattle.disk_model.proofs.Bytes.{length-written}
 use Rattle.disk_model.proofs.Images.{present}
@@ -98,7 +98,7 @@ scratch_range g grid copies rows scratch = record {
     go calc k v false is = absurd (cc (is))
 
 -- copies are what they are cut to, and the rest
-rest_of : List ℕ → List (List Rec) → List (List Rec)
+abbrev rest_of : List ℕ → List (List Rec) → List (List Rec)
 rest_of [] rss = []
 rest_of (v ∷ vs) [] = []
 rest_of (v ∷ vs) (rs ∷ rss) = drop v rs ∷ rest_of vs rss
@@ -141,7 +141,7 @@ module _ (text : List ℕ) (def : GroupDefParts) (o : GroupOpening) (tape : List
     (legal : IsLegal def.calcs (grid_of def.start def.period) o tape versions copies rows)
     (kept : IsKept text def o tape copies saved false old ticks faults)
     (b : Parts) (is : IsNextBlock saved (length def.calcs.calcs) versions (complete_windows (grid_of def.start def.period) copies) rows b) where
-  IsFine : Type 0
+  abbrev IsFine : Type 0
   IsFine = IsRight def.calcs (grid_of def.start def.period) o copies
 
   many : length saved.versions ≡ length copies
@@ -187,7 +187,7 @@ module _ (text : List ℕ) (def : GroupDefParts) (o : GroupOpening) (tape : List
       added calc k (IsOther other listed) = inr listed
 
   -- what is saved then
-  pub next_saved : Saved
+  abbrev pub next_saved : Saved
   next_saved = record { number = b.number; versions = versions; rows = rows; end = saved.end + block_size b }
 
   -- behind its open gate it is saved
@@ -208,7 +208,7 @@ module _ (text : List ℕ) (def : GroupDefParts) (o : GroupOpening) (tape : List
   stands_for s c h = subst (λ n. StandsFor text n (length def.calcs.calcs) c s.versions s.rows) (sym group.named)
       (ByBlocks h.blocks h.has (sym h.versions))
 
-  IsEither : List ℕ → Type 0
+  abbrev IsEither : List ℕ → Type 0
   IsEither c = Holds text def saved c ⊎ Holds text def next_saved c
 
   -- while it is written an image has the old blocks, or it too
@@ -285,7 +285,7 @@ module _ (text : List ℕ) (def : GroupDefParts) (o : GroupOpening) (tape : List
       (sees : Sees new (written (written (seen old) (saved.end + 1) (block_image b ++ 0 ∷ [])) saved.end (open_byte ∷ [])))
       (settled : IsSettled new) (ready : Now new (IsShut (saved.end + block_size b)))
       (told : IfSome new (λ t. length t.calls ≡ ticks')) where
-    turn : Turn
+    abbrev pub turn : Turn
     turn = Save b.number ticks'
 
     pub legal_saved : IsLegal def.calcs (grid_of def.start def.period) o (tape ++ turn ∷ []) versions copies rows
@@ -308,7 +308,7 @@ module _ (text : List ℕ) (def : GroupDefParts) (o : GroupOpening) (tape : List
         holds_next right from.0 c (holds_now text def saved old (kept.shut refl) (kept.holds refl right) from.0 from.1) from.2
         (opened old new (kept.shut refl) during.later sees settled c may)
       where
-        opened : (x y : Option Trace) → IfSome x (IsReady saved.end) → _ → Sees y (written (written (seen x) (saved.end + 1)
+        opened : (x y : Option Trace) → IfSome x (IsReady saved.end) → ComesAfter x y → Sees y (written (written (seen x) (saved.end + 1)
             (block_image b ++ 0 ∷ [])) saved.end (open_byte ∷ [])) → IsSettled y → (c : List ℕ) → MayLeave y c → IsOpen saved.end c
         opened x None shut after sees settled c may = absurd may.image
         opened None (Some u) shut after sees settled c may = absurd after

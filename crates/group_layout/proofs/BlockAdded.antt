@@ -1,5 +1,5 @@
 -- A block behind others: what an image has while it is added.
-use Rattle.std.proofs.Common.{◌≡◌, ◌≢◌, inl, inr, ℕ, ◌+◌, ◌<◌, ◌≤◌, true, All, List, [], ◌∷◌, ◌++◌, length, get_or, take, drop, nat_eq, Option, None, Some, refl, sym, ap, ◌∙◌, subst, arith, lit<, length-append, length-take, length-drop}
+use Rattle.std.proofs.Common.{◌≡◌, ◌≢◌, inl, ℕ, ◌+◌, ◌<◌, ◌≤◌, true, All, List, [], ◌∷◌, ◌++◌, length, get_or, take, drop, nat_eq, Option, None, Some, refl, sym, ap, ◌∙◌, subst, arith, lit<, length-append, length-take, length-drop}
 use Rattle.std.specs.Int.{w32, from_be_bytes}
 use Rattle.std.proofs.lemmas.Grind.{same_number_lists}
 use Rattle.std.proofs.lemmas.List.{get_or-take, get_or-drop}
@@ -133,7 +133,7 @@ next_shut b at d c guarded opened = record {
         ∙ holds_byte c (at + 1 + length (block_image b)) (0 ∷ []) 0 (holds_right c (at + 1) (block_image b) (0 ∷ []) holds) (lit< tt)
 
 -- the last byte of what was written
-written_byte : (s : List ℕ) (at byte : ℕ) → at ≤ length s → get_or (written s at (byte ∷ [])) at 0 ≡ byte
+pub written_byte : (s : List ℕ) (at byte : ℕ) → at ≤ length s → get_or (written s at (byte ∷ [])) at 0 ≡ byte
 written_byte s at byte low =
     let place : at ≡ at + 0 = omega arith in
     ap (λ n. get_or (written s at (byte ∷ [])) n 0) place

@@ -1,10 +1,9 @@
 -- A group's device while it is opened.
-use Rattle.std.proofs.Common.{◌≡◌, ◌⊎◌, inl, inr, ℕ, zero, suc, ◌+◌, ◌<◌, All, List, [], ◌∷◌, length, replicate, Option, None, Some, Result, Ok, Err, IfOk, refl, sym, ap, ◌∙◌, subst, arith}
+use Rattle.std.proofs.Common.{◌≡◌, ◌⊎◌, inl, inr, ℕ, zero, suc, All, List, [], ◌∷◌, length, replicate, Option, None, Some, Result, Ok, Err, IfOk, refl, sym, ap, ◌∙◌, subst, arith}
 use Rattle.std.proofs.lemmas.List.{length-replicate}
 use Rattle.std.proofs.lemmas.List.Elements.{All-head, All-tail}
 use Rattle.trend_num.specs.declared.value.CalcValue.{CalcValue}
 use Rattle.disk_model.specs.Traces.{Synced, Idle, Trace, noted, seen}
-use Rattle.disk_model.specs.Images.{MayLeave}
 use Rattle.disk_model.specs.Moments.{During}
 use Rattle.disk_model.specs.Calls.{IsNoted, Shows}
 use Rattle.disk_model.proofs.Images.{synced_now}
@@ -12,7 +11,7 @@ use Rattle.disk_model.proofs.Moments.{goes_on, in_turn, started, weaker}
 use Rattle.group_layout.specs.declared.layout_reader.Found.{Found}
 use Rattle.group_layout.specs.declared.layout_reader.Found.TheVariants.{New, Other, Saved}
 use Rattle.group_layout.specs.declared.layout_reader.SavedGroup.{SavedGroup}
-use Rattle.group_layout.specs.Images.{ByBlocks, ByNothing, HasSaved, IsUnsaved, StandsFor, blocks_at}
+use Rattle.group_layout.specs.Images.{ByBlocks, ByNothing, HasSaved, IsUnsaved, StandsFor}
 use Rattle.group_layout.specs.Readings.{IsEmpty, IsFound, IsLeftOrSame, IsReadOf, SavesNothing, StandsSame}
 use Rattle.group_layout.specs.Rows.{AreRowsOf, lists_of}
 

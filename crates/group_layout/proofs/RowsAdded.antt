@@ -1,5 +1,5 @@
 -- The rows that blocks and one more give.
-use Rattle.std.proofs.Common.{◌≡◌, ◌⊎◌, inl, inr, ℕ, zero, suc, ◌+◌, ◌<◌, ◌≤◌, Bool, true, false, All, List, [], ◌∷◌, ◌++◌, length, get_or, slice_get, option_and_then, Option, None, Some, refl, sym, ap, ◌∙◌, subst, arith, if◌then◌else◌}
+use Rattle.std.proofs.Common.{◌≡◌, ◌⊎◌, inl, inr, ℕ, zero, suc, ◌<◌, ◌≤◌, Bool, true, false, All, List, [], ◌∷◌, ◌++◌, length, get_or, slice_get, option_and_then, Option, None, Some, refl, sym, ap, ◌∙◌, arith, if◌then◌else◌}
 use Rattle.std.proofs.lemmas.Bool.{cases_lt}
 use Rattle.std.proofs.lemmas.Grind.{flat_map-append}
 use Rattle.std.proofs.lemmas.List.{append-nil}
@@ -27,8 +27,8 @@ cell_there rows calc k n wide low within =
     let row = get_or rows calc [] in
     let long : length row ≡ n = wide calc [] low in
     elim (slice_get_cases row k).1 [
-      | inl there ↦ (there.0, ap (option_and_then (λ r. slice_get r k)) (slice_get-get_or rows calc [] low) ∙ there.2.0)
-      | inr past ↦ absurd (omega (arith, past.0, long, within))
+      | inl there ↦ (there.0, ap (option_and_then (λ r. slice_get r k)) (slice_get-get_or rows calc [] low) ∙ there.2)
+      | inr past ↦ absurd (omega (arith, past, long, within))
     ]
 
 -- ---- what rows list
@@ -36,33 +36,36 @@ cell_there rows calc k n wide low within =
 -- a value that is listed, or was there before, stays listed
 listed_kept : (x : CalcValue) (rows : List BlockRow) (calc k : ℕ) → listed_from (Some x) rows calc k ≡ None → ⊥
 listed_kept x [] calc k is = absurd (cc (is))
-listed_kept x (r ∷ rows) calc k is = go (is_at calc k r) is
+listed_kept x (r ∷ rows) calc k is = go (is_at calc k r) (λ y e. listed_kept y rows calc k e) is
   where
-    go : (b : Bool) → listed_from (if b then Some (value_of r) else Some x) rows calc k ≡ None → ⊥
-    go true e = listed_kept (value_of r) rows calc k e
-    go false e = listed_kept x rows calc k e
+    go : (b : Bool) → ((y : CalcValue) → listed_from (Some y) rows calc k ≡ None → ⊥)
+        → listed_from (if b then Some (value_of r) else Some x) rows calc k ≡ None → ⊥
+    go true rest e = rest (value_of r) e
+    go false rest e = rest x e
 
 -- rows that list a value list it whatever was before
 listed_some : (w : Option CalcValue) (rows : List BlockRow) (calc k : ℕ) (v : CalcValue) → listed_from None rows calc k ≡ Some v
     → listed_from w rows calc k ≡ Some v
 listed_some w [] calc k v is = absurd (cc (is))
-listed_some w (r ∷ rows) calc k v is = go (is_at calc k r) is
+listed_some w (r ∷ rows) calc k v is = go (is_at calc k r) (λ e. listed_some w rows calc k v e) is
   where
-    go : (b : Bool) → listed_from (if b then Some (value_of r) else None) rows calc k ≡ Some v
+    go : (b : Bool) → (listed_from None rows calc k ≡ Some v → listed_from w rows calc k ≡ Some v)
+        → listed_from (if b then Some (value_of r) else None) rows calc k ≡ Some v
         → listed_from (if b then Some (value_of r) else w) rows calc k ≡ Some v
-    go true e = e
-    go false e = listed_some w rows calc k v e
+    go true rest e = e
+    go false rest e = rest e
 
 -- rows that list none leave what was before
 listed_none : (w : Option CalcValue) (rows : List BlockRow) (calc k : ℕ) → listed_from None rows calc k ≡ None
     → listed_from w rows calc k ≡ w
 listed_none w [] calc k is = refl
-listed_none w (r ∷ rows) calc k is = go (is_at calc k r) is
+listed_none w (r ∷ rows) calc k is = go (is_at calc k r) (λ e. listed_none w rows calc k e) is
   where
-    go : (b : Bool) → listed_from (if b then Some (value_of r) else None) rows calc k ≡ None
+    go : (b : Bool) → (listed_from None rows calc k ≡ None → listed_from w rows calc k ≡ w)
+        → listed_from (if b then Some (value_of r) else None) rows calc k ≡ None
         → listed_from (if b then Some (value_of r) else w) rows calc k ≡ w
-    go true e = absurd (listed_kept (value_of r) rows calc k e)
-    go false e = listed_none w rows calc k e
+    go true rest e = absurd (listed_kept (value_of r) rows calc k e)
+    go false rest e = rest e
 
 -- one block more
 saved-push : (bs : List Parts) (b : Parts) (calc k : ℕ) → saved_value (bs ++ b ∷ []) calc k ≡ listed_from (saved_value bs calc k) b.rows calc k

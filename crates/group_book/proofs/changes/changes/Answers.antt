@@ -10,7 +10,7 @@ loop-calc-init c =
     let old = lists_of c.args.saved.now in
     let new = c.args.sheet.now.rows in
     let calcs = length c.args.sheet.now.group.calcs in
-    subst (ListedUpTo old new calcs c.args.windows 0 0) (sym c.new-rows.ensures.items) (list_none old new calcs c.args.windows)
+    subst (ListedUpTo old new calcs c.windows-windows.result 0 0) (sym c.new-rows.ensures.items) (list_none old new calcs c.windows-windows.result)
 
 pub returns : goal.returns
 returns c =
@@ -18,7 +18,7 @@ returns c =
     let new = c.args.sheet.now.rows in
     let calcs = length c.args.sheet.now.group.calcs in
     let windows = complete_windows c.args.sheet.now.grid c.args.sheet.now.copies in
-    let place : c.loop-calc.calc ≡ calcs = omega (arith, c.loop-calc-test.false, c.loop-calc.auto.calc-end, c.rows-rows.ensures.calcs) in
+    let place : c.loop-calc.calc ≡ calcs = omega (arith, c.loop-calc-test.false, c.loop-calc.auto.calc-end, c.rows.ensures.calcs) in
     list_all_cells old new calcs windows c.loop-calc.rows.items
     (subst (λ (n : ℕ). ListedUpTo old new calcs windows n 0 c.loop-calc.rows.items) place
     (subst (λ (n : ℕ). ListedUpTo old new calcs n c.loop-calc.calc 0 c.loop-calc.rows.items) c.windows-windows.ensures
