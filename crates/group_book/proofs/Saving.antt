@@ -368,3 +368,17 @@ module _ (text : List ℕ) (def : GroupDefParts) (o : GroupOpening) (tape : List
               (sym (ap (λ v. cut v copies) legal.copied ∙ cut-all copies)) (legal.scratch right);
         }
         by_moment right t c since left false e = (safe_writing safe new during).images right t c since left
+
+    -- all that a book keeps
+    pub book_saved : (tape' : List Turn) (next : Saved) (failed : Bool) (faults' : ℕ) → tape' ≡ tape ++ turn ∷ [] → next ≡ next_saved
+        → failed ≡ false → faults' ≡ faults → IsSafe text def.calcs (grid_of def.start def.period) o copies tape (LeftSince old)
+        → IsLegal def.calcs (grid_of def.start def.period) o tape' versions copies rows
+        × IsKept text def o tape' copies next failed new ticks' faults'
+        × IsSafe text def.calcs (grid_of def.start def.period) o copies tape' (LeftSince new)
+    book_saved tape' next failed faults' longer is_next usable same safe = (
+      subst (λ l. IsLegal def.calcs (grid_of def.start def.period) o l versions copies rows) (sym longer) legal_saved,
+      subst (λ l. IsKept text def o l copies next failed new ticks' faults') (sym longer)
+          (subst (λ x. IsKept text def o (tape ++ turn ∷ []) copies x failed new ticks' faults') (sym is_next)
+          (subst (λ f. IsKept text def o (tape ++ turn ∷ []) copies next_saved f new ticks' faults') (sym usable) (kept_saved faults' same))),
+      subst (λ l. IsSafe text def.calcs (grid_of def.start def.period) o copies l (LeftSince new)) (sym longer) (safe_saved safe),
+    )

@@ -17,7 +17,7 @@ use archive_file::PutNo;
 use calc_refresh::{CalcValue, Sheet};
 use disk_model::Disk;
 use group_layout::{Block, put_block};
-use std::alloc::{AllocError, Global};
+use std::alloc::Global;
 use trend_num::WantOfMemory;
 
 impl From<WantOfMemory> for SaveNo {
@@ -52,7 +52,7 @@ impl<D: Disk> Book<D> {
             return Ok(());
         };
         let versions = copy_of(self.alloc, &self.versions)?;
-        let rows = copy_rows(self.alloc, self.sheet.rows()).map_err(|_| WantOfMemory)?;
+        let rows = copy_rows(self.alloc, self.sheet.rows())?;
         let block = next_block(self.alloc, &self.sheet, &self.versions, &self.saved_rows, self.number)?;
         make_place(&mut self.tape)?;
         match put_block(self.alloc, dev, self.end, &block) {
@@ -109,7 +109,10 @@ fn next_block(
 }
 
 // The same rows again.
-pub(crate) fn copy_rows(alloc: Global, rows: &[Vec<CalcValue>]) -> Result<Vec<Vec<CalcValue>>, AllocError>
+pub(crate) fn copy_rows(
+    alloc: Global,
+    rows: &[Vec<CalcValue>],
+) -> Result<Vec<Vec<CalcValue>>, WantOfMemory>
     ensures { IfOk result (λ copy. lists_of copy.items ≡ lists_of rows.now) }
 {
     let mut copy = Vec::with_capacity(alloc, rows.len())?;

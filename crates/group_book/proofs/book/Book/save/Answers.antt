@@ -1,2 +1,172 @@
-use Rattle.group_book.proofs.Saving.{kept_faulted, kept_saved, legal_saved, safe_saved, safe_writing}
+use Rattle.std.proofs.Common.{◌≡◌, ℕ, ◌+◌, ◌++◌, ◌∷◌, [], Bool, List, false, true, Some, Err, length, refl, sym, ap, ◌∙◌, subst, arith}
+use Rattle.trend_num.specs.declared.value.CalcValue.{CalcValue}
+use Rattle.disk_model.specs.Gates.{IsShut}
+use Rattle.disk_model.specs.Images.{Now}
+use Rattle.disk_model.specs.Moments.{LeftSince}
+use Rattle.calc_check.specs.Group.{Group}
+use Rattle.calc_refresh.specs.Lists.{lists_of}
+use Rattle.calc_refresh.specs.Sheet.{grid_of}
+use Rattle.sheet_law.specs.declared.grid.Grid.{Grid}
+use Rattle.sheet_law.specs.Windows.{complete_windows}
+use Rattle.group_layout.specs.Blocks.{block_size, parts_of}
+use Rattle.group_book.specs.declared.turn.Turn.{Turn}
+use Rattle.group_book.specs.declared.turn.Turn.TheVariants.{Save}
+use Rattle.group_book.specs.Crashes.{IsSafe}
+use Rattle.group_book.specs.Histories.{IsLegal}
+use Rattle.group_book.specs.Saves.{IsSaved, ListsChanges}
+use Rattle.group_book.specs.Told.{IsKept, Saved, Told, count_of, trace_of}
+use Rattle.group_book.proofs.Saving.{IsNextBlock, book_saved, kept_faulted, next_saved, safe_writing}
 use Rattle.group_book.proofs.book.Book.save.Goals as goal
+
+pub invariant_of-self-in-Ok : goal.invariant_of-self-in-Ok
+invariant_of-self-in-Ok g c =
+    let s = c.self.inside in
+    let was = c.self.invariant in
+    let D = g.D.Disk in
+    let tape = s.tape.items in
+    let copies = s.sheet.copies in
+    let b = parts_of c.in_ok-block.block in
+    let grid = grid_of s.def.start s.def.period in
+    let saved : Saved = record { number = s.number; versions = s.saved_versions.items; rows = lists_of s.saved_rows.items; end = s.end } in
+    let kept : IsKept s.text.items s.def s.opening tape copies saved false (D.trace c.in-Some.dev) (D.ticks c.in-Some.dev) (D.fault_count c.in-Some.dev)
+    = subst (λ d. IsKept s.text.items s.def s.opening tape copies saved false (trace_of D.trace d) (count_of D.ticks d) (count_of D.fault_count d))
+    c.in-Some.is
+    (subst (λ (f : Bool). IsKept s.text.items s.def s.opening tape copies saved f (trace_of D.trace s.dev) (count_of D.ticks s.dev)
+    (count_of D.fault_count s.dev)) c.if-self.false was.2) in
+    let safe : IsSafe s.text.items s.def.calcs grid s.opening copies tape (LeftSince (D.trace c.in-Some.dev))
+    = subst (λ d. IsSafe s.text.items s.def.calcs grid s.opening copies tape (LeftSince (trace_of D.trace d))) c.in-Some.is was.3 in
+    let is : IsNextBlock saved (length s.def.calcs.calcs) s.versions.items (complete_windows grid copies) s.sheet.rows b = record {
+      number = c.in_ok-block.ensures.number;
+      versions_are = c.in_ok-block.ensures.versions ∙ c.deref-2.ensures.value;
+      windows_are = c.in_ok-block.ensures.windows ∙ ap (λ (w : Grid). complete_windows w copies) was.0.same_grid;
+      changes = subst (λ l. ListsChanges (length s.def.calcs.calcs) b.windows l s.sheet.rows b.rows) (ap lists_of c.deref-3.ensures.value)
+          (subst (λ (x : Group). ListsChanges (length x.calcs) b.windows (lists_of c.deref-3.result.now) s.sheet.rows b.rows) was.0.same_group
+          c.in_ok-block.ensures.rows);
+    } in
+    let moment : ℕ = D.ticks c.put_block.new.dev in
+    let longer : c.push_reserved.new.self.items ≡ tape ++ Save b.number moment ∷ []
+    = c.push_reserved.ensures.items
+    ∙ ap (λ l. l ++ Save b.number c.clock-moment.result ∷ []) c.make_place.ensures.same
+    ∙ ap (λ (m : ℕ). tape ++ Save b.number m ∷ []) c.clock-moment.ensures in
+    let next : Saved = record {
+      number = b.number;
+      versions = c.in_ok-versions.versions.items;
+      rows = lists_of c.in_ok-rows.rows.items;
+      end = c.in-Ok.end;
+    } in
+    let versions_are = c.in_ok-versions.ensures ∙ c.deref.ensures.value in
+    let rows_are = c.in_ok-rows.ensures ∙ c.rows.ensures.rows in
+    let end_is : c.in-Ok.end ≡ s.end + block_size b = c.in-Ok.ensures.next in
+    let kept' = book_saved s.text.items s.def s.opening tape s.versions.items copies s.sheet.rows saved (D.trace c.in-Some.dev)
+    (D.ticks c.in-Some.dev) (D.fault_count c.in-Some.dev) was.0.group was.0.grid was.0.copies was.1 kept b is (D.trace c.put_block.new.dev)
+    moment (omega (arith, c.in-Ok.ensures.clock)) c.put_block.ensures.any_moment c.in-Ok.ensures.reads c.in-Ok.ensures.settled
+    (subst (λ (n : ℕ). Now (D.trace c.put_block.new.dev) (IsShut n)) end_is c.in-Ok.ensures.ready) (g.met.D.Disk.told c.put_block.new.dev)
+    c.push_reserved.new.self.items next s.failed (D.fault_count c.put_block.new.dev) longer
+    (λ i. record { number = b.number; versions = versions_are i; rows = rows_are i; end = end_is i }) c.if-self.false
+    c.in-Ok.ensures.cause.passed safe in
+    (was.0, kept'.0, kept'.1, kept'.2)
+
+pub returns-in-Ok-clause-saved : goal.returns-in-Ok-clause-saved
+returns-in-Ok-clause-saved g c = λ d there.
+    let s = c.self.inside in
+    let D = g.D.Disk in
+    let b = parts_of c.in_ok-block.block in
+    let before = c.in-Some.dev in
+    let told : Told _ = record {
+      group = s.group;
+      def = s.def;
+      text = s.text.items;
+      tags = s.tags.items;
+      opening = s.opening;
+      tape = s.tape.items;
+      sheet = s.sheet;
+      dev = s.dev;
+      saved = record { number = s.number; versions = s.saved_versions.items; rows = lists_of s.saved_rows.items; end = s.end };
+      failed = s.failed;
+    } in
+    let same : Some before ≡ Some d = sym c.in-Some.is ∙ ap (λ (t : Told _). t.dev) c.self.view_is ∙ there in
+    let device : before ≡ d = cc (same) in
+    let longer : c.push_reserved.new.self.items ≡ s.tape.items ++ Save b.number (D.ticks c.put_block.new.dev) ∷ []
+    = c.push_reserved.ensures.items
+    ∙ ap (λ l. l ++ Save b.number c.clock-moment.result ∷ []) c.make_place.ensures.same
+    ∙ ap (λ (m : ℕ). s.tape.items ++ Save b.number m ∷ []) c.clock-moment.ensures in
+    let versions_are = c.in_ok-versions.ensures ∙ c.deref.ensures.value ∙ c.self.invariant.1.copied in
+    let rows_are = c.in_ok-rows.ensures ∙ c.rows.ensures.rows in
+    let end_is : c.in-Ok.end ≡ s.end + block_size b = c.in-Ok.ensures.next in
+    let saved : Told _ = record told {
+      tape = c.push_reserved.new.self.items;
+      dev = Some c.put_block.new.dev;
+      saved = record {
+        number = b.number;
+        versions = c.in_ok-versions.versions.items;
+        rows = lists_of c.in_ok-rows.rows.items;
+        end = c.in-Ok.end;
+      };
+    } in
+    subst (λ t. IsSaved D.trace D.ticks d t saved) c.self.view_is
+    (subst (λ x. IsSaved D.trace D.ticks x told saved) device (record {
+      after = c.put_block.new.dev;
+      block = b;
+      block_is = record {
+        number = c.in_ok-block.ensures.number;
+        versions = c.in_ok-block.ensures.versions ∙ c.deref-2.ensures.value ∙ c.self.invariant.1.copied;
+        windows = c.in_ok-block.ensures.windows;
+        rows = subst (λ l. ListsChanges (length s.sheet.group.calcs) b.windows l s.sheet.rows b.rows) (ap lists_of c.deref-3.ensures.value)
+            c.in_ok-block.ensures.rows;
+      };
+      later = omega (arith, c.in-Ok.ensures.clock);
+      wrote = c.in-Ok.ensures.reads;
+      changed = λ i. record {
+        group = s.group;
+        def = s.def;
+        text = s.text.items;
+        tags = s.tags.items;
+        opening = s.opening;
+        tape = longer i;
+        sheet = s.sheet;
+        dev = Some c.put_block.new.dev;
+        saved = record { number = b.number; versions = versions_are i; rows = rows_are i; end = end_is i };
+        failed = s.failed;
+      };
+    }))
+
+pub invariant_of-self-in-Err-DeviceFault : goal.invariant_of-self-in-Err-DeviceFault
+invariant_of-self-in-Err-DeviceFault g c =
+    let s = c.self.inside in
+    let was = c.self.invariant in
+    let D = g.D.Disk in
+    let tape = s.tape.items in
+    let copies = s.sheet.copies in
+    let b = parts_of c.in_ok-block.block in
+    let grid = grid_of s.def.start s.def.period in
+    let saved : Saved = record { number = s.number; versions = s.saved_versions.items; rows = lists_of s.saved_rows.items; end = s.end } in
+    let kept : IsKept s.text.items s.def s.opening tape copies saved false (D.trace c.in-Some.dev) (D.ticks c.in-Some.dev) (D.fault_count c.in-Some.dev)
+    = subst (λ d. IsKept s.text.items s.def s.opening tape copies saved false (trace_of D.trace d) (count_of D.ticks d) (count_of D.fault_count d))
+    c.in-Some.is
+    (subst (λ (f : Bool). IsKept s.text.items s.def s.opening tape copies saved f (trace_of D.trace s.dev) (count_of D.ticks s.dev)
+    (count_of D.fault_count s.dev)) c.if-self.false was.2) in
+    let safe : IsSafe s.text.items s.def.calcs grid s.opening copies tape (LeftSince (D.trace c.in-Some.dev))
+    = subst (λ d. IsSafe s.text.items s.def.calcs grid s.opening copies tape (LeftSince (trace_of D.trace d))) c.in-Some.is was.3 in
+    let is : IsNextBlock saved (length s.def.calcs.calcs) s.versions.items (complete_windows grid copies) s.sheet.rows b = record {
+      number = c.in_ok-block.ensures.number;
+      versions_are = c.in_ok-block.ensures.versions ∙ c.deref-2.ensures.value;
+      windows_are = c.in_ok-block.ensures.windows ∙ ap (λ (w : Grid). complete_windows w copies) was.0.same_grid;
+      changes = subst (λ l. ListsChanges (length s.def.calcs.calcs) b.windows l s.sheet.rows b.rows) (ap lists_of c.deref-3.ensures.value)
+          (subst (λ (x : Group). ListsChanges (length x.calcs) b.windows (lists_of c.deref-3.result.now) s.sheet.rows b.rows) was.0.same_group
+          c.in_ok-block.ensures.rows);
+    } in
+    let new = D.trace c.put_block.new.dev in
+    let ticks' : ℕ = D.ticks c.put_block.new.dev in
+    let faults' : ℕ = D.fault_count c.put_block.new.dev in
+    let same = c.make_place.ensures.same in (
+      was.0,
+      subst (λ l. IsLegal s.def.calcs grid s.opening l s.versions.items copies s.sheet.rows) (sym same) was.1,
+      subst (λ l. IsKept s.text.items s.def s.opening l copies saved true new ticks' faults') (sym same)
+          (kept_faulted s.text.items s.def s.opening tape s.versions.items copies s.sheet.rows saved (D.trace c.in-Some.dev)
+          (D.ticks c.in-Some.dev) (D.fault_count c.in-Some.dev) was.0.group was.0.grid was.0.copies was.1 kept b is new ticks' faults'
+          c.put_block.ensures.later (c.in-Err-DeviceFault.ensures.cause.failed (ap Err c.in-Err-DeviceFault.field-0-is))),
+      subst (λ l. IsSafe s.text.items s.def.calcs grid s.opening copies l (LeftSince new)) (sym same)
+          (safe_writing s.text.items s.def s.opening tape s.versions.items copies s.sheet.rows saved (D.trace c.in-Some.dev)
+          (D.ticks c.in-Some.dev) (D.fault_count c.in-Some.dev) was.0.group was.0.grid was.0.copies was.1 kept b is safe new
+          c.put_block.ensures.any_moment),
+    )
