@@ -6,3 +6,4 @@ pub mod LegalTurns
 pub mod Pulls
 pub mod Causes
 pub mod Saving
+pub mod Loaded

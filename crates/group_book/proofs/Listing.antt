@@ -141,7 +141,7 @@ module _ (old new : List (List CalcValue)) (calcs windows calc k : ℕ) (rows : 
     before = λ x y low before. elim (before_next x y calc k before) [
       | inl earlier ↦ so_far.before x y low earlier
       | inr here ↦ subst (λ a. IsListed old new rows a y) (sym here.0) (subst (IsListed old new rows calc) (sym here.1)
-        (IsSame same (so_far.behind calc k (before_self calc k))))
+          (IsSame same (so_far.behind calc k (before_self calc k))))
     ];
     behind = λ x y absent. so_far.behind x y (not_next x y calc k absent);
     each = so_far.each;
@@ -157,10 +157,10 @@ module _ (old new : List (List CalcValue)) (calcs windows calc k : ℕ) (rows : 
   list_added v calc_low k_low is changed = record {
     before = λ x y low before. elim (before_next x y calc k before) [
       | inl earlier ↦ listed_as old new rows (rows ++ row_of calc k v ∷ []) x y
-        (listed_other rows calc k x y v (other_before x y calc k earlier)) (so_far.before x y low earlier)
+          (listed_other rows calc k x y v (other_before x y calc k earlier)) (so_far.before x y low earlier)
       | inr here ↦ subst (λ a. IsListed old new (rows ++ row_of calc k v ∷ []) a y) (sym here.0)
-        (subst (IsListed old new (rows ++ row_of calc k v ∷ []) calc) (sym here.1)
-        (IsOther changed (listed_here rows calc k v ∙ sym is)))
+          (subst (IsListed old new (rows ++ row_of calc k v ∷ []) calc) (sym here.1)
+          (IsOther changed (listed_here rows calc k v ∙ sym is)))
     ];
     behind = λ x y absent. listed_other rows calc k x y v (other_behind x y calc k absent) ∙ so_far.behind x y (not_next x y calc k absent);
     each = λ in_range. All-push (IsRow calcs windows) rows (row_of calc k v) (so_far.each in_range)

@@ -130,7 +130,7 @@ abbrev pub IsWriting : Parts → ℕ → Option Trace → List ℕ → Type 0
 IsWriting b at old = FromOld old (IsGuarded (at + 1) (block_image b ++ 0 ∷ []) at)
 
 -- each image of a device that is ready has what is read
-holds_now : (text : List ℕ) (def : GroupDefParts) (saved : Saved) (o : Option Trace) → IfSome o (IsReady saved.end)
+pub holds_now : (text : List ℕ) (def : GroupDefParts) (saved : Saved) (o : Option Trace) → IfSome o (IsReady saved.end)
     → IfSome o (λ t. Holds text def saved (seen (Some t))) → (d : List ℕ) → MayLeave o d → Holds text def saved d
 holds_now text def saved None ready has d may = absurd may.image
 holds_now text def saved (Some t) ready has d may = subst (Holds text def saved) (sym (ready.settled.each d may)) has
@@ -171,8 +171,13 @@ module _ (text : List ℕ) (def : GroupDefParts) (o : GroupOpening) (tape : List
       some = omega (arith, before.calcs, group.some_calcs)
 
       more : (last_of (unsaved def.inputs) h.blocks).windows ≤ b.windows
-      more = omega (arith, is.windows_are, h.has.rows_are.windows_are 0 [] some, before.windows 0 [] some,
-          cut_windows (grid_of def.start def.period) saved.versions copies (omega (arith, grid.some)) many)
+      more = omega (
+        arith,
+        is.windows_are,
+        h.has.rows_are.windows_are 0 [] some,
+        before.windows 0 [] some,
+        cut_windows (grid_of def.start def.period) saved.versions copies (omega (arith, grid.some)) many,
+      )
 
   -- with it the blocks give the rows
   gives : IsFine → (d : List ℕ) → (h : Holds text def saved d) → AreRowsOf (length def.calcs.calcs) b.windows (h.blocks ++ b ∷ []) rows
@@ -218,12 +223,12 @@ module _ (text : List ℕ) (def : GroupDefParts) (o : GroupOpening) (tape : List
       elim (cases_eq (get_or c saved.end 0) open_byte) [
         | inl opened ↦ inr (holds_next right from.0 c h from.2 opened)
         | inr closed ↦ inl (record {
-            blocks = h.blocks;
-            has = block_closed text from.0 c def.inputs (length def.calcs.calcs) h.blocks saved.rows h.has b saved.end h.end from.2 closed;
-            number = h.number;
-            versions = h.versions;
-            end = h.end;
-          })
+          blocks = h.blocks;
+          has = block_closed text from.0 c def.inputs (length def.calcs.calcs) h.blocks saved.rows h.has b saved.end h.end from.2 closed;
+          number = h.number;
+          versions = h.versions;
+          end = h.end;
+        })
       ]
 
   -- ---- what a crash leaves
@@ -238,20 +243,20 @@ module _ (text : List ℕ) (def : GroupDefParts) (o : GroupOpening) (tape : List
         let since = versions_since t o.versions.items (o.versions.items ∷ []) tape in
         elim either [
           | inl was ↦ record {
-              versions = saved.versions;
-              rows = saved.rows;
-              among = subst (Contains since) (sym kept.versions) has.1;
-              stands = stands_for saved c was;
-              scratch = kept.scratch right;
-            }
+            versions = saved.versions;
+            rows = saved.rows;
+            among = subst (Contains since) (sym kept.versions) has.1;
+            stands = stands_for saved c was;
+            scratch = kept.scratch right;
+          }
           | inr now ↦ record {
-              versions = versions;
-              rows = rows;
-              among = subst (Contains since) (sym legal.last) has.0;
-              stands = stands_for next_saved c now;
-              scratch = subst (λ rss. IsScratch def.calcs (grid_of def.start def.period) rss rows)
-                  (sym (ap (λ v. cut v copies) legal.copied ∙ cut-all copies)) (legal.scratch right);
-            }
+            versions = versions;
+            rows = rows;
+            among = subst (Contains since) (sym legal.last) has.0;
+            stands = stands_for next_saved c now;
+            scratch = subst (λ rss. IsScratch def.calcs (grid_of def.start def.period) rss rows)
+                (sym (ap (λ v. cut v copies) legal.copied ∙ cut-all copies)) (legal.scratch right);
+          }
         ]
 
     pub safe_writing : IsSafe text def.calcs (grid_of def.start def.period) o copies tape (LeftSince new)
@@ -315,8 +320,12 @@ module _ (text : List ℕ) (def : GroupDefParts) (o : GroupOpening) (tape : List
         opened (Some t) (Some u) shut after sees settled c may =
             ap (λ l. get_or l saved.end 0) (settled.each c may ∙ sees)
             ∙ written_byte (written (seen (Some t)) (saved.end + 1) (block_image b ++ 0 ∷ [])) saved.end open_byte
-            (omega (arith, shut.shut.there, length-written (seen (Some t)) (saved.end + 1) (block_image b ++ 0 ∷ [])
-            (omega (arith, shut.shut.there))))
+            (omega (
+              arith,
+              shut.shut.there,
+              length-written (seen (Some t)) (saved.end + 1) (block_image b ++ 0 ∷ [])
+                  (omega (arith, shut.shut.there)),
+            ))
 
     pub kept_saved : (faults' : ℕ) → faults' ≡ faults
         → IsKept text def o (tape ++ turn ∷ []) copies next_saved false new ticks' faults'

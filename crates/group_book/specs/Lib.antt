@@ -4,3 +4,4 @@ pub mod Crashes
 pub mod Told
 pub mod Saves
 pub mod Refusals
+pub mod Openings

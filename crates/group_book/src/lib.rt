@@ -18,6 +18,7 @@ mod ask;
 mod book;
 mod changes;
 mod history;
+mod loading;
 mod making;
 mod publish;
 mod refresh;
@@ -27,6 +28,7 @@ mod turn;
 
 pub use book::Book;
 pub use history::{GroupHistory, GroupOpening};
+pub use loading::load;
 pub use making::new_book;
-pub use refusal::{RefreshNo, SaveNo};
+pub use refusal::{LoadFail, LoadNo, RefreshNo, SaveNo};
 pub use turn::Turn;

@@ -29,3 +29,35 @@ pub enum SaveNo {
     DeviceFault,
     WantOfMemory,
 }
+
+/// Why a group's device is not opened.
+#[derive(Clone, Copy, Debug, PartialEq, Eq)]
+pub enum LoadNo {
+    /// A call of the device failed.
+    DeviceFault,
+    /// The byte at `at`, the first of a field, breaks the layout; `None` where the device ends there.
+    Damaged {
+        at: u64,
+        byte: Option<u8>,
+    },
+    /// The saved version of an input, the first such one, is above the records that its tag recovered.
+    Ahead {
+        input: u32,
+        version: u32,
+        records: u32,
+    },
+    /// The first calculation whose saved row has not one value for each complete window: how many windows are complete, and how
+    /// many values it has.
+    Shape {
+        windows: u64,
+        rows: u64,
+    },
+    WantOfMemory,
+}
+
+/// A device that was not opened, and why.
+#[derive(Drop)]
+pub struct LoadFail<D> {
+    pub dev: D,
+    pub why: LoadNo,
+}

@@ -53,7 +53,13 @@ impl<D: Disk> Book<D> {
         };
         let versions = copy_of(self.alloc, &self.versions)?;
         let rows = copy_rows(self.alloc, self.sheet.rows())?;
-        let block = next_block(self.alloc, &self.sheet, &self.versions, &self.saved_rows, self.number)?;
+        let block = next_block(
+            self.alloc,
+            &self.sheet,
+            &self.versions,
+            &self.saved_rows,
+            self.number,
+        )?;
         make_place(&mut self.tape)?;
         match put_block(self.alloc, dev, self.end, &block) {
             Ok(end) => {
@@ -78,7 +84,7 @@ impl<D: Disk> Book<D> {
 }
 
 // The same versions again.
-fn copy_of(alloc: Global, versions: &[u32]) -> Result<Vec<u32>, WantOfMemory>
+pub(crate) fn copy_of(alloc: Global, versions: &[u32]) -> Result<Vec<u32>, WantOfMemory>
     ensures { IfOk result (λ v. v.items ≡ versions.now) }
 {
     Vec::from_slice(alloc, versions).map_err(|_| WantOfMemory)

@@ -1,6 +1,6 @@
 -- A group's device while it is opened.
-use Rattle.std.proofs.Common.{◌≡◌, ◌⊎◌, inl, inr, ℕ, zero, suc, All, List, [], ◌∷◌, length, replicate, Option, None, Some, Result, Ok, Err, IfOk, refl, sym, ap, ◌∙◌, subst, arith}
-use Rattle.std.proofs.lemmas.List.{length-replicate}
+use Rattle.std.proofs.Common.{◌≡◌, ◌⊎◌, inl, inr, ℕ, zero, suc, ◌+◌, All, List, [], ◌∷◌, length, map, replicate, Option, None, Some, Result, Ok, Err, IfOk, refl, sym, ap, ◌∙◌, subst, arith}
+use Rattle.std.proofs.lemmas.List.{length-map, length-replicate}
 use Rattle.std.proofs.lemmas.List.Elements.{All-head, All-tail}
 use Rattle.trend_num.specs.declared.value.CalcValue.{CalcValue}
 use Rattle.disk_model.specs.Traces.{Synced, Idle, Trace, noted, seen}
@@ -8,11 +8,13 @@ use Rattle.disk_model.specs.Moments.{During}
 use Rattle.disk_model.specs.Calls.{IsNoted, Shows}
 use Rattle.disk_model.proofs.Images.{synced_now}
 use Rattle.disk_model.proofs.Moments.{goes_on, in_turn, started, weaker}
+use Rattle.group_layout.specs.declared.block.Block.{Block}
 use Rattle.group_layout.specs.declared.layout_reader.Found.{Found}
 use Rattle.group_layout.specs.declared.layout_reader.Found.TheVariants.{New, Other, Saved}
 use Rattle.group_layout.specs.declared.layout_reader.SavedGroup.{SavedGroup}
-use Rattle.group_layout.specs.Images.{ByBlocks, ByNothing, HasSaved, IsUnsaved, StandsFor}
-use Rattle.group_layout.specs.Readings.{IsEmpty, IsFound, IsLeftOrSame, IsReadOf, SavesNothing, StandsSame}
+use Rattle.group_layout.specs.Blocks.{HasBlocks, Parts, block_size, last_of, parts_of, unsaved}
+use Rattle.group_layout.specs.Images.{ByBlocks, ByNothing, HasSaved, IsUnsaved, StandsFor, blocks_at}
+use Rattle.group_layout.specs.Readings.{HasShape, IsEmpty, IsFound, IsLeftOrSame, IsReadOf, IsShaped, SavesNothing, StandsSame}
 use Rattle.group_layout.specs.Rows.{AreRowsOf, lists_of}
 
 -- no blocks give rows without values
@@ -119,3 +121,39 @@ pub unsaved_stands : {E : Type 0} (text : List ℕ) (inputs calcs : ℕ) (o : Op
 unsaved_stands text inputs calcs o (Err e) is versions rows = tt
 unsaved_stands text inputs calcs None (Ok g) is versions rows = tt
 unsaved_stands text inputs calcs (Some t) (Ok g) is versions rows = ByNothing is versions rows
+
+-- ---- how long what was read is
+
+-- the last block has as many versions as there are inputs
+last_inputs : (c : List ℕ) (calcs : ℕ) (before : Parts) (at : ℕ) (bs : List Parts) → HasBlocks c calcs before at bs
+    → length (last_of before bs).versions ≡ length before.versions
+last_inputs c calcs before at [] has = refl
+last_inputs c calcs before at (b ∷ bs) has = last_inputs c calcs b (at + block_size b) bs has.1 ∙ has.0.follows.inputs
+
+read_shape : (text : List ℕ) (inputs calcs : ℕ) (c : List ℕ) (g : SavedGroup) → IsReadOf text inputs calcs c g → HasShape inputs calcs g
+read_shape text inputs calcs c g read = record {
+  versions_are = ap length read.versions
+      ∙ last_inputs c calcs (unsaved inputs) (blocks_at (length text)) read.blocks read.has.blocks.blocks ∙ length-replicate inputs 0;
+  calcs_are = sym (length-map g.rows.items (λ v. v.items)) ∙ read.has.rows_are.calcs_are;
+  windows_are = subst (λ n. All (λ row. length row ≡ n) (lists_of g.rows.items)) (sym read.windows) read.has.rows_are.windows_are;
+}
+
+pub found_shape : (text : List ℕ) (inputs calcs : ℕ) (c : List ℕ) (f : Found) → IsFound text inputs calcs f c → IsShaped inputs calcs f
+found_shape text inputs calcs c New found = tt
+found_shape text inputs calcs c Other found = tt
+found_shape text inputs calcs c (Saved g) found = read_shape text inputs calcs c g found
+
+pub found_shapes : {E : Type 0} (text : List ℕ) (inputs calcs : ℕ) (c : List ℕ) (r : Result Found E)
+    → IfOk r (λ f. IsFound text inputs calcs f c) → IfOk r (IsShaped inputs calcs)
+found_shapes text inputs calcs c (Err e) found = tt
+found_shapes text inputs calcs c (Ok f) found = found_shape text inputs calcs c f found
+
+-- where there are no blocks
+pub none_shape : (inputs calcs : ℕ) (bs : List Block) (g : SavedGroup) → bs ≡ []
+    → AreRowsOf calcs g.windows (map parts_of bs) (lists_of g.rows.items)
+    → g.versions.items ≡ (last_of (unsaved inputs) (map parts_of bs)).versions → HasShape inputs calcs g
+none_shape inputs calcs bs g none rows versions = record {
+  versions_are = ap length (versions ∙ ap (λ l. (last_of (unsaved inputs) (map parts_of l)).versions) none) ∙ length-replicate inputs 0;
+  calcs_are = sym (length-map g.rows.items (λ v. v.items)) ∙ rows.calcs_are;
+  windows_are = rows.windows_are;
+}

@@ -1,5 +1,5 @@
 -- What was found on a group's device, and what a device is begun with.
-use Rattle.std.specs.Prelude.{◌≡◌, ◌⊎◌, ℕ, List, Option, [], ◌∷◌, ◌++◌, length}
+use Rattle.std.specs.Prelude.{◌≡◌, ◌⊎◌, ℕ, ◌^◌, ◌<◌, All, List, Option, [], ◌∷◌, ◌++◌, length}
 use Rattle.trend_num.specs.declared.value.CalcValue.{CalcValue}
 use Rattle.disk_model.specs.Gates.{IsNew, IsShut}
 use Rattle.disk_model.specs.Images.{MayLeave}
@@ -26,6 +26,24 @@ abbrev pub IsFound : List ℕ → ℕ → ℕ → Found → List ℕ → Type 0
 IsFound text inputs calcs New c = IsNew c
 IsFound text inputs calcs Other c = IsOfOther text c
 IsFound text inputs calcs (Saved g) c = IsReadOf text inputs calcs c g
+
+-- so many versions, and the rows of so many calculations, each as long as there are windows
+pub record HasShape (inputs calcs : ℕ) (g : SavedGroup) : Type 0 where
+  pub versions_are : length g.versions.items ≡ inputs
+  pub calcs_are : length g.rows.items ≡ calcs
+  pub windows_are : All (λ row. length row ≡ g.windows) (lists_of g.rows.items)
+
+-- the same of what was found
+abbrev pub IsShaped : ℕ → ℕ → Found → Type 0
+IsShaped inputs calcs New = Unit {0}
+IsShaped inputs calcs Other = Unit {0}
+IsShaped inputs calcs (Saved g) = HasShape inputs calcs g
+
+-- and fewer than 2^32 windows
+abbrev pub HasFewWindows : Found → Type 0
+HasFewWindows New = Unit {0}
+HasFewWindows Other = Unit {0}
+HasFewWindows (Saved g) = g.windows < 2 ^ 32
 
 -- ---- a device that is begun
 

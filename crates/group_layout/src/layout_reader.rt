@@ -6,7 +6,7 @@ ghost use Rattle.group_layout.specs.Fields.{BreaksFirst, Keeps, short_at};
 ghost use Rattle.group_layout.specs.Blocks.{AreBlocks, AreDamaged, end_of, last_of, parts_of, unsaved};
 ghost use Rattle.group_layout.specs.Rows.{AreRowsOf, IsIncomplete, lists_of};
 ghost use Rattle.group_layout.specs.Images.{IsGroupDamage, head_fields, letter_field, text_in};
-ghost use Rattle.group_layout.specs.Readings.{IsFound};
+ghost use Rattle.group_layout.specs.Readings.{HasFewWindows, IsFound, IsShaped};
 
 use crate::block::Blocks;
 use crate::field::{Field, byte_at, check, short_at};
@@ -53,6 +53,8 @@ pub fn read_group<D: Disk>(
     calcs: u32,
 ) -> Result<Found, ScanNo>
     ensures found { IfOk result (λ f. Shows (D.trace dev.old) (IsFound text.now inputs calcs f)) }
+    ensures shape { IfOk result (IsShaped inputs calcs) }
+    ensures few { IfOk result HasFewWindows }
     ensures damaged { (a : ℕ) (byte : Option ℕ) → IsErrOf result (Damaged a byte)
         → Shows (D.trace dev.old) (λ c. IsGroupDamage text.now inputs calcs c a byte) }
     ensures cause { CountsFault result DeviceFault (D.fault_count dev.old) (D.fault_count dev.new) }
@@ -108,6 +110,7 @@ fn parse_group(
 ) -> Result<Found, ScanNo>
     requires { length c.now < 2 ^ 63 }
     ensures found { IfOk result (λ f. IsFound text.now inputs calcs f c.now) }
+    ensures few { IfOk result HasFewWindows }
     ensures damaged { (a : ℕ) (byte : Option ℕ) → IsErrOf result (Damaged a byte) → IsGroupDamage text.now inputs calcs c.now a byte }
     ensures no_fault { IsErrOf result DeviceFault → ⊥ }
 {
@@ -178,6 +181,7 @@ pub(crate) fn gather(
     ensures number { IfOk result (λ g. g.number ≡ (last_of (unsaved inputs) (map parts_of blocks.now.list.items)).number) }
     ensures versions { IfOk result (λ g. g.versions.items ≡ (last_of (unsaved inputs) (map parts_of blocks.now.list.items)).versions) }
     ensures windows { IfOk result (λ g. g.windows ≡ (last_of (unsaved inputs) (map parts_of blocks.now.list.items)).windows) }
+    ensures few { IfOk result (λ g. g.windows < 2 ^ 32) }
     ensures end { IfOk result (λ g. g.end ≡ blocks.now.end) }
     ensures damaged { (a : ℕ) (byte : Option ℕ) → IsErrOf result (Damaged a byte)
         → IsIncomplete calcs inputs at (map parts_of blocks.now.list.items) a byte }

@@ -1,12 +1,12 @@
 // A group's device is opened.
-ghost use Rattle.std.specs.Prelude.{◌≡◌, ℕ, ◌≤◌, [], Option, IfOk, IsErrOf, OnOk, length, replicate};
+ghost use Rattle.std.specs.Prelude.{◌≡◌, ℕ, ◌^◌, ◌<◌, ◌≤◌, [], Option, IfOk, IsErrOf, OnOk, length, replicate};
 ghost use Rattle.disk_model.specs.Images.{IsSettled, Now};
 ghost use Rattle.disk_model.specs.Moments.{During};
 ghost use Rattle.disk_model.specs.Calls.{CountsFault, Shows};
 ghost use Rattle.disk_model.specs.Gates.{IsShut};
 ghost use Rattle.archive_file.specs.declared.failure.ScanNo.TheVariants.{Damaged, DeviceFault};
 ghost use Rattle.group_layout.specs.Images.{IsGroupDamage, IsUnsaved, StandsFor};
-ghost use Rattle.group_layout.specs.Readings.{IsLeftOrSame, IsReadOf, SavesNothing};
+ghost use Rattle.group_layout.specs.Readings.{HasShape, IsLeftOrSame, IsReadOf, SavesNothing};
 ghost use Rattle.group_layout.specs.Rows.{lists_of};
 
 use crate::block::Blocks;
@@ -30,6 +30,8 @@ pub fn open_group<D: Disk>(
     ensures stood { IfOk result (λ g. Shows (D.trace dev.old)
         (λ c. StandsFor text.now inputs calcs c g.versions.items (lists_of g.rows.items))) }
     ensures holds { IfOk result (λ g. Shows (D.trace dev.new) (λ c. IsReadOf text.now inputs calcs c g)) }
+    ensures shape { IfOk result (HasShape inputs calcs) }
+    ensures few { IfOk result (λ g. g.windows < 2 ^ 32) }
     ensures ready { IfOk result (λ g. Now (D.trace dev.new) (IsShut g.end)) }
     ensures settled { OnOk result (IsSettled (D.trace dev.new)) }
     ensures any_moment { During (D.trace dev.old) (D.trace dev.new) (IsLeftOrSame text.now inputs calcs (D.trace dev.old)) }
@@ -61,6 +63,8 @@ fn begin<D: Disk>(
     ensures versions { IfOk result (λ g. g.versions.items ≡ replicate inputs 0) }
     ensures rows { IfOk result (λ g. lists_of g.rows.items ≡ replicate calcs []) }
     ensures holds { IfOk result (λ g. Shows (D.trace dev.new) (λ c. IsReadOf text.now inputs calcs c g)) }
+    ensures shape { IfOk result (HasShape inputs calcs) }
+    ensures few { IfOk result (λ g. g.windows < 2 ^ 32) }
     ensures ready { IfOk result (λ g. Now (D.trace dev.new) (IsShut g.end)) }
     ensures settled { OnOk result (IsSettled (D.trace dev.new)) }
     ensures any_moment { During (D.trace dev.old) (D.trace dev.new) (SavesNothing text.now) }

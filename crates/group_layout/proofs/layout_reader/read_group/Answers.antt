@@ -1,6 +1,7 @@
 use Rattle.std.proofs.Common.{subst}
 use Rattle.group_layout.specs.Images.{IsGroupDamage}
 use Rattle.group_layout.proofs.Heads.{shows_at}
+use Rattle.group_layout.proofs.Openings.{found_shapes}
 use Rattle.group_layout.proofs.layout_reader.read_group.Goals as goal
 
 pub returns-clause-damaged : goal.returns-clause-damaged
@@ -10,3 +11,7 @@ returns-clause-damaged g c = λ a byte told.
     (λ s. IsGroupDamage x.text.now x.inputs x.calcs s a byte) c.in_ok-bytes.ensures.all
     (subst (λ s. IsGroupDamage x.text.now x.inputs x.calcs s a byte) c.deref.ensures.value
     (c.parse_group.ensures.damaged a byte told))
+
+pub returns-clause-shape : goal.returns-clause-shape
+returns-clause-shape g c =
+    found_shapes c.args.text.now c.args.inputs c.args.calcs c.deref.result.now c.parse_group.result c.parse_group.ensures.found

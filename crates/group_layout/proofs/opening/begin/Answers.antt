@@ -5,7 +5,7 @@ use Rattle.group_layout.specs.Blocks.{last_of, parts_of, unsaved}
 use Rattle.group_layout.specs.Rows.{AreRowsOf, lists_of}
 use Rattle.group_layout.proofs.Beginnings.{nothing_yet, unsaved_kept}
 use Rattle.group_layout.proofs.FieldLaws.{told_through}
-use Rattle.group_layout.proofs.Openings.{no_rows}
+use Rattle.group_layout.proofs.Openings.{no_rows, none_shape}
 use Rattle.group_layout.proofs.opening.begin.Goals as goal
 
 pub returns-in_err-saved-clause-any_moment : goal.returns-in_err-saved-clause-any_moment
@@ -30,3 +30,8 @@ returns-in-Ok-clause-rows g c =
     (subst (λ n. AreRowsOf c.args.calcs n [] (lists_of saved.rows.items)) windows
     (subst (λ (bs : List Block). AreRowsOf c.args.calcs saved.windows (map parts_of bs) (lists_of saved.rows.items)) c.new.ensures.items
     c.in_ok-saved.ensures.rows))
+
+pub returns-in-Ok-clause-shape : goal.returns-in-Ok-clause-shape
+returns-in-Ok-clause-shape g c =
+    none_shape c.args.inputs c.args.calcs _ c.in_ok-saved.saved c.new.ensures.items c.in_ok-saved.ensures.rows
+    c.in_ok-saved.ensures.versions

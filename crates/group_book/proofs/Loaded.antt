@@ -1,0 +1,252 @@
+-- A book over the device of its group, as it is opened.
+use Rattle.std.proofs.Common.{◌≡◌, inl, inr, ℕ, zero, suc, ◌+◌, ◌^◌, ◌<◌, ◌≤◌, All, false, List, [], ◌∷◌, ◌++◌, Contains, Option, None, Some, IfSome, lit<, Vec, vec_len, length, map, get_or, take, refl, sym, ap, ◌∙◌, subst, arith, length-take}
+use Rattle.std.specs.declared.alloc.Global.{Global}
+use Rattle.std.proofs.lemmas.Bool.{cases_lt}
+use Rattle.std.proofs.lemmas.List.{get_or-map, length-map, map-append, take_all, take_more}
+use Rattle.std.proofs.lemmas.List.Elements.{All-cons, All-head, All-nil, All-tail, All-take}
+use Rattle.trend_num.specs.Ranges.{InRange}
+use Rattle.trend_num.specs.declared.archive.Rec.{Rec}
+use Rattle.trend_num.specs.declared.value.CalcValue.{CalcValue}
+use Rattle.calc_refresh.specs.Lists.{lists_of}
+use Rattle.calc_refresh.specs.Sheet.{IsCopy, grid_of}
+use Rattle.archive_file.specs.declared.failure.ScanNo.{ScanNo}
+use Rattle.archive_file.specs.declared.failure.ScanNo.TheVariants as scan
+use Rattle.disk_model.specs.Calls.{Shows}
+use Rattle.disk_model.specs.Gates.{IsShut}
+use Rattle.disk_model.specs.Images.{IsSettled, Now}
+use Rattle.disk_model.specs.Moments.{LeftSince}
+use Rattle.disk_model.specs.Traces.{Trace, seen}
+use Rattle.disk_model.proofs.Images.{present}
+use Rattle.disk_model.proofs.Moments.{only_since}
+use Rattle.calc_refresh.specs.declared.definition.GroupDefParts.{GroupDefParts}
+use Rattle.sheet_law.specs.Scratch.{IsScratch}
+use Rattle.group_layout.specs.declared.layout_reader.SavedGroup.{SavedGroup}
+use Rattle.group_layout.specs.Images.{ByBlocks, IsGroupDamage, StandsFor}
+use Rattle.group_layout.specs.Readings.{IsReadOf}
+use Rattle.group_book.specs.declared.history.GroupOpening.{GroupOpening}
+use Rattle.group_book.specs.declared.refusal.LoadNo.{LoadNo}
+use Rattle.group_book.specs.declared.refusal.LoadNo.TheVariants.{DeviceFault, Damaged, Ahead, Shape, WantOfMemory}
+use Rattle.group_book.specs.Crashes.{IsSafe}
+use Rattle.group_book.specs.Histories.{IsLegal, IsRight}
+use Rattle.group_book.specs.Openings.{IsAhead, IsCause, IsRefused, StandsForGroup, scan_refusal}
+use Rattle.group_book.specs.Tapes.{cut}
+use Rattle.group_book.specs.Told.{Holds, IsKept, IsReady, Saved}
+use Rattle.group_book.proofs.Cuts.{cut-all}
+use Rattle.group_book.proofs.Saving.{holds_now}
+
+-- ---- the first records of each input
+
+-- one input more
+cut-push : (vs : List ℕ) (rss : List (List Rec)) (v : ℕ) (rs : List Rec) → length vs ≡ length rss
+    → cut (vs ++ v ∷ []) (rss ++ rs ∷ []) ≡ cut vs rss ++ take v rs ∷ []
+cut-push [] [] v rs same = refl
+cut-push [] (r ∷ rss) v rs same = absurd (omega (arith, same))
+cut-push (u ∷ vs) [] v rs same = absurd (omega (arith, same))
+cut-push (u ∷ vs) (r ∷ rss) v rs same = ap (λ l. take u r ∷ l) (cut-push vs rss v rs (omega (arith, same)))
+
+-- where no version is above the records they are as long as it says
+pub cut_lengths : (vs : List ℕ) (rss : List (List Rec)) → length vs ≡ length rss
+    → ((k : ℕ) (rs : List Rec) → k < length vs → get_or vs k 0 ≤ length (get_or rss k rs)) → map length (cut vs rss) ≡ vs
+cut_lengths [] rss same low = refl
+cut_lengths (v ∷ vs) [] same low = absurd (omega (arith, same))
+cut_lengths (v ∷ vs) (rs ∷ rss) same low =
+    ap (λ n. n ∷ map length (cut vs rss)) (omega (arith, length-take v rs, low 0 [] (omega arith)))
+    ∙ ap (λ l. v ∷ l) (cut_lengths vs rss (omega (arith, same)) (λ k r within. low (suc k) r (omega (arith, within))))
+
+-- a list of records among others
+records_at : (recovered : List (Vec Rec Global)) (i : ℕ) (v : Vec Rec Global) (rs : List Rec) → i < length recovered → v ≡ get_or recovered i v
+    → get_or (lists_of recovered) i rs ≡ v.items
+records_at recovered i v rs low is = get_or-map (λ x. x.items) recovered i v rs low ∙ ap (λ x. x.items) (sym is)
+
+module _ (versions : List ℕ) (recovered : List (Vec Rec Global)) (same : length recovered ≡ length versions) (i : ℕ) (low : i < length versions)
+    (v : Vec Rec Global) (is : v ≡ get_or recovered i v) where
+  here : (rs : List Rec) → get_or (lists_of recovered) i rs ≡ v.items
+  here rs = records_at recovered i v rs (omega (arith, same, low)) is
+
+  -- they are cut for one input more
+  pub first_more : (copies : List (Vec Rec Global)) (one : Vec Rec Global) (copies' : List (Vec Rec Global))
+      → lists_of copies ≡ cut (take i versions) (take i (lists_of recovered)) → one.items ≡ take (get_or versions i 0) v.items
+      → copies' ≡ copies ++ one ∷ []
+      → lists_of copies' ≡ cut (take (i + 1) versions) (take (i + 1) (lists_of recovered))
+  first_more copies one copies' so_far taken pushed =
+      let rss = lists_of recovered in
+      ap lists_of pushed ∙ map-append (λ x. x.items) copies (one ∷ [])
+      ∙ ap (λ l. l ++ one.items ∷ []) so_far
+      ∙ ap (λ l. cut (take i versions) (take i rss) ++ l ∷ []) (taken ∙ ap (take (get_or versions i 0)) (sym (here [])))
+      ∙ sym (cut-push (take i versions) (take i rss) (get_or versions i 0) (get_or rss i []) as_long)
+      ∙ ap (λ l. cut l (take i rss ++ get_or rss i [] ∷ [])) (sym (take_more versions i 0 low))
+      ∙ ap (cut (take (i + 1) versions)) (sym (take_more rss i [] long))
+    where
+      many : length (lists_of recovered) ≡ length versions
+      many = length-map recovered (λ x. x.items) ∙ same
+
+      long : i < length (lists_of recovered)
+      long = omega (arith, many, low)
+
+      as_long : length (take i versions) ≡ length (take i (lists_of recovered))
+      as_long = omega (arith, length-take i versions, length-take i (lists_of recovered), many, low)
+
+  -- the version is not above them
+  pub low_more : ((k : ℕ) (rs : List Rec) → k < i → get_or versions k 0 ≤ length (get_or (lists_of recovered) k rs))
+      → get_or versions i 0 ≤ length v.items
+      → (k : ℕ) (rs : List Rec) → k < i + 1 → get_or versions k 0 ≤ length (get_or (lists_of recovered) k rs)
+  low_more before le k rs within = elim (cases_lt k i) [
+    | inl left ↦ before k rs left
+    | inr right ↦
+        let place : k ≡ i = omega (arith, within, right) in
+        subst (λ n. get_or versions n 0 ≤ length (get_or (lists_of recovered) n rs)) (sym place)
+        (subst (λ l. get_or versions i 0 ≤ length l) (sym (here rs)) le)
+  ]
+
+  -- it is the first that is above them
+  pub first_ahead : (version records : ℕ) → version ≡ get_or versions i 0 → records ≡ length v.items → records < version
+      → ((k : ℕ) (rs : List Rec) → k < i → get_or versions k 0 ≤ length (get_or (lists_of recovered) k rs))
+      → IsAhead versions (lists_of recovered) i version records
+  first_ahead version records version_is records_are above before = record {
+    within = low;
+    version_is = version_is;
+    records_are = λ rs. records_are ∙ ap length (sym (here rs));
+    above = above;
+    first = before;
+  }
+
+-- all inputs
+pub first_all : (versions : List ℕ) (recovered : List (Vec Rec Global)) (copies : List (List Rec)) (i : ℕ)
+    → length recovered ≡ length versions → length versions ≤ i → copies ≡ cut (take i versions) (take i (lists_of recovered))
+    → copies ≡ cut versions (lists_of recovered)
+first_all versions recovered copies i same end are =
+    are ∙ ap (λ l. cut l (take i (lists_of recovered))) (take_all i versions end)
+    ∙ ap (cut versions) (take_all i (lists_of recovered) (omega (arith, length-map recovered (λ x. x.items), same, end)))
+
+pub first_lengths : (versions : List ℕ) (recovered : List (Vec Rec Global)) (i : ℕ) → length recovered ≡ length versions → length versions ≤ i
+    → ((k : ℕ) (rs : List Rec) → k < i → get_or versions k 0 ≤ length (get_or (lists_of recovered) k rs))
+    → map length (cut versions (lists_of recovered)) ≡ versions
+first_lengths versions recovered i same end low =
+    cut_lengths versions (lists_of recovered) (sym (length-map recovered (λ x. x.items) ∙ same))
+    (λ k rs within. low k rs (omega (arith, within, end)))
+
+-- ---- what a sheet is made of
+
+-- the first of records that can be copied can be
+cut_copied : (vs : List ℕ) (rss : List (List Rec)) → All IsCopy rss → All IsCopy (cut vs rss)
+cut_copied [] rss all = All-nil IsCopy
+cut_copied (v ∷ vs) [] all = All-nil IsCopy
+cut_copied (v ∷ vs) (rs ∷ rss) all =
+    let here = All-head IsCopy rs rss all in
+    All-cons IsCopy (take v rs) (cut vs rss)
+    (record { short = omega (arith, length-take v rs, here.short); range = All-take (λ r. InRange r.point) v rs here.range })
+    (cut_copied vs rss (All-tail IsCopy rs rss all))
+
+module _ (versions : List ℕ) (recovered : List (List Rec)) (copies : List (Vec Rec Global))
+    (are : lists_of copies ≡ cut versions recovered) (long : map length (cut versions recovered) ≡ versions) where
+  pub copies_many : length copies ≡ length versions
+  copies_many = sym (length-map copies (λ x. x.items)) ∙ ap length are ∙ sym (length-map (cut versions recovered) length) ∙ ap length long
+
+  pub copies_copied : All IsCopy recovered → All IsCopy (lists_of copies)
+  copies_copied all = subst (All IsCopy) (sym are) (cut_copied versions recovered all)
+
+-- rows that are as long as there are windows are short
+pub rows_short : (rows : List (Vec CalcValue Global)) (saved : List (List CalcValue)) (windows : ℕ) → windows < 2 ^ 32 → lists_of rows ≡ saved
+    → All (λ row. length row ≡ windows) saved → All (λ row. vec_len row < 2 ^ 32) rows
+rows_short rows saved windows few are all = λ k d low.
+    let here = all k d.items (omega (arith, ap length are, length-map rows (λ x. x.items), low)) in
+    let row = ap (λ l. get_or l k d.items) (sym are) ∙ get_or-map (λ x. x.items) rows k d d.items low in
+    omega (arith, here, ap length row, few, (get_or rows k d).ok.0)
+
+-- ---- the book
+
+module _ (text : List ℕ) (def : GroupDefParts) (o : GroupOpening) (copies : List (List Rec)) (rows : List (List CalcValue)) (vs : List ℕ)
+    (saved : Saved) (copied : map length copies ≡ vs) (opened : o.versions.items ≡ vs) (opened_rows : lists_of o.rows.items ≡ rows)
+    (saved_versions : saved.versions ≡ vs) (saved_rows : saved.rows ≡ rows) where
+  -- the copies are as long as the versions say
+  cut_all : (us : List ℕ) → us ≡ vs → cut us copies ≡ copies
+  cut_all us are = ap (λ x. cut x copies) (are ∙ sym copied) ∙ cut-all copies
+
+  -- where the opening is right the rows are from scratch
+  right_rows : IsRight def.calcs (grid_of def.start def.period) o copies → IsScratch def.calcs (grid_of def.start def.period) copies rows
+  right_rows right =
+      subst (IsScratch def.calcs (grid_of def.start def.period) copies) opened_rows
+      (subst (λ rss. IsScratch def.calcs (grid_of def.start def.period) rss (lists_of o.rows.items)) (cut_all o.versions.items opened) right)
+
+  right_saved : IsRight def.calcs (grid_of def.start def.period) o copies
+      → IsScratch def.calcs (grid_of def.start def.period) (cut saved.versions copies) saved.rows
+  right_saved right =
+      subst (λ rss. IsScratch def.calcs (grid_of def.start def.period) rss saved.rows) (sym (cut_all saved.versions saved_versions))
+      (subst (IsScratch def.calcs (grid_of def.start def.period) copies) (sym saved_rows) (right_rows right))
+
+  pub opened_legal : IsLegal def.calcs (grid_of def.start def.period) o [] vs copies rows
+  opened_legal = record { turns = tt; last = sym opened; copied = sym copied; scratch = right_rows }
+
+  module _ (trace : Option Trace) (ready : IfSome trace (IsReady saved.end)) (holds : IfSome trace (λ t. Holds text def saved (seen (Some t))))
+      (ticks faults : ℕ) (moment : o.moment ≡ ticks) where
+    pub opened_kept : length vs ≡ def.inputs → faults ≡ o.faults → IsKept text def o [] copies saved false trace ticks faults
+    opened_kept inputs same = record {
+      shut = λ usable. ready;
+      holds = λ usable right. holds;
+      scratch = right_saved;
+      versions = saved_versions ∙ sym opened;
+      inputs = ap length saved_versions ∙ inputs;
+      number = tt;
+      past = omega (arith, moment);
+      opened_before = omega (arith, moment);
+      faultless = λ usable. same;
+      cause = λ failed. absurd (cc (failed));
+    }
+
+    pub opened_safe : length def.calcs.inputs ≡ def.inputs → IfSome trace (λ t. length t.calls ≡ ticks)
+        → IsSafe text def.calcs (grid_of def.start def.period) o copies [] (LeftSince trace)
+    opened_safe named told = record {
+      images = λ right t c since left.
+          let has = holds_now text def saved trace ready holds c (only_since trace ticks t c told (omega (arith, since, moment)) left) in
+          record {
+            versions = saved.versions;
+            rows = saved.rows;
+            among = subst (λ v. Contains (v ∷ []) saved.versions) (saved_versions ∙ sym opened) (0, lit< tt, refl);
+            stands = subst (λ n. StandsFor text n (length def.calcs.calcs) c saved.versions saved.rows) (sym named)
+                (ByBlocks has.blocks has.has (sym has.versions));
+            scratch = right_saved right;
+          };
+    }
+
+-- a device on which this was read
+pub loaded_holds : (text : List ℕ) (def : GroupDefParts) (g : SavedGroup) (o : Option Trace)
+    → Shows o (λ c. IsReadOf text def.inputs (length def.calcs.calcs) c g)
+    → IfSome o (λ t. Holds text def (record { number = g.number; versions = g.versions.items; rows = lists_of g.rows.items; end = g.end }) (seen (Some t)))
+loaded_holds text def g None read = tt
+loaded_holds text def g (Some t) read = record {
+  blocks = read.blocks;
+  has = read.has;
+  number = sym read.number;
+  versions = sym read.versions;
+  end = sym read.end;
+}
+
+pub loaded_ready : (end : ℕ) (o : Option Trace) → IsSettled o → Now o (IsShut end) → IfSome o (IsReady end)
+loaded_ready end None settled ready = tt
+loaded_ready end (Some t) settled ready = record { settled = settled; shut = ready.each (seen (Some t)) (present t) }
+
+-- ---- why a device is not opened
+
+-- what was saved makes no sheet
+pub refused_cause : (text : List ℕ) (def : GroupDefParts) (recovered : List (List Rec)) (versions : List ℕ) (rows : List (List CalcValue))
+    (o : Option Trace) (why : LoadNo) → Shows o (StandsForGroup text def versions rows) → IsRefused def recovered versions rows why
+    → IsCause text def recovered o why
+refused_cause text def recovered versions rows o DeviceFault stood refused = tt
+refused_cause text def recovered versions rows o (Damaged a byte) stood refused = absurd refused
+refused_cause text def recovered versions rows None (Ahead input version records) stood refused = tt
+refused_cause text def recovered versions rows (Some t) (Ahead input version records) stood refused =
+    record { versions = versions; rows = rows; stands = stood; ahead = refused }
+refused_cause text def recovered versions rows None (Shape windows size) stood refused = tt
+refused_cause text def recovered versions rows (Some t) (Shape windows size) stood refused =
+    record { versions = versions; rows = rows; stands = stood; shape = refused }
+refused_cause text def recovered versions rows o WantOfMemory stood refused = tt
+
+-- a device could not be read
+pub scan_cause : (text : List ℕ) (def : GroupDefParts) (recovered : List (List Rec)) (calcs : ℕ) → calcs ≡ length def.calcs.calcs
+    → (o : Option Trace) (why : ScanNo)
+    → ((a : ℕ) (byte : Option ℕ) → why ≡ scan.Damaged a byte → Shows o (λ c. IsGroupDamage text def.inputs calcs c a byte))
+    → IsCause text def recovered o (scan_refusal why)
+scan_cause text def recovered calcs same o scan.DeviceFault damaged = tt
+scan_cause text def recovered calcs same o (scan.Damaged a byte) damaged =
+    subst (λ n. Shows o (λ c. IsGroupDamage text def.inputs n c a byte)) same (damaged a byte refl)
+scan_cause text def recovered calcs same o scan.WantOfMemory damaged = tt

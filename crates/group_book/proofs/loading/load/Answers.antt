@@ -1,0 +1,80 @@
+use Rattle.std.proofs.Common.{◌≡◌, ◌∙◌, ℕ, [], Err, false, List, length, map, refl, sym, ap, subst, arith}
+use Rattle.std.proofs.lemmas.List.{length-map}
+use Rattle.disk_model.specs.Calls.{Shows}
+use Rattle.disk_model.specs.Moments.{LeftSince}
+use Rattle.calc_check.specs.Group.{calculation}
+use Rattle.calc_refresh.specs.declared.definition.GroupDefParts.{GroupDefParts}
+use Rattle.calc_refresh.specs.Lists.{lists_of}
+use Rattle.calc_refresh.specs.Sheet.{SheetState, grid_of}
+use Rattle.group_layout.specs.Readings.{IsReadOf}
+use Rattle.group_book.specs.declared.history.GroupOpening.{GroupOpening}
+use Rattle.group_book.specs.declared.turn.Turn.{Turn}
+use Rattle.group_book.specs.Crashes.{IsSafe}
+use Rattle.group_book.specs.Histories.{IsLegal}
+use Rattle.group_book.specs.Openings.{IsCause}
+use Rattle.group_book.specs.Told.{IsDefined, IsKept, Saved}
+use Rattle.group_book.proofs.Loaded.{loaded_holds, loaded_ready, opened_kept, opened_legal, opened_safe, scan_cause}
+use Rattle.group_book.proofs.loading.load.Goals as goal
+
+pub returns-in-Err-clause-cause : goal.returns-in-Err-clause-cause
+returns-in-Err-clause-cause g c =
+    let def = c.args.def.now in
+    let recovered = lists_of c.args.recovered.now in
+    let o = g.D.Disk.trace c.args.dev in
+    let calcs = sym (length-map c.defs.result.now calculation) ∙ ap length c.defs.ensures.calcs in
+    subst (IsCause c.args.text.now def recovered o) (sym c.refusal_of.ensures)
+    (scan_cause c.args.text.now def recovered _ calcs o c.in-Err.why (λ a byte is. c.in-Err.ensures.damaged a byte (ap Err is)))
+
+pub invariant_of-result : goal.invariant_of-result
+invariant_of-result g c =
+    let def = c.args.def.now in
+    let D = g.D.Disk in
+    let dev = c.open_group.new.dev in
+    let g' = c.in-Ok.saved in
+    let r = c.in-Ok-restore.restored in
+    let is = c.in-Ok-restore.ensures in
+    let s = r.sheet in
+    let vs = r.versions.items in
+    let o : GroupOpening
+    = record { versions = r.opening_versions; rows = r.opening_rows; moment = c.clock.result; faults = c.faults.result } in
+    let saved : Saved = record { number = g'.number; versions = g'.versions.items; rows = lists_of g'.rows.items; end = g'.end } in
+    let calcs = sym (length-map c.defs.result.now calculation) ∙ ap length c.defs.ensures.calcs in
+    let rows = ap (λ (x : SheetState). x.rows) is.sheet in
+    let copied : map length s.copies ≡ vs = ap (λ (x : SheetState). map length x.copies) is.sheet ∙ is.within ∙ sym is.versions in
+    let opened = is.opening_versions ∙ sym is.versions in
+    let opened_rows = is.opening_rows ∙ sym rows in
+    let saved_versions = sym is.versions in
+    let saved_rows = sym rows in
+    let inputs : length vs ≡ def.inputs = ap length is.versions ∙ c.in-Ok.ensures.shape.versions_are in
+    let ready = loaded_ready g'.end (D.trace dev) c.in-Ok.ensures.settled c.in-Ok.ensures.ready in
+    let holds = loaded_holds c.args.text.now def g' (D.trace dev)
+    (subst (λ (n : ℕ). Shows (D.trace dev) (λ x. IsReadOf c.args.text.now def.inputs n x g')) calcs c.in-Ok.ensures.holds) in
+    let left = LeftSince (D.trace dev) in
+    let tape : [] ≡ c.new.result.items = sym c.new.ensures.items in
+    let defined : IsDefined def c.args.tags.items s = record {
+      group = c.requires.group;
+      grid = c.requires.grid;
+      same_group = ap (λ (x : SheetState). x.group) is.sheet;
+      same_grid = ap (λ (x : SheetState). x.grid) is.sheet;
+      copies = sym (length-map s.copies length) ∙ ap length copied ∙ inputs;
+      tags_are = omega (arith, c.requires.tags, c.args.tags.ok.0);
+    } in
+    subst (λ (d : GroupDefParts). IsDefined d c.args.tags.items s
+    × IsLegal d.calcs (grid_of d.start d.period) o c.new.result.items vs s.copies s.rows
+    × IsKept r.text.items d o c.new.result.items s.copies saved false (D.trace dev) (D.ticks dev) (D.fault_count dev)
+    × IsSafe r.text.items d.calcs (grid_of d.start d.period) o s.copies c.new.result.items left) (sym is.def)
+    (subst (λ (l : List Turn). IsDefined def c.args.tags.items s
+    × IsLegal def.calcs (grid_of def.start def.period) o l vs s.copies s.rows
+    × IsKept r.text.items def o l s.copies saved false (D.trace dev) (D.ticks dev) (D.fault_count dev)
+    × IsSafe r.text.items def.calcs (grid_of def.start def.period) o s.copies l left) tape
+    (subst (λ (t : List ℕ). IsDefined def c.args.tags.items s
+    × IsLegal def.calcs (grid_of def.start def.period) o [] vs s.copies s.rows
+    × IsKept t def o [] s.copies saved false (D.trace dev) (D.ticks dev) (D.fault_count dev)
+    × IsSafe t def.calcs (grid_of def.start def.period) o s.copies [] left) (sym is.text) (
+      defined,
+      opened_legal c.args.text.now def o s.copies s.rows vs saved copied opened opened_rows saved_versions saved_rows,
+      opened_kept c.args.text.now def o s.copies s.rows vs saved copied opened opened_rows saved_versions saved_rows (D.trace dev) ready
+          holds (D.ticks dev) (D.fault_count dev) c.clock.ensures inputs (sym c.faults.ensures),
+      opened_safe c.args.text.now def o s.copies s.rows vs saved copied opened opened_rows saved_versions saved_rows (D.trace dev) ready
+          holds (D.ticks dev) (D.fault_count dev) c.clock.ensures c.requires.group.named (g.met.D.Disk.told dev),
+    )))

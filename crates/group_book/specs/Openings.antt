@@ -1,0 +1,87 @@
+-- What opening a group's device gives, and why one is not opened.
+use Rattle.std.specs.Prelude.{◌≡◌, ℕ, ◌<◌, ◌≤◌, List, length, slice_index, slice_index_or, Option, Some, Err}
+use Rattle.trend_num.specs.declared.archive.Rec.{Rec}
+use Rattle.trend_num.specs.declared.value.CalcValue.{CalcValue}
+use Rattle.archive_file.specs.declared.failure.ScanNo.{ScanNo}
+use Rattle.archive_file.specs.declared.failure.ScanNo.TheVariants as scan
+use Rattle.disk_model.specs.Calls.{CountsFault, Shows}
+use Rattle.disk_model.specs.Traces.{Trace}
+use Rattle.calc_refresh.specs.declared.definition.GroupDefParts.{GroupDefParts}
+use Rattle.calc_refresh.specs.declared.refusal.SheetNo.TheVariants as sheet
+use Rattle.calc_refresh.specs.Refreshed.{shape_fault}
+use Rattle.calc_refresh.specs.Sheet.{grid_of}
+use Rattle.sheet_law.specs.Windows.{complete_windows}
+use Rattle.group_layout.specs.Images.{StandsFor, IsGroupDamage}
+use Rattle.group_layout.specs.Readings.{IsLeftOrSame}
+use Rattle.group_book.specs.declared.refusal.LoadNo.{LoadNo}
+use Rattle.group_book.specs.declared.refusal.LoadNo.TheVariants.{DeviceFault, Damaged, Ahead, Shape, WantOfMemory}
+use Rattle.group_book.specs.Tapes.{cut}
+
+-- an image stands for these versions and rows of a group with this definition and text
+abbrev pub StandsForGroup : List ℕ → GroupDefParts → List ℕ → List (List CalcValue) → List ℕ → Type 0
+StandsForGroup text def versions rows c = StandsFor text def.inputs (length def.calcs.calcs) c versions rows
+
+-- it is one that a crash might have left before, or stands for the same
+abbrev pub StaysSame : List ℕ → GroupDefParts → Option Trace → List ℕ → Type 0
+StaysSame text def o c = IsLeftOrSame text def.inputs (length def.calcs.calcs) o c
+
+-- the first input whose version is above the records that were recovered
+pub record IsAhead (versions : List ℕ) (recovered : List (List Rec)) (input version records : ℕ) : Type 0 where
+  pub within : input < length versions
+  pub version_is : version ≡ slice_index versions input
+  pub records_are : (rs : List Rec) → records ≡ length (slice_index_or recovered input rs)
+  pub above : records < version
+  pub first : (i : ℕ) (rs : List Rec) → i < input → slice_index versions i ≤ length (slice_index_or recovered i rs)
+
+-- these bytes stand for a version of an input that is too high
+pub record SavesAhead (text : List ℕ) (def : GroupDefParts) (recovered : List (List Rec)) (input version records : ℕ)
+    (c : List ℕ) : Type 0 where
+  pub versions : List ℕ
+  pub rows : List (List CalcValue)
+  pub stands : StandsForGroup text def versions rows c
+  pub ahead : IsAhead versions recovered input version records
+
+-- these bytes stand for rows of another length than there are complete windows
+pub record SavesShape (text : List ℕ) (def : GroupDefParts) (recovered : List (List Rec)) (windows size : ℕ) (c : List ℕ)
+    : Type 0 where
+  pub versions : List ℕ
+  pub rows : List (List CalcValue)
+  pub stands : StandsForGroup text def versions rows c
+  pub shape : shape_fault (complete_windows (grid_of def.start def.period) (cut versions recovered)) rows ≡ Some (sheet.Shape windows size)
+
+-- why a device is not opened, where it tells its calls
+abbrev pub IsCause : List ℕ → GroupDefParts → List (List Rec) → Option Trace → LoadNo → Type 0
+IsCause text def recovered o DeviceFault = Unit {0}
+IsCause text def recovered o (Damaged a byte) = Shows o (λ c. IsGroupDamage text def.inputs (length def.calcs.calcs) c a byte)
+IsCause text def recovered o (Ahead input version records) = Shows o (SavesAhead text def recovered input version records)
+IsCause text def recovered o (Shape windows size) = Shows o (SavesShape text def recovered windows size)
+IsCause text def recovered o WantOfMemory = Unit {0}
+
+-- the faults that are counted until a device is not opened
+abbrev pub CountsRefusal : LoadNo → ℕ → ℕ → Type 0
+CountsRefusal why before now = CountsFault {T = Unit {0}} (Err why) DeviceFault before now
+
+-- ---- why what was saved makes no sheet
+
+-- a version is too high, or memory is wanting
+abbrev pub IsAheadOrMemory : List ℕ → List (List Rec) → LoadNo → Type 0
+IsAheadOrMemory versions recovered DeviceFault = ⊥
+IsAheadOrMemory versions recovered (Damaged a byte) = ⊥
+IsAheadOrMemory versions recovered (Ahead input version records) = IsAhead versions recovered input version records
+IsAheadOrMemory versions recovered (Shape windows size) = ⊥
+IsAheadOrMemory versions recovered WantOfMemory = Unit {0}
+
+-- that, or rows of another length than there are complete windows
+abbrev pub IsRefused : GroupDefParts → List (List Rec) → List ℕ → List (List CalcValue) → LoadNo → Type 0
+IsRefused def recovered versions rows DeviceFault = ⊥
+IsRefused def recovered versions rows (Damaged a byte) = ⊥
+IsRefused def recovered versions rows (Ahead input version records) = IsAhead versions recovered input version records
+IsRefused def recovered versions rows (Shape windows size) =
+    shape_fault (complete_windows (grid_of def.start def.period) (cut versions recovered)) rows ≡ Some (sheet.Shape windows size)
+IsRefused def recovered versions rows WantOfMemory = Unit {0}
+
+-- what a device that is not opened is answered with
+abbrev pub scan_refusal : ScanNo → LoadNo
+scan_refusal scan.DeviceFault = DeviceFault
+scan_refusal (scan.Damaged a byte) = Damaged a byte
+scan_refusal scan.WantOfMemory = WantOfMemory

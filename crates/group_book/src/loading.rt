@@ -1,0 +1,258 @@
+// A book over the device of its group.
+ghost use Rattle.std.specs.Prelude.{◌≡◌, ℕ, ◌^◌, ◌<◌, ◌≤◌, [], All, Option, Some, IfErr, IfOk, IsErrOf, OnOk, false, length, map, take, vec_len};
+ghost use Rattle.disk_model.specs.Calls.{CountsFault, Shows};
+ghost use Rattle.disk_model.specs.Gates.{IsShut};
+ghost use Rattle.disk_model.specs.Images.{IsSettled, Now};
+ghost use Rattle.disk_model.specs.Moments.{During};
+ghost use Rattle.calc_refresh.specs.Lists.{lists_of};
+ghost use Rattle.calc_refresh.specs.Refreshed.{fresh};
+ghost use Rattle.calc_refresh.specs.Sheet.{IsCopy, IsGrid, IsGroup, grid_of};
+ghost use Rattle.group_layout.specs.Readings.{HasShape, IsReadOf};
+ghost use Rattle.group_book.specs.declared.refusal.LoadNo.TheVariants.{Ahead, Damaged, DeviceFault, Shape};
+ghost use Rattle.group_book.specs.Openings.{CountsRefusal, IsAheadOrMemory, IsCause, IsRefused, StandsForGroup, StaysSame, scan_refusal};
+ghost use Rattle.group_book.specs.Tapes.{cut};
+ghost use Rattle.group_book.specs.Told.{count_of, versions_of};
+
+use crate::book::Book;
+use crate::history::GroupOpening;
+use crate::making::copy_of as copy_of_def;
+use crate::refusal::{LoadFail, LoadNo};
+use crate::save::{copy_of, copy_rows};
+use archive_file::ScanNo;
+use calc_refresh::{CalcValue, GroupDefParts, Sheet, SheetNo, from_saved};
+use disk_model::Disk;
+use group_layout::{SavedGroup, open_group};
+use std::alloc::Global;
+use trend_num::{Rec, WantOfMemory};
+
+impl From<WantOfMemory> for LoadNo {
+    ghost use Rattle.std.specs.Prelude.{◌≡◌};
+    ghost use Rattle.group_book.specs.declared.refusal.LoadNo.TheVariants.{WantOfMemory as NoMemory};
+
+    ghost from_gives = { λ _ no. no ≡ NoMemory };
+
+    fn from(_: WantOfMemory) -> LoadNo {
+        LoadNo::WantOfMemory
+    }
+}
+
+/// The book of a group over its device, which begins with a sync. A device that is new or has another definition text is begun
+/// anew, at version 0. Else the book has the versions and rows that were saved last, and of each input as many of the records
+/// that its tag recovered as the version says. A device that is not opened is handed back: a call of it failed, its layout is
+/// damaged, a version is above the records that were recovered, saved rows have another length than there are complete windows,
+/// or memory is wanting. There is one tag and one list of records for each input.
+pub fn load<D: Disk>(
+    alloc: Global,
+    dev: D,
+    group: u32,
+    def: &GroupDefParts,
+    text: &[u8],
+    tags: Vec<u32>,
+    recovered: &[Vec<Rec>],
+) -> Result<Book<D>, LoadFail<D>>
+    requires group { IsGroup def.now.inputs def.now.calcs }
+    requires grid { IsGrid (grid_of def.now.start def.now.period) }
+    requires tags { vec_len tags ≡ def.now.inputs }
+    requires inputs { length recovered.now ≡ def.now.inputs }
+    requires copied { All IsCopy (lists_of recovered.now) }
+
+    // It has what the device's bytes stood for. A crash at any moment leaves what it might have left before, or what stands for
+    // the same.
+    ensures opened { IfOk result (λ b. Shows (D.trace dev)
+        (StandsForGroup text.now def.now b.opening.versions.items (lists_of b.opening.rows.items))) }
+    ensures any_moment { IfOk result (λ b. (d : D) → b.dev ≡ Some d
+        → During (D.trace dev) (D.trace d) (StaysSame text.now def.now (D.trace dev))) }
+    ensures any_moment_refused { IfErr result (λ e. During (D.trace dev) (D.trace e.dev) (StaysSame text.now def.now (D.trace dev))) }
+
+    ensures versions { IfOk result (λ b. b.opening.versions.items ≡ versions_of b) }
+    ensures copies { IfOk result (λ b. b.sheet.copies ≡ cut b.opening.versions.items (lists_of recovered.now)) }
+    ensures rows { IfOk result (λ b. b.sheet.rows ≡ lists_of b.opening.rows.items) }
+    ensures evals { IfOk result (λ b. b.sheet.evals ≡ 0) }
+    ensures group { IfOk result (λ b. b.group ≡ group) }
+    ensures def { IfOk result (λ b. b.def ≡ def.now) }
+    ensures text { IfOk result (λ b. b.text ≡ text.now) }
+    ensures tags { IfOk result (λ b. b.tags ≡ tags.items) }
+    ensures tape { IfOk result (λ b. b.tape ≡ []) }
+    ensures usable { IfOk result (λ b. b.failed ≡ false) }
+    ensures moment { IfOk result (λ b. b.opening.moment ≡ count_of D.ticks b.dev) }
+    ensures faults { IfOk result (λ b. b.opening.faults ≡ count_of D.fault_count b.dev) }
+
+    // A refusal tells its cause. One fault is counted where a call of the device has failed, and else none.
+    ensures cause { IfErr result (λ e. IsCause text.now def.now (lists_of recovered.now) (D.trace dev) e.why) }
+    ensures faultless { IfOk result (λ b. count_of D.fault_count b.dev ≡ D.fault_count dev) }
+    ensures counts { IfErr result (λ e. CountsRefusal e.why (D.fault_count dev) (D.fault_count e.dev)) }
+{
+    let mut dev = dev;
+    let calcs = def.calcs.defs().len() as u32;
+    let saved = match open_group(alloc, &mut dev, text, def.inputs, calcs) {
+        Ok(saved) => saved,
+        Err(why) => {
+            return Err(LoadFail {
+                dev,
+                why: refusal_of(why),
+            });
+        }
+    };
+    let restored = match restore(alloc, def, text, &saved, recovered) {
+        Ok(restored) => restored,
+        Err(why) => return Err(LoadFail { dev, why }),
+    };
+    let opening = GroupOpening {
+        versions: restored.opening_versions,
+        rows: restored.opening_rows,
+        moment: dev.clock(),
+        faults: dev.faults(),
+    };
+    Ok(Book {
+        alloc,
+        group,
+        def: restored.def,
+        text: restored.text,
+        tags,
+        opening,
+        tape: Vec::new(alloc),
+        sheet: restored.sheet,
+        versions: restored.versions,
+        dev: Some(dev),
+        number: saved.number,
+        saved_versions: saved.versions,
+        saved_rows: saved.rows,
+        end: saved.end,
+        failed: false,
+    })
+}
+
+// What a device that is not opened is answered with.
+fn refusal_of(why: ScanNo) -> LoadNo
+    ensures { result ≡ scan_refusal why }
+{
+    match why {
+        ScanNo::DeviceFault => LoadNo::DeviceFault,
+        ScanNo::Damaged { at, byte } => LoadNo::Damaged { at, byte },
+        ScanNo::WantOfMemory => LoadNo::WantOfMemory,
+    }
+}
+
+// What a book needs beside what was saved: its sheet, and its own copies of the rest.
+#[derive(Drop)]
+struct Restored {
+    def: GroupDefParts,
+    text: Vec<u8>,
+    sheet: Sheet,
+    versions: Vec<u32>,
+    opening_versions: Vec<u32>,
+    opening_rows: Vec<Vec<CalcValue>>,
+}
+
+// Makes that of what was saved, and of the records that the inputs' tags recovered.
+fn restore(
+    alloc: Global,
+    def: &GroupDefParts,
+    text: &[u8],
+    saved: &SavedGroup,
+    recovered: &[Vec<Rec>],
+) -> Result<Restored, LoadNo>
+    requires group { IsGroup def.now.inputs def.now.calcs }
+    requires grid { IsGrid (grid_of def.now.start def.now.period) }
+    requires inputs { length recovered.now ≡ def.now.inputs }
+    requires copied { All IsCopy (lists_of recovered.now) }
+    requires shape { HasShape def.now.inputs (length def.now.calcs.calcs) saved.now }
+    requires few { saved.now.windows < 2 ^ 32 }
+    ensures def { IfOk result (λ r. r.def ≡ def.now) }
+    ensures text { IfOk result (λ r. r.text.items ≡ text.now) }
+    ensures sheet { IfOk result (λ r. r.sheet ≡ fresh def.now.calcs (grid_of def.now.start def.now.period)
+        (cut saved.now.versions.items (lists_of recovered.now)) (lists_of saved.now.rows.items)) }
+    ensures within { OnOk result (map length (cut saved.now.versions.items (lists_of recovered.now)) ≡ saved.now.versions.items) }
+    ensures versions { IfOk result (λ r. r.versions.items ≡ saved.now.versions.items) }
+    ensures opening_versions { IfOk result (λ r. r.opening_versions.items ≡ saved.now.versions.items) }
+    ensures opening_rows { IfOk result (λ r. lists_of r.opening_rows.items ≡ lists_of saved.now.rows.items) }
+    ensures refused { IfErr result (IsRefused def.now (lists_of recovered.now) saved.now.versions.items (lists_of saved.now.rows.items)) }
+{
+    let sheet = match rebuild(alloc, def, saved, recovered) {
+        Ok(sheet) => sheet,
+        Err(why) => return Err(why),
+    };
+    Ok(Restored {
+        def: copy_of_def(def)?,
+        text: bytes_of(alloc, text)?,
+        sheet,
+        versions: copy_of(alloc, &saved.versions)?,
+        opening_versions: copy_of(alloc, &saved.versions)?,
+        opening_rows: copy_rows(alloc, &saved.rows)?,
+    })
+}
+
+// The same bytes again.
+fn bytes_of(alloc: Global, bytes: &[u8]) -> Result<Vec<u8>, WantOfMemory>
+    ensures { IfOk result (λ v. v.items ≡ bytes.now) }
+{
+    Vec::from_slice(alloc, bytes).map_err(|_| WantOfMemory)
+}
+
+// The sheet with the saved rows, over as many of the recovered records as the saved versions say.
+fn rebuild(
+    alloc: Global,
+    def: &GroupDefParts,
+    saved: &SavedGroup,
+    recovered: &[Vec<Rec>],
+) -> Result<Sheet, LoadNo>
+    requires group { IsGroup def.now.inputs def.now.calcs }
+    requires grid { IsGrid (grid_of def.now.start def.now.period) }
+    requires inputs { length recovered.now ≡ def.now.inputs }
+    requires copied { All IsCopy (lists_of recovered.now) }
+    requires shape { HasShape def.now.inputs (length def.now.calcs.calcs) saved.now }
+    requires few { saved.now.windows < 2 ^ 32 }
+    ensures sheet { IfOk result (λ s. s ≡ fresh def.now.calcs (grid_of def.now.start def.now.period)
+        (cut saved.now.versions.items (lists_of recovered.now)) (lists_of saved.now.rows.items)) }
+    ensures within { OnOk result (map length (cut saved.now.versions.items (lists_of recovered.now)) ≡ saved.now.versions.items) }
+    ensures refused { IfErr result (IsRefused def.now (lists_of recovered.now) saved.now.versions.items (lists_of saved.now.rows.items)) }
+{
+    let copies = match first_records(alloc, &saved.versions, recovered) {
+        Ok(copies) => copies,
+        Err(why) => return Err(why),
+    };
+    let rows = copy_rows(alloc, &saved.rows)?;
+    match from_saved(alloc, def, copies, rows) {
+        Ok(sheet) => Ok(sheet),
+        Err(SheetNo::Shape { windows, rows }) => Err(LoadNo::Shape { windows, rows }),
+        Err(_) => Err(LoadNo::WantOfMemory),
+    }
+}
+
+// The first records of each input, as many as its version says.
+fn first_records(
+    alloc: Global,
+    versions: &[u32],
+    recovered: &[Vec<Rec>],
+) -> Result<Vec<Vec<Rec>>, LoadNo>
+    requires inputs { length recovered.now ≡ length versions.now }
+    requires few { length versions.now ≤ 64 }
+    requires copied { All IsCopy (lists_of recovered.now) }
+    ensures cut { IfOk result (λ v. lists_of v.items ≡ cut versions.now (lists_of recovered.now)) }
+    ensures within { OnOk result (map length (cut versions.now (lists_of recovered.now)) ≡ versions.now) }
+    ensures refused { IfErr result (IsAheadOrMemory versions.now (lists_of recovered.now)) }
+{
+    let mut copies = Vec::new(alloc);
+    for i in 0..versions.len() {
+        let records = recovered[i].len() as u32;
+        if records < versions[i] {
+            return Err(LoadNo::Ahead {
+                input: i as u32,
+                version: versions[i],
+                records,
+            });
+        }
+        let Ok(()) = copies.push(records_of(alloc, &recovered[i], versions[i])?) else {
+            return Err(LoadNo::WantOfMemory);
+        };
+    }
+    Ok(copies)
+}
+
+// So many of these records, the oldest.
+fn records_of(alloc: Global, recs: &[Rec], count: u32) -> Result<Vec<Rec>, WantOfMemory>
+    requires { count ≤ length recs.now }
+    ensures { IfOk result (λ v. v.items ≡ take count recs.now) }
+{
+    Vec::from_slice(alloc, &recs[..count as usize]).map_err(|_| WantOfMemory)
+}
