@@ -1,6 +1,6 @@
 -- The cells that changed, listed one after the other.
-use Rattle.std.proofs.Common.{◌≡◌, ⊎_elim, inl, inr, ◌⊎◌, ℕ, zero, suc, ◌+◌, ◌<◌, ◌≤◌, Bool, true, false, All, AllPairs, List, [], ◌∷◌, ◌++◌, length, get_or, IfSome, IsSome, Option, None, Some, nat_eq, nat_lt, ◌&&◌, ◌||◌, refl, sym, ap, ◌∙◌, subst, arith, le-leb, if◌then◌else◌}
-use Rattle.std.proofs.lemmas.Bool.{cases_eq, cases_lt}
+use Rattle.std.proofs.Common.{◌≡◌, inl, inr, ◌⊎◌, ℕ, ◌+◌, ◌<◌, true, false, List, [], ◌∷◌, ◌++◌, get_or, IfSome, IsSome, Option, None, Some, nat_eq, ◌&&◌, refl, sym, ap, ◌∙◌, subst, arith, le-leb, if◌then◌else◌}
+use Rattle.std.proofs.lemmas.Bool.{cases_lt}
 use Rattle.std.proofs.lemmas.Bool.Decides.{nat_tests}
 use Rattle.std.proofs.lemmas.List.Elements.{All-nil, All-push, All-weaker}
 use Rattle.std.proofs.lemmas.List.Quantifiers.{all_pairs_push}
@@ -9,10 +9,10 @@ use Rattle.trend_num.specs.declared.value.CalcValue.{CalcValue}
 use Rattle.trend_num.specs.declared.value.CalcValue.TheVariants.{Num, Bad}
 use Rattle.calc_eval.specs.Number.{IsInRange}
 use Rattle.group_layout.specs.declared.block.BlockRow.{BlockRow}
-use Rattle.group_layout.specs.Blocks.{AreRows, IsBefore, IsRow, comes_before, is_value_ok}
-use Rattle.group_layout.specs.Rows.{cell_of, is_at, listed_from, value_of}
+use Rattle.group_layout.specs.Blocks.{IsBefore, IsRow, comes_before}
+use Rattle.group_layout.specs.Rows.{cell_of, listed_from, value_of}
 use Rattle.group_layout.proofs.SavedRows.{listed-append}
-use Rattle.group_book.specs.Saves.{AreInRange, IsListed, IsOther, IsSame, ListedUpTo, ListsChanges, row_of}
+use Rattle.group_book.specs.Saves.{IsListed, IsOther, IsSame, ListedUpTo, ListsChanges, row_of}
 
 -- ---- places in order
 

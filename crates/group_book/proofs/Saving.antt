@@ -1,8 +1,8 @@
 -- A book's history after a save, and after one whose device failed.
-use Rattle.std.proofs.Common.{◌≡◌, ◌≢◌, ◌⊎◌, ⊎_elim, inl, inr, ℕ, zero, suc, ◌+◌, ◌<◌, ◌≤◌, Bool, true, false, All, List, [], ◌∷◌, ◌++◌, Contains, length, map, get_or, drop, take, slice_get, Option, None, Some, IfSome, nat_le, nat_lt, refl, sym, ap, ◌∙◌, subst, arith, lit<, le_trans, if◌then◌else◌}
+use Rattle.std.proofs.Common.{◌≡◌, ◌⊎◌, ⊎_elim, inl, inr, ℕ, ◌+◌, ◌<◌, ◌≤◌, Bool, true, false, All, List, [], ◌∷◌, ◌++◌, Contains, length, get_or, drop, slice_get, Option, None, Some, IfSome, nat_le, nat_lt, refl, sym, ap, ◌∙◌, subst, arith, lit<, le_trans, if◌then◌else◌}
 use Rattle.std.proofs.lemmas.Bool.{cases_eq}
 use Rattle.std.proofs.lemmas.Bool.Decides.{nat_tests}
-use Rattle.std.proofs.lemmas.List.{length-map, take-append-drop}
+use Rattle.std.proofs.lemmas.List.{take-append-drop}
 use Rattle.std.proofs.lemmas.Option.{slice_get_within, get_or_from_slice_get}
 use Rattle.trend_num.specs.declared.archive.Rec.{Rec}
 use Rattle.trend_num.specs.declared.value.CalcValue.{CalcValue}
@@ -24,9 +24,9 @@ use Rattle.sheet_law.specs.Scratch.{IsScratch, points_by, values_at}
 use Rattle.sheet_law.specs.Touched.{longer}
 use Rattle.sheet_law.specs.Windows.{complete_windows, window_from, window_to}
 use Rattle.sheet_law.proofs.Complete.{complete_grow}
-use Rattle.group_layout.specs.Blocks.{MayFollow, Parts, block_image, block_size, end_of, last_of, unsaved}
-use Rattle.group_layout.specs.Images.{ByBlocks, HasSaved, StandsFor, blocks_at, versions_of}
-use Rattle.group_layout.specs.Rows.{AreRowsOf, cell_of}
+use Rattle.group_layout.specs.Blocks.{MayFollow, Parts, block_image, block_size, last_of, unsaved}
+use Rattle.group_layout.specs.Images.{ByBlocks, StandsFor, blocks_at}
+use Rattle.group_layout.specs.Rows.{AreRowsOf}
 use Rattle.group_layout.proofs.BlockAdded.{block_closed, block_opened, written_byte}
 use Rattle.group_layout.proofs.RowsAdded.{IsAddedAt, rows_more}
 use Rattle.group_layout.proofs.Walks.{end_of-push, last_of-push}
@@ -34,12 +34,12 @@ use Rattle.group_book.specs.declared.turn.Turn.{Turn}
 use Rattle.group_book.specs.declared.turn.Turn.TheVariants.{Refresh, Ask, Save}
 use Rattle.group_book.specs.declared.history.GroupOpening.{GroupOpening}
 use Rattle.group_book.specs.Tapes.{Walk, after_turn, cut, saved_at, start, versions_since, walked}
-use Rattle.group_book.specs.Histories.{IsLegal, IsRight, NeverFall, scratch_at}
+use Rattle.group_book.specs.Histories.{IsLegal, IsRight, NeverFall}
 use Rattle.group_book.specs.Crashes.{IsSafe, StandsForOne}
 use Rattle.group_book.specs.Saves.{AreInRange, IsListed, IsOther, IsSame, ListsChanges}
 use Rattle.group_book.specs.Told.{Holds, IsKept, IsReady, Saved}
 use Rattle.group_book.proofs.Cuts.{cut-all, never_refl}
-use Rattle.group_book.proofs.LegalTurns.{at_end, cell_scratch}
+use Rattle.group_book.proofs.LegalTurns.{cell_scratch}
 use Rattle.group_book.proofs.Turns.{contains_last, contains_left, fit_push, saved_rises, walked-push}
 
 -- ---- one save more on a tape

@@ -3,3 +3,4 @@ pub mod Blocks
 pub mod Rows
 pub mod Images
 pub mod Readings
+pub mod Texts

@@ -14,6 +14,7 @@
 #![tactic(auto)]
 
 mod block;
+mod definition;
 mod field;
 mod layout_reader;
 mod making;
@@ -24,6 +25,7 @@ mod saved;
 mod writer;
 
 pub use block::{Block, BlockRow, Blocks};
+pub use definition::definition_text;
 pub use layout_reader::{Found, SavedGroup, read_blocks, read_group};
 pub use making::{make_group, put_block};
 pub use opening::open_group;

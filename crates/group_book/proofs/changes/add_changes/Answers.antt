@@ -1,9 +1,7 @@
-use Rattle.std.proofs.Common.{◌≡◌, ◌≢◌, ◌⊎◌, inl, inr, ℕ, ◌+◌, ◌<◌, ◌∷◌, ◌++◌, [], List, IfSome, IsSome, Option, Some, None, length, refl, sym, ap, ◌∙◌, subst, arith}
-use Rattle.trend_num.specs.declared.value.CalcValue.{CalcValue}
+use Rattle.std.proofs.Common.{◌≡◌, ℕ, length, ap, ◌∙◌, subst, arith}
 use Rattle.calc_refresh.specs.Lists.{lists_of}
-use Rattle.group_layout.specs.declared.block.BlockRow.{BlockRow}
 use Rattle.group_layout.specs.Rows.{cell_of}
-use Rattle.group_book.specs.Saves.{ListedUpTo, row_of}
+use Rattle.group_book.specs.Saves.{ListedUpTo}
 use Rattle.group_book.proofs.Listing.{list_cell, list_next}
 use Rattle.group_book.proofs.changes.add_changes.Goals as goal
 

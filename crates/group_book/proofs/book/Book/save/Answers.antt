@@ -1,5 +1,4 @@
-use Rattle.std.proofs.Common.{◌≡◌, ℕ, ◌+◌, ◌++◌, ◌∷◌, [], Bool, List, false, true, Some, Err, length, refl, sym, ap, ◌∙◌, subst, arith}
-use Rattle.trend_num.specs.declared.value.CalcValue.{CalcValue}
+use Rattle.std.proofs.Common.{◌≡◌, ℕ, ◌+◌, ◌++◌, ◌∷◌, [], Bool, false, true, Some, Err, length, sym, ap, ◌∙◌, subst, arith}
 use Rattle.disk_model.specs.Gates.{IsShut}
 use Rattle.disk_model.specs.Images.{Now}
 use Rattle.disk_model.specs.Moments.{LeftSince}
@@ -9,13 +8,12 @@ use Rattle.calc_refresh.specs.Sheet.{grid_of}
 use Rattle.sheet_law.specs.declared.grid.Grid.{Grid}
 use Rattle.sheet_law.specs.Windows.{complete_windows}
 use Rattle.group_layout.specs.Blocks.{block_size, parts_of}
-use Rattle.group_book.specs.declared.turn.Turn.{Turn}
 use Rattle.group_book.specs.declared.turn.Turn.TheVariants.{Save}
 use Rattle.group_book.specs.Crashes.{IsSafe}
 use Rattle.group_book.specs.Histories.{IsLegal}
 use Rattle.group_book.specs.Saves.{IsSaved, ListsChanges}
 use Rattle.group_book.specs.Told.{IsKept, Saved, Told, count_of, trace_of}
-use Rattle.group_book.proofs.Saving.{IsNextBlock, book_saved, kept_faulted, next_saved, safe_writing}
+use Rattle.group_book.proofs.Saving.{IsNextBlock, book_saved, kept_faulted, safe_writing}
 use Rattle.group_book.proofs.book.Book.save.Goals as goal
 
 pub invariant_of-self-in-Ok : goal.invariant_of-self-in-Ok
