@@ -37,7 +37,7 @@ fn alone(rt: &impl Wait, alloc: Global) -> Result<(Board, Poster), WantOfMemory>
 }
 
 // A cell of a tag that keeps each bend, on a new device.
-fn cell_of(rt: &impl Wait, alloc: Global) -> Option<Cell<MemDisk>> {
+pub fn cell_of(rt: &impl Wait, alloc: Global) -> Option<Cell<MemDisk>> {
     let def = TagDef {
         name: name_from(b"T1")?,
         tuning: Tuning {
@@ -59,7 +59,7 @@ fn cell_of(rt: &impl Wait, alloc: Global) -> Option<Cell<MemDisk>> {
 }
 
 // Takes the values of a text, as rows of collector 0.
-fn take_all(rt: &impl Wait, cell: &mut Cell<MemDisk>, values: &str) -> Option<()> {
+pub fn take_all(rt: &impl Wait, cell: &mut Cell<MemDisk>, values: &str) -> Option<()> {
     for value in values.split(' ') {
         if value == "wait" {
             return Some(());
@@ -99,7 +99,7 @@ fn refresh_on<L: Ledger, R: Wait>(
 }
 
 // Refreshes a book.
-fn refresh<R: Wait>(
+pub fn refresh<R: Wait>(
     rt: &R,
     book: &mut Book<MemDisk>,
     cells: &[Mutex<Cell<MemDisk>>],
@@ -108,7 +108,7 @@ fn refresh<R: Wait>(
 }
 
 // The answers for calculation 0 in the windows from 0 on.
-fn answers(alloc: Global, book: &mut Book<MemDisk>) -> Result<String, Fail> {
+pub fn answers(alloc: Global, book: &mut Book<MemDisk>) -> Result<String, Fail> {
     let mut text = String::new(alloc);
     for k in 0..100 {
         match book.ask(0, 1, 0, k)? {

@@ -48,7 +48,7 @@ impl Draws {
 }
 
 /// These records once more.
-fn copy_of(rt: &impl Abort, alloc: Global, recs: &[Rec]) -> Result<Vec<Rec>, Fail>
+pub fn copy_of(rt: &impl Abort, alloc: Global, recs: &[Rec]) -> Result<Vec<Rec>, Fail>
     ensures { IfOk result (λ copy. IsCopy copy.items) }
 {
     let mut copy = Vec::new(alloc);
