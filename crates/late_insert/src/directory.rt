@@ -1,11 +1,13 @@
 // The list of a content's pages, in order of time.
-ghost use Rattle.std.specs.Prelude.{◌≡◌, ℕ, ◌+◌, ◌^◌, ◌<◌, ◌≤◌, length, map, take, drop, ◌++◌, All};
-ghost use Rattle.std.specs.Prelude.{slice_index_or, AllPairs};
+ghost use Rattle.std.specs.Prelude.{◌≡◌, ℕ, ◌+◌, ◌^◌, ◌<◌, ◌≤◌, [], ◌∷◌, length, map, take, drop, ◌++◌, All};
+ghost use Rattle.std.specs.Prelude.{slice_index_or, slice_set, insert, vec_len, vec_capacity, AllPairs, IfOk};
 ghost use Rattle.late_insert.specs.declared.directory.Page.{Page};
 ghost use Rattle.late_insert.specs.declared.directory.Key.{Key};
-ghost use Rattle.late_insert.specs.Moves.{begin_of, moved};
+ghost use Rattle.late_insert.specs.Moves.{begin_of, moved, rewritten};
 
 use page_pool::FrameId;
+use std::alloc::{AllocError, Global};
+use std::marker::Model;
 
 /// A page of a content: its frame, the place of its first record, and that record's time. The frame has the
 /// totals of the line through its points; twice the area under their stair stands here.
@@ -17,6 +19,33 @@ pub(crate) struct Page {
     pub(crate) stair: i128,
 }
 
+/// A page without its place.
+#[derive(Drop)]
+struct Leaf {
+    id: FrameId,
+    start: u64,
+    stair: i128,
+}
+
+/// The list of a content's pages. The places stand apart, close to one another, since a put moves those of all pages
+/// behind it on.
+#[derive(Drop)]
+pub(crate) struct Directory {
+    leaves: Vec<Leaf>,
+    firsts: Vec<u32>,
+}
+
+impl Model for Directory {
+    ghost use Rattle.std.specs.Prelude.{◌≡◌, ◌≤◌, vec_len, vec_capacity};
+    ghost use Rattle.late_insert.specs.Moves.{Listed, placed_pages};
+
+    ghost Value = { Listed };
+
+    ghost view = { λ d. record { items = placed_pages d.leaves.items d.firsts.items; places = vec_capacity d.leaves } };
+
+    ghost invariant = { λ d. (vec_len d.firsts ≡ vec_len d.leaves) × (vec_capacity d.leaves ≤ vec_capacity d.firsts) };
+}
+
 /// By what of its first record a page is searched.
 #[derive(Clone, Copy)]
 enum Key {
@@ -24,71 +53,191 @@ enum Key {
     Place,
 }
 
-/// Where a page begins.
-fn begin(page: &Page, key: Key) -> u64
-    ensures { result ≡ begin_of key page.now }
-{
-    match key {
-        Key::Time => page.start,
-        Key::Place => u64::from(page.first),
+impl Directory {
+    /// An empty list, with room for so many pages.
+    pub(crate) fn with_capacity(alloc: Global, places: usize) -> Result<Directory, AllocError>
+        ensures { IfOk result (λ d. d ≡ record { items = []; places = places }) }
+    {
+        let leaves = Vec::with_capacity(alloc, places)?;
+        let firsts = Vec::with_capacity(alloc, places)?;
+        Ok(Directory { leaves, firsts })
     }
-}
 
-/// The last page that begins at x or before it, or the first page. The last one is tried first, since records
-/// mostly come in order.
-fn page_by(pages: &[Page], key: Key, x: u64) -> usize
-    requires some { 0 < length pages.now }
-    requires rising { AllPairs (λ p q. begin_of key p ≤ begin_of key q) pages.now }
-    ensures within { result < length pages.now }
-    ensures before { (k : ℕ) (d : Page) → 0 < k → k ≤ result → begin_of key (slice_index_or pages.now k d) ≤ x }
-    ensures after { (k : ℕ) (d : Page) → result < k → k < length pages.now → x < begin_of key (slice_index_or pages.now k d) }
-{
-    let last = pages.len() - 1;
-    if begin(&pages[last], key) <= x {
-        return last;
+    /// How many pages there are.
+    pub(crate) fn len(&self) -> usize
+        ensures { result ≡ length self.now.items }
+    {
+        self.leaves.len()
     }
-    let mut low = 0;
-    let mut high = pages.len();
-    while low + 1 < high {
-        let middle = low + (high - low) / 2;
-        if begin(&pages[middle], key) <= x {
-            low = middle;
-        } else {
-            high = middle;
+
+    /// The frame of a page.
+    pub(crate) fn id(&self, k: usize) -> &FrameId
+        requires { k < length self.now.items }
+        ensures value { (d : Page) → (slice_index_or self.now.items k d).id ≡ result.now }
+        ensures next { k + 1 < 2 ^ 64 }
+    {
+        &self.leaves[k].id
+    }
+
+    /// The place of a page's first record.
+    pub(crate) fn first(&self, k: usize) -> u32
+        requires { k < length self.now.items }
+        ensures { (d : Page) → (slice_index_or self.now.items k d).first ≡ result }
+    {
+        self.firsts[k]
+    }
+
+    /// The time of a page's first record.
+    pub(crate) fn start(&self, k: usize) -> u64
+        requires { k < length self.now.items }
+        ensures { (d : Page) → (slice_index_or self.now.items k d).start ≡ result }
+    {
+        self.leaves[k].start
+    }
+
+    /// Twice the area under a page's stair.
+    pub(crate) fn stair(&self, k: usize) -> i128
+        requires { k < length self.now.items }
+        ensures { (d : Page) → (slice_index_or self.now.items k d).stair ≡ result }
+    {
+        self.leaves[k].stair
+    }
+
+    /// Where a page begins.
+    fn begin(&self, k: usize, key: Key) -> u64
+        requires { k < length self.now.items }
+        ensures { (d : Page) → begin_of key (slice_index_or self.now.items k d) ≡ result }
+    {
+        match key {
+            Key::Time => self.start(k),
+            Key::Place => u64::from(self.first(k)),
         }
     }
-    low
+
+    /// The last page that begins at x or before it, or the first page. The last one is tried first, since records
+    /// mostly come in order.
+    fn page_by(&self, key: Key, x: u64) -> usize
+        requires some { 0 < length self.now.items }
+        requires rising { AllPairs (λ p q. begin_of key p ≤ begin_of key q) self.now.items }
+        ensures within { result < length self.now.items }
+        ensures before { (k : ℕ) (d : Page) → 0 < k → k ≤ result → begin_of key (slice_index_or self.now.items k d) ≤ x }
+        ensures after { (k : ℕ) (d : Page) → result < k → k < length self.now.items
+            → x < begin_of key (slice_index_or self.now.items k d) }
+    {
+        let last = self.len() - 1;
+        if self.begin(last, key) <= x {
+            return last;
+        }
+        let mut low = 0;
+        let mut high = self.len();
+        while low + 1 < high {
+            let middle = low + (high - low) / 2;
+            if self.begin(middle, key) <= x {
+                low = middle;
+            } else {
+                high = middle;
+            }
+        }
+        low
+    }
+
+    /// The last page that starts at the time t or before it, or the first page.
+    pub(crate) fn page_for(&self, t: u64) -> usize
+        requires some { 0 < length self.now.items }
+        requires rising { AllPairs (λ p q. p.start ≤ q.start) self.now.items }
+        ensures within { result < length self.now.items }
+        ensures before { (k : ℕ) (d : Page) → 0 < k → k ≤ result → (slice_index_or self.now.items k d).start ≤ t }
+        ensures after { (k : ℕ) (d : Page) → result < k → k < length self.now.items
+            → t < (slice_index_or self.now.items k d).start }
+    {
+        self.page_by(Key::Time, t)
+    }
+
+    /// The last page whose first record stands at the place i or before it.
+    pub(crate) fn page_of(&self, i: u32) -> usize
+        requires some { 0 < length self.now.items }
+        requires rising { AllPairs (λ p q. p.first ≤ q.first) self.now.items }
+        ensures within { result < length self.now.items }
+        ensures before { (k : ℕ) (d : Page) → 0 < k → k ≤ result → (slice_index_or self.now.items k d).first ≤ i }
+        ensures after { (k : ℕ) (d : Page) → result < k → k < length self.now.items
+            → i < (slice_index_or self.now.items k d).first }
+    {
+        self.page_by(Key::Place, u64::from(i))
+    }
+
+    /// Puts a page behind the others.
+    pub(crate) fn push(&mut self, page: Page)
+        requires { length self.old.items < self.old.places }
+        ensures { self.new ≡ record self.old { items = self.old.items ++ page ∷ [] } }
+    {
+        let Page {
+            id,
+            first,
+            start,
+            stair,
+        } = page;
+        self.leaves.push_reserved(Leaf { id, start, stair });
+        self.firsts.push_reserved(first);
+    }
+
+    /// Puts a page before the one at a place.
+    pub(crate) fn insert(&mut self, at: usize, page: Page)
+        requires within { at ≤ length self.old.items }
+        requires room { length self.old.items < self.old.places }
+        ensures { self.new ≡ record self.old { items = insert self.old.items at page } }
+    {
+        let Page {
+            id,
+            first,
+            start,
+            stair,
+        } = page;
+        put_in(&mut self.leaves, at, Leaf { id, start, stair });
+        put_in(&mut self.firsts, at, first);
+    }
+
+    /// Writes the start and the stair of a page.
+    pub(crate) fn write(&mut self, k: usize, start: u64, stair: i128)
+        requires { k < length self.old.items }
+        ensures { (d : Page) → self.new ≡ record self.old {
+          items = slice_set self.old.items k (rewritten start stair (slice_index_or self.old.items k d));
+        } }
+    {
+        let leaf = &mut self.leaves[k];
+        leaf.start = start;
+        leaf.stair = stair;
+    }
+
+    /// Moves the first places of the pages behind the page k on.
+    pub(crate) fn move_on(&mut self, k: usize, by: u32)
+        requires within { k < length self.old.items }
+        requires small { All (λ p. p.first + by < 2 ^ 32) self.old.items }
+        ensures { self.new ≡ record self.old {
+          items = take (k + 1) self.old.items ++ map (moved by) (drop (k + 1) self.old.items);
+        } }
+    {
+        move_places(&mut self.firsts, k, by);
+    }
 }
 
-/// The last page that starts at the time t or before it, or the first page.
-pub(crate) fn page_for(pages: &[Page], t: u64) -> usize
-    requires some { 0 < length pages.now }
-    requires rising { AllPairs (λ p q. p.start ≤ q.start) pages.now }
-    ensures within { result < length pages.now }
-    ensures before { (k : ℕ) (d : Page) → 0 < k → k ≤ result → (slice_index_or pages.now k d).start ≤ t }
-    ensures after { (k : ℕ) (d : Page) → result < k → k < length pages.now → t < (slice_index_or pages.now k d).start }
+/// Puts an item into a list that has room.
+fn put_in<T: Drop>(list: &mut Vec<T>, at: usize, item: T)
+    requires within { at ≤ vec_len list.old }
+    requires room { vec_len list.old < vec_capacity list.old }
+    ensures list { list.new.items ≡ insert list.old.items at item }
+    ensures len { vec_len list.new ≡ vec_len list.old + 1 }
+    ensures capacity { vec_capacity list.new ≡ vec_capacity list.old }
 {
-    page_by(pages, Key::Time, t)
+    let _ = list.insert(at, item);
 }
 
-/// The last page whose first record stands at the place i or before it.
-pub(crate) fn page_of(pages: &[Page], i: u32) -> usize
-    requires some { 0 < length pages.now }
-    requires rising { AllPairs (λ p q. p.first ≤ q.first) pages.now }
-    ensures within { result < length pages.now }
-    ensures before { (k : ℕ) (d : Page) → 0 < k → k ≤ result → (slice_index_or pages.now k d).first ≤ i }
-    ensures after { (k : ℕ) (d : Page) → result < k → k < length pages.now → i < (slice_index_or pages.now k d).first }
+/// Moves the places behind the place k on.
+fn move_places(places: &mut [u32], k: usize, by: u32)
+    requires within { k < length places.old }
+    requires small { All (λ n. n + by < 2 ^ 32) places.old }
+    ensures { places.new ≡ take (k + 1) places.old ++ map (λ n. n + by) (drop (k + 1) places.old) }
 {
-    page_by(pages, Key::Place, u64::from(i))
-}
-
-/// Moves the first places of the pages behind the page k on.
-pub(crate) fn move_on(pages: &mut [Page], k: usize, by: u32)
-    requires within { k < length pages.old }
-    requires small { All (λ p. p.first + by < 2 ^ 32) pages.old }
-    ensures { pages.new ≡ take (k + 1) pages.old ++ map (moved by) (drop (k + 1) pages.old) }
-{
-    for page in pages[k + 1..].iter_mut() {
-        page.first += by;
+    for place in places[k + 1..].iter_mut() {
+        *place += by;
     }
 }

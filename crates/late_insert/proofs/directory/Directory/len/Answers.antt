@@ -1,0 +1,13 @@
+use Rattle.std.proofs.Common.{length, ap, arith}
+use Rattle.late_insert.specs.Moves.{Listed}
+use Rattle.late_insert.proofs.Listing.{listed_length}
+use Rattle.late_insert.proofs.directory.Directory.len.Goals as goal
+
+pub returns : goal.returns
+returns c =
+    omega (
+      arith,
+      c.len.ensures,
+      ap (λ (s : Listed). length s.items) c.self.view_is,
+      listed_length c.self.inside.leaves c.self.inside.firsts c.self.invariant.0,
+    )
