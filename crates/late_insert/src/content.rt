@@ -65,7 +65,7 @@ impl Content {
     {
         let frames = points / 64 + 2;
         let mut pool = Pool::reserve(alloc, frames).map_err(|_| WantOfMemory)?;
-        let mut pages = Directory::with_capacity(alloc, frames as usize)?;
+        let mut pages = Directory::with_capacity(alloc, frames)?;
         first_page(&mut pool, &mut pages);
         Ok(Content {
             pool,

@@ -1,9 +1,9 @@
 // The list of a content's pages, in order of time.
-ghost use Rattle.std.specs.Prelude.{◌≡◌, ℕ, ◌+◌, ◌^◌, ◌<◌, ◌≤◌, [], ◌∷◌, length, map, take, drop, ◌++◌, All};
+ghost use Rattle.std.specs.Prelude.{◌≡◌, ℕ, ◌+◌, ◌-◌, ◌^◌, ◌<◌, ◌≤◌, [], ◌∷◌, length, map, take, drop, ◌++◌, All};
 ghost use Rattle.std.specs.Prelude.{slice_index_or, slice_set, insert, vec_len, vec_capacity, AllPairs, IfOk};
 ghost use Rattle.late_insert.specs.declared.directory.Page.{Page};
 ghost use Rattle.late_insert.specs.declared.directory.Key.{Key};
-ghost use Rattle.late_insert.specs.Moves.{begin_of, moved, rewritten};
+ghost use Rattle.late_insert.specs.Moves.{begin_of, leaf_of, moved, rewritten};
 
 use page_pool::FrameId;
 use std::alloc::{AllocError, Global};
@@ -27,23 +27,29 @@ struct Leaf {
     stair: i128,
 }
 
-/// The list of a content's pages. The places stand apart, close to one another, since a put moves those of all pages
-/// behind it on.
+/// The list of a content's pages. A page stays where it was put first, and its number stands in a list in order of time.
+/// The places are a list of their own. So a page that is put among the others moves eight bytes a page, and a record four.
 #[derive(Drop)]
 pub(crate) struct Directory {
     leaves: Vec<Leaf>,
+    order: Vec<u32>,
     firsts: Vec<u32>,
 }
 
 impl Model for Directory {
-    ghost use Rattle.std.specs.Prelude.{◌≡◌, ◌≤◌, vec_len, vec_capacity};
-    ghost use Rattle.late_insert.specs.Moves.{Listed, placed_pages};
+    ghost use Rattle.std.specs.Prelude.{◌≡◌, ◌^◌, ◌<◌, vec_capacity};
+    ghost use Rattle.late_insert.specs.Moves.{AreOrdered, Listed, picked, placed_pages};
 
     ghost Value = { Listed };
 
-    ghost view = { λ d. record { items = placed_pages d.leaves.items d.firsts.items; places = vec_capacity d.leaves } };
+    ghost view = { λ d. record {
+      items = placed_pages (picked d.leaves.items d.order.items) d.firsts.items;
+      places = vec_capacity d.leaves;
+    } };
 
-    ghost invariant = { λ d. (vec_len d.firsts ≡ vec_len d.leaves) × (vec_capacity d.leaves ≤ vec_capacity d.firsts) };
+    ghost invariant = { λ d. AreOrdered d.leaves.items d.order.items d.firsts.items
+        × (vec_capacity d.order ≡ vec_capacity d.leaves) × (vec_capacity d.firsts ≡ vec_capacity d.leaves)
+        × (vec_capacity d.leaves < 2 ^ 32) };
 }
 
 /// By what of its first record a page is searched.
@@ -55,12 +61,17 @@ enum Key {
 
 impl Directory {
     /// An empty list, with room for so many pages.
-    pub(crate) fn with_capacity(alloc: Global, places: usize) -> Result<Directory, AllocError>
+    pub(crate) fn with_capacity(alloc: Global, places: u32) -> Result<Directory, AllocError>
         ensures { IfOk result (λ d. d ≡ record { items = []; places = places }) }
     {
-        let leaves = Vec::with_capacity(alloc, places)?;
-        let firsts = Vec::with_capacity(alloc, places)?;
-        Ok(Directory { leaves, firsts })
+        let leaves = Vec::with_capacity(alloc, places as usize)?;
+        let order = Vec::with_capacity(alloc, places as usize)?;
+        let firsts = Vec::with_capacity(alloc, places as usize)?;
+        Ok(Directory {
+            leaves,
+            order,
+            firsts,
+        })
     }
 
     /// How many pages there are.
@@ -70,13 +81,22 @@ impl Directory {
         self.leaves.len()
     }
 
+    /// A page without its place.
+    fn leaf(&self, k: usize) -> &Leaf
+        requires { k < length self.now.items }
+        ensures value { (d : Page) → leaf_of (slice_index_or self.now.items k d) ≡ result.now }
+        ensures next { k + 1 < 2 ^ 64 }
+    {
+        &self.leaves[self.order[k] as usize]
+    }
+
     /// The frame of a page.
     pub(crate) fn id(&self, k: usize) -> &FrameId
         requires { k < length self.now.items }
         ensures value { (d : Page) → (slice_index_or self.now.items k d).id ≡ result.now }
         ensures next { k + 1 < 2 ^ 64 }
     {
-        &self.leaves[k].id
+        &self.leaf(k).id
     }
 
     /// The place of a page's first record.
@@ -92,7 +112,7 @@ impl Directory {
         requires { k < length self.now.items }
         ensures { (d : Page) → (slice_index_or self.now.items k d).start ≡ result }
     {
-        self.leaves[k].start
+        self.leaf(k).start
     }
 
     /// Twice the area under a page's stair.
@@ -100,7 +120,7 @@ impl Directory {
         requires { k < length self.now.items }
         ensures { (d : Page) → (slice_index_or self.now.items k d).stair ≡ result }
     {
-        self.leaves[k].stair
+        self.leaf(k).stair
     }
 
     /// Where a page begins.
@@ -170,14 +190,8 @@ impl Directory {
         requires { length self.old.items < self.old.places }
         ensures { self.new ≡ record self.old { items = self.old.items ++ page ∷ [] } }
     {
-        let Page {
-            id,
-            first,
-            start,
-            stair,
-        } = page;
-        self.leaves.push_reserved(Leaf { id, start, stair });
-        self.firsts.push_reserved(first);
+        let behind = self.len();
+        self.insert(behind, page);
     }
 
     /// Puts a page before the one at a place.
@@ -192,8 +206,9 @@ impl Directory {
             start,
             stair,
         } = page;
-        put_in(&mut self.leaves, at, Leaf { id, start, stair });
+        put_in(&mut self.order, at, self.leaves.len() as u32);
         put_in(&mut self.firsts, at, first);
+        self.leaves.push_reserved(Leaf { id, start, stair });
     }
 
     /// Writes the start and the stair of a page.
@@ -203,7 +218,7 @@ impl Directory {
           items = slice_set self.old.items k (rewritten start stair (slice_index_or self.old.items k d));
         } }
     {
-        let leaf = &mut self.leaves[k];
+        let leaf = &mut self.leaves[self.order[k] as usize];
         leaf.start = start;
         leaf.stair = stair;
     }
@@ -220,15 +235,29 @@ impl Directory {
     }
 }
 
-/// Puts an item into a list that has room.
-fn put_in<T: Drop>(list: &mut Vec<T>, at: usize, item: T)
+/// Moves all but the last number up by one, and puts another one in front.
+fn shift_in(numbers: &mut [u32], x: u32)
+    requires { 0 < length numbers.old }
+    ensures { numbers.new ≡ x ∷ take (length numbers.old - 1) numbers.old }
+{
+    let mut i = numbers.len() - 1;
+    while 0 < i {
+        numbers[i] = numbers[i - 1];
+        i -= 1;
+    }
+    numbers[0] = x;
+}
+
+/// Puts a number into a list that has room.
+fn put_in(list: &mut Vec<u32>, at: usize, x: u32)
     requires within { at ≤ vec_len list.old }
     requires room { vec_len list.old < vec_capacity list.old }
-    ensures list { list.new.items ≡ insert list.old.items at item }
+    ensures list { list.new.items ≡ insert list.old.items at x }
     ensures len { vec_len list.new ≡ vec_len list.old + 1 }
     ensures capacity { vec_capacity list.new ≡ vec_capacity list.old }
 {
-    let _ = list.insert(at, item);
+    list.push_reserved(x);
+    shift_in(&mut list[at..], x);
 }
 
 /// Moves the places behind the place k on.

@@ -8,6 +8,7 @@ returns c =
     omega (
       arith,
       c.len.ensures,
+      c.self.inside.leaves.ok.0,
       ap (λ (s : Listed). length s.items) c.self.view_is,
-      listed_length c.self.inside.leaves c.self.inside.firsts c.self.invariant.0,
+      listed_length c.self.inside.leaves.items c.self.inside.order.items c.self.inside.firsts.items c.self.invariant.0,
     )

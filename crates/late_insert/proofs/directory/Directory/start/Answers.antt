@@ -1,23 +1,6 @@
-use Rattle.std.proofs.Common.{◌<◌, length, get_or, ap, sym, ◌∙◌, subst, arith}
-use Rattle.late_insert.specs.declared.directory.Page.{Page}
+use Rattle.std.proofs.Common.{ap}
 use Rattle.late_insert.specs.declared.directory.Leaf.{Leaf}
-use Rattle.late_insert.specs.Moves.{Listed}
-use Rattle.late_insert.proofs.Listing.{listed_length, listed_read}
 use Rattle.late_insert.proofs.directory.Directory.start.Goals as goal
 
-pub index-requires : goal.index-requires
-index-requires c =
-    omega (
-      arith,
-      c.requires,
-      ap (λ (s : Listed). length s.items) c.self.view_is,
-      listed_length c.self.inside.leaves c.self.inside.firsts c.self.invariant.0,
-    )
-
 pub returns : goal.returns
-returns c = λ d.
-    let within = subst (λ (s : Listed). c.args.k < length s.items) (sym c.self.view_is) c.requires in
-    ap (λ (s : Listed). (get_or s.items c.args.k d).start) (sym c.self.view_is)
-    ∙ (ap (λ (p : Page). p.start)
-    (listed_read c.self.inside.leaves c.self.inside.firsts c.args.k c.index.result.now 0 d c.self.invariant.0 within)
-    ∙ ap (λ (l : Leaf). l.start) (sym c.index.ensures))
+returns c = λ d. ap (λ (l : Leaf). l.start) (c.leaf.ensures.value d)
