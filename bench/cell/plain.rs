@@ -1,10 +1,15 @@
 //! What a cell is measured against: plain code that nobody verified, which keeps the same of a walk of values: a core with two
 //! doors, the sorted content of its records, and a list of entries. The words are WHAT COUNT: `takes` takes so many values,
-//! `nothing` makes the lists alone, and `device` writes so many values in batches of 64 to the file `historian.d/cell`, with
-//! two writes and two syncs each. Printed are the nanoseconds that it took, and how many records there are.
+//! `posts` takes them and after each one writes the count and the held point for readers without a lock, `nothing` makes the
+//! lists alone, and `device` writes so many values in batches of 64 to the file `historian.d/cell`, with two writes and two
+//! syncs each. Printed are the nanoseconds that it took, and how many records there are.
 use std::fs::OpenOptions;
 use std::os::unix::fs::FileExt;
+use std::sync::atomic::{AtomicU64, Ordering::SeqCst};
 use std::time::Instant;
+
+// How many slots the lane has.
+const LANE: u64 = 512;
 
 #[derive(Clone, Copy)]
 struct Point {
@@ -105,7 +110,28 @@ fn put(content: &mut Vec<Point>, p: Point) {
     }
 }
 
-fn takes(count: u32, room: usize) -> (u128, usize) {
+/// Four words behind a version that is odd while they are written, as a cell of the board has them.
+#[derive(Default)]
+struct Shown {
+    version: AtomicU64,
+    words: [AtomicU64; 4],
+}
+
+impl Shown {
+    fn post(&self, words: [u64; 4]) {
+        let version = self.version.load(SeqCst);
+        while self.version.compare_exchange(version, version + 1, SeqCst, SeqCst).is_err() {
+            std::hint::spin_loop();
+        }
+        for (place, word) in self.words.iter().zip(words) {
+            place.store(word, SeqCst);
+        }
+        self.version.store(version + 2, SeqCst);
+    }
+}
+
+fn takes<const POSTS: bool>(count: u32, room: usize) -> (u128, usize) {
+    let shown = Box::new(Shown::default());
     let mut core = Core { records: Vec::with_capacity(2 * room), ..Core::default() };
     let mut content: Vec<Point> = Vec::with_capacity(2 * room);
     let mut entries: Vec<Entry> = Vec::with_capacity(room);
@@ -121,6 +147,9 @@ fn takes(count: u32, room: usize) -> (u128, usize) {
             put(&mut content, core.records[i].1);
         }
         let held = core.held.expect("a held point");
+        if POSTS {
+            std::hint::black_box(&shown).post([row as u64 + 1, 1, held.t, held.v as u64]);
+        }
         entries.push(Entry::Take { collector: 0, row: row as u64, point: p, held, records: core.records.len() as u32 });
     }
     (start.elapsed().as_nanos(), core.records.len().max(content.len()).max(usize::from(entries.is_empty())))
@@ -129,14 +158,14 @@ fn takes(count: u32, room: usize) -> (u128, usize) {
 fn device(count: u32) -> std::io::Result<u128> {
     std::fs::create_dir_all("historian.d")?;
     let file = OpenOptions::new().create(true).truncate(true).read(true).write(true).open("historian.d/cell")?;
-    file.write_all_at(&vec![0; 464 + 64 * 1034], 0)?;
+    file.write_all_at(&vec![0; (400 + LANE + LANE * 1034) as usize], 0)?;
     file.sync_all()?;
     let slot = vec![7u8; 1034];
     let start = Instant::now();
     for batch in 0..count as u64 / 64 {
-        file.write_all_at(&slot, 464 + 1034 * (batch % 64))?;
+        file.write_all_at(&slot, 400 + LANE + 1034 * (batch % LANE))?;
         file.sync_data()?;
-        file.write_all_at(&[0xa5], 400 + batch % 64)?;
+        file.write_all_at(&[0xa5], 400 + batch % LANE)?;
         file.sync_data()?;
     }
     Ok(start.elapsed().as_nanos())
@@ -146,8 +175,9 @@ fn main() {
     let words: Vec<String> = std::env::args().skip(1).collect();
     let count: u32 = words[1].parse().expect("a number");
     let (took, records) = match words[0].as_str() {
-        "takes" => takes(count, count as usize),
-        "nothing" => takes(0, count as usize),
+        "takes" => takes::<false>(count, count as usize),
+        "posts" => takes::<true>(count, count as usize),
+        "nothing" => takes::<false>(0, count as usize),
         _ => (device(count).expect("a file"), 0),
     };
     println!("{took} {records}");

@@ -96,7 +96,9 @@ def main():
                 print("%s records, 1000 %s: anew %.2f ms, one more %.2f us, 1/%.0f of it, windows %d, values %d"
                       % (first, kind, anew[first] / 1e6, each[first] / 1e3, anew[first] / each[first], told[first][0][2],
                          told[first][0][3]))
-            print("one more of the larger sheet takes %.2f times that of the smaller one" % (each[LARGE] / each[SMALL]))
+            ratio = each[LARGE] / each[SMALL]
+            print("one more of the larger sheet takes %.2f times that of the smaller one, aim 2.00 %s"
+                  % (ratio, "met" if ratio <= 2 else "MISSED"))
         print("load", os.getloadavg())
 
 

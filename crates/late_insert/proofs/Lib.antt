@@ -3,6 +3,7 @@ pub mod Areas
 pub mod Summing
 pub mod Halving
 pub mod Moving
+pub mod Listing
 pub mod Sorted
 pub mod Storing
 pub mod Joining

@@ -7,14 +7,14 @@ use Rattle.std.proofs.lemmas.List.{get_or_default, take_at, drop_at, take_more, 
 use Rattle.std.proofs.lemmas.List.{length-take-le, length-drop, map-append}
 use Rattle.std.proofs.lemmas.List.Sums.{sum_by-cons, sum_by-take-drop}
 use Rattle.std.proofs.lemmas.List.Elements.{All-head, All-tail}
-use Rattle.std.specs.Prelude.{FitsSigned}
+use Rattle.std.specs.Prelude.{FitsSigned, is_some}
 use Rattle.std.proofs.lemmas.Int.{to_z-of_z}
 use mir.Syntax.{w128}
 use mir.Val.{of_z, to_z}
 use Rattle.std.proofs.lemmas.Bool.{cases_lt, cases_eq, lt-ltb, le-ltb}
 use Rattle.trend_num.specs.declared.archive.Rec.{Rec}
 use Rattle.page_pool.specs.declared.frame.Frame.{Frame}
-use Rattle.page_pool.specs.Pool.{frame_at}
+use Rattle.page_pool.specs.Pool.{IsHeld, frame_at}
 use Rattle.late_insert.specs.declared.directory.Page.{Page}
 use Rattle.trend_model.specs.Contents.{IsRising, points_of}
 use Rattle.trend_model.specs.Windows.{area}
@@ -42,6 +42,20 @@ pub is_read : (pool : List (Option Frame)) (pages : List Page) (k : ℕ) (p : Pa
     → p ≡ get_or pages k p → frame_at pool p.id ≡ Some f → IsRead pool pages k p f
 is_read pool pages k p f paged within read there =
     record { paged = paged; within = within; read = read; there = there }
+
+-- or by the id of its frame
+pub read_by : (pool : List (Option Frame)) (pages : List Page) (k id : ℕ) (f : Frame) → ArePages pool pages
+    → k < length pages → (get_or pages k no_page).id ≡ id → frame_at pool id ≡ Some f
+    → IsRead pool pages k (get_or pages k no_page) f
+read_by pool pages k id f paged within same there =
+    is_read pool pages k (get_or pages k no_page) f paged within
+    (get_or_default pages k no_page (get_or pages k no_page) within) (ap (frame_at pool) same ∙ there)
+
+-- its frame is there
+pub held_by : (pool : List (Option Frame)) (pages : List Page) (k id : ℕ) → ArePages pool pages
+    → k < length pages → (get_or pages k no_page).id ≡ id → IsHeld pool id
+held_by pool pages k id paged within same =
+    subst (IsHeld pool) same (ap is_some (page_at pool pages k no_page within paged.each).there)
 
 -- so is each page
 pub each_read : (pool : List (Option Frame)) (pages : List Page) (k : ℕ) (d : Page)

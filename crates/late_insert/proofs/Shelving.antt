@@ -1,9 +1,9 @@
 -- What the code makes of a list of pages.
 use Rattle.std.proofs.Common.{◌≡◌, true, ℕ, ℤ, zero, suc, ◌+◌, ◌^◌, ◌<◌, ◌≤◌, List, [], ◌∷◌, ◌++◌, length}
-use Rattle.std.proofs.Common.{map, get_or, set, take, drop, Option, Some, All, Vec, Global, sym, ap, ap₂, ◌∙◌}
+use Rattle.std.proofs.Common.{map, get_or, set, take, drop, Option, Some, All, sym, ap, ap₂, ◌∙◌}
 use Rattle.std.proofs.Common.{subst, arith, append_assoc, length-append, add-one, inl, inr}
-use Rattle.std.proofs.lemmas.List.{take_at, take_more_set, drop-set-lt, get_or_default, length-map}
-use Rattle.std.proofs.lemmas.List.{length-set, length-take-le, length-drop, get_or_at, get_or-set_same}
+use Rattle.std.proofs.lemmas.List.{take_more_set, drop-set-lt, get_or_default}
+use Rattle.std.proofs.lemmas.List.{length-set, length-take-le, get_or_at, get_or-set_same}
 use Rattle.std.proofs.lemmas.List.{get_or-set_other}
 use Rattle.std.proofs.lemmas.List.Edits.{get_or-insert_at, get_or-insert_below, get_or-insert_above}
 use Rattle.std.proofs.lemmas.List.Edits.{length-insert}
@@ -29,17 +29,16 @@ use Rattle.late_insert.proofs.Reading.{IsRead, end_within}
 
 -- the pages after a record was put into the page at k: its start and stair are written, and the others are
 -- moved on
-pub record IsShelved (pages M S : List Page) (k n by : ℕ) (q : Page) (g : Frame) (s : ℤ) : Type 0 where
+pub record IsShelved (pages M S : List Page) (k by : ℕ) (q : Page) (g : Frame) (s : ℤ) : Type 0 where
   pub again : q ≡ get_or pages k q
   pub wrote : S ≡ set pages k (record { id = q.id; first = q.first; start = get_or g.times 0 0; stair = s })
   pub moves : M ≡ take (k + 1) S ++ map (moved by) (drop (k + 1) S)
-  pub long : n ≡ length pages
 
-module _ (pool : List (Option Frame)) (pages M S rest : List Page) (k n by : ℕ) (p q : Page) (f g : Frame)
+module _ (pool : List (Option Frame)) (pages M S : List Page) (k by : ℕ) (p q : Page) (f g : Frame)
     (r : Rec) (s : ℤ) (stair : s ≡ area true (points_of (records_in g)))
     (is : IsRead pool pages k p f) (found : IsFor pool pages k (time r)) (page : IsPage g)
     (records : records_in g ≡ placed r (records_in f)) (grown : g.len ≡ f.len + by)
-    (shelved : IsShelved pages M S k n by q g s) where
+    (shelved : IsShelved pages M S k by q g s) where
   same_page : q ≡ p
   same_page = shelved.again ∙ (get_or_default pages k q p is.within ∙ sym is.read)
 
@@ -59,7 +58,7 @@ module _ (pool : List (Option Frame)) (pages M S rest : List Page) (k n by : ℕ
   in_len = omega (arith, length-records_in g, length-records_in f, ap length held)
 
   -- the pages as the code leaves them
-  final : take n (M ++ rest) ≡ take k pages ++ record
+  final : M ≡ take k pages ++ record
       { id = p.id; first = p.first; start = get_or g.times 0 0; stair = s } ∷ map (moved by)
       (drop (k + 1) pages)
   final =
@@ -71,30 +70,17 @@ module _ (pool : List (Option Frame)) (pages M S rest : List Page) (k n by : ℕ
       let whole : M ≡ take k pages ++ now ∷ map (moved by) (drop (k + 1) pages) =
       shelved.moves ∙ (ap₂ (λ xs ys. xs ++ map (moved by) ys) front back
       ∙ append_assoc (take k pages) (now ∷ []) (map (moved by) (drop (k + 1) pages))) in
-      let parts = length-append (take k pages) (now ∷ map (moved by) (drop (k + 1) pages)) in
-      let long : length M ≡ n =
-      omega (
-        arith,
-        ap length whole,
-        parts,
-        length-map (drop (k + 1) pages) (moved by),
-        length-drop (k + 1) pages,
-        length-take-le k pages (omega (arith, is.within)),
-        is.within,
-        shelved.long,
-      ) in
-      take_at M rest n long ∙ (whole
-      ∙ ap (λ (x : Page). take k pages ++ record
+      whole ∙ ap (λ (x : Page). take k pages ++ record
       { id = x.id; first = x.first; start = get_or g.times 0 0; stair = s } ∷ map (moved by)
-      (drop (k + 1) pages)) same_page)
+      (drop (k + 1) pages)) same_page
 
-  pub pages_shelved : ArePages (set pool p.id (Some g)) (take n (M ++ rest))
+  pub pages_shelved : ArePages (set pool p.id (Some g)) (M)
   pages_shelved =
       subst (ArePages (set pool p.id (Some g))) (sym final)
       (pages_put pool (take k pages) (drop (k + 1) pages) p g r by s stair as_pages page in_page in_len
       found.before found.after)
 
-  pub records-shelved : records_of (set pool p.id (Some g)) (take n (M ++ rest)) ≡ placed r
+  pub records-shelved : records_of (set pool p.id (Some g)) (M) ≡ placed r
       (records_of pool pages)
   records-shelved =
       ap (records_of (set pool p.id (Some g))) final
@@ -102,7 +88,7 @@ module _ (pool : List (Option Frame)) (pages M S rest : List Page) (k n by : ℕ
       found.before found.after
       ∙ ap (λ ps. placed r (records_of pool ps)) (sym around))
 
-  pub len-shelved : length (records_of (set pool p.id (Some g)) (take n (M ++ rest))) ≡ length
+  pub len-shelved : length (records_of (set pool p.id (Some g)) (M)) ≡ length
       (records_of pool pages) + by
   len-shelved =
       let A = records_of pool (take k pages) in
@@ -249,10 +235,6 @@ full_frame pool pages k p f is full =
     let there = ap (λ o. length (records_at o)) is.there in
     omega (arith, length-records_in f)
 
--- a place in a vector
-pub within_from : (v : Vec Page Global) (k : ℕ) → k < v.len → k < length v.items
-within_from v k within = omega (arith, v.ok.0)
-
 -- a page's place and half a page fit
 pub first_small : (pool : List (Option Frame)) (pages : List Page) (k : ℕ) (p q : Page) (f : Frame)
     → IsRead pool pages k p f → f.len ≡ 128
@@ -351,14 +333,7 @@ page_len pool pages k p f is d =
     ∙ (ap (λ o. length (records_at o)) is.there ∙ length-records_in f)
 
 -- the upper half is one of the pages
-pub within_split : (now : Vec Page Global) (old : List Page) (k : ℕ) → IsSplit old now.items k
-    → k < length old → k + 1 < now.len
+pub within_split : (now old : List Page) (k : ℕ) → IsSplit old now k → k < length old → k + 1 < length now
 within_split now old k split within =
     let long = length-set old k split.lower in
-    omega (
-      arith,
-      now.ok.0,
-      ap length split.list,
-      length-insert (set old k split.lower) (k + 1) split.upper
-          (omega arith),
-    )
+    omega (arith, ap length split.list, length-insert (set old k split.lower) (k + 1) split.upper (omega arith))

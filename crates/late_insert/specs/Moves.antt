@@ -1,13 +1,48 @@
--- Where pages begin, and pages behind one that grew.
-use Rattle.std.specs.Prelude.{ℕ, ◌+◌}
+-- The list of pages: where they begin, one that is written, and those behind one that grew.
+use Rattle.std.specs.Prelude.{◌≡◌, ℕ, ℤ, pos, ◌+◌, ◌<◌, List, [], ◌∷◌, All, length, map, slice_index_or}
 use Rattle.late_insert.specs.declared.directory.Key.{Key}
 use Rattle.late_insert.specs.declared.directory.Key.TheVariants.{Time, Place}
+use Rattle.late_insert.specs.declared.directory.Leaf.{Leaf}
 use Rattle.late_insert.specs.declared.directory.Page.{Page}
+use Rattle.late_insert.specs.Pages.{AreApart}
+
+-- pages, and for how many there is room
+pub record Listed : Type 0 where
+  pub items : List Page
+  pub places : ℕ
+
+-- a page without its place
+abbrev pub leaf_of : Page → Leaf
+leaf_of p = record { id = p.id; start = p.start; stair = p.stair }
+
+abbrev pub no_leaf : Leaf
+no_leaf = record { id = 0; start = 0; stair = pos 0 }
+
+-- those at these numbers
+abbrev pub picked : List Leaf → List ℕ → List Leaf
+picked leaves order = map (λ i. slice_index_or leaves i no_leaf) order
+
+-- each page has one number and one place
+pub record AreOrdered (leaves : List Leaf) (order places : List ℕ) : Type 0 where
+  pub numbers : length order ≡ length leaves
+  pub firsts : length places ≡ length leaves
+  pub within : All (λ i. i < length leaves) order
+  pub apart : AreApart order
+
+-- pages that are kept without their places, each with its place
+abbrev pub placed_pages : List Leaf → List ℕ → List Page
+placed_pages [] ns = []
+placed_pages (l ∷ ls) [] = []
+placed_pages (l ∷ ls) (n ∷ ns) = record { id = l.id; first = n; start = l.start; stair = l.stair } ∷ placed_pages ls ns
 
 -- where a page begins, by time or by place
 abbrev pub begin_of : Key → Page → ℕ
 begin_of Time p = p.start
 begin_of Place p = p.first
+
+-- a page with another start and another stair
+abbrev pub rewritten : ℕ → ℤ → Page → Page
+rewritten start stair p = record { id = p.id; first = p.first; start = start; stair = stair }
 
 -- a page whose first record stands so many places later
 abbrev pub moved : ℕ → Page → Page

@@ -10,7 +10,7 @@ ghost use Rattle.trend_model.specs.Contents.{IsCeil, IsContentOf, IsFloor, IsRis
 ghost use Rattle.late_insert.specs.Places.{StandsAt};
 ghost use Rattle.late_insert.specs.PageTotals.{IsPageOf};
 
-use crate::directory::{Page, page_of};
+use crate::directory::Directory;
 use crate::gap::{Around, around_in, gap_in, rec_in};
 use crate::page::run_len;
 use crate::shelf::{first_page, is_full_before, make_room, open_page, put_at};
@@ -24,14 +24,14 @@ use trend_num::{Kind, Point, Rec, WantOfMemory};
 #[derive(Drop)]
 pub struct Content {
     pool: Pool,
-    pages: Vec<Page>,
+    pages: Directory,
     len: u32,
     // How many points there may be.
     room: u32,
 }
 
 impl Model for Content {
-    ghost use Rattle.std.specs.Prelude.{◌-◌, vec_capacity};
+    ghost use Rattle.std.specs.Prelude.{◌-◌};
     ghost use Rattle.trend_model.specs.Contents.{ContentState};
     ghost use Rattle.late_insert.specs.Pages.{IsKept, records_of};
 
@@ -39,7 +39,7 @@ impl Model for Content {
 
     ghost view = { λ c. record { records = records_of c.pool c.pages.items; spare = c.room - c.len } };
 
-    ghost invariant = { λ c. IsKept c.pool c.pages.items (vec_capacity c.pages) c.len c.room };
+    ghost invariant = { λ c. IsKept c.pool c.pages.items c.pages.places c.len c.room };
 }
 
 /// Totals of a page of a content.
@@ -65,7 +65,7 @@ impl Content {
     {
         let frames = points / 64 + 2;
         let mut pool = Pool::reserve(alloc, frames).map_err(|_| WantOfMemory)?;
-        let mut pages = Vec::with_capacity(alloc, frames as usize)?;
+        let mut pages = Directory::with_capacity(alloc, frames)?;
         first_page(&mut pool, &mut pages);
         Ok(Content {
             pool,
@@ -121,7 +121,7 @@ impl Content {
         ensures room { length self.new.records + self.new.spare ≡ length self.old.records + self.old.spare }
     {
         let rec = recs[0];
-        if is_full_before(&self.pool, self.pages.as_slice(), rec.point.t) {
+        if is_full_before(&self.pool, &self.pages, rec.point.t) {
             let n = run_len(recs);
             open_page(&mut self.pool, &mut self.pages, self.len, &recs[..n]);
             self.len += n as u32;
@@ -205,7 +205,7 @@ impl Content {
         ensures before_range { IfSome result.before InRange }
         ensures after_range { IfSome result.after InRange }
     {
-        around_in(&self.pool, self.pages.as_slice(), self.len, t)
+        around_in(&self.pool, &self.pages, self.len, t)
     }
 
     /// A walk over the points at the places from one on, before another.
@@ -214,7 +214,7 @@ impl Content {
         requires within { behind ≤ length self.now.records }
         ensures { result ≡ slice_range (points_of self.now.records) first behind }
     {
-        runs_in(&self.pool, self.pages.as_slice(), first, behind)
+        runs_in(&self.pool, &self.pages, first, behind)
     }
 
     /// Whether a Late record stands at the time t.
@@ -232,10 +232,10 @@ impl Content {
         requires { i < length self.now.records }
         ensures { IsPageOf self.now.records i result }
     {
-        let page = &self.pages[page_of(self.pages.as_slice(), i)];
-        let frame = self.pool.frame(&page.id);
+        let k = self.pages.page_of(i);
+        let frame = self.pool.frame(self.pages.id(k));
         PageTotals {
-            first: page.first,
+            first: self.pages.first(k),
             len: frame.len,
             area: frame.area,
             low: frame.low,
@@ -249,7 +249,7 @@ impl Content {
         ensures value { (d : Rec) → slice_index_or self.now.records i d ≡ result }
         ensures range { InRange result.point }
     {
-        rec_in(&self.pool, self.pages.as_slice(), i)
+        rec_in(&self.pool, &self.pages, i)
     }
 
     // The record at a place, where its time is t.
@@ -272,7 +272,7 @@ impl Content {
         ensures after { All (λ r. t ≤ r.point.t) (drop result self.now.records) }
         ensures rising { IsRising self.now.records }
     {
-        gap_in(&self.pool, self.pages.as_slice(), t).place
+        gap_in(&self.pool, &self.pages, t).place
     }
 }
 

@@ -7,7 +7,7 @@ ghost use Rattle.trend_model.specs.Contents.{points_of};
 ghost use Rattle.trend_model.specs.Parts.{last_point};
 ghost use Rattle.late_insert.specs.Pages.{ArePages, records_of};
 
-use crate::directory::{Page, page_for, page_of};
+use crate::directory::Directory;
 use crate::page::{below_in, rec_at};
 use page_pool::Pool;
 use trend_num::{Point, Rec};
@@ -22,56 +22,54 @@ pub(crate) struct Gap {
 }
 
 /// The gap up to which all records are before the time t, and from which on none is.
-pub(crate) fn gap_in(pool: &Pool, pages: &[Page], t: u64) -> Gap
-    requires pages { ArePages pool.now pages.now }
-    requires few { length (records_of pool.now pages.now) < 2 ^ 32 }
-    ensures page { result.page < length pages.now }
-    ensures bound { result.place ≤ length (records_of pool.now pages.now) }
-    ensures before { All (λ r. r.point.t < t) (take result.place (records_of pool.now pages.now)) }
-    ensures after { All (λ r. t ≤ r.point.t) (drop result.place (records_of pool.now pages.now)) }
+pub(crate) fn gap_in(pool: &Pool, pages: &Directory, t: u64) -> Gap
+    requires pages { ArePages pool.now pages.now.items }
+    requires few { length (records_of pool.now pages.now.items) < 2 ^ 32 }
+    ensures page { result.page < length pages.now.items }
+    ensures bound { result.place ≤ length (records_of pool.now pages.now.items) }
+    ensures before { All (λ r. r.point.t < t) (take result.place (records_of pool.now pages.now.items)) }
+    ensures after { All (λ r. t ≤ r.point.t) (drop result.place (records_of pool.now pages.now.items)) }
 {
-    let k = page_for(pages, t);
-    let page = &pages[k];
+    let k = pages.page_for(t);
     Gap {
         page: k,
-        place: page.first + below_in(pool.frame(&page.id), t) as u32,
+        place: pages.first(k) + below_in(pool.frame(pages.id(k)), t) as u32,
     }
 }
 
 /// The record at a place.
-pub(crate) fn rec_in(pool: &Pool, pages: &[Page], i: u32) -> Rec
-    requires pages { ArePages pool.now pages.now }
-    requires within { i < length (records_of pool.now pages.now) }
-    ensures value { (d : Rec) → slice_index_or (records_of pool.now pages.now) i d ≡ result }
+pub(crate) fn rec_in(pool: &Pool, pages: &Directory, i: u32) -> Rec
+    requires pages { ArePages pool.now pages.now.items }
+    requires within { i < length (records_of pool.now pages.now.items) }
+    ensures value { (d : Rec) → slice_index_or (records_of pool.now pages.now.items) i d ≡ result }
     ensures range { InRange result.point }
 {
-    let k = page_of(pages, i);
-    let page = &pages[k];
-    rec_at(pool.frame(&page.id), (i - page.first) as usize)
+    let k = pages.page_of(i);
+    rec_at(pool.frame(pages.id(k)), (i - pages.first(k)) as usize)
 }
 
 /// The record at a place. It is mostly on the page k, which is tried before any search.
-pub(crate) fn rec_near(pool: &Pool, pages: &[Page], k: usize, i: u32) -> Rec
-    requires pages { ArePages pool.now pages.now }
-    requires page { k < length pages.now }
-    requires within { i < length (records_of pool.now pages.now) }
-    ensures value { (d : Rec) → slice_index_or (records_of pool.now pages.now) i d ≡ result }
+pub(crate) fn rec_near(pool: &Pool, pages: &Directory, k: usize, i: u32) -> Rec
+    requires pages { ArePages pool.now pages.now.items }
+    requires page { k < length pages.now.items }
+    requires within { i < length (records_of pool.now pages.now.items) }
+    ensures value { (d : Rec) → slice_index_or (records_of pool.now pages.now.items) i d ≡ result }
     ensures range { InRange result.point }
 {
-    let page = &pages[k];
-    let frame = pool.frame(&page.id);
-    if page.first <= i && i - page.first < frame.len {
-        return rec_at(frame, (i - page.first) as usize);
+    let first = pages.first(k);
+    let frame = pool.frame(pages.id(k));
+    if first <= i && i - first < frame.len {
+        return rec_at(frame, (i - first) as usize);
     }
     rec_in(pool, pages, i)
 }
 
 /// The last point before a gap.
-fn last_before(pool: &Pool, pages: &[Page], gap: Gap) -> Option<Point>
-    requires pages { ArePages pool.now pages.now }
-    requires page { gap.page < length pages.now }
-    requires bound { gap.place ≤ length (records_of pool.now pages.now) }
-    ensures value { result ≡ last_point (take gap.place (points_of (records_of pool.now pages.now))) }
+fn last_before(pool: &Pool, pages: &Directory, gap: Gap) -> Option<Point>
+    requires pages { ArePages pool.now pages.now.items }
+    requires page { gap.page < length pages.now.items }
+    requires bound { gap.place ≤ length (records_of pool.now pages.now.items) }
+    ensures value { result ≡ last_point (take gap.place (points_of (records_of pool.now pages.now.items))) }
     ensures range { IfSome result InRange }
 {
     if gap.place == 0 {
@@ -81,12 +79,12 @@ fn last_before(pool: &Pool, pages: &[Page], gap: Gap) -> Option<Point>
 }
 
 /// The first point behind a gap, among so many.
-fn first_from(pool: &Pool, pages: &[Page], len: u32, gap: Gap) -> Option<Point>
-    requires pages { ArePages pool.now pages.now }
-    requires counted { len ≡ length (records_of pool.now pages.now) }
-    requires page { gap.page < length pages.now }
-    requires bound { gap.place ≤ length (records_of pool.now pages.now) }
-    ensures value { result ≡ slice_get (points_of (records_of pool.now pages.now)) gap.place }
+fn first_from(pool: &Pool, pages: &Directory, len: u32, gap: Gap) -> Option<Point>
+    requires pages { ArePages pool.now pages.now.items }
+    requires counted { len ≡ length (records_of pool.now pages.now.items) }
+    requires page { gap.page < length pages.now.items }
+    requires bound { gap.place ≤ length (records_of pool.now pages.now.items) }
+    ensures value { result ≡ slice_get (points_of (records_of pool.now pages.now.items)) gap.place }
     ensures range { IfSome result InRange }
 {
     if gap.place == len {
@@ -109,13 +107,13 @@ pub struct Around {
 }
 
 /// What stands next to a time among so many records of pages.
-pub(crate) fn around_in(pool: &Pool, pages: &[Page], len: u32, t: u64) -> Around
-    requires pages { ArePages pool.now pages.now }
-    requires counted { len ≡ length (records_of pool.now pages.now) }
-    ensures below { result.below ≡ count_by (λ r. nat_lt r.point.t t) (records_of pool.now pages.now) }
-    ensures upto { result.upto ≡ count_by (λ r. nat_lt r.point.t (t + 1)) (records_of pool.now pages.now) }
-    ensures before { result.before ≡ last_point (take result.below (points_of (records_of pool.now pages.now))) }
-    ensures after { result.after ≡ slice_get (points_of (records_of pool.now pages.now)) result.below }
+pub(crate) fn around_in(pool: &Pool, pages: &Directory, len: u32, t: u64) -> Around
+    requires pages { ArePages pool.now pages.now.items }
+    requires counted { len ≡ length (records_of pool.now pages.now.items) }
+    ensures below { result.below ≡ count_by (λ r. nat_lt r.point.t t) (records_of pool.now pages.now.items) }
+    ensures upto { result.upto ≡ count_by (λ r. nat_lt r.point.t (t + 1)) (records_of pool.now pages.now.items) }
+    ensures before { result.before ≡ last_point (take result.below (points_of (records_of pool.now pages.now.items))) }
+    ensures after { result.after ≡ slice_get (points_of (records_of pool.now pages.now.items)) result.below }
     ensures before_range { IfSome result.before InRange }
     ensures after_range { IfSome result.after InRange }
 {

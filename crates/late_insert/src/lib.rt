@@ -9,9 +9,9 @@
 //! How it is kept, which no clause says. The records stand in pages of up to 128, each in a frame of a pool. A record
 //! behind all others goes into the last page, or into a fresh one where that is full; a run of them fills a fresh page
 //! at once. Any other full page is split into two halves with one new frame, so a put moves the records of one page,
-//! and the entries of the list of pages. Each page keeps totals of its points: the areas under their line and under
-//! their stair, the least value and the greatest; a run that is a whole page answers by them. The list of pages keeps
-//! the place and the time of each one's first record, so a look-up searches.
+//! and the number and the place of each page behind it, eight bytes. Each page keeps totals of its points: the areas
+//! under their line and under their stair, the least value and the greatest; a run that is a whole page answers by
+//! them. The list of pages keeps the place and the time of each one's first record, so a look-up searches.
 #![tactic(auto)]
 
 mod array;

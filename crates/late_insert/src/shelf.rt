@@ -1,32 +1,32 @@
 // Pages in the frames of a pool: one that is full is split, one record more is put in, and a run of records is
 // put behind all others.
-ghost use Rattle.std.specs.Prelude.{◌≡◌, ℕ, ◌+◌, ◌-◌, ◌^◌, ◌<◌, ◌≤◌, [], ◌++◌, IsTrue, length, vec_len};
-ghost use Rattle.std.specs.Prelude.{vec_capacity, slice_index_or, insert, All};
+ghost use Rattle.std.specs.Prelude.{◌≡◌, ℕ, ◌+◌, ◌-◌, ◌^◌, ◌<◌, ◌≤◌, [], ◌++◌, IsTrue, length};
+ghost use Rattle.std.specs.Prelude.{slice_index_or, All};
 ghost use Rattle.trend_num.specs.Ranges.{InRange};
 ghost use Rattle.page_pool.specs.Pool.{spare_of};
 ghost use Rattle.late_insert.specs.declared.directory.Page.{Page};
 ghost use Rattle.trend_model.specs.Contents.{IsRising, placed};
 ghost use Rattle.late_insert.specs.Pages.{ArePages, IsFor, IsSplit, page_in, records_of};
 
-use crate::directory::{Page, move_on, page_for};
+use crate::directory::{Directory, Page};
 use crate::page::{cut, put_rec, store_run};
 use crate::total::refresh;
 use page_pool::Pool;
 use trend_num::Rec;
 
 /// Takes the first page, which is empty.
-pub(crate) fn first_page(pool: &mut Pool, pages: &mut Vec<Page>)
+pub(crate) fn first_page(pool: &mut Pool, pages: &mut Directory)
     requires none { pages.old.items ≡ [] }
     requires spare { 0 < spare_of pool.old }
-    requires room { 0 < vec_capacity pages.old }
+    requires room { 0 < pages.old.places }
     ensures pages { ArePages pool.new pages.new.items }
     ensures empty { records_of pool.new pages.new.items ≡ [] }
-    ensures one { vec_len pages.new ≡ 1 }
+    ensures one { length pages.new.items ≡ 1 }
     ensures frames { spare_of pool.new + 1 ≡ spare_of pool.old }
-    ensures capacity { vec_capacity pages.new ≡ vec_capacity pages.old }
+    ensures capacity { pages.new.places ≡ pages.old.places }
 {
     let id = pool.take_frame().unwrap();
-    pages.push_reserved(Page {
+    pages.push(Page {
         id,
         first: 0,
         start: 0,
@@ -35,39 +35,39 @@ pub(crate) fn first_page(pool: &mut Pool, pages: &mut Vec<Page>)
 }
 
 /// Whether the last page is full, and all records are before the time t.
-pub(crate) fn is_full_before(pool: &Pool, pages: &[Page], t: u64) -> bool
-    requires pages { ArePages pool.now pages.now }
-    ensures before { IsTrue result → All (λ r. r.point.t < t) (records_of pool.now pages.now) }
+pub(crate) fn is_full_before(pool: &Pool, pages: &Directory, t: u64) -> bool
+    requires pages { ArePages pool.now pages.now.items }
+    ensures before { IsTrue result → All (λ r. r.point.t < t) (records_of pool.now pages.now.items) }
     ensures full { IsTrue result → (d : Page)
-        → length (page_in pool.now (slice_index_or pages.now (length pages.now - 1) d)) ≡ 128 }
+        → length (page_in pool.now (slice_index_or pages.now.items (length pages.now.items - 1) d)) ≡ 128 }
 {
-    let frame = pool.frame(&pages[pages.len() - 1].id);
+    let frame = pool.frame(pages.id(pages.len() - 1));
     frame.len == 128 && frame.times[127] < t
 }
 
 /// Puts a run of records behind all others, in a page of its own. So pages that are filled in order are full.
-pub(crate) fn open_page(pool: &mut Pool, pages: &mut Vec<Page>, len: u32, run: &[Rec])
+pub(crate) fn open_page(pool: &mut Pool, pages: &mut Directory, len: u32, run: &[Rec])
     requires pages { ArePages pool.old pages.old.items }
     requires counted { len ≡ length (records_of pool.old pages.old.items) }
     requires full { (d : Page)
         → length (page_in pool.old (slice_index_or pages.old.items (length pages.old.items - 1) d)) ≡ 128 }
     requires spare { 0 < spare_of pool.old }
-    requires room { vec_len pages.old < vec_capacity pages.old }
+    requires room { length pages.old.items < pages.old.places }
     requires some { 0 < length run.now }
     requires few { length run.now ≤ 128 }
     requires range { All (λ r. InRange r.point) run.now }
     requires rising { IsRising (records_of pool.old pages.old.items ++ run.now) }
     ensures pages { ArePages pool.new pages.new.items }
     ensures records { records_of pool.new pages.new.items ≡ records_of pool.old pages.old.items ++ run.now }
-    ensures frames { vec_len pages.new + spare_of pool.new ≡ vec_len pages.old + spare_of pool.old }
-    ensures capacity { vec_capacity pages.new ≡ vec_capacity pages.old }
+    ensures frames { length pages.new.items + spare_of pool.new ≡ length pages.old.items + spare_of pool.old }
+    ensures capacity { pages.new.places ≡ pages.old.places }
 {
     let id = pool.take_frame().unwrap();
     let frame = pool.frame_mut(&id);
     store_run(frame, run);
     let stair = refresh(frame);
     let start = frame.times[0];
-    pages.push_reserved(Page {
+    pages.push(Page {
         id,
         first: len,
         start,
@@ -76,32 +76,32 @@ pub(crate) fn open_page(pool: &mut Pool, pages: &mut Vec<Page>, len: u32, run: &
 }
 
 /// The page for a time, which is split before where it is full.
-pub(crate) fn make_room(pool: &mut Pool, pages: &mut Vec<Page>, t: u64) -> usize
+pub(crate) fn make_room(pool: &mut Pool, pages: &mut Directory, t: u64) -> usize
     requires pages { ArePages pool.old pages.old.items }
     requires spare { 0 < spare_of pool.old }
-    requires room { vec_len pages.old < vec_capacity pages.old }
+    requires room { length pages.old.items < pages.old.places }
     requires few { length (records_of pool.old pages.old.items) < 2 ^ 32 }
     ensures pages { ArePages pool.new pages.new.items }
     ensures records { records_of pool.new pages.new.items ≡ records_of pool.old pages.old.items }
-    ensures frames { vec_len pages.new + spare_of pool.new ≡ vec_len pages.old + spare_of pool.old }
-    ensures capacity { vec_capacity pages.new ≡ vec_capacity pages.old }
+    ensures frames { length pages.new.items + spare_of pool.new ≡ length pages.old.items + spare_of pool.old }
+    ensures capacity { pages.new.places ≡ pages.old.places }
     ensures found { IsFor pool.new pages.new.items result t }
     ensures not_full { (d : Page) → length (page_in pool.new (slice_index_or pages.new.items result d)) < 128 }
 {
-    let k = page_for(pages.as_slice(), t);
-    if pool.frame(&pages[k].id).len < 128 {
+    let k = pages.page_for(t);
+    if pool.frame(pages.id(k)).len < 128 {
         return k;
     }
     split(pool, pages, k);
-    if pages[k + 1].start <= t { k + 1 } else { k }
+    if pages.start(k + 1) <= t { k + 1 } else { k }
 }
 
 /// Splits a full page into two halves.
-fn split(pool: &mut Pool, pages: &mut Vec<Page>, k: usize)
+fn split(pool: &mut Pool, pages: &mut Directory, k: usize)
     requires pages { ArePages pool.old pages.old.items }
     requires spare { 0 < spare_of pool.old }
-    requires room { vec_len pages.old < vec_capacity pages.old }
-    requires within { k < vec_len pages.old }
+    requires room { length pages.old.items < pages.old.places }
+    requires within { k < length pages.old.items }
     requires full { (d : Page) → length (page_in pool.old (slice_index_or pages.old.items k d)) ≡ 128 }
     requires few { length (records_of pool.old pages.old.items) < 2 ^ 32 }
     ensures pages { ArePages pool.new pages.new.items }
@@ -110,12 +110,12 @@ fn split(pool: &mut Pool, pages: &mut Vec<Page>, k: usize)
     ensures lower { (d : Page) → length (page_in pool.new (slice_index_or pages.new.items k d)) ≡ 64 }
     ensures upper { (d : Page) → length (page_in pool.new (slice_index_or pages.new.items (k + 1) d)) ≡ 64 }
     ensures frames { spare_of pool.new + 1 ≡ spare_of pool.old }
-    ensures capacity { vec_capacity pages.new ≡ vec_capacity pages.old }
+    ensures capacity { pages.new.places ≡ pages.old.places }
 {
-    let halves = cut(pool.frame_mut(&pages[k].id));
-    let page = &mut pages[k];
-    page.stair = halves.lower_stair;
-    let first = page.first + 64;
+    let halves = cut(pool.frame_mut(pages.id(k)));
+    let start = pages.start(k);
+    let first = pages.first(k) + 64;
+    pages.write(k, start, halves.lower_stair);
     let id = pool.take_frame().unwrap();
     *pool.frame_mut(&id) = halves.upper;
     let page = Page {
@@ -124,21 +124,11 @@ fn split(pool: &mut Pool, pages: &mut Vec<Page>, k: usize)
         start: halves.upper.times[0],
         stair: halves.upper_stair,
     };
-    insert_page(pages, k + 1, page);
-}
-
-/// Puts a page into a list that has room.
-fn insert_page(pages: &mut Vec<Page>, at: usize, page: Page)
-    requires within { at ≤ vec_len pages.old }
-    requires room { vec_len pages.old < vec_capacity pages.old }
-    ensures list { pages.new.items ≡ insert pages.old.items at page }
-    ensures capacity { vec_capacity pages.new ≡ vec_capacity pages.old }
-{
-    let _ = pages.insert(at, page);
+    pages.insert(k + 1, page);
 }
 
 /// Puts a record into the page for its time. Returns by how many records the pages grew.
-pub(crate) fn put_at(pool: &mut Pool, pages: &mut Vec<Page>, k: usize, rec: Rec) -> u32
+pub(crate) fn put_at(pool: &mut Pool, pages: &mut Directory, k: usize, rec: Rec) -> u32
     requires pages { ArePages pool.old pages.old.items }
     requires page { IsFor pool.old pages.old.items k rec.point.t }
     requires room { (d : Page) → length (page_in pool.old (slice_index_or pages.old.items k d)) < 128 }
@@ -148,15 +138,14 @@ pub(crate) fn put_at(pool: &mut Pool, pages: &mut Vec<Page>, k: usize, rec: Rec)
     ensures records { records_of pool.new pages.new.items ≡ placed rec (records_of pool.old pages.old.items) }
     ensures grown { length (records_of pool.new pages.new.items) ≡ length (records_of pool.old pages.old.items) + result }
     ensures by_one { result ≤ 1 }
-    ensures pages_len { vec_len pages.new ≡ vec_len pages.old }
+    ensures pages_len { length pages.new.items ≡ length pages.old.items }
     ensures frames { spare_of pool.new ≡ spare_of pool.old }
-    ensures capacity { vec_capacity pages.new ≡ vec_capacity pages.old }
+    ensures capacity { pages.new.places ≡ pages.old.places }
 {
-    let frame = pool.frame_mut(&pages[k].id);
-    let grown = put_rec(frame, pages[k].stair, rec);
-    let page = &mut pages[k];
-    page.start = frame.times[0];
-    page.stair = grown.stair;
-    move_on(pages, k, grown.by);
+    let frame = pool.frame_mut(pages.id(k));
+    let grown = put_rec(frame, pages.stair(k), rec);
+    let start = frame.times[0];
+    pages.write(k, start, grown.stair);
+    pages.move_on(k, grown.by);
     grown.by
 }

@@ -8,7 +8,7 @@ ghost use Rattle.trend_model.specs.Windows.{area};
 ghost use Rattle.late_insert.specs.Pages.{ArePages, records_of};
 ghost use Rattle.late_insert.specs.Totals.{greatest_of, least_of};
 
-use crate::directory::{Page, page_of};
+use crate::directory::Directory;
 use crate::total::{area_between, high_between, low_between, point_at};
 use page_pool::{Frame, Pool};
 use std::marker::Model;
@@ -91,7 +91,7 @@ impl<'a> Run<'a> {
 #[derive(Drop)]
 pub struct Runs<'a> {
     pool: &'a Pool,
-    pages: &'a [Page],
+    pages: &'a Directory,
     // The page of the next point, its place in the content, and the place behind the last point.
     page: usize,
     place: u32,
@@ -106,22 +106,22 @@ impl<'a> Model for Runs<'a> {
 
     ghost Value = { List Point };
 
-    ghost view = { λ w. slice_range (points_of (records_of w.pool.now w.pages.now)) w.place w.end };
+    ghost view = { λ w. slice_range (points_of (records_of w.pool.now w.pages.now.items)) w.place w.end };
 
-    ghost invariant = { λ w. IsWalk w.pool.now w.pages.now w.page w.place w.end };
+    ghost invariant = { λ w. IsWalk w.pool.now w.pages.now.items w.page w.place w.end };
 }
 
 /// A walk over the points of pages from a place on, before another.
-pub(crate) fn runs_in<'a>(pool: &'a Pool, pages: &'a [Page], first: u32, behind: u32) -> Runs<'a>
-    requires pages { ArePages pool.now pages.now }
+pub(crate) fn runs_in<'a>(pool: &'a Pool, pages: &'a Directory, first: u32, behind: u32) -> Runs<'a>
+    requires pages { ArePages pool.now pages.now.items }
     requires order { first ≤ behind }
-    requires within { behind ≤ length (records_of pool.now pages.now) }
-    ensures { result ≡ slice_range (points_of (records_of pool.now pages.now)) first behind }
+    requires within { behind ≤ length (records_of pool.now pages.now.items) }
+    ensures { result ≡ slice_range (points_of (records_of pool.now pages.now.items)) first behind }
 {
     Runs {
         pool,
         pages,
-        page: page_of(pages, first),
+        page: pages.page_of(first),
         place: first,
         end: behind,
     }
@@ -137,15 +137,15 @@ impl<'a> Runs<'a> {
         if self.place == self.end {
             return None;
         }
-        let page = &self.pages[self.page];
-        let frame = self.pool.frame(&page.id);
+        let first = self.pages.first(self.page);
+        let frame = self.pool.frame(self.pages.id(self.page));
         let run = Run {
             frame,
-            stair: page.stair,
-            start: self.place - page.first,
-            end: frame.len.min(self.end - page.first),
+            stair: self.pages.stair(self.page),
+            start: self.place - first,
+            end: frame.len.min(self.end - first),
         };
-        self.place = page.first + run.end;
+        self.place = first + run.end;
         self.page += 1;
         Some(run)
     }

@@ -1,5 +1,5 @@
 -- What a board, its posters and its lookers are seen as.
-use Rattle.std.specs.Prelude.{◌≡◌, ℕ, suc, List, [], ◌∷◌, length, map, replicate, slice_get, Option, Some}
+use Rattle.std.specs.Prelude.{◌≡◌, ℕ, suc, List, [], ◌∷◌, length, replicate, slice_get, Some}
 use Rattle.atomic_table.specs.Seated.{TableId}
 use Rattle.trend_num.specs.declared.archive.Snap.{Snap}
 use Rattle.snapshot_table.specs.Snaps.{nothing}

@@ -1,5 +1,5 @@
 -- The snapshot that the words of a cell are.
-use Rattle.std.specs.Prelude.{◌≡◌, ℕ, ◌<◌, ℤ, pos, negsuc, if◌then◌else◌, nat_eq, Option, None, Some}
+use Rattle.std.specs.Prelude.{ℕ, ℤ, pos, negsuc, if◌then◌else◌, nat_eq, Option, None, Some}
 use Rattle.trend_num.specs.declared.archive.Snap.{Snap}
 use Rattle.trend_num.specs.declared.point.Point.{Point}
 use Rattle.snapshot_table.specs.declared.words.Shown.{Shown}

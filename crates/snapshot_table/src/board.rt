@@ -123,6 +123,7 @@ impl Board {
     }
 
     /// Posts a snapshot of the poster's tag, which is then its last one.
+    #[inline(always)]
     pub fn post<R: Wait>(&self, rt: &R, poster: &mut Poster, snap: Snap)
         requires here { PostsTo self.now poster.old }
         requires no_earlier { poster.old.last.taken ≤ snap.taken }

@@ -1,5 +1,5 @@
 -- What a cell's type keeps, after a commit.
-use Rattle.std.proofs.Common.{◌≡◌, ℕ, ◌+◌, ◌-◌, ◌*◌, ◌<◌, ◌≤◌, ◌^◌, Bool, true, false, List, [], ◌∷◌, ◌++◌, length, map, take, drop, min, nat_eq, if◌then◌else◌, All, Err, le_refl, le_trans, Option, Some, refl, sym, ◌∙◌, ap, subst, arith, length-append, length-drop}
+use Rattle.std.proofs.Common.{◌≡◌, ℕ, ◌+◌, ◌-◌, ◌<◌, ◌≤◌, ◌^◌, Bool, true, false, List, [], ◌∷◌, ◌++◌, length, map, take, drop, min, nat_eq, if◌then◌else◌, All, Err, le_refl, le_trans, Option, refl, sym, ◌∙◌, ap, subst, arith, length-append, length-drop}
 use Rattle.std.proofs.lemmas.List.{append-nil, map-append, take-append-le, take-append-drop, take_all}
 use Rattle.std.proofs.lemmas.List.Elements.{All-drop}
 use Rattle.std.specs.Prelude.{IfSome, IsErrOf}
@@ -24,13 +24,13 @@ use Rattle.tag_cell.specs.declared.entry.CommitNo.{CommitNo}
 use Rattle.tag_cell.specs.declared.entry.CommitNo.TheVariants as no
 use Rattle.trend_num.specs.declared.archive.Rec.{Rec}
 use Rattle.tag_cell.specs.declared.entry.Entry.{Entry}
-use Rattle.tag_cell.specs.declared.entry.Entry.TheVariants.{Take, Ask, Pull, Commit}
+use Rattle.tag_cell.specs.declared.entry.Entry.TheVariants.{Commit}
 use Rattle.tag_cell.specs.declared.history.TagOpening.{TagOpening}
-use Rattle.tag_cell.specs.Tapes.{Walk, start, after_entry, walked, taken, last_records, acked_at, opened, state_after}
-use Rattle.tag_cell.specs.Replays.{Fits, FitAll, IsCommit, replayed, IsReplayed}
+use Rattle.tag_cell.specs.Tapes.{Walk, start, walked, taken, last_records, acked_at, opened, state_after}
+use Rattle.tag_cell.specs.Replays.{replayed, IsReplayed}
 use Rattle.tag_cell.specs.Crashes.{GoesOnBy, IsCountable, IsSafe, RecoversPart, count_written}
 use Rattle.tag_cell.specs.Told.{IsAcknowledged, IsCommitted, IsInStep, IsKept, Told, Waits, waits}
-use Rattle.tag_cell.proofs.Tapes.{taken-append, walked-push, fit-push, points-walked, last_records-append}
+use Rattle.tag_cell.proofs.Tapes.{taken-append, walked-push, fit-push, last_records-append}
 use Rattle.tag_cell.proofs.Entries.{countable_before, points-end}
 use Rattle.tag_cell.proofs.Crashes.{acked_at-most, part_behind, safe_commit, taken-take}
 

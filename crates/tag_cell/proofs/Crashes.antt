@@ -1,15 +1,14 @@
 -- What a crash leaves, over a commit.
-use Rattle.std.proofs.Common.{◌≡◌, ◌⊎◌, inl, inr, ⊎_elim, ℕ, ◌+◌, ◌-◌, ◌*◌, ◌<◌, ◌≤◌, ◌^◌, zero, suc, Bool, true, false, List, [], ◌∷◌, ◌++◌, length, map, take, drop, min, Option, Some, nat_le, if◌then◌else◌, refl, sym, ◌∙◌, ap, subst, arith, append_assoc, length-append, le_refl, le_trans}
+use Rattle.std.proofs.Common.{◌≡◌, inl, inr, ⊎_elim, ℕ, ◌+◌, ◌-◌, ◌≤◌, zero, suc, Bool, true, false, List, [], ◌∷◌, ◌++◌, length, map, take, drop, Option, nat_le, if◌then◌else◌, refl, sym, ◌∙◌, ap, subst, arith, length-append, le_refl, le_trans}
 use Rattle.std.proofs.lemmas.List.{append-nil, map-append, take-append-drop}
 use Rattle.std.proofs.Math.Seq.{take-append_seam, take-length}
 use Rattle.std.proofs.lemmas.Bool.Decides.{nat_tests}
 use Rattle.std.specs.Prelude.{IfSome}
 use Rattle.trend_num.specs.declared.point.Point.{Point}
 use Rattle.trend_num.specs.declared.tag_def.TagDef.{TagDef}
-use Rattle.trend_model.specs.History.{Event, Raw}
+use Rattle.trend_model.specs.History.{Raw}
 use Rattle.trend_model.specs.State.{State, after, replay}
-use Rattle.disk_model.specs.Traces.{Trace, moment}
-use Rattle.disk_model.specs.Images.{MayLeave, Now}
+use Rattle.disk_model.specs.Traces.{Trace}
 use Rattle.disk_model.specs.Moments.{During, LeftSince}
 use Rattle.disk_model.proofs.Moments.{parted, only_since, weaker}
 use Rattle.crash_recovery.specs.Journals.{AllRecover, GoesOnFrom, RecoversEither}
@@ -18,7 +17,7 @@ use Rattle.crash_recovery.proofs.Replays.{replay_append}
 use Rattle.tag_cell.specs.declared.entry.Entry.{Entry}
 use Rattle.tag_cell.specs.declared.entry.Entry.TheVariants.{Take, Ask, Pull, Commit}
 use Rattle.tag_cell.specs.declared.history.TagOpening.{TagOpening}
-use Rattle.tag_cell.specs.Tapes.{Walk, start, after_entry, walked, taken, acked_at, opened, state_after}
+use Rattle.tag_cell.specs.Tapes.{Walk, after_entry, walked, taken, acked_at, opened, state_after}
 use Rattle.tag_cell.specs.Replays.{Shown, FitAll}
 use Rattle.tag_cell.specs.Crashes.{GoesOnBy, IsCountable, IsSafe, RecoversPart}
 use Rattle.tag_cell.proofs.Tapes.{taken-append}

@@ -1,24 +1,23 @@
 -- What a cell's type keeps, after one more entry on its tape.
-use Rattle.std.proofs.Common.{◌≡◌, ℕ, ◌+◌, ◌-◌, ◌*◌, ◌<◌, ◌≤◌, Bool, true, false, List, [], ◌∷◌, ◌++◌, length, map, take, All, Option, Some, refl, sym, ◌∙◌, ap, subst, arith, append_assoc, length-append}
-use Rattle.std.proofs.lemmas.List.{append-nil, map_push, take-append-le}
-use Rattle.trend_num.specs.declared.archive.Rec.{Rec}
+use Rattle.std.proofs.Common.{◌≡◌, ℕ, ◌+◌, ◌-◌, ◌≤◌, Bool, List, [], ◌∷◌, ◌++◌, length, map, take, Option, Some, refl, sym, ◌∙◌, ap, subst, arith, length-append}
+use Rattle.std.proofs.lemmas.List.{append-nil, take-append-le}
 use Rattle.trend_num.specs.declared.point.Point.{Point}
 use Rattle.trend_num.specs.declared.tag_def.TagDef.{TagDef}
 use Rattle.trend_num.specs.declared.query.TagQuery.{TagQuery}
-use Rattle.trend_model.specs.History.{Event, Raw}
+use Rattle.trend_model.specs.History.{Raw}
 use Rattle.trend_model.specs.State.{State, after, replay}
 use Rattle.disk_model.specs.Traces.{Trace}
 use Rattle.crash_recovery.specs.Journals.{AllRecover}
 use Rattle.device_layout.specs.Recovery.{Recovers}
 use Rattle.interp_read.specs.declared.query.Reply.{Reply}
 use Rattle.tag_cell.specs.declared.entry.Entry.{Entry}
-use Rattle.tag_cell.specs.declared.entry.Entry.TheVariants.{Take, Ask, Pull, Commit}
+use Rattle.tag_cell.specs.declared.entry.Entry.TheVariants.{Take, Ask, Pull}
 use Rattle.tag_cell.specs.declared.history.TagOpening.{TagOpening}
-use Rattle.tag_cell.specs.Tapes.{Walk, start, after_entry, walked, taken, last_records, acked_at, done, opened, state_after}
-use Rattle.tag_cell.specs.Replays.{Shown, IsTake, IsAnswer, IsPull, Fits, FitAll, replayed, shown_of, IsReplayed}
+use Rattle.tag_cell.specs.Tapes.{Walk, start, walked, taken, last_records, acked_at, done, opened, state_after}
+use Rattle.tag_cell.specs.Replays.{IsAnswer, IsPull, replayed, shown_of, IsReplayed}
 use Rattle.tag_cell.specs.Crashes.{IsCountable, IsSafe, RecoversPart}
-use Rattle.tag_cell.specs.Told.{HasRoom, IsKept, Waits}
-use Rattle.tag_cell.proofs.Tapes.{IsCall, acked-call, moment-call, acked_at-call, walked-push, taken-append, points-walked, fit-push, state_after-push}
+use Rattle.tag_cell.specs.Told.{IsKept, Waits}
+use Rattle.tag_cell.proofs.Tapes.{IsCall, moment-call, acked_at-call, walked-push, taken-append, points-walked, fit-push, state_after-push}
 
 -- ---- the tape replays
 

@@ -1,9 +1,7 @@
 -- A replayed tape is legal for every history for which its opening stands.
-use Rattle.std.proofs.Common.{◌≡◌, ℕ, Bool, List, [], ◌∷◌, ◌++◌, length, map, Option, Some, refl, sym, ◌∙◌, ap, subst}
-use Rattle.trend_num.specs.declared.archive.Rec.{Rec}
+use Rattle.std.proofs.Common.{◌≡◌, ℕ, Bool, List, [], ◌∷◌, ◌++◌, map, sym, subst}
 use Rattle.trend_num.specs.declared.point.Point.{Point}
 use Rattle.trend_num.specs.declared.tag_def.TagDef.{TagDef}
-use Rattle.trend_num.specs.declared.tuning.Tuning.{Tuning}
 use Rattle.trend_model.specs.History.{Event, Origin, Raw, in_force}
 use Rattle.trend_model.specs.State.{State, Stands, followed, replay}
 use Rattle.trend_model.proofs.Sent.{same_there}

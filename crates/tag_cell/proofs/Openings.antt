@@ -1,11 +1,10 @@
 -- What a cell's type keeps as the cell is opened.
-use Rattle.std.proofs.Common.{◌≡◌, ℕ, ◌+◌, ◌-◌, ◌*◌, ◌<◌, ◌≤◌, ◌^◌, Bool, true, false, List, [], length, Option, Some, refl, sym, ◌∙◌, ap, subst, arith}
+use Rattle.std.proofs.Common.{◌≡◌, ℕ, ◌*◌, ◌<◌, ◌≤◌, ◌^◌, Bool, false, List, [], length, Option, Some, refl, sym, ap, subst, arith}
 use Rattle.std.proofs.lemmas.List.Elements.{All-nil}
 use Rattle.std.specs.Prelude.{IfSome}
 use Rattle.atomic_table.specs.Seated.{TableId}
 use Rattle.trend_num.specs.declared.archive.Rec.{Rec}
 use Rattle.trend_num.specs.declared.archive.Summary.{Summary}
-use Rattle.trend_num.specs.declared.point.Point.{Point}
 use Rattle.trend_num.specs.declared.tag_def.TagDef.{TagDef}
 use Rattle.trend_num.specs.Ranges.{InRange}
 use Rattle.trend_model.specs.Contents.{listed}
@@ -20,7 +19,7 @@ use Rattle.tag_cell.specs.declared.entry.Entry.{Entry}
 use Rattle.tag_cell.specs.declared.history.TagOpening.{TagOpening}
 use Rattle.tag_cell.specs.Tapes.{opened}
 use Rattle.tag_cell.specs.Replays.{IsReplayed}
-use Rattle.tag_cell.specs.Crashes.{IsCountable, IsSafe}
+use Rattle.tag_cell.specs.Crashes.{IsSafe}
 use Rattle.tag_cell.specs.Told.{HasRoom, IsInStep, IsKept, IsPosted, Waits}
 
 -- the state of these records and this summary

@@ -1,13 +1,13 @@
 -- Which records are durable, and what a take leaves.
-use Rattle.std.proofs.Common.{◌≡◌, ◌≢◌, ℕ, ◌+◌, ◌-◌, ◌<◌, ◌≤◌, Bool, true, false, cond, List, [], ◌∷◌, ◌++◌, length, map, take, drop, Option, Some, None, refl, sym, ◌∙◌, ap, subst, arith, length-drop, nat_le}
-use Rattle.std.proofs.lemmas.List.{append-nil, map-append, take-append-drop, drop-append-le}
+use Rattle.std.proofs.Common.{◌≡◌, ◌≢◌, ℕ, ◌-◌, ◌≤◌, Bool, List, [], ◌∷◌, ◌++◌, length, map, take, drop, Option, Some, None, refl, sym, ◌∙◌, ap, subst, arith, length-drop, nat_le}
+use Rattle.std.proofs.lemmas.List.{map-append, take-append-drop, drop-append-le}
 use Rattle.std.proofs.Math.Seq.{take-append_seam}
 use Rattle.trend_num.specs.declared.archive.Rec.{Rec}
 use Rattle.trend_num.specs.declared.point.Point.{Point}
 use Rattle.trend_num.specs.declared.tag_def.TagDef.{TagDef}
 use Rattle.trend_num.specs.declared.sending.Sending.TheVariants as sending
 use Rattle.trend_num.specs.declared.tuning.Tuning.{Tuning}
-use Rattle.trend_model.specs.History.{Event, Raw, is_far}
+use Rattle.trend_model.specs.History.{Raw, is_far}
 use Rattle.trend_model.specs.State.{State, Offer, offered, offered_in_order, after, after_under, replay}
 use Rattle.trend_model.proofs.Following.{cond_by}
 use Rattle.crash_recovery.proofs.Replays.{replay_more, replay_append}
@@ -19,7 +19,7 @@ use Rattle.tag_cell.specs.Replays.{Shown, FitAll, IsPull, replayed, IsReplayed}
 use Rattle.tag_cell.specs.Told.{Waits}
 use Rattle.tag_cell.proofs.Tapes.{points-walked}
 use Rattle.tag_cell.proofs.Entries.{points-end}
-use Rattle.tag_cell.proofs.Commits.{taken-parts, acked_state}
+use Rattle.tag_cell.proofs.Commits.{taken-parts}
 
 -- ---- after a take there is a held point
 

@@ -1,26 +1,25 @@
 -- What a cell's type keeps, after a take.
-use Rattle.std.proofs.Common.{◌≡◌, ℕ, ◌+◌, ◌*◌, ◌<◌, ◌≤◌, ◌^◌, Bool, cond, suc, nat_lt, fold, List, [], ◌∷◌, ◌++◌, All, length, map, Option, Some, refl, sym, ◌∙◌, ap, subst, arith, length-append}
-use Rattle.std.proofs.lemmas.List.{append-nil, map-append, map_push}
+use Rattle.std.proofs.Common.{◌≡◌, ℕ, ◌+◌, ◌<◌, ◌≤◌, cond, suc, nat_lt, fold, List, [], ◌∷◌, ◌++◌, All, length, map, Some, sym, ◌∙◌, ap, subst, arith, length-append}
+use Rattle.std.proofs.lemmas.List.{map_push}
 use Rattle.std.proofs.lemmas.List.Elements.{All-push}
 use Rattle.atomic_table.specs.Seated.{TableId}
 use Rattle.trend_num.specs.declared.archive.Rec.{Rec}
-use Rattle.trend_num.specs.declared.archive.Snap.{Snap}
 use Rattle.trend_num.specs.declared.point.Point.{Point}
 use Rattle.trend_num.specs.declared.tag_def.TagDef.{TagDef}
 use Rattle.trend_num.specs.Limits.{most_records}
 use Rattle.trend_num.specs.Ranges.{InRange}
 use Rattle.trend_model.specs.Contents.{listed, over, placed}
 use Rattle.trend_model.proofs.Following.{cond_by}
-use Rattle.trend_model.specs.History.{Event, Raw}
-use Rattle.trend_model.specs.State.{State, after, replay}
+use Rattle.trend_model.specs.History.{Raw}
+use Rattle.trend_model.specs.State.{State}
 use Rattle.device_layout.specs.Recovery.{AllFit}
 use Rattle.crash_recovery.proofs.Replays.{fit_append}
-use Rattle.snapshot_table.specs.Boards.{Posting, PostsTo}
+use Rattle.snapshot_table.specs.Boards.{Posting}
 use Rattle.tag_core.specs.Core.{Core}
 use Rattle.tag_cell.specs.declared.entry.Entry.{Entry}
 use Rattle.tag_cell.specs.declared.entry.Entry.TheVariants.{Take}
 use Rattle.tag_cell.specs.declared.history.TagOpening.{TagOpening}
-use Rattle.tag_cell.specs.Tapes.{taken, opened, state_after}
+use Rattle.tag_cell.specs.Tapes.{taken, opened}
 use Rattle.tag_cell.specs.Replays.{IsReplayed}
 use Rattle.tag_cell.specs.Told.{HasRoom, IsInStep, IsPosted}
 use Rattle.tag_cell.proofs.Tapes.{taken-append}

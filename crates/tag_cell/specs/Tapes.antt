@@ -1,6 +1,5 @@
 -- What a tape says: which values were taken, and what is acknowledged.
-use Rattle.std.specs.Prelude.{ℕ, ◌-◌, Bool, List, [], ◌∷◌, ◌++◌, length, take, map, nat_le, if◌then◌else◌}
-use Rattle.trend_num.specs.declared.archive.Rec.{Rec}
+use Rattle.std.specs.Prelude.{ℕ, ◌-◌, Bool, List, [], ◌∷◌, ◌++◌, take, map, nat_le, if◌then◌else◌}
 use Rattle.trend_num.specs.declared.point.Point.{Point}
 use Rattle.trend_model.specs.History.{Raw}
 use Rattle.trend_model.specs.State.{State, replay}

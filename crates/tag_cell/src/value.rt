@@ -73,6 +73,7 @@ impl<D: Disk> Cell<D> {
 }
 
 // Takes a raw value into a core and the content of its records, and answers the point that closes the line after it.
+#[inline(always)]
 fn take_value<L: Ledger>(
     core: &mut TagCore,
     content: &mut Content,

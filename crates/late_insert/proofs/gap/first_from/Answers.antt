@@ -9,12 +9,12 @@ use Rattle.late_insert.proofs.gap.first_from.Goals as goal
 
 pub returns-then-gap-len-clause-value : goal.returns-then-gap-len-clause-value
 returns-then-gap-len-clause-value c =
-    let l = records_of c.args.pool.now c.args.pages.now in
+    let l = records_of c.args.pool.now c.args.pages.now.items in
     sym (slice_get_past (points_of l) c.args.gap.place
     (omega (arith, c.requires.counted, length-map l (λ (r : Rec). r.point))))
 
 pub returns-clause-value : goal.returns-clause-value
 returns-clause-value c =
-    let l = records_of c.args.pool.now c.args.pages.now in
+    let l = records_of c.args.pool.now c.args.pages.now.items in
     sym (point_get l c.args.gap.place c.rec_near.result (omega (arith, c.requires.bound, c.requires.counted))
     (c.rec_near.ensures.value c.rec_near.result))

@@ -1,43 +1,44 @@
-use Rattle.std.proofs.Common.{arith}
-use Rattle.late_insert.proofs.Finding.{starts_rise, found_for}
-use Rattle.late_insert.proofs.Reading.{is_read, frame_page, frame_rises, gap_within, gap_before, gap_after}
+use Rattle.std.proofs.Common.{sym, arith}
+use Rattle.late_insert.proofs.Finding.{no_page, starts_rise, found_for}
+use Rattle.late_insert.proofs.Reading.{held_by, read_by, frame_page, frame_rises, gap_within, gap_before, gap_after}
 use Rattle.late_insert.proofs.gap.gap_in.Goals as goal
 
 pub page_for-k-requires-clause-rising : goal.page_for-k-requires-clause-rising
 page_for-k-requires-clause-rising c =
-    starts_rise c.args.pool.now c.args.pages.now c.requires.pages
+    starts_rise c.args.pool.now c.args.pages.now.items c.requires.pages
+
+pub frame-requires : goal.frame-requires
+frame-requires c = held_by c.args.pool.now c.args.pages.now.items c.page_for-k.result c.id.result.now
+    c.requires.pages c.page_for-k.ensures.within (c.id.ensures.value no_page)
 
 pub below_in-requires-clause-recorded : goal.below_in-requires-clause-recorded
 below_in-requires-clause-recorded c =
-    let is = is_read c.args.pool.now c.args.pages.now c.page_for-k.result c.index-pages-k.result
-    c.frame.result.now c.requires.pages
-    c.page_for-k.ensures.within c.index-pages-k.is c.frame.ensures in
+    let is = read_by c.args.pool.now c.args.pages.now.items c.page_for-k.result c.id.result.now c.frame.result.now
+    c.requires.pages c.page_for-k.ensures.within (c.id.ensures.value no_page) c.frame.ensures in
     (frame_page _ _ _ _ _ is).recorded
 
 pub below_in-requires-clause-rising : goal.below_in-requires-clause-rising
 below_in-requires-clause-rising c =
-    let is = is_read c.args.pool.now c.args.pages.now c.page_for-k.result c.index-pages-k.result
-    c.frame.result.now c.requires.pages
-    c.page_for-k.ensures.within c.index-pages-k.is c.frame.ensures in
+    let is = read_by c.args.pool.now c.args.pages.now.items c.page_for-k.result c.id.result.now c.frame.result.now
+    c.requires.pages c.page_for-k.ensures.within (c.id.ensures.value no_page) c.frame.ensures in
     frame_rises _ _ _ _ _ is
 
 pub overflow_cast-result : goal.overflow_cast-result
 overflow_cast-result c =
-    let is = is_read c.args.pool.now c.args.pages.now c.page_for-k.result c.index-pages-k.result
-    c.frame.result.now c.requires.pages
-    c.page_for-k.ensures.within c.index-pages-k.is c.frame.ensures in
+    let is = read_by c.args.pool.now c.args.pages.now.items c.page_for-k.result c.id.result.now c.frame.result.now
+    c.requires.pages c.page_for-k.ensures.within (c.id.ensures.value no_page) c.frame.ensures in
     omega (arith, c.below_in.ensures.bound, (frame_page _ _ _ _ _ is).recorded.few)
 
 pub overflow_add-result : goal.overflow_add-result
 overflow_add-result c =
-    let is = is_read c.args.pool.now c.args.pages.now c.page_for-k.result c.index-pages-k.result
-    c.frame.result.now c.requires.pages
-    c.page_for-k.ensures.within c.index-pages-k.is c.frame.ensures in
-    let found = found_for c.args.pool.now c.args.pages.now c.page_for-k.result c.args.t c.requires.pages
+    let is = read_by c.args.pool.now c.args.pages.now.items c.page_for-k.result c.id.result.now c.frame.result.now
+    c.requires.pages c.page_for-k.ensures.within (c.id.ensures.value no_page) c.frame.ensures in
+    let found = found_for c.args.pool.now c.args.pages.now.items c.page_for-k.result c.args.t c.requires.pages
     is.within c.page_for-k.ensures.before
     c.page_for-k.ensures.after in
     omega (
       arith,
+      c.first.ensures no_page,
       gap_within _ _ _ _ _ is c.args.t c.below_in.result found c.below_in.ensures.bound
           c.below_in.ensures.before c.below_in.ensures.after,
       c.requires.few,
@@ -45,33 +46,30 @@ overflow_add-result c =
 
 pub returns-clause-bound : goal.returns-clause-bound
 returns-clause-bound c =
-    let is = is_read c.args.pool.now c.args.pages.now c.page_for-k.result c.index-pages-k.result
-    c.frame.result.now c.requires.pages
-    c.page_for-k.ensures.within c.index-pages-k.is c.frame.ensures in
-    let found = found_for c.args.pool.now c.args.pages.now c.page_for-k.result c.args.t c.requires.pages
+    let is = read_by c.args.pool.now c.args.pages.now.items c.page_for-k.result c.id.result.now c.frame.result.now
+    c.requires.pages c.page_for-k.ensures.within (c.id.ensures.value no_page) c.frame.ensures in
+    let found = found_for c.args.pool.now c.args.pages.now.items c.page_for-k.result c.args.t c.requires.pages
     is.within c.page_for-k.ensures.before
     c.page_for-k.ensures.after in
-    gap_within _ _ _ _ _ is c.args.t c.below_in.result found c.below_in.ensures.bound
-    c.below_in.ensures.before c.below_in.ensures.after
+    rw (sym (c.first.ensures no_page)) (gap_within _ _ _ _ _ is c.args.t c.below_in.result found
+    c.below_in.ensures.bound c.below_in.ensures.before c.below_in.ensures.after)
 
 pub returns-clause-before : goal.returns-clause-before
 returns-clause-before c =
-    let is = is_read c.args.pool.now c.args.pages.now c.page_for-k.result c.index-pages-k.result
-    c.frame.result.now c.requires.pages
-    c.page_for-k.ensures.within c.index-pages-k.is c.frame.ensures in
-    let found = found_for c.args.pool.now c.args.pages.now c.page_for-k.result c.args.t c.requires.pages
+    let is = read_by c.args.pool.now c.args.pages.now.items c.page_for-k.result c.id.result.now c.frame.result.now
+    c.requires.pages c.page_for-k.ensures.within (c.id.ensures.value no_page) c.frame.ensures in
+    let found = found_for c.args.pool.now c.args.pages.now.items c.page_for-k.result c.args.t c.requires.pages
     is.within c.page_for-k.ensures.before
     c.page_for-k.ensures.after in
-    gap_before _ _ _ _ _ is c.args.t c.below_in.result found c.below_in.ensures.bound
-    c.below_in.ensures.before c.below_in.ensures.after
+    rw (sym (c.first.ensures no_page)) (gap_before _ _ _ _ _ is c.args.t c.below_in.result found
+    c.below_in.ensures.bound c.below_in.ensures.before c.below_in.ensures.after)
 
 pub returns-clause-after : goal.returns-clause-after
 returns-clause-after c =
-    let is = is_read c.args.pool.now c.args.pages.now c.page_for-k.result c.index-pages-k.result
-    c.frame.result.now c.requires.pages
-    c.page_for-k.ensures.within c.index-pages-k.is c.frame.ensures in
-    let found = found_for c.args.pool.now c.args.pages.now c.page_for-k.result c.args.t c.requires.pages
+    let is = read_by c.args.pool.now c.args.pages.now.items c.page_for-k.result c.id.result.now c.frame.result.now
+    c.requires.pages c.page_for-k.ensures.within (c.id.ensures.value no_page) c.frame.ensures in
+    let found = found_for c.args.pool.now c.args.pages.now.items c.page_for-k.result c.args.t c.requires.pages
     is.within c.page_for-k.ensures.before
     c.page_for-k.ensures.after in
-    gap_after _ _ _ _ _ is c.args.t c.below_in.result found c.below_in.ensures.bound c.below_in.ensures.before
-    c.below_in.ensures.after
+    rw (sym (c.first.ensures no_page)) (gap_after _ _ _ _ _ is c.args.t c.below_in.result found
+    c.below_in.ensures.bound c.below_in.ensures.before c.below_in.ensures.after)

@@ -7,7 +7,7 @@ use Rattle.late_insert.proofs.gap.last_before.Goals as goal
 
 pub returns-clause-value : goal.returns-clause-value
 returns-clause-value c =
-    let l = records_of c.args.pool.now c.args.pages.now in
+    let l = records_of c.args.pool.now c.args.pages.now.items in
     let n = c.args.gap.place in
     let r = c.rec_near.result in
     let whole : n ≡ n - 1 + 1 = omega arith in

@@ -1,33 +1,45 @@
 use Rattle.std.proofs.Common.{sym, ◌∙◌, arith}
-use Rattle.late_insert.proofs.Finding.{firsts_rise}
-use Rattle.late_insert.proofs.Reading.{is_read, frame_page, page_from, page_upto, read_at}
+use Rattle.late_insert.proofs.Finding.{no_page, firsts_rise}
+use Rattle.late_insert.proofs.Reading.{held_by, read_by, frame_page, page_from, page_upto, read_at}
 use Rattle.late_insert.proofs.gap.rec_in.Goals as goal
 
 pub page_of-k-requires-clause-rising : goal.page_of-k-requires-clause-rising
-page_of-k-requires-clause-rising c = firsts_rise c.args.pool.now 0 c.args.pages.now c.requires.pages.each
+page_of-k-requires-clause-rising c = firsts_rise c.args.pool.now 0 c.args.pages.now.items c.requires.pages.each
+
+pub frame-requires : goal.frame-requires
+frame-requires c = held_by c.args.pool.now c.args.pages.now.items c.page_of-k.result c.id.result.now
+    c.requires.pages c.page_of-k.ensures.within (c.id.ensures.value no_page)
 
 pub rec_at-requires-clause-recorded : goal.rec_at-requires-clause-recorded
 rec_at-requires-clause-recorded c =
-    let is = is_read c.args.pool.now c.args.pages.now c.page_of-k.result c.index-pages-k.result
-    c.frame.result.now c.requires.pages
-    c.page_of-k.ensures.within c.index-pages-k.is c.frame.ensures in
+    let is = read_by c.args.pool.now c.args.pages.now.items c.page_of-k.result c.id.result.now c.frame.result.now
+    c.requires.pages c.page_of-k.ensures.within (c.id.ensures.value no_page) c.frame.ensures in
     (frame_page _ _ _ _ _ is).recorded
 
 pub rec_at-requires-clause-within : goal.rec_at-requires-clause-within
 rec_at-requires-clause-within c =
-    let is = is_read c.args.pool.now c.args.pages.now c.page_of-k.result c.index-pages-k.result
-    c.frame.result.now c.requires.pages
-    c.page_of-k.ensures.within c.index-pages-k.is c.frame.ensures in
+    let is = read_by c.args.pool.now c.args.pages.now.items c.page_of-k.result c.id.result.now c.frame.result.now
+    c.requires.pages c.page_of-k.ensures.within (c.id.ensures.value no_page) c.frame.ensures in
     omega (
       arith,
+      c.first.ensures no_page,
       page_upto _ _ _ _ _ is c.args.i c.requires.within c.page_of-k.ensures.before c.page_of-k.ensures.after,
       page_from _ _ _ _ _ is c.args.i c.requires.within c.page_of-k.ensures.before c.page_of-k.ensures.after,
     )
 
 pub returns-clause-value : goal.returns-clause-value
 returns-clause-value c = λ d.
-    let is = is_read c.args.pool.now c.args.pages.now c.page_of-k.result c.index-pages-k.result
-    c.frame.result.now c.requires.pages
-    c.page_of-k.ensures.within c.index-pages-k.is c.frame.ensures in
-    read_at _ _ _ _ _ is c.args.i c.requires.within c.page_of-k.ensures.before c.page_of-k.ensures.after d
-    ∙ sym c.rec_at.ensures.value
+    let is = read_by c.args.pool.now c.args.pages.now.items c.page_of-k.result c.id.result.now c.frame.result.now
+    c.requires.pages c.page_of-k.ensures.within (c.id.ensures.value no_page) c.frame.ensures in
+    let read = read_at _ _ _ _ _ is c.args.i c.requires.within c.page_of-k.ensures.before c.page_of-k.ensures.after d in
+    rw (c.first.ensures no_page) at read ∙ sym c.rec_at.ensures.value
+
+pub overflow_sub-i : goal.overflow_sub-i
+overflow_sub-i c =
+    let is = read_by c.args.pool.now c.args.pages.now.items c.page_of-k.result c.id.result.now c.frame.result.now
+    c.requires.pages c.page_of-k.ensures.within (c.id.ensures.value no_page) c.frame.ensures in
+    omega (
+      arith,
+      c.first.ensures no_page,
+      page_from _ _ _ _ _ is c.args.i c.requires.within c.page_of-k.ensures.before c.page_of-k.ensures.after,
+    )

@@ -8,6 +8,7 @@ use Rattle.trend_model.specs.Windows.{area}
 use Rattle.late_insert.specs.Pages.{IsRecorded, records_in}
 use Rattle.late_insert.proofs.Opening.{empty_page, taken_empty, pages_opened, records-opened}
 use Rattle.late_insert.proofs.Summing.{length-records_in}
+use Rattle.late_insert.specs.Moves.{Listed}
 use Rattle.late_insert.proofs.shelf.open_page.Goals as goal
 
 pub store_run-requires-clause-recorded : goal.store_run-requires-clause-recorded
@@ -22,7 +23,7 @@ refresh-stair-requires-clause-some c =
     omega (arith, length-records_in c.store_run.new.frame, ap length c.store_run.ensures.records, c.requires.some)
 
 -- what the pages take of the frame
-records : (c : goal.After-push_reserved) → records_in c.refresh-stair.new.frame ≡ c.args.run.now
+records : (c : goal.After-push) → records_in c.refresh-stair.new.frame ≡ c.args.run.now
 records c = c.refresh-stair.ensures.records ∙ c.store_run.ensures.records
 
 pub returns-clause-pages : goal.returns-clause-pages
@@ -32,7 +33,7 @@ returns-clause-pages c =
     ∙ sym (ap (λ l. area true (points_of l)) c.refresh-stair.ensures.records)) in
     let takes : Takes c.args.pool.now c.unwrap-id.result c.take_frame.new.self = rw c.unwrap-id.ensures at
     c.take_frame.ensures.taken in
-    rw c.push_reserved.ensures.items
+    rw (ap (λ (s : Listed). s.items) c.push.ensures)
     (pages_opened c.args.pool.now c.take_frame.new.self c.args.pages.now.items c.unwrap-id.result c.args.len
     c.refresh-stair.new.frame c.args.run.now c.requires.pages takes c.refresh-stair.ensures.page _ stair
     (records c) c.requires.counted c.requires.some c.requires.rising c.requires.full)
@@ -44,7 +45,7 @@ returns-clause-records c =
     ∙ sym (ap (λ l. area true (points_of l)) c.refresh-stair.ensures.records)) in
     let takes : Takes c.args.pool.now c.unwrap-id.result c.take_frame.new.self = rw c.unwrap-id.ensures at
     c.take_frame.ensures.taken in
-    rw c.push_reserved.ensures.items
+    rw (ap (λ (s : Listed). s.items) c.push.ensures)
     (records-opened c.args.pool.now c.take_frame.new.self c.args.pages.now.items c.unwrap-id.result c.args.len
     c.refresh-stair.new.frame c.args.run.now c.requires.pages takes c.refresh-stair.ensures.page _ stair
     (records c) c.requires.counted c.requires.some c.requires.rising c.requires.full)

@@ -1,8 +1,8 @@
-use Rattle.std.proofs.Common.{◌≡◌, Some, Result, Ok, Err, true, ap, ◌∙◌, set, refl, rules, arith}
-use Rattle.std.specs.Prelude.{FitsSigned, IsOk, is_err, is_some}
+use Rattle.std.proofs.Common.{◌≡◌, Some, Result, Ok, Err, true, ℕ, ◌+◌, ap, ap₂, sym, ◌∙◌, get_or, length, set, subst, refl, rules, arith}
+use Rattle.std.specs.Prelude.{insert, FitsSigned, IsOk, is_err, is_some}
 use Rattle.std.specs.Int.{w128}
 use Rattle.std.proofs.lemmas.Int.{to_z-of_z}
-use Rattle.std.proofs.lemmas.List.{get_or_default}
+use Rattle.std.proofs.lemmas.List.{get_or_default, length-set}
 use Rattle.late_insert.specs.declared.directory.Page.{Page}
 use Rattle.page_pool.specs.Pool.{Takes}
 use Rattle.page_pool.proofs.Stored.{spare-written}
@@ -10,9 +10,10 @@ use mir.Val.{of_z, to_z}
 use Rattle.trend_model.specs.Contents.{points_of}
 use Rattle.trend_model.specs.Windows.{area}
 use Rattle.late_insert.specs.Pages.{records_in}
-use Rattle.late_insert.proofs.Reading.{IsRead, frame_page}
+use Rattle.late_insert.specs.Moves.{Listed, rewritten}
+use Rattle.late_insert.proofs.Finding.{no_page}
+use Rattle.late_insert.proofs.Reading.{IsRead, held_by, read_by, frame_page}
 use Rattle.late_insert.proofs.Shelving.{pages_cut, records-cut, lower_len, upper_len, first_small, full_frame}
-use Rattle.late_insert.proofs.Shelving.{within_from}
 use Rattle.late_insert.proofs.shelf.split.Goals as goal
 
 -- what is no error is a value
@@ -20,133 +21,170 @@ ok_from : {A E : Type 0} (r : Result A E) → (is_err r ≡ true → ⊥) → Is
 ok_from (Ok x) none = refl
 ok_from (Err e) none = absurd (none refl)
 
+-- the frame of the page that is cut is there
+pub frame_mut-requires : goal.frame_mut-requires
+frame_mut-requires c = held_by c.args.pool.now c.args.pages.now.items c.args.k c.id.result.now c.requires.pages
+    c.requires.within (c.id.ensures.value no_page)
+
 pub cut-halves-requires-clause-page : goal.cut-halves-requires-clause-page
 cut-halves-requires-clause-page c =
-    let is : IsRead c.args.pool.now c.args.pages.now.items c.args.k c.index.result.now
-    c.frame_mut.result.now =
-    record {
-      paged = c.requires.pages;
-      within = within_from c.args.pages.now c.args.k c.requires.within;
-      read = c.index.ensures;
-      there = c.frame_mut.ensures.value;
-    } in
+    let is = read_by c.args.pool.now c.args.pages.now.items c.args.k c.id.result.now c.frame_mut.result.now
+    c.requires.pages c.requires.within (c.id.ensures.value no_page) c.frame_mut.ensures.value in
     frame_page _ _ _ _ _ is
 
 pub cut-halves-requires-clause-full : goal.cut-halves-requires-clause-full
 cut-halves-requires-clause-full c =
-    let is : IsRead c.args.pool.now c.args.pages.now.items c.args.k c.index.result.now
-    c.frame_mut.result.now =
-    record {
-      paged = c.requires.pages;
-      within = within_from c.args.pages.now c.args.k c.requires.within;
-      read = c.index.ensures;
-      there = c.frame_mut.ensures.value;
-    } in
-    full_frame _ _ _ _ _ is (c.requires.full c.index.result.now)
+    let is = read_by c.args.pool.now c.args.pages.now.items c.args.k c.id.result.now c.frame_mut.result.now
+    c.requires.pages c.requires.within (c.id.ensures.value no_page) c.frame_mut.ensures.value in
+    full_frame _ _ _ _ _ is (c.requires.full _)
 
 pub unwrap-id-requires : goal.unwrap-id-requires
 unwrap-id-requires c =
-    let stays = spare-written c.args.pool.now c.index.result.now.id c.cut-halves.new.frame
+    let stays = spare-written c.args.pool.now c.id.result.now c.cut-halves.new.frame
     (ap is_some c.frame_mut.ensures.value) in
     ok_from c.take_frame.result (λ err. let none = c.take_frame.ensures.none_spare.0 err in absurd
     (omega (arith, c.requires.spare)))
 
 pub overflow_add-first : goal.overflow_add-first
 overflow_add-first c =
-    let is : IsRead c.args.pool.now c.args.pages.now.items c.args.k c.index.result.now
-    c.frame_mut.result.now =
-    record {
-      paged = c.requires.pages;
-      within = within_from c.args.pages.now c.args.k c.requires.within;
-      read = c.index.ensures;
-      there = c.frame_mut.ensures.value;
-    } in
-    let full = full_frame _ _ _ _ _ is (c.requires.full c.index.result.now) in
+    let is = read_by c.args.pool.now c.args.pages.now.items c.args.k c.id.result.now c.frame_mut.result.now
+    c.requires.pages c.requires.within (c.id.ensures.value no_page) c.frame_mut.ensures.value in
+    let full = full_frame _ _ _ _ _ is (c.requires.full _) in
     omega (
       arith,
-      first_small _ _ _ _ c.index_mut-page.result.now _ is full c.index_mut-page.ensures.value
-          c.requires.few,
+      c.first-first.ensures no_page,
+      first_small _ _ _ _ (get_or c.args.pages.now.items c.args.k no_page) _ is full is.read c.requires.few,
+    )
+
+pub insert-requires-clause-within : goal.insert-requires-clause-within
+insert-requires-clause-within c =
+    let q = get_or c.args.pages.now.items c.args.k no_page in
+    let s = to_z w128 (of_z w128 c.cut-halves.result.lower_stair) in
+    omega (
+      arith,
+      ap (λ (s : Listed). length s.items) (c.write.ensures no_page),
+      length-set c.args.pages.now.items c.args.k (rewritten c.start-start.result s q),
+      c.requires.within,
+    )
+
+pub insert-requires-clause-room : goal.insert-requires-clause-room
+insert-requires-clause-room c =
+    let q = get_or c.args.pages.now.items c.args.k no_page in
+    let s = to_z w128 (of_z w128 c.cut-halves.result.lower_stair) in
+    omega (
+      arith,
+      ap (λ (s : Listed). length s.items) (c.write.ensures no_page),
+      ap (λ (s : Listed). s.places) (c.write.ensures no_page),
+      length-set c.args.pages.now.items c.args.k (rewritten c.start-start.result s q),
+      c.requires.room,
+    )
+
+pub returns-clause-capacity : goal.returns-clause-capacity
+returns-clause-capacity c =
+    ap (λ (s : Listed). s.places) c.insert.ensures ∙ ap (λ (s : Listed). s.places) (c.write.ensures no_page)
+
+pub returns-clause-frames : goal.returns-clause-frames
+returns-clause-frames c =
+    omega (
+      arith,
+      spare-written c.args.pool.now c.id.result.now c.cut-halves.new.frame (ap is_some c.frame_mut.ensures.value),
+      spare-written c.take_frame.new.self c.unwrap-id.result c.cut-halves.result.upper
+          (ap is_some c.frame_mut-2.ensures.value),
+      rw c.unwrap-id.ensures at c.take_frame.ensures.spare,
     )
 
 -- the page that is cut, the frame that is taken, and the stairs of the halves
-read_here : (c : goal.After-insert_page)
-    → IsRead c.args.pool.now c.args.pages.now.items c.args.k c.index.result.now c.frame_mut.result.now
-read_here c = record {
-  paged = c.requires.pages;
-  within = within_from c.args.pages.now c.args.k c.requires.within;
-  read = c.index.ensures;
-  there = c.frame_mut.ensures.value;
-}
+read_here : (c : goal.After-insert)
+    → IsRead c.args.pool.now c.args.pages.now.items c.args.k (get_or c.args.pages.now.items c.args.k no_page)
+    c.frame_mut.result.now
+read_here c = read_by c.args.pool.now c.args.pages.now.items c.args.k c.id.result.now c.frame_mut.result.now
+    c.requires.pages c.requires.within (c.id.ensures.value no_page) c.frame_mut.ensures.value
 
-takes_here : (c : goal.After-insert_page)
-    → Takes (set c.args.pool.now c.index.result.now.id (Some c.cut-halves.new.frame)) c.unwrap-id.result
-    c.take_frame.new.self
-takes_here c = rw c.unwrap-id.ensures at c.take_frame.ensures.taken
+takes_here : (c : goal.After-insert)
+    → Takes (set c.args.pool.now (get_or c.args.pages.now.items c.args.k no_page).id (Some c.cut-halves.new.frame))
+    c.unwrap-id.result c.take_frame.new.self
+takes_here c =
+    subst (λ id. Takes (set c.args.pool.now id (Some c.cut-halves.new.frame)) c.unwrap-id.result c.take_frame.new.self)
+    (sym (c.id.ensures.value no_page)) (rw c.unwrap-id.ensures at c.take_frame.ensures.taken)
 
-lower_here : (c : goal.After-insert_page)
+lower_here : (c : goal.After-insert)
     → to_z w128 (of_z w128 c.cut-halves.result.lower_stair) ≡ area true
     (points_of (records_in c.cut-halves.new.frame))
 lower_here c =
     let fits : FitsSigned w128 c.cut-halves.result.lower_stair = search rules in
     to_z-of_z w128 c.cut-halves.result.lower_stair fits ∙ c.cut-halves.ensures.lower_stair
 
-upper_here : (c : goal.After-insert_page)
+upper_here : (c : goal.After-insert)
     → to_z w128 (of_z w128 c.cut-halves.result.upper_stair) ≡ area true
     (points_of (records_in c.cut-halves.result.upper))
 upper_here c =
     let fits : FitsSigned w128 c.cut-halves.result.upper_stair = search rules in
     to_z-of_z w128 c.cut-halves.result.upper_stair fits ∙ c.cut-halves.ensures.upper_stair
 
+-- the pages after the split
+list_here : (c : goal.After-insert) → c.insert.new.self.items ≡ insert (set c.args.pages.now.items c.args.k
+    (rewritten (get_or c.args.pages.now.items c.args.k no_page).start
+    (to_z w128 (of_z w128 c.cut-halves.result.lower_stair))
+    (get_or c.args.pages.now.items c.args.k no_page))) (c.args.k + 1) (record {
+      id = c.unwrap-id.result;
+      first = (get_or c.args.pages.now.items c.args.k no_page).first + 64;
+      start = get_or c.cut-halves.result.upper.times 0 0;
+      stair = to_z w128 (of_z w128 c.cut-halves.result.upper_stair);
+    })
+list_here c =
+    let q = get_or c.args.pages.now.items c.args.k no_page in
+    let half : ℕ → Page = λ n. record {
+      id = c.unwrap-id.result;
+      first = n + 64;
+      start = get_or c.cut-halves.result.upper.times 0 0;
+      stair = to_z w128 (of_z w128 c.cut-halves.result.upper_stair);
+    } in
+    ap (λ (s : Listed). s.items) c.insert.ensures
+    ∙ (ap (λ (s : Listed). insert s.items (c.args.k + 1) (half c.first-first.result)) (c.write.ensures no_page)
+    ∙ ap₂ (λ n m. insert (set c.args.pages.now.items c.args.k (rewritten n
+    (to_z w128 (of_z w128 c.cut-halves.result.lower_stair)) q))
+    (c.args.k + 1) (half m)) (sym (c.start-start.ensures no_page)) (sym (c.first-first.ensures no_page)))
+
 pub returns-clause-pages : goal.returns-clause-pages
 returns-clause-pages c =
     let is = read_here c in
-    let full = full_frame _ _ _ _ _ is (c.requires.full c.index.result.now) in
-    rw c.insert_page.ensures.list
-    (pages_cut _ _ _ _ _ _ c.index_mut-page.result.now _ _ _ _ _ (lower_here c) (upper_here c) is full
+    let full = full_frame _ _ _ _ _ is (c.requires.full _) in
+    rw (list_here c)
+    (pages_cut _ _ _ _ _ _ _ _ _ _ _ _ (lower_here c) (upper_here c) is full
     c.cut-halves.ensures.lower c.cut-halves.ensures.upper c.cut-halves.ensures.lower_records
-    c.cut-halves.ensures.upper_records (takes_here c) c.index_mut-page.ensures.value)
+    c.cut-halves.ensures.upper_records (takes_here c) is.read)
 
 pub returns-clause-records : goal.returns-clause-records
 returns-clause-records c =
     let is = read_here c in
-    let full = full_frame _ _ _ _ _ is (c.requires.full c.index.result.now) in
-    rw c.insert_page.ensures.list
-    (records-cut _ _ _ _ _ _ c.index_mut-page.result.now _ _ _ _ _ (lower_here c) (upper_here c) is full
+    let full = full_frame _ _ _ _ _ is (c.requires.full _) in
+    rw (list_here c)
+    (records-cut _ _ _ _ _ _ _ _ _ _ _ _ (lower_here c) (upper_here c) is full
     c.cut-halves.ensures.lower c.cut-halves.ensures.upper c.cut-halves.ensures.lower_records
-    c.cut-halves.ensures.upper_records (takes_here c) c.index_mut-page.ensures.value)
+    c.cut-halves.ensures.upper_records (takes_here c) is.read)
 
 pub returns-clause-lower : goal.returns-clause-lower
 returns-clause-lower c = λ d.
     let is = read_here c in
-    let full = full_frame _ _ _ _ _ is (c.requires.full c.index.result.now) in
-    rw c.insert_page.ensures.list
-    (lower_len _ _ _ _ _ _ c.index_mut-page.result.now _ _ _ _ _ (lower_here c) (upper_here c) is full
+    let full = full_frame _ _ _ _ _ is (c.requires.full _) in
+    rw (list_here c)
+    (lower_len _ _ _ _ _ _ _ _ _ _ _ _ (lower_here c) (upper_here c) is full
     c.cut-halves.ensures.lower c.cut-halves.ensures.upper c.cut-halves.ensures.lower_records
-    c.cut-halves.ensures.upper_records (takes_here c) c.index_mut-page.ensures.value d)
+    c.cut-halves.ensures.upper_records (takes_here c) is.read d)
 
 pub returns-clause-upper : goal.returns-clause-upper
 returns-clause-upper c = λ d.
     let is = read_here c in
-    let full = full_frame _ _ _ _ _ is (c.requires.full c.index.result.now) in
-    rw c.insert_page.ensures.list
-    (upper_len _ _ _ _ _ _ c.index_mut-page.result.now _ _ _ _ _ (lower_here c) (upper_here c) is full
+    let full = full_frame _ _ _ _ _ is (c.requires.full _) in
+    rw (list_here c)
+    (upper_len _ _ _ _ _ _ _ _ _ _ _ _ (lower_here c) (upper_here c) is full
     c.cut-halves.ensures.lower c.cut-halves.ensures.upper c.cut-halves.ensures.lower_records
-    c.cut-halves.ensures.upper_records (takes_here c) c.index_mut-page.ensures.value d)
+    c.cut-halves.ensures.upper_records (takes_here c) is.read d)
 
 pub returns-clause-list : goal.returns-clause-list
-returns-clause-list c =
-    let is : IsRead c.args.pool.now c.args.pages.now.items c.args.k c.index.result.now
-    c.frame_mut.result.now =
-    record {
-      paged = c.requires.pages;
-      within = within_from c.args.pages.now c.args.k c.requires.within;
-      read = c.index.ensures;
-      there = c.frame_mut.ensures.value;
-    } in
-    record {
-      lower = _;
-      upper = _;
-      list = c.insert_page.ensures.list;
-      start = ap (λ (p : Page). p.start) (c.index_mut-page.ensures.value
-          ∙ get_or_default c.args.pages.now.items c.args.k _ _ is.within);
-    }
+returns-clause-list c = record {
+  lower = _;
+  upper = _;
+  list = list_here c;
+  start = ap (λ (p : Page). p.start) (get_or_default c.args.pages.now.items c.args.k no_page _ c.requires.within);
+}

@@ -1,4 +1,4 @@
-use Rattle.std.proofs.Common.{◌≡◌, ◌∙◌, ap, sym, subst, map, take, length, List}
+use Rattle.std.proofs.Common.{◌∙◌, sym, subst, map, take, length, List}
 use Rattle.std.proofs.lemmas.List.Elements.{All-take}
 use Rattle.std.specs.List.{All}
 use Rattle.trend_num.specs.declared.point.Point.{Point}

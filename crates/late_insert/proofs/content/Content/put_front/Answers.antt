@@ -1,7 +1,6 @@
-use Rattle.std.proofs.Common.{get_or, fold, take, subst, sym, ap, ◌∙◌, arith}
+use Rattle.std.proofs.Common.{fold, take, sym, ap, ◌∙◌, arith}
 use Rattle.late_insert.specs.Pages.{records_of}
 use Rattle.trend_model.specs.Contents.{placed}
-use Rattle.trend_model.proofs.Placing.{time, AllBefore}
 use Rattle.late_insert.proofs.Filling.{listed_run, run_behind}
 use Rattle.late_insert.proofs.Finding.{no_rec}
 use Rattle.late_insert.proofs.Keeping.{frame_spare}
@@ -14,22 +13,20 @@ open_page-requires-clause-spare c = frame_spare c.self.inside.pool c.self.inside
 pub open_page-requires-clause-room : goal.open_page-requires-clause-room
 open_page-requires-clause-room c =
     let spare = frame_spare c.self.inside.pool c.self.inside.pages.items _ _ _ c.self.invariant in
-    omega (arith, c.self.invariant.reserved, c.self.inside.pages.ok.0)
+    omega (arith, c.self.invariant.reserved)
 
 pub open_page-requires-clause-rising : goal.open_page-requires-clause-rising
 open_page-requires-clause-rising c =
     run_behind (records_of c.self.inside.pool c.self.inside.pages.items) c.args.recs.now c.run_len-n.result no_rec
     c.self.invariant.paged.rising c.run_len-n.ensures.rising c.run_len-n.ensures.some
-    (subst (λ ps. AllBefore (records_of c.self.inside.pool ps) (time (get_or c.args.recs.now 0 no_rec)))
-    c.as_slice.ensures.value (c.is_full_before.ensures.before c.if-is_full_before.true))
+    (c.is_full_before.ensures.before c.if-is_full_before.true)
 
 pub returns-then-is_full_before-clause-records : goal.returns-then-is_full_before-clause-records
 returns-then-is_full_before-clause-records c =
     let run = take c.run_len-n.result c.args.recs.now in
     let behind = run_behind (records_of c.self.inside.pool c.self.inside.pages.items) c.args.recs.now
     c.run_len-n.result no_rec c.self.invariant.paged.rising c.run_len-n.ensures.rising c.run_len-n.ensures.some
-    (subst (λ ps. AllBefore (records_of c.self.inside.pool ps) (time (get_or c.args.recs.now 0 no_rec)))
-    c.as_slice.ensures.value (c.is_full_before.ensures.before c.if-is_full_before.true)) in
+    (c.is_full_before.ensures.before c.if-is_full_before.true) in
     let seen = ap (λ s. s.records) c.self.view_is in
     c.open_page.ensures.records
     ∙ (sym (listed_run (records_of c.self.inside.pool c.self.inside.pages.items) run behind)
@@ -42,4 +39,4 @@ make_room-k-requires-clause-spare c = frame_spare c.self.inside.pool c.self.insi
 pub make_room-k-requires-clause-room : goal.make_room-k-requires-clause-room
 make_room-k-requires-clause-room c =
     let spare = frame_spare c.self.inside.pool c.self.inside.pages.items _ _ _ c.self.invariant in
-    omega (arith, c.self.invariant.reserved, c.self.inside.pages.ok.0)
+    omega (arith, c.self.invariant.reserved)

@@ -1,7 +1,6 @@
-use Rattle.std.proofs.Common.{rules, List, ℕ, ◌≡◌, ◌≤◌, ◌<◌, ◌∙◌, sym, ap, map, refl, slice_get, slice_set, get_or, Some, IfSome, subst, length, arith}
-use Rattle.std.proofs.lemmas.List.{map-set, length-map}
+use Rattle.std.proofs.Common.{rules, List, ℕ, ◌≡◌, ◌<◌, ◌∙◌, sym, ap, map, slice_get, slice_set, Some, subst, length, arith}
+use Rattle.std.proofs.lemmas.List.{map-set}
 use Rattle.std.proofs.Math.Seq.{map-set_same}
-use Rattle.std.proofs.lemmas.Option.{slice_get-get_or}
 use Rattle.crossbeam_utils.specs.Seq.{cell_view}
 use Rattle.crossbeam_utils.specs.declared.atomic.seq_cell.Doing.{Doing}
 use Rattle.atomic_table.specs.declared.shared.Seat.{Seat}

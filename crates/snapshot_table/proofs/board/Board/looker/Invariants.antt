@@ -1,4 +1,4 @@
-use Rattle.std.proofs.Common.{◌≡◌, ℕ, map, take, replicate}
+use Rattle.std.proofs.Common.{◌≡◌, map, take, replicate}
 use Rattle.crossbeam_utils.specs.Seq.{cell_view}
 use Rattle.snapshot_table.specs.declared.rule.View.{View}
 use Rattle.snapshot_table.specs.declared.words.Shown.{Shown}

@@ -1,4 +1,4 @@
-use Rattle.std.proofs.Common.{rules, ap, ◌∙◌, sym, ◌≡◌, ℕ, ◌≤◌, List, true, refl, subst, slice_get, Some, arith}
+use Rattle.std.proofs.Common.{rules, ap, sym, ◌≡◌, ◌≤◌, List, subst, slice_get, Some, arith}
 use Rattle.atomic_table.specs.Seated.{TableId}
 use Rattle.trend_num.specs.declared.archive.Snap.{Snap}
 use Rattle.snapshot_table.specs.declared.rule.View.{View}

@@ -1,20 +1,17 @@
-use Rattle.std.proofs.Common.{◌≡◌, ◌∙◌, ℕ, ◌+◌, ◌-◌, ◌<◌, ◌≤◌, ◌^◌, Bool, true, false, List, [], ◌∷◌, ◌++◌, length, take, drop, ap, sym, subst, refl, arith, nat_eq, length-append, length-drop}
+use Rattle.std.proofs.Common.{◌≡◌, ◌∙◌, ℕ, ◌+◌, ◌-◌, ◌<◌, ◌≤◌, false, List, [], ◌∷◌, ◌++◌, length, take, drop, ap, sym, subst, refl, arith, length-drop}
 use Rattle.std.proofs.lemmas.List.{append-nil}
 use Rattle.std.specs.Prelude.{vec_capacity}
-use Rattle.std.specs.List.{All}
-use Rattle.trend_num.specs.declared.point.Point.{Point}
-use Rattle.trend_num.specs.Ranges.{InRange}
 use Rattle.disk_model.specs.Moments.{LeftSince}
 use Rattle.tag_cell.specs.declared.entry.Entry.{Entry}
 use Rattle.tag_cell.specs.declared.entry.Entry.TheVariants.{Commit}
 use Rattle.tag_cell.specs.Tapes.{taken, last_records}
 use Rattle.tag_cell.specs.Crashes.{IsSafe, count_written}
 use Rattle.tag_cell.specs.Replays.{IsReplayed}
-use Rattle.tag_cell.specs.Told.{IsAcknowledged, IsCommitted, IsKept, Told, Waits, waits}
+use Rattle.tag_cell.specs.Told.{IsCommitted, IsKept, Told, Waits, waits}
 use Rattle.tag_cell.proofs.Tapes.{taken-append}
 use Rattle.tag_cell.proofs.Takes.{entry_in_step, entry_has_room}
 use Rattle.tag_cell.proofs.Crashes.{safe_more}
-use Rattle.tag_cell.proofs.Commits.{acked_state, commit_during, commit_kept, commit_replayed, commit_safe, commit_waits, is_committed, kept_refused, told, with_tape, most_acked, part_is, rest_is, rest_range, waiting, written_some, written_most, taken-parts}
+use Rattle.tag_cell.proofs.Commits.{commit_during, commit_kept, commit_replayed, commit_safe, commit_waits, is_committed, kept_refused, told, with_tape, most_acked, part_is, rest_is, rest_range, waiting, written_some, written_most}
 use Rattle.tag_cell.proofs.cell.Cell.commit.Goals as goal
 
 pub returns-in_err-make_places-clause-idle : goal.returns-in_err-make_places-clause-idle

@@ -1,9 +1,9 @@
-use Rattle.std.proofs.Common.{◌≡◌, ◌∙◌, ℕ, ◌+◌, ◌<◌, ◌≤◌, Bool, List, [], ◌∷◌, ◌++◌, length, ap, sym, subst, refl, arith}
+use Rattle.std.proofs.Common.{◌≡◌, ◌∙◌, ℕ, ◌+◌, ◌≤◌, Bool, [], ◌∷◌, ◌++◌, length, ap, sym, subst, refl, arith}
 use Rattle.std.specs.Prelude.{vec_capacity}
 use Rattle.std.specs.Arc.{arc_value}
 use Rattle.trend_num.specs.Limits.{most_records}
 use Rattle.trend_model.specs.History.{Raw}
-use Rattle.trend_model.specs.State.{State, after}
+use Rattle.trend_model.specs.State.{after}
 use Rattle.disk_model.specs.Moments.{LeftSince}
 use Rattle.crash_recovery.proofs.Takes.{few_enough}
 use Rattle.tag_cell.specs.declared.entry.Entry.{Entry}
