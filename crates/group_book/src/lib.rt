@@ -9,9 +9,10 @@
 //! that of a new one is.
 //!
 //! [`Book::refresh`] pulls from the cell of each input under its lock, in the order of the inputs, and [`Book::publish`] takes
-//! what was pulled into account. A refused call changes nothing of the book. [`Book::into_history`] hands out the whole of what
-//! the type keeps. A book has a place for its device, but none is given one yet: saving and loading are to come, and
-//! `group_layout` has the bytes of both.
+//! what was pulled into account. A refused call changes nothing of the book. [`load`] opens a book over the device of its group,
+//! and [`Book::save`] adds the rows that changed since the last save to it, as one block; a save whose device failed leaves the
+//! book broken for saves alone. [`new_book`] makes one without a device, whose saves do nothing. [`Book::into_history`] hands
+//! out the whole of what the type keeps.
 #![tactic(auto)]
 
 mod ask;
