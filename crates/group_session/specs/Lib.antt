@@ -1,0 +1,9 @@
+pub mod Asking
+pub mod Books
+pub mod Finding
+pub mod Inputs
+pub mod Numbers
+pub mod Openings
+pub mod Pulls
+pub mod Tapes
+pub mod Turns
