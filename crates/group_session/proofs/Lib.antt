@@ -6,3 +6,5 @@ pub mod Numbers
 pub mod Marks
 pub mod Cursors
 pub mod Items
+pub mod Pulls
+pub mod MoreTurns

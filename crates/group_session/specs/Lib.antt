@@ -5,5 +5,7 @@ pub mod Inputs
 pub mod Numbers
 pub mod Openings
 pub mod Pulls
+pub mod Refreshing
+pub mod Refusals
 pub mod Tapes
 pub mod Turns
