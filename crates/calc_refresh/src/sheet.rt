@@ -163,6 +163,14 @@ impl Sheet {
         self.copies[i as usize].len() as u32
     }
 
+    /// The records of an input that were taken into account, the oldest first.
+    pub fn copied(&self, i: u32) -> &[Rec]
+        requires { i < length self.now.copies }
+        ensures { (d : List Rec) → result.now ≡ slice_index_or self.now.copies i d }
+    {
+        &self.copies[i as usize]
+    }
+
     /// How many windows are complete.
     pub fn windows(&self) -> u32
         ensures { result ≡ complete_windows self.now.grid self.now.copies }

@@ -10,6 +10,7 @@ use calc_refresh::{CalcValue, GroupDefParts, Sheet};
 use disk_model::Disk;
 use std::alloc::Global;
 use std::marker::Model;
+use trend_num::Rec;
 
 /// A group of a plant that runs.
 #[derive(Drop)]
@@ -77,6 +78,14 @@ impl<D: Disk> Book<D> {
         ensures { (d : List Rec) → result ≡ length (slice_index_or self.now.sheet.copies input d) }
     {
         self.versions[input as usize]
+    }
+
+    /// Of an input the records that are taken into account, the oldest first.
+    pub fn copied(&self, input: u32) -> &[Rec]
+        requires { input < self.now.def.inputs }
+        ensures { (d : List Rec) → result.now ≡ slice_index_or self.now.sheet.copies input d }
+    {
+        self.sheet.copied(input)
     }
 
     /// The group as it was opened.

@@ -16,7 +16,8 @@ use Rattle.tape_audit.proofs.Catching.{lacks_none}
 use Rattle.tape_audit.proofs.Numbers.{numbered_at}
 use Rattle.trend_num.specs.Queries.{IsTagQuery}
 use Rattle.plant_session.specs.Asking.{IsRowAsked}
-use Rattle.plant_session.specs.Cells.{AreLonger, IsAsked, IsCaughtTo, IsLonger, IsOver, IsKnownAsk}
+use Rattle.plant_session.specs.Cells.{AreLonger, IsAsked, IsLonger, IsKnownAsk, tape_of}
+use Rattle.plant_session.specs.Workers.{IsCaughtTo, IsOver}
 use Rattle.plant_session.proofs.Longer.{all_longer, longer_set}
 use Rattle.plant_session.proofs.TakeTurns.{one_entry}
 use Rattle.plant_session.proofs.Turns.{HasEntry, IsMissing, caught_past_row, missing_row}
@@ -27,7 +28,7 @@ abbrev pub entry_of : {D : Type 0} (reader number tag : ℕ) (q : TagQuery) (old
 entry_of reader number tag q old new t = entry.Ask reader number q t.asked.kept
 
 pub asked_entry : {D : Type 0} (reader number tag : ℕ) (q : TagQuery) (old new : List (Told D))
-    (t : IsRowAsked reader number tag q old new) → HasEntry tag (entry_of reader number tag q old new t) old new
+    (t : IsRowAsked reader number tag q old new) → HasEntry tape_of tag (entry_of reader number tag q old new t) old new
 asked_entry reader number tag q old new t = record {
   before = t.before;
   after = t.after;

@@ -20,7 +20,7 @@ use Rattle.tape_audit.specs.Agendas.{due, numbered, seen_at, take_item}
 use Rattle.tape_audit.specs.Found.{AreFound, Reached, found, found_of, next_due, place_at, shown_by}
 use Rattle.tape_audit.specs.Tapes.{take_of}
 use Rattle.tape_audit.proofs.Walking.{next_shown}
-use Rattle.plant_session.specs.Cells.{AreOver, file_due}
+use Rattle.plant_session.specs.Workers.{AreOver, file_due}
 use Rattle.plant_session.specs.Refusals.{rows_of}
 
 -- ---- sums over workers

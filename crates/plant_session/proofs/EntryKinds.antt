@@ -5,7 +5,7 @@ use Rattle.tag_cell.specs.declared.entry.Entry.{Entry}
 use Rattle.tag_cell.specs.declared.entry.Entry.TheVariants.{Take, Ask, Pull, Commit}
 use Rattle.tag_cell.specs.Told.{Told}
 use Rattle.tape_audit.specs.declared.agenda.Item.{Item}
-use Rattle.tape_audit.specs.declared.walk.Shown.{Shown}
+use Rattle.tape_audit.specs.declared.kind.Shown.{Shown}
 use Rattle.tape_audit.specs.Found.{Reached, seen_by, shown_by}
 use Rattle.tape_audit.specs.Tapes.{ask_of, take_of}
 use Rattle.plant_session.specs.Cells.{AreAllFound, AreAllShown, AreLonger, IsAsked, IsCommitted, IsTaken}
@@ -39,16 +39,16 @@ committed_asks (Commit moment acked) is = refl
 -- ---- tapes
 
 -- entries that show nothing
-none_shown : (work : Entry → Option Shown) (IsOf : Entry → Type 0) (worker : ℕ) (more : List Entry)
-    → ((e : Entry) → IsOf e → work e ≡ None) → All IsOf more → shown_by work worker more ≡ []
+none_shown : {E : Type 0} (work : E → Option Shown) (IsOf : E → Type 0) (worker : ℕ) (more : List E)
+    → ((e : E) → IsOf e → work e ≡ None) → All IsOf more → shown_by work worker more ≡ []
 none_shown work IsOf worker [] kind each = refl
 none_shown work IsOf worker (e ∷ more) kind each =
     let none : seen_by work worker e ≡ None = rw (kind e (All-head IsOf e more each)) refl in
     rw none (none_shown work IsOf worker more kind (All-tail IsOf e more each))
 
 -- a tape that is longer by such entries
-same_shown : (work : Entry → Option Shown) (IsOf : Entry → Type 0) (worker : ℕ) (old new more : List Entry)
-    → ((e : Entry) → IsOf e → work e ≡ None) → All IsOf more → new ≡ old ++ more
+pub same_shown : {E : Type 0} (work : E → Option Shown) (IsOf : E → Type 0) (worker : ℕ) (old new more : List E)
+    → ((e : E) → IsOf e → work e ≡ None) → All IsOf more → new ≡ old ++ more
     → shown_by work worker new ≡ shown_by work worker old
 same_shown work IsOf worker old new more kind each is =
     ap (shown_by work worker) is ∙ (filter_map-append (seen_by work worker) old more

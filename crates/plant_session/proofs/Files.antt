@@ -13,15 +13,14 @@ use Rattle.value_rows.specs.declared.asked.Query.{Query}
 use Rattle.value_rows.specs.declared.asked.Query.TheVariants as query
 use Rattle.calc_refresh.specs.Lists.{lists_of}
 use Rattle.collector_pool.specs.Work.{IsQueryOf}
-use Rattle.tag_cell.specs.declared.entry.Entry.{Entry}
-use Rattle.tag_cell.specs.Told.{Told}
 use Rattle.tape_audit.specs.declared.agenda.Item.{Item}
-use Rattle.tape_audit.specs.declared.walk.Shown.{Shown}
+use Rattle.tape_audit.specs.declared.kind.Shown.{Shown}
 use Rattle.tape_audit.specs.Agendas.{due, numbered}
 use Rattle.tape_audit.specs.Found.{IsCaughtUp, Reached, found, found_of}
 use Rattle.tape_audit.proofs.Catching.{caught_whole}
 use Rattle.tape_audit.proofs.Numbers.{length-numbered}
-use Rattle.plant_session.specs.Cells.{AreAllFound, AreAllShown, AreOthersSame, AreOver, IsCaughtTo, IsKnownAsk, IsOver, file_due}
+use Rattle.plant_session.specs.Cells.{IsKnownAsk}
+use Rattle.plant_session.specs.Workers.{AreOthersSame, AreOver, AreTapesFound, AreTapesWhole, IsCaughtTo, IsOver, file_due}
 
 -- the rows of a file
 pub file_at : {A : Type 0} (files : List (Vec A Global)) (i : ℕ) (v : Vec A Global) (d : List A) → i < length files
@@ -65,11 +64,12 @@ over_again item_of tags more files old new worker rows d over within is one othe
 }
 
 -- where none of the rows of a file lacks, all that are due at a tag were found there
-pub shown_all : {D A : Type 0} (work : Entry → Option Shown) (item_of : ℕ → ℕ → A → Option Item) (tags : ℕ)
-    (files : List (List A)) (cells : List (Told D)) (works : List Reached) → AreOver item_of tags files works
-    → AreAllFound work cells works → ((w : ℕ) → w < length files → IsCaughtTo (length (get_or files w [])) w works)
-    → AreAllShown work item_of files cells
-shown_all work item_of tags files cells works over found_so caught = record {
+pub shown_all : {C E A : Type 0} (tape_of : C → List E) (work : E → Option Shown) (item_of : ℕ → ℕ → A → Option Item)
+    (tags : ℕ) (files : List (List A)) (cells : List C) (works : List Reached) → AreOver item_of tags files works
+    → AreTapesFound tape_of work cells works
+    → ((w : ℕ) → w < length files → IsCaughtTo (length (get_or files w [])) w works)
+    → AreTapesWhole tape_of work item_of files cells
+shown_all tape_of work item_of tags files cells works over found_so caught = record {
   each = λ tag worker d below. (found_so.each tag d below).each worker ∙ elim (cases_lt worker (length files)) [
     | inl within ↦ whole tag worker within
     | inr past ↦ ap (λ o. option_map_or (λ p. found p tag) o [])

@@ -1,4 +1,4 @@
--- The tapes of cells, gone over one after another.
+-- The tapes of units, gone over one after another. `tape_of` tells the tape of a unit.
 use Rattle.std.proofs.Common.{◌≡◌, ◌≢◌, ℕ, ◌+◌, ◌<◌, ◌≤◌, inl, inr, List, [], All, length, get_or, take, Option, Some, refl, sym, ap, subst, ◌∙◌, arith}
 use Rattle.std.specs.Prelude.{slice_get, option_and_then}
 use Rattle.std.specs.Option.{unwrap_or}
@@ -8,30 +8,28 @@ use Rattle.std.proofs.lemmas.List.Elements.{All-from_get_or, All-get_or}
 use Rattle.std.proofs.lemmas.Option.{slice_get-get_or, slice_get_past}
 use Rattle.plant_status.specs.declared.mismatch.Seen.{Seen}
 use Rattle.plant_status.specs.declared.mismatch.Seen.TheVariants.{Nothing}
-use Rattle.tag_cell.specs.declared.entry.Entry.{Entry}
-use Rattle.tag_cell.specs.Told.{Told}
 use Rattle.tape_audit.specs.declared.agenda.Item.{Item}
-use Rattle.tape_audit.specs.declared.walk.Shown.{Shown}
+use Rattle.tape_audit.specs.declared.kind.Shown.{Shown}
 use Rattle.tape_audit.specs.Agendas.{IsNext, due}
 use Rattle.tape_audit.specs.Found.{AreFound, AreFurther, IsDifference, IsUnfound, Reached, place_at, shown_by}
 use Rattle.tape_audit.proofs.Walking.{found_beside}
-use Rattle.plant_session.specs.Cells.{AreAllFound, AreOver}
+use Rattle.plant_session.specs.Workers.{AreOver, AreTapesFound}
 use Rattle.plant_session.specs.Starting.{AreUnfound}
 use Rattle.plant_session.specs.Finding.{AreSameRows, IsMismatchAt}
 
 -- the tapes of the first tags were gone over, and those behind were not
-pub record AreFoundTo {D : Type 0} (work : Entry → Option Shown) (upto : ℕ) (cells : List (Told D)) (first now : List Reached)
-    : Type 0 where
+pub record AreFoundTo {C E : Type 0} (tape_of : C → List E) (work : E → Option Shown) (upto : ℕ) (cells : List C)
+    (first now : List Reached) : Type 0 where
   pub same : AreSameRows first now
   pub units : (worker : ℕ) (p : Reached) → worker < length now → length (get_or now worker p).at ≡ length cells
-  pub found : (tag : ℕ) (d : Told D) → tag < upto → AreFound work tag (get_or cells tag d).tape now
+  pub found : (tag : ℕ) (d : C) → tag < upto → AreFound work tag (tape_of (get_or cells tag d)) now
   pub unfound : (tag worker : ℕ) (p : Reached) → upto ≤ tag → tag < length cells → worker < length now
       → IsUnfound tag (get_or now worker p)
 
 -- before the first tag
-pub found_none : {D : Type 0} (work : Entry → Option Shown) (cells : List (Told D)) (works : List Reached)
-    → AreUnfound (length cells) works → AreFoundTo work 0 cells works works
-found_none work cells works unfound = record {
+pub found_none : {C E : Type 0} (tape_of : C → List E) (work : E → Option Shown) (cells : List C) (works : List Reached)
+    → AreUnfound (length cells) works → AreFoundTo tape_of work 0 cells works works
+found_none tape_of work cells works unfound = record {
   same = record { as_many = refl; items = λ w p. refl; units = λ w p. refl };
   units = λ w p below. All-get_or (λ q. length q.at ≡ length cells) works w p below unfound.units;
   found = λ tag d below. absurd (omega (arith, below));
@@ -40,15 +38,15 @@ found_none work cells works unfound = record {
 }
 
 -- what the walk over the next tag's tape asks
-pub known_next : {D : Type 0} (work : Entry → Option Shown) (tag : ℕ) (cells : List (Told D)) (first now : List Reached)
-    → AreFoundTo work tag cells first now → tag < length cells → All (λ p. tag < length p.at) now
-known_next work tag cells first now so within =
+pub known_next : {C E : Type 0} (tape_of : C → List E) (work : E → Option Shown) (tag : ℕ) (cells : List C) (first now : List Reached)
+    → AreFoundTo tape_of work tag cells first now → tag < length cells → All (λ p. tag < length p.at) now
+known_next tape_of work tag cells first now so within =
     let none : Reached = record { items = []; at = [] } in
     All-from_get_or (λ p. tag < length p.at) now none (λ i below. omega (arith, within, so.units i none below))
 
-pub unfound_next : {D : Type 0} (work : Entry → Option Shown) (tag : ℕ) (cells : List (Told D)) (first now : List Reached)
-    → AreFoundTo work tag cells first now → tag < length cells → All (IsUnfound tag) now
-unfound_next work tag cells first now so within =
+pub unfound_next : {C E : Type 0} (tape_of : C → List E) (work : E → Option Shown) (tag : ℕ) (cells : List C) (first now : List Reached)
+    → AreFoundTo tape_of work tag cells first now → tag < length cells → All (IsUnfound tag) now
+unfound_next tape_of work tag cells first now so within =
     let none : Reached = record { items = []; at = [] } in
     All-from_get_or (IsUnfound tag) now none (λ i below. so.unfound tag i none (omega arith) within below)
 
@@ -60,21 +58,21 @@ rows_trans unit first old new before step = record {
   units = λ w p. (step.each w p).as_many ∙ before.units w p;
 }
 
-pub rows_after : {D : Type 0} (work : Entry → Option Shown) (tag : ℕ) (cells : List (Told D)) (first old new : List Reached)
-    → AreFoundTo work tag cells first old → AreFurther tag old new → AreSameRows first new
-rows_after work tag cells first old new so step = rows_trans tag first old new so.same step
+pub rows_after : {C E : Type 0} (tape_of : C → List E) (work : E → Option Shown) (tag : ℕ) (cells : List C) (first old new : List Reached)
+    → AreFoundTo tape_of work tag cells first old → AreFurther tag old new → AreSameRows first new
+rows_after tape_of work tag cells first old new so step = rows_trans tag first old new so.same step
 
 -- one tag further
-pub found_next_tag : {D : Type 0} (work : Entry → Option Shown) (tag : ℕ) (cells : List (Told D)) (c : Told D)
-    (first old new : List Reached) → tag < length cells → c ≡ get_or cells tag c → AreFoundTo work tag cells first old
-    → AreFurther tag old new → AreFound work tag c.tape new → AreFoundTo work (tag + 1) cells first new
-found_next_tag work tag cells c first old new within is so step here = record {
+pub found_next_tag : {C E : Type 0} (tape_of : C → List E) (work : E → Option Shown) (tag : ℕ) (cells : List C) (c : C)
+    (first old new : List Reached) → tag < length cells → c ≡ get_or cells tag c → AreFoundTo tape_of work tag cells first old
+    → AreFurther tag old new → AreFound work tag (tape_of c) new → AreFoundTo tape_of work (tag + 1) cells first new
+found_next_tag tape_of work tag cells c first old new within is so step here = record {
   same = rows_trans tag first old new so.same step;
   units = λ w p below. (step.each w p).as_many ∙ so.units w p (omega (arith, below, step.as_many));
   found = λ other d below. elim (cases_eq other tag) [
-    | inl same ↦ subst (λ n. AreFound work n (get_or cells n d).tape new) (sym same)
-        (subst (λ x. AreFound work tag x.tape new) (is ∙ get_or_default cells tag c d within) here)
-    | inr differ ↦ found_beside work tag other (get_or cells other d).tape old new step differ
+    | inl same ↦ subst (λ n. AreFound work n (tape_of (get_or cells n d)) new) (sym same)
+        (subst (λ x. AreFound work tag (tape_of x) new) (is ∙ get_or_default cells tag c d within) here)
+    | inr differ ↦ found_beside work tag other (tape_of (get_or cells other d)) old new step differ
         (so.found other d (omega (arith, below, differ)))
   ];
   unfound = λ other w p from below there.
@@ -86,16 +84,16 @@ found_next_tag work tag cells c first old new within is so step here = record {
 }
 
 -- all tags were gone over
-pub found_all : {D : Type 0} (work : Entry → Option Shown) (upto : ℕ) (cells : List (Told D)) (first now : List Reached)
-    → length cells ≤ upto → AreFoundTo work upto cells first now → AreAllFound work cells now
-found_all work upto cells first now end so = record { each = λ tag d below. so.found tag d (omega (arith, below, end)) }
+pub found_all : {C E : Type 0} (tape_of : C → List E) (work : E → Option Shown) (upto : ℕ) (cells : List C) (first now : List Reached)
+    → length cells ≤ upto → AreFoundTo tape_of work upto cells first now → AreTapesFound tape_of work cells now
+found_all tape_of work upto cells first now end so = record { each = λ tag d below. so.found tag d (omega (arith, below, end)) }
 
 -- an entry that is not its worker's next row, by the rows as they were at first
-pub mismatch_here : {D : Type 0} (work : Entry → Option Shown) (tag place : ℕ) (kept told : Seen) (cells : List (Told D))
-    (c : Told D) (first now : List Reached) → tag < length cells → c ≡ get_or cells tag c → AreSameRows first now
-    → IsDifference work tag c.tape now place kept told → IsMismatchAt work cells first tag place kept told
-mismatch_here work tag place kept told cells c first now within is same d = record {
-  cell = c;
+pub mismatch_here : {C E : Type 0} (tape_of : C → List E) (work : E → Option Shown) (tag place : ℕ) (kept told : Seen) (cells : List C)
+    (c : C) (first now : List Reached) → tag < length cells → c ≡ get_or cells tag c → AreSameRows first now
+    → IsDifference work tag (tape_of c) now place kept told → IsMismatchAt tape_of work cells first tag place kept told
+mismatch_here tape_of work tag place kept told cells c first now within is same d = record {
+  one = c;
   there = slice_get-get_or cells tag c within ∙ ap Some (sym is);
   differs = record {
     entry = d.entry;
@@ -108,14 +106,14 @@ mismatch_here work tag place kept told cells c first now within is same d = reco
 }
   where
     next : ℕ → Reached → Option Seen
-    next worker p = slice_get (due tag p.items) (length (shown_by work worker (take place c.tape)))
+    next worker p = slice_get (due tag p.items) (length (shown_by work worker (take place (tape_of c))))
 
     rows : (worker : ℕ) → option_and_then (next worker) (slice_get now worker) ≡ option_and_then (next worker) (slice_get first worker)
     rows worker = elim (cases_lt worker (length first)) [
       | inl below ↦
           let none : Reached = record { items = []; at = [] } in
           ap (option_and_then (next worker)) (slice_get-get_or now worker none (omega (arith, below, same.as_many)))
-          ∙ (ap (λ l. slice_get (due tag l) (length (shown_by work worker (take place c.tape)))) (same.items worker none)
+          ∙ (ap (λ l. slice_get (due tag l) (length (shown_by work worker (take place (tape_of c))))) (same.items worker none)
           ∙ sym (ap (option_and_then (next worker)) (slice_get-get_or first worker none below)))
       | inr past ↦
           ap (option_and_then (next worker)) (slice_get_past now worker (omega (arith, past, same.as_many)))

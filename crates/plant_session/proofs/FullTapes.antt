@@ -13,7 +13,8 @@ use Rattle.tag_cell.specs.Told.{Told}
 use Rattle.tape_audit.specs.Agendas.{take_item}
 use Rattle.tape_audit.specs.Found.{AreFound, Reached, next_due}
 use Rattle.tape_audit.specs.Tapes.{take_of}
-use Rattle.plant_session.specs.Cells.{AreAllFound, AreOver}
+use Rattle.plant_session.specs.Cells.{AreAllFound}
+use Rattle.plant_session.specs.Workers.{AreOver}
 use Rattle.plant_session.specs.Refusals.{AreUnlike, IsDueFor, IsOfTag, IsTakeRefusal, rows_of}
 use Rattle.plant_session.proofs.Counting.{takes_fewer}
 use Rattle.plant_session.proofs.Turns.{IsMissing, due_next}

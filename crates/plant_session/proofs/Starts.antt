@@ -1,8 +1,9 @@
 -- Workers whose rows are gone over for the first time, one more.
-use Rattle.std.proofs.Common.{◌≡◌, ℕ, ◌+◌, ◌^◌, ◌<◌, inl, inr, List, [], ◌∷◌, ◌++◌, All, length, get_or, Option, None, IfSome, pos, sym, ap, subst, ◌∙◌, arith}
+use Rattle.std.proofs.Common.{◌≡◌, ℕ, ◌+◌, ◌^◌, ◌<◌, inl, inr, List, [], ◌∷◌, ◌++◌, All, length, get_or, Option, None, IfSome, Vec, sym, ap, subst, ◌∙◌, arith}
 use Rattle.std.proofs.lemmas.Bool.{cases_eq, cases_lt}
 use Rattle.std.proofs.lemmas.List.{get_or_append_left, get_or_default, get_or_past, get_or_push, length_push}
 use Rattle.std.proofs.lemmas.List.Elements.{All-from_get_or, All-get_or}
+use Rattle.std.specs.declared.alloc.Global.{Global}
 use Rattle.value_rows.specs.declared.asked.Query.{Query}
 use Rattle.value_rows.specs.declared.asked.Query.TheVariants as query
 use Rattle.value_rows.specs.declared.raw.RawRow.{RawRow}
@@ -11,8 +12,9 @@ use Rattle.tape_audit.specs.Agendas.{ask_item, numbered, take_item}
 use Rattle.tape_audit.specs.Found.{IsUnfound, Reached}
 use Rattle.tape_audit.proofs.Numbers.{length-numbered, numbered_at}
 use Rattle.collector_pool.specs.Work.{IsRowOf}
-use Rattle.plant_session.specs.Cells.{AreOver, IsKnownAsk}
-use Rattle.plant_session.specs.Starting.{AreUnfound}
+use Rattle.plant_session.specs.Cells.{IsKnownAsk}
+use Rattle.plant_session.specs.Workers.{AreOver}
+use Rattle.plant_session.specs.Starting.{AreUnfound, IsDueWithin}
 
 -- the first workers are started over the rows of their files
 pub record AreStarted {A : Type 0} (item_of : ℕ → ℕ → A → Option Item) (tags upto : ℕ) (files : List (List A))
@@ -75,31 +77,30 @@ started_unfound item_of tags upto files works so =
           so.unfound i none (omega (arith, below, so.as_many)));
     }
 
--- each row is due at a tag that there is
-pub known_takes : (tags collector : ℕ) (rows : List RawRow) → All (IsRowOf tags) rows
-    → (i : ℕ) → IfSome (get_or (numbered (take_item collector) 1 rows) i None) (λ item. item.unit < tags)
-known_takes tags collector rows each i = elim (cases_lt i (length rows)) [
-  | inl below ↦
-      let row : RawRow = get_or rows i (record { tag = 0; point = record { t = 0; v = pos 0 } }) in
-      subst (λ o. IfSome o (λ item. item.unit < tags)) (sym (numbered_at (take_item collector) 1 rows i _ None below))
-      (All-get_or (IsRowOf tags) rows i row below each).tag
-  | inr past ↦ subst (λ o. IfSome o (λ item. item.unit < tags))
-      (sym (get_or_past (numbered (take_item collector) 1 rows) i None
-      (omega (arith, past, length-numbered (take_item collector) 1 rows)))) tt
+-- each row of a file is due at a unit that there is
+pub known_rows : {A : Type 0} (item_of : ℕ → ℕ → A → Option Item) (many worker : ℕ) (rows : List A)
+    → All (IsDueWithin item_of many) rows
+    → (i : ℕ) → IfSome (get_or (numbered (item_of worker) 1 rows) i None) (λ item. item.unit < many)
+known_rows item_of many worker [] each i = tt
+known_rows item_of many worker (x ∷ rest) each i = elim (cases_lt i (length (x ∷ rest))) [
+  | inl below ↦ subst (λ o. IfSome o (λ item. item.unit < many))
+      (sym (numbered_at (item_of worker) 1 (x ∷ rest) i x None below))
+      (All-get_or (IsDueWithin item_of many) (x ∷ rest) i x below each worker (i + 1))
+  | inr past ↦ subst (λ o. IfSome o (λ item. item.unit < many))
+      (sym (get_or_past (numbered (item_of worker) 1 (x ∷ rest)) i None
+      (omega (arith, past, length-numbered (item_of worker) 1 (x ∷ rest))))) tt
 ]
 
-pub known_asks : (tags reader : ℕ) (queries : List Query) → All (IsKnownAsk tags) queries
-    → (i : ℕ) → IfSome (get_or (numbered (ask_item reader) 1 queries) i None) (λ item. item.unit < tags)
-known_asks tags reader queries each i = elim (cases_lt i (length queries)) [
-  | inl below ↦ subst (λ o. IfSome o (λ item. item.unit < tags))
-      (sym (numbered_at (ask_item reader) 1 queries i (query.Snap 0) None below))
-      (due (get_or queries i (query.Snap 0)) (All-get_or (IsKnownAsk tags) queries i (query.Snap 0) below each))
-  | inr past ↦ subst (λ o. IfSome o (λ item. item.unit < tags))
-      (sym (get_or_past (numbered (ask_item reader) 1 queries) i None
-      (omega (arith, past, length-numbered (ask_item reader) 1 queries)))) tt
-]
+-- values of collectors, and questions of readers, that are of so many tags
+pub takes_due : (tags : ℕ) (files : List (Vec RawRow Global)) → All (λ rows. All (IsRowOf tags) rows.items) files
+    → All (λ rows. All (IsDueWithin take_item tags) rows.items) files
+takes_due tags files each = λ k d below. λ i e within worker number. (each k d below i e within).tag
+
+pub asks_due : (tags : ℕ) (files : List (Vec Query Global)) → All (λ queries. All (IsKnownAsk tags) queries.items) files
+    → All (λ queries. All (IsDueWithin ask_item tags) queries.items) files
+asks_due tags files each = λ k d below. λ i e within. one (get_or (get_or files k d).items i e) (each k d below i e within)
   where
-    due : (q : Query) → IsKnownAsk tags q → IfSome (ask_item reader (i + 1) q) (λ item. item.unit < tags)
-    due (query.Tag tag asked) known = known.0
-    due (query.Snap tag) known = tt
-    due (query.Row group calc k) known = tt
+    one : (q : Query) → IsKnownAsk tags q → IsDueWithin ask_item tags q
+    one (query.Tag tag asked) known = λ worker number. known.0
+    one (query.Snap tag) known = λ worker number. tt
+    one (query.Row group calc k) known = λ worker number. tt

@@ -13,7 +13,8 @@ use Rattle.trend_model.specs.History.{Raw}
 use Rattle.trend_model.specs.State.{after}
 use Rattle.tag_cell.specs.Told.{Told}
 use Rattle.collector_pool.specs.Work.{IsRowOf}
-use Rattle.plant_session.specs.Cells.{AreLonger, IsCaughtTo, IsLonger, IsOver, IsTaken}
+use Rattle.plant_session.specs.Cells.{AreLonger, IsLonger, IsTaken, tape_of}
+use Rattle.plant_session.specs.Workers.{IsCaughtTo, IsOver}
 use Rattle.plant_session.specs.Taking.{IsRowTaken}
 use Rattle.plant_session.proofs.Longer.{all_longer, longer_set}
 use Rattle.plant_session.proofs.Turns.{HasEntry, IsMissing, missing_row}
@@ -26,7 +27,7 @@ entry_of collector number row old new t =
     (length (after t.before.def.step t.before.state (Raw row.point)).records)
 
 pub taken_entry : {D : Type 0} (collector number : ℕ) (row : RawRow) (old new : List (Told D))
-    (t : IsRowTaken collector number row old new) → HasEntry row.tag (entry_of collector number row old new t) old new
+    (t : IsRowTaken collector number row old new) → HasEntry tape_of row.tag (entry_of collector number row old new t) old new
 taken_entry collector number row old new t = record {
   before = t.before;
   after = t.after;

@@ -6,23 +6,21 @@ use Rattle.std.proofs.lemmas.List.{get_or-set_same, get_or-set_other, get_or_def
 use Rattle.std.proofs.lemmas.List.Elements.{All-from_get_or}
 use Rattle.std.proofs.lemmas.Option.{get_or_from_slice_get, slice_get_within}
 use Rattle.plant_status.specs.declared.mismatch.Seen.{Seen}
-use Rattle.tag_cell.specs.declared.entry.Entry.{Entry}
-use Rattle.tag_cell.specs.Told.{Told}
 use Rattle.tape_audit.specs.declared.agenda.Item.{Item}
-use Rattle.tape_audit.specs.declared.walk.Shown.{Shown}
+use Rattle.tape_audit.specs.declared.kind.Shown.{Shown}
 use Rattle.tape_audit.specs.Agendas.{IsNext, numbered}
 use Rattle.tape_audit.specs.Found.{AreFound, IsAdvanced, IsCaughtUp, IsFollowed, Reached, lacks, next_due, place_at}
 use Rattle.tape_audit.proofs.Catching.{caught_due, caught_here, caught_more, caught_past}
 use Rattle.tape_audit.proofs.Numbers.{length-numbered, numbered_at}
 use Rattle.tape_audit.proofs.Walking.{all_further, all_further_step, followed_here, found_beside, found_step}
-use Rattle.plant_session.specs.Cells.{AreAllFound, AreOthersSame, IsCaughtTo, IsOver}
+use Rattle.plant_session.specs.Workers.{AreOthersSame, AreTapesFound, IsCaughtTo, IsOver}
 
--- the cell of a tag has one entry more on its tape
-pub record HasEntry {D : Type 0} (tag : ℕ) (e : Entry) (old new : List (Told D)) : Type 0 where
-  pub before : Told D
-  pub after : Told D
+-- a unit has one entry more on its tape, which `tape_of` tells
+pub record HasEntry {C E : Type 0} (tape_of : C → List E) (tag : ℕ) (e : E) (old new : List C) : Type 0 where
+  pub before : C
+  pub after : C
   pub there : slice_get old tag ≡ Some before
-  pub tape : after.tape ≡ before.tape ++ e ∷ []
+  pub tape : tape_of after ≡ tape_of before ++ e ∷ []
   pub changed : new ≡ set old tag after
 
 -- a worker's row at a place is due at a tag, and lacks there; none before it lacks
@@ -63,20 +61,21 @@ followed worker place tag seen works p q m step =
     (ap (λ r. next_due r tag) (sym m.is) ∙ due_next worker place tag seen works p m) (subst (λ r. IsAdvanced tag r q) m.is step)
 
 -- what is found on all tapes with the entry that the row's call left
-pub found_turn : {D : Type 0} (work : Entry → Option Shown) (worker place tag : ℕ) (seen : Seen) (e : Entry)
-    (old new : List (Told D)) (works : List Reached) (p q : Reached) → IsMissing worker place tag seen works p
-    → IsAdvanced tag p q → work e ≡ Some (record { worker = worker; seen = seen }) → HasEntry tag e old new
-    → All (λ r. tag < length r.at) works → AreAllFound work old works → AreAllFound work new (set works worker q)
-found_turn work worker place tag seen e old new works p q m step shows has known before = record {
+pub found_turn : {C E : Type 0} (tape_of : C → List E) (work : E → Option Shown) (worker place tag : ℕ) (seen : Seen) (e : E)
+    (old new : List C) (works : List Reached) (p q : Reached) → IsMissing worker place tag seen works p
+    → IsAdvanced tag p q → work e ≡ Some (record { worker = worker; seen = seen }) → HasEntry tape_of tag e old new
+    → All (λ r. tag < length r.at) works → AreTapesFound tape_of work old works
+    → AreTapesFound tape_of work new (set works worker q)
+found_turn {C = C} tape_of work worker place tag seen e old new works p q m step shows has known before = record {
   each = λ other d below. elim (cases_eq other tag) [
-    | inl same ↦ subst (λ n. AreFound work n (get_or new n d).tape (set works worker q)) (sym same)
+    | inl same ↦ subst (λ n. AreFound work n (tape_of (get_or new n d)) (set works worker q)) (sym same)
         (subst (λ l. AreFound work tag l (set works worker q)) (sym (here d))
-        (found_step work tag worker seen has.before.tape e works (set works worker q) shows
+        (found_step work tag worker seen (tape_of has.before) e works (set works worker q) shows
         (followed worker place tag seen works p q m step) known
-        (subst (λ c. AreFound work tag c.tape works) (get_or_from_slice_get old tag has.before d has.there)
+        (subst (λ c. AreFound work tag (tape_of c) works) (get_or_from_slice_get old tag has.before d has.there)
         (before.each tag d within))))
-    | inr differ ↦ subst (λ c. AreFound work other c.tape (set works worker q)) (sym (there other d differ))
-        (found_beside work tag other (get_or old other d).tape works (set works worker q)
+    | inr differ ↦ subst (λ c. AreFound work other (tape_of c) (set works worker q)) (sym (there other d differ))
+        (found_beside work tag other (tape_of (get_or old other d)) works (set works worker q)
         (all_further_step worker tag seen works works (set works worker q) (all_further tag works)
         (followed worker place tag seen works p q m step)) differ
         (before.each other d (omega (arith, below, size))))
@@ -89,10 +88,10 @@ found_turn work worker place tag seen e old new works p q m step shows has known
     size : length new ≡ length old
     size = ap length has.changed ∙ length-set old tag has.after
 
-    here : (d : Told _) → (get_or new tag d).tape ≡ has.before.tape ++ e ∷ []
-    here d = ap (λ l. (get_or l tag d).tape) has.changed ∙ (ap (λ c. c.tape) (get_or-set_same old tag has.after d within) ∙ has.tape)
+    here : (d : C) → tape_of (get_or new tag d) ≡ tape_of has.before ++ e ∷ []
+    here d = ap (λ l. tape_of (get_or l tag d)) has.changed ∙ (ap tape_of (get_or-set_same old tag has.after d within) ∙ has.tape)
 
-    there : (other : ℕ) (d : Told _) → other ≢ tag → get_or new other d ≡ get_or old other d
+    there : (other : ℕ) (d : C) → other ≢ tag → get_or new other d ≡ get_or old other d
     there other d differ = ap (λ l. get_or l other d) has.changed ∙ get_or-set_other old tag other has.after d differ
 
 -- ---- what a turn leaves

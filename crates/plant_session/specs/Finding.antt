@@ -4,11 +4,11 @@ use Rattle.plant_status.specs.declared.mismatch.Place.TheVariants.{Take, Ask}
 use Rattle.plant_status.specs.declared.mismatch.Seen.{Seen}
 use Rattle.plant_status.specs.declared.status.Status.{Status}
 use Rattle.plant_status.specs.declared.status.Status.TheVariants.{Mismatch}
-use Rattle.tag_cell.specs.declared.entry.Entry.{Entry}
 use Rattle.tag_cell.specs.Told.{Told}
-use Rattle.tape_audit.specs.declared.walk.Shown.{Shown}
+use Rattle.tape_audit.specs.declared.kind.Shown.{Shown}
 use Rattle.tape_audit.specs.Found.{IsDifference, Reached}
 use Rattle.tape_audit.specs.Tapes.{ask_of, take_of}
+use Rattle.plant_session.specs.Cells.{tape_of}
 
 -- the rows and the units of each worker are as they were
 pub record AreSameRows (old new : List Reached) : Type 0 where
@@ -16,19 +16,19 @@ pub record AreSameRows (old new : List Reached) : Type 0 where
   pub items : (worker : ℕ) (p : Reached) → (slice_index_or new worker p).items ≡ (slice_index_or old worker p).items
   pub units : (worker : ℕ) (p : Reached) → length (slice_index_or new worker p).at ≡ length (slice_index_or old worker p).at
 
--- an entry of a tag's tape is not its worker's next row there
-pub record IsMismatchAt {D : Type 0} (work : Entry → Option Shown) (cells : List (Told D)) (works : List Reached)
-    (tag place : ℕ) (kept told : Seen) : Type 0 where
-  pub cell : Told D
-  pub there : slice_get cells tag ≡ Some cell
-  pub differs : IsDifference work tag cell.tape works place kept told
+-- an entry of a unit's tape, which `tape_of` tells, is not its worker's next row there
+pub record IsMismatchAt {C E : Type 0} (tape_of : C → List E) (work : E → Option Shown) (units : List C)
+    (works : List Reached) (unit place : ℕ) (kept told : Seen) : Type 0 where
+  pub one : C
+  pub there : slice_get units unit ≡ Some one
+  pub differs : IsDifference work unit (tape_of one) works place kept told
 
 -- it is a take
 abbrev pub IsTakeMismatch : {D : Type 0} → List (Told D) → List Reached → Status → Type 0
-IsTakeMismatch cells works (Mismatch (Take tag place) kept told) = IsMismatchAt take_of cells works tag place kept told
+IsTakeMismatch cells works (Mismatch (Take tag place) kept told) = IsMismatchAt tape_of take_of cells works tag place kept told
 IsTakeMismatch cells works other = ⊥
 
 -- it is a question
 abbrev pub IsAskMismatch : {D : Type 0} → List (Told D) → List Reached → Status → Type 0
-IsAskMismatch cells works (Mismatch (Ask tag place) kept told) = IsMismatchAt ask_of cells works tag place kept told
+IsAskMismatch cells works (Mismatch (Ask tag place) kept told) = IsMismatchAt tape_of ask_of cells works tag place kept told
 IsAskMismatch cells works other = ⊥

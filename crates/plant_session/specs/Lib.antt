@@ -5,3 +5,4 @@ pub mod Openings
 pub mod Refusals
 pub mod Starting
 pub mod Taking
+pub mod Workers

@@ -26,7 +26,7 @@ pub record FirstDiffer (found known : List Seen) (kept told : Seen) : Type 0 whe
   pub told_is : slice_get known place ≡ Some told
   pub differ : kept ≢ told
 
--- as many records, of which so many are the same and the next is another
+-- so many records are the same, and then another one was found than the next that is known, or none
 pub record RecordsDiffer (found known : List Rec) (kept told : Seen) : Type 0 where
   pub same : ℕ
   pub prefix : take same found ≡ take same known

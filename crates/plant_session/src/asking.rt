@@ -6,7 +6,8 @@ ghost use Rattle.calc_refresh.specs.Lists.{lists_of};
 ghost use Rattle.tape_audit.specs.Agendas.{ask_item, take_item};
 ghost use Rattle.tape_audit.specs.Tapes.{ask_of, take_of};
 ghost use Rattle.plant_session.specs.Asking.{IsRowAsked};
-ghost use Rattle.plant_session.specs.Cells.{AreAllFound, AreAllShown, AreLonger, AreOthersSame, AreOver, IsAsked, IsCaughtTo, IsOver, IsKnownAsk};
+ghost use Rattle.plant_session.specs.Cells.{AreAllFound, AreAllShown, AreLonger, IsAsked, IsKnownAsk};
+ghost use Rattle.plant_session.specs.Workers.{AreOthersSame, AreOver, IsCaughtTo, IsOver};
 
 use disk_model::Disk;
 use tag_cell::Cell;

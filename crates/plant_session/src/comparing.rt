@@ -89,14 +89,14 @@ fn same_def(a: &TagDef, b: &TagDef) -> bool
     same_name(&a.name, &b.name) && same_tuning(&a.tuning, &b.tuning) && a.step == b.step
 }
 
-// As many records are the same from the first one on as are told.
-fn compare_records(found: &[Rec], known: &[Rec]) -> Result<(), Difference>
-    requires as_many { length found.now ≡ length known.now }
-    ensures same { OnOk result (found.now ≡ known.now) }
+/// Whether records that are known are the first of those that were found. Where they are not, so many of them are as are kept,
+/// of as many as are told.
+pub fn compare_records(found: &[Rec], known: &[Rec]) -> Result<(), Difference>
+    ensures same { OnOk result (known.now ≡ take (length known.now) found.now) }
     ensures differs { IfErr result (λ d. RecordsDiffer found.now known.now d.kept d.told) }
 {
     for i in 0..known.len() {
-        if !same_rec(&found[i], &known[i]) {
+        if i >= found.len() || !same_rec(&found[i], &known[i]) {
             return Err(Difference {
                 kept: Seen::Number(i as u64),
                 told: Seen::Number(known.len() as u64),

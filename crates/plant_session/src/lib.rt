@@ -17,8 +17,8 @@ mod taking;
 
 pub use asking::ask_missing;
 pub use committing::commit_all;
-pub use comparing::{Difference, Kept, compare_openings};
+pub use comparing::{Difference, Kept, compare_openings, compare_records};
 pub use finding::{find_all_asks, find_all_takes};
 pub use plant_status::Status;
-pub use starting::{collectors_of, readers_of, rooms_of};
+pub use starting::{collectors_of, readers_of, rooms_of, start};
 pub use taking::take_missing;

@@ -4,16 +4,18 @@ ghost use Rattle.std.specs.List.{count_by};
 ghost use Rattle.calc_refresh.specs.Lists.{lists_of};
 ghost use Rattle.tape_audit.specs.Agendas.{ask_item, take_item};
 ghost use Rattle.collector_pool.specs.Work.{IsRowOf};
-ghost use Rattle.plant_session.specs.Cells.{AreOver, IsKnownAsk};
+ghost use Rattle.plant_session.specs.Cells.{IsKnownAsk};
+ghost use Rattle.plant_session.specs.Workers.{AreOver};
 ghost use Rattle.plant_session.specs.Refusals.{rows_of};
-ghost use Rattle.plant_session.specs.Starting.{AreUnfound};
+ghost use Rattle.plant_session.specs.Starting.{AreUnfound, IsDueWithin};
 
 use std::alloc::Global;
-use tape_audit::{Agenda, Progress, Rows, WantOfMemory};
+use tape_audit::{Agenda, Asks, Kind, Progress, Takes, WantOfMemory};
 use value_rows::{Query, RawRow};
 
 /// The progress of each collector over the rows of its file, of so many tags. More than 2^32 - 1 files or rows are refused, as
 /// memory that is not there.
+#[tactic(auto, using(crate::proofs::Starts::takes_due))]
 pub fn collectors_of<'a>(
     alloc: Global,
     files: &'a [Vec<RawRow>],
@@ -23,26 +25,12 @@ pub fn collectors_of<'a>(
     ensures over { IfOk result (λ works. AreOver take_item tags (lists_of files.now) works.items) }
     ensures unfound { IfOk result (λ works. AreUnfound tags works.items) }
 {
-    if !is_small(files.len()) {
-        return Err(WantOfMemory);
-    }
-    let mut works = Vec::with_capacity(alloc, files.len())?;
-    for (collector, rows) in files.iter().enumerate() {
-        if !is_small(rows.len()) {
-            return Err(WantOfMemory);
-        }
-        let agenda = Agenda {
-            worker: collector as u32,
-            rows: Rows::Takes(rows),
-        };
-        let work = Progress::new(alloc, agenda, tags)?;
-        works.push_reserved(work);
-    }
-    Ok(works)
+    start::<Takes>(alloc, files, tags)
 }
 
 /// The progress of each reader over the questions of its file, of so many tags. More than 2^32 - 1 files or questions are
 /// refused, as memory that is not there.
+#[tactic(auto, using(crate::proofs::Starts::asks_due))]
 pub fn readers_of<'a>(
     alloc: Global,
     files: &'a [Vec<Query>],
@@ -52,19 +40,33 @@ pub fn readers_of<'a>(
     ensures over { IfOk result (λ works. AreOver ask_item tags (lists_of files.now) works.items) }
     ensures unfound { IfOk result (λ works. AreUnfound tags works.items) }
 {
+    start::<Asks>(alloc, files, tags)
+}
+
+/// The progress of each worker over the rows of its file that are of one kind, at so many units: tags, or groups. More than
+/// 2^32 - 1 files or rows are refused, as memory that is not there.
+pub fn start<'a, K: Kind>(
+    alloc: Global,
+    files: &'a [Vec<K::Row>],
+    units: u32,
+) -> Result<Vec<Progress<'a>>, WantOfMemory>
+    requires { All (λ rows. All (IsDueWithin K.item_of units) rows.items) files.now }
+    ensures over { IfOk result (λ works. AreOver K.item_of units (lists_of files.now) works.items) }
+    ensures unfound { IfOk result (λ works. AreUnfound units works.items) }
+{
     if !is_small(files.len()) {
         return Err(WantOfMemory);
     }
     let mut works = Vec::with_capacity(alloc, files.len())?;
-    for (reader, queries) in files.iter().enumerate() {
-        if !is_small(queries.len()) {
+    for (worker, rows) in files.iter().enumerate() {
+        if !is_small(rows.len()) {
             return Err(WantOfMemory);
         }
         let agenda = Agenda {
-            worker: reader as u32,
-            rows: Rows::Asks(queries),
+            worker: worker as u32,
+            rows: K::rows(rows),
         };
-        let work = Progress::new(alloc, agenda, tags)?;
+        let work = Progress::new(alloc, agenda, units)?;
         works.push_reserved(work);
     }
     Ok(works)

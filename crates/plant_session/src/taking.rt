@@ -5,7 +5,8 @@ ghost use Rattle.tape_audit.specs.Agendas.{take_item};
 ghost use Rattle.tape_audit.specs.Found.{Reached};
 ghost use Rattle.tape_audit.specs.Tapes.{ask_of, take_of};
 ghost use Rattle.collector_pool.specs.Work.{IsRowOf};
-ghost use Rattle.plant_session.specs.Cells.{AreAllFound, AreAllShown, AreLonger, AreOthersSame, AreOver, IsCaughtTo, IsOver, IsTaken};
+ghost use Rattle.plant_session.specs.Cells.{AreAllFound, AreAllShown, AreLonger, IsTaken};
+ghost use Rattle.plant_session.specs.Workers.{AreOthersSame, AreOver, IsCaughtTo, IsOver};
 ghost use Rattle.plant_session.specs.Refusals.{AreUnlike, IsDueFor, IsOfTag, IsTakeRefusal, rows_of, take_status};
 ghost use Rattle.plant_session.specs.Taking.{IsRowTaken};
 

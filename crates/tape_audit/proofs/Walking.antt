@@ -12,7 +12,7 @@ use Rattle.std.proofs.lemmas.Option.{none-some, get_or_from_slice_get, slice_get
 use Rattle.plant_status.specs.declared.mismatch.Seen.{Seen}
 use Rattle.plant_status.specs.declared.mismatch.Seen.TheVariants.{Nothing}
 use Rattle.tape_audit.specs.declared.agenda.Item.{Item}
-use Rattle.tape_audit.specs.declared.walk.Shown.{Shown}
+use Rattle.tape_audit.specs.declared.kind.Shown.{Shown}
 use Rattle.tape_audit.specs.Agendas.{IsNext, due, due_at, seen_at}
 use Rattle.tape_audit.specs.Found.{AreFound, AreFurther, IsAdvanced, IsDifference, IsFollowed, IsFurther, IsOtherDue, IsUnfound, Reached, found, found_of, next_due, place_at, seen_by, shown_by}
 

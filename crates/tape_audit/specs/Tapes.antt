@@ -1,7 +1,7 @@
 -- What the entries of a tag's tape show of collectors and of readers.
 use Rattle.std.specs.Prelude.{Option, None, Some}
 use Rattle.plant_status.specs.declared.mismatch.Seen.TheVariants as seen
-use Rattle.tape_audit.specs.declared.walk.Shown.{Shown}
+use Rattle.tape_audit.specs.declared.kind.Shown.{Shown}
 use Rattle.tag_cell.specs.declared.entry.Entry.{Entry}
 use Rattle.tag_cell.specs.declared.entry.Entry.TheVariants.{Take, Ask}
 

@@ -1,11 +1,10 @@
 // One walk over a tape, with the progress of each worker.
 ghost use Rattle.std.specs.Prelude.{◌≡◌, ◌↔◌, ◌<◌, All, IfErr, IfNone, IfSome, IsSomeAnd, IsTrue, MatchOption, OnErr, OnOk, OnSome, length};
 ghost use Rattle.tape_audit.specs.Found.{AreFound, AreFurther, IsDifference, IsFollowed, IsOtherDue, IsUnfound, IsWork};
-ghost use Rattle.tape_audit.specs.Tapes.{ask_of, take_of};
 
+use crate::kind::{Kind, Shown};
 use crate::progress::Progress;
 use plant_status::Seen;
-use tag_cell::Entry;
 
 /// The first entry of a tape that is not its worker's next row there.
 #[derive(Clone, Copy)]
@@ -18,87 +17,24 @@ pub struct Differs {
     pub told: Seen,
 }
 
-/// Finds the takes of a tag's tape among the rows of the collectors.
-pub fn find_takes(tag: u32, tape: &[Entry], works: &mut [Progress<'_>]) -> Result<(), Differs>
-    requires known { All (λ p. tag < length p.at) works.old }
-    requires unfound { All (IsUnfound tag) works.old }
-    ensures found { OnOk result (AreFound take_of tag tape.now works.new) }
-    ensures further { AreFurther tag works.old works.new }
-    ensures differs { IfErr result (λ d. IsDifference take_of tag tape.now works.old d.place d.kept d.told) }
+/// Finds the entries of one kind on the tape of a unit, a tag or a group, among the rows of their workers.
+pub fn find<K: Kind>(
+    unit: u32,
+    tape: &[K::Entry],
+    works: &mut [Progress<'_>],
+) -> Result<(), Differs>
+    requires known { All (λ p. unit < length p.at) works.old }
+    requires unfound { All (IsUnfound unit) works.old }
+    ensures found { OnOk result (AreFound K.shows unit tape.now works.new) }
+    ensures further { AreFurther unit works.old works.new }
+    ensures differs { IfErr result (λ d. IsDifference K.shows unit tape.now works.old d.place d.kept d.told) }
 {
     for (place, entry) in tape.iter().enumerate() {
-        if let Err(differs) = follow(works, tag, place, take_of(entry)) {
+        if let Err(differs) = follow(works, unit, place, K::shown(entry)) {
             return Err(differs);
         }
     }
     Ok(())
-}
-
-/// Finds the questions on a tag's tape among the rows of the readers.
-pub fn find_asks(tag: u32, tape: &[Entry], works: &mut [Progress<'_>]) -> Result<(), Differs>
-    requires known { All (λ p. tag < length p.at) works.old }
-    requires unfound { All (IsUnfound tag) works.old }
-    ensures found { OnOk result (AreFound ask_of tag tape.now works.new) }
-    ensures further { AreFurther tag works.old works.new }
-    ensures differs { IfErr result (λ d. IsDifference ask_of tag tape.now works.old d.place d.kept d.told) }
-{
-    for (place, entry) in tape.iter().enumerate() {
-        if let Err(differs) = follow(works, tag, place, ask_of(entry)) {
-            return Err(differs);
-        }
-    }
-    Ok(())
-}
-
-/// What an entry shows of a worker.
-#[derive(Clone, Copy)]
-pub struct Shown {
-    pub worker: u32,
-    pub seen: Seen,
-}
-
-// What a take shows of its collector.
-fn take_of(entry: &Entry) -> Option<Shown>
-    ensures { result ≡ take_of entry.now }
-{
-    match entry {
-        Entry::Take {
-            collector,
-            row,
-            point,
-            ..
-        } => Some(Shown {
-            worker: *collector,
-            seen: Seen::Take {
-                collector: *collector,
-                row: *row,
-                point: *point,
-            },
-        }),
-        _ => None,
-    }
-}
-
-// What a question shows of its reader.
-fn ask_of(entry: &Entry) -> Option<Shown>
-    ensures { result ≡ ask_of entry.now }
-{
-    match entry {
-        Entry::Ask {
-            reader,
-            row,
-            query,
-            ..
-        } => Some(Shown {
-            worker: *reader,
-            seen: Seen::Ask {
-                reader: *reader,
-                row: *row,
-                query: *query,
-            },
-        }),
-        _ => None,
-    }
 }
 
 // What the entry at a place of a unit's tape shows is the next row of its worker there, or another one was due.

@@ -1,7 +1,8 @@
 use Rattle.std.proofs.Common.{length}
 use Rattle.tape_audit.specs.Agendas.{ask_item}
 use Rattle.tape_audit.specs.Tapes.{ask_of}
-use Rattle.plant_session.specs.Cells.{AreAllFound, AreLonger, AreOthersSame, IsCaughtTo, IsOver, IsAsked}
+use Rattle.plant_session.specs.Cells.{AreAllFound, AreLonger, IsAsked}
+use Rattle.plant_session.specs.Workers.{AreOthersSame, IsCaughtTo, IsOver}
 use Rattle.plant_session.proofs.asking.ask_file.Given as goal
 
 abbrev pub invariant-loop-place : goal.invariant-loop-place

@@ -7,7 +7,8 @@ use Rattle.calc_refresh.specs.Lists.{lists_of}
 use Rattle.tape_audit.specs.Agendas.{ask_item, take_item}
 use Rattle.tape_audit.specs.Found.{IsCaughtUp}
 use Rattle.tape_audit.specs.Tapes.{ask_of, take_of}
-use Rattle.plant_session.specs.Cells.{IsCaughtTo, IsAsked, IsKnownAsk}
+use Rattle.plant_session.specs.Cells.{IsAsked, IsKnownAsk, tape_of}
+use Rattle.plant_session.specs.Workers.{IsCaughtTo}
 use Rattle.plant_session.proofs.Files.{each_file, file_at, file_within, over_again, over_file, shown_all}
 use Rattle.plant_session.proofs.EntryKinds.{asked_takes, longer_shown}
 use Rattle.plant_session.proofs.Longer.{all_longer, all_longer_trans}
@@ -70,7 +71,7 @@ pub returns-clause-shown : goal.returns-clause-shown
 returns-clause-shown g c =
     let files = c.args.files.now in
     let end = c.loop-reader.invariant in
-    shown_all ask_of ask_item (length c.loop-reader.cells) (lists_of files) c.loop-reader.cells c.loop-reader.works
+    shown_all tape_of ask_of ask_item (length c.loop-reader.cells) (lists_of files) c.loop-reader.cells c.loop-reader.works
     end.over end.found (λ w below. end.caught w
     (omega (arith, below, c.loop-reader-test.false, c.loop-reader.auto, length-map files (λ (v : Vec _ Global). v.items))))
 

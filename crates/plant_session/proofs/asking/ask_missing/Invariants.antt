@@ -2,7 +2,8 @@ use Rattle.std.proofs.Common.{◌<◌, ℕ, [], length, get_or}
 use Rattle.calc_refresh.specs.Lists.{lists_of}
 use Rattle.tape_audit.specs.Agendas.{ask_item}
 use Rattle.tape_audit.specs.Tapes.{ask_of}
-use Rattle.plant_session.specs.Cells.{AreAllFound, AreLonger, AreOver, IsCaughtTo, IsAsked}
+use Rattle.plant_session.specs.Cells.{AreAllFound, AreLonger, IsAsked}
+use Rattle.plant_session.specs.Workers.{AreOver, IsCaughtTo}
 use Rattle.plant_session.proofs.asking.ask_missing.Given as goal
 
 abbrev pub invariant-loop-reader : goal.invariant-loop-reader

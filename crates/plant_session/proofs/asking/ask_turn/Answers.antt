@@ -2,7 +2,8 @@ use Rattle.std.proofs.Common.{◌∙◌, ◌+◌, ap, sym, subst, refl, [], get_
 use Rattle.std.proofs.lemmas.List.{get_or_default}
 use Rattle.tape_audit.specs.Agendas.{ask_item}
 use Rattle.tape_audit.specs.Tapes.{ask_of}
-use Rattle.plant_session.specs.Cells.{AreLonger, IsAsked, IsOver}
+use Rattle.plant_session.specs.Cells.{AreLonger, IsAsked, tape_of}
+use Rattle.plant_session.specs.Workers.{IsOver}
 use Rattle.plant_session.proofs.AskTurns.{asked_entry, asked_longer, caught_other, missing_ask, query_there}
 use Rattle.plant_session.proofs.Longer.{all_longer}
 use Rattle.plant_session.proofs.Turns.{all_known, caught_past_row, caught_row, due_next, found_turn, others_stay, over_turn, row_within}
@@ -75,7 +76,7 @@ returns-clause-found g c =
     c.requires.within c.in-Tag.is).0 (sym c.lacks.ensures.lacks ∙ c.if-not-lacks.false) c.lacks.ensures.next c.requires.caught in
     let known = query_there (length c.args.cells.now) c.args.place c.in-Tag.tag c.in-Tag.query c.args.queries.now _
     c.requires.queries c.requires.within c.in-Tag.is in
-    found_turn ask_of c.args.reader c.args.place _ _ _ c.args.cells.now c.ask_row.new.cells c.args.works.now _
+    found_turn tape_of ask_of c.args.reader c.args.place _ _ _ c.args.cells.now c.ask_row.new.cells c.args.works.now _
     c.advance.new.self m c.advance.ensures refl
     (asked_entry c.args.reader (c.args.place + 1) c.in-Tag.tag c.in-Tag.query c.args.cells.now c.ask_row.new.cells
     c.in_ok-ask_row.ensures.asked)

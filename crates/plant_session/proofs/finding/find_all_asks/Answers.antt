@@ -1,51 +1,11 @@
-use Rattle.std.proofs.Common.{subst}
-use Rattle.tape_audit.specs.Found.{AreFound, IsDifference}
 use Rattle.tape_audit.specs.Agendas.{ask_item}
-use Rattle.tape_audit.specs.Tapes.{ask_of}
-use Rattle.plant_session.proofs.FindingTurns.{found_next_tag, found_none, known_next, mismatch_here, over_same, rows_after, unfound_next}
+use Rattle.plant_session.proofs.FindingTurns.{over_same}
 use Rattle.plant_session.proofs.finding.find_all_asks.Goals as goal
-
-pub loop-tag-init : goal.loop-tag-init
-loop-tag-init g c = found_none ask_of c.args.cells.now c.args.works.now c.requires.unfound
-
-pub find_asks-requires-clause-known : goal.find_asks-requires-clause-known
-find_asks-requires-clause-known g c =
-    known_next ask_of c.loop-tag.tag c.args.cells.now c.args.works.now c.loop-tag.works c.loop-tag.invariant c.loop-tag-test.true
-
-pub find_asks-requires-clause-unfound : goal.find_asks-requires-clause-unfound
-find_asks-requires-clause-unfound g c =
-    unfound_next ask_of c.loop-tag.tag c.args.cells.now c.args.works.now c.loop-tag.works c.loop-tag.invariant c.loop-tag-test.true
-
-pub returns-in-Err-clause-same_rows : goal.returns-in-Err-clause-same_rows
-returns-in-Err-clause-same_rows g c =
-    rows_after ask_of c.loop-tag.tag c.args.cells.now c.args.works.now c.loop-tag.works c.find_asks.new.works
-    c.loop-tag.invariant c.in-Err.ensures.further
-
-pub returns-in-Err-clause-differs : goal.returns-in-Err-clause-differs
-returns-in-Err-clause-differs g c =
-    let cells = c.args.cells.now in
-    let cell = c.index-cells-tag.result in
-    mismatch_here ask_of c.loop-tag.tag c.in-Err.differs.place c.in-Err.differs.kept c.in-Err.differs.told cells cell
-    c.args.works.now c.loop-tag.works c.loop-tag-test.true
-    c.index-cells-tag.is c.loop-tag.invariant.same
-    (subst (λ l. IsDifference ask_of c.loop-tag.tag l c.loop-tag.works c.in-Err.differs.place c.in-Err.differs.kept
-    c.in-Err.differs.told) c.tape.ensures c.in-Err.ensures.differs)
-
-pub loop-tag-preserved : goal.loop-tag-preserved
-loop-tag-preserved g c =
-    let cells = c.args.cells.now in
-    let cell = c.index-cells-tag.result in
-    found_next_tag ask_of c.loop-tag.tag cells cell c.args.works.now c.loop-tag.works c.find_asks.new.works
-    c.loop-tag-test.true c.index-cells-tag.is
-    c.loop-tag.invariant c.in_default.ensures.further
-    (subst (λ l. AreFound ask_of c.loop-tag.tag l c.find_asks.new.works) c.tape.ensures c.in_default.ensures.found)
 
 pub returns-in-Err-clause-over : goal.returns-in-Err-clause-over
 returns-in-Err-clause-over g c = λ tags files over.
-    over_same ask_item tags files c.args.works.now c.find_asks.new.works
-    (rows_after ask_of c.loop-tag.tag c.args.cells.now c.args.works.now c.loop-tag.works c.find_asks.new.works
-    c.loop-tag.invariant c.in-Err.ensures.further) over
+    over_same ask_item tags files c.args.works.now c.find_all.new.works c.find_all.ensures.same_rows over
 
-pub returns-clause-over : goal.returns-clause-over
-returns-clause-over g c = λ tags files over.
-    over_same ask_item tags files c.args.works.now c.loop-tag.works c.loop-tag.invariant.same over
+pub returns-in-Ok-clause-over : goal.returns-in-Ok-clause-over
+returns-in-Ok-clause-over g c = λ tags files over.
+    over_same ask_item tags files c.args.works.now c.find_all.new.works c.find_all.ensures.same_rows over

@@ -1,7 +1,8 @@
 use Rattle.std.proofs.Common.{length}
 use Rattle.tape_audit.specs.Agendas.{take_item}
 use Rattle.tape_audit.specs.Tapes.{take_of}
-use Rattle.plant_session.specs.Cells.{AreAllFound, AreLonger, AreOthersSame, IsCaughtTo, IsOver, IsTaken}
+use Rattle.plant_session.specs.Cells.{AreAllFound, AreLonger, IsTaken}
+use Rattle.plant_session.specs.Workers.{AreOthersSame, IsCaughtTo, IsOver}
 use Rattle.plant_session.proofs.taking.take_file.Given as goal
 
 abbrev pub invariant-loop-place : goal.invariant-loop-place

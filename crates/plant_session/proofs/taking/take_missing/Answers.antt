@@ -8,7 +8,8 @@ use Rattle.tape_audit.specs.Agendas.{take_item}
 use Rattle.tape_audit.specs.Found.{IsCaughtUp}
 use Rattle.tape_audit.specs.Tapes.{ask_of, take_of}
 use Rattle.collector_pool.specs.Work.{IsRowOf}
-use Rattle.plant_session.specs.Cells.{IsCaughtTo, IsTaken}
+use Rattle.plant_session.specs.Cells.{IsTaken, tape_of}
+use Rattle.plant_session.specs.Workers.{IsCaughtTo}
 use Rattle.plant_session.proofs.Files.{each_file, file_at, file_within, over_again, over_file, shown_all}
 use Rattle.plant_session.proofs.EntryKinds.{longer_found, taken_asks}
 use Rattle.plant_session.proofs.FullTapes.{unlike}
@@ -72,7 +73,7 @@ pub returns-clause-shown : goal.returns-clause-shown
 returns-clause-shown g c =
     let files = c.args.files.now in
     let end = c.loop-collector.invariant in
-    shown_all take_of take_item (length c.loop-collector.cells) (lists_of files) c.loop-collector.cells c.loop-collector.works
+    shown_all tape_of take_of take_item (length c.loop-collector.cells) (lists_of files) c.loop-collector.cells c.loop-collector.works
     end.over end.found (λ w below. end.caught w
     (omega (arith, below, c.loop-collector-test.false, c.loop-collector.auto, length-map files (λ (v : Vec _ Global). v.items))))
 

@@ -2,7 +2,8 @@ use Rattle.std.proofs.Common.{◌<◌, ℕ, [], length, get_or}
 use Rattle.calc_refresh.specs.Lists.{lists_of}
 use Rattle.tape_audit.specs.Agendas.{take_item}
 use Rattle.tape_audit.specs.Tapes.{take_of}
-use Rattle.plant_session.specs.Cells.{AreAllFound, AreLonger, AreOver, IsCaughtTo, IsTaken}
+use Rattle.plant_session.specs.Cells.{AreAllFound, AreLonger, IsTaken}
+use Rattle.plant_session.specs.Workers.{AreOver, IsCaughtTo}
 use Rattle.plant_session.proofs.taking.take_missing.Given as goal
 
 abbrev pub invariant-loop-collector : goal.invariant-loop-collector

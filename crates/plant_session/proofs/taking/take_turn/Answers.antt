@@ -4,7 +4,8 @@ use Rattle.std.proofs.lemmas.List.Elements.{All-get_or}
 use Rattle.tape_audit.specs.Agendas.{take_item}
 use Rattle.tape_audit.specs.Tapes.{take_of}
 use Rattle.collector_pool.specs.Work.{IsRowOf}
-use Rattle.plant_session.specs.Cells.{AreLonger, IsOver, IsTaken}
+use Rattle.plant_session.specs.Cells.{AreLonger, IsTaken, tape_of}
+use Rattle.plant_session.specs.Workers.{IsOver}
 use Rattle.plant_session.proofs.FullTapes.{due_for}
 use Rattle.plant_session.proofs.Longer.{all_longer}
 use Rattle.plant_session.proofs.TakeTurns.{missing_take, taken_entry, taken_longer}
@@ -64,7 +65,7 @@ returns-clause-found g c =
     c.index-works-collector.result c.index-works-collector-2.result c.requires.over c.requires.within c.requires.values
     (sym c.lacks.ensures.lacks ∙ c.if-not-lacks.false) c.lacks.ensures.next c.requires.caught in
     let value = All-get_or (IsRowOf (length c.args.cells.now)) c.args.rows.now c.args.place _ c.requires.within c.requires.values in
-    found_turn take_of c.args.collector c.args.place _ _ _ c.args.cells.now c.take_row.new.cells c.args.works.now _
+    found_turn tape_of take_of c.args.collector c.args.place _ _ _ c.args.cells.now c.take_row.new.cells c.args.works.now _
     c.advance.new.self m c.advance.ensures refl
     (taken_entry c.args.collector (c.args.place + 1) _ c.args.cells.now c.take_row.new.cells c.in_default.ensures.taken)
     (all_known take_item (length c.args.cells.now) c.args.collector _ c.args.rows.now c.args.works.now c.requires.over value.tag)

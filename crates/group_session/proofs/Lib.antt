@@ -1,0 +1,10 @@
+pub mod Starts
+pub mod Each
+pub mod AskTurns
+pub mod Refreshes
+pub mod Numbers
+pub mod Marks
+pub mod Cursors
+pub mod Items
+pub mod Pulls
+pub mod MoreTurns

@@ -1,0 +1,25 @@
+use Rattle.std.proofs.Common.{◌≡◌, ◌∙◌, List, length, Result, Ok, Err, Vec, OnOk, ap, sym, subst, arith}
+use Rattle.std.specs.declared.alloc.Global.{Global}
+use Rattle.std.proofs.lemmas.List.{length-map}
+use Rattle.trend_num.specs.declared.value.CalcValue.{CalcValue}
+use Rattle.calc_refresh.specs.Lists.{lists_of}
+use Rattle.group_session.specs.Openings.{DifferSo, IsSameOpening, items_of}
+use Rattle.group_session.specs.Openings.DifferSo.{InNumber, InRows}
+use Rattle.group_session.proofs.Items.{opened_same, rows_counted}
+use Rattle.group_session.proofs.comparing.compare_opening.Goals as goal
+
+pub returns-in-Err-clause-differs : goal.returns-in-Err-clause-differs
+returns-in-Err-clause-differs c = InNumber c.in-Err.ensures.differs.0 c.in-Err.ensures.differs.1
+
+pub compare_rows-requires : goal.compare_rows-requires
+compare_rows-requires c = record {
+  as_many = ap length c.deref.ensures.value ∙ (rows_counted c.args.found.now c.args.known.now c.in_default.ensures.same
+      ∙ sym (ap length c.deref-2.ensures.value));
+}
+
+pub returns-clause-same : goal.returns-clause-same
+returns-clause-same c =
+    opened_same c.args.found.now c.args.known.now c.compare_rows.result c.in_default.ensures.same
+    (subst (λ k. OnOk c.compare_rows.result (lists_of c.args.found.now.rows.items ≡ lists_of k)) c.deref-2.ensures.value
+    (subst (λ f. OnOk c.compare_rows.result (lists_of f ≡ lists_of c.deref-2.result.now)) c.deref.ensures.value
+    c.compare_rows.ensures.same))

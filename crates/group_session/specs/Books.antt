@@ -1,0 +1,49 @@
+-- Books that have gained turns.
+use Rattle.std.specs.Prelude.{◌≡◌, ℕ, ◌<◌, List, ◌++◌, All, length, slice_index_or, ⊤}
+use Rattle.value_rows.specs.declared.asked.Query.{Query}
+use Rattle.value_rows.specs.declared.asked.Query.TheVariants as query
+use Rattle.group_book.specs.declared.turn.Turn.{Turn}
+use Rattle.group_book.specs.declared.turn.Turn.TheVariants.{Refresh, Ask, Save}
+use Rattle.group_book.specs.Told.{Told}
+
+abbrev pub tape_of : {D : Type 0} → Told D → List Turn
+tape_of b = b.tape
+
+-- a question for a value of one of so many groups, if it is for one
+abbrev pub IsKnownRowAsk : ℕ → Query → Type 0
+IsKnownRowAsk groups (query.Row group calc k) = group < groups
+IsKnownRowAsk groups other = ⊤
+
+-- ---- books that have gained turns
+
+-- a turn that is a question
+abbrev pub IsAsk : Turn → Type 0
+IsAsk (Ask reader row calc k reply) = ⊤
+IsAsk other = ⊥
+
+-- a turn that is none
+abbrev pub IsNoAsk : Turn → Type 0
+IsNoAsk (Ask reader row calc k reply) = ⊥
+IsNoAsk other = ⊤
+
+-- the tape is longer by questions, and nothing else has changed
+pub record IsAskedMore {D : Type 0} (old new : Told D) : Type 0 where
+  pub more : List Turn
+  pub each : All IsAsk more
+  pub changed : new ≡ record old { tape = old.tape ++ more }
+
+-- two lists are of one length, and what stands in each place of them is related so
+pub record AreEach {C : Type 0} (R : C → C → Type 0) (old new : List C) : Type 0 where
+  pub as_many : length new ≡ length old
+  pub each : (i : ℕ) (d : C) → R (slice_index_or old i d) (slice_index_or new i d)
+
+-- the tape is longer by turns that are no questions; the group and its definition, the tags and the opening stay
+pub record IsRefreshedMore {D : Type 0} (old new : Told D) : Type 0 where
+  pub more : List Turn
+  pub each : All IsNoAsk more
+  pub tape : new.tape ≡ old.tape ++ more
+  pub same_group : new.group ≡ old.group
+  pub same_def : new.def ≡ old.def
+  pub same_text : new.text ≡ old.text
+  pub same_tags : new.tags ≡ old.tags
+  pub same_opening : new.opening ≡ old.opening

@@ -1,0 +1,11 @@
+pub mod Asking
+pub mod Books
+pub mod Finding
+pub mod Inputs
+pub mod Numbers
+pub mod Openings
+pub mod Pulls
+pub mod Refreshing
+pub mod Refusals
+pub mod Tapes
+pub mod Turns

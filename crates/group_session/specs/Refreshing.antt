@@ -1,0 +1,63 @@
+-- Groups that are refreshed from the cells of their inputs.
+use Rattle.std.specs.Prelude.{◌≡◌, ℕ, ◌+◌, ◌<◌, List, [], ◌∷◌, ◌++◌, All, drop, length, map, slice_index, slice_index_or, ⊤}
+use Rattle.trend_num.specs.declared.archive.Rec.{Rec}
+use Rattle.calc_refresh.specs.Sheet.{IsCopy}
+use Rattle.tag_cell.specs.declared.entry.Entry.{Entry}
+use Rattle.tag_cell.specs.declared.entry.Entry.TheVariants.{Pull}
+use Rattle.tag_cell.specs.declared.entry.Pulled.{Pulled}
+use Rattle.tag_cell.specs.Told.{Told as Cell, durable_records}
+use Rattle.tape_audit.specs.Agendas.{numbered}
+use Rattle.group_book.specs.Told.{GoesOn, Told as Book, pulled_records, versions_of}
+use Rattle.group_session.specs.Tapes.{refreshes}
+
+-- ---- records that no crash takes away
+
+-- those of each tag
+abbrev pub durable_lists : {C : Type 0} → List (Cell C) → List (List Rec)
+durable_lists cells = map durable_records cells
+
+-- how many there are of each of these tags
+abbrev pub durable_numbers : List (List Rec) → List ℕ → List ℕ
+durable_numbers durables tags = map (λ tag. length (slice_index_or durables tag [])) tags
+
+-- those of each of these tags behind the copy that there is of it
+abbrev pub new_records : List (List Rec) → List ℕ → List (List Rec) → List (List Rec)
+new_records durables tags copies =
+    numbered (λ input tag. drop (length (slice_index_or copies input [])) (slice_index_or durables tag [])) 0 tags
+
+-- what was pulled of one tag that has these: what is behind so many
+pub record IsPullOf (durable : List Rec) (from : ℕ) (p : Pulled) : Type 0 where
+  pub ends : p.upto ≡ length durable
+  pub records : p.recs.items ≡ drop from durable
+  pub copied : IsCopy p.recs.items
+  pub goes_on : p.upto ≡ from + length p.recs.items
+
+-- what was pulled of each of these tags: what is behind the copy that there is of it
+pub record ArePullsOf (durables : List (List Rec)) (tags : List ℕ) (copies : List (List Rec)) (ps : List Pulled) : Type 0 where
+  pub records : pulled_records ps ≡ new_records durables tags copies
+  pub ends : map (λ p. p.upto) ps ≡ durable_numbers durables tags
+  pub copied : All IsCopy (pulled_records ps)
+  pub goes_on : GoesOn copies ps
+
+-- ---- what a refresh leaves
+
+abbrev pub IsPull : Entry → Type 0
+IsPull (Pull group from upto) = ⊤
+IsPull other = ⊥
+
+-- a cell's tape is longer by pulls, and nothing else has changed
+pub record IsPulledMore {C : Type 0} (old new : Cell C) : Type 0 where
+  pub more : List Entry
+  pub each : All IsPull more
+  pub changed : new ≡ record old { tape = old.tape ++ more }
+
+-- a book has made its turns and one more, and has as many records of each input as no crash takes away
+pub record IsRefreshedTo {D : Type 0} (durables : List (List Rec)) (tags : List ℕ) (turns : ℕ) (book : Book D) : Type 0 where
+  pub refreshed : length (refreshes book.tape) ≡ turns + 1
+  pub versions : versions_of book ≡ durable_numbers durables tags
+
+-- so has each
+pub record AreRefreshed {D : Type 0} (durables : List (List Rec)) (inputs : List (List ℕ)) (turns : List ℕ)
+    (books : List (Book D)) : Type 0 where
+  pub each : (group : ℕ) (b : Book D) → group < length books
+      → IsRefreshedTo durables (slice_index_or inputs group []) (slice_index turns group) (slice_index_or books group b)

@@ -1,0 +1,25 @@
+//! What a session does with its groups once its workers have ended.
+//!
+//! The books are held alone then, beside the cells, and of each only what its type keeps is known: no worker's word counts.
+//! [`compare_books`] compares each with the copy that was kept of its opening, [`find_all_row_asks`] finds how far the questions
+//! of readers stand on the groups' tapes, and [`compare_turns`] looks whether one was refreshed more often than the plan says.
+//! What lacks is then done: [`ask_rows_missing`] answers the questions, and [`refresh_missing`] makes the refreshes, and then
+//! one more. At the end [`compare_pulls`] compares what each group has of its inputs with what it pulled of their tags. A
+//! refusal is told with its cause.
+#![tactic(auto)]
+
+mod asking;
+mod comparing;
+mod finding;
+mod kind;
+mod pulling;
+mod refreshing;
+mod turns;
+
+pub use asking::ask_rows_missing;
+pub use comparing::{KeptGroup, compare_books};
+pub use finding::{find_all_row_asks, row_askers_of};
+pub use kind::RowAsks;
+pub use pulling::compare_pulls;
+pub use refreshing::refresh_missing;
+pub use turns::{compare_turns, turns_of};

@@ -1,0 +1,121 @@
+// A kind of work: what the rows of a worker leave on tapes, and what the entries of a tape show of workers.
+ghost use Rattle.std.specs.Prelude.{◌≡◌, ℕ, IfSome, Option};
+ghost use Rattle.tape_audit.specs.Agendas.{items_in, numbered};
+ghost use Rattle.tape_audit.specs.Found.{IsWork};
+
+use crate::agenda::Rows;
+use plant_status::Seen;
+use tag_cell::Entry;
+use value_rows::{Query, RawRow};
+
+/// What an entry shows of a worker.
+#[derive(Clone, Copy)]
+pub struct Shown {
+    pub worker: u32,
+    pub seen: Seen,
+}
+
+/// A kind of work: takes, questions about tags, or another one.
+pub trait Kind {
+    ghost use Rattle.tape_audit.specs.declared.agenda.Item.{Item};
+    ghost use Rattle.tape_audit.specs.declared.kind.Shown.{Shown};
+
+    /// The rows of a worker's file.
+    type Row;
+
+    /// The entries of a tape.
+    type Entry;
+
+    /// What a row leaves on a tape, and on which, if it is of this kind: by its worker, its number from 1, and the row.
+    ghost item_of: { ℕ → ℕ → Self.Row → Option Item };
+
+    /// What an entry shows, and of which worker, if it is of this kind.
+    ghost shows: { Self.Entry → Option Shown };
+
+    /// The rows of a file, those that are of this kind.
+    fn rows(rows: &[Self::Row]) -> Rows<'_>
+        ensures { (worker : ℕ) → items_in worker result ≡ numbered (item_of worker) 1 rows.now };
+
+    /// What an entry shows of a worker, if it is of this kind.
+    fn shown(entry: &Self::Entry) -> Option<Shown>
+        ensures value { result ≡ shows entry.now }
+        ensures work { IfSome result (λ s. IsWork s.seen) };
+}
+
+/// The values of collectors, on the tapes of tags.
+pub struct Takes;
+
+impl Kind for Takes {
+    ghost use Rattle.tape_audit.specs.Agendas.{take_item};
+    ghost use Rattle.tape_audit.specs.Tapes.{take_of};
+
+    type Row = RawRow;
+
+    type Entry = Entry;
+
+    ghost item_of = { take_item };
+
+    ghost shows = { take_of };
+
+    fn rows(rows: &[RawRow]) -> Rows<'_> {
+        Rows::Takes(rows)
+    }
+
+    fn shown(entry: &Entry) -> Option<Shown> {
+        match entry {
+            Entry::Take {
+                collector,
+                row,
+                point,
+                ..
+            } => Some(Shown {
+                worker: *collector,
+                seen: Seen::Take {
+                    collector: *collector,
+                    row: *row,
+                    point: *point,
+                },
+            }),
+            _ => None,
+        }
+    }
+}
+
+/// The questions of readers about tags, on the tapes of these.
+pub struct Asks;
+
+impl Kind for Asks {
+    ghost use Rattle.tape_audit.specs.Agendas.{ask_item};
+    ghost use Rattle.tape_audit.specs.Tapes.{ask_of};
+
+    type Row = Query;
+
+    type Entry = Entry;
+
+    ghost item_of = { ask_item };
+
+    ghost shows = { ask_of };
+
+    fn rows(rows: &[Query]) -> Rows<'_> {
+        Rows::Asks(rows)
+    }
+
+    fn shown(entry: &Entry) -> Option<Shown> {
+        match entry {
+            Entry::Ask {
+                reader,
+                row,
+                query,
+                ..
+            } => Some(Shown {
+                worker: *reader,
+                seen: Seen::Ask {
+                    reader: *reader,
+                    row: *row,
+                    query: *query,
+                },
+            }),
+            _ => None,
+        }
+    }
+}
