@@ -49,7 +49,7 @@ const ROWS: &str = "\
 104 165 => damaged 105 none";
 
 /// The device after the first save, with another byte at a place.
-fn device_of(alloc: Global, at: usize, byte: u8) -> Result<MemDisk, Fail> {
+pub fn saved_once(alloc: Global, at: usize, byte: u8) -> Result<MemDisk, Fail> {
     let mut bytes = Vec::new(alloc);
     bytes.extend_from_slice(&HEAD)?;
     bytes.extend_from_slice(TEXT)?;
@@ -102,7 +102,7 @@ fn follow(rt: &impl Abort, alloc: Global, line: &str) -> Result<(), Fail> {
     let (at, byte) = change.split_once(' ').ok_or("a byte")?;
     let at = at.parse::<usize>().map_err(|_| "a place")?;
     let byte = byte.parse::<u8>().map_err(|_| "a value")?;
-    let mut dev = device_of(alloc, at, byte)?;
+    let mut dev = saved_once(alloc, at, byte)?;
     assert_eq!(rt; read_text(alloc, &mut dev)?.as_str(), want, "{line}");
     Ok(())
 }

@@ -1,14 +1,17 @@
 // Books over devices: what is saved, and what is there when the device is opened again.
+use crate::blocks::saved_once;
 use crate::books::{answers, cell_of, refresh, take_all};
 use crate::parts::copy_of;
 use crate::sheets::def_of;
 use disk_model::{MemDisk, Pick};
 use group_book::{Book, LoadFail, Turn, load};
+use group_layout::definition_text;
 use std::alloc::Global;
 use std::process::Abort;
 use std::sync::{Mutex, Wait};
 use std::test::Fail;
 use tag_cell::Cell;
+use trend_num::name_from;
 
 /// The definition texts of two groups of one tag and one calculation.
 const TEXT: &[u8; 23] = b"g,0,1000,T1\nm=avg('T1')";
@@ -196,6 +199,21 @@ fn a_crash_leaves_the_last_save_or_the_next(rt: HostRuntime) -> Result<(), Fail>
         }
     }
     Err("two saves took more than 100 calls".into())
+}
+
+#[test]
+fn a_first_save_has_these_bytes(rt: HostRuntime) -> Result<(), Fail> {
+    let alloc = rt.alloc();
+    let name = name_from(b"g").ok_or("a name")?;
+    let def = def_of(&rt, alloc, 1, 1000, "avg('T1')")?;
+    let text = definition_text(alloc, &name, 0, 1000, &def.calcs)?;
+    assert!(&rt; text.as_slice() == TEXT.as_slice());
+    let dev = MemDisk::new(Vec::new(alloc), Vec::new(alloc));
+    let values = "g - 0,0 3000,0 4000,9 1500,60 commit";
+    let (dev, _) = session(&rt, alloc, dev, values)?;
+    let whole = saved_once(alloc, usize::MAX, 0)?;
+    assert!(&rt; dev.bytes() == whole.bytes());
+    Ok(())
 }
 
 #[test]
