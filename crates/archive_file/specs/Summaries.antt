@@ -1,5 +1,5 @@
 -- The bytes of a summary.
-use Rattle.std.specs.Prelude.{◌≡◌, ℕ, ◌+◌, ◌^◌, ◌<◌, Bool, true, cond, List, [], ◌∷◌, ◌++◌, replicate, Option}
+use Rattle.std.specs.Prelude.{◌≡◌, ℕ, ◌+◌, ◌^◌, ◌<◌, Bool, true, if◌then◌else◌, List, [], ◌∷◌, ◌++◌, replicate, Option}
 use Rattle.std.specs.Prelude.{None, Some, is_some, IfSome}
 use Rattle.trend_num.specs.declared.archive.Summary.{Summary}
 use Rattle.trend_num.specs.declared.tuning.Tuning.{Tuning}
@@ -15,7 +15,7 @@ tuning_bytes (Some t) = number_bytes 7 t.exc_dev
 
 -- one bit of the flags
 abbrev pub flag : Bool → ℕ → ℕ
-flag there bit = cond there bit 0
+flag there bit = if there then bit else 0
 
 -- which parts are there: held 1, pending 2, hinge 4, doors 8, tuning 16
 abbrev pub flags : Summary → ℕ

@@ -1,5 +1,5 @@
 -- What a journal shows, and how it stands to its device.
-use Rattle.std.specs.Prelude.{◌≡◌, ◌⊎◌, ℕ, ◌+◌, ◌*◌, ◌-◌, ◌<◌, ◌≤◌, Bool, true, false, cond, List, length}
+use Rattle.std.specs.Prelude.{◌≡◌, ◌⊎◌, ℕ, ◌+◌, ◌*◌, ◌-◌, ◌<◌, ◌≤◌, Bool, true, false, if◌then◌else◌, List, length}
 use Rattle.std.specs.Prelude.{Option, None, Some, Result, OnOk}
 use Rattle.trend_num.specs.declared.tag_def.TagDef.{TagDef}
 use Rattle.trend_model.specs.History.{Event}
@@ -123,7 +123,7 @@ SeatedOn p (Some t) = IsSeated p t
 
 -- how many lane slots are free: all of them where the lane is stale, since its gates are closed before the next write
 abbrev pub free_in : Seat → ℕ
-free_in p = cond p.stale p.lane.slots (p.lane.slots - p.lane.used)
+free_in p = if p.stale then p.lane.slots else p.lane.slots - p.lane.used
 
 -- where each lane slot is free, the lane holds nothing that the summary does not count
 abbrev pub IsNumbered : Seat → Type 0

@@ -4,10 +4,11 @@ use Rattle.std.proofs.Common.{map, None, refl, sym, ◌∙◌, ap, subst, arith}
 use Rattle.trend_num.specs.declared.tuning.Tuning.{Tuning}
 use Rattle.trend_num.specs.declared.tag_def.TagDef.{TagDef}
 use Rattle.trend_num.specs.Names.{IsName}
-use Rattle.trend_num.specs.Ranges.{TuningInRange}
+use Rattle.trend_num.specs.Ranges.{InRange, TuningInRange}
 use Rattle.trend_model.specs.History.{Raw}
 use Rattle.trend_model.specs.Parts.{ArePartsOk}
 use Rattle.trend_model.specs.State.{nothing_taken, replay}
+use Rattle.trend_model.proofs.HistoryLaw.{nothing_ruled}
 use Rattle.disk_model.specs.Gates.{open_byte}
 use Rattle.event_queue.specs.Slots.{gate_of}
 use Rattle.event_queue.specs.Lanes.{lane_points, IsLane}
@@ -23,18 +24,7 @@ use Rattle.device_layout.proofs.HeaderImages.{header_with, slots_image, def_imag
 -- no records and no summary are parts of a tag
 pub no_parts : (u : Tuning) (step : Bool) → ArePartsOk u step [] no_summary
 no_parts u step = record {
-  ruled = record {
-    counted = refl;
-    at_most_two = omega arith;
-    whole = record { none_recorded = refl; no_upper = refl; no_lower = refl };
-    waits = tt;
-    records_are = tt;
-    held_is = tt;
-    pending_is = tt;
-    hinge_is = tt;
-    upper_is = tt;
-    lower_is = tt;
-  };
+  ruled = nothing_ruled InRange u step None;
   few = omega arith;
   countable = omega arith;
   same_tuning = tt;

@@ -5,7 +5,7 @@
 -- step tag. The rest is zeros.
 use Rattle.std.specs.Prelude.{◌≡◌, ℕ, ◌+◌, ◌-◌, ◌&&◌, Bool, true, List, ◌++◌, ◌∷◌, length, take}
 use Rattle.std.specs.Prelude.{drop, replicate}
-use Rattle.std.specs.Prelude.{slice_index, codes, nat_le, nat_eq, if◌then◌else◌, cond}
+use Rattle.std.specs.Prelude.{slice_index, codes, nat_le, nat_eq, if◌then◌else◌}
 use Rattle.std.specs.Int.{w32, w64, from_be_bytes}
 use Rattle.trend_num.specs.declared.tuning.Tuning.{Tuning}
 use Rattle.trend_num.specs.declared.tag_def.TagDef.{TagDef}
@@ -89,4 +89,4 @@ tuning_image t = number_bytes 8 t.exc_dev ++ (number_bytes 8 t.exc_max
 abbrev pub header_image : TagDef → ℕ → List ℕ
 header_image def slots =
     letters ++ (length def.name ∷ (def.name ++ (replicate (64 - length def.name) 0
-    ++ (tuning_image def.tuning ++ (number_bytes 4 slots ++ (cond def.step 1 0 ∷ replicate 13 0))))))
+    ++ (tuning_image def.tuning ++ (number_bytes 4 slots ++ ((if def.step then 1 else 0) ∷ replicate 13 0))))))

@@ -1,5 +1,5 @@
 -- What a store in memory is seen as.
-use Rattle.std.specs.Prelude.{◌≡◌, ◌≢◌, ℕ, Bool, true, List, [], ◌∷◌, bytes_eq, cond, map, String, string_bytes, Option, None, Some, is_some}
+use Rattle.std.specs.Prelude.{◌≡◌, ◌≢◌, ℕ, Bool, true, List, [], ◌∷◌, bytes_eq, if◌then◌else◌, map, String, string_bytes, Option, None, Some, is_some}
 use Rattle.std.specs.declared.alloc.Global.{Global}
 use Rattle.disk_model.specs.Traces.{Trace}
 use Rattle.disk_model.specs.Memory.{DiskState}
@@ -16,7 +16,7 @@ pub record StoreState : Type 0 where
 -- the device of a name
 abbrev pub device_of : Devices → List ℕ → Option DiskState
 device_of [] name = None
-device_of (d ∷ ds) name = cond (bytes_eq d.0 name) (Some d.1) (device_of ds name)
+device_of (d ∷ ds) name = if bytes_eq d.0 name then Some d.1 else device_of ds name
 
 -- a device that holds nothing
 abbrev pub empty_trace : Trace

@@ -1,8 +1,8 @@
 -- A lane in use, before and behind an append.
-use Rattle.std.proofs.Common.{◌≡◌, ◌≢◌, ◌⊎◌, inl, inr, ⊎_elim, ℕ, zero, suc, ◌+◌, ◌-◌, ◌*◌, ◌^◌, ◌<◌, ◌≤◌}
-use Rattle.std.proofs.Common.{List, [], ◌∷◌, ◌++◌}
+use Rattle.std.proofs.Common.{◌≡◌, ◌≢◌, inl, inr, ⊎_elim, ℕ, zero, suc, ◌+◌, ◌-◌, ◌^◌, ◌<◌, ◌≤◌}
+use Rattle.std.proofs.Common.{List, ◌++◌}
 use Rattle.std.proofs.Common.{length, get_or, take, drop, refl, sym, ◌∙◌, ap, subst, arith, length-append}
-use Rattle.std.proofs.Common.{add-zero, add-one}
+use Rattle.std.proofs.Common.{add-zero}
 use Rattle.std.proofs.Common.{take-append-drop}
 use Rattle.std.specs.List.{All}
 use Rattle.std.proofs.lemmas.Bool.{cases_lt, cases_eq}
@@ -10,9 +10,9 @@ use Rattle.std.proofs.lemmas.List.{append-nil, take-take}
 use Rattle.trend_num.specs.declared.point.Point.{Point}
 use Rattle.trend_num.specs.Ranges.{InRange}
 use Rattle.disk_model.specs.Gates.{open_byte, IsOpen, IsGuarded}
-use Rattle.event_queue.specs.Slots.{Batch, gate_of, place_of, lane_end, batch_bytes, slot_at, batch_in}
+use Rattle.event_queue.specs.Slots.{gate_of, place_of, batch_bytes, slot_at, batch_in}
 use Rattle.event_queue.specs.Slots.{batch_at}
-use Rattle.event_queue.specs.Lanes.{points_beyond, points_of, points_before, lane_points, IsSound, IsLane}
+use Rattle.event_queue.specs.Lanes.{points_of, points_before, lane_points, IsSound, IsLane}
 use Rattle.event_queue.specs.Places.{HasRoom, IsFilled}
 use Rattle.event_queue.proofs.Batches.{length-batch_bytes, batch_in-bytes}
 use Rattle.event_queue.proofs.Rooms.{gate_outside, room_guarded}

@@ -1,13 +1,13 @@
 -- A lane that a summary has overtaken.
-use Rattle.std.proofs.Common.{◌≡◌, ◌≢◌, inl, inr, ⊎_elim, ℕ, zero, suc, ◌+◌, ◌*◌, ◌<◌, ◌≤◌, List, [], ◌++◌}
-use Rattle.std.proofs.Common.{length, get_or}
+use Rattle.std.proofs.Common.{◌≡◌, inl, inr, ⊎_elim, ℕ, zero, suc, ◌<◌, ◌≤◌, List, [], ◌++◌}
+use Rattle.std.proofs.Common.{get_or}
 use Rattle.std.proofs.Common.{refl, sym, ◌∙◌, ap, subst, arith}
 use Rattle.std.specs.List.{All}
 use Rattle.std.proofs.lemmas.Bool.{cases_eq}
 use Rattle.trend_num.specs.Ranges.{InRange}
 use Rattle.disk_model.specs.Gates.{open_byte, IsOpen, IsClosing}
-use Rattle.event_queue.specs.Slots.{gate_of, place_of, slot_at, batch_in, batch_at}
-use Rattle.event_queue.specs.Lanes.{IsStale, points_of, points_before, lane_points, IsCounted, IsSound}
+use Rattle.event_queue.specs.Slots.{gate_of, batch_in, batch_at}
+use Rattle.event_queue.specs.Lanes.{IsStale, points_of, points_before, IsCounted}
 use Rattle.event_queue.specs.Places.{IsOvertaken}
 use Rattle.event_queue.proofs.Steps.{points_shut, points_open, beyond_stale}
 use Rattle.event_queue.proofs.SameLanes.{same_behind}

@@ -1,10 +1,10 @@
 -- What stands in a piece that was read stands on the device.
-use Rattle.std.proofs.Common.{◌≡◌, ◌≢◌, ℕ, ◌+◌, ◌*◌, ◌-◌, ◌<◌, ◌≤◌, List, length, get_or, take, drop, Result}
+use Rattle.std.proofs.Common.{◌≡◌, ◌≢◌, ℕ, ◌+◌, ◌*◌, ◌<◌, ◌≤◌, List, length, get_or, take, drop, Result}
 use Rattle.std.proofs.Common.{Ok, Err, IsErrAnd}
-use Rattle.std.proofs.Common.{refl, sym, ◌∙◌, ap, subst, arith, add-zero}
+use Rattle.std.proofs.Common.{sym, ◌∙◌, ap, subst, arith, add-zero}
 use Rattle.disk_model.specs.Gates.{open_byte}
 use Rattle.archive_file.proofs.Logs.{part_of, byte_of}
-use Rattle.event_queue.specs.Slots.{gate_of, place_of, slot_at}
+use Rattle.event_queue.specs.Slots.{gate_of, place_of}
 use Rattle.event_queue.specs.declared.reader.Scanned.{Scanned}
 use Rattle.event_queue.specs.Scans.{IsWithin, IsRead}
 use Rattle.event_queue.specs.Pieces.{IsOpenSlot, IsPiece}

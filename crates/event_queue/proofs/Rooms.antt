@@ -1,13 +1,13 @@
 -- The room that a lane needs: what it gives a call, and what calls leave of it.
-use Rattle.std.proofs.Common.{◌≡◌, ◌≢◌, inl, inr, ⊎_elim, ℕ, ◌+◌, ◌*◌, ◌<◌, ◌≤◌, List, length, get_or, Option}
+use Rattle.std.proofs.Common.{◌≡◌, inl, inr, ⊎_elim, ℕ, ◌+◌, ◌<◌, ◌≤◌, List, length, Option}
 use Rattle.std.proofs.Common.{None, Some}
 use Rattle.std.proofs.Common.{refl, sym, ◌∙◌, subst, arith}
 use Rattle.std.proofs.lemmas.Bool.{cases_lt}
 use Rattle.disk_model.specs.Traces.{Trace, seen}
-use Rattle.disk_model.specs.Images.{IsOutside, MayLeave, Now, FromOld}
+use Rattle.disk_model.specs.Images.{IsOutside, Now, FromOld}
 use Rattle.disk_model.specs.Moments.{During}
 use Rattle.disk_model.specs.Calls.{Reaches}
-use Rattle.disk_model.specs.Gates.{open_byte, IsShut, IsGuarded, AreShut, IsClosing}
+use Rattle.disk_model.specs.Gates.{IsShut, IsGuarded, AreShut, IsClosing}
 use Rattle.disk_model.proofs.Images.{present}
 use Rattle.disk_model.proofs.Moments.{during_now}
 use Rattle.event_queue.specs.Slots.{gate_of, place_of, lane_end}

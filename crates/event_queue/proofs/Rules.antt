@@ -1,13 +1,13 @@
 -- The rule on first numbers, as it is defined and as it is tested.
-use Rattle.std.proofs.Common.{◌≡◌, ◌⊎◌, ◌↔◌, inl, inr, ⊎_elim, ℕ, ◌+◌, ◌-◌, ◌<◌, ◌≤◌, Bool, true, false}
+use Rattle.std.proofs.Common.{◌≡◌, ◌↔◌, inl, inr, ⊎_elim, ℕ, ◌+◌, ◌-◌, ◌<◌, Bool, true, false}
 use Rattle.std.proofs.Common.{length}
 use Rattle.std.proofs.Common.{List, refl, sym, ◌∙◌, ap, subst, arith}
-use Rattle.std.proofs.lemmas.Bool.{cases_lt, cases_eq, cases_order, cases_Bool, true≢false}
+use Rattle.std.proofs.lemmas.Bool.{cases_lt, cases_order, cases_Bool, true≢false}
 use Rattle.disk_model.specs.Gates.{IsOpen}
 use Rattle.event_queue.specs.declared.reader.Scanned.{Scanned}
 use Rattle.event_queue.specs.Slots.{gate_of, batch_at}
-use Rattle.event_queue.specs.Lanes.{IsStale, points_before, IsStaleBehind, IsNextBehind, FollowsOn, IsCounted}
-use Rattle.event_queue.specs.Lanes.{IsSound, IsLane}
+use Rattle.event_queue.specs.Lanes.{IsStale, IsStaleBehind, IsNextBehind, FollowsOn, IsCounted}
+use Rattle.event_queue.specs.Lanes.{IsLane}
 use Rattle.event_queue.specs.Scans.{IsWithin, IsRead, Fits}
 
 module _ (slots taken : ℕ) (bytes : List ℕ) where

@@ -1,17 +1,16 @@
 -- What a lane holds depends on which gates are open, and on the slots behind these, alone.
-use Rattle.std.proofs.Common.{◌≡◌, inl, inr, ⊎_elim, ℕ, zero, suc, ◌+◌, ◌*◌, ◌<◌, ◌≤◌, List, [], ◌++◌, length}
+use Rattle.std.proofs.Common.{◌≡◌, inl, inr, ⊎_elim, ℕ, zero, suc, ◌+◌, ◌<◌, ◌≤◌, List, ◌++◌, length}
 use Rattle.std.proofs.Common.{get_or}
 use Rattle.std.proofs.Common.{take, drop, refl, sym, ◌∙◌, ap, subst, arith, length-take, length-drop}
 use Rattle.std.specs.List.{All}
 use Rattle.std.proofs.lemmas.Bool.{cases_eq}
 use Rattle.std.proofs.lemmas.List.{get_or-drop, ext_get_or}
-use Rattle.trend_num.specs.declared.point.Point.{Point}
 use Rattle.trend_num.specs.Ranges.{InRange}
 use Rattle.disk_model.specs.Gates.{open_byte, IsOpen}
 use Rattle.disk_model.proofs.Bytes.{holds_same}
-use Rattle.event_queue.specs.Slots.{Batch, gate_of, place_of, lane_end, slot_at, batch_in, batch_at}
-use Rattle.event_queue.specs.Lanes.{IsStale, points_beyond, points_of, points_before, IsStaleBehind}
-use Rattle.event_queue.specs.Lanes.{IsNextBehind, FollowsOn}
+use Rattle.event_queue.specs.Slots.{gate_of, place_of, lane_end, slot_at, batch_in, batch_at}
+use Rattle.event_queue.specs.Lanes.{IsStale, points_beyond, points_of, points_before}
+use Rattle.event_queue.specs.Lanes.{FollowsOn}
 use Rattle.event_queue.specs.Lanes.{IsCounted, IsSound, IsLane}
 use Rattle.event_queue.proofs.Steps.{points_shut, points_open}
 

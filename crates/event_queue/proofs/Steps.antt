@@ -1,24 +1,20 @@
 -- What was read of the first slots goes on to one slot more.
-use Rattle.std.proofs.Common.{◌≡◌, ◌≢◌, ◌⊎◌, ◌↔◌, inl, inr, ⊎_elim, ℕ, ◌+◌, ◌-◌, ◌*◌, ◌<◌, ◌≤◌, Bool, true}
-use Rattle.std.proofs.Common.{false, cond, min}
-use Rattle.std.proofs.Common.{List, [], ◌++◌, length, get_or, take, drop, refl, sym, ◌∙◌, ap, subst, arith}
+use Rattle.std.proofs.Common.{◌≡◌, ◌≢◌, ◌↔◌, ⊎_elim, ℕ, ◌+◌, ◌<◌, ◌≤◌, Bool, true}
+use Rattle.std.proofs.Common.{min}
+use Rattle.std.proofs.Common.{List, [], ◌++◌, get_or, take, drop, sym, ◌∙◌, ap, subst, arith}
 use Rattle.std.proofs.Common.{add-one}
 use Rattle.std.proofs.Common.{Option, Some}
 use Rattle.std.specs.Int.{w64, from_be_bytes}
-use Rattle.std.specs.List.{All}
-use Rattle.std.proofs.lemmas.Bool.{cases_lt, cases_eq, eq-eqb, ne_eqb, le-leb, lt-leb, cond-true, cond-false}
-use Rattle.std.proofs.lemmas.Bool.{true≢false}
+use Rattle.std.proofs.lemmas.Bool.{cases_lt, eq-eqb, ne_eqb, le-leb, lt-leb, cond-true, cond-false}
 use Rattle.std.proofs.lemmas.List.{append-nil}
-use Rattle.trend_num.specs.declared.point.Point.{Point}
-use Rattle.trend_num.specs.Ranges.{InRange}
 use Rattle.disk_model.specs.Gates.{open_byte, IsOpen}
 use Rattle.archive_file.specs.declared.failure.ScanNo.{ScanNo}
 use Rattle.archive_file.specs.declared.failure.ScanNo.TheVariants.{Damaged}
 use Rattle.archive_file.proofs.Logs.{byte_of}
 use Rattle.event_queue.specs.declared.reader.Scanned.{Scanned}
-use Rattle.event_queue.specs.Slots.{Batch, gate_of, place_of, count_in, points_in, slot_at, batch_in}
+use Rattle.event_queue.specs.Slots.{Batch, gate_of, place_of, count_in, points_in, batch_in}
 use Rattle.event_queue.specs.Slots.{batch_at}
-use Rattle.event_queue.specs.Lanes.{IsStale, points_beyond, points_of, points_before, FollowsOn, IsCounted}
+use Rattle.event_queue.specs.Lanes.{IsStale, points_beyond, points_of, points_before}
 use Rattle.event_queue.specs.Lanes.{IsSound, IsLane}
 use Rattle.event_queue.specs.Damages.{BreaksAt, IsLaneDamage}
 use Rattle.event_queue.specs.Scans.{IsRead}

@@ -7,12 +7,11 @@ use Rattle.std.specs.List.{All}
 use Rattle.std.proofs.lemmas.Bool.{cases_lt, cases_Bool, true≢false}
 use Rattle.std.proofs.lemmas.List.{drop-drop, append-nil}
 use Rattle.std.proofs.lemmas.List.Elements.{All-append}
-use Rattle.trend_num.specs.declared.point.Point.{Point}
 use Rattle.trend_num.specs.Ranges.{InRange}
 use Rattle.archive_file.specs.Fields.{point_at}
 use Rattle.event_queue.specs.declared.reader.Scanned.{Scanned}
 use Rattle.event_queue.specs.Slots.{count_in, points_in, slot_at, batch_in, batch_at}
-use Rattle.event_queue.specs.Lanes.{IsStale, points_beyond, FollowsOn, IsCounted, IsSound}
+use Rattle.event_queue.specs.Lanes.{IsStale, points_beyond, FollowsOn, IsCounted}
 use Rattle.event_queue.specs.Damages.{IsCountBroken, IsFirstBroken, IsPointBroken}
 use Rattle.event_queue.specs.Scans.{IsWithin, IsRead, Fits}
 use Rattle.event_queue.specs.Pieces.{IsOpenSlot}

@@ -1,10 +1,11 @@
 -- Records in order, put behind all others.
 use Rattle.std.proofs.Common.{◌≡◌, ◌≢◌, ℕ, ◌+◌, ◌-◌, ◌^◌, ◌<◌, ◌≤◌, inl, inr, ℤ, pos, List, [], ◌∷◌, ◌++◌}
-use Rattle.std.proofs.Common.{length, get_or, set, take, All, fold, refl, sym, ap, ◌∙◌, subst, arith, append_assoc}
+use Rattle.std.proofs.Common.{length, get_or, set, take, drop, All, fold, refl, sym, ap, ◌∙◌, subst, arith, append_assoc}
 use Rattle.std.proofs.Common.{append-nil}
 use Rattle.std.specs.Int.{bit_at}
 use Rattle.std.proofs.lemmas.List.{same_lists, take_more, get_or_default, get_or-set_same, get_or-set_other}
-use Rattle.std.proofs.lemmas.List.{length-set, length-take-le, length-take, get_or-take}
+use Rattle.std.proofs.lemmas.List.{length-set, length-take-le, length-take, get_or-take, get_or-drop}
+use Rattle.std.proofs.lemmas.List.{take-append-drop}
 use Rattle.std.proofs.lemmas.List.Elements.{All-nil, All-cons, All-head, All-tail, All-append}
 use Rattle.std.proofs.lemmas.Bool.{cases_eq}
 use Rattle.std.proofs.lemmas.Nat.Bits.{bit_at_above}
@@ -16,7 +17,7 @@ use Rattle.page_pool.specs.declared.frame.Frame.{Frame}
 use Rattle.trend_model.specs.Contents.{IsRising, placed}
 use Rattle.late_insert.specs.Pages.{kind_of, records_in, IsRecorded}
 use Rattle.trend_model.proofs.Placing.{time, AllBefore, rising_nil, rising_cons, rising_head, rising_tail}
-use Rattle.trend_model.proofs.Placing.{rising_across, placed_behind}
+use Rattle.trend_model.proofs.Placing.{rising_across, rising_left, placed_behind}
 use Rattle.late_insert.proofs.Summing.{length-records_in, get_or-records_in}
 use Rattle.late_insert.proofs.Storing.{rec_of, same_rec}
 
@@ -83,7 +84,7 @@ next_rises l i d some within rises after =
 -- ---- the content with a run
 
 -- a record that is behind all others comes last
-placed_last : (r : Rec) (l : List Rec) → AllBefore l (time r) → placed r l ≡ l ++ r ∷ []
+pub placed_last : (r : Rec) (l : List Rec) → AllBefore l (time r) → placed r l ≡ l ++ r ∷ []
 placed_last r l before = ap (placed r) (sym (append-nil l)) ∙ placed_behind r l [] before
 
 -- records that rise behind all others are put behind them
@@ -94,6 +95,22 @@ listed_run l (r ∷ rs) rises =
     let joined = append_assoc l (r ∷ []) rs in
     ap (λ m. fold (λ n x. placed x n) m rs) one
     ∙ (listed_run (l ++ r ∷ []) rs (subst IsRising (sym joined) rises) ∙ joined)
+
+-- records in order read as they are
+pub listed_in_order : (recs : List Rec) (n : ℕ) → IsRising recs → fold (λ l r. placed r l) [] (take n recs) ≡ take n recs
+listed_in_order recs n rises =
+    listed_run [] (take n recs) (rising_left (take n recs) (drop n recs) (subst IsRising (sym (take-append-drop n recs))
+    rises))
+
+-- and the next one is behind them
+pub next_behind : (recs : List Rec) (n : ℕ) (d : Rec) → IsRising recs → n < length recs
+    → AllBefore (take n recs) (time (get_or (drop n recs) 0 d))
+next_behind recs n d rises within k e inside =
+    let reach : k < n = omega (arith, length-take-le n recs (omega arith)) in
+    let here = ap time (get_or-take n recs k e reach ∙ get_or_default recs k e d (omega arith)) in
+    let next = ap time (get_or-drop n recs 0 d) in
+    let rise = rises k (n + 0) d (omega arith) (omega arith) in
+    omega arith
 
 -- ---- a frame with a run
 

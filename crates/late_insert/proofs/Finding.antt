@@ -8,7 +8,9 @@ use Rattle.std.proofs.lemmas.Bool.{cases_lt}
 use Rattle.trend_num.specs.declared.archive.Rec.{Rec}
 use Rattle.trend_num.specs.declared.archive.Kind.TheVariants.{Kept}
 use Rattle.page_pool.specs.declared.frame.Frame.{Frame}
+use Rattle.late_insert.specs.declared.directory.Key.TheVariants.{Time}
 use Rattle.late_insert.specs.declared.directory.Page.{Page}
+use Rattle.late_insert.specs.Moves.{IsLastUpto}
 use Rattle.trend_model.specs.Contents.{IsRising}
 use Rattle.late_insert.specs.Pages.{records_in, records_at, page_in, records_of, IsPageAt, ArePagesFrom}
 use Rattle.late_insert.specs.Pages.{ArePages, IsFor}
@@ -120,9 +122,7 @@ after_first l t rises first (suc k) d within =
     omega arith
 
 module _ (pool : List (Option Frame)) (pages : List Page) (k t : ℕ) (paged : ArePages pool pages)
-    (within : k < length pages)
-    (early : (j : ℕ) (d : Page) → 0 < j → j ≤ k → (get_or pages j d).start ≤ t)
-    (late : (j : ℕ) (d : Page) → k < j → j < length pages → t < (get_or pages j d).start) where
+    (within : k < length pages) (last : IsLastUpto Time pages k t) where
   rising_around : IsRising (records_of pool (take k pages) ++
       (page_in pool (get_or pages k no_page) ++ records_of pool (drop (k + 1) pages)))
   rising_around = subst IsRising (records-around pool pages k no_page within) paged.rising
@@ -132,7 +132,7 @@ module _ (pool : List (Option Frame)) (pages : List Page) (k t : ℕ) (paged : A
       let p = get_or pages k no_page in
       let has : HasSome pool p = paged.filled (omega arith) k no_page within in
       let start = start_is pool _ p d (page_at pool pages k no_page within paged.each) has in
-      let begins = early k no_page some (omega arith) in
+      let begins = last.before k no_page some (omega arith) in
       let rest = page_in pool p ++ records_of pool (drop (k + 1) pages) in
       let across = rising_across (records_of pool (take k pages)) rest rising_around i 0 d inside
       (omega (arith, length-append (page_in pool p) (records_of pool (drop (k + 1) pages)))) in
@@ -145,7 +145,7 @@ module _ (pool : List (Option Frame)) (pages : List Page) (k t : ℕ) (paged : A
       let q = get_or pages (k + 1) no_page in
       let has : HasSome pool q = paged.filled (omega arith) (k + 1) no_page more in
       let start = start_is pool _ q no_rec (page_at pool pages (k + 1) no_page more paged.each) has in
-      let begins = late (k + 1) no_page (omega arith) more in
+      let begins = last.after (k + 1) no_page (omega arith) more in
       let parts = drop_more pages (k + 1) no_page more in
       let first = ap time (get_or_append_left (page_in pool q) (records_of pool (drop (k + 1 + 1) pages))
       no_rec 0 has) in

@@ -3,14 +3,15 @@ use Rattle.std.proofs.Common.{◌≡◌, ◌≢◌, ℕ, ◌+◌, ◌<◌, List,
 use Rattle.std.proofs.Common.{drop, Option, None, All, refl, sym, ap, ap₂, ◌∙◌, subst, arith, length-append}
 use Rattle.std.proofs.Common.{add-zero, zero-add}
 use Rattle.std.proofs.lemmas.List.{get_or_append_left, get_or-append-add, get_or-set_other, take-append-drop}
-use Rattle.std.proofs.lemmas.List.{drop_more}
+use Rattle.std.proofs.lemmas.List.{drop_more, map-append}
 use Rattle.std.proofs.lemmas.List.Concat.{flat_map-append}
 use Rattle.std.proofs.lemmas.List.Elements.{All-nil, All-cons, All-head, All-tail, All-append}
 use Rattle.page_pool.specs.declared.frame.Frame.{Frame}
 use Rattle.page_pool.specs.Pool.{frame_at}
 use Rattle.late_insert.specs.declared.directory.Page.{Page}
 use Rattle.late_insert.specs.Moves.{moved}
-use Rattle.late_insert.specs.Pages.{records_at, page_in, records_of, IsPageAt, ArePagesFrom, AreApart, ids_of}
+use Rattle.late_insert.specs.Pages.{records_at, page_in, records_of, lengths_of, IsPageAt, ArePagesFrom}
+use Rattle.late_insert.specs.Pages.{AreApart, ids_of}
 
 -- ---- facts of each of two lists
 
@@ -76,6 +77,14 @@ records-agree pool new (p ∷ ps) agree =
     (All-head (λ q. frame_at new q.id ≡ frame_at pool q.id) p ps agree))
     (records-agree pool new ps (All-tail (λ q. frame_at new q.id ≡ frame_at pool q.id) p ps agree))
 
+pub lengths-agree : (pool new : List (Option Frame)) (pages : List Page) → Agree pool new pages
+    → lengths_of new pages ≡ lengths_of pool pages
+lengths-agree pool new [] agree = refl
+lengths-agree pool new (p ∷ ps) agree =
+    ap₂ (λ n ns. n ∷ ns) (ap (λ o. length (records_at o))
+    (All-head (λ q. frame_at new q.id ≡ frame_at pool q.id) p ps agree))
+    (lengths-agree pool new ps (All-tail (λ q. frame_at new q.id ≡ frame_at pool q.id) p ps agree))
+
 page_agrees : (pool new : List (Option Frame)) (place : ℕ) (p : Page) → frame_at new p.id ≡ frame_at pool p.id
     → IsPageAt pool place p → IsPageAt new place p
 page_agrees pool new place p same at = record {
@@ -112,6 +121,10 @@ pub records-append : (pool : List (Option Frame)) (xs ys : List Page)
     → records_of pool (xs ++ ys) ≡ records_of pool xs ++ records_of pool ys
 records-append pool xs ys = flat_map-append (page_in pool) xs ys
 
+pub lengths-append : (pool : List (Option Frame)) (xs ys : List Page)
+    → lengths_of pool (xs ++ ys) ≡ lengths_of pool xs ++ lengths_of pool ys
+lengths-append pool xs ys = map-append (λ p. length (page_in pool p)) xs ys
+
 pub pages_split : (pool : List (Option Frame)) (place : ℕ) (xs ys : List Page)
     → ArePagesFrom pool place (xs ++ ys)
     → ArePagesFrom pool place xs × ArePagesFrom pool (place + length (records_of pool xs)) ys
@@ -140,6 +153,11 @@ pub records-moved : (pool : List (Option Frame)) (by : ℕ) (pages : List Page)
     → records_of pool (map (moved by) pages) ≡ records_of pool pages
 records-moved pool by [] = refl
 records-moved pool by (p ∷ ps) = ap (λ rs. page_in pool p ++ rs) (records-moved pool by ps)
+
+pub lengths-moved : (pool : List (Option Frame)) (by : ℕ) (pages : List Page)
+    → lengths_of pool (map (moved by) pages) ≡ lengths_of pool pages
+lengths-moved pool by [] = refl
+lengths-moved pool by (p ∷ ps) = ap (λ ns. length (page_in pool p) ∷ ns) (lengths-moved pool by ps)
 
 pub pages_moved : (pool : List (Option Frame)) (place by : ℕ) (pages : List Page)
     → ArePagesFrom pool place pages
@@ -171,6 +189,13 @@ pub records-around : (pool : List (Option Frame)) (pages : List Page) (k : ℕ) 
     (page_in pool (get_or pages k d) ++ records_of pool (drop (k + 1) pages))
 records-around pool pages k d within =
     ap (records_of pool) (pages_around pages k d within) ∙ records-append pool (take k pages)
+    (get_or pages k d ∷ drop (k + 1) pages)
+
+pub lengths-around : (pool : List (Option Frame)) (pages : List Page) (k : ℕ) (d : Page) → k < length pages
+    → lengths_of pool pages ≡ lengths_of pool (take k pages) ++
+    (length (page_in pool (get_or pages k d)) ∷ lengths_of pool (drop (k + 1) pages))
+lengths-around pool pages k d within =
+    ap (lengths_of pool) (pages_around pages k d within) ∙ lengths-append pool (take k pages)
     (get_or pages k d ∷ drop (k + 1) pages)
 
 pub page_at : (pool : List (Option Frame)) (pages : List Page) (k : ℕ) (d : Page) → k < length pages

@@ -11,6 +11,7 @@ pub mod Found
 pub mod Finding
 pub mod Replacing
 pub mod Reading
+pub mod Growing
 pub mod Shelving
 pub mod Opening
 pub mod Ranges

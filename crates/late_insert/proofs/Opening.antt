@@ -15,12 +15,11 @@ use Rattle.late_insert.specs.declared.directory.Page.{Page}
 use Rattle.trend_model.specs.Contents.{IsRising, points_of}
 use Rattle.trend_model.specs.Windows.{area}
 use Rattle.late_insert.specs.Pages.{AreApart, ids_of, records_in, records_at, page_in, records_of, IsPage}
-use Rattle.late_insert.specs.Pages.{IsPageAt}
-use Rattle.late_insert.specs.Pages.{ArePagesFrom, ArePages, AreHalves}
+use Rattle.late_insert.specs.Pages.{IsPageAt, ArePagesFrom, ArePages, AreHalves, lengths_of}
 use Rattle.trend_model.proofs.Placing.{rising_nil}
 use Rattle.late_insert.proofs.Finding.{HasSome}
 use Rattle.late_insert.proofs.Joining.{Agree, records-agree, pages_agree, records-append, pages_join}
-use Rattle.late_insert.proofs.Joining.{apart_insert, each_id}
+use Rattle.late_insert.proofs.Joining.{apart_insert, each_id, lengths-agree, lengths-append}
 use Rattle.late_insert.proofs.Replacing.{some_agree, spare_apart}
 
 -- ---- the first page
@@ -66,6 +65,10 @@ module _ (pool new : List (Option Frame)) (pages : List Page) (id : ℕ) (takes 
   pub no_records : records_of new pages ≡ []
   no_records = ap (records_of new) list
       ∙ (append-nil (records_at (frame_at new id)) ∙ (ap records_at empty_there ∙ empty_records))
+
+  pub no_lengths : lengths_of new pages ≡ 0 ∷ []
+  no_lengths = ap (lengths_of new) list
+      ∙ ap (λ l. length l ∷ []) (ap records_at empty_there ∙ empty_records)
 
   -- and is a page
   pub first_page_is : ArePages new pages
@@ -157,6 +160,12 @@ module _ (pool taken : List (Option Frame)) (pages : List Page) (id first : ℕ)
       ∙ ap₂ (λ xs ys. xs ++ ys) (records-agree pool opened_pool pages agree)
       (append-nil (page_in opened_pool opened_page) ∙ (ap records_at there ∙ records))
 
+  lengths_there : lengths_of opened_pool (pages ++ opened_page ∷ []) ≡ lengths_of pool pages ++ length run ∷ []
+  lengths_there =
+      lengths-append opened_pool pages (opened_page ∷ [])
+      ∙ ap₂ (λ xs n. xs ++ n ∷ []) (lengths-agree pool opened_pool pages agree)
+      (ap length (ap records_at there ∙ records))
+
   all_some : All (HasSome pool) pages
   all_some = elim (cases_lt 1 (length pages)) [
     | inl several ↦ paged.filled several
@@ -205,3 +214,6 @@ module _ (pool taken : List (Option Frame)) (pages : List Page) (id first : ℕ)
 
   pub records-opened : records_of (set taken id (Some g)) (pages ++ opened_page ∷ []) ≡ records_of pool pages ++ run
   records-opened = ap (λ ps. records_of ps (pages ++ opened_page ∷ [])) pool_is ∙ records_there
+
+  pub lengths-opened : lengths_of (set taken id (Some g)) (pages ++ opened_page ∷ []) ≡ lengths_of pool pages ++ length run ∷ []
+  lengths-opened = ap (λ ps. lengths_of ps (pages ++ opened_page ∷ [])) pool_is ∙ lengths_there

@@ -7,24 +7,22 @@ use Rattle.std.proofs.lemmas.List.{get_or_default, take_at, drop_at, take_more, 
 use Rattle.std.proofs.lemmas.List.{length-take-le, length-drop, map-append}
 use Rattle.std.proofs.lemmas.List.Sums.{sum_by-cons, sum_by-take-drop}
 use Rattle.std.proofs.lemmas.List.Elements.{All-head, All-tail}
-use Rattle.std.specs.Prelude.{FitsSigned, is_some}
-use Rattle.std.proofs.lemmas.Int.{to_z-of_z}
-use mir.Syntax.{w128}
-use mir.Val.{of_z, to_z}
+use Rattle.std.specs.Prelude.{is_some}
 use Rattle.std.proofs.lemmas.Bool.{cases_lt, cases_eq, lt-ltb, le-ltb}
 use Rattle.trend_num.specs.declared.archive.Rec.{Rec}
 use Rattle.page_pool.specs.declared.frame.Frame.{Frame}
 use Rattle.page_pool.specs.Pool.{IsHeld, frame_at}
+use Rattle.late_insert.specs.declared.directory.Key.TheVariants.{Place}
 use Rattle.late_insert.specs.declared.directory.Page.{Page}
+use Rattle.late_insert.specs.Moves.{IsLastUpto}
 use Rattle.trend_model.specs.Contents.{IsRising, points_of}
 use Rattle.trend_model.specs.Windows.{area}
 use Rattle.late_insert.specs.Pages.{rec_in, records_in, records_at, page_in, records_of, IsPage, IsPageAt}
 use Rattle.late_insert.specs.Pages.{ArePages, IsFor, IsOn}
 use Rattle.trend_model.proofs.Placing.{time, AllBefore, rising_left, rising_right}
-use Rattle.late_insert.proofs.Summing.{length-records_in, get_or-records_in, length-points_in, points_range}
-use Rattle.late_insert.proofs.Areas.{area_fits}
+use Rattle.late_insert.proofs.Summing.{length-records_in, get_or-records_in}
 use Rattle.late_insert.proofs.Joining.{records-around, records-append, page_at}
-use Rattle.late_insert.proofs.Finding.{no_page}
+use Rattle.late_insert.proofs.Finding.{no_page, no_rec}
 
 -- ---- a page among the others
 
@@ -57,6 +55,14 @@ pub held_by : (pool : List (Option Frame)) (pages : List Page) (k id : ℕ) → 
 held_by pool pages k id paged within same =
     subst (IsHeld pool) same (ap is_some (page_at pool pages k no_page within paged.each).there)
 
+-- so is the last one
+pub last_read : (pool : List (Option Frame)) (pages : List Page) (id n : ℕ) (f : Frame) → ArePages pool pages
+    → n ≡ length pages → (get_or pages (n - 1) no_page).id ≡ id → frame_at pool id ≡ Some f
+    → IsRead pool pages (length pages - 1) (get_or pages (length pages - 1) no_page) f
+last_read pool pages id n f paged len same there =
+    read_by pool pages (length pages - 1) id f paged (omega (arith, paged.some))
+    (subst (λ m. (get_or pages (m - 1) no_page).id ≡ id) len same) there
+
 -- so is each page
 pub each_read : (pool : List (Option Frame)) (pages : List Page) (k : ℕ) (d : Page)
     (paged : ArePages pool pages) (within : k < length pages)
@@ -65,6 +71,14 @@ each_read pool pages k d paged within =
     is_read pool pages k (get_or pages k d) _ paged within
     (get_or_default pages k d (get_or pages k d) within)
     (page_at pool pages k d within paged.each).there
+
+-- how many records the page that is read has
+pub page_len : (pool : List (Option Frame)) (pages : List Page) (k : ℕ) (p : Page) (f : Frame)
+    → IsRead pool pages k p f → (d : Page)
+    → length (page_in pool (get_or pages k d)) ≡ f.len
+page_len pool pages k p f is d =
+    ap (λ x. length (page_in pool x)) (get_or_default pages k d p is.within ∙ sym is.read)
+    ∙ (ap (λ o. length (records_at o)) is.there ∙ length-records_in f)
 
 module _ (pool : List (Option Frame)) (pages : List Page) (k : ℕ) (p : Page) (f : Frame)
     (is : IsRead pool pages k p f) where
@@ -87,18 +101,6 @@ module _ (pool : List (Option Frame)) (pages : List Page) (k : ℕ) (p : Page) (
   -- its stair
   pub page_stair : p.stair ≡ area true (points_of (records_in f))
   page_stair = at_place.stair ∙ ap (λ g. area true (points_of (records_in g))) same_frame
-
-  -- and that stair as it is read
-  pub stair_again : (q : Page) → q ≡ get_or pages k q → to_z w128 (of_z w128 q.stair) ≡ area true
-      (points_of (records_in f))
-  stair_again q again =
-      let page = frame_page in
-      let same : q ≡ p = again ∙ (get_or_default pages k q p is.within ∙ sym is.read) in
-      let stair : q.stair ≡ area true (points_of (records_in f)) = ap (λ (x : Page). x.stair) same
-      ∙ page_stair in
-      to_z-of_z w128 q.stair (subst (FitsSigned w128) (sym stair)
-      (area_fits true (points_of (records_in f)) (points_range f page.recorded)
-      (omega (arith, length-points_in f, page.recorded.few)))) ∙ stair
 
   parts : records_of pool pages ≡ front ++ (records_in f ++ behind)
   parts =
@@ -186,6 +188,14 @@ module _ (pool : List (Option Frame)) (pages : List Page) (k : ℕ) (p : Page) (
             omega arith
       ]
 
+  -- where all are before t, so is the one at a place of the page
+  pub before_on : (t i : ℕ) → i < f.len → AllBefore (records_of pool pages) t → get_or f.times i 0 < t
+  before_on t i inside before =
+      let there : time (get_or (records_of pool pages) (p.first + i) no_rec) ≡ get_or f.times i 0 = ap time
+      (on_page i no_rec inside) in
+      let early = before (p.first + i) no_rec (omega (arith, long)) in
+      omega arith
+
   -- ---- the gap for a time
 
   module _ (t i : ℕ) (found : IsFor pool pages k t) (upto : i ≤ f.len)
@@ -245,11 +255,10 @@ module _ (pool : List (Option Frame)) (pages : List Page) (k : ℕ) (p : Page) (
   -- ---- the page of a place
 
   module _ (i : ℕ) (inside : i < length (records_of pool pages))
-      (early : (j : ℕ) (d : Page) → 0 < j → j ≤ k → (get_or pages j d).first ≤ i)
-      (late : (j : ℕ) (d : Page) → k < j → j < length pages → i < (get_or pages j d).first) where
+      (last : IsLastUpto Place pages k i) where
     pub page_from : p.first ≤ i
     page_from = elim (cases_lt 0 k) [
-      | inl some ↦ subst (λ (q : Page). q.first ≤ i) (sym is.read) (early k p some (omega arith))
+      | inl some ↦ subst (λ (q : Page). q.first ≤ i) (sym is.read) (last.before k p some (omega arith))
       | inr none ↦
           let zero_k : k ≡ 0 = omega arith in
           let empty : length front ≡ 0 = ap (λ n. length (records_of pool (take n pages))) zero_k in
@@ -260,7 +269,7 @@ module _ (pool : List (Option Frame)) (pages : List Page) (k : ℕ) (p : Page) (
     page_upto = elim (cases_lt (k + 1) (length pages)) [
       | inl more ↦
           let next = (page_at pool pages (k + 1) no_page more is.paged.each).first in
-          let bound = late (k + 1) no_page (omega arith) more in
+          let bound = last.after (k + 1) no_page (omega arith) more in
           omega (
             arith,
             at_place.first,
@@ -268,9 +277,9 @@ module _ (pool : List (Option Frame)) (pages : List Page) (k : ℕ) (p : Page) (
             length-append front (records_in f),
             length-records_in f,
           )
-      | inr last ↦
+      | inr end ↦
           let none : length behind ≡ 0 = ap (λ ps. length (records_of pool ps))
-          (drop_all (k + 1) pages last) in
+          (drop_all (k + 1) pages end) in
           omega (arith, long)
     ]
 
@@ -296,7 +305,7 @@ module _ (pool : List (Option Frame)) (pages : List Page) (k : ℕ) (p : Page) (
 
 -- ---- how many records are before a time
 
-count_all : (t : ℕ) (l : List Rec) → All (λ r. time r < t) l → count_by (λ r. nat_lt (time r) t) l ≡ length l
+pub count_all : (t : ℕ) (l : List Rec) → All (λ r. time r < t) l → count_by (λ r. nat_lt (time r) t) l ≡ length l
 count_all t [] all = refl
 count_all t (x ∷ xs) all =
     let here = All-head (λ r. time r < t) x xs all in
@@ -304,7 +313,7 @@ count_all t (x ∷ xs) all =
     ∙ (ap₂ (λ b n. cond b 1 0 + n) (lt-ltb (time x) t here)
     (count_all t xs (All-tail (λ r. time r < t) x xs all)) ∙ omega arith)
 
-count_none : (t : ℕ) (l : List Rec) → All (λ r. t ≤ time r) l → count_by (λ r. nat_lt (time r) t) l ≡ 0
+pub count_none : (t : ℕ) (l : List Rec) → All (λ r. t ≤ time r) l → count_by (λ r. nat_lt (time r) t) l ≡ 0
 count_none t [] all = refl
 count_none t (x ∷ xs) all =
     let here = All-head (λ r. t ≤ time r) x xs all in

@@ -17,13 +17,14 @@ use Rattle.trend_model.specs.Contents.{IsRising, placed, points_of}
 use Rattle.trend_model.specs.Windows.{area}
 use Rattle.late_insert.specs.Moves.{moved}
 use Rattle.late_insert.specs.Pages.{records_in, records_at, page_in, records_of, IsPage, IsPageAt}
-use Rattle.late_insert.specs.Pages.{ArePagesFrom, ArePages, AreApart, AreHalves, ids_of}
+use Rattle.late_insert.specs.Pages.{ArePagesFrom, ArePages, AreApart, AreHalves, ids_of, lengths_of}
 use Rattle.late_insert.proofs.Summing.{length-records_in, get_or-records_in}
 use Rattle.late_insert.proofs.Finding.{no_rec, HasSome}
 use Rattle.trend_model.proofs.Placing.{time, placed_middle, rising_placed, length-placed}
 use Rattle.late_insert.proofs.Joining.{all_left, all_right, apart_at, apart_insert, each_page, each_id}
 use Rattle.late_insert.proofs.Joining.{ids-moved, Agree, records-agree, pages_agree, agree_set}
 use Rattle.late_insert.proofs.Joining.{records-append, pages_split, pages_join, records-moved, pages_moved}
+use Rattle.late_insert.proofs.Joining.{lengths-agree, lengths-append, lengths-moved}
 
 -- pages whose frames stay keep their records
 pub some_agree : (pool new : List (Option Frame)) (pages : List Page) → Agree pool new pages
@@ -73,6 +74,14 @@ module _ (pool new : List (Option Frame)) (A B Q : List Page) (p : Page) (by : �
       ∙ ap₂ (λ xs ys. xs ++ ys) (records-agree pool new A front)
       (records-append new Q (map (moved by) B) ∙ ap (λ ys. records_of new Q ++ ys)
       (records-moved new by B ∙ records-agree pool new B back))
+
+  pub lengths-replaced : lengths_of new (A ++ (Q ++ map (moved by) B)) ≡ lengths_of pool A ++
+      (lengths_of new Q ++ lengths_of pool B)
+  lengths-replaced =
+      lengths-append new A (Q ++ map (moved by) B)
+      ∙ ap₂ (λ xs ys. xs ++ ys) (lengths-agree pool new A front)
+      (lengths-append new Q (map (moved by) B) ∙ ap (λ ys. lengths_of new Q ++ ys)
+      (lengths-moved new by B ∙ lengths-agree pool new B back))
 
   pub pages_replaced : ArePagesFrom new 0 (A ++ (Q ++ map (moved by) B))
   pages_replaced =
@@ -162,6 +171,13 @@ module _ (pool : List (Option Frame)) (A B : List Page) (p : Page) (g : Frame) (
       ∙ (ap (λ l. records_of pool A ++ (l ++ records_of pool B)) (put_alone ∙ records)
       ∙ (sym (placed_middle r (records_of pool A) (page_in pool p) (records_of pool B) before after)
       ∙ ap (placed r) (sym (records-append pool A (p ∷ B)))))
+
+  pub lengths-put : lengths_of put_pool put_pages ≡ lengths_of pool A ++ (length (page_in pool p) + by) ∷ lengths_of pool B
+  lengths-put =
+      lengths-replaced pool put_pool A B (put_page ∷ []) p by paged.each
+      (agree_set pool p.id (Some g) A put_sides.0)
+      (agree_set pool p.id (Some g) B put_sides.1) put_inner (ap length put_alone ∙ grown)
+      ∙ ap (λ n. lengths_of pool A ++ n ∷ lengths_of pool B) (ap length (ap records_at put_there) ∙ grown)
 
   -- the page has no fewer records than it had
   put_more : length (page_in pool p) ≤ length (page_in put_pool put_page)
@@ -359,6 +375,13 @@ module _ (pool : List (Option Frame)) (A B : List Page) (p : Page) (lo hi e : Fr
         back_agrees inner grown
         ∙ (ap (λ l. records_of pool A ++ (l ++ records_of pool B)) both_records
         ∙ sym (records-append pool A (p ∷ B))))
+
+    pub lengths-split : lengths_of split_pool split_pages ≡ lengths_of pool A ++ 64 ∷ 64 ∷ lengths_of pool B
+    lengths-split =
+        ap (lengths_of split_pool) (sym joined)
+        ∙ (lengths-replaced pool split_pool A B (lower_page ∷ upper_page ∷ []) p 0 paged.each front_agrees
+        back_agrees inner grown
+        ∙ ap₂ (λ m n. lengths_of pool A ++ m ∷ n ∷ lengths_of pool B) low_len high_len)
 
     pub pages_in_halves : ArePages split_pool split_pages
     pages_in_halves = record {

@@ -17,14 +17,17 @@ use Rattle.page_pool.specs.Pool.{Takes, empty_frame}
 use Rattle.late_insert.specs.declared.directory.Page.{Page}
 use Rattle.trend_model.specs.Contents.{placed, points_of}
 use Rattle.trend_model.specs.Windows.{area}
-use Rattle.late_insert.specs.Moves.{moved}
+use Rattle.late_insert.specs.declared.directory.Key.TheVariants.{Time}
+use Rattle.late_insert.specs.Moves.{IsLastUpto, moved}
 use Rattle.late_insert.specs.Pages.{records_in, records_at, page_in, records_of, IsPage, ArePagesFrom}
-use Rattle.late_insert.specs.Pages.{ArePages, IsFor, IsSplit}
+use Rattle.late_insert.specs.Pages.{ArePages, IsFor, IsSplit, lengths_of}
+use Rattle.late_insert.specs.PageLengths.{IsGrown, place_in}
 use Rattle.trend_model.proofs.Placing.{time, placed_middle}
 use Rattle.late_insert.proofs.Summing.{length-records_in}
-use Rattle.late_insert.proofs.Joining.{pages_around, records-around}
-use Rattle.late_insert.proofs.Replacing.{pages_put, records-put, pages_in_halves, records-split, low_len}
-use Rattle.late_insert.proofs.Replacing.{high_len}
+use Rattle.late_insert.proofs.Joining.{pages_around, records-around, lengths-around}
+use Rattle.late_insert.proofs.Replacing.{pages_put, records-put, lengths-put, pages_in_halves, records-split}
+use Rattle.late_insert.proofs.Replacing.{lengths-split, low_len, high_len}
+use Rattle.late_insert.proofs.Growing.{place_from, place_upto}
 use Rattle.late_insert.proofs.Reading.{IsRead, end_within}
 
 -- the pages after a record was put into the page at k: its start and stair are written, and the others are
@@ -105,6 +108,29 @@ module _ (pool : List (Option Frame)) (pages M S : List Page) (k by : ℕ) (p q 
       let whole = ap length records-shelved in
       let grows = in_len in
       omega (arith, ap length was, ap length now)
+
+  -- and its page has grown
+  pub grown-shelved : f.len < 128
+      → IsGrown (lengths_of pool pages) (place_in (records_of pool pages) (time r)) by
+      (lengths_of (set pool p.id (Some g)) M)
+  grown-shelved short =
+      let long : length (page_in pool p) ≡ f.len = ap length held ∙ length-records_in f in
+      let here : length (page_in pool (get_or pages k p)) ≡ length (page_in pool p) =
+      ap (λ x. length (page_in pool x)) (sym is.read) in
+      let upto = place_upto pool pages k (time r) p found in
+      record {
+        front = lengths_of pool (take k pages);
+        here = length (page_in pool p);
+        back = lengths_of pool (drop (k + 1) pages);
+        was = lengths-around pool pages k p is.within
+            ∙ ap (λ m. lengths_of pool (take k pages) ++ m ∷ lengths_of pool (drop (k + 1) pages)) here;
+        now = ap (lengths_of (set pool p.id (Some g))) final
+            ∙ lengths-put pool (take k pages) (drop (k + 1) pages) p g r by s stair as_pages page in_page in_len
+            found.before found.after;
+        room = omega (arith, long);
+        from = place_from pool pages k (time r) p found;
+        upto = omega (arith, here);
+      }
 
 -- ---- places that fit
 
@@ -207,6 +233,13 @@ module _ (pool taken : List (Option Frame)) (pages : List Page) (k id : ℕ) (p 
       upper_stair split_paged lower upper low_part high_part split_full takes.within takes.was_spare
       ∙ ap (records_of pool) (sym split_around))
 
+  pub lengths-cut : lengths_of (set taken id (Some hi)) split_list ≡ lengths_of pool (take k pages) ++ 64 ∷ 64
+      ∷ lengths_of pool (drop (k + 1) pages)
+  lengths-cut =
+      ap₂ lengths_of split_pool_is split_is
+      ∙ lengths-split pool (take k pages) (drop (k + 1) pages) p lo hi empty_frame id s t lower_stair
+      upper_stair split_paged lower upper low_part high_part split_full takes.within takes.was_spare
+
   -- how many records the halves have
   pub lower_len : (d : Page) → length (page_in (set taken id (Some hi)) (get_or split_list k d)) ≡ 64
   lower_len d =
@@ -249,9 +282,7 @@ first_small pool pages k p q f is full again few =
 
 module _ (pool : List (Option Frame)) (now old : List Page) (k t : ℕ) (e : Page) (paged : ArePages pool now)
     (split : IsSplit old now k)
-    (within_old : k < length old) (early_old : (j : ℕ) (d : Page) → 0 < j → j ≤ k
-    → (get_or old j d).start ≤ t)
-    (late_old : (j : ℕ) (d : Page) → k < j → j < length old → t < (get_or old j d).start) where
+    (within_old : k < length old) (last_old : IsLastUpto Time old k t) where
   -- the pages with the lower half, and the upper half's page
   abbrev pages : List Page
   pages = set old k split.lower
@@ -272,10 +303,10 @@ module _ (pool : List (Option Frame)) (now old : List Page) (k t : ℕ) (e : Pag
   ]
 
   early : (j : ℕ) (d : Page) → 0 < j → j ≤ k → (get_or pages j d).start ≤ t
-  early j d some upto = rw (same_start j d) (early_old j d some upto)
+  early j d some upto = rw (same_start j d) (last_old.before j d some upto)
 
   late : (j : ℕ) (d : Page) → k < j → j < length pages → t < (get_or pages j d).start
-  late j d past inside = rw (same_start j d) (late_old j d past (omega (arith, length-set old k split.lower)))
+  late j d past inside = rw (same_start j d) (last_old.after j d past (omega (arith, length-set old k split.lower)))
 
   now_len : length now ≡ length pages + 1
   now_len = ap length split.list ∙ length-insert pages (k + 1) q (omega (arith, within))
@@ -302,35 +333,30 @@ module _ (pool : List (Option Frame)) (now old : List Page) (k t : ℕ) (e : Pag
   pub upper_found : (get_or now (k + 1) e).start ≤ t → IsFor pool now (k + 1) t
   upper_found starts =
       let long = now_len in
-      found_for pool now (k + 1) t paged (omega (arith, within))
-      (λ j d some upto. elim (cases_lt j (k + 1)) [
-        | inl less ↦ kept_early j d some (omega arith)
-        | inr not_less ↦
-            let same : j ≡ k + 1 = omega arith in
-            rw same (subst (λ (x : Page). x.start ≤ t)
-            (get_or_default now (k + 1) e d (omega (arith, within))) starts)
-      ])
-      kept_late
+      found_for pool now (k + 1) t paged (omega (arith, within)) (record {
+        before = λ j d some upto. elim (cases_lt j (k + 1)) [
+          | inl less ↦ kept_early j d some (omega arith)
+          | inr not_less ↦
+              let same : j ≡ k + 1 = omega arith in
+              rw same (subst (λ (x : Page). x.start ≤ t)
+              (get_or_default now (k + 1) e d (omega (arith, within))) starts)
+        ];
+        after = kept_late;
+      })
 
   pub lower_found : t < (get_or now (k + 1) e).start → IsFor pool now k t
   lower_found starts =
       let long = now_len in
-      found_for pool now k t paged (omega (arith, within)) kept_early
-      (λ j d past inside. elim (cases_lt (k + 1) j) [
-        | inl more ↦ kept_late j d more inside
-        | inr not_more ↦
-            let same : j ≡ k + 1 = omega arith in
-            rw same (subst (λ (x : Page). t < x.start)
-            (get_or_default now (k + 1) e d (omega (arith, within))) starts)
-      ])
-
--- how many records the page that is read has
-pub page_len : (pool : List (Option Frame)) (pages : List Page) (k : ℕ) (p : Page) (f : Frame)
-    → IsRead pool pages k p f → (d : Page)
-    → length (page_in pool (get_or pages k d)) ≡ f.len
-page_len pool pages k p f is d =
-    ap (λ x. length (page_in pool x)) (get_or_default pages k d p is.within ∙ sym is.read)
-    ∙ (ap (λ o. length (records_at o)) is.there ∙ length-records_in f)
+      found_for pool now k t paged (omega (arith, within)) (record {
+        before = kept_early;
+        after = λ j d past inside. elim (cases_lt (k + 1) j) [
+          | inl more ↦ kept_late j d more inside
+          | inr not_more ↦
+              let same : j ≡ k + 1 = omega arith in
+              rw same (subst (λ (x : Page). t < x.start)
+              (get_or_default now (k + 1) e d (omega (arith, within))) starts)
+        ];
+      })
 
 -- the upper half is one of the pages
 pub within_split : (now old : List Page) (k : ℕ) → IsSplit old now k → k < length old → k + 1 < length now

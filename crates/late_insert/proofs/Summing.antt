@@ -183,6 +183,21 @@ pub record IsPushed (f g : Frame) (r : Rec) (last : Point) : Type 0 where
   pub low : g.low ≡ f.low
   pub high : g.high ≡ f.high
 
+-- it is what a store at the end says
+pub is_pushed : (f g : Frame) (r : Rec) (last : Point) → IsPage f → 0 < f.len → last ≡ (rec_in f (f.len - 1)).point
+    → IsRecorded g → records_in g ≡ insert (records_in f) f.len r → g.area ≡ f.area → g.low ≡ f.low → g.high ≡ f.high
+    → IsPushed f g r last
+is_pushed f g r last page some end recorded records area low high = record {
+  page = page;
+  some = some;
+  recorded = recorded;
+  records = records;
+  end = end;
+  area = area;
+  low = low;
+  high = high;
+}
+
 module _ (f g : Frame) (r : Rec) (last : Point) (push : IsPushed f g r last) where
   -- its points
   points_pushed : points_in g ≡ points_in f ++ r.point ∷ []

@@ -1,13 +1,14 @@
 -- A walk over the records of pages.
 use Rattle.std.proofs.Common.{◌≡◌, ℕ, ◌+◌, ◌-◌, ◌^◌, ◌<◌, ◌≤◌, inl, inr, true, ℤ, List, ◌++◌, length, get_or}
-use Rattle.std.proofs.Common.{take}
-use Rattle.std.proofs.Common.{Option, sym, ap, ◌∙◌, arith, length-append}
+use Rattle.std.proofs.Common.{take, Option, sym, ap, ◌∙◌, arith, length-append}
 use Rattle.std.specs.Prelude.{min, slice_range}
 use Rattle.std.proofs.lemmas.List.{same_lists, take_all, length-map, get_or-map}
 use Rattle.std.proofs.lemmas.Bool.{cases_lt}
 use Rattle.trend_num.specs.declared.archive.Rec.{Rec}
 use Rattle.page_pool.specs.declared.frame.Frame.{Frame}
+use Rattle.late_insert.specs.declared.directory.Key.TheVariants.{Place}
 use Rattle.late_insert.specs.declared.directory.Page.{Page}
+use Rattle.late_insert.specs.Moves.{IsLastUpto}
 use Rattle.trend_model.specs.Contents.{points_of}
 use Rattle.trend_model.specs.Windows.{area}
 use Rattle.late_insert.specs.Pages.{rec_in, records_at, records_in, records_of, ArePages, IsOn, IsWalk, IsRun}
@@ -22,10 +23,9 @@ use Rattle.late_insert.proofs.Reading.{place_on, is_on, page_from, page_upto}
 pub walk_first : (pool : List (Option Frame)) (pages : List Page) (k first behind : ℕ) → ArePages pool pages
     → k < length pages → first ≤ behind
     → behind ≤ length (records_of pool pages) → behind < 2 ^ 32
-    → ((j : ℕ) (d : Page) → 0 < j → j ≤ k → (get_or pages j d).first ≤ first)
-    → ((j : ℕ) (d : Page) → k < j → j < length pages → first < (get_or pages j d).first)
+    → IsLastUpto Place pages k first
     → IsWalk pool pages k first behind
-walk_first pool pages k first behind paged within order reach few early late = record {
+walk_first pool pages k first behind paged within order reach few last = record {
   paged = paged;
   ordered = order;
   within = reach;
@@ -33,8 +33,8 @@ walk_first pool pages k first behind paged within order reach few early late = r
   at = λ more.
       let is = each_read pool pages k no_page paged within in
       let inside : first < length (records_of pool pages) = omega arith in
-      is_on _ _ _ _ _ is first (page_from _ _ _ _ _ is first inside early late)
-      (page_upto _ _ _ _ _ is first inside early late);
+      is_on _ _ _ _ _ is first (page_from _ _ _ _ _ is first inside last)
+      (page_upto _ _ _ _ _ is first inside last);
 }
 
 -- a walk that has come to a place on the page k, and goes on by what of the page is before the end

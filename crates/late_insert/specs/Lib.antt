@@ -3,3 +3,4 @@ pub mod Places
 pub mod Moves
 pub mod Pages
 pub mod PageTotals
+pub mod PageLengths

@@ -1,5 +1,5 @@
 -- The list of pages: where they begin, one that is written, and those behind one that grew.
-use Rattle.std.specs.Prelude.{◌≡◌, ℕ, ℤ, pos, ◌+◌, ◌<◌, List, [], ◌∷◌, All, length, map, slice_index_or}
+use Rattle.std.specs.Prelude.{◌≡◌, ℕ, ℤ, pos, ◌+◌, ◌<◌, ◌≤◌, List, [], ◌∷◌, All, length, map, slice_index_or}
 use Rattle.late_insert.specs.declared.directory.Key.{Key}
 use Rattle.late_insert.specs.declared.directory.Key.TheVariants.{Time, Place}
 use Rattle.late_insert.specs.declared.directory.Leaf.{Leaf}
@@ -39,6 +39,11 @@ placed_pages (l ∷ ls) (n ∷ ns) = record { id = l.id; first = n; start = l.st
 abbrev pub begin_of : Key → Page → ℕ
 begin_of Time p = p.start
 begin_of Place p = p.first
+
+-- k is the last of these pages that begins at x or before it, or the first page where none does
+pub record IsLastUpto (key : Key) (pages : List Page) (k x : ℕ) : Type 0 where
+  pub before : (j : ℕ) (d : Page) → 0 < j → j ≤ k → begin_of key (slice_index_or pages j d) ≤ x
+  pub after : (j : ℕ) (d : Page) → k < j → j < length pages → x < begin_of key (slice_index_or pages j d)
 
 -- a page with another start and another stair
 abbrev pub rewritten : ℕ → ℤ → Page → Page

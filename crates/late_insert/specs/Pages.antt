@@ -63,6 +63,10 @@ page_in pool p = records_at (frame_at pool p.id)
 abbrev pub records_of : List (Option Frame) → List Page → List Rec
 records_of pool pages = flat_map (page_in pool) pages
 
+-- how many records each page has
+abbrev pub lengths_of : List (Option Frame) → List Page → List ℕ
+lengths_of pool pages = map (λ p. length (page_in pool p)) pages
+
 -- a page in its frame, whose first record stands at this place
 pub record IsPageAt (pool : List (Option Frame)) (place : ℕ) (p : Page) : Type 0 where
   pub frame : Frame

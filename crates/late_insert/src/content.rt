@@ -1,6 +1,6 @@
 // A content, in pages.
 ghost use Rattle.std.specs.Prelude.{◌≡◌, ◌↔◌, ℕ, ◌+◌, ◌-◌, ◌^◌, ◌<◌, ◌≤◌, List, [], ◌∷◌, ◌++◌, IfNone, IfOk};
-ghost use Rattle.std.specs.Prelude.{IfSome, IsTrue, IsSome, length, count_by, nat_lt, take, drop};
+ghost use Rattle.std.specs.Prelude.{IfSome, IsTrue, IsSome, length, count_by, nat_lt, sum, take, drop};
 ghost use Rattle.std.specs.Prelude.{slice_index_or, slice_get, slice_range, map, All, fold};
 ghost use Rattle.trend_num.specs.declared.archive.Rec.{Rec};
 ghost use Rattle.trend_num.specs.Ranges.{InRange};
@@ -9,6 +9,7 @@ ghost use Rattle.trend_model.specs.Parts.{last_point};
 ghost use Rattle.trend_model.specs.Contents.{IsCeil, IsContentOf, IsFloor, IsRising, listed, placed, points_of};
 ghost use Rattle.late_insert.specs.Places.{StandsAt};
 ghost use Rattle.late_insert.specs.PageTotals.{IsPageOf};
+ghost use Rattle.late_insert.specs.PageLengths.{AreBefore, AreFull, IsFilled, IsOneOf, IsPutAmong, full_page, place_in};
 
 use crate::directory::Directory;
 use crate::gap::{Around, around_in, gap_in, rec_in};
@@ -33,11 +34,15 @@ pub struct Content {
 impl Model for Content {
     ghost use Rattle.std.specs.Prelude.{◌-◌};
     ghost use Rattle.trend_model.specs.Contents.{ContentState};
-    ghost use Rattle.late_insert.specs.Pages.{IsKept, records_of};
+    ghost use Rattle.late_insert.specs.Pages.{IsKept, lengths_of, records_of};
 
     ghost Value = { ContentState };
 
-    ghost view = { λ c. record { records = records_of c.pool c.pages.items; spare = c.room - c.len } };
+    ghost view = { λ c. record {
+      records = records_of c.pool c.pages.items;
+      spare = c.room - c.len;
+      pages = lengths_of c.pool c.pages.items;
+    } };
 
     ghost invariant = { λ c. IsKept c.pool c.pages.items c.pages.places c.len c.room };
 }
@@ -62,6 +67,7 @@ impl Content {
     pub fn new(alloc: Global, points: u32) -> Result<Content, WantOfMemory>
         ensures empty { IfOk result (λ content. content.records ≡ []) }
         ensures spare { IfOk result (λ content. content.spare ≡ points) }
+        ensures pages { IfOk result (λ content. content.pages ≡ 0 ∷ []) }
     {
         let frames = points / 64 + 2;
         let mut pool = Pool::reserve(alloc, frames).map_err(|_| WantOfMemory)?;
@@ -82,6 +88,9 @@ impl Content {
         requires range { All (λ r. InRange r.point) recs.now }
         ensures records { IfOk result (λ content. content.records ≡ listed recs.now) }
         ensures room { IfOk result (λ content. content.spare + length content.records ≡ length recs.now + more) }
+
+        // Records in order fill page after page.
+        ensures filled { IfOk result (λ content. IsRising recs.now → AreFull content.pages) }
     {
         let points = u32::try_from(recs.len()).map_err(|_| WantOfMemory)?;
         let points = points.checked_add(more).ok_or(WantOfMemory)?;
@@ -104,6 +113,12 @@ impl Content {
         // Room is taken by a new time alone.
         ensures spare { self.old.spare ≤ self.new.spare + 1 }
         ensures room { length self.new.records + self.new.spare ≡ length self.old.records + self.old.spare }
+
+        // Behind all others it goes on the last page, or on a fresh one where that is full; among them on the page
+        // of its place, which is split before where it is full.
+        ensures behind { AreBefore self.old.records rec.point.t → IsFilled self.old.pages 1 self.new.pages }
+        ensures among { (AreBefore self.old.records rec.point.t → ⊥) → IsPutAmong self.old.pages
+            (place_in self.old.records rec.point.t) (length self.new.records - length self.old.records) self.new.pages }
     {
         self.put_front(&[rec]);
     }
@@ -119,6 +134,11 @@ impl Content {
         ensures records { self.new.records ≡ fold (λ l r. placed r l) self.old.records (take result recs.now) }
         ensures spare { self.old.spare ≤ self.new.spare + result }
         ensures room { length self.new.records + self.new.spare ≡ length self.old.records + self.old.spare }
+        ensures behind { (d : Rec) → AreBefore self.old.records (slice_index_or recs.now 0 d).point.t
+            → IsFilled self.old.pages result self.new.pages }
+        ensures among { (d : Rec) → (AreBefore self.old.records (slice_index_or recs.now 0 d).point.t → ⊥)
+            → IsPutAmong self.old.pages (place_in self.old.records (slice_index_or recs.now 0 d).point.t)
+            (length self.new.records - length self.old.records) self.new.pages }
     {
         let rec = recs[0];
         if is_full_before(&self.pool, &self.pages, rec.point.t) {
@@ -144,6 +164,8 @@ impl Content {
         ensures value { result ≡ length self.now.records }
         ensures rising { IsRising self.now.records }
         ensures range { All InRange (points_of self.now.records) }
+        ensures pages { sum self.now.pages ≡ result }
+        ensures most { All (λ n. n ≤ full_page) self.now.pages }
     {
         self.len
     }
@@ -230,7 +252,8 @@ impl Content {
     /// The page that has the point at a place.
     pub fn page(&self, i: u32) -> PageTotals
         requires { i < length self.now.records }
-        ensures { IsPageOf self.now.records i result }
+        ensures page { IsPageOf self.now.records i result }
+        ensures one { IsOneOf self.now.pages result }
     {
         let k = self.pages.page_of(i);
         let frame = self.pool.frame(self.pages.id(k));

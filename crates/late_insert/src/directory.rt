@@ -1,9 +1,9 @@
 // The list of a content's pages, in order of time.
-ghost use Rattle.std.specs.Prelude.{◌≡◌, ℕ, ◌+◌, ◌-◌, ◌^◌, ◌<◌, ◌≤◌, [], ◌∷◌, length, map, take, drop, ◌++◌, All};
+ghost use Rattle.std.specs.Prelude.{◌≡◌, ◌+◌, ◌-◌, ◌^◌, ◌<◌, ◌≤◌, [], ◌∷◌, length, map, take, drop, ◌++◌, All};
 ghost use Rattle.std.specs.Prelude.{slice_index_or, slice_set, insert, vec_len, vec_capacity, AllPairs, IfOk};
 ghost use Rattle.late_insert.specs.declared.directory.Page.{Page};
-ghost use Rattle.late_insert.specs.declared.directory.Key.{Key};
-ghost use Rattle.late_insert.specs.Moves.{begin_of, leaf_of, moved, rewritten};
+ghost use Rattle.late_insert.specs.declared.directory.Key.TheVariants.{Place, Time};
+ghost use Rattle.late_insert.specs.Moves.{IsLastUpto, begin_of, leaf_of, moved, rewritten};
 
 use page_pool::FrameId;
 use std::alloc::{AllocError, Global};
@@ -140,9 +140,7 @@ impl Directory {
         requires some { 0 < length self.now.items }
         requires rising { AllPairs (λ p q. begin_of key p ≤ begin_of key q) self.now.items }
         ensures within { result < length self.now.items }
-        ensures before { (k : ℕ) (d : Page) → 0 < k → k ≤ result → begin_of key (slice_index_or self.now.items k d) ≤ x }
-        ensures after { (k : ℕ) (d : Page) → result < k → k < length self.now.items
-            → x < begin_of key (slice_index_or self.now.items k d) }
+        ensures last { IsLastUpto key self.now.items result x }
     {
         let last = self.len() - 1;
         if self.begin(last, key) <= x {
@@ -166,9 +164,7 @@ impl Directory {
         requires some { 0 < length self.now.items }
         requires rising { AllPairs (λ p q. p.start ≤ q.start) self.now.items }
         ensures within { result < length self.now.items }
-        ensures before { (k : ℕ) (d : Page) → 0 < k → k ≤ result → (slice_index_or self.now.items k d).start ≤ t }
-        ensures after { (k : ℕ) (d : Page) → result < k → k < length self.now.items
-            → t < (slice_index_or self.now.items k d).start }
+        ensures last { IsLastUpto Time self.now.items result t }
     {
         self.page_by(Key::Time, t)
     }
@@ -178,9 +174,7 @@ impl Directory {
         requires some { 0 < length self.now.items }
         requires rising { AllPairs (λ p q. p.first ≤ q.first) self.now.items }
         ensures within { result < length self.now.items }
-        ensures before { (k : ℕ) (d : Page) → 0 < k → k ≤ result → (slice_index_or self.now.items k d).first ≤ i }
-        ensures after { (k : ℕ) (d : Page) → result < k → k < length self.now.items
-            → i < (slice_index_or self.now.items k d).first }
+        ensures last { IsLastUpto Place self.now.items result i }
     {
         self.page_by(Key::Place, u64::from(i))
     }

@@ -1,12 +1,13 @@
 // Pages in the frames of a pool: one that is full is split, one record more is put in, and a run of records is
 // put behind all others.
-ghost use Rattle.std.specs.Prelude.{◌≡◌, ℕ, ◌+◌, ◌-◌, ◌^◌, ◌<◌, ◌≤◌, [], ◌++◌, IsTrue, length};
-ghost use Rattle.std.specs.Prelude.{slice_index_or, All};
+ghost use Rattle.std.specs.Prelude.{◌≡◌, ℕ, ◌+◌, ◌-◌, ◌^◌, ◌<◌, ◌≤◌, ◌⊎◌, [], ◌∷◌, ◌++◌, IsTrue, IsFalse, length};
+ghost use Rattle.std.specs.Prelude.{slice_index_or, take, drop, All};
 ghost use Rattle.trend_num.specs.Ranges.{InRange};
 ghost use Rattle.page_pool.specs.Pool.{spare_of};
 ghost use Rattle.late_insert.specs.declared.directory.Page.{Page};
 ghost use Rattle.trend_model.specs.Contents.{IsRising, placed};
-ghost use Rattle.late_insert.specs.Pages.{ArePages, IsFor, IsSplit, page_in, records_of};
+ghost use Rattle.late_insert.specs.Pages.{ArePages, IsFor, IsSplit, lengths_of, page_in, records_of};
+ghost use Rattle.late_insert.specs.PageLengths.{AreBefore, IsGrown, IsHalved, place_in};
 
 use crate::directory::{Directory, Page};
 use crate::page::{cut, put_rec, store_run};
@@ -21,6 +22,7 @@ pub(crate) fn first_page(pool: &mut Pool, pages: &mut Directory)
     requires room { 0 < pages.old.places }
     ensures pages { ArePages pool.new pages.new.items }
     ensures empty { records_of pool.new pages.new.items ≡ [] }
+    ensures lengths { lengths_of pool.new pages.new.items ≡ 0 ∷ [] }
     ensures one { length pages.new.items ≡ 1 }
     ensures frames { spare_of pool.new + 1 ≡ spare_of pool.old }
     ensures capacity { pages.new.places ≡ pages.old.places }
@@ -40,6 +42,8 @@ pub(crate) fn is_full_before(pool: &Pool, pages: &Directory, t: u64) -> bool
     ensures before { IsTrue result → All (λ r. r.point.t < t) (records_of pool.now pages.now.items) }
     ensures full { IsTrue result → (d : Page)
         → length (page_in pool.now (slice_index_or pages.now.items (length pages.now.items - 1) d)) ≡ 128 }
+    ensures room { IsFalse result → AreBefore (records_of pool.now pages.now.items) t → (d : Page)
+        → length (page_in pool.now (slice_index_or pages.now.items (length pages.now.items - 1) d)) < 128 }
 {
     let frame = pool.frame(pages.id(pages.len() - 1));
     frame.len == 128 && frame.times[127] < t
@@ -59,6 +63,7 @@ pub(crate) fn open_page(pool: &mut Pool, pages: &mut Directory, len: u32, run: &
     requires rising { IsRising (records_of pool.old pages.old.items ++ run.now) }
     ensures pages { ArePages pool.new pages.new.items }
     ensures records { records_of pool.new pages.new.items ≡ records_of pool.old pages.old.items ++ run.now }
+    ensures lengths { lengths_of pool.new pages.new.items ≡ lengths_of pool.old pages.old.items ++ length run.now ∷ [] }
     ensures frames { length pages.new.items + spare_of pool.new ≡ length pages.old.items + spare_of pool.old }
     ensures capacity { pages.new.places ≡ pages.old.places }
 {
@@ -83,6 +88,9 @@ pub(crate) fn make_room(pool: &mut Pool, pages: &mut Directory, t: u64) -> usize
     requires few { length (records_of pool.old pages.old.items) < 2 ^ 32 }
     ensures pages { ArePages pool.new pages.new.items }
     ensures records { records_of pool.new pages.new.items ≡ records_of pool.old pages.old.items }
+    ensures lengths { (lengths_of pool.new pages.new.items ≡ lengths_of pool.old pages.old.items) ⊎ IsHalved
+        (lengths_of pool.old pages.old.items) (place_in (records_of pool.old pages.old.items) t)
+        (lengths_of pool.new pages.new.items) }
     ensures frames { length pages.new.items + spare_of pool.new ≡ length pages.old.items + spare_of pool.old }
     ensures capacity { pages.new.places ≡ pages.old.places }
     ensures found { IsFor pool.new pages.new.items result t }
@@ -107,6 +115,8 @@ fn split(pool: &mut Pool, pages: &mut Directory, k: usize)
     ensures pages { ArePages pool.new pages.new.items }
     ensures records { records_of pool.new pages.new.items ≡ records_of pool.old pages.old.items }
     ensures list { IsSplit pages.old.items pages.new.items k }
+    ensures lengths { lengths_of pool.new pages.new.items ≡ lengths_of pool.old (take k pages.old.items)
+        ++ 64 ∷ 64 ∷ lengths_of pool.old (drop (k + 1) pages.old.items) }
     ensures lower { (d : Page) → length (page_in pool.new (slice_index_or pages.new.items k d)) ≡ 64 }
     ensures upper { (d : Page) → length (page_in pool.new (slice_index_or pages.new.items (k + 1) d)) ≡ 64 }
     ensures frames { spare_of pool.new + 1 ≡ spare_of pool.old }
@@ -138,6 +148,8 @@ pub(crate) fn put_at(pool: &mut Pool, pages: &mut Directory, k: usize, rec: Rec)
     ensures records { records_of pool.new pages.new.items ≡ placed rec (records_of pool.old pages.old.items) }
     ensures grown { length (records_of pool.new pages.new.items) ≡ length (records_of pool.old pages.old.items) + result }
     ensures by_one { result ≤ 1 }
+    ensures lengths { IsGrown (lengths_of pool.old pages.old.items)
+        (place_in (records_of pool.old pages.old.items) rec.point.t) result (lengths_of pool.new pages.new.items) }
     ensures pages_len { length pages.new.items ≡ length pages.old.items }
     ensures frames { spare_of pool.new ≡ spare_of pool.old }
     ensures capacity { pages.new.places ≡ pages.old.places }

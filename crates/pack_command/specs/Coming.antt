@@ -1,5 +1,5 @@
 -- What the lines of an input have come to so far. For private functions: no public call cites it.
-use Rattle.std.specs.Prelude.{◌≡◌, ℕ, ◌+◌, ◌≤◌, Bool, false, cond, List, [], ◌∷◌, ◌++◌, length, map, take, None, Some, nat_eq, Result, Ok, Err}
+use Rattle.std.specs.Prelude.{◌≡◌, ℕ, ◌+◌, ◌≤◌, Bool, false, if◌then◌else◌, List, [], ◌∷◌, ◌++◌, length, map, take, None, Some, nat_eq, Result, Ok, Err}
 use Rattle.trend_num.specs.Limits.{most_records}
 use Rattle.trend_num.specs.declared.point.Point.{Point}
 use Rattle.trend_num.specs.declared.refusal.Reason.{Reason}
@@ -59,7 +59,7 @@ numbered rows (Ok p) = Ok p
 numbered rows (Err reason) = Err (BadRow (rows + 1) reason)
 
 abbrev pub point_of_row : ℕ → Result Point Reason → Result Point RowNo
-point_of_row rows read = cond (nat_eq rows most_rows) (Err (TooMany (most_rows + 1))) (numbered rows read)
+point_of_row rows read = if nat_eq rows most_rows then Err (TooMany (most_rows + 1)) else numbered rows read
 
 -- these bytes were taken from the input, and no read failed
 pub record AreTakenFrom (before now : Outside) (bytes : List ℕ) (count : ℕ) : Type 0 where

@@ -1,5 +1,5 @@
 -- What `pack` answers to the bytes of its standard input.
-use Rattle.std.specs.Prelude.{◌≡◌, ℕ, ◌+◌, ◌<◌, ◌≤◌, ◌⊎◌, cond, false, List, [], ◌∷◌, length, map, reverse, Option, None, Some, nat_lt, Result, Ok, Err}
+use Rattle.std.specs.Prelude.{◌≡◌, ℕ, ◌+◌, ◌<◌, ◌≤◌, ◌⊎◌, if◌then◌else◌, false, List, [], ◌∷◌, length, map, reverse, Option, None, Some, nat_lt, Result, Ok, Err}
 use Rattle.std.specs.Io.KnownBytes.{IsAtEnd}
 use Rattle.std.specs.Option.{option_or}
 use Rattle.trend_num.specs.Limits.{most_records}
@@ -43,7 +43,7 @@ history_of points = map Raw (reverse points)
 abbrev pub first_full : Origin → List Event → Option ℕ
 first_full o [] = None
 first_full o (e ∷ h) =
-    option_or (first_full o h) (cond (nat_lt most_records (length (records o h) + 2)) (Some (length (records o h))) None)
+    option_or (first_full o h) (if nat_lt most_records (length (records o h) + 2) then Some (length (records o h)) else None)
 
 -- the text of a history that had room throughout
 abbrev pub answer_full : Origin → List Event → Option ℕ → Answer
@@ -68,7 +68,7 @@ answer_rows tuning (Err why) = Refuses (status_of_rows why)
 -- the answer to bytes
 abbrev pub pack_answer : Tuning → List ℕ → Answer
 pack_answer tuning bytes =
-    cond (nat_lt most_bytes (length bytes)) (Refuses (Limit FileBytes (most_bytes + 1))) (answer_rows tuning (points_of most_rows bytes))
+    if nat_lt most_bytes (length bytes) then Refuses (Limit FileBytes (most_bytes + 1)) else answer_rows tuning (points_of most_rows bytes)
 
 -- ---- what was read of the input, where `pack` answers so
 

@@ -1,11 +1,11 @@
 -- How a pool is stored.
-use Rattle.std.specs.Prelude.{◌≡◌, ◌≢◌, ℕ, ◌-◌, ◌^◌, ◌<◌, ◌≤◌, cond, List, ◌++◌, Option, Some, None, is_none, length, map, replicate, count_by, slice_index_or, AllPairs, All}
+use Rattle.std.specs.Prelude.{◌≡◌, ◌≢◌, ℕ, ◌-◌, ◌^◌, ◌<◌, ◌≤◌, if◌then◌else◌, List, ◌++◌, Option, Some, None, is_none, length, map, replicate, count_by, slice_index_or, AllPairs, All}
 use Rattle.page_pool.specs.declared.frame.Frame.{Frame}
 use Rattle.page_pool.specs.declared.pool.Slot.{Slot}
 
 -- the frame of a slot, where it is taken
 abbrev pub held_in : Slot → Option Frame
-held_in slot = cond slot.held (Some slot.frame) None
+held_in slot = if slot.held then Some slot.frame else None
 
 -- the places of these slots, and of those that were never taken
 abbrev pub places_of : List Slot → ℕ → List (Option Frame)

@@ -1,5 +1,5 @@
 -- Rows of text, and the lines `TIME,VALUE` that points are read from.
-use Rattle.std.specs.Prelude.{ℕ, ◌+◌, ℤ, cond, List, [], ◌∷◌, length, map, take, Option, None, Some, nat_eq, nat_le, nat_lt, unsigned_abs, Result, Ok, Err}
+use Rattle.std.specs.Prelude.{ℕ, ◌+◌, ℤ, if◌then◌else◌, List, [], ◌∷◌, length, map, take, Option, None, Some, nat_eq, nat_le, nat_lt, unsigned_abs, Result, Ok, Err}
 use Rattle.std.specs.List.{slice_split}
 use Rattle.std.specs.Str.Lines.{lines}
 use Rattle.trend_num.specs.declared.point.Point.{Point}
@@ -26,7 +26,7 @@ all_rows (Ok r ∷ reads) = with_first r (all_rows reads)
 -- these rows of the first `most` lines, where there are no more lines than that
 abbrev pub unless_more : {R : Type 0} → ℕ → ℕ → Result (List R) (ℕ × Reason) → Result (List R) RowNo
 unless_more most count (Err bad) = Err (BadRow bad.0 bad.1)
-unless_more most count (Ok rs) = cond (nat_lt most count) (Err (TooMany (most + 1))) (Ok rs)
+unless_more most count (Ok rs) = if nat_lt most count then Err (TooMany (most + 1)) else Ok rs
 
 -- the rows of lines: refused is the first bad one of the first `most` lines, with its place and its first reason; else that
 -- there are more lines
@@ -38,7 +38,7 @@ rows_of row_of most texts = unless_more most (length texts) (all_rows (map row_o
 -- a point of these numbers, where they are in range
 abbrev pub point_of : Option ℕ → ℤ → Result Point Reason
 point_of None v = Err Range
-point_of (Some t) v = cond (nat_le (unsigned_abs v) largest_value) (Ok (record { t = t; v = v })) (Err Range)
+point_of (Some t) v = if nat_le (unsigned_abs v) largest_value then Ok (record { t = t; v = v }) else Err Range
 
 -- the point of two numerals
 abbrev pub point_read : Option ℤ → Option ℤ → Result Point Reason

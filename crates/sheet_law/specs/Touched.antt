@@ -1,5 +1,5 @@
 -- Which windows a record touches when it comes, and which a list of records in turn.
-use Rattle.std.specs.Prelude.{ℕ, Bool, false, not, ◌&&◌, ◌||◌, cond, List, [], ◌∷◌, ◌++◌, map, filter, nat_le, nat_lt}
+use Rattle.std.specs.Prelude.{ℕ, Bool, false, not, ◌&&◌, ◌||◌, if◌then◌else◌, List, [], ◌∷◌, ◌++◌, map, filter, nat_le, nat_lt}
 use Rattle.std.specs.List.{list_all}
 use Rattle.trend_num.specs.declared.archive.Rec.{Rec}
 use Rattle.trend_model.specs.Content.{is_late_record}
@@ -37,7 +37,7 @@ is_newest r rs = list_all (λ x. is_late_record x.kind || nat_lt x.point.t r.poi
 -- that is not the newest every window
 abbrev pub touches : List Rec → Rec → ℕ → ℕ → Bool
 touches rs r from to =
-    cond (is_late_record r.kind) (meets (listed rs) r.point.t from to) (not (is_newest r rs))
+    if is_late_record r.kind then meets (listed rs) r.point.t from to else not (is_newest r rs)
 
 -- whether one of the records that come after these touches a window, each looked at behind the ones before it
 abbrev pub is_touched : List Rec → List Rec → ℕ → ℕ → Bool

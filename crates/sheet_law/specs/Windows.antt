@@ -1,5 +1,5 @@
 -- The windows of a grid, and which of them the records of its inputs complete.
-use Rattle.std.specs.Prelude.{ℕ, ◌+◌, ◌-◌, ◌*◌, ◌/◌, max, min, Bool, not, ◌&&◌, cond, List, [], ◌∷◌, map, nat_le}
+use Rattle.std.specs.Prelude.{ℕ, ◌+◌, ◌-◌, ◌*◌, ◌/◌, max, min, Bool, not, ◌&&◌, if◌then◌else◌, List, [], ◌∷◌, map, nat_le}
 use Rattle.std.specs.List.{list_all, list_any}
 use Rattle.trend_num.specs.declared.archive.Rec.{Rec}
 use Rattle.trend_model.specs.Content.{is_late_record}
@@ -23,7 +23,7 @@ is_complete w rss k = list_all (reaches (window_to w k)) rss
 -- the time behind the greatest one of the Kept records, and 0 where there is none
 abbrev pub kept_end : List Rec → ℕ
 kept_end [] = 0
-kept_end (r ∷ rs) = cond (is_late_record r.kind) (kept_end rs) (max (r.point.t + 1) (kept_end rs))
+kept_end (r ∷ rs) = if is_late_record r.kind then kept_end rs else max (r.point.t + 1) (kept_end rs)
 
 -- how many windows end before the time t
 abbrev pub windows_before : Grid → ℕ → ℕ

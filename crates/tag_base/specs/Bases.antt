@@ -1,5 +1,5 @@
 -- What the bytes of a base say.
-use Rattle.std.specs.Prelude.{◌≡◌, ℕ, cond, List, [], ◌∷◌, length, map, codes, Option, None, Some, option_and_then, option_map, Result, Ok, Err}
+use Rattle.std.specs.Prelude.{◌≡◌, ℕ, if◌then◌else◌, List, [], ◌∷◌, length, map, codes, Option, None, Some, option_and_then, option_map, Result, Ok, Err}
 use Rattle.toml.specs.Data.{Members}
 use Rattle.toml.specs.View.{table_view}
 use Rattle.trend_num.specs.declared.refusal.What.TheVariants.{Tags, Groups}
@@ -39,11 +39,12 @@ some_tables (ms ∷ mss) = Some (ms ∷ mss)
 
 -- the tables of a document with the keys `tag` and, at will, `group`
 abbrev pub base_arrays : Members → Option BaseForm
-base_arrays ms = cond (has_keys (codes "tag" ∷ []) (codes "group" ∷ []) ms)
-    (option_and_then (λ tags. option_map (λ groups. record { tags = tags; groups = groups })
+base_arrays ms =
+    if has_keys (codes "tag" ∷ []) (codes "group" ∷ []) ms
+    then option_and_then (λ tags. option_map (λ groups. record { tags = tags; groups = groups })
     (tables_if_there (codes "group") ms))
-    (option_and_then some_tables (tables_at (codes "tag") ms)))
-    None
+    (option_and_then some_tables (tables_at (codes "tag") ms))
+    else None
 
 -- the tables of what was found in bytes: rule 1 asks for a document, rule 2 for its arrays; then how many
 -- tags there are, and how many groups

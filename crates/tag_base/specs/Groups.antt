@@ -1,5 +1,5 @@
 -- What the tables of groups say.
-use Rattle.std.specs.Prelude.{◌≡◌, ◌≢◌, ◌⊎◌, ℕ, ◌+◌, Bool, cond, ◌&&◌, ◌||◌, List, [], ◌∷◌, ◌++◌, length, map, position, slice_get, codes, bytes_eq, string_bytes, nat_eq, nat_le, Option, None, Some, is_none, option_and_then, Result, Ok, Err, ⊤, ◌<◌, ◌≤◌, All, vec_len}
+use Rattle.std.specs.Prelude.{◌≡◌, ◌≢◌, ◌⊎◌, ℕ, ◌+◌, Bool, if◌then◌else◌, ◌&&◌, ◌||◌, List, [], ◌∷◌, ◌++◌, length, map, position, slice_get, codes, bytes_eq, string_bytes, nat_eq, nat_le, Option, None, Some, is_none, option_and_then, Result, Ok, Err, ⊤, ◌<◌, ◌≤◌, All, vec_len}
 use Rattle.std.specs.List.{list_any}
 use Rattle.toml.specs.Data.{Items, Members, no_items, item, as_str}
 use Rattle.trend_num.specs.Ranges.{last_time}
@@ -64,7 +64,7 @@ group_place groups name = position (λ g. bytes_eq g.name name) groups
 -- the name of a table, where it is one and no earlier group has it
 abbrev pub new_group_name : List GroupDef → Members → Option (List ℕ)
 new_group_name earlier ms =
-    option_and_then (λ name. cond (is_none (group_place earlier name)) (Some name) None)
+    option_and_then (λ name. if is_none (group_place earlier name) then Some name else None)
     (name_at (codes "name") ms)
 
 -- whether the tag at a place is among inputs
@@ -74,8 +74,7 @@ is_input inputs place = list_any (λ i. nat_eq i.place place) inputs
 -- the tag at a place as an input, where it is no step tag and no earlier input
 abbrev pub new_input : List TagDef → List Input → ℕ → Option Input
 new_input tags earlier place =
-    option_and_then (λ tag. cond (tag.step || is_input earlier place) None
-    (Some (record { place = place; name = tag.name })))
+    option_and_then (λ tag. if tag.step || is_input earlier place then None else Some (record { place = place; name = tag.name }))
     (slice_get tags place)
 
 -- the input that a text names
@@ -98,19 +97,19 @@ abbrev pub is_input_count : Items → Bool
 is_input_count items = nat_le 1 (item_count items) && nat_le (item_count items) most_inputs
 
 abbrev pub inputs_of : List TagDef → Items → Option (List Input)
-inputs_of tags items = cond (is_input_count items) (inputs_after tags [] items) None
+inputs_of tags items = if is_input_count items then inputs_after tags [] items else None
 
 abbrev pub inputs_at : List TagDef → Members → Option (List Input)
 inputs_at tags ms = option_and_then (inputs_of tags) (array_at (codes "tags") ms)
 
 -- a calculation of two texts, whose name no earlier one has
 abbrev pub calc_text : List CalcForm → Members → Option CalcForm
-calc_text earlier ms = cond (has_keys (codes "name" ∷ codes "formula" ∷ []) [] ms)
-    (option_and_then (λ name. option_and_then (λ formula.
-    cond (list_any (λ c. bytes_eq c.name name) earlier) None
-    (Some (record { name = name; formula = formula })))
-    (string_at (codes "formula") ms)) (name_at (codes "name") ms))
-    None
+calc_text earlier ms =
+    if has_keys (codes "name" ∷ codes "formula" ∷ []) [] ms
+    then option_and_then (λ name. option_and_then (λ formula.
+    if list_any (λ c. bytes_eq c.name name) earlier then None else Some (record { name = name; formula = formula }))
+    (string_at (codes "formula") ms)) (name_at (codes "name") ms)
+    else None
 
 -- the calculations of tables, in order, after some calculations
 abbrev pub calcs_after : List CalcForm → List Members → Option (List CalcForm)

@@ -1,5 +1,5 @@
 -- What the bytes of a plan say.
-use Rattle.std.specs.Prelude.{ℕ, Bool, cond, ◌&&◌, List, [], ◌∷◌, ◌++◌, length, map, nat_eq, nat_le, codes, Option, None, Some, option_and_then, option_map, Result, Ok}
+use Rattle.std.specs.Prelude.{ℕ, Bool, if◌then◌else◌, ◌&&◌, List, [], ◌∷◌, ◌++◌, length, map, nat_eq, nat_le, codes, Option, None, Some, option_and_then, option_map, Result, Ok}
 use Rattle.std.specs.List.{list_any}
 use Rattle.toml.specs.Data.{Members}
 use Rattle.toml.specs.View.{table_view}
@@ -52,12 +52,13 @@ plan_keys = codes "collector" ∷ codes "reader" ∷ codes "refresher" ∷ []
 
 -- the tables of a document whose keys are among these three
 abbrev pub plan_arrays : Members → Option PlanForm
-plan_arrays ms = cond (has_keys [] plan_keys ms)
-    (option_and_then (λ collectors. option_and_then (λ readers.
+plan_arrays ms =
+    if has_keys [] plan_keys ms
+    then option_and_then (λ collectors. option_and_then (λ readers.
     option_map (λ refreshers. record { collectors = collectors; readers = readers; refreshers = refreshers })
     (tables_if_there (codes "refresher") ms))
-    (tables_if_there (codes "reader") ms)) (tables_if_there (codes "collector") ms))
-    None
+    (tables_if_there (codes "reader") ms)) (tables_if_there (codes "collector") ms)
+    else None
 
 -- 1 to 255 bytes
 abbrev pub is_file_name : List ℕ → Bool
@@ -65,8 +66,10 @@ is_file_name bytes = nat_le 1 (length bytes) && nat_le (length bytes) 255
 
 -- the name of the file of a table that has nothing else
 abbrev pub file_of : Members → Option (List ℕ)
-file_of ms = cond (has_keys (codes "file" ∷ []) [] ms)
-    (option_and_then (λ text. cond (is_file_name text) (Some text) None) (string_at (codes "file") ms)) None
+file_of ms =
+    if has_keys (codes "file" ∷ []) [] ms
+    then option_and_then (λ text. if is_file_name text then Some text else None) (string_at (codes "file") ms)
+    else None
 
 -- the files of tables, in order, after some files; each table is to keep this rule
 abbrev pub files_after : ℕ → List (List ℕ) → List Members → Result (List (List ℕ)) TextNo
@@ -81,16 +84,17 @@ is_refreshed refreshers place = list_any (λ r. nat_eq r.group place) refreshers
 -- the group that a table names, where no earlier refresher has it
 abbrev pub new_group : List GroupDef → List Refresher → Members → Option ℕ
 new_group groups earlier ms =
-    option_and_then (λ place. cond (is_refreshed earlier place) None (Some place))
+    option_and_then (λ place. if is_refreshed earlier place then None else Some place)
     (option_and_then (group_place groups) (string_at (codes "group") ms))
 
 -- the refresher of a table, after some refreshers
 abbrev pub refresher_of : List GroupDef → List Refresher → Members → Option Refresher
-refresher_of groups earlier ms = cond (has_keys (codes "group" ∷ codes "turns" ∷ []) [] ms)
-    (option_and_then (λ group. option_map (λ turns. record { group = group; turns = turns })
+refresher_of groups earlier ms =
+    if has_keys (codes "group" ∷ codes "turns" ∷ []) [] ms
+    then option_and_then (λ group. option_map (λ turns. record { group = group; turns = turns })
     (number_at (codes "turns") 0 most_turns ms))
-    (new_group groups earlier ms))
-    None
+    (new_group groups earlier ms)
+    else None
 
 abbrev pub refreshers_after : List GroupDef → List Refresher → List Members → Result (List Refresher) TextNo
 refreshers_after groups earlier [] = Ok earlier

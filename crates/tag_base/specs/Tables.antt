@@ -1,5 +1,5 @@
 -- What a table of a TOML document holds at its keys.
-use Rattle.std.specs.Prelude.{ℕ, ℤ, pos, negsuc, Bool, true, cond, ◌&&◌, ◌||◌, List, [], ◌∷◌, ◌++◌, length, nat_le, Option, None, Some, is_some, option_and_then, bytes_eq}
+use Rattle.std.specs.Prelude.{ℕ, ℤ, pos, negsuc, Bool, true, if◌then◌else◌, ◌&&◌, ◌||◌, List, [], ◌∷◌, ◌++◌, length, nat_le, Option, None, Some, is_some, option_and_then, bytes_eq}
 use Rattle.std.specs.List.{list_any, list_all}
 use Rattle.std.specs.Str.{is_utf8}
 use Rattle.toml.specs.Data.{Items, Members, no_items, item, no_members, member, get_member, as_str, as_integer, as_array, as_table}
@@ -8,7 +8,7 @@ use Rattle.trend_num.specs.Names.{is_name_byte}
 
 -- the document that bytes are, if they are one
 abbrev pub document : List ℕ → Option Members
-document bytes = cond (is_utf8 bytes) (parse_document bytes) None
+document bytes = if is_utf8 bytes then parse_document bytes else None
 
 -- ---- keys
 
@@ -40,11 +40,11 @@ is_name bytes = nat_le 1 (length bytes) && nat_le (length bytes) 64 && list_all 
 
 -- the name at a key, where it is a text that is a name
 abbrev pub name_at : List ℕ → Members → Option (List ℕ)
-name_at key ms = option_and_then (λ text. cond (is_name text) (Some text) None) (string_at key ms)
+name_at key ms = option_and_then (λ text. if is_name text then Some text else None) (string_at key ms)
 
 -- a number that is not below the least nor above the most
 abbrev pub within : ℕ → ℕ → ℤ → Option ℕ
-within least most (pos n) = cond (nat_le least n && nat_le n most) (Some n) None
+within least most (pos n) = if nat_le least n && nat_le n most then Some n else None
 within least most (negsuc n) = None
 
 -- the number at a key, where it is a whole number between these
@@ -67,4 +67,4 @@ tables_at key ms = option_and_then (tables_after []) (array_at key ms)
 
 -- the same, and none where the key is not there
 abbrev pub tables_if_there : List ℕ → Members → Option (List Members)
-tables_if_there key ms = cond (has_key ms key) (tables_at key ms) (Some [])
+tables_if_there key ms = if has_key ms key then tables_at key ms else Some []

@@ -1,5 +1,5 @@
 -- What the tables of tags say.
-use Rattle.std.specs.Prelude.{ℕ, Bool, true, false, cond, ◌&&◌, List, [], ◌∷◌, ◌++◌, length, position, codes, bytes_eq, Option, None, Some, is_some, is_none, option_map, option_and_then, Result, Ok}
+use Rattle.std.specs.Prelude.{ℕ, Bool, true, false, if◌then◌else◌, ◌&&◌, List, [], ◌∷◌, ◌++◌, length, position, codes, bytes_eq, Option, None, Some, is_some, is_none, option_map, option_and_then, Result, Ok}
 use Rattle.toml.specs.Data.{Data, Members, get_member, as_str, as_bool}
 use Rattle.trend_num.specs.Ranges.{last_time, largest_value}
 use Rattle.trend_num.specs.declared.tuning.Tuning.{Tuning}
@@ -56,7 +56,7 @@ tag_place tags name = position (λ t. bytes_eq t.name name) tags
 -- the name of a table, where it is one and no earlier tag has it
 abbrev pub new_tag_name : List TagDef → Members → Option (List ℕ)
 new_tag_name earlier ms =
-    option_and_then (λ name. cond (is_none (tag_place earlier name)) (Some name) None)
+    option_and_then (λ name. if is_none (tag_place earlier name) then Some name else None)
     (name_at (codes "name") ms)
 
 -- the tag of a table after some tags, by the rules of a tag in their order: 3 its keys, 4 its name, 5 its

@@ -13,7 +13,7 @@ use Rattle.trend_model.specs.Windows.{end_at, is_covered, last_time_from, measur
 use Rattle.trend_model.proofs.WindowLaw.{inside}
 
 -- from a point on a read has a value
-value_from : (step : Bool) (p : Point) (ps : List Point) (t : ℕ)
+pub value_from : (step : Bool) (p : Point) (ps : List Point) (t : ℕ)
     → is_some (value_read (read_from step p ps t)) ≡ true
 value_from step p [] t =
     elim (nat_eq p.t t) as
@@ -27,6 +27,15 @@ value_from step p (q ∷ ps) t =
     some_of_three false true true r h = refl
     some_of_three false true false r h = refl
     some_of_three false false step r h = h
+
+-- so a read in a covered window has one
+pub covered_read : (step : Bool) (ps : List Point) (from to t : ℕ) → is_covered ps from to ≡ true → from ≤ t
+    → is_some (value_read (read_at step ps t)) ≡ true
+covered_read step [] from to t covered order = cc
+covered_read step (p ∷ ps) from to t covered order =
+    let starts : p.t ≤ from =
+    leb-true p.t from ((and_parts (nat_le p.t from) (nat_le to (last_time_from p ps)) covered).0) in
+    rw (le-ltb t p.t (omega arith)) (value_from step p ps t)
 
 -- so its place in a shape is a point
 end_of_some : (t : ℕ) (v : Option ℤ) → is_some v ≡ true → (p : Point) × (end_at t v ≡ p ∷ [])

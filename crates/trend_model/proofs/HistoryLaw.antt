@@ -9,7 +9,7 @@ use Rattle.trend_model.specs.Doors.{AreAfter}
 use Rattle.trend_model.specs.Lists.{IsAmong, Each, IfThere}
 use Rattle.trend_model.specs.History.{Event, Raw, Tune, Origin, Sent, InOrder, in_force, pending, sent}
 use Rattle.trend_model.specs.Walk.{walked, last_of, records, hinge, since, held}
-use Rattle.trend_model.specs.State.{State, nothing_taken, after, AreDoorsFor, DoorsStand, Stands, StandsAsStored, IsNeverRetuned, with_made}
+use Rattle.trend_model.specs.State.{State, nothing_taken, after, AreDoorsFor, DoorsStand, Stands, StandsAsStored, with_made}
 use Rattle.trend_model.specs.Parts.{kept_points, PointsRise, last_point, AreFitDoors, DoorsFit, PendingFits, IsBegunOrBlank, IsRuled, ArePartsOk}
 use Rattle.trend_model.specs.Orders.{AllPoints, tuned_by}
 use Rattle.trend_model.proofs.Doors.{under_of_within, over_of_within}
@@ -44,10 +44,10 @@ force_on : (o : Origin) (e : Event) (h : List Event) → tuned_by (in_force o h)
 force_on o (Raw p) h = refl
 force_on o (Tune u) h = refl
 
--- it keeps the rules, for any property of the points of the history
-pub state_ruled : (P : Point → Type 0) (o : Origin) (h : List Event) → AllPoints P h
-    → IsRuled P (in_force o h) o.step (state_of o h).records (state_of o h).summary
-state_ruled P o [] each = record {
+-- no records and a summary of nothing keep the rules
+pub nothing_ruled : (P : Point → Type 0) (u : Tuning) (step : Bool) (tuning : Option Tuning)
+    → IsRuled P u step [] (record { taken = 0; records = 0; held = None; pending = None; hinge = None; upper = None; lower = None; tuning = tuning })
+nothing_ruled P u step tuning = record {
   counted = refl;
   at_most_two = omega arith;
   whole = record { none_recorded = refl; no_upper = refl; no_lower = refl };
@@ -59,6 +59,11 @@ state_ruled P o [] each = record {
   upper_is = tt;
   lower_is = tt;
 }
+
+-- it keeps the rules, for any property of the points of the history
+pub state_ruled : (P : Point → Type 0) (o : Origin) (h : List Event) → AllPoints P h
+    → IsRuled P (in_force o h) o.step (state_of o h).records (state_of o h).summary
+state_ruled P o [] each = nothing_ruled P o.tuning o.step (Some o.tuning)
 state_ruled P o (e ∷ h) each =
     let s = state_of o h in
     let parts = all_parts P e h each in

@@ -1,5 +1,5 @@
 -- What a list of records reads as at each time, and on which spans its line or stair is bound to the values.
-use Rattle.std.specs.Prelude.{◌≡◌, ℕ, ◌<◌, ◌≤◌, ℤ, Bool, true, false, cond, List, [], ◌∷◌, Option, None, Some, nat_eq}
+use Rattle.std.specs.Prelude.{if◌then◌else◌, ◌≡◌, ℕ, ◌<◌, ◌≤◌, ℤ, Bool, true, false, List, [], ◌∷◌, Option, None, Some, nat_eq}
 use Rattle.std.specs.Option.{option_or}
 use Rattle.trend_num.specs.declared.point.Point.{Point}
 use Rattle.trend_num.specs.declared.archive.Rec.{Rec}
@@ -11,7 +11,7 @@ use Rattle.trend_model.specs.Walk.{records, held}
 
 -- the value of p, where it stands at the time t
 abbrev pub value_at : Point → ℕ → Option ℤ
-value_at p t = cond (nat_eq p.t t) (Some p.v) None
+value_at p t = if nat_eq p.t t then Some p.v else None
 
 abbrev pub is_late_record : Kind → Bool
 is_late_record Late = true
@@ -20,12 +20,12 @@ is_late_record Kept = false
 -- the value of the last Late record at t
 abbrev pub late_at : List Rec → ℕ → Option ℤ
 late_at [] t = None
-late_at (r ∷ rs) t = option_or (late_at rs t) (cond (is_late_record r.kind) (value_at r.point t) None)
+late_at (r ∷ rs) t = option_or (late_at rs t) (if is_late_record r.kind then value_at r.point t else None)
 
 -- the value of the last Kept record at t
 abbrev pub kept_at : List Rec → ℕ → Option ℤ
 kept_at [] t = None
-kept_at (r ∷ rs) t = option_or (kept_at rs t) (cond (is_late_record r.kind) None (value_at r.point t))
+kept_at (r ∷ rs) t = option_or (kept_at rs t) (if is_late_record r.kind then None else value_at r.point t)
 
 -- the content at t: the value of the last Late record there, else of the last Kept one
 abbrev pub content_at : List Rec → ℕ → Option ℤ

@@ -1,6 +1,6 @@
 -- The content of a list of records as a list: one record for each time that occurs, in order of time. Its kind tells whether
 -- a Late record stands there.
-use Rattle.std.specs.Prelude.{◌≡◌, ℕ, ◌<◌, cond, ◌&&◌, not, List, [], ◌∷◌, Option, None, Some, is_some, nat_lt, fold, map, All, AllPairs, Contains, ◌≤◌}
+use Rattle.std.specs.Prelude.{if◌then◌else◌, ◌≡◌, ℕ, ◌<◌, ◌&&◌, not, List, [], ◌∷◌, Option, None, Some, is_some, nat_lt, fold, map, All, AllPairs, Contains, ◌≤◌}
 use Rattle.trend_num.specs.declared.point.Point.{Point}
 use Rattle.trend_num.specs.declared.archive.Rec.{Rec}
 use Rattle.trend_model.specs.Content.{is_late_record, content_at, late_at, closed_at}
@@ -23,21 +23,23 @@ pub record IsClosedContentOf (rs : List Rec) (q : Option Point) (l : List Rec) :
   pub content : (t : ℕ) → content_at l t ≡ closed_at rs q t
   pub late : (t : ℕ) → late_at l t ≡ late_at rs t
 
--- what a content is seen as: its records, and for how many more there is room
+-- what a content is seen as: its records, for how many more there is room, and how many of them stand on each page, in order
 pub record ContentState : Type 0 where
   pub records : List Rec
   pub spare : ℕ
+  pub pages : List ℕ
 
 -- which of two records at one time stands there: the newer one, but no Kept one in place of a Late one
 abbrev pub over : Rec → Rec → Rec
-over r x = cond (is_late_record x.kind && not (is_late_record r.kind)) x r
+over r x = if is_late_record x.kind && not (is_late_record r.kind) then x else r
 
 -- a content after one more record
 abbrev pub placed : Rec → List Rec → List Rec
 placed r [] = r ∷ []
 placed r (x ∷ xs) =
-    cond (nat_lt r.point.t x.point.t) (r ∷ x ∷ xs)
-    (cond (nat_lt x.point.t r.point.t) (x ∷ placed r xs) (over r x ∷ xs))
+    if nat_lt r.point.t x.point.t then r ∷ x ∷ xs
+    else if nat_lt x.point.t r.point.t then x ∷ placed r xs
+    else over r x ∷ xs
 
 -- the content of these records
 abbrev pub listed : List Rec → List Rec
@@ -46,7 +48,7 @@ listed rs = fold (λ l r. placed r l) [] rs
 -- a content closed by a point: the point is added where nothing stands at its time
 abbrev pub closed_by : Option Point → List Rec → List Rec
 closed_by None l = l
-closed_by (Some q) l = cond (is_some (content_at l q.t)) l (placed (kept q) l)
+closed_by (Some q) l = if is_some (content_at l q.t) then l else placed (kept q) l
 
 -- no record is after q
 abbrev pub IsNotBefore : List Rec → Point → Type 0

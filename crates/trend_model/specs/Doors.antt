@@ -1,5 +1,5 @@
 -- Two doors: the two values since the hinge that decide which lines fit (after Bristol).
-use Rattle.std.specs.Prelude.{ℕ, ◌-◌, ◌<◌, ℤ, pos, ◌+ℤ◌, ◌-ℤ◌, ◌*ℤ◌, ◌≤ℤ◌, Bool, cond, ◌&&◌, int_le, List}
+use Rattle.std.specs.Prelude.{if◌then◌else◌, ℕ, ◌-◌, ◌<◌, ℤ, pos, ◌+ℤ◌, ◌-ℤ◌, ◌*ℤ◌, ◌≤ℤ◌, Bool, ◌&&◌, int_le, List}
 use Rattle.trend_num.specs.declared.point.Point.{Point}
 use Rattle.trend_model.specs.Lists.{IsAmong}
 
@@ -37,7 +37,7 @@ is_admitted a d u l p = is_not_steeper a p (pos 0) u (pos d) && is_not_steeper a
 
 -- the upper door after p, and the lower one
 abbrev pub upper_after : Point → ℕ → Point → Point → Point
-upper_after a d u p = cond (is_not_steeper a u (pos d) p (pos d)) u p
+upper_after a d u p = if is_not_steeper a u (pos d) p (pos d) then u else p
 
 abbrev pub lower_after : Point → ℕ → Point → Point → Point
-lower_after a d l p = cond (is_not_steeper a p (down d) l (down d)) l p
+lower_after a d l p = if is_not_steeper a p (down d) l (down d) then l else p

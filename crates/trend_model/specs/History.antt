@@ -1,6 +1,6 @@
 -- What an exception test sends of a history. A history is the list of what happened to a tag, the newest first, and so
 -- is what was sent. Each definition asks of a place of the history what the rules say of it, and keeps no state.
-use Rattle.std.specs.Prelude.{◌≡◌, ◌+◌, ◌-ℤ◌, ℕ, Bool, true, false, cond, ◌||◌, ◌&&◌, not, ◌⊎◌, List, [], ◌∷◌, Option, None, Some, nat_eq, nat_lt, nat_le, unsigned_abs}
+use Rattle.std.specs.Prelude.{if◌then◌else◌, ◌≡◌, ◌+◌, ◌-ℤ◌, ℕ, Bool, true, false, ◌||◌, ◌&&◌, not, ◌⊎◌, List, [], ◌∷◌, Option, None, Some, nat_eq, nat_lt, nat_le, unsigned_abs}
 use Rattle.trend_num.specs.declared.point.Point.{Point}
 use Rattle.trend_num.specs.declared.tuning.Tuning.{Tuning}
 
@@ -45,19 +45,24 @@ is_far_from u (Some s) y = is_far u s y
 abbrev pub newest : List Event → Option Point
 newest [] = None
 newest (Tune u ∷ h) = newest h
-newest (Raw p ∷ h) = cond (is_late p h) (newest h) (Some p)
+newest (Raw p ∷ h) = if is_late p h then newest h else Some p
 
 -- the last value sent in order, once the events of h have happened: a late value and a retuning push out the newest one
 abbrev pub prior : Origin → List Event → Option Point
 prior o [] = None
 prior o (Tune u ∷ h) = newest h
-prior o (Raw p ∷ h) = cond (is_late p h) (newest h) (cond (is_far_from (in_force o h) (prior o h) p) (Some p) (prior o h))
+prior o (Raw p ∷ h) =
+    if is_late p h then newest h
+    else if is_far_from (in_force o h) (prior o h) p then Some p
+    else prior o h
 
 -- the newest value, where it is in order and not sent
 abbrev pub pending : Origin → List Event → Option Point
 pending o [] = None
 pending o (Tune u ∷ h) = None
-pending o (Raw p ∷ h) = cond (is_late p h || is_far_from (in_force o h) (prior o h) p) None (Some p)
+pending o (Raw p ∷ h) =
+    if is_late p h || is_far_from (in_force o h) (prior o h) p then None
+    else Some p
 
 -- what happens after the events of h, if something does, pushes out the newest value: a retuning, a late value, or one
 -- that is far from the value sent before it
@@ -75,8 +80,9 @@ abbrev pub sent_before : Origin → List Event → Option Event → List Sent
 sent_before o [] next = []
 sent_before o (Tune u ∷ h) next = Tuned u ∷ sent_before o h (Some (Tune u))
 sent_before o (Raw p ∷ h) next =
-    cond (is_late p h) (Late p ∷ sent_before o h (Some (Raw p)))
-    (cond (is_sent o p h next) (InOrder p ∷ sent_before o h (Some (Raw p))) (sent_before o h (Some (Raw p))))
+    if is_late p h then Late p ∷ sent_before o h (Some (Raw p))
+    else if is_sent o p h next then InOrder p ∷ sent_before o h (Some (Raw p))
+    else sent_before o h (Some (Raw p))
 
 -- what is sent of the events of h, the newest first
 abbrev pub sent : Origin → List Event → List Sent
@@ -92,7 +98,9 @@ IsInOrder y (Raw p ∷ h) = ((y ≡ p) × (is_late p h ≡ false)) ⊎ IsInOrder
 abbrev pub tuning_at : Origin → List Event → ℕ → Tuning
 tuning_at o [] t = o.tuning
 tuning_at o (Tune u ∷ h) t = tuning_at o h t
-tuning_at o (Raw p ∷ h) t = cond (not (is_late p h) && nat_eq p.t t) (in_force o h) (tuning_at o h t)
+tuning_at o (Raw p ∷ h) t =
+    if not (is_late p h) && nat_eq p.t t then in_force o h
+    else tuning_at o h t
 
 -- the last value in order of what was sent
 abbrev pub last_in_order : List Sent → Option Point

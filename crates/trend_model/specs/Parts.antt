@@ -1,5 +1,5 @@
 -- Which records and which summary can be those of a tag.
-use Rattle.std.specs.Prelude.{◌≡◌, ℕ, ◌+◌, ◌*◌, ◌^◌, ◌<◌, ◌≤◌, ◌-ℤ◌, pos, Bool, true, false, cond, List, [], ◌∷◌, length, Option, None, Some, unsigned_abs}
+use Rattle.std.specs.Prelude.{if◌then◌else◌, ◌≡◌, ℕ, ◌+◌, ◌*◌, ◌^◌, ◌<◌, ◌≤◌, ◌-ℤ◌, pos, Bool, true, false, List, [], ◌∷◌, length, Option, None, Some, unsigned_abs}
 use Rattle.trend_num.specs.Limits.{most_records}
 use Rattle.trend_num.specs.declared.point.Point.{Point}
 use Rattle.trend_num.specs.declared.archive.Rec.{Rec}
@@ -13,7 +13,7 @@ use Rattle.trend_model.specs.Doors.{IsNotSteeper, down}
 -- the kept points of records, the oldest first
 abbrev pub kept_points : List Rec → List Point
 kept_points [] = []
-kept_points (r ∷ rs) = cond (is_late_record r.kind) (kept_points rs) (r.point ∷ kept_points rs)
+kept_points (r ∷ rs) = if is_late_record r.kind then kept_points rs else r.point ∷ kept_points rs
 
 -- the points rise in time, from after an earlier one
 abbrev pub RisesAfter : Point → List Point → Type 0

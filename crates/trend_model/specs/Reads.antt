@@ -1,6 +1,6 @@
 -- What a list of points reads as. The points rise in time; a content's points are such a list. Every definition is decided
 -- by the listed points alone. The first argument tells whether they are those of a step tag.
-use Rattle.std.specs.Prelude.{ℕ, ◌*◌, ℤ, pos, ◌+ℤ◌, ◌*ℤ◌, Bool, cond, ◌&&◌, List, [], ◌∷◌, Option, None, Some, nat_eq, nat_le, nat_lt}
+use Rattle.std.specs.Prelude.{if◌then◌else◌, ℕ, ◌*◌, ℤ, pos, ◌+ℤ◌, ◌*ℤ◌, Bool, ◌&&◌, List, [], ◌∷◌, Option, None, Some, nat_eq, nat_le, nat_lt}
 use Rattle.std.specs.Int.{int_div_euclid}
 use Rattle.std.specs.List.{filter}
 use Rattle.trend_num.specs.declared.point.Point.{Point}
@@ -10,18 +10,20 @@ use Rattle.trend_num.specs.Lines.{line_value}
 
 -- between p and q a line goes on, and a stair stays
 abbrev pub between : Bool → Point → Point → ℕ → Reading
-between step p q t = cond step (Flat p.v) (Line (line_value p q t))
+between step p q t = if step then Flat p.v else Line (line_value p q t)
 
 -- the read at t, from the point p on
 abbrev pub read_from : Bool → Point → List Point → ℕ → Reading
-read_from step p [] t = cond (nat_eq p.t t) (Exact p.v) (Flat p.v)
+read_from step p [] t = if nat_eq p.t t then Exact p.v else Flat p.v
 read_from step p (q ∷ ps) t =
-    cond (nat_eq p.t t) (Exact p.v) (cond (nat_lt t q.t) (between step p q t) (read_from step q ps t))
+    if nat_eq p.t t then Exact p.v
+    else if nat_lt t q.t then between step p q t
+    else read_from step q ps t
 
 -- the read at t: exact at a point, between two points by the line or the stair, flat after the last, nothing before the first
 abbrev pub read_at : Bool → List Point → ℕ → Reading
 read_at step [] t = Nothing
-read_at step (p ∷ ps) t = cond (nat_lt t p.t) Nothing (read_from step p ps t)
+read_at step (p ∷ ps) t = if nat_lt t p.t then Nothing else read_from step p ps t
 
 -- the whole number next to a fraction, the upper one where two are as near
 abbrev pub rounded : ℤ → ℕ → ℤ

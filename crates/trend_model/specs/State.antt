@@ -1,6 +1,6 @@
 -- The state that a tag keeps, and what one more event makes of it: the rules in the words of the exception test's two
 -- places, its last and its pending value, and of two doors. That this follows the definitions over histories is a law.
-use Rattle.std.specs.Prelude.{◌≡◌, ◌⊎◌, ℕ, ◌+◌, ◌&&◌, Bool, true, false, cond, List, [], ◌∷◌, ◌++◌, length, Option, None, Some, nat_le}
+use Rattle.std.specs.Prelude.{if◌then◌else◌, ◌≡◌, ◌⊎◌, ℕ, ◌+◌, ◌&&◌, Bool, true, false, List, [], ◌∷◌, ◌++◌, length, Option, None, Some, nat_le}
 use Rattle.std.specs.Option.{option_or}
 use Rattle.trend_num.specs.declared.point.Point.{Point}
 use Rattle.trend_num.specs.declared.archive.Rec.{Rec}
@@ -25,21 +25,18 @@ pub record Offer : Type 0 where
 -- p is in order: it is sent after the pending value where it is far from the last one, and else takes its place
 abbrev pub offered_in_order : Tuning → Point → Option Point → Point → Offer
 offered_in_order u s waiting p =
-    cond (is_far u s p)
-    (record { last = Some p; pending = None; first = waiting; second = Some (sending.InOrder p) })
-    (record { last = Some s; pending = Some p; first = None; second = None })
+    if is_far u s p then record { last = Some p; pending = None; first = waiting; second = Some (sending.InOrder p) }
+    else record { last = Some s; pending = Some p; first = None; second = None }
 
 -- what an exception test does with p
 abbrev pub offered : Tuning → Option Point → Option Point → Point → Offer
 offered u None waiting p = record { last = Some p; pending = waiting; first = None; second = Some (sending.InOrder p) }
 offered u (Some s) None p =
-    cond (nat_le p.t s.t)
-    (record { last = Some s; pending = None; first = None; second = Some (sending.Late p) })
-    (offered_in_order u s None p)
+    if nat_le p.t s.t then record { last = Some s; pending = None; first = None; second = Some (sending.Late p) }
+    else offered_in_order u s None p
 offered u (Some s) (Some q) p =
-    cond (nat_le p.t q.t)
-    (record { last = Some q; pending = None; first = Some q; second = Some (sending.Late p) })
-    (offered_in_order u s (Some q) p)
+    if nat_le p.t q.t then record { last = Some q; pending = None; first = Some q; second = Some (sending.Late p) }
+    else offered_in_order u s (Some q) p
 
 -- what a value is sent as
 abbrev pub sent_as : Sending → Sent
@@ -98,16 +95,18 @@ joins t a u l p = is_short t a p && is_admitted a t.comp_dev u l p
 abbrev pub line_after : Archive → Point → Option Point → Option Point → Option Point → Option Point → Archive
 line_after c p None held upper lower = keeps c p
 line_after c p (Some a) (Some q) (Some u) (Some l) =
-    cond (joins c.tuning a u l p) (holds c p (upper_after a c.tuning.comp_dev u p) (lower_after a c.tuning.comp_dev l p))
-    (cond (is_short c.tuning a p && is_early c.tuning a q) (holds c p p p) (holds (keeps c q) p p p))
+    if joins c.tuning a u l p then holds c p (upper_after a c.tuning.comp_dev u p) (lower_after a c.tuning.comp_dev l p)
+    else if is_short c.tuning a p && is_early c.tuning a q then holds c p p p
+    else holds (keeps c q) p p p
 line_after c p (Some a) held upper lower = holds c p p p
 
 -- the archive of a step tag after one more value in order, from its hinge
 abbrev pub stair_after : Archive → Point → Option Point → Archive
 stair_after c p None = keeps c p
 stair_after c p (Some a) =
-    cond (is_short c.tuning a p && is_near c.tuning a p) (holds c p p p)
-    (cond (is_short c.tuning a p && is_early c.tuning a p) (holds c p p p) (keeps c p))
+    if is_short c.tuning a p && is_near c.tuning a p then holds c p p p
+    else if is_short c.tuning a p && is_early c.tuning a p then holds c p p p
+    else keeps c p
 
 -- the span since the hinge is ended: where there are doors the held point is kept
 abbrev pub ends_at : Archive → Option Point → Option Point → Option Point → Archive

@@ -1,6 +1,6 @@
 -- Compression, as a walk through what was sent. A tag of lines is compressed by swinging doors (after Bristol): each line
 -- from the last kept point is tested against all values since. A step tag keeps each new value that is not near the last.
-use Rattle.std.specs.Prelude.{◌+◌, ◌-ℤ◌, Bool, true, false, cond, ◌&&◌, List, [], ◌∷◌, ◌++◌, Option, None, Some, nat_lt, nat_le, unsigned_abs}
+use Rattle.std.specs.Prelude.{if◌then◌else◌, ◌+◌, ◌-ℤ◌, Bool, true, false, ◌&&◌, List, [], ◌∷◌, ◌++◌, Option, None, Some, nat_lt, nat_le, unsigned_abs}
 use Rattle.std.specs.List.{list_all}
 use Rattle.trend_num.specs.declared.point.Point.{Point}
 use Rattle.trend_num.specs.declared.archive.Rec.{Rec}
@@ -69,15 +69,17 @@ abbrev pub line_on : Walk → Point → Option Point → List Point → Walk
 line_on w p None since = keeping w p
 line_on w p (Some a) [] = joined w p
 line_on w p (Some a) (q ∷ since) =
-    cond (is_short w.tuning a p && is_fit w.tuning a (q ∷ since) p) (joined w p)
-    (cond (is_short w.tuning a p && is_early w.tuning a q) (replaced w p) (joined (keeping w q) p))
+    if is_short w.tuning a p && is_fit w.tuning a (q ∷ since) p then joined w p
+    else if is_short w.tuning a p && is_early w.tuning a q then replaced w p
+    else joined (keeping w q) p
 
 -- the walk of a step tag after one more value in order
 abbrev pub stair_on : Walk → Point → Option Point → Walk
 stair_on w p None = keeping w p
 stair_on w p (Some a) =
-    cond (is_short w.tuning a p && is_near w.tuning a p) (joined w p)
-    (cond (is_short w.tuning a p && is_early w.tuning a p) (skipped w p) (keeping w p))
+    if is_short w.tuning a p && is_near w.tuning a p then joined w p
+    else if is_short w.tuning a p && is_early w.tuning a p then skipped w p
+    else keeping w p
 
 -- the span since the hinge is ended: its last value is kept
 abbrev pub ended : Walk → List Point → Walk

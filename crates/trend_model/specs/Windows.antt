@@ -1,5 +1,5 @@
 -- What a window of a list of points measures. The points rise in time.
-use Rattle.std.specs.Prelude.{ℕ, ◌-◌, ◌*◌, ℤ, pos, ◌+ℤ◌, ◌*ℤ◌, Bool, true, false, cond, ◌&&◌, List, [], ◌∷◌, ◌++◌, length, Option, None, Some, int_le, nat_le, nat_lt}
+use Rattle.std.specs.Prelude.{if◌then◌else◌, ℕ, ◌-◌, ◌*◌, ℤ, pos, ◌+ℤ◌, ◌*ℤ◌, Bool, true, false, ◌&&◌, List, [], ◌∷◌, ◌++◌, length, Option, None, Some, int_le, nat_le, nat_lt}
 use Rattle.std.specs.List.{filter}
 use Rattle.trend_num.specs.declared.point.Point.{Point}
 use Rattle.trend_num.specs.declared.measure.Measure.{Measure}
@@ -40,10 +40,10 @@ area step (p ∷ q ∷ ps) = piece step p q +ℤ area step (q ∷ ps)
 
 -- the lesser and the greater of two numbers
 abbrev pub lesser : ℤ → ℤ → ℤ
-lesser m n = cond (int_le m n) m n
+lesser m n = if int_le m n then m else n
 
 abbrev pub greater : ℤ → ℤ → ℤ
-greater m n = cond (int_le m n) n m
+greater m n = if int_le m n then n else m
 
 -- the least and the greatest value of points, of which p is the first
 abbrev pub least_from : Point → List Point → ℤ
@@ -88,4 +88,6 @@ measured step Last ps s from to = of_first (λ p more. (last_from p more).v) s
 
 -- the value of a measure in a window, where the window is covered
 abbrev pub window_value : Bool → Measure → List Point → ℕ → ℕ → Option ℤ
-window_value step m ps from to = cond (is_covered ps from to) (measured step m ps (shape step ps from to) from to) None
+window_value step m ps from to =
+    if is_covered ps from to then measured step m ps (shape step ps from to) from to
+    else None

@@ -1,13 +1,13 @@
 -- The rows that were read so far, and what the rows of the whole text then are.
-use Rattle.std.proofs.Common.{All, ◌≡◌, ℕ, ◌+◌, ◌<◌, ◌≤◌, Bool, true, false, List, [], ◌∷◌, ◌++◌, Result, Ok, Err, length, map, refl, sym, ap, ◌∙◌, append_assoc, length-append, arith, Bor}
+use Rattle.std.proofs.Common.{All, ◌≡◌, ℕ, ◌+◌, ◌<◌, ◌≤◌, Bool, true, false, List, [], ◌∷◌, ◌++◌, Result, Ok, Err, length, map, sym, ap, ◌∙◌, append_assoc, length-append, arith, Bor}
 use Rattle.std.proofs.lemmas.List.{append-nil, map-append}
 use Rattle.std.proofs.lemmas.List.Elements.{All-push}
 use Rattle.csv.specs.declared.reader.Reader.{Reader}
 use Rattle.trend_num.specs.declared.refusal.Reason.{Reason}
 use Rattle.point_text.specs.declared.failure.RowNo.TheVariants.{BadRow, TooMany}
 use Rattle.point_text.proofs.RowList.{all_read, rows_from-all, rows_from-bad, rows_from-more}
-use Rattle.value_rows.specs.Reading.{records_of, rows_read}
-use Rattle.value_rows.specs.RowReader.{HasLeft, IsNext, Reads, reads_behind}
+use Rattle.value_rows.specs.Reading.{rows_read}
+use Rattle.value_rows.specs.RowReader.{HasLeft, IsNext, Reads}
 
 -- of records that read so, these rows were read, as many as told and no more than there may be; the reader has the others left
 pub record AreSoFar {R : Type 0} (P : R → Type 0) (row_of : Reads R) (all : List (Result R Reason)) (most : ℕ) (r : Reader (Bor (List ℕ))) (rows : List R) (count : ℕ) : Type 0 where

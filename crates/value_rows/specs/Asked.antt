@@ -1,5 +1,5 @@
 -- The rows of a reader: a verb, and what it asks of a tag or of a group.
-use Rattle.std.specs.Prelude.{ℕ, ◌<◌, ◌≤◌, cond, List, [], ◌∷◌, Option, None, Some, nat_le, nat_lt, codes, length, position, slice_get, Result, Ok, Err}
+use Rattle.std.specs.Prelude.{ℕ, ◌<◌, ◌≤◌, if◌then◌else◌, List, [], ◌∷◌, Option, None, Some, nat_le, nat_lt, codes, length, position, slice_get, Result, Ok, Err}
 use Rattle.std.specs.Map.{lookup}
 use Rattle.std.specs.Option.{ok_or, option_map_or}
 use Rattle.std.specs.Str.{bytes_eq}
@@ -70,13 +70,13 @@ span_of tags tag from to = do
 abbrev pub points_row : List (List ℕ) → List ℕ → List ℕ → List ℕ → Result Query Reason
 points_row tags tag from to = do
   span ← span_of tags tag from to
-  cond (nat_le span.1 span.2) (Ok (Tag span.0 (Points span.1 span.2))) (Err Range)
+  if nat_le span.1 span.2 then Ok (Tag span.0 (Points span.1 span.2)) else Err Range
 
 -- `MEASURE,TAG,FROM,TO`: FROM is below TO
 abbrev pub window_row : List (List ℕ) → Measure → List ℕ → List ℕ → List ℕ → Result Query Reason
 window_row tags m tag from to = do
   span ← span_of tags tag from to
-  cond (nat_lt span.1 span.2) (Ok (Tag span.0 (Window m span.1 span.2))) (Err Range)
+  if nat_lt span.1 span.2 then Ok (Tag span.0 (Window m span.1 span.2)) else Err Range
 
 -- the number of the last window that may be asked for
 abbrev pub last_window : ℕ

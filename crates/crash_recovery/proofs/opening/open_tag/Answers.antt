@@ -8,41 +8,51 @@ use Rattle.crash_recovery.specs.Opening.{IsLeftOrSame, IsOpenedAs, StaysSame, Re
 use Rattle.device_layout.proofs.Shows.{if_ok, if_ok₂, if_err}
 use Rattle.crash_recovery.proofs.Openings.{Promises, during_same, opened_shown, recovers_read, stays_retuned}
 use Rattle.crash_recovery.proofs.Openings.{recovers_retuned, stays_read, now_read, now_retuned}
-use Rattle.disk_model.specs.Moments.{ComesAfter}
+use Rattle.disk_model.specs.Moments.{ComesAfter, During}
 use Rattle.crash_recovery.specs.Opening.{LeavesFree, MakesLayout, GainsSync}
 use Rattle.crash_recovery.proofs.Afterwards.{free_read, free_retuned, layout_retuned, synced_read, synced_retuned}
 use Rattle.crash_recovery.proofs.opening.open_tag.Goals as goal
+
+-- what was read, where it was retuned, as the device that the journal has shows it, and what a crash left of that on the way
+read_retuned : (g : _) (c : goal.After-with_checkpoint g)
+    → IsReadAs c.args.def.now (g.D.Disk.trace c.args.dev) (g.D.Disk.trace c.new-2.result.dev) true c.in-Ok.read.core.state
+read_retuned g c =
+    let def = c.args.def.now in
+    let o = g.D.Disk.trace c.args.dev in
+    let state = c.in-Ok.read.core.state in
+    subst (λ m. IsReadAs def o m true state) (sym (ap (λ j. g.D.Disk.trace j.dev) c.new-2.ensures))
+    (subst (λ b. IsReadAs def o (g.D.Disk.trace c.read_tag.new.dev) b state) c.if-read.true c.in-Ok.ensures.opened)
+
+left_retuned : (g : _) (c : goal.After-with_checkpoint g)
+    → During (g.D.Disk.trace c.args.dev) (g.D.Disk.trace c.new-2.result.dev)
+    (IsLeftOrSame c.args.def.now (g.D.Disk.trace c.args.dev))
+left_retuned g c =
+    let o = g.D.Disk.trace c.args.dev in
+    during_same o (g.D.Disk.trace c.read_tag.new.dev) (g.D.Disk.trace c.new-2.result.dev)
+    (IsLeftOrSame c.args.def.now o) (ap (λ j. g.D.Disk.trace j.dev) c.new-2.ensures) c.in-Ok.ensures.any_moment
 
 pub returns-then-read-clause-any_moment : goal.returns-then-read-clause-any_moment
 returns-then-read-clause-any_moment g c =
     let def = c.args.def.now in
     let o = g.D.Disk.trace c.args.dev in
-    let mid = g.D.Disk.trace c.read_tag.new.dev in
     let put = g.D.Disk.trace c.new-2.result.dev in
-    let same = ap (λ j. g.D.Disk.trace j.dev) c.new-2.ensures in
     let core = c.in-Ok.read.core in
-    let read = subst (λ b. IsReadAs def o mid b core.state) c.if-read.true c.in-Ok.ensures.opened in
     if_ok c.with_checkpoint.result (λ x. Promises put (g.D.Disk.trace x.journal.dev) core.step core.state)
     (λ x. StaysSame def o (g.D.Disk.trace x.journal.dev))
     (λ x promise. stays_retuned def o put (g.D.Disk.trace x.journal.dev) core.step core.state c.in-Ok.ensures.step
-    (subst (λ m. IsReadAs def o m true core.state) (sym same) read)
-    (during_same o mid put (IsLeftOrSame def o) same c.in-Ok.ensures.any_moment) promise)
+    (read_retuned g c) (left_retuned g c) promise)
     c.with_checkpoint.ensures.any_moment
 
 pub returns-then-read-clause-any_moment_refused : goal.returns-then-read-clause-any_moment_refused
 returns-then-read-clause-any_moment_refused g c =
     let def = c.args.def.now in
     let o = g.D.Disk.trace c.args.dev in
-    let mid = g.D.Disk.trace c.read_tag.new.dev in
     let put = g.D.Disk.trace c.new-2.result.dev in
-    let same = ap (λ j. g.D.Disk.trace j.dev) c.new-2.ensures in
     let core = c.in-Ok.read.core in
-    let read = subst (λ b. IsReadAs def o mid b core.state) c.if-read.true c.in-Ok.ensures.opened in
     if_err c.with_checkpoint.result (λ x. Promises put (g.D.Disk.trace x.dev) core.step core.state)
     (λ x. StaysSame def o (g.D.Disk.trace x.dev))
     (λ x promise. stays_retuned def o put (g.D.Disk.trace x.dev) core.step core.state c.in-Ok.ensures.step
-    (subst (λ m. IsReadAs def o m true core.state) (sym same) read)
-    (during_same o mid put (IsLeftOrSame def o) same c.in-Ok.ensures.any_moment) promise)
+    (read_retuned g c) (left_retuned g c) promise)
     c.with_checkpoint.ensures.any_moment_refused
 
 pub returns-then-read-clause-opened : goal.returns-then-read-clause-opened
@@ -60,11 +70,8 @@ pub returns-then-read-clause-recovers : goal.returns-then-read-clause-recovers
 returns-then-read-clause-recovers g c =
     let def = c.args.def.now in
     let o = g.D.Disk.trace c.args.dev in
-    let mid = g.D.Disk.trace c.read_tag.new.dev in
     let put = g.D.Disk.trace c.new-2.result.dev in
-    let same = ap (λ j. g.D.Disk.trace j.dev) c.new-2.ensures in
     let core = c.in-Ok.read.core in
-    let read = subst (λ b. IsReadAs def o mid b core.state) c.if-read.true c.in-Ok.ensures.opened in
     if_ok₂ c.with_checkpoint.result (λ x. core.state.summary.taken < 10 ^ 18 → (d : TagDef) (s : State)
     → AllRecover d put s
     → GoesOnFrom d s core.step core.state → AllRecover d (g.D.Disk.trace x.journal.dev) core.state)
@@ -72,7 +79,7 @@ returns-then-read-clause-recovers g c =
     (λ x. RecoversThen def o (g.D.Disk.trace x.journal.dev) x.core.state)
     (λ x durable kept. subst (λ k. RecoversThen def o (g.D.Disk.trace x.journal.dev) k.state) (sym kept)
     (recovers_retuned def o put (g.D.Disk.trace x.journal.dev) core.step core.state c.in-Ok.ensures.step
-    (subst (λ m. IsReadAs def o m true core.state) (sym same) read) durable))
+    (read_retuned g c) durable))
     c.with_checkpoint.ensures.durable c.with_checkpoint.ensures.core
 
 pub returns-else-read-clause-recovers : goal.returns-else-read-clause-recovers
@@ -90,11 +97,8 @@ pub returns-then-read-clause-recovers_now : goal.returns-then-read-clause-recove
 returns-then-read-clause-recovers_now g c =
     let def = c.args.def.now in
     let o = g.D.Disk.trace c.args.dev in
-    let mid = g.D.Disk.trace c.read_tag.new.dev in
     let put = g.D.Disk.trace c.new-2.result.dev in
-    let same = ap (λ j. g.D.Disk.trace j.dev) c.new-2.ensures in
     let core = c.in-Ok.read.core in
-    let read = subst (λ b. IsReadAs def o mid b core.state) c.if-read.true c.in-Ok.ensures.opened in
     if_ok₂ c.with_checkpoint.result (λ x. core.state.summary.taken < 10 ^ 18 → (d : TagDef) (s : State)
     → AllRecover d put s
     → GoesOnFrom d s core.step core.state → AllRecover d (g.D.Disk.trace x.journal.dev) core.state)
@@ -103,8 +107,7 @@ returns-then-read-clause-recovers_now g c =
     (λ x durable kept. subst
     (λ k. k.state.summary.taken < 10 ^ 18 → AllRecover def (g.D.Disk.trace x.journal.dev) k.state) (sym kept)
     (λ small. now_retuned def o put (g.D.Disk.trace x.journal.dev) core.step core.state c.in-Ok.ensures.step
-    (subst (ComesAfter o) (sym same) c.in-Ok.ensures.any_moment.later)
-    (subst (λ m. IsReadAs def o m true core.state) (sym same) read) (durable small)))
+    (left_retuned g c).later (read_retuned g c) (durable small)))
     c.with_checkpoint.ensures.durable c.with_checkpoint.ensures.core
 
 pub returns-else-read-clause-recovers_now : goal.returns-else-read-clause-recovers_now
@@ -137,35 +140,32 @@ pub returns-then-read-clause-free : goal.returns-then-read-clause-free
 returns-then-read-clause-free g c =
     let def = c.args.def.now in
     let o = g.D.Disk.trace c.args.dev in
-    let mid = g.D.Disk.trace c.read_tag.new.dev in
+    let put = g.D.Disk.trace c.new-2.result.dev in
     let state = c.in-Ok.read.core.state in
-    let read = subst (λ b. IsReadAs def o mid b state) c.if-read.true c.in-Ok.ensures.opened in
     if_ok c.with_checkpoint.result (λ x. x.journal.free ≡ x.journal.slots)
     (λ x. Shows o (LeavesFree def x.journal.slots x.journal.free))
-    (λ x all. free_retuned def o mid state x.journal.slots x.journal.free read all) c.with_checkpoint.ensures.free
+    (λ x all. free_retuned def o put state x.journal.slots x.journal.free (read_retuned g c) all) c.with_checkpoint.ensures.free
 
 pub returns-then-read-clause-made : goal.returns-then-read-clause-made
 returns-then-read-clause-made g c =
     let def = c.args.def.now in
     let o = g.D.Disk.trace c.args.dev in
-    let mid = g.D.Disk.trace c.read_tag.new.dev in
+    let put = g.D.Disk.trace c.new-2.result.dev in
     let state = c.in-Ok.read.core.state in
-    let read = subst (λ b. IsReadAs def o mid b state) c.if-read.true c.in-Ok.ensures.opened in
     if_ok c.with_checkpoint.result (λ x. x.journal.free ≡ x.journal.slots)
     (λ x. MakesLayout def c.args.lane_slots o (g.D.Disk.trace x.journal.dev))
-    (λ x all. layout_retuned def o mid (g.D.Disk.trace x.journal.dev) state c.args.lane_slots read)
+    (λ x all. layout_retuned def o put (g.D.Disk.trace x.journal.dev) state c.args.lane_slots (read_retuned g c))
     c.with_checkpoint.ensures.free
 
 pub returns-then-read-clause-synced : goal.returns-then-read-clause-synced
 returns-then-read-clause-synced g c =
     let def = c.args.def.now in
     let o = g.D.Disk.trace c.args.dev in
-    let mid = g.D.Disk.trace c.read_tag.new.dev in
+    let put = g.D.Disk.trace c.new-2.result.dev in
     let state = c.in-Ok.read.core.state in
-    let read = subst (λ b. IsReadAs def o mid b state) c.if-read.true c.in-Ok.ensures.opened in
     if_ok c.with_checkpoint.result (λ x. x.journal.free ≡ x.journal.slots)
     (λ x. GainsSync def o (g.D.Disk.trace x.journal.dev))
-    (λ x all. synced_retuned def o mid (g.D.Disk.trace x.journal.dev) state read) c.with_checkpoint.ensures.free
+    (λ x all. synced_retuned def o put (g.D.Disk.trace x.journal.dev) state (read_retuned g c)) c.with_checkpoint.ensures.free
 
 pub returns-else-read-clause-free : goal.returns-else-read-clause-free
 returns-else-read-clause-free g c =

@@ -1,8 +1,5 @@
-use Rattle.std.proofs.Common.{◌≡◌, ◌+◌, ◌*◌, ◌-◌, ◌<◌, ◌≤◌, ℕ, min, length, Option, IfSome, sym, ap, ◌∙◌}
+use Rattle.std.proofs.Common.{◌≡◌, ◌+◌, ◌*◌, ◌≤◌, min, length, ap, ◌∙◌}
 use Rattle.std.proofs.Common.{subst, arith}
-use Rattle.disk_model.specs.Traces.{seen}
-use Rattle.disk_model.specs.Calls.{Reads}
-use Rattle.event_queue.specs.Slots.{gate_of, place_of}
 use Rattle.event_queue.specs.Damages.{IsLaneDamage}
 use Rattle.event_queue.specs.Scans.{IsWithin, IsRead}
 use Rattle.event_queue.proofs.Pieces.{handed_on}

@@ -1,4 +1,4 @@
-use Rattle.std.proofs.Common.{◌≡◌, ◌*◌, ◌<◌, ◌≤◌, min, vec_len, Option, IfSome}
+use Rattle.std.proofs.Common.{◌≡◌, ◌*◌, ◌<◌, min, vec_len, Option, IfSome}
 use Rattle.disk_model.specs.Traces.{seen}
 use Rattle.event_queue.specs.Scans.{IsWithin, IsRead}
 use Rattle.event_queue.proofs.reader.scan.Given as goal

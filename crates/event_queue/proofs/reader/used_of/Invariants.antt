@@ -1,4 +1,4 @@
-use Rattle.std.proofs.Common.{◌≡◌, ◌≢◌, ℕ, ◌≤◌, ◌<◌, get_or}
+use Rattle.std.proofs.Common.{◌≢◌, ℕ, ◌≤◌, ◌<◌, get_or}
 use Rattle.disk_model.specs.Gates.{open_byte}
 use Rattle.event_queue.proofs.reader.used_of.Given as goal
 

@@ -1,5 +1,4 @@
-use Rattle.std.proofs.Common.{◌*◌, ◌++◌, [], ◌∷◌, drop, sym, ap, ◌∙◌, append_assoc}
-use Rattle.std.proofs.lemmas.List.{append-nil}
+use Rattle.std.proofs.Common.{◌++◌, [], ◌∷◌, sym, ap, ◌∙◌, append_assoc}
 use Rattle.archive_file.specs.Fields.{point_at}
 use Rattle.event_queue.specs.Slots.{points_in}
 use Rattle.event_queue.proofs.Batches.{points_in_more, points_behind}

@@ -1,8 +1,5 @@
-use Rattle.std.proofs.Common.{◌++◌, ap, ◌∙◌, arith, length}
-use Rattle.std.proofs.lemmas.List.{get_or_default, take_all}
-use Rattle.archive_file.specs.Fields.{number_bytes, point_bytes}
-use Rattle.archive_file.proofs.Joins.{joined}
-use Rattle.event_queue.specs.Slots.{batch_bytes}
+use Rattle.std.proofs.Common.{arith}
+use Rattle.std.proofs.lemmas.List.{get_or_default}
 use Rattle.event_queue.proofs.Batches.{written_none, written_more, written_all}
 use Rattle.event_queue.proofs.slot.slot_bytes.Goals as goal
 

@@ -34,8 +34,7 @@ overflow_add-result c =
     let is = read_by c.args.pool.now c.args.pages.now.items c.page_for-k.result c.id.result.now c.frame.result.now
     c.requires.pages c.page_for-k.ensures.within (c.id.ensures.value no_page) c.frame.ensures in
     let found = found_for c.args.pool.now c.args.pages.now.items c.page_for-k.result c.args.t c.requires.pages
-    is.within c.page_for-k.ensures.before
-    c.page_for-k.ensures.after in
+    is.within c.page_for-k.ensures.last in
     omega (
       arith,
       c.first.ensures no_page,
@@ -49,8 +48,7 @@ returns-clause-bound c =
     let is = read_by c.args.pool.now c.args.pages.now.items c.page_for-k.result c.id.result.now c.frame.result.now
     c.requires.pages c.page_for-k.ensures.within (c.id.ensures.value no_page) c.frame.ensures in
     let found = found_for c.args.pool.now c.args.pages.now.items c.page_for-k.result c.args.t c.requires.pages
-    is.within c.page_for-k.ensures.before
-    c.page_for-k.ensures.after in
+    is.within c.page_for-k.ensures.last in
     rw (sym (c.first.ensures no_page)) (gap_within _ _ _ _ _ is c.args.t c.below_in.result found
     c.below_in.ensures.bound c.below_in.ensures.before c.below_in.ensures.after)
 
@@ -59,8 +57,7 @@ returns-clause-before c =
     let is = read_by c.args.pool.now c.args.pages.now.items c.page_for-k.result c.id.result.now c.frame.result.now
     c.requires.pages c.page_for-k.ensures.within (c.id.ensures.value no_page) c.frame.ensures in
     let found = found_for c.args.pool.now c.args.pages.now.items c.page_for-k.result c.args.t c.requires.pages
-    is.within c.page_for-k.ensures.before
-    c.page_for-k.ensures.after in
+    is.within c.page_for-k.ensures.last in
     rw (sym (c.first.ensures no_page)) (gap_before _ _ _ _ _ is c.args.t c.below_in.result found
     c.below_in.ensures.bound c.below_in.ensures.before c.below_in.ensures.after)
 
@@ -69,7 +66,6 @@ returns-clause-after c =
     let is = read_by c.args.pool.now c.args.pages.now.items c.page_for-k.result c.id.result.now c.frame.result.now
     c.requires.pages c.page_for-k.ensures.within (c.id.ensures.value no_page) c.frame.ensures in
     let found = found_for c.args.pool.now c.args.pages.now.items c.page_for-k.result c.args.t c.requires.pages
-    is.within c.page_for-k.ensures.before
-    c.page_for-k.ensures.after in
+    is.within c.page_for-k.ensures.last in
     rw (sym (c.first.ensures no_page)) (gap_after _ _ _ _ _ is c.args.t c.below_in.result found
     c.below_in.ensures.bound c.below_in.ensures.before c.below_in.ensures.after)

@@ -23,15 +23,15 @@ rec_at-requires-clause-within c =
     omega (
       arith,
       c.first.ensures no_page,
-      page_upto _ _ _ _ _ is c.args.i c.requires.within c.page_of-k.ensures.before c.page_of-k.ensures.after,
-      page_from _ _ _ _ _ is c.args.i c.requires.within c.page_of-k.ensures.before c.page_of-k.ensures.after,
+      page_upto _ _ _ _ _ is c.args.i c.requires.within c.page_of-k.ensures.last,
+      page_from _ _ _ _ _ is c.args.i c.requires.within c.page_of-k.ensures.last,
     )
 
 pub returns-clause-value : goal.returns-clause-value
 returns-clause-value c = λ d.
     let is = read_by c.args.pool.now c.args.pages.now.items c.page_of-k.result c.id.result.now c.frame.result.now
     c.requires.pages c.page_of-k.ensures.within (c.id.ensures.value no_page) c.frame.ensures in
-    let read = read_at _ _ _ _ _ is c.args.i c.requires.within c.page_of-k.ensures.before c.page_of-k.ensures.after d in
+    let read = read_at _ _ _ _ _ is c.args.i c.requires.within c.page_of-k.ensures.last d in
     rw (c.first.ensures no_page) at read ∙ sym c.rec_at.ensures.value
 
 pub overflow_sub-i : goal.overflow_sub-i
@@ -41,5 +41,5 @@ overflow_sub-i c =
     omega (
       arith,
       c.first.ensures no_page,
-      page_from _ _ _ _ _ is c.args.i c.requires.within c.page_of-k.ensures.before c.page_of-k.ensures.after,
+      page_from _ _ _ _ _ is c.args.i c.requires.within c.page_of-k.ensures.last,
     )

@@ -4,22 +4,14 @@ use Rattle.std.specs.Int.{w64, w128, int_min, int_max}
 use Rattle.std.proofs.lemmas.Int.{to_z-of_z}
 use Rattle.std.proofs.lemmas.List.Edits.{insert_end}
 use Rattle.late_insert.specs.Pages.{records_in}
-use Rattle.late_insert.proofs.Summing.{IsPushed, length-records_in, area_of_fits, area_pushed}
+use Rattle.late_insert.proofs.Summing.{is_pushed, length-records_in, area_of_fits, area_pushed}
 use Rattle.late_insert.proofs.Summing.{area_pushed_fits, page_pushed, value_fits}
 use Rattle.late_insert.proofs.page.append.Goals as goal
 
 pub overflow_add-frame : goal.overflow_add-frame
 overflow_add-frame c =
-    let push : IsPushed c.args.frame.now c.store.new.frame c.args.rec c.point_at-last.result = record {
-      page = c.requires.page;
-      some = c.requires.some;
-      recorded = c.store.ensures.recorded;
-      records = c.store.ensures.records;
-      end = c.point_at-last.ensures.value;
-      area = c.store.ensures.area;
-      low = c.store.ensures.low;
-      high = c.store.ensures.high;
-    } in
+    let push = is_pushed _ c.store.new.frame c.args.rec _ c.requires.page c.requires.some c.point_at-last.ensures.value
+    c.store.ensures.recorded c.store.ensures.records c.store.ensures.area c.store.ensures.low c.store.ensures.high in
     let line : FitsSigned w128 c.piece.result = search rules in
     rw (
       to_z-of_z w128 c.piece.result line,
@@ -31,16 +23,8 @@ overflow_add-frame c =
 
 pub returns-clause-page : goal.returns-clause-page
 returns-clause-page c =
-    let push : IsPushed c.args.frame.now c.store.new.frame c.args.rec c.point_at-last.result = record {
-      page = c.requires.page;
-      some = c.requires.some;
-      recorded = c.store.ensures.recorded;
-      records = c.store.ensures.records;
-      end = c.point_at-last.ensures.value;
-      area = c.store.ensures.area;
-      low = c.store.ensures.low;
-      high = c.store.ensures.high;
-    } in
+    let push = is_pushed _ c.store.new.frame c.args.rec _ c.requires.page c.requires.some c.point_at-last.ensures.value
+    c.store.ensures.recorded c.store.ensures.records c.store.ensures.area c.store.ensures.low c.store.ensures.high in
     let line : FitsSigned w128 c.piece.result = search rules in
     let least : FitsSigned w64 c.min-frame.result = search rules in
     let greatest : FitsSigned w64 c.max-frame.result = search rules in
@@ -67,16 +51,8 @@ returns-clause-records c =
 
 pub overflow_add-result : goal.overflow_add-result
 overflow_add-result c =
-    let push : IsPushed c.args.frame.now c.store.new.frame c.args.rec c.point_at-last.result = record {
-      page = c.requires.page;
-      some = c.requires.some;
-      recorded = c.store.ensures.recorded;
-      records = c.store.ensures.records;
-      end = c.point_at-last.ensures.value;
-      area = c.store.ensures.area;
-      low = c.store.ensures.low;
-      high = c.store.ensures.high;
-    } in
+    let push = is_pushed _ c.store.new.frame c.args.rec _ c.requires.page c.requires.some c.point_at-last.ensures.value
+    c.store.ensures.recorded c.store.ensures.records c.store.ensures.area c.store.ensures.low c.store.ensures.high in
     let line : FitsSigned w128 c.piece-2.result = search rules in
     rw (
       to_z-of_z w128 c.piece-2.result line,
@@ -87,16 +63,8 @@ overflow_add-result c =
 
 pub returns-clause-stair : goal.returns-clause-stair
 returns-clause-stair c =
-    let push : IsPushed c.args.frame.now c.store.new.frame c.args.rec c.point_at-last.result = record {
-      page = c.requires.page;
-      some = c.requires.some;
-      recorded = c.store.ensures.recorded;
-      records = c.store.ensures.records;
-      end = c.point_at-last.ensures.value;
-      area = c.store.ensures.area;
-      low = c.store.ensures.low;
-      high = c.store.ensures.high;
-    } in
+    let push = is_pushed _ c.store.new.frame c.args.rec _ c.requires.page c.requires.some c.point_at-last.ensures.value
+    c.store.ensures.recorded c.store.ensures.records c.store.ensures.area c.store.ensures.low c.store.ensures.high in
     let line : FitsSigned w128 c.piece-2.result = search rules in
     rw (
       to_z-of_z w128 c.piece-2.result line,

@@ -1,7 +1,8 @@
-use Rattle.std.proofs.Common.{◌<◌, ◌≤◌, sym, subst, arith}
+use Rattle.std.proofs.Common.{◌<◌, ◌≤◌, inr, sym, subst, arith}
+use Rattle.late_insert.proofs.Growing.{halved_at}
 use Rattle.late_insert.proofs.Finding.{no_page, starts_rise, found_for}
-use Rattle.late_insert.proofs.Reading.{held_by, read_by, frame_page}
-use Rattle.late_insert.proofs.Shelving.{page_len, upper_found, lower_found, within_split}
+use Rattle.late_insert.proofs.Reading.{held_by, read_by, frame_page, page_len}
+use Rattle.late_insert.proofs.Shelving.{upper_found, lower_found, within_split}
 use Rattle.late_insert.proofs.shelf.make_room.Goals as goal
 
 pub page_for-k-requires-clause-rising : goal.page_for-k-requires-clause-rising
@@ -21,11 +22,8 @@ split-requires-clause-full c = λ d.
 
 pub returns-then-frame-lt128-clause-found : goal.returns-then-frame-lt128-clause-found
 returns-then-frame-lt128-clause-found c =
-    let within = c.page_for-k.ensures.within in
-    let early = c.page_for-k.ensures.before in
-    let late = c.page_for-k.ensures.after in
-    found_for c.args.pool.now c.args.pages.now.items c.page_for-k.result c.args.t c.requires.pages within
-    early late
+    found_for c.args.pool.now c.args.pages.now.items c.page_for-k.result c.args.t c.requires.pages
+    c.page_for-k.ensures.within c.page_for-k.ensures.last
 
 pub returns-then-frame-lt128-clause-not_full : goal.returns-then-frame-lt128-clause-not_full
 returns-then-frame-lt128-clause-not_full c = λ d.
@@ -35,32 +33,40 @@ returns-then-frame-lt128-clause-not_full c = λ d.
 
 pub start-requires : goal.start-requires
 start-requires c =
-    let within = c.page_for-k.ensures.within in
-    let early = c.page_for-k.ensures.before in
-    let late = c.page_for-k.ensures.after in
-    within_split c.split.new.pages.items c.args.pages.now.items c.page_for-k.result c.split.ensures.list within
+    within_split c.split.new.pages.items c.args.pages.now.items c.page_for-k.result c.split.ensures.list
+    c.page_for-k.ensures.within
+
+pub returns-then-start-t-clause-lengths : goal.returns-then-start-t-clause-lengths
+returns-then-start-t-clause-lengths c =
+    let is = read_by c.args.pool.now c.args.pages.now.items c.page_for-k.result c.id.result.now c.frame.result.now
+    c.requires.pages c.page_for-k.ensures.within (c.id.ensures.value no_page) c.frame.ensures in
+    let found = found_for c.args.pool.now c.args.pages.now.items c.page_for-k.result c.args.t c.requires.pages
+    c.page_for-k.ensures.within c.page_for-k.ensures.last in
+    inr (halved_at _ _ _ c.args.t _ _ is found c.if-frame-lt128.false _ c.split.ensures.lengths)
 
 pub returns-then-start-t-clause-found : goal.returns-then-start-t-clause-found
 returns-then-start-t-clause-found c =
-    let within = c.page_for-k.ensures.within in
-    let early = c.page_for-k.ensures.before in
-    let late = c.page_for-k.ensures.after in
     upper_found c.split.new.pool c.split.new.pages.items c.args.pages.now.items c.page_for-k.result c.args.t
     no_page
-    c.split.ensures.pages c.split.ensures.list within early late
+    c.split.ensures.pages c.split.ensures.list c.page_for-k.ensures.within c.page_for-k.ensures.last
     (subst (λ n. n ≤ c.args.t) (sym (c.start.ensures no_page)) c.if-start-t.true)
 
 pub returns-then-start-t-clause-not_full : goal.returns-then-start-t-clause-not_full
 returns-then-start-t-clause-not_full c = λ d. let half = c.split.ensures.upper d in omega arith
 
+pub returns-else-start-t-clause-lengths : goal.returns-else-start-t-clause-lengths
+returns-else-start-t-clause-lengths c =
+    let is = read_by c.args.pool.now c.args.pages.now.items c.page_for-k.result c.id.result.now c.frame.result.now
+    c.requires.pages c.page_for-k.ensures.within (c.id.ensures.value no_page) c.frame.ensures in
+    let found = found_for c.args.pool.now c.args.pages.now.items c.page_for-k.result c.args.t c.requires.pages
+    c.page_for-k.ensures.within c.page_for-k.ensures.last in
+    inr (halved_at _ _ _ c.args.t _ _ is found c.if-frame-lt128.false _ c.split.ensures.lengths)
+
 pub returns-else-start-t-clause-found : goal.returns-else-start-t-clause-found
 returns-else-start-t-clause-found c =
-    let within = c.page_for-k.ensures.within in
-    let early = c.page_for-k.ensures.before in
-    let late = c.page_for-k.ensures.after in
     lower_found c.split.new.pool c.split.new.pages.items c.args.pages.now.items c.page_for-k.result c.args.t
     no_page
-    c.split.ensures.pages c.split.ensures.list within early late
+    c.split.ensures.pages c.split.ensures.list c.page_for-k.ensures.within c.page_for-k.ensures.last
     (subst (λ n. c.args.t < n) (sym (c.start.ensures no_page)) c.if-start-t.false)
 
 pub returns-else-start-t-clause-not_full : goal.returns-else-start-t-clause-not_full

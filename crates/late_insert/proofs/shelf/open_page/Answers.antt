@@ -1,12 +1,14 @@
 use Rattle.std.proofs.Common.{◌≡◌, true, length, ap, sym, ◌∙◌, subst, rules, arith}
 use Rattle.std.specs.Prelude.{FitsSigned}
 use Rattle.std.specs.Int.{w128}
+use mir.Val.{of_z, to_z}
 use Rattle.std.proofs.lemmas.Int.{to_z-of_z}
 use Rattle.page_pool.specs.Pool.{Takes}
 use Rattle.trend_model.specs.Contents.{points_of}
 use Rattle.trend_model.specs.Windows.{area}
 use Rattle.late_insert.specs.Pages.{IsRecorded, records_in}
 use Rattle.late_insert.proofs.Opening.{empty_page, taken_empty, pages_opened, records-opened}
+use Rattle.late_insert.proofs.Opening.{lengths-opened}
 use Rattle.late_insert.proofs.Summing.{length-records_in}
 use Rattle.late_insert.specs.Moves.{Listed}
 use Rattle.late_insert.proofs.shelf.open_page.Goals as goal
@@ -22,30 +24,37 @@ pub refresh-stair-requires-clause-some : goal.refresh-stair-requires-clause-some
 refresh-stair-requires-clause-some c =
     omega (arith, length-records_in c.store_run.new.frame, ap length c.store_run.ensures.records, c.requires.some)
 
--- what the pages take of the frame
+-- what the pages take of the frame, that it was taken, and its stair
 records : (c : goal.After-push) → records_in c.refresh-stair.new.frame ≡ c.args.run.now
 records c = c.refresh-stair.ensures.records ∙ c.store_run.ensures.records
 
+takes_here : (c : goal.After-push) → Takes c.args.pool.now c.unwrap-id.result c.take_frame.new.self
+takes_here c = rw c.unwrap-id.ensures at c.take_frame.ensures.taken
+
+stair_here : (c : goal.After-push)
+    → to_z w128 (of_z w128 c.refresh-stair.result) ≡ area true (points_of (records_in c.refresh-stair.new.frame))
+stair_here c =
+    let fits : FitsSigned w128 c.refresh-stair.result = search rules in
+    to_z-of_z w128 c.refresh-stair.result fits ∙ (c.refresh-stair.ensures.stair
+    ∙ sym (ap (λ l. area true (points_of l)) c.refresh-stair.ensures.records))
+
 pub returns-clause-pages : goal.returns-clause-pages
 returns-clause-pages c =
-    let fits : FitsSigned w128 c.refresh-stair.result = search rules in
-    let stair = to_z-of_z w128 c.refresh-stair.result fits ∙ (c.refresh-stair.ensures.stair
-    ∙ sym (ap (λ l. area true (points_of l)) c.refresh-stair.ensures.records)) in
-    let takes : Takes c.args.pool.now c.unwrap-id.result c.take_frame.new.self = rw c.unwrap-id.ensures at
-    c.take_frame.ensures.taken in
     rw (ap (λ (s : Listed). s.items) c.push.ensures)
     (pages_opened c.args.pool.now c.take_frame.new.self c.args.pages.now.items c.unwrap-id.result c.args.len
-    c.refresh-stair.new.frame c.args.run.now c.requires.pages takes c.refresh-stair.ensures.page _ stair
-    (records c) c.requires.counted c.requires.some c.requires.rising c.requires.full)
+    c.refresh-stair.new.frame c.args.run.now c.requires.pages (takes_here c) c.refresh-stair.ensures.page _
+    (stair_here c) (records c) c.requires.counted c.requires.some c.requires.rising c.requires.full)
 
 pub returns-clause-records : goal.returns-clause-records
 returns-clause-records c =
-    let fits : FitsSigned w128 c.refresh-stair.result = search rules in
-    let stair = to_z-of_z w128 c.refresh-stair.result fits ∙ (c.refresh-stair.ensures.stair
-    ∙ sym (ap (λ l. area true (points_of l)) c.refresh-stair.ensures.records)) in
-    let takes : Takes c.args.pool.now c.unwrap-id.result c.take_frame.new.self = rw c.unwrap-id.ensures at
-    c.take_frame.ensures.taken in
     rw (ap (λ (s : Listed). s.items) c.push.ensures)
     (records-opened c.args.pool.now c.take_frame.new.self c.args.pages.now.items c.unwrap-id.result c.args.len
-    c.refresh-stair.new.frame c.args.run.now c.requires.pages takes c.refresh-stair.ensures.page _ stair
-    (records c) c.requires.counted c.requires.some c.requires.rising c.requires.full)
+    c.refresh-stair.new.frame c.args.run.now c.requires.pages (takes_here c) c.refresh-stair.ensures.page _
+    (stair_here c) (records c) c.requires.counted c.requires.some c.requires.rising c.requires.full)
+
+pub returns-clause-lengths : goal.returns-clause-lengths
+returns-clause-lengths c =
+    rw (ap (λ (s : Listed). s.items) c.push.ensures)
+    (lengths-opened c.args.pool.now c.take_frame.new.self c.args.pages.now.items c.unwrap-id.result c.args.len
+    c.refresh-stair.new.frame c.args.run.now c.requires.pages (takes_here c) c.refresh-stair.ensures.page _
+    (stair_here c) (records c) c.requires.counted c.requires.some c.requires.rising c.requires.full)

@@ -11,8 +11,9 @@ use Rattle.std.proofs.lemmas.List.{get_or_default, length-set}
 use Rattle.late_insert.proofs.Moving.{length-moved}
 use Rattle.late_insert.specs.Moves.{Listed}
 use Rattle.late_insert.proofs.Finding.{no_page}
-use Rattle.late_insert.proofs.Reading.{IsRead, held_by, read_by, frame_page, frame_rises, page_stair}
-use Rattle.late_insert.proofs.Shelving.{IsShelved, pages_shelved, records-shelved, len-shelved, small_places, page_len}
+use Rattle.late_insert.proofs.Reading.{IsRead, held_by, read_by, frame_page, frame_rises, page_stair, page_len}
+use Rattle.late_insert.proofs.Shelving.{IsShelved, pages_shelved, records-shelved, len-shelved, small_places}
+use Rattle.late_insert.proofs.Shelving.{grown-shelved}
 use Rattle.late_insert.proofs.shelf.put_at.Goals as goal
 
 pub frame_mut-frame-requires : goal.frame_mut-frame-requires
@@ -99,6 +100,14 @@ returns-clause-grown c =
     rw (sym (c.id.ensures.value no_page)) (len-shelved _ _ _ _ _ _ _ _ _ _ c.args.rec _ (stair_here c) (read_here c)
     c.requires.page c.put_rec-grown.ensures.page c.put_rec-grown.ensures.records c.put_rec-grown.ensures.grown
     (shelved_here c))
+
+pub returns-clause-lengths : goal.returns-clause-lengths
+returns-clause-lengths c =
+    let is = read_here c in
+    let short = c.requires.room no_page in
+    rw (sym (c.id.ensures.value no_page)) (grown-shelved _ _ _ _ _ _ _ _ _ _ c.args.rec _ (stair_here c) is
+    c.requires.page c.put_rec-grown.ensures.page c.put_rec-grown.ensures.records c.put_rec-grown.ensures.grown
+    (shelved_here c) (omega (arith, page_len _ _ _ _ _ is no_page)))
 
 pub returns-clause-frames : goal.returns-clause-frames
 returns-clause-frames c = spare-written c.args.pool.now c.id.result.now c.put_rec-grown.new.frame

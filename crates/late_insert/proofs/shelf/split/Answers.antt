@@ -13,7 +13,7 @@ use Rattle.late_insert.specs.Pages.{records_in}
 use Rattle.late_insert.specs.Moves.{Listed, rewritten}
 use Rattle.late_insert.proofs.Finding.{no_page}
 use Rattle.late_insert.proofs.Reading.{IsRead, held_by, read_by, frame_page}
-use Rattle.late_insert.proofs.Shelving.{pages_cut, records-cut, lower_len, upper_len, first_small, full_frame}
+use Rattle.late_insert.proofs.Shelving.{pages_cut, records-cut, lengths-cut, lower_len, upper_len, first_small, full_frame}
 use Rattle.late_insert.proofs.shelf.split.Goals as goal
 
 -- what is no error is a value
@@ -160,6 +160,15 @@ returns-clause-records c =
     let full = full_frame _ _ _ _ _ is (c.requires.full _) in
     rw (list_here c)
     (records-cut _ _ _ _ _ _ _ _ _ _ _ _ (lower_here c) (upper_here c) is full
+    c.cut-halves.ensures.lower c.cut-halves.ensures.upper c.cut-halves.ensures.lower_records
+    c.cut-halves.ensures.upper_records (takes_here c) is.read)
+
+pub returns-clause-lengths : goal.returns-clause-lengths
+returns-clause-lengths c =
+    let is = read_here c in
+    let full = full_frame _ _ _ _ _ is (c.requires.full _) in
+    rw (list_here c)
+    (lengths-cut _ _ _ _ _ _ _ _ _ _ _ _ (lower_here c) (upper_here c) is full
     c.cut-halves.ensures.lower c.cut-halves.ensures.upper c.cut-halves.ensures.lower_records
     c.cut-halves.ensures.upper_records (takes_here c) is.read)
 

@@ -11,4 +11,4 @@ invariant_of-result c =
     let few : c.args.behind < 2 ^ 32 = search rules in
     walk_first c.args.pool.now c.args.pages.now.items c.page_of.result c.args.first c.args.behind c.requires.pages
     c.page_of.ensures.within
-    c.requires.order c.requires.within few c.page_of.ensures.before c.page_of.ensures.after
+    c.requires.order c.requires.within few c.page_of.ensures.last

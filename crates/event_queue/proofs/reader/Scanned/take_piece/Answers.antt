@@ -1,6 +1,6 @@
-use Rattle.std.proofs.Common.{◌≡◌, ◌+◌, ◌∙◌, arith, refl, sym, subst}
+use Rattle.std.proofs.Common.{◌+◌, arith, refl, sym, subst}
 use Rattle.event_queue.specs.Damages.{IsLaneDamage}
-use Rattle.event_queue.specs.Scans.{IsWithin, IsRead}
+use Rattle.event_queue.specs.Scans.{IsRead}
 use Rattle.event_queue.specs.Pieces.{IsOpenSlot}
 use Rattle.event_queue.proofs.Pieces.{handed_on, slot_in, taken_none, taken_shut, taken_open}
 use Rattle.event_queue.proofs.reader.Scanned.take_piece.Goals as goal

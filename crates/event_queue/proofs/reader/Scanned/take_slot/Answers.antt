@@ -1,12 +1,9 @@
 use Rattle.std.proofs.Common.{◌≡◌, ◌+◌, ◌*◌, ◌<◌, ◌⊎◌, inl, inr, ◌++◌, cond, get_or, Some, refl, sym, ap, ◌∙◌}
-use Rattle.std.proofs.Common.{arith, true, false}
+use Rattle.std.proofs.Common.{arith}
 use Rattle.std.proofs.lemmas.Bool.{cond-true, cond-false, true≢false}
-use Rattle.std.specs.List.{All}
-use Rattle.trend_num.specs.Ranges.{InRange}
 use Rattle.archive_file.specs.declared.failure.ScanNo.TheVariants.{Damaged}
 use Rattle.event_queue.specs.Slots.{points_in}
-use Rattle.event_queue.specs.Scans.{Fits}
-use Rattle.event_queue.proofs.Steps.{HasFields, damage_here}
+use Rattle.event_queue.proofs.Steps.{damage_here}
 use Rattle.event_queue.proofs.Taken.{fields_read, within_more, count_breaks, first_breaks, point_breaks}
 use Rattle.event_queue.proofs.Taken.{taken_in}
 use Rattle.event_queue.proofs.reader.Scanned.take_slot.Goals as goal

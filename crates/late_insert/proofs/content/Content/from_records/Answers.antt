@@ -1,8 +1,12 @@
-use Rattle.std.proofs.Common.{◌≡◌, ◌-◌, [], length, fold, take, drop, sym, ap, ◌∙◌, arith}
+use Rattle.std.proofs.Common.{◌≡◌, ◌-◌, [], length, get_or, fold, take, drop, sym, ap, ◌∙◌, subst, arith}
 use Rattle.std.proofs.Math.Seq.{take-add}
 use Rattle.std.proofs.lemmas.List.{length-drop, take_all}
 use Rattle.std.proofs.lemmas.List.Sums.{fold-append}
 use Rattle.trend_model.specs.Contents.{placed, listed}
+use Rattle.trend_model.proofs.Placing.{time, AllBefore}
+use Rattle.late_insert.proofs.Filling.{listed_in_order, next_behind}
+use Rattle.late_insert.proofs.Finding.{no_rec}
+use Rattle.late_insert.proofs.Growing.{full_more}
 use Rattle.late_insert.proofs.content.Content.from_records.Goals as goal
 
 pub loop-done-preserved : goal.loop-done-preserved
@@ -21,5 +25,11 @@ loop-done-preserved c =
           ∙ ap listed (sym (take-add done n recs))));
       within = omega (arith, put.within, ap length rest, length-drop done recs, was.within);
       spare = omega (arith, put.spare, was.spare);
+      filled = λ rises.
+          let same = was.records ∙ listed_in_order recs done rises in
+          let next = subst (λ l. AllBefore c.loop-done.content.records (time (get_or l 0 no_rec))) (sym rest)
+          (subst (λ l. AllBefore l (time (get_or (drop done recs) 0 no_rec))) (sym same)
+          (next_behind recs done no_rec rises c.loop-done-test.true)) in
+          full_more _ n _ (put.behind no_rec next) (was.filled rises);
       room = put.room ∙ was.room;
     }

@@ -18,10 +18,14 @@ loop-low-preserved c =
     c.requires.rising
     c.loop-low.invariant (omega (arith, c.loop-low-test.true)) (omega (arith, c.loop-low-test.true)) late
 
-pub returns-then-begin-x-clause-before : goal.returns-then-begin-x-clause-before
-returns-then-begin-x-clause-before c = λ k d some upto.
+pub returns-then-begin-x-clause-last : goal.returns-then-begin-x-clause-last
+returns-then-begin-x-clause-last c =
     let last = c.len-last.ensures in
     let early = subst (λ n. begin_of c.args.key (get_or c.args.self.now.items (n - 1) no_page) ≤ c.args.x) last
     (subst (λ n. n ≤ c.args.x) (sym (c.begin.ensures no_page)) c.if-begin-x.true) in
-    all_early (begin_of c.args.key) c.args.self.now.items c.args.x no_page c.requires.rising
-    c.requires.some early k d (omega arith)
+    record {
+      before = λ k d some upto.
+          all_early (begin_of c.args.key) c.args.self.now.items c.args.x no_page c.requires.rising
+          c.requires.some early k d (omega arith);
+      after = λ k d past inside. absurd (omega arith);
+    }

@@ -1,0 +1,64 @@
+-- How many records stand on each page of a content, in order, and what a put makes of these numbers.
+use Rattle.std.specs.Prelude.{◌≡◌, ℕ, ◌+◌, ◌-◌, ◌<◌, ◌≤◌, ◌⊎◌, List, ◌∷◌, [], ◌++◌, All, length, take, sum, count_by, nat_lt}
+use Rattle.trend_num.specs.declared.archive.Rec.{Rec}
+use Rattle.late_insert.specs.declared.content.PageTotals.{PageTotals}
+
+-- so many records a page has room for, and half of them
+abbrev pub full_page : ℕ
+full_page = 128
+
+abbrev pub half_page : ℕ
+half_page = 64
+
+-- all records of l are before the time t
+abbrev pub AreBefore : List Rec → ℕ → Type 0
+AreBefore l t = All (λ r. r.point.t < t) l
+
+-- the place of the time t in l: so many records are before it
+abbrev pub place_in : List Rec → ℕ → ℕ
+place_in l t = count_by (λ r. nat_lt r.point.t t) l
+
+-- so many more behind all others: the last page takes them, or, where it is full, a page of their own follows it
+pub record IsFilled (old : List ℕ) (by : ℕ) (new : List ℕ) : Type 0 where
+  pub front : List ℕ
+  pub last : ℕ
+  pub was : old ≡ front ++ last ∷ []
+  pub most : last ≤ full_page
+  pub room : last < full_page → new ≡ front ++ (last + by) ∷ []
+  pub full : last ≡ full_page → new ≡ front ++ last ∷ by ∷ []
+
+-- a page with room, on which the place is, takes so many more
+pub record IsGrown (old : List ℕ) (place by : ℕ) (new : List ℕ) : Type 0 where
+  pub front : List ℕ
+  pub here : ℕ
+  pub back : List ℕ
+  pub was : old ≡ front ++ here ∷ back
+  pub now : new ≡ front ++ (here + by) ∷ back
+  pub room : here < full_page
+  pub from : sum front ≤ place
+  pub upto : place ≤ sum front + here
+
+-- a full page, on which the place is, is split into two halves
+pub record IsHalved (old : List ℕ) (place : ℕ) (new : List ℕ) : Type 0 where
+  pub front : List ℕ
+  pub back : List ℕ
+  pub was : old ≡ front ++ full_page ∷ back
+  pub now : new ≡ front ++ half_page ∷ half_page ∷ back
+  pub from : sum front ≤ place
+  pub upto : place ≤ sum front + full_page
+
+-- so many more at a place among the others: its page takes them, once it was split where it was full
+abbrev pub IsPutAmong : List ℕ → ℕ → ℕ → List ℕ → Type 0
+IsPutAmong old place by new =
+    IsGrown old place by new ⊎ ((halved : List ℕ) × IsHalved old place halved × IsGrown halved place by new)
+
+-- each page but the last is full
+abbrev pub AreFull : List ℕ → Type 0
+AreFull pages = All (λ n. n ≡ full_page) (take (length pages - 1) pages)
+
+-- p is one of these pages: its length stands there, and its first place is behind all records of those before it
+pub record IsOneOf (pages : List ℕ) (p : PageTotals) : Type 0 where
+  pub front : List ℕ
+  pub back : List ℕ
+  pub are : pages ≡ front ++ p.len ∷ back
+  pub first : p.first ≡ sum front
