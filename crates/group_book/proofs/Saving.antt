@@ -1,5 +1,6 @@
 -- A book's history after a save, and after one whose device failed.
-use Rattle.std.proofs.Common.{◌≡◌, ◌⊎◌, ⊎_elim, inl, inr, ℕ, ◌+◌, ◌<◌, ◌≤◌, Bool, true, false, All, List, [], ◌∷◌, ◌++◌, Contains, length, get_or, drop, slice_get, Option, None, Some, IfSome, nat_le, nat_lt, refl, sym, ap, ◌∙◌, subst, arith, lit<, le_trans, if◌then◌else◌}
+use Rattle.std.proofs.Common.{◌≡◌, ◌⊎◌, ⊎_elim, inl, inr, ℕ, ◌+◌, ◌<◌, ◌≤◌, Bool, true, false, All, List, [], ◌∷◌, ◌++◌, Contains, length, get_or, drop, slice_get, Vec, Option, None, Some, IfSome, nat_le, nat_lt, refl, sym, ap, ◌∙◌, subst, arith, lit<, le_trans, if◌then◌else◌}
+use Rattle.std.specs.declared.alloc.Global.{Global}
 use Rattle.std.proofs.lemmas.Bool.{cases_eq}
 use Rattle.std.proofs.lemmas.Bool.Decides.{nat_tests}
 use Rattle.std.proofs.lemmas.List.{take-append-drop}
@@ -18,7 +19,8 @@ use Rattle.calc_check.specs.Group.{Group}
 use Rattle.calc_eval.specs.Number.{IsInRange}
 use Rattle.calc_eval.proofs.Range.{values_range}
 use Rattle.calc_refresh.specs.declared.definition.GroupDefParts.{GroupDefParts}
-use Rattle.calc_refresh.specs.Sheet.{IsGrid, IsGroup, grid_of}
+use Rattle.calc_refresh.specs.Lists.{lists_of}
+use Rattle.calc_refresh.specs.Sheet.{IsGrid, IsGroup, SheetState, grid_of}
 use Rattle.sheet_law.specs.declared.grid.Grid.{Grid}
 use Rattle.sheet_law.specs.Scratch.{IsScratch, points_by, values_at}
 use Rattle.sheet_law.specs.Touched.{longer}
@@ -37,7 +39,7 @@ use Rattle.group_book.specs.Tapes.{Walk, after_turn, cut, saved_at, start, versi
 use Rattle.group_book.specs.Histories.{IsLegal, IsRight, NeverFall}
 use Rattle.group_book.specs.Crashes.{IsSafe, StandsForOne}
 use Rattle.group_book.specs.Saves.{AreInRange, IsListed, IsOther, IsSame, ListsChanges}
-use Rattle.group_book.specs.Told.{Holds, IsKept, IsReady, Saved}
+use Rattle.group_book.specs.Told.{Holds, IsKept, IsReady, Saved, count_of, trace_of}
 use Rattle.group_book.proofs.Cuts.{cut-all, never_refl}
 use Rattle.group_book.proofs.LegalTurns.{cell_scratch}
 use Rattle.group_book.proofs.Turns.{contains_last, contains_left, fit_push, saved_rises, walked-push}
@@ -124,6 +126,29 @@ pub record IsNextBlock (saved : Saved) (calcs : ℕ) (versions : List ℕ) (wind
   pub versions_are : b.versions ≡ versions
   pub windows_are : b.windows ≡ windows
   pub changes : ListsChanges calcs b.windows saved.rows rows b.rows
+
+-- what was made for it is that block
+pub next_block_is : (def : GroupDefParts) (s : SheetState) (saved : Saved) (vs vs' : List ℕ) (old : List (Vec CalcValue Global)) (b : Parts)
+    → s.group ≡ def.calcs → s.grid ≡ grid_of def.start def.period → b.number ≡ saved.number + 1 → b.versions ≡ vs' → vs' ≡ vs
+    → b.windows ≡ complete_windows s.grid s.copies → lists_of old ≡ saved.rows
+    → ListsChanges (length s.group.calcs) b.windows (lists_of old) s.rows b.rows
+    → IsNextBlock saved (length def.calcs.calcs) vs (complete_windows (grid_of def.start def.period) s.copies) s.rows b
+next_block_is def s saved vs vs' old b group grid number versions same windows rows changes = record {
+  number = number;
+  versions_are = versions ∙ same;
+  windows_are = windows ∙ ap (λ w. complete_windows w s.copies) grid;
+  changes = subst (λ l. ListsChanges (length def.calcs.calcs) b.windows l s.rows b.rows) rows
+      (subst (λ g. ListsChanges (length g.calcs) b.windows (lists_of old) s.rows b.rows) group changes);
+}
+
+-- what a device keeps that is there, and of which no call failed
+pub kept_there : {D : Type 0} (trace : D → Option Trace) (ticks faults : D → ℕ) (text : List ℕ) (def : GroupDefParts) (o : GroupOpening)
+    (tape : List Turn) (copies : List (List Rec)) (saved : Saved) (failed : Bool) (dev : Option D) (d : D) → dev ≡ Some d → failed ≡ false
+    → IsKept text def o tape copies saved failed (trace_of trace dev) (count_of ticks dev) (count_of faults dev)
+    → IsKept text def o tape copies saved false (trace d) (ticks d) (faults d)
+kept_there trace ticks faults text def o tape copies saved failed dev d there usable kept =
+    subst (λ x. IsKept text def o tape copies saved false (trace_of trace x) (count_of ticks x) (count_of faults x)) there
+    (subst (λ f. IsKept text def o tape copies saved f (trace_of trace dev) (count_of ticks dev) (count_of faults dev)) usable kept)
 
 -- what a device has while it is written
 abbrev pub IsWriting : Parts → ℕ → Option Trace → List ℕ → Type 0

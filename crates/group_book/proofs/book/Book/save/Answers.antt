@@ -13,7 +13,7 @@ use Rattle.group_book.specs.Crashes.{IsSafe}
 use Rattle.group_book.specs.Histories.{IsLegal}
 use Rattle.group_book.specs.Saves.{IsSaved, ListsChanges}
 use Rattle.group_book.specs.Told.{IsKept, Saved, Told, count_of, trace_of}
-use Rattle.group_book.proofs.Saving.{IsNextBlock, book_saved, kept_faulted, safe_writing}
+use Rattle.group_book.proofs.Saving.{book_saved, kept_faulted, kept_there, next_block_is, safe_writing}
 use Rattle.group_book.proofs.book.Book.save.Goals as goal
 
 pub invariant_of-self-in-Ok : goal.invariant_of-self-in-Ok
@@ -26,21 +26,13 @@ invariant_of-self-in-Ok g c =
     let b = parts_of c.in_ok-block.block in
     let grid = grid_of s.def.start s.def.period in
     let saved : Saved = record { number = s.number; versions = s.saved_versions.items; rows = lists_of s.saved_rows.items; end = s.end } in
-    let kept : IsKept s.text.items s.def s.opening tape copies saved false (D.trace c.in-Some.dev) (D.ticks c.in-Some.dev) (D.fault_count c.in-Some.dev)
-    = subst (λ d. IsKept s.text.items s.def s.opening tape copies saved false (trace_of D.trace d) (count_of D.ticks d) (count_of D.fault_count d))
-    c.in-Some.is
-    (subst (λ (f : Bool). IsKept s.text.items s.def s.opening tape copies saved f (trace_of D.trace s.dev) (count_of D.ticks s.dev)
-    (count_of D.fault_count s.dev)) c.if-self.false was.2) in
+    let kept = kept_there D.trace D.ticks D.fault_count s.text.items s.def s.opening tape copies saved s.failed s.dev c.in-Some.dev
+    c.in-Some.is c.if-self.false was.2 in
     let safe : IsSafe s.text.items s.def.calcs grid s.opening copies tape (LeftSince (D.trace c.in-Some.dev))
     = subst (λ d. IsSafe s.text.items s.def.calcs grid s.opening copies tape (LeftSince (trace_of D.trace d))) c.in-Some.is was.3 in
-    let is : IsNextBlock saved (length s.def.calcs.calcs) s.versions.items (complete_windows grid copies) s.sheet.rows b = record {
-      number = c.in_ok-block.ensures.number;
-      versions_are = c.in_ok-block.ensures.versions ∙ c.deref-2.ensures.value;
-      windows_are = c.in_ok-block.ensures.windows ∙ ap (λ (w : Grid). complete_windows w copies) was.0.same_grid;
-      changes = subst (λ l. ListsChanges (length s.def.calcs.calcs) b.windows l s.sheet.rows b.rows) (ap lists_of c.deref-3.ensures.value)
-          (subst (λ (x : Group). ListsChanges (length x.calcs) b.windows (lists_of c.deref-3.result.now) s.sheet.rows b.rows) was.0.same_group
-          c.in_ok-block.ensures.rows);
-    } in
+    let is = next_block_is s.def s.sheet saved s.versions.items c.deref-2.result.now c.deref-3.result.now b was.0.same_group was.0.same_grid
+    c.in_ok-block.ensures.number c.in_ok-block.ensures.versions c.deref-2.ensures.value c.in_ok-block.ensures.windows
+    (ap lists_of c.deref-3.ensures.value) c.in_ok-block.ensures.rows in
     let moment : ℕ = D.ticks c.put_block.new.dev in
     let longer : c.push_reserved.new.self.items ≡ tape ++ Save b.number moment ∷ []
     = c.push_reserved.ensures.items
@@ -138,21 +130,13 @@ invariant_of-self-in-Err-DeviceFault g c =
     let b = parts_of c.in_ok-block.block in
     let grid = grid_of s.def.start s.def.period in
     let saved : Saved = record { number = s.number; versions = s.saved_versions.items; rows = lists_of s.saved_rows.items; end = s.end } in
-    let kept : IsKept s.text.items s.def s.opening tape copies saved false (D.trace c.in-Some.dev) (D.ticks c.in-Some.dev) (D.fault_count c.in-Some.dev)
-    = subst (λ d. IsKept s.text.items s.def s.opening tape copies saved false (trace_of D.trace d) (count_of D.ticks d) (count_of D.fault_count d))
-    c.in-Some.is
-    (subst (λ (f : Bool). IsKept s.text.items s.def s.opening tape copies saved f (trace_of D.trace s.dev) (count_of D.ticks s.dev)
-    (count_of D.fault_count s.dev)) c.if-self.false was.2) in
+    let kept = kept_there D.trace D.ticks D.fault_count s.text.items s.def s.opening tape copies saved s.failed s.dev c.in-Some.dev
+    c.in-Some.is c.if-self.false was.2 in
     let safe : IsSafe s.text.items s.def.calcs grid s.opening copies tape (LeftSince (D.trace c.in-Some.dev))
     = subst (λ d. IsSafe s.text.items s.def.calcs grid s.opening copies tape (LeftSince (trace_of D.trace d))) c.in-Some.is was.3 in
-    let is : IsNextBlock saved (length s.def.calcs.calcs) s.versions.items (complete_windows grid copies) s.sheet.rows b = record {
-      number = c.in_ok-block.ensures.number;
-      versions_are = c.in_ok-block.ensures.versions ∙ c.deref-2.ensures.value;
-      windows_are = c.in_ok-block.ensures.windows ∙ ap (λ (w : Grid). complete_windows w copies) was.0.same_grid;
-      changes = subst (λ l. ListsChanges (length s.def.calcs.calcs) b.windows l s.sheet.rows b.rows) (ap lists_of c.deref-3.ensures.value)
-          (subst (λ (x : Group). ListsChanges (length x.calcs) b.windows (lists_of c.deref-3.result.now) s.sheet.rows b.rows) was.0.same_group
-          c.in_ok-block.ensures.rows);
-    } in
+    let is = next_block_is s.def s.sheet saved s.versions.items c.deref-2.result.now c.deref-3.result.now b was.0.same_group was.0.same_grid
+    c.in_ok-block.ensures.number c.in_ok-block.ensures.versions c.deref-2.ensures.value c.in_ok-block.ensures.windows
+    (ap lists_of c.deref-3.ensures.value) c.in_ok-block.ensures.rows in
     let new = D.trace c.put_block.new.dev in
     let ticks' : ℕ = D.ticks c.put_block.new.dev in
     let faults' : ℕ = D.fault_count c.put_block.new.dev in
