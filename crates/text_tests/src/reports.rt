@@ -5,7 +5,8 @@ use std::process::Abort;
 use std::test::Fail;
 use trend_num::{Bad, CalcValue, name_from};
 use trend_report::{
-    Frac, Point, PointList, Reading, Reply, ReplyText, Snap, TagLine, reply_text, tag_text,
+    Frac, GroupLine, LastRow, Point, PointList, Reading, Reply, ReplyText, Snap, TagLine,
+    group_text, reply_text, tag_text,
 };
 
 #[test]
@@ -25,6 +26,41 @@ fn a_tag_is_told(rt: HostRuntime) -> Result<(), Fail> {
         tag_text(rt.alloc(), &line)?
             .as_str()
             .ends_with(" held=none\n")
+    );
+    Ok(())
+}
+
+// The lines of a group `g` with so many windows, and the last value of its calculation `m`.
+fn group_told(alloc: Global, windows: u32, value: Option<CalcValue>) -> Result<String, Fail> {
+    let mut lasts = Vec::new(alloc);
+    lasts.push(LastRow {
+        calc: name_from(b"m").ok_or("name")?,
+        value,
+    })?;
+    let line = GroupLine {
+        name: name_from(b"g").ok_or("name")?,
+        windows,
+        refreshes: 1,
+        evals: u64::from(windows),
+        lasts,
+    };
+    Ok(group_text(alloc, &line)?)
+}
+
+#[test]
+fn a_group_is_told(rt: HostRuntime) -> Result<(), Fail> {
+    let alloc = rt.alloc();
+    assert_eq!(rt;
+        group_told(alloc, 3, Some(CalcValue::Num(-20)))?.as_str(),
+        "group g windows=3 refreshes=1 evals=3\ncalc g m 2 -20\n"
+    );
+    assert_eq!(rt;
+        group_told(alloc, 1, Some(CalcValue::Bad(Bad::DivZero)))?.as_str(),
+        "group g windows=1 refreshes=1 evals=1\ncalc g m 0 bad divzero\n"
+    );
+    assert_eq!(rt;
+        group_told(alloc, 0, None)?.as_str(),
+        "group g windows=0 refreshes=1 evals=0\ncalc g m none\n"
     );
     Ok(())
 }

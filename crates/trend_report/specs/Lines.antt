@@ -1,5 +1,5 @@
 -- The lines of a report, byte for byte.
-use Rattle.std.specs.Prelude.{List, ◌++◌, Bool, true, false, Option, None, Some, codes, ℕ, ℤ, pos, ◌==◌, if◌then◌else◌}
+use Rattle.std.specs.Prelude.{List, ◌++◌, Bool, true, false, Option, None, Some, codes, ℕ, ℤ, pos, ◌-◌, ◌==◌, if◌then◌else◌}
 use Rattle.std.specs.Fmt.{decimal, signed_decimal}
 use Rattle.std.specs.List.{flat_map}
 use Rattle.trend_num.specs.declared.point.Point.{Point}
@@ -12,6 +12,8 @@ use Rattle.trend_num.specs.declared.value.Bad.{Bad as Cause}
 use Rattle.trend_num.specs.declared.value.Bad.TheVariants.{NoData, DivZero, Range}
 use Rattle.trend_num.specs.declared.value.CalcValue.{CalcValue}
 use Rattle.trend_num.specs.declared.value.CalcValue.TheVariants.{Num, Bad}
+use Rattle.trend_report.specs.declared.group_line.GroupLine.{GroupLine}
+use Rattle.trend_report.specs.declared.group_line.LastRow.{LastRow}
 use Rattle.trend_report.specs.declared.tag_line.TagLine.{TagLine}
 use Rattle.trend_report.specs.declared.reply_line.ReplyText.{ReplyText}
 use Rattle.trend_report.specs.declared.reply_line.ReplyText.TheVariants.{Tag, Snap, Row}
@@ -89,3 +91,24 @@ told_text (Row value) = value_text value
 abbrev pub reply_text : ℕ → ℕ → ReplyText → List ℕ
 reply_text reader row r = codes "reply " ++ decimal reader ++ codes " " ++ decimal row ++ codes " "
     ++ told_text r ++ codes "\n"
+
+-- ---- groups
+
+-- `group NAME windows=W refreshes=N evals=E`
+abbrev pub heading_text : GroupLine → List ℕ
+heading_text g = codes "group " ++ g.name ++ codes " windows=" ++ decimal g.windows ++ codes " refreshes=" ++ decimal g.refreshes
+    ++ codes " evals=" ++ decimal g.evals ++ codes "\n"
+
+-- what follows the names of a group and a calculation: the last of so many windows and the value there, if there is one
+abbrev pub last_value_text : ℕ → Option CalcValue → List ℕ
+last_value_text windows None = codes "none"
+last_value_text windows (Some v) = decimal (windows - 1) ++ codes " " ++ value_text (Some v)
+
+-- `calc GROUP NAME K VALUE`, or `calc GROUP NAME none`
+abbrev pub last_text : List ℕ → ℕ → LastRow → List ℕ
+last_text group windows l =
+    codes "calc " ++ group ++ codes " " ++ l.calc ++ codes " " ++ last_value_text windows l.value ++ codes "\n"
+
+-- these lines, one behind the other
+abbrev pub group_text : GroupLine → List ℕ
+group_text g = heading_text g ++ flat_map (last_text g.name g.windows) g.lasts.items

@@ -1,14 +1,16 @@
-//! The lines of a report: what a session has made of each tag, and the answers to the queries of its readers.
+//! The lines of a report: what a session has made of each tag and of each group, and the answers to the queries of its readers.
 //!
-//! Each line is one text, and its bytes are those of the definition of the same name: `tag_text` and
-//! `reply_text`. A fraction on a line between two points is rounded to the whole number next to it, the upper
+//! Each line is one text, and its bytes are those of the definition of the same name: `tag_text`,
+//! `group_text` and `reply_text`. A fraction on a line between two points is rounded to the whole number next to it, the upper
 //! one where two are as near. The one error is want of memory.
 #![tactic(auto)]
 
+mod group_line;
 mod point_text;
 mod reply_line;
 mod tag_line;
 
+pub use group_line::{GroupLine, LastRow, group_text};
 pub use interp_read::{PointList, Reading, Reply};
 pub use reply_line::{ReplyText, reply_text};
 pub use tag_line::{TagLine, tag_text};

@@ -108,7 +108,7 @@ fn put_number(text: &mut String, number: Option<i128>) -> Result<(), AllocError>
 }
 
 /// Adds the value of a calculation, or `none` where there is none.
-fn put_value(text: &mut String, value: Option<CalcValue>) -> Result<(), AllocError>
+pub(crate) fn put_value(text: &mut String, value: Option<CalcValue>) -> Result<(), AllocError>
     ensures { OnOk result (string_bytes text.new ≡ string_bytes text.old ++ value_text value) }
 {
     match value {
