@@ -8,3 +8,5 @@ pub mod Cursors
 pub mod Items
 pub mod Pulls
 pub mod MoreTurns
+pub mod Saves
+pub mod Laws

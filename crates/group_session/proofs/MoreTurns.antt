@@ -24,7 +24,7 @@ use Rattle.group_session.specs.Books.{AreEach, IsNoAsk, IsRefreshedMore, tape_of
 use Rattle.group_session.specs.Inputs.{IsInputsOf}
 use Rattle.group_session.specs.Refreshing.{ArePullsOf, IsPullOf, durable_numbers, new_records}
 use Rattle.group_session.specs.Refusals.{IsPullRefusal, IsRefusalOf, pull_refusal}
-use Rattle.group_session.specs.Tapes.{refreshes, row_ask_of, versions_of}
+use Rattle.group_session.specs.Tapes.{refreshes, row_ask_of, reached_by}
 
 -- ---- pulls of the first inputs
 
@@ -193,7 +193,7 @@ pub published_count : {D : Type 0} (mores : List (List Rec)) (old new : Book D) 
     → length (refreshes new.tape) ≡ length (refreshes old.tape) + 1
 published_count mores old new p =
     ap (λ b. length (refreshes b.tape)) p.changed
-    ∙ (ap length (filter_map-append versions_of old.tape (Refresh p.versions ∷ []))
+    ∙ (ap length (filter_map-append reached_by old.tape (Refresh p.versions ∷ []))
     ∙ length-append (refreshes old.tape) (p.versions.items ∷ []))
 
 -- ---- what a refresh asks and says of cells and books that went on

@@ -7,7 +7,7 @@ use Rattle.group_book.specs.declared.turn.Turn.{Turn}
 use Rattle.group_book.specs.declared.turn.Turn.TheVariants.{Refresh, Ask, Save}
 use Rattle.group_book.specs.Told.{Told}
 use Rattle.group_session.specs.Books.{AreEach, IsAsk, IsAskedMore}
-use Rattle.group_session.specs.Tapes.{refreshes, versions_of}
+use Rattle.group_session.specs.Tapes.{refreshes, reached_by}
 use Rattle.group_session.specs.Turns.{IsWithinTurns}
 
 -- ---- one turn more
@@ -16,7 +16,7 @@ one_more : (tape : List Turn) (i : ℕ) (e : Turn) → i < length tape → e ≡
     → refreshes (take (i + 1) tape) ≡ refreshes (take i tape) ++ refreshes (e ∷ [])
 one_more tape i e within is =
     ap refreshes (take_more tape i e within ∙ ap (λ x. take i tape ++ x ∷ []) (sym is))
-    ∙ filter_map-append versions_of (take i tape) (e ∷ [])
+    ∙ filter_map-append reached_by (take i tape) (e ∷ [])
 
 pub count_yes : (tape : List Turn) (i : ℕ) (e : Turn) (versions : _) → i < length tape → e ≡ get_or tape i e
     → e ≡ Refresh versions → length (refreshes (take (i + 1) tape)) ≡ length (refreshes (take i tape)) + 1
@@ -48,7 +48,7 @@ asks_refresh_none (Save number moment ∷ more) each = absurd (All-head IsAsk (S
 -- so a book that was asked has as many as before
 pub asked_refreshes : {D : Type 0} (old new : Told D) → IsAskedMore old new → refreshes new.tape ≡ refreshes old.tape
 asked_refreshes old new step =
-    ap (λ b. refreshes b.tape) step.changed ∙ (filter_map-append versions_of old.tape step.more
+    ap (λ b. refreshes b.tape) step.changed ∙ (filter_map-append reached_by old.tape step.more
     ∙ (ap (λ l. refreshes old.tape ++ l) (asks_refresh_none step.more step.each) ∙ append-nil (refreshes old.tape)))
 
 pub asked_within : {D : Type 0} (turns : List ℕ) (old new : List (Told D)) → AreEach IsAskedMore old new

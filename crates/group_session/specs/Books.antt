@@ -3,7 +3,7 @@ use Rattle.std.specs.Prelude.{◌≡◌, ℕ, ◌<◌, List, ◌++◌, All, leng
 use Rattle.value_rows.specs.declared.asked.Query.{Query}
 use Rattle.value_rows.specs.declared.asked.Query.TheVariants as query
 use Rattle.group_book.specs.declared.turn.Turn.{Turn}
-use Rattle.group_book.specs.declared.turn.Turn.TheVariants.{Refresh, Ask, Save}
+use Rattle.group_book.specs.declared.turn.Turn.TheVariants.{Ask}
 use Rattle.group_book.specs.Told.{Told}
 
 abbrev pub tape_of : {D : Type 0} → Told D → List Turn

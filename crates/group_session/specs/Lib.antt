@@ -1,5 +1,6 @@
 pub mod Asking
 pub mod Books
+pub mod Durable
 pub mod Finding
 pub mod Inputs
 pub mod Numbers

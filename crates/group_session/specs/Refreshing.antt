@@ -1,5 +1,5 @@
 -- Groups that are refreshed from the cells of their inputs.
-use Rattle.std.specs.Prelude.{◌≡◌, ℕ, ◌+◌, ◌<◌, List, [], ◌∷◌, ◌++◌, All, drop, length, map, slice_index, slice_index_or, ⊤}
+use Rattle.std.specs.Prelude.{◌≡◌, ℕ, ◌+◌, ◌<◌, List, [], ◌∷◌, ◌++◌, All, IsSome, drop, length, map, slice_index, slice_index_or, ⊤}
 use Rattle.trend_num.specs.declared.archive.Rec.{Rec}
 use Rattle.calc_refresh.specs.Sheet.{IsCopy}
 use Rattle.tag_cell.specs.declared.entry.Entry.{Entry}
@@ -7,6 +7,8 @@ use Rattle.tag_cell.specs.declared.entry.Entry.TheVariants.{Pull}
 use Rattle.tag_cell.specs.declared.entry.Pulled.{Pulled}
 use Rattle.tag_cell.specs.Told.{Told as Cell, durable_records}
 use Rattle.tape_audit.specs.Agendas.{numbered}
+use Rattle.group_book.specs.declared.turn.Turn.{Turn}
+use Rattle.group_book.specs.declared.turn.Turn.TheVariants.{Save}
 use Rattle.group_book.specs.Told.{GoesOn, Told as Book, pulled_records, versions_of}
 use Rattle.group_session.specs.Tapes.{refreshes}
 
@@ -51,10 +53,25 @@ pub record IsPulledMore {C : Type 0} (old new : Cell C) : Type 0 where
   pub each : All IsPull more
   pub changed : new ≡ record old { tape = old.tape ++ more }
 
--- a book has made its turns and one more, and has as many records of each input as no crash takes away
+-- a tape ends in a save
+pub record EndsInSave (tape : List Turn) : Type 0 where
+  pub before : List Turn
+  pub number : ℕ
+  pub moment : ℕ
+  pub is : tape ≡ before ++ Save number moment ∷ []
+
+-- a book was saved, if it has a device
+pub record IsSavedOn {D : Type 0} (old new : Book D) : Type 0 where
+  pub same_refreshes : refreshes new.tape ≡ refreshes old.tape
+  pub same_sheet : new.sheet ≡ old.sheet
+  pub last : IsSome new.dev → EndsInSave new.tape
+
+-- a book has made its turns and one more, has as many records of each input as no crash takes away, and was saved then, if it
+-- has a device
 pub record IsRefreshedTo {D : Type 0} (durables : List (List Rec)) (tags : List ℕ) (turns : ℕ) (book : Book D) : Type 0 where
   pub refreshed : length (refreshes book.tape) ≡ turns + 1
   pub versions : versions_of book ≡ durable_numbers durables tags
+  pub saved : IsSome book.dev → EndsInSave book.tape
 
 -- so has each
 pub record AreRefreshed {D : Type 0} (durables : List (List Rec)) (inputs : List (List ℕ)) (turns : List ℕ)

@@ -14,13 +14,13 @@ row_ask_of (Ask reader row calc k reply) = Some (record { worker = reader; seen 
 row_ask_of other = None
 
 -- the versions that a refresh reached
-abbrev pub versions_of : Turn → Option (List ℕ)
-versions_of (Refresh versions) = Some versions.items
-versions_of other = None
+abbrev pub reached_by : Turn → Option (List ℕ)
+reached_by (Refresh versions) = Some versions.items
+reached_by other = None
 
 -- those of the refreshes of a tape, in order
 abbrev pub refreshes : List Turn → List (List ℕ)
-refreshes tape = filter_map versions_of tape
+refreshes tape = filter_map reached_by tape
 
 -- the versions of one input there
 abbrev pub reached : ℕ → List Turn → List ℕ

@@ -1,4 +1,4 @@
-// The refreshes that groups lack are made, and then one more.
+// The refreshes that groups lack are made, and then one more and a save.
 ghost use Rattle.std.specs.Prelude.{◌≡◌, ◌^◌, ◌<◌, ◌≤◌, List, [], IfErr, IfOk, OnErr, OnOk, length, slice_index_or};
 ghost use Rattle.value_rows.specs.declared.asked.Query.{Query};
 ghost use Rattle.value_rows.specs.declared.raw.RawRow.{RawRow};
@@ -10,23 +10,23 @@ ghost use Rattle.plant_session.specs.Workers.{AreTapesWhole};
 ghost use Rattle.group_book.specs.Told.{IsPublished, versions_of};
 ghost use Rattle.group_session.specs.Books.{AreEach, IsRefreshedMore, tape_of};
 ghost use Rattle.group_session.specs.Inputs.{AreInputs, IsInputsOf};
-ghost use Rattle.group_session.specs.Refreshing.{ArePullsOf, AreRefreshed, IsPullOf, IsPulledMore, IsRefreshedTo, durable_lists, durable_numbers, new_records};
-ghost use Rattle.group_session.specs.Refusals.{IsBookRefusal, IsPullRefusal, IsRefreshRefusal, IsRefusalOf, pull_refusal, refresh_status};
+ghost use Rattle.group_session.specs.Refreshing.{ArePullsOf, AreRefreshed, IsPullOf, IsPulledMore, IsRefreshedTo, IsSavedOn, durable_lists, durable_numbers, new_records};
+ghost use Rattle.group_session.specs.Refusals.{IsBookRefusal, IsPullRefusal, IsRefreshRefusal, IsRefusalOf, IsSaveRefusal, pull_refusal, refresh_status, save_status};
 ghost use Rattle.group_session.specs.Tapes.{refreshes, row_ask_of};
 ghost use Rattle.group_session.specs.Turns.{IsWithinTurns};
 
 use crate::turns::count_refreshes;
 use disk_model::Disk;
-use group_book::{Book, RefreshNo};
-use plant_status::{Place, Seen, Status, What};
+use group_book::{Book, RefreshNo, SaveNo};
+use plant_status::{Place, Seen, Status, Unit, What};
 use std::alloc::Global;
 use std::sync::ledger::Ledger;
 use tag_cell::{Cell, PullNo, Pulled};
 use trend_num::Steps;
 
 /// Makes of each group the turns that its tape lacks, and then one more. Each pulls from the cell of each input, in the order of
-/// the inputs, and takes what was pulled into account. `inputs` tells the tags of each group's inputs, `turns` how many turns it
-/// has. It ends at the first group that cannot be refreshed.
+/// the inputs, and takes what was pulled into account. Then it saves the group. `inputs` tells the tags of each group's inputs,
+/// `turns` how many turns it has. It ends at the first group that cannot be refreshed or saved.
 pub fn refresh_missing<C: Disk, D: Disk, L: Ledger>(
     alloc: Global,
     cells: &mut [Cell<C>],
@@ -67,7 +67,7 @@ pub fn refresh_missing<C: Disk, D: Disk, L: Ledger>(
     Ok(())
 }
 
-// Makes the turns that a group lacks, and then one more.
+// Makes the turns that a group lacks, and then one more, and saves it.
 fn refresh_group<C: Disk, D: Disk, L: Ledger>(
     alloc: Global,
     cells: &mut [Cell<C>],
@@ -90,7 +90,31 @@ fn refresh_group<C: Disk, D: Disk, L: Ledger>(
             return Err(refusal_of(group, no));
         }
     }
-    Ok(())
+    save_group(book, group)
+}
+
+// Saves a group, if it has a device.
+fn save_group<D: Disk>(book: &mut Book<D>, group: u32) -> Result<(), Status>
+    ensures saved { OnOk result (IsSavedOn book.old book.new) }
+    ensures gained { IsRefreshedMore book.old book.new }
+    ensures refused { IfErr result (IsSaveRefusal group book.new) }
+{
+    match book.save() {
+        Ok(()) => Ok(()),
+        Err(no) => Err(save_refusal(group, no)),
+    }
+}
+
+// What a save that is refused is answered with.
+fn save_refusal(group: u32, no: SaveNo) -> Status
+    ensures { result ≡ save_status group no }
+{
+    match no {
+        SaveNo::Broken | SaveNo::DeviceFault => Status::DeviceFault {
+            unit: Unit::Group(group),
+        },
+        SaveNo::WantOfMemory => Status::WantOfMemory,
+    }
 }
 
 // Makes one turn of a group.

@@ -1,4 +1,4 @@
-use Rattle.std.proofs.Common.{◌≤◌, arith}
+use Rattle.std.proofs.Common.{arith}
 use Rattle.group_session.proofs.Items.{differs_so, kept_so}
 use Rattle.group_session.proofs.Marks.{parts_all}
 use Rattle.group_session.proofs.comparing.compare_book.Goals as goal

@@ -1,10 +1,6 @@
-use Rattle.std.proofs.Common.{◌≡◌, ◌∙◌, List, length, Result, Ok, Err, Vec, OnOk, ap, sym, subst, arith}
-use Rattle.std.specs.declared.alloc.Global.{Global}
-use Rattle.std.proofs.lemmas.List.{length-map}
-use Rattle.trend_num.specs.declared.value.CalcValue.{CalcValue}
+use Rattle.std.proofs.Common.{◌≡◌, ◌∙◌, length, OnOk, ap, sym, subst}
 use Rattle.calc_refresh.specs.Lists.{lists_of}
-use Rattle.group_session.specs.Openings.{DifferSo, IsSameOpening, items_of}
-use Rattle.group_session.specs.Openings.DifferSo.{InNumber, InRows}
+use Rattle.group_session.specs.Openings.DifferSo.{InNumber}
 use Rattle.group_session.proofs.Items.{opened_same, rows_counted}
 use Rattle.group_session.proofs.comparing.compare_opening.Goals as goal
 

@@ -1,4 +1,4 @@
-use Rattle.std.proofs.Common.{◌∙◌, List, length, sym, subst, arith, Vec}
+use Rattle.std.proofs.Common.{List, sym, subst, arith, Vec}
 use Rattle.std.specs.declared.alloc.Global.{Global}
 use Rattle.std.proofs.lemmas.List.{length-map}
 use Rattle.trend_num.specs.declared.value.CalcValue.{CalcValue}

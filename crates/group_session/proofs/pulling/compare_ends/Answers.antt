@@ -1,4 +1,4 @@
-use Rattle.std.proofs.Common.{◌≡◌, ◌≢◌, ◌∙◌, None, Some, ap, sym, subst, arith}
+use Rattle.std.proofs.Common.{◌≡◌, ◌≢◌, ◌∙◌, None, ap, sym, subst, arith}
 use Rattle.group_session.specs.Pulls.{IsNextOf}
 use Rattle.group_session.specs.Tapes.{pulled, reached}
 use Rattle.group_session.proofs.Cursors.{apart_next, drop_next, none_of, number_of, same_end, same_next}

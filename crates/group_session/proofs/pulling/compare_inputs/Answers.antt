@@ -1,4 +1,4 @@
-use Rattle.std.proofs.Common.{◌≡◌, ◌<◌, ◌∙◌, inl, inr, Some, ap, sym, subst, arith, get_or, length}
+use Rattle.std.proofs.Common.{◌<◌, ◌∙◌, inl, inr, Some, ap, sym, subst, arith, get_or, length}
 use Rattle.std.proofs.lemmas.Bool.{cases_eq}
 use Rattle.std.proofs.lemmas.List.{get_or_default}
 use Rattle.std.proofs.lemmas.List.Elements.{All-get_or}

@@ -1,4 +1,4 @@
-use Rattle.std.proofs.Common.{◌≡◌, ◌<◌, ◌∙◌, ◌+◌, [], sym, subst, ap, arith, get_or, length}
+use Rattle.std.proofs.Common.{◌<◌, ◌+◌, [], sym, subst, arith, get_or, length}
 use Rattle.std.proofs.lemmas.List.Elements.{All-get_or}
 use Rattle.group_session.specs.Refreshing.{IsPullOf, IsPulledMore, durable_lists}
 use Rattle.group_session.specs.Refusals.{IsPullRefusal}

@@ -1,5 +1,4 @@
-use Rattle.std.proofs.Common.{◌≡◌, ◌∙◌, [], Err, ap, drop, length, sym, subst, get_or}
-use Rattle.tag_cell.specs.Told.{durable_records}
+use Rattle.std.proofs.Common.{◌∙◌, [], Err, ap, drop, length, sym, subst, get_or}
 use Rattle.group_session.specs.Refreshing.{IsPulledMore, durable_lists}
 use Rattle.group_session.specs.Refusals.{IsPullRefusal}
 use Rattle.group_session.proofs.Each.{each_refl, each_set}

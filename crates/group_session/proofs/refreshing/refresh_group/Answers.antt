@@ -1,9 +1,10 @@
-use Rattle.std.proofs.Common.{◌≡◌, ◌<◌, ◌+◌, ◌∙◌, ap, sym, subst, arith, length}
-use Rattle.group_book.specs.Told.{versions_of}
+use Rattle.std.proofs.Common.{◌+◌, ◌∙◌, ap, sym, arith, length}
 use Rattle.group_session.specs.Refreshing.{IsPulledMore, durable_lists, durable_numbers, new_records}
 use Rattle.group_session.specs.Tapes.{refreshes}
 use Rattle.group_session.proofs.Each.{each_refl, each_trans}
 use Rattle.group_session.proofs.MoreTurns.{inputs_stay, published_count, published_more, refreshed_refl, refreshed_trans, refusal_stays}
+use Rattle.group_session.specs.Refusals.IsBookRefusal.{OfRefresh}
+use Rattle.group_session.proofs.Saves.{save_refused, saved_to}
 use Rattle.group_session.proofs.Pulls.{lists_same, pulled_refl, pulled_trans}
 use Rattle.group_session.proofs.refreshing.refresh_group.Goals as goal
 
@@ -24,14 +25,11 @@ returns-in-Err-clause-pulled g c =
     c.refresh_once.ensures.pulled
 
 pub returns-in-Err-clause-refused : goal.returns-in-Err-clause-refused
-returns-in-Err-clause-refused g c = record {
-  why = c.in-Err.no;
-  cause = refusal_stays (durable_lists c.loop-turn.cells) (durable_lists c.refresh_once.new.cells) c.args.tags.now
-      c.loop-turn.book c.refresh_once.new.book c.in-Err.no
-      (lists_same c.loop-turn.cells c.refresh_once.new.cells c.refresh_once.ensures.pulled) c.in-Err.ensures.unchanged
-      c.in-Err.ensures.refused;
-  told = c.refusal_of.ensures;
-}
+returns-in-Err-clause-refused g c =
+    OfRefresh c.in-Err.no
+    (refusal_stays (durable_lists c.loop-turn.cells) (durable_lists c.refresh_once.new.cells) c.args.tags.now c.loop-turn.book
+    c.refresh_once.new.book c.in-Err.no (lists_same c.loop-turn.cells c.refresh_once.new.cells c.refresh_once.ensures.pulled)
+    c.in-Err.ensures.unchanged c.in-Err.ensures.refused) c.refusal_of.ensures
 
 pub loop-turn-preserved : goal.loop-turn-preserved
 loop-turn-preserved g c =
@@ -56,15 +54,24 @@ loop-turn-preserved g c =
 pub returns-clause-refreshed : goal.returns-clause-refreshed
 returns-clause-refreshed g c =
     let end = c.loop-turn.invariant in
-    record {
-      refreshed = omega (
-        arith,
-        end.count,
-        c.loop-turn-test.false,
-        c.loop-turn.auto.turn-end,
-        c.requires.within,
-        c.count_refreshes-made.ensures.count,
-        ap (λ t. length (refreshes t)) c.tape.ensures,
-      );
-      versions = end.versions (omega (arith, c.loop-turn-test.false, c.requires.within));
-    }
+    saved_to (durable_lists c.loop-turn.cells) c.args.tags.now c.args.turns c.loop-turn.book c.save_group.new.book
+    c.save_group.result
+    (omega (
+      arith,
+      end.count,
+      c.loop-turn-test.false,
+      c.loop-turn.auto.turn-end,
+      c.requires.within,
+      c.count_refreshes-made.ensures.count,
+      ap (λ t. length (refreshes t)) c.tape.ensures,
+    ))
+    (end.versions (omega (arith, c.loop-turn-test.false, c.requires.within))) c.save_group.ensures.saved
+
+pub returns-clause-gained : goal.returns-clause-gained
+returns-clause-gained g c =
+    refreshed_trans c.args.book.now c.loop-turn.book c.save_group.new.book c.loop-turn.invariant.gained c.save_group.ensures.gained
+
+pub returns-clause-refused : goal.returns-clause-refused
+returns-clause-refused g c =
+    save_refused (durable_lists c.loop-turn.cells) c.args.tags.now c.args.group c.save_group.new.book c.save_group.result
+    c.save_group.ensures.refused

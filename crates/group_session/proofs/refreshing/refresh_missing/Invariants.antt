@@ -1,4 +1,4 @@
-use Rattle.std.proofs.Common.{◌≡◌, ◌<◌, ◌≤◌, ℕ, [], get_or, length}
+use Rattle.std.proofs.Common.{◌≡◌, ◌<◌, ◌≤◌, ℕ, [], get_or}
 use Rattle.calc_refresh.specs.Lists.{lists_of}
 use Rattle.group_book.specs.Told.{Told}
 use Rattle.group_session.specs.Books.{AreEach, IsRefreshedMore}

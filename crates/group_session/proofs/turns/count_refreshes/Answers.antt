@@ -1,4 +1,4 @@
-use Rattle.std.proofs.Common.{◌∙◌, ap, sym, arith}
+use Rattle.std.proofs.Common.{arith}
 use Rattle.group_session.proofs.Refreshes.{count_no, count_yes}
 use Rattle.group_session.proofs.turns.count_refreshes.Goals.{in-Refresh, in_default}
 use Rattle.group_session.proofs.turns.count_refreshes.Goals as goal
