@@ -1,5 +1,5 @@
--- The names of the groups of a base.
-use Rattle.std.proofs.Common.{◌≡◌, ℕ, ◌<◌, List, [], ◌∷◌, ◌++◌, length, map, refl, suc, zero, ap, subst, ◌∙◌, All}
+-- The names of the tags and of the groups of a base.
+use Rattle.std.proofs.Common.{◌≡◌, ℕ, ◌<◌, List, [], ◌∷◌, ◌++◌, length, map, refl, suc, zero, ap, subst, ◌∙◌, All, Vec}
 use Rattle.std.proofs.lemmas.List.{length-map}
 use Rattle.std.specs.List.{slice_index_or}
 use Rattle.calc_check.specs.Group.{calculation, names_of}
@@ -7,12 +7,15 @@ use Rattle.calc_check.specs.declared.definition.CalcDef.{CalcDef}
 use Rattle.tag_base.specs.declared.definition.Base.{Base}
 use Rattle.tag_base.specs.declared.definition.GroupDef.{GroupDef}
 use Rattle.value_rows.specs.Asked.{IsQuery}
+use Rattle.value_rows.specs.Raw.{IsRawRow}
+use Rattle.value_rows.specs.declared.raw.RawRow.{RawRow}
 use Rattle.value_rows.specs.Asked.{calcs_at as names_at}
 use Rattle.value_rows.specs.declared.asked.GroupNames.{GroupNames}
 use Rattle.value_rows.specs.declared.asked.Query.{Query}
 use Rattle.value_rows.specs.declared.asked.Query.TheVariants.{Tag, Snap, Row}
 use Rattle.plant_files.specs.Texts.{tag_names}
 use Rattle.plant_files.specs.Asked.{IsNamed, AreNamed, IsQueryOf, calcs_at}
+use Rattle.plant_files.specs.Collected.{IsRowOf}
 
 -- the names of what definitions define
 pub names_of_defs : (defs : List CalcDef) → map (λ d. d.name) defs ≡ names_of (map calculation defs)
@@ -59,3 +62,16 @@ pub queries_of_base : (base : Base) (names : List GroupNames) (lists : List (Lis
     → All (All (IsQuery (tag_names base.tags.items) names)) lists → All (All (IsQueryOf base)) lists
 queries_of_base base names lists named asked i d below j e within =
     IsQueryOf-named base names (slice_index_or (slice_index_or lists i d) j e) named (asked i d below j e within)
+
+-- a row over the names of a base is one of the base
+IsRowOf-named : (base : Base) (row : RawRow) → IsRawRow (tag_names base.tags.items) row → IsRowOf base row
+IsRowOf-named base row is = record {
+  tag = subst (λ n. row.tag < n) (length-map base.tags.items (λ t. t.name)) is.tag;
+  point = is.point;
+}
+
+-- the same of lists of rows
+pub rows_of_base : {Z : Type 0} (base : Base) (lists : List (Vec RawRow Z)) → All (λ rows. All (IsRawRow (tag_names base.tags.items)) rows.items) lists
+    → All (λ rows. All (IsRowOf base) rows.items) lists
+rows_of_base base lists read i d below j e within =
+    IsRowOf-named base (slice_index_or (slice_index_or lists i d).items j e) (read i d below j e within)

@@ -2,15 +2,14 @@
 use Rattle.std.proofs.Common.{◌≡◌, ℕ, ◌+◌, Bool, true, false, cond, List, length, map, take, nat_lt, Result, Ok, Err, inr, refl}
 use Rattle.byte_io.specs.Files.{FileTold}
 use Rattle.trend_num.specs.declared.refusal.Reason.{Reason}
+use Rattle.trend_num.specs.declared.refusal.What.{What}
 use Rattle.point_text.specs.Row.{all_rows, unless_more}
 use Rattle.point_text.specs.declared.failure.RowNo.{RowNo}
 use Rattle.point_text.specs.declared.failure.RowNo.TheVariants as row_no
 use Rattle.value_rows.specs.Reading.{records_of, rows_of_text, AreRefusedFor}
-use Rattle.value_rows.specs.Asked.{query_row, query_rows}
-use Rattle.value_rows.specs.declared.asked.GroupNames.{GroupNames}
 use Rattle.plant_status.specs.declared.file.FileId.{FileId}
 use Rattle.plant_files.specs.Reading.{IsRead}
-use Rattle.plant_files.specs.Asked.{IsReaderRefusal, most_file_bytes, most_queries, row_status}
+use Rattle.plant_files.specs.RowFiles.{IsRowRefusal, most_file_bytes, row_status}
 
 -- rows that are too many are told as one more than there may be
 one_row_more : {R : Type 0} (most count : ℕ) (found : Result (List R) (ℕ × Reason)) (number : ℕ)
@@ -30,17 +29,15 @@ too_many row_of most bytes number e =
     one_row_more most (length reads) (all_rows (take most reads)) number e
 
 -- the bytes of a file are refused as rows
-pub rows_refused : (tags : List (List ℕ)) (groups : List GroupNames) (file : FileId) (told : FileTold) (bytes : List ℕ) (why : RowNo)
-    → IsRead told most_file_bytes bytes → AreRefusedFor (query_rows tags groups most_queries bytes) why
-    → IsReaderRefusal tags groups file told (row_status file why)
-rows_refused tags groups file told bytes (row_no.BadRow row reason) read refused =
+pub rows_refused : {R : Type 0} (kind : What) (most : ℕ) (row_of : List (List ℕ) → Result R Reason) (file : FileId) (told : FileTold)
+    (bytes : List ℕ) (why : RowNo) → IsRead told most_file_bytes bytes → AreRefusedFor (rows_of_text row_of most bytes) why
+    → IsRowRefusal kind most (rows_of_text row_of most) file told (row_status kind file why)
+rows_refused kind most row_of file told bytes (row_no.BadRow row reason) read refused =
     (refl, record { bytes = bytes; read = read; so = refused })
-rows_refused tags groups file told bytes (row_no.TooMany number) read refused =
-    inr (
-      refl,
-      record {
-        one_more = too_many (query_row tags groups) most_queries bytes number refused;
-        refused = record { bytes = bytes; read = read; so = refused };
-      },
-    )
-rows_refused tags groups file told bytes row_no.WantOfMemory read refused = tt
+rows_refused kind most row_of file told bytes (row_no.TooMany number) read refused =
+    inr (record {
+      quantity = refl;
+      one_more = too_many row_of most bytes number refused;
+      refused = record { bytes = bytes; read = read; so = refused };
+    })
+rows_refused kind most row_of file told bytes row_no.WantOfMemory read refused = tt

@@ -1,13 +1,11 @@
 -- What the readers of a plan ask, each the rows of a file.
-use Rattle.std.specs.Prelude.{◌≡◌, ◌≢◌, ◌⊎◌, ℕ, ◌+◌, ◌-◌, ◌^◌, ◌<◌, ◌≤◌, min, List, [], ◌∷◌, ◌++◌, length, slice_get, ⊤, Ok, Err}
+use Rattle.std.specs.Prelude.{◌≡◌, ◌≢◌, ℕ, ◌-◌, ◌^◌, ◌<◌, ◌≤◌, min, List, [], ◌∷◌, length, slice_get, ⊤}
 use Rattle.std.specs.Option.{option_map_or}
 use Rattle.byte_io.specs.Files.{FileTold}
-use Rattle.trend_num.specs.declared.refusal.What.TheVariants.{FileBytes, Queries}
+use Rattle.trend_num.specs.declared.refusal.What.TheVariants.{Queries}
 use Rattle.calc_check.specs.Group.{Calculation, names_of}
 use Rattle.tag_base.specs.declared.definition.Base.{Base}
 use Rattle.tag_base.specs.declared.definition.GroupDef.{GroupDef}
-use Rattle.point_text.specs.declared.failure.RowNo.{RowNo}
-use Rattle.point_text.specs.declared.failure.RowNo.TheVariants as row_no
 use Rattle.trend_num.specs.Queries.{IsTagQuery}
 use Rattle.value_rows.specs.Asked.{last_window, query_rows}
 use Rattle.value_rows.specs.declared.asked.GroupNames.{GroupNames}
@@ -16,14 +14,12 @@ use Rattle.value_rows.specs.declared.asked.Query.TheVariants.{Tag, Snap, Row}
 use Rattle.plant_status.specs.declared.file.FileId.{FileId}
 use Rattle.plant_status.specs.declared.file.FileId.TheVariants.{Reader}
 use Rattle.plant_status.specs.declared.status.Status.{Status}
-use Rattle.plant_status.specs.declared.status.Status.TheVariants.{ReadFault, Limit, BadRow, WantOfMemory}
-use Rattle.plant_files.specs.Reading.{IsReadAs, IsTooLong}
+use Rattle.plant_status.specs.declared.status.Status.TheVariants.{WantOfMemory}
+pub use Rattle.plant_files.specs.RowFiles.{ToldFiles}
+use Rattle.plant_files.specs.RowFiles.{AreRowFiles, IsFirstRefused, IsRowFile, IsRowRefusal}
 use Rattle.plant_files.specs.Texts.{tag_names}
 
--- the most bytes of a reader's file, and the most queries in it
-abbrev pub most_file_bytes : ℕ
-most_file_bytes = 67108864
-
+-- the most queries of a reader
 abbrev pub most_queries : ℕ
 most_queries = 4096
 
@@ -55,65 +51,28 @@ IsQueryOf base (Row group calc k) = (group < length base.groups.items)
 
 -- the queries of a file over these names of tags and of groups
 abbrev pub IsReaderFile : List (List ℕ) → List GroupNames → FileTold → List Query → Type 0
-IsReaderFile tags groups told queries =
-    IsReadAs told most_file_bytes (λ bytes. query_rows tags groups most_queries bytes ≡ Ok queries)
-
--- its rows are refused for this
-abbrev pub IsRefusedFile : List (List ℕ) → List GroupNames → FileTold → RowNo → Type 0
-IsRefusedFile tags groups told why =
-    IsReadAs told most_file_bytes (λ bytes. query_rows tags groups most_queries bytes ≡ Err why)
-
--- the status of a file whose rows are refused for this
-abbrev pub row_status : FileId → RowNo → Status
-row_status file (row_no.BadRow row reason) = BadRow file row reason
-row_status file (row_no.TooMany rows) = Limit Queries rows
-row_status file row_no.WantOfMemory = WantOfMemory
-
--- there is a query more than there may be
-pub record AreTooMany (tags : List (List ℕ)) (groups : List GroupNames) (told : FileTold)
-    (number : ℕ) : Type 0 where
-  pub one_more : number ≡ most_queries + 1
-  pub refused : IsRefusedFile tags groups told (row_no.TooMany number)
+IsReaderFile tags groups told queries = IsRowFile (query_rows tags groups most_queries) told queries
 
 -- why the queries of a file are not read, by the status
 abbrev pub IsReaderRefusal : List (List ℕ) → List GroupNames → FileId → FileTold → Status → Type 0
-IsReaderRefusal tags groups file told (ReadFault which) = which ≡ file
-IsReaderRefusal tags groups file told (Limit what number) =
-    IsTooLong FileBytes most_file_bytes told what number
-    ⊎ ((what ≡ Queries) × AreTooMany tags groups told number)
-IsReaderRefusal tags groups file told (BadRow which row reason) =
-    (which ≡ file) × IsRefusedFile tags groups told (row_no.BadRow row reason)
-IsReaderRefusal tags groups file told WantOfMemory = ⊤
-IsReaderRefusal tags groups file told other = ⊥
+IsReaderRefusal tags groups file told why =
+    IsRowRefusal Queries most_queries (query_rows tags groups most_queries) file told why
 
 -- ---- the files of all readers
-
--- what is told of the file of each name
-abbrev pub ToldFiles : Type 0
-ToldFiles = List ℕ → FileTold
 
 -- the queries of files over these names: each file's, in order
 abbrev pub AreReaderFiles : List (List ℕ) → List GroupNames → ToldFiles → List (List ℕ) → List (List Query)
     → Type 0
-AreReaderFiles tags groups told [] [] = ⊤
-AreReaderFiles tags groups told (file ∷ files) (queries ∷ lists) =
-    IsReaderFile tags groups (told file) queries × AreReaderFiles tags groups told files lists
-AreReaderFiles tags groups told files lists = ⊥
+AreReaderFiles tags groups told files lists = AreRowFiles (IsReaderFile tags groups) told files lists
 
 -- the reader at a place. The number stays at the end of its type
 abbrev pub reader_at : ℕ → FileId
 reader_at place = Reader (min place (2 ^ 32 - 1))
 
--- the queries of the first files are read, and then one is refused so
-pub record IsFirstRefused (tags : List (List ℕ)) (groups : List GroupNames) (told : ToldFiles)
-    (files : List (List ℕ)) (why : Status) : Type 0 where
-  pub front : List (List ℕ)
-  pub file : List ℕ
-  pub rest : List (List ℕ)
-  pub cut : files ≡ front ++ file ∷ rest
-  pub lists : List (List Query)
-  pub good : AreReaderFiles tags groups told front lists
-  pub refused : IsReaderRefusal tags groups (reader_at (length front)) (told file) why
+-- the queries of the first readers' files are read, and then one is refused so
+abbrev pub IsReaderRefused : List (List ℕ) → List GroupNames → ToldFiles → List (List ℕ) → Status → Type 0
+IsReaderRefused tags groups told files why = IsFirstRefused (IsReaderFile tags groups)
+    (λ place. IsReaderRefusal tags groups (reader_at place)) told files why
 
 -- the queries of files over the names of a base
 pub record AreQueries (base : Base) (told : ToldFiles) (files : List (List ℕ))
@@ -127,7 +86,7 @@ pub record IsRefusedFirst (base : Base) (told : ToldFiles) (files : List (List �
     (why : Status) : Type 0 where
   pub groups : List GroupNames
   pub named : AreNamed base.groups.items groups
-  pub first : IsFirstRefused (tag_names base.tags.items) groups told files why
+  pub first : IsReaderRefused (tag_names base.tags.items) groups told files why
 
 -- why the queries of files are not read. No memory may be found at any time
 abbrev pub IsQueriesRefusal : Base → ToldFiles → List (List ℕ) → Status → Type 0

@@ -1,3 +1,5 @@
 pub mod Reading
 pub mod Texts
+pub mod RowFiles
 pub mod Asked
+pub mod Collected

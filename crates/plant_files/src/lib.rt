@@ -1,4 +1,4 @@
-//! The files of a plant: its base, its plan and what its readers ask, each read from a file by its name.
+//! The files of a plant: its base, its plan, what its collectors take and what its readers ask, each read from a file by its name.
 //!
 //! A file is read whole, within its limit, and what its bytes say is what `tag_base` and `value_rows` read in
 //! them. Each refusal is a [`Status`] that names the cause, and the file where the cause is its own: the file
@@ -7,10 +7,13 @@
 #![tactic(auto)]
 
 mod base_file;
+mod collector_file;
 mod names;
 mod plan_file;
 mod queries;
 mod reader_file;
+mod row_file;
+mod rows;
 mod text;
 mod whole;
 
@@ -20,5 +23,6 @@ pub use plan_file::plan_of;
 pub use plant_status::{FileId, Status, What};
 pub use queries::queries_of;
 pub use reader_file::ReaderQueries;
+pub use rows::{check_row_count, rows_of};
 pub use tag_base::{Base, Plan};
-pub use value_rows::Query;
+pub use value_rows::{Query, RawRow};

@@ -4,8 +4,8 @@ ghost use Rattle.plant_status.specs.declared.file.FileId.TheVariants.{Reader};
 ghost use Rattle.plant_status.specs.declared.status.Status.TheVariants.{ReadFault, WantOfMemory};
 ghost use Rattle.tag_base.specs.Groups.{IsSound};
 ghost use Rattle.value_rows.specs.Asked.{IsQuery};
-ghost use Rattle.plant_files.specs.Reading.{IsFaultOfReader, faults_after};
-ghost use Rattle.plant_files.specs.Asked.{AreReaderFiles, AreQueries, IsFirstRefused, IsQueryOf, IsQueriesRefusal};
+ghost use Rattle.plant_files.specs.Reading.{IsFaultAt, faults_after};
+ghost use Rattle.plant_files.specs.Asked.{AreReaderFiles, AreQueries, IsQueryOf, IsQueriesRefusal, IsReaderRefused};
 
 use crate::names::{names_of_groups, names_of_tags};
 use crate::reader_file::{ReaderQueries, queries_in, reader_at};
@@ -32,11 +32,11 @@ fn queries_over<F: Files>(
         AreReaderFiles tags.now groups.now (F.told files.old) readers.now lists.items) }
     ensures in_range { IfOk result (λ lists. All (All (IsQuery tags.now groups.now)) lists.items) }
     ensures refused { IfErr result (λ why. why ≢ WantOfMemory →
-        IsFirstRefused tags.now groups.now (F.told files.old) readers.now why) }
+        IsReaderRefused tags.now groups.now (F.told files.old) readers.now why) }
     ensures stays { F.told files.new ≡ F.told files.old }
     ensures faults { F.fault_count files.new ≡ faults_after result (F.fault_count files.old) }
     ensures whose { (place : ℕ) → IsErrOf result (ReadFault (Reader place))
-        → IsFaultOfReader readers.now place (F.failed_name files.new) }
+        → IsFaultAt readers.now place (F.failed_name files.new) }
 {
     let mut lists = Vec::new(alloc);
     for reader in readers {
@@ -68,7 +68,7 @@ pub fn queries_of<F: Files>(
     ensures stays { F.told files.new ≡ F.told files.old }
     ensures faults { F.fault_count files.new ≡ faults_after result (F.fault_count files.old) }
     ensures whose { (place : ℕ) → IsErrOf result (ReadFault (Reader place))
-        → IsFaultOfReader plan.now.readers.items place (F.failed_name files.new) }
+        → IsFaultAt plan.now.readers.items place (F.failed_name files.new) }
 {
     let Ok(tags) = names_of_tags(alloc, &base.tags) else {
         return Err(Status::WantOfMemory);

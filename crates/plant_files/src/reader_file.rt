@@ -5,8 +5,9 @@ ghost use Rattle.byte_io.specs.Files.{IsFaultOf};
 ghost use Rattle.plant_status.specs.declared.file.FileId.{FileId};
 ghost use Rattle.plant_status.specs.declared.status.Status.TheVariants.{ReadFault};
 ghost use Rattle.plant_files.specs.Reading.{faults_after};
-ghost use Rattle.plant_files.specs.Asked.{IsReaderFile, IsReaderRefusal, reader_at, row_status};
+ghost use Rattle.plant_files.specs.Asked.{IsReaderFile, IsReaderRefusal, reader_at};
 
+use crate::row_file::{MAX_FILE_BYTES, row_status};
 use crate::whole::whole_of;
 use byte_io::Files;
 use plant_status::{FileId, Status, What};
@@ -14,10 +15,7 @@ use std::alloc::Global;
 use std::marker::Model;
 use tag_base::FileName;
 use trend_num::Name;
-use value_rows::{GroupNames, Query, RowNo, query_rows};
-
-// The most bytes of a reader's file.
-const MAX_FILE_BYTES: u64 = 67_108_864;
+use value_rows::{GroupNames, Query, query_rows};
 
 // The most queries of a reader.
 const MAX_QUERIES: u64 = 4096;
@@ -44,6 +42,13 @@ impl ReaderQueries {
     {
         self.rows.as_slice()
     }
+
+    /// The queries in order, moved out.
+    pub fn into_rows(self) -> Vec<Query>
+        ensures { result.items ≡ self }
+    {
+        self.rows
+    }
 }
 
 // The file of the reader at a place. The number stays at the end of its type.
@@ -51,20 +56,6 @@ pub(crate) fn reader_at(place: usize) -> FileId
     ensures { result ≡ reader_at place }
 {
     FileId::Reader(u32::try_from(place).unwrap_or(u32::MAX))
-}
-
-// The status of a file whose rows are refused for this.
-fn row_status(file: FileId, why: RowNo) -> Status
-    ensures { result ≡ row_status file why }
-{
-    match why {
-        RowNo::BadRow { row, reason } => Status::BadRow { file, row, reason },
-        RowNo::TooMany { rows } => Status::Limit {
-            what: What::Queries,
-            number: rows,
-        },
-        RowNo::WantOfMemory => Status::WantOfMemory,
-    }
 }
 
 // The queries of a reader's file.
@@ -90,7 +81,7 @@ pub(crate) fn queries_in<F: Files>(
     match whole_of(alloc, files, name, file, What::FileBytes, MAX_FILE_BYTES) {
         Ok(bytes) => match query_rows(alloc, &bytes, tags, groups, MAX_QUERIES) {
             Ok(rows) => Ok(ReaderQueries { rows }),
-            Err(why) => Err(row_status(file, why)),
+            Err(why) => Err(row_status(What::Queries, file, why)),
         },
         Err(why) => Err(why),
     }

@@ -13,7 +13,7 @@ use Rattle.plant_status.specs.declared.status.Status.{Status}
 use Rattle.plant_status.specs.declared.status.Status.TheVariants.{ReadFault, WantOfMemory}
 use Rattle.plant_files.specs.Texts.{IsBaseFile, IsBaseRefusal, IsPlanFile, IsPlanRefusal}
 use Rattle.plant_files.specs.Asked.{ToldFiles, IsQueriesRefusal}
-use Rattle.plant_files.specs.Reading.{IsFaultOfReader}
+use Rattle.plant_files.specs.Reading.{IsFaultAt}
 use Rattle.tag_store.specs.Refusals.{IsRefusal}
 use Rattle.store_commands.specs.Commands.{IsFaultOfNamed}
 
@@ -74,7 +74,7 @@ module _ (name plan_name : List ℕ) (told : ToldFiles) (failed : Option (List �
   -- that of the queries tells of a reader
   pub of_reader : (base : Base) (plan : Plan) → IsBaseFile (told name) base → IsPlanFile base.groups.items (told plan_name) plan
       → IsQueriesRefusal base told plan.readers.items why
-      → ((place : ℕ) → why ≡ ReadFault (file.Reader place) → IsFaultOfReader plan.readers.items place failed)
+      → ((place : ℕ) → why ≡ ReadFault (file.Reader place) → IsFaultAt plan.readers.items place failed)
       → IsFaultOfNamed name plan_name told failed why
   of_reader base plan read planned refused whose = record {
     base = λ same. absurd (reader_is_no_base _ (subst (IsQueriesRefusal base told plan.readers.items) same refused (fault_is_no_memory file.Base)).first.refused);

@@ -9,7 +9,7 @@ use Rattle.plant_status.specs.declared.status.Status.{Status}
 use Rattle.plant_status.specs.declared.status.Status.TheVariants.{ReadFault, NotYet, WantOfMemory}
 use Rattle.plant_status.specs.declared.file.FileId.TheVariants as file
 use Rattle.byte_io.specs.Files.{IsFaultOf}
-use Rattle.plant_files.specs.Reading.{IsFaultOfReader}
+use Rattle.plant_files.specs.Reading.{IsFaultAt}
 use Rattle.plant_files.specs.Texts.{IsBaseFile, IsBaseRefusal, IsPlanFile, IsPlanRefusal}
 use Rattle.plant_files.specs.Asked.{ToldFiles, AreQueries, IsQueriesRefusal}
 use Rattle.tag_store.specs.Tags.{AreOpened, AreLeft, AllStaySame, AreOthersSame}
@@ -92,7 +92,7 @@ pub record IsFaultOfNamed (name plan_name : List ℕ) (told : ToldFiles) (failed
   pub plan : why ≡ ReadFault file.Plan → IsFaultOf failed plan_name
   pub reader : (place : ℕ) → why ≡ ReadFault (file.Reader place) → (base : Base) × (plan : Plan)
       × IsBaseFile (told name) base × IsPlanFile base.groups.items (told plan_name) plan
-      × IsFaultOfReader plan.readers.items place failed
+      × IsFaultAt plan.readers.items place failed
 
 -- ---- devices
 

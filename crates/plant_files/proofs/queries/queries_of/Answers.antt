@@ -4,7 +4,7 @@ use Rattle.std.proofs.lemmas.Result.{IfOk-weaker, IfErr-weaker}
 use Rattle.value_rows.specs.Asked.{IsQuery}
 use Rattle.plant_status.specs.declared.status.Status.TheVariants.{WantOfMemory}
 use Rattle.plant_files.specs.Texts.{tag_names}
-use Rattle.plant_files.specs.Asked.{AreNamed, IsFirstRefused, IsQueriesRefusal, IsQueryOf}
+use Rattle.plant_files.specs.Asked.{AreNamed, IsReaderRefused, IsQueriesRefusal, IsQueryOf}
 use Rattle.plant_files.proofs.Named.{queries_of_base}
 use Rattle.plant_files.proofs.queries.queries_of.Goals as goal
 
@@ -30,12 +30,12 @@ returns-clause-refused g c =
     c.deref-4.ensures.value ∙ c.in-Ok.ensures.names ∙ ap tag_names c.deref.ensures.value in
     let named : AreNamed base.groups.items groups = subst (AreNamed base.groups.items) (sym c.deref-5.ensures.value)
     (subst (λ gs. AreNamed gs c.in-Ok-names_of_groups.groups.items) c.deref-2.ensures.value c.in-Ok-names_of_groups.ensures.named) in
-    IfErr-weaker c.queries_over.result (λ why. why ≢ WantOfMemory → IsFirstRefused c.deref-4.result.now groups told c.deref-3.result.now why)
+    IfErr-weaker c.queries_over.result (λ why. why ≢ WantOfMemory → IsReaderRefused c.deref-4.result.now groups told c.deref-3.result.now why)
     (IsQueriesRefusal base told c.args.plan.now.readers.items)
     (λ why first other. record {
       groups = groups;
       named = named;
-      first = subst (λ files. IsFirstRefused (tag_names base.tags.items) groups told files why) c.deref-3.ensures.value
-          (subst (λ ts. IsFirstRefused ts groups told c.deref-3.result.now why) tags (first other));
+      first = subst (λ files. IsReaderRefused (tag_names base.tags.items) groups told files why) c.deref-3.ensures.value
+          (subst (λ ts. IsReaderRefused ts groups told c.deref-3.result.now why) tags (first other));
     })
     c.queries_over.ensures.refused

@@ -3,7 +3,7 @@ use Rattle.std.proofs.lemmas.Grind.{common_steps}
 use Rattle.std.proofs.lemmas.List.Elements.{All-push}
 use Rattle.value_rows.specs.Asked.{IsQuery}
 use Rattle.plant_files.specs.Asked.{AreReaderFiles, IsReaderFile, IsReaderRefusal, reader_at}
-use Rattle.plant_files.proofs.InOrder.{AreReaderFiles-more, first_refused}
+use Rattle.plant_files.proofs.InOrder.{AreRowFiles-more, first_refused}
 use Rattle.plant_files.proofs.queries.queries_over.Goals as goal
 
 pub returns-in-Err-clause-refused : goal.returns-in-Err-clause-refused
@@ -18,7 +18,7 @@ returns-in-Err-clause-refused g c _ =
     let numbered = subst (λ f. IsReaderRefusal tags groups f (g.F.Files.told c.loop-reader.files file) why)
     (c.reader_at-file.ensures ∙ ap reader_at place) c.in-Err.ensures.refused in
     let refused = subst (λ t. IsReaderRefusal tags groups (reader_at i) (t file) why) c.loop-reader.invariant.stays numbered in
-    first_refused tags groups told c.args.readers.now i file c.loop-reader.lists.items why c.loop-reader-test.true c.reader-item.is
+    first_refused (IsReaderFile tags groups) told (λ place. IsReaderRefusal tags groups (reader_at place)) c.args.readers.now i file c.loop-reader.lists.items why c.loop-reader-test.true c.reader-item.is
     c.loop-reader.invariant.read refused
 
 pub loop-reader-preserved : goal.loop-reader-preserved
@@ -36,7 +36,7 @@ loop-reader-preserved g c =
     let grown : c.push.new.self.items ≡ lists ++ queries ∷ [] = grind (arith, common_steps) in
     record {
       read = subst (AreReaderFiles tags groups told (take (i + 1) readers)) (sym grown)
-          (AreReaderFiles-more tags groups told readers i file lists queries c.loop-reader-test.true c.reader-item.is
+          (AreRowFiles-more (IsReaderFile tags groups) told readers i file lists queries c.loop-reader-test.true c.reader-item.is
           c.loop-reader.invariant.read one);
       in_range = subst (All (All (IsQuery tags groups))) (sym grown)
           (All-push (All (IsQuery tags groups)) lists queries c.loop-reader.invariant.in_range c.in-Ok.ensures.in_range);

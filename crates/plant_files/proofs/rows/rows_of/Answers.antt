@@ -1,0 +1,47 @@
+use Rattle.std.proofs.Common.{◌≡◌, ◌∙◌, All, ap, map, subst}
+use Rattle.std.specs.Prelude.{◌≢◌}
+use Rattle.std.proofs.lemmas.Result.{IfOk-weaker, IfErr-weaker}
+use Rattle.value_rows.specs.Raw.{IsRawRow}
+use Rattle.plant_status.specs.declared.status.Status.TheVariants.{WantOfMemory}
+use Rattle.plant_files.specs.Texts.{tag_names}
+use Rattle.plant_files.specs.Collected.{AreCollectorFiles, AreRows, IsCollectorRefused, IsRowOf, IsRowsRefusal}
+use Rattle.plant_files.proofs.Named.{rows_of_base}
+use Rattle.plant_files.proofs.rows.rows_of.Goals as goal
+
+pub returns-clause-rows : goal.returns-clause-rows
+returns-clause-rows g c =
+    let base = c.args.base.now in
+    let told = g.F.Files.told c.args.files.now in
+    let tags : c.deref-3.result.now ≡ tag_names base.tags.items =
+    c.deref-3.ensures.value ∙ c.in-Ok.ensures.names ∙ ap tag_names c.deref.ensures.value in
+    IfOk-weaker c.rows_over.result
+    (λ lists. AreCollectorFiles c.deref-3.result.now told c.deref-2.result.now (map (λ rows. rows.items) lists.items))
+    (λ lists. AreRows base told c.args.plan.now.collectors.items (map (λ rows. rows.items) lists.items))
+    (λ lists read. record {
+      read = subst (λ files. AreCollectorFiles (tag_names base.tags.items) told files (map (λ rows. rows.items) lists.items))
+          c.deref-2.ensures.value
+          (subst (λ ts. AreCollectorFiles ts told c.deref-2.result.now (map (λ rows. rows.items) lists.items)) tags read);
+    })
+    c.rows_over.ensures.rows
+
+pub returns-clause-in_range : goal.returns-clause-in_range
+returns-clause-in_range g c =
+    let base = c.args.base.now in
+    let tags : c.deref-3.result.now ≡ tag_names base.tags.items =
+    c.deref-3.ensures.value ∙ c.in-Ok.ensures.names ∙ ap tag_names c.deref.ensures.value in
+    IfOk-weaker c.rows_over.result (λ lists. All (λ rows. All (IsRawRow c.deref-3.result.now) rows.items) lists.items)
+    (λ lists. All (λ rows. All (IsRowOf base) rows.items) lists.items)
+    (λ lists read. rows_of_base base lists.items (subst (λ ts. All (λ rows. All (IsRawRow ts) rows.items) lists.items) tags read))
+    c.rows_over.ensures.in_range
+
+pub returns-clause-refused : goal.returns-clause-refused
+returns-clause-refused g c =
+    let base = c.args.base.now in
+    let told = g.F.Files.told c.args.files.now in
+    let tags : c.deref-3.result.now ≡ tag_names base.tags.items =
+    c.deref-3.ensures.value ∙ c.in-Ok.ensures.names ∙ ap tag_names c.deref.ensures.value in
+    IfErr-weaker c.rows_over.result (λ why. why ≢ WantOfMemory → IsCollectorRefused c.deref-3.result.now told c.deref-2.result.now why)
+    (IsRowsRefusal base told c.args.plan.now.collectors.items)
+    (λ why first other. subst (λ files. IsCollectorRefused (tag_names base.tags.items) told files why) c.deref-2.ensures.value
+    (subst (λ ts. IsCollectorRefused ts told c.deref-2.result.now why) tags (first other)))
+    c.rows_over.ensures.refused
