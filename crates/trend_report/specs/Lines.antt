@@ -1,7 +1,11 @@
 -- The lines of a report, byte for byte.
 use Rattle.std.specs.Prelude.{List, ◌++◌, Bool, true, false, Option, None, Some, codes, ℕ, ℤ, pos, ◌-◌, ◌==◌, if◌then◌else◌}
 use Rattle.std.specs.Fmt.{decimal, signed_decimal}
-use Rattle.std.specs.List.{flat_map}
+use Rattle.std.specs.List.{count_by, flat_map}
+use Rattle.trend_num.specs.declared.archive.Kind.{Kind}
+use Rattle.trend_num.specs.declared.archive.Kind.TheVariants.{Kept, Late}
+use Rattle.trend_num.specs.declared.archive.Rec.{Rec}
+use Rattle.trend_num.specs.declared.archive.Summary.{Summary}
 use Rattle.trend_num.specs.declared.point.Point.{Point}
 use Rattle.trend_num.specs.declared.reading.Reading.{Reading}
 use Rattle.trend_num.specs.declared.reading.Reading.TheVariants.{Exact, Line, Flat, Nothing}
@@ -19,6 +23,26 @@ use Rattle.trend_report.specs.declared.reply_line.ReplyText.{ReplyText}
 use Rattle.trend_report.specs.declared.reply_line.ReplyText.TheVariants.{Tag, Snap, Row}
 
 -- ---- tags
+
+-- a record that came late, and one that was kept
+abbrev pub is_late : Kind → Bool
+is_late Kept = false
+is_late Late = true
+
+abbrev pub is_kept : Kind → Bool
+is_kept Kept = true
+is_kept Late = false
+
+-- what is told of a tag of this name, with these records and this state beside them
+abbrev pub line_of : List ℕ → List Rec → Summary → TagLine
+line_of name recs summary = record {
+  name = name;
+  taken = summary.taken;
+  records = summary.records;
+  kept = count_by (λ r. is_kept r.kind) recs;
+  late = count_by (λ r. is_late r.kind) recs;
+  held = summary.held;
+}
 
 -- `T,V`
 abbrev pub point_text : Point → List ℕ
@@ -87,6 +111,10 @@ told_text (Tag reply) = answer_text reply
 told_text (Snap s) = codes "snap " ++ decimal s.taken ++ codes " " ++ held_text s.held
 told_text (Row value) = value_text value
 
+-- `reply READER ROW`, with a blank behind it
+abbrev pub asker_text : ℕ → ℕ → List ℕ
+asker_text reader row = codes "reply " ++ decimal reader ++ codes " " ++ decimal row ++ codes " "
+
 -- `reply READER ROW TEXT`
 abbrev pub reply_text : ℕ → ℕ → ReplyText → List ℕ
 reply_text reader row r = codes "reply " ++ decimal reader ++ codes " " ++ decimal row ++ codes " "
@@ -95,9 +123,9 @@ reply_text reader row r = codes "reply " ++ decimal reader ++ codes " " ++ decim
 -- ---- groups
 
 -- `group NAME windows=W refreshes=N evals=E`
-abbrev pub heading_text : GroupLine → List ℕ
-heading_text g = codes "group " ++ g.name ++ codes " windows=" ++ decimal g.windows ++ codes " refreshes=" ++ decimal g.refreshes
-    ++ codes " evals=" ++ decimal g.evals ++ codes "\n"
+abbrev pub heading_text : List ℕ → ℕ → ℕ → ℕ → List ℕ
+heading_text name windows refreshes evals = codes "group " ++ name ++ codes " windows=" ++ decimal windows ++ codes " refreshes="
+    ++ decimal refreshes ++ codes " evals=" ++ decimal evals ++ codes "\n"
 
 -- what follows the names of a group and a calculation: the last of so many windows and the value there, if there is one
 abbrev pub last_value_text : ℕ → Option CalcValue → List ℕ
@@ -110,5 +138,9 @@ last_text group windows l =
     codes "calc " ++ group ++ codes " " ++ l.calc ++ codes " " ++ last_value_text windows l.value ++ codes "\n"
 
 -- these lines, one behind the other
+abbrev pub group_lines : List ℕ → ℕ → ℕ → ℕ → List LastRow → List ℕ
+group_lines name windows refreshes evals lasts =
+    heading_text name windows refreshes evals ++ flat_map (last_text name windows) lasts
+
 abbrev pub group_text : GroupLine → List ℕ
-group_text g = heading_text g ++ flat_map (last_text g.name g.windows) g.lasts.items
+group_text g = group_lines g.name g.windows g.refreshes g.evals g.lasts.items

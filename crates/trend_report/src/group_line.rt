@@ -49,7 +49,8 @@ fn group_lines(alloc: Global, line: &GroupLine) -> Result<String, AllocError>
 
 /// Adds the line of the group.
 fn put_heading(text: &mut String, line: &GroupLine) -> Result<(), AllocError>
-    ensures { OnOk result (string_bytes text.new ≡ string_bytes text.old ++ heading_text line.now) }
+    ensures { OnOk result (string_bytes text.new ≡ string_bytes text.old
+        ++ heading_text line.now.name line.now.windows line.now.refreshes line.now.evals) }
 {
     let name = line.name.text();
     let (windows, refreshes, evals) = (line.windows, line.refreshes, line.evals);

@@ -12,6 +12,6 @@ mod tag_line;
 
 pub use group_line::{GroupLine, LastRow, group_text};
 pub use interp_read::{PointList, Reading, Reply};
-pub use reply_line::{ReplyText, reply_text};
-pub use tag_line::{TagLine, tag_text};
+pub use reply_line::{ReplyText, answer_line, reply_text};
+pub use tag_line::{TagLine, line_of, tag_text};
 pub use trend_num::{Bad, CalcValue, Frac, Name, Point, Snap, WantOfMemory};

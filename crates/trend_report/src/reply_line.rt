@@ -1,6 +1,7 @@
 // The line of a reply.
 ghost use Rattle.std.specs.Prelude.{◌≡◌, ◌++◌, IfOk, OnOk, string_bytes, true};
-ghost use Rattle.trend_report.specs.Lines.{answer_text, cause_text, number_text, points_text, reading_text, reply_text, told_text, value_text, whole_of};
+ghost use Rattle.trend_report.specs.declared.reply_line.ReplyText.TheVariants.{Tag};
+ghost use Rattle.trend_report.specs.Lines.{answer_text, asker_text, cause_text, number_text, points_text, reading_text, reply_text, told_text, value_text, whole_of};
 
 use crate::point_text::{put_held, put_point};
 use interp_read::{PointList, Reading, Reply};
@@ -30,15 +31,45 @@ pub fn reply_text(
     Ok(reply_line(alloc, reader, row, reply)?)
 }
 
+/// The same line for the answer to a question about a tag, which stays where it is.
+pub fn answer_line(
+    alloc: Global,
+    reader: u32,
+    row: u64,
+    reply: &Reply,
+) -> Result<String, WantOfMemory>
+    ensures { IfOk result (λ text. string_bytes text ≡ reply_text reader row (Tag reply.now)) }
+{
+    Ok(line_of_answer(alloc, reader, row, reply)?)
+}
+
+// The same, with the allocator's own error.
+fn line_of_answer(alloc: Global, reader: u32, row: u64, reply: &Reply) -> Result<String, AllocError>
+    ensures { IfOk result (λ text. string_bytes text ≡ reply_text reader row (Tag reply.now)) }
+{
+    let mut text = String::new(alloc);
+    put_asker(&mut text, reader, row)?;
+    put_answer(&mut text, reply)?;
+    text.push_str("\n")?;
+    Ok(text)
+}
+
 /// The same, with the allocator's own error.
 fn reply_line(alloc: Global, reader: u32, row: u64, reply: &ReplyText) -> Result<String, AllocError>
     ensures { IfOk result (λ text. string_bytes text ≡ reply_text reader row reply.now) }
 {
     let mut text = String::new(alloc);
-    write!(text, "reply {reader} {row} ")?;
+    put_asker(&mut text, reader, row)?;
     put_told(&mut text, reply)?;
     text.push_str("\n")?;
     Ok(text)
+}
+
+// Adds who asked, and in which row.
+fn put_asker(text: &mut String, reader: u32, row: u64) -> Result<(), AllocError>
+    ensures { OnOk result (string_bytes text.new ≡ string_bytes text.old ++ asker_text reader row) }
+{
+    write!(text, "reply {reader} {row} ")
 }
 
 /// Adds what is told.
@@ -46,14 +77,23 @@ fn put_told(text: &mut String, reply: &ReplyText) -> Result<(), AllocError>
     ensures { OnOk result (string_bytes text.new ≡ string_bytes text.old ++ told_text reply.now) }
 {
     match reply {
-        ReplyText::Tag(Reply::At(reading)) => put_reading(text, *reading),
-        ReplyText::Tag(Reply::Points(points)) => put_points(text, points),
-        ReplyText::Tag(Reply::Window(number)) => put_number(text, *number),
+        ReplyText::Tag(reply) => put_answer(text, reply),
         ReplyText::Snap(Snap { taken, held }) => {
             write!(text, "snap {taken} ")?;
             put_held(text, *held)
         }
         ReplyText::Row(value) => put_value(text, *value),
+    }
+}
+
+/// Adds the answer to a question about a tag.
+fn put_answer(text: &mut String, reply: &Reply) -> Result<(), AllocError>
+    ensures { OnOk result (string_bytes text.new ≡ string_bytes text.old ++ answer_text reply.now) }
+{
+    match reply {
+        Reply::At(reading) => put_reading(text, *reading),
+        Reply::Points(points) => put_points(text, points),
+        Reply::Window(number) => put_number(text, *number),
     }
 }
 

@@ -1,10 +1,11 @@
 // The line of a tag.
 ghost use Rattle.std.specs.Prelude.{◌≡◌, ◌++◌, codes, IfOk, OnOk, string_bytes};
-ghost use Rattle.trend_report.specs.Lines.{counts_text, tag_text};
+ghost use Rattle.std.specs.List.{count_by};
+ghost use Rattle.trend_report.specs.Lines.{counts_text, is_kept, is_late, line_of, tag_text};
 
 use crate::point_text::put_held;
 use std::alloc::{AllocError, Global};
-use trend_num::{Name, Point, WantOfMemory};
+use trend_num::{Kind, Name, Point, Rec, Summary, WantOfMemory};
 
 /// What a session has made of a tag.
 #[derive(Clone, Copy, Debug, PartialEq, Eq)]
@@ -18,6 +19,43 @@ pub struct TagLine {
     pub late: u32,
     /// The last value sent in order.
     pub held: Option<Point>,
+}
+
+/// What is told of a tag of this name, with these records and this state beside them. A count that is no `u32` is told as memory
+/// that is not there.
+pub fn line_of(name: Name, recs: &[Rec], summary: &Summary) -> Result<TagLine, WantOfMemory>
+    ensures { IfOk result (λ line. line ≡ line_of name recs.now summary.now) }
+{
+    let Summary {
+        taken,
+        records,
+        held,
+        ..
+    } = *summary;
+    let kept = kept_count(recs);
+    let late = late_count(recs);
+    Ok(TagLine {
+        name,
+        taken,
+        records,
+        kept: u32::try_from(kept).map_err(|_| WantOfMemory)?,
+        late: u32::try_from(late).map_err(|_| WantOfMemory)?,
+        held,
+    })
+}
+
+// How many records were kept.
+fn kept_count(recs: &[Rec]) -> usize
+    ensures { result ≡ count_by (λ r. is_kept r.kind) recs.now }
+{
+    recs.iter().filter(|r| matches!(r.kind, Kind::Kept)).count()
+}
+
+// How many records came late.
+fn late_count(recs: &[Rec]) -> usize
+    ensures { result ≡ count_by (λ r. is_late r.kind) recs.now }
+{
+    recs.iter().filter(|r| matches!(r.kind, Kind::Late)).count()
 }
 
 /// The line `tag NAME taken=N records=R kept=K late=L held=HELD`, with its line feed. HELD is `T,V` or

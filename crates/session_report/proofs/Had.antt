@@ -1,0 +1,54 @@
+-- Whether a tag had a snapshot, by how many events were taken since it was opened.
+use Rattle.std.proofs.Common.{◌≡◌, ℕ, ◌+◌, ◌-◌, ◌<◌, ◌≤◌, List, ◌∷◌, length, map, get_or, suc, sym, ap, ◌∙◌, arith}
+use Rattle.std.proofs.Common.{Bool, true, false, ◌&&◌, Option, None, Some, nat_le}
+use Rattle.std.specs.List.{slice_get}
+use Rattle.std.specs.Option.{option_map, option_map_or}
+use Rattle.std.proofs.lemmas.Bool.{le-leb, lt-leb}
+use Rattle.std.proofs.lemmas.Option.{slice_get-get_or, slice_get-map, slice_get_past}
+use Rattle.trend_num.specs.declared.point.Point.{Point}
+use Rattle.trend_num.specs.declared.archive.Snap.{Snap}
+use Rattle.tag_cell.specs.declared.history.TagHistory.{TagHistory}
+use Rattle.session_report.specs.Snaps.{closing, had, held_points, same_held}
+
+module _ (h : TagHistory) (s : Snap) where
+  -- fewer than at the opening
+  pub had_before : s.taken < h.opening.summary.taken → had h s ≡ false
+  had_before fewer = ap (λ b. b && option_map_or (same_held s.held) (slice_get (closing h) (s.taken - h.opening.summary.taken)) false)
+      (lt-leb h.opening.summary.taken s.taken fewer)
+
+  -- otherwise it is told by the point that closed the line then
+  had_since : (since : ℕ) → h.opening.summary.taken ≤ s.taken → since ≡ s.taken - h.opening.summary.taken
+      → had h s ≡ option_map_or (same_held s.held) (slice_get (closing h) since) false
+  had_since since more is =
+      ap (λ b. b && option_map_or (same_held s.held) (slice_get (closing h) (s.taken - h.opening.summary.taken)) false)
+      (le-leb h.opening.summary.taken s.taken more)
+      ∙ ap (λ n. option_map_or (same_held s.held) (slice_get (closing h) n) false) (sym is)
+
+  -- as it was opened
+  pub had_at_opening : (since : ℕ) → h.opening.summary.taken ≤ s.taken → since ≡ s.taken - h.opening.summary.taken → since ≡ 0
+      → had h s ≡ same_held s.held h.opening.summary.held
+  had_at_opening since more is none = had_since 0 more (sym none ∙ is)
+
+  -- after a take
+  pub had_after : (since : ℕ) (held : List Point) (p : Point) → h.opening.summary.taken ≤ s.taken
+      → since ≡ s.taken - h.opening.summary.taken → 0 < since → held ≡ held_points h.tape.items → since - 1 < length held
+      → p ≡ get_or held (since - 1) p → had h s ≡ same_held s.held (Some p)
+  had_after since held p more is some all within there =
+      let number : since ≡ suc (since - 1) = omega (arith, some) in
+      had_since (suc (since - 1)) more (sym number ∙ is)
+      ∙ ap (λ o. option_map_or (same_held s.held) o false) (found ∙ ap (λ q. Some (Some q)) (sym there))
+    where
+      found : slice_get (map (λ q. Some q) (held_points h.tape.items)) (since - 1) ≡ Some (Some (get_or held (since - 1) p))
+      found = ap (λ l. slice_get (map (λ q. Some q) l) (since - 1)) (sym all)
+          ∙ slice_get-map (λ q. Some q) held (since - 1) ∙ ap (option_map (λ q. Some q)) (slice_get-get_or held (since - 1) p within)
+
+  -- and never after more takes than there were
+  pub had_past : (since : ℕ) (held : List Point) → h.opening.summary.taken ≤ s.taken → since ≡ s.taken - h.opening.summary.taken
+      → 0 < since → held ≡ held_points h.tape.items → length held ≤ since - 1 → had h s ≡ false
+  had_past since held more is some all past =
+      let number : since ≡ suc (since - 1) = omega (arith, some) in
+      had_since (suc (since - 1)) more (sym number ∙ is) ∙ ap (λ o. option_map_or (same_held s.held) o false) found
+    where
+      found : slice_get (map (λ q. Some q) (held_points h.tape.items)) (since - 1) ≡ None
+      found = ap (λ l. slice_get (map (λ q. Some q) l) (since - 1)) (sym all)
+          ∙ slice_get-map (λ q. Some q) held (since - 1) ∙ ap (option_map (λ q. Some q)) (slice_get_past held (since - 1) past)

@@ -1,0 +1,70 @@
+-- Where the answers to queries stand on tapes. For private functions: no public call cites it.
+use Rattle.std.specs.Prelude.{◌≡◌, ℕ, ◌+◌, ◌<◌, Bool, ◌&&◌, true, false, List, [], length, nat_eq, position, slice_get, slice_index_or, if◌then◌else◌}
+use Rattle.std.specs.Prelude.{Option, None, Some}
+use Rattle.std.specs.Option.{option_or}
+use Rattle.plant_status.specs.declared.unit.Unit.{Unit as UnitOf}
+use Rattle.plant_status.specs.declared.unit.Unit.TheVariants as unit
+use Rattle.value_rows.specs.declared.asked.Query.{Query}
+use Rattle.value_rows.specs.declared.asked.Query.TheVariants.{Tag, Row}
+use Rattle.tag_cell.specs.declared.history.TagHistory.{TagHistory}
+use Rattle.group_book.specs.declared.history.GroupHistory.{GroupHistory}
+use Rattle.session_report.specs.declared.asker.Asker.{Asker}
+use Rattle.session_report.specs.Askers.{group_asker, is_by, tag_asker}
+use Rattle.session_report.specs.Report.{group_tape, tag_tape}
+
+-- a place, or none, for each query of each reader
+abbrev pub Table : Type 0
+Table = List (List (Option ℕ))
+
+-- the place that a table has for a query of a reader, and the query
+abbrev pub place_in : Table → ℕ → ℕ → Option ℕ
+place_in table reader k = slice_index_or (slice_index_or table reader []) k None
+
+abbrev pub query_in : List (List Query) → ℕ → ℕ → Option Query
+query_in readers reader k = slice_get (slice_index_or readers reader []) k
+
+-- the table has a place for each query
+pub record HasShape (readers : List (List Query)) (table : Table) : Type 0 where
+  pub as_many : length table ≡ length readers
+  pub rows : (reader : ℕ) → length (slice_index_or table reader []) ≡ length (slice_index_or readers reader [])
+
+-- a query asks a tag or a group
+abbrev pub is_about : UnitOf → Option Query → Bool
+is_about (unit.Tag tag) (Some (Tag its asked)) = nat_eq its tag
+is_about (unit.Group group) (Some (Row its calc k)) = nat_eq its group
+is_about other query = false
+
+-- the query at a place is that which was asked so, and asks a tag or a group
+pub record IsQueryAbout (readers : List (List Query)) (its : UnitOf) (by : Asker) (k : ℕ) : Type 0 where
+  pub row : by.row ≡ k + 1
+  pub reader : by.reader < length readers
+  pub within : k < length (slice_index_or readers by.reader [])
+  pub about : is_about its (query_in readers by.reader k) ≡ true
+
+-- what was asked so asks another one, or there is no such query
+abbrev pub IsAboutOther : List (List Query) → UnitOf → Asker → Type 0
+IsAboutOther readers its by = (k : ℕ) → by.row ≡ k + 1 → is_about its (query_in readers by.reader k) ≡ false
+
+-- the place of the first entry of a tape that answers a row of a reader
+abbrev pub place_by : {E : Type 0} → (E → Option Asker) → ℕ → ℕ → List E → Option ℕ
+place_by asker reader row tape = position (λ e. is_by reader row (asker e)) tape
+
+-- the first place of a query is kept where it asks this unit: it had this place, and is answered here
+abbrev pub kept_first : UnitOf → Option Query → Option ℕ → Option ℕ → Option ℕ
+kept_first its asked old new = if is_about its asked then option_or old new else old
+
+-- each query of a unit that had no place has that of its first answer on the unit's tape, and the others have theirs
+abbrev pub IsFilled : {E : Type 0} → (E → Option Asker) → List (List Query) → UnitOf → List E → Table → Table → Type 0
+IsFilled asker readers its tape old new = (reader k : ℕ) → place_in new reader k
+    ≡ kept_first its (query_in readers reader k) (place_in old reader k) (place_by asker reader (k + 1) tape)
+
+-- the place of the answer to a query, at this place of its reader, on the tape of its tag or group
+abbrev pub place_of : List TagHistory → List GroupHistory → ℕ → ℕ → Option Query → Option ℕ
+place_of tags groups reader k (Some (Tag tag asked)) = place_by tag_asker reader (k + 1) (tag_tape tags tag)
+place_of tags groups reader k (Some (Row group calc w)) = place_by group_asker reader (k + 1) (group_tape groups group)
+place_of tags groups reader k other = None
+
+-- each query has the place of its answer
+abbrev pub ArePlaces : List (List Query) → List TagHistory → List GroupHistory → Table → Type 0
+ArePlaces readers tags groups table = (reader k : ℕ)
+    → place_in table reader k ≡ place_of tags groups reader k (query_in readers reader k)

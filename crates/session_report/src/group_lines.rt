@@ -1,0 +1,125 @@
+// The lines of groups.
+ghost use Rattle.std.specs.Prelude.{◌≡◌, ◌++◌, [], IfOk, OnOk, count_by, map, slice_get, slice_index_or, string_bytes};
+ghost use Rattle.std.specs.Option.{option_map_or};
+ghost use Rattle.calc_check.specs.Group.{calculation};
+ghost use Rattle.calc_refresh.specs.Lists.{lists_of};
+ghost use Rattle.trend_report.specs.Lines.{group_text};
+ghost use Rattle.session_report.specs.Report.{all_group_lines, is_refresh, last_rows, last_value, lines_of_group, windows_in};
+
+use calc_check::CalcDef;
+use group_book::{GroupHistory, Turn};
+use std::alloc::Global;
+use tag_base::GroupDef;
+use trend_num::{CalcValue, WantOfMemory};
+use trend_report::{GroupLine, LastRow, group_text};
+
+/// Adds the lines of each group.
+pub(crate) fn put_groups(
+    alloc: Global,
+    text: &mut String,
+    defs: &[GroupDef],
+    groups: &[GroupHistory],
+) -> Result<(), WantOfMemory>
+    ensures { OnOk result (string_bytes text.new ≡ string_bytes text.old ++ all_group_lines defs.now groups.now) }
+{
+    for place in 0..defs.len() {
+        put_group(alloc, text, &defs[place], groups, place)?;
+    }
+    Ok(())
+}
+
+// Adds the lines of the group at a place, if there is one.
+fn put_group(
+    alloc: Global,
+    text: &mut String,
+    def: &GroupDef,
+    groups: &[GroupHistory],
+    place: usize,
+) -> Result<(), WantOfMemory>
+    ensures { OnOk result (string_bytes text.new
+        ≡ string_bytes text.old ++ option_map_or (lines_of_group def.now) (slice_get groups.now place) []) }
+{
+    if place >= groups.len() {
+        return Ok(());
+    }
+    let line = line_of_group(alloc, def, &groups[place])?;
+    let line = group_text(alloc, &line)?;
+    Ok(text.push_str(line.as_str())?)
+}
+
+// What is told of a group. A number of windows that is no `u32` is told as memory that is not there.
+fn line_of_group(
+    alloc: Global,
+    def: &GroupDef,
+    group: &GroupHistory,
+) -> Result<GroupLine, WantOfMemory>
+    ensures { IfOk result (λ line. group_text line ≡ lines_of_group def.now group.now) }
+{
+    let rows = group.rows.as_slice();
+    let lasts = last_rows(alloc, def.calcs.defs(), rows)?;
+    let windows = windows_in(rows);
+    Ok(GroupLine {
+        name: def.name,
+        windows: u32::try_from(windows).map_err(|_| WantOfMemory)?,
+        refreshes: refreshes_in(group.tape.as_slice()) as u64,
+        evals: group.evals,
+        lasts,
+    })
+}
+
+// How many windows the rows of a group have.
+fn windows_in(rows: &[Vec<CalcValue>]) -> usize
+    ensures { result ≡ windows_in (lists_of rows.now) }
+{
+    if rows.is_empty() { 0 } else { rows[0].len() }
+}
+
+// How often a group was refreshed.
+fn refreshes_in(tape: &[Turn]) -> usize
+    ensures { result ≡ count_by is_refresh tape.now }
+{
+    tape.iter()
+        .filter(|turn| matches!(turn, Turn::Refresh { .. }))
+        .count()
+}
+
+// The last row of each calculation.
+fn last_rows(
+    alloc: Global,
+    defs: &[CalcDef],
+    rows: &[Vec<CalcValue>],
+) -> Result<Vec<LastRow>, WantOfMemory>
+    ensures { IfOk result (λ lasts. lasts.items ≡ last_rows (map calculation defs.now) (lists_of rows.now)) }
+{
+    let mut lasts = Vec::new(alloc);
+    for place in 0..defs.len() {
+        let value = last_in(rows, place);
+        lasts.push(LastRow {
+            calc: defs[place].name,
+            value,
+        })?;
+    }
+    Ok(lasts)
+}
+
+// The last value of the calculation at a place, if there is one.
+fn last_in(rows: &[Vec<CalcValue>], place: usize) -> Option<CalcValue>
+    ensures { result ≡ last_value (slice_index_or (lists_of rows.now) place []) }
+{
+    if place < rows.len() {
+        last_value(rows[place].as_slice())
+    } else {
+        None
+    }
+}
+
+// The last of some values.
+fn last_value(values: &[CalcValue]) -> Option<CalcValue>
+    ensures { result ≡ last_value values.now }
+{
+    if values.is_empty() {
+        None
+    } else {
+        Some(values[values.len() - 1])
+    }
+}

@@ -1,0 +1,35 @@
+// The lines of the report.
+ghost use Rattle.std.specs.Prelude.{◌≡◌, ◌+◌, ◌<◌, ◌^◌, IfOk, length, string_bytes};
+ghost use Rattle.calc_refresh.specs.Lists.{lists_of};
+ghost use Rattle.session_report.specs.Report.{report};
+
+use crate::group_lines::put_groups;
+use crate::replies::put_replies;
+use crate::session::Session;
+use crate::tag_lines::put_tags;
+use std::alloc::Global;
+use tag_base::Base;
+use trend_num::WantOfMemory;
+use value_rows::Query;
+
+/// What `run` prints of a session with so many collectors, whose readers asked these queries: a line of each tag, the reply to
+/// each query, and the lines of each group.
+pub fn report(
+    alloc: Global,
+    base: &Base,
+    collectors: usize,
+    readers: &[Vec<Query>],
+    session: &Session,
+) -> Result<String, WantOfMemory>
+    requires few_workers { collectors + length readers.now < 2 ^ 32 }
+    requires few_tags { length session.now.tags.items < 2 ^ 32 }
+    requires few_groups { length session.now.groups.items < 2 ^ 32 }
+    ensures { IfOk result (λ text. string_bytes text
+        ≡ report base.now collectors (lists_of readers.now) session.now) }
+{
+    let mut text = String::new(alloc);
+    put_tags(alloc, &mut text, &base.tags, &session.tags)?;
+    put_replies(alloc, &mut text, session, collectors, readers)?;
+    put_groups(alloc, &mut text, &base.groups, &session.groups)?;
+    Ok(text)
+}

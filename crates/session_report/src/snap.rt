@@ -1,0 +1,130 @@
+// The snapshots that readers are told.
+ghost use Rattle.std.specs.Prelude.{◌≡◌, IfOk, map};
+ghost use Rattle.calc_refresh.specs.Lists.{lists_of};
+ghost use Rattle.session_report.specs.Snaps.{checked, had, held_after, held_points, same_held, snap_at_end, snap_in, snap_of, told_at};
+
+use collector_pool::{Told, WorkerNote};
+use std::alloc::Global;
+use tag_cell::{Entry, TagHistory};
+use trend_num::{Point, Snap, WantOfMemory};
+
+/// Of each tag the points that closed its line after its takes, in order.
+pub(crate) fn held_lists(
+    alloc: Global,
+    tags: &[TagHistory],
+) -> Result<Vec<Vec<Point>>, WantOfMemory>
+    ensures { IfOk result (λ lists. lists_of lists.items ≡ map (λ h. held_points h.tape.items) tags.now) }
+{
+    let mut lists = Vec::new(alloc);
+    for tag in tags {
+        let points = held_points(alloc, tag.tape.as_slice())?;
+        lists.push(points)?;
+    }
+    Ok(lists)
+}
+
+// The points that closed the line of a tag after its takes, in order.
+fn held_points(alloc: Global, tape: &[Entry]) -> Result<Vec<Point>, WantOfMemory>
+    ensures { IfOk result (λ points. points.items ≡ held_points tape.now) }
+{
+    let mut points = Vec::new(alloc);
+    for entry in tape {
+        if let Some(point) = held_after(entry) {
+            points.push(point)?;
+        }
+    }
+    Ok(points)
+}
+
+// The point that closes the line after a take.
+fn held_after(entry: &Entry) -> Option<Point>
+    ensures { result ≡ held_after entry.now }
+{
+    match entry {
+        Entry::Take { held, .. } => Some(*held),
+        _ => None,
+    }
+}
+
+/// The snapshot of a tag that a note tells at a place, if it does.
+pub(crate) fn snap_told(notes: &[WorkerNote], worker: usize, place: usize, tag: u32) -> Option<Snap>
+    ensures { result ≡ snap_in tag (told_at notes.now worker place) }
+{
+    if worker >= notes.len() {
+        return None;
+    }
+    let told = notes[worker].told.as_slice();
+    if place >= told.len() {
+        return None;
+    }
+    match &told[place] {
+        Told::Snap { tag: its, snap } if *its == tag => Some(*snap),
+        _ => None,
+    }
+}
+
+/// The snapshot of a tag that a reader is told: the one that was told it, if the tag had it, else that of the tag's end.
+pub(crate) fn snap_of(
+    tags: &[TagHistory],
+    held: &[Vec<Point>],
+    tag: u32,
+    told: Option<Snap>,
+) -> Snap
+    requires { lists_of held.now ≡ map (λ h. held_points h.tape.items) tags.now }
+    ensures { result ≡ snap_of tags.now tag told }
+{
+    let place = tag as usize;
+    if place < tags.len() {
+        checked(&tags[place], held[place].as_slice(), told)
+    } else {
+        Snap {
+            taken: 0,
+            held: None,
+        }
+    }
+}
+
+// The same of a tag.
+fn checked(tag: &TagHistory, held: &[Point], told: Option<Snap>) -> Snap
+    requires { held.now ≡ held_points tag.now.tape.items }
+    ensures { result ≡ checked tag.now told }
+{
+    match told {
+        Some(snap) if had(tag, held, snap) => snap,
+        _ => Snap {
+            taken: tag.summary.taken,
+            held: tag.summary.held,
+        },
+    }
+}
+
+// Whether a tag had a snapshot.
+fn had(tag: &TagHistory, held: &[Point], snap: Snap) -> bool
+    requires { held.now ≡ held_points tag.now.tape.items }
+    ensures { result ≡ had tag.now snap }
+{
+    let first = tag.opening.summary.taken;
+    if snap.taken < first {
+        return false;
+    }
+    let since = snap.taken - first;
+    if since == 0 {
+        return same_held(snap.held, tag.opening.summary.held);
+    }
+    if since - 1 < held.len() as u64 {
+        same_held(snap.held, Some(held[(since - 1) as usize]))
+    } else {
+        false
+    }
+}
+
+// Whether two points are one, or both none.
+fn same_held(a: Option<Point>, b: Option<Point>) -> bool
+    ensures { result ≡ same_held a b }
+{
+    match (a, b) {
+        (None, None) => true,
+        (Some(p), Some(q)) => p.t == q.t && p.v == q.v,
+        _ => false,
+    }
+}
