@@ -11,7 +11,7 @@ pub struct Asker {
     pub row: u64,
 }
 
-/// An entry of a tape, which may answer a question.
+// An entry of a tape, which may answer a question.
 pub(crate) trait Answers {
     ghost use Rattle.session_report.specs.declared.asker.Asker.{Asker};
 

@@ -13,7 +13,7 @@ use tag_base::GroupDef;
 use trend_num::{CalcValue, WantOfMemory};
 use trend_report::{GroupLine, LastRow, group_text};
 
-/// Adds the lines of each group.
+// Adds the lines of each group.
 pub(crate) fn put_groups(
     alloc: Global,
     text: &mut String,

@@ -15,7 +15,7 @@ use tag_cell::TagHistory;
 use trend_num::WantOfMemory;
 use value_rows::Query;
 
-/// The place of the first answer to each query of each reader, where it is about a tag or a group, on its tape.
+// The place of the first answer to each query of each reader, where it is about a tag or a group, on its tape.
 pub(crate) fn places_of(
     alloc: Global,
     readers: &[Vec<Query>],

@@ -15,7 +15,7 @@ use trend_num::{Point, WantOfMemory};
 use trend_report::{ReplyText, reply_text};
 use value_rows::Query;
 
-/// Adds a line of the reply to each query of each reader. `notes` is the place of the first reader's note.
+// Adds a line of the reply to each query of each reader. `notes` is the place of the first reader's note.
 pub(crate) fn put_replies(
     alloc: Global,
     text: &mut String,
@@ -62,9 +62,7 @@ fn put_reader(
     for place in 0..queries.len() {
         let query = queries[place];
         let at = found[place];
-        put_reply(
-            alloc, text, session, held, notes, reader, place, query, at,
-        )?;
+        put_reply(alloc, text, session, held, notes, reader, place, query, at)?;
     }
     Ok(())
 }

@@ -8,7 +8,7 @@ use std::alloc::Global;
 use tag_cell::{Entry, TagHistory};
 use trend_num::{Point, Snap, WantOfMemory};
 
-/// Of each tag the points that closed its line after its takes, in order.
+// Of each tag the points that closed its line after its takes, in order.
 pub(crate) fn held_lists(
     alloc: Global,
     tags: &[TagHistory],
@@ -46,7 +46,7 @@ fn held_after(entry: &Entry) -> Option<Point>
     }
 }
 
-/// The snapshot of a tag that a note tells at a place, if it does.
+// The snapshot of a tag that a note tells at a place, if it does.
 pub(crate) fn snap_told(notes: &[WorkerNote], worker: usize, place: usize, tag: u32) -> Option<Snap>
     ensures { result ≡ snap_in tag (told_at notes.now worker place) }
 {
@@ -63,7 +63,7 @@ pub(crate) fn snap_told(notes: &[WorkerNote], worker: usize, place: usize, tag: 
     }
 }
 
-/// The snapshot of a tag that a reader is told: the one that was told it, if the tag had it, else that of the tag's end.
+// The snapshot of a tag that a reader is told: the one that was told it, if the tag had it, else that of the tag's end.
 pub(crate) fn snap_of(
     tags: &[TagHistory],
     held: &[Vec<Point>],

@@ -8,7 +8,7 @@ use tag_cell::TagHistory;
 use trend_num::{TagDef, WantOfMemory};
 use trend_report::{line_of, tag_text};
 
-/// Adds a line of each tag.
+// Adds a line of each tag.
 pub(crate) fn put_tags(
     alloc: Global,
     text: &mut String,
