@@ -80,6 +80,15 @@ none_of (Some x) nothing = absurd (nothing x refl)
 
 -- ---- entries
 
+-- where nothing is new, nothing is kept
+pub kept_nothing : (its : UnitOf) (asked : Option Query) (old : Option ℕ) → old ≡ kept_first its asked old None
+kept_nothing its asked old = by (is_about its asked) old
+  where
+    by : (b : Bool) (o : Option ℕ) → o ≡ cond b (option_or o None) o
+    by true None = refl
+    by true (Some p) = refl
+    by false o = refl
+
 -- what is kept of two places, one after the other, is what is kept of the first of them
 kept_twice : (its : UnitOf) (asked : Option Query) (old one two : Option ℕ)
     → kept_first its asked (kept_first its asked old one) two ≡ kept_first its asked old (option_or one two)
@@ -131,12 +140,7 @@ module _ {E : Type 0} (asker : E → Option Asker) (readers : List (List Query))
 -- before the first entry nothing is kept
 pub filled_nothing : {E : Type 0} (asker : E → Option Asker) (readers : List (List Query)) (its : UnitOf) (table : Table)
     → IsFilled asker readers its [] table table
-filled_nothing asker readers its table reader k = by (is_about its (query_in readers reader k)) (place_in table reader k)
-  where
-    by : (b : Bool) (o : Option ℕ) → o ≡ cond b (option_or o None) o
-    by true None = refl
-    by true (Some p) = refl
-    by false o = refl
+filled_nothing asker readers its table reader k = kept_nothing its (query_in readers reader k) (place_in table reader k)
 
 -- ---- tapes
 
