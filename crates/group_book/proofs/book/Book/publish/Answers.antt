@@ -22,10 +22,12 @@ invariant_of-self-2 g c =
     let versions = versions_reached b.sheet s ps c.in_ok-versions.versions.items goes inputs refreshed
     (c.in_ok-versions.ensures ∙ ap (map (λ p. p.upto)) c.deref-2.ensures.value) in
     let told = c.push_reserved.ensures.items ∙ ap (λ (l : List Turn). l ++ Refresh c.in_ok-entry.entry ∷ []) c.make_place.ensures.same in
-    book_refreshed b.text.items b.def b.tags.items b.opening b.tape.items c.push_reserved.new.self.items b.versions.items
+    let was = c.self.invariant in
+    let now = book_refreshed b.text.items b.def b.tags.items b.opening b.tape.items c.push_reserved.new.self.items b.versions.items
     c.in_ok-versions.versions.items c.in_ok-entry.entry b.sheet s (pulled_records ps)
     (record { number = b.number; versions = b.saved_versions.items; rows = lists_of b.saved_rows.items; end = b.end }) b.failed _ _ _ _
-    c.self.invariant refreshed entry versions told
+    (was.0, was.1, was.2, was.3) refreshed entry versions told in
+    (now.0, now.1, now.2, now.3, was.4)
 
 pub returns-clause-published : goal.returns-clause-published
 returns-clause-published g c =

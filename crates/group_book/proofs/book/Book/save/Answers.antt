@@ -54,7 +54,7 @@ invariant_of-self-in-Ok g c =
     c.push_reserved.new.self.items next s.failed (D.fault_count c.put_block.new.dev) longer
     (λ i. record { number = b.number; versions = versions_are i; rows = rows_are i; end = end_is i }) c.if-self.false
     c.in-Ok.ensures.cause.passed safe in
-    (was.0, kept'.0, kept'.1, kept'.2)
+    (was.0, kept'.0, kept'.1, kept'.2, λ some. tt)
 
 pub returns-in-Ok-clause-saved : goal.returns-in-Ok-clause-saved
 returns-in-Ok-clause-saved g c = λ d there.
@@ -151,4 +151,5 @@ invariant_of-self-in-Err-DeviceFault g c =
           (safe_writing s.text.items s.def s.opening tape s.versions.items copies s.sheet.rows saved (D.trace c.in-Some.dev)
           (D.ticks c.in-Some.dev) (D.fault_count c.in-Some.dev) was.0.group was.0.grid was.0.copies was.1 kept b is safe new
           c.put_block.ensures.any_moment),
+      λ some. tt,
     )
