@@ -1,4 +1,4 @@
-use Rattle.std.proofs.Common.{◌≡◌, ◌∙◌, ℕ, [], Err, Some, false, List, length, map, sym, ap, subst, arith}
+use Rattle.std.proofs.Common.{◌≡◌, ◌∙◌, ℕ, [], Err, Some, false, List, length, map, refl, sym, ap, subst, arith}
 use Rattle.std.proofs.lemmas.List.{length-map}
 use Rattle.disk_model.specs.Calls.{Shows}
 use Rattle.disk_model.specs.Moments.{LeftSince}
@@ -80,5 +80,5 @@ invariant_of-result g c =
           holds (D.ticks dev) (D.fault_count dev) c.clock.ensures inputs (sym c.faults.ensures),
       opened_safe c.args.text.now def o s.copies s.rows vs saved copied opened opened_rows saved_versions saved_rows (D.trace dev) ready
           holds (D.ticks dev) (D.fault_count dev) c.clock.ensures c.requires.group.named (g.met.D.Disk.told dev),
-      λ some. tt,
+      λ some. refl,
     )))

@@ -1,4 +1,5 @@
 use Rattle.std.proofs.Common.{◌≡◌, ◌+◌, ◌++◌, ◌∷◌, [], List, map, length, refl, sym, ap, ◌∙◌, subst}
+use Rattle.std.proofs.lemmas.List.{length-map}
 use Rattle.calc_refresh.specs.Lists.{lists_of}
 use Rattle.calc_refresh.specs.Refreshed.{IsRefreshed, evaluated}
 use Rattle.group_book.specs.declared.turn.Turn.{Turn}
@@ -6,6 +7,13 @@ use Rattle.group_book.specs.declared.turn.Turn.TheVariants.{Refresh}
 use Rattle.group_book.specs.Told.{GoesOn, Told, pulled_records}
 use Rattle.group_book.proofs.Pulls.{book_refreshed, published_by, versions_reached}
 use Rattle.group_book.proofs.book.Book.publish.Goals as goal
+
+pub apply-requires-clause-inputs : goal.apply-requires-clause-inputs
+apply-requires-clause-inputs g c =
+    let ps = c.args.pulled.items in
+    ap length c.deref-3.ensures.value
+    ∙ sym (length-map c.in_ok-deltas.deltas.items (λ v. v.items)) ∙ ap length c.in_ok-deltas.ensures ∙ length-map ps (λ p. p.recs.items)
+    ∙ c.requires.inputs ∙ sym (ap (λ (t : Told _). t.def.inputs) c.self.view_is) ∙ sym c.self.invariant.0.copies
 
 pub invariant_of-self-2 : goal.invariant_of-self-2
 invariant_of-self-2 g c =
