@@ -8,11 +8,11 @@ use Rattle.std.proofs.lemmas.Slice.Zip.{all_zipped_more}
 use Rattle.disk_model.specs.Calls.{sum_of_counts}
 use Rattle.disk_model.specs.Traces.{Trace}
 use Rattle.tag_cell.specs.declared.history.TagHistory.{TagHistory}
-use Rattle.tag_cell.specs.Told.{Told}
+use Rattle.tag_cell.specs.Told.{Told, IsHistory}
 use Rattle.tag_store.proofs.Turns.{zip_weaker}
-use Rattle.cell_store.specs.Closings.{AreGivenBack, AreHistoriesOf, CountsCells, HasRisen, IsHistoryOf}
+use Rattle.cell_store.specs.Closings.{AreGivenBack, AreHistoriesAt, AreHistoriesOf, CountsCells, HasRisen, IsHistoryOf}
 use Rattle.cell_store.specs.Names.{AreApart}
-use Rattle.cell_store.proofs.Lists.{all_before, all_last, next_of}
+use Rattle.cell_store.proofs.Lists.{all_before, all_last, next_of, zip_joined}
 
 -- before the first
 pub none_back : {D : Type 0} (trace : D → Option Trace) (traces : List ℕ → Option Trace) → AreGivenBack trace [] [] traces traces
@@ -157,3 +157,22 @@ all_back trace ticks faults names cells rest histories old now before count clos
     subst (λ l. AreGivenBack trace l cells old now) (take_all (length histories) names (omega (arith, all, long)))
     (subst (λ l. AreGivenBack trace (take (length histories) names) l old now)
     (take_all (length histories) cells (omega (arith, all))) closed.back)
+
+-- so each history is that of the device under its name
+pub all_at : {D : Type 0} (trace : D → Option Trace) (ticks faults : D → ℕ) (names : List (List ℕ)) (cells rest : List (Told D))
+    (histories : List TagHistory) (old now : List ℕ → Option Trace) (before count : ℕ)
+    → AreClosed trace ticks faults names cells rest histories old now before count → length histories ≡ length cells
+    → length names ≡ length cells → AreHistoriesAt now names histories
+all_at {D} trace ticks faults names cells rest histories old now before count closed all long =
+    let back = all_back trace ticks faults names cells rest histories old now before count closed all long in
+    let told = subst (λ l. AreHistoriesOf trace ticks faults l histories) (take_all (length histories) cells (omega (arith, all)))
+    closed.told in
+    zip_joined (λ name (c : Told D). now name ≡ trace c.journal.dev) (λ (c : Told D) (h : TagHistory). IsHistoryOf
+    (trace c.journal.dev) (ticks c.journal.dev) (faults c.journal.dev) c h)
+    (λ name (h : TagHistory). (t : ℕ) × (n : ℕ) × IsHistory h (now name) t n)
+    (λ name c h says is. (
+      ticks c.journal.dev,
+      faults c.journal.dev,
+      subst (λ o. IsHistory h o (ticks c.journal.dev)
+          (faults c.journal.dev)) (sym says) is.history,
+    )) names cells histories back.given told

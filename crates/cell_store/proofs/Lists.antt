@@ -75,6 +75,18 @@ zip_both Q R P follows (x ∷ xs) [] all both = absurd all
 zip_both Q R P follows (x ∷ xs) (y ∷ ys) all both =
     All-cons P x xs (follows x y all.0 both.0) (zip_both Q R P follows xs ys all.1 both.1)
 
+-- two relations give a third one where the first list of the one is the second of the other
+pub zip_joined : {A B C : Type 0} (Q : A → B → Type 0) (R : B → C → Type 0) (P : A → C → Type 0)
+    → ((x : A) (y : B) (z : C) → Q x y → R y z → P x z) → (xs : List A) (ys : List B) (zs : List C) → AllZip Q xs ys
+    → AllZip R ys zs → AllZip P xs zs
+zip_joined Q R P follows [] [] [] first second = tt
+zip_joined Q R P follows [] [] (z ∷ zs) first second = absurd second
+zip_joined Q R P follows [] (y ∷ ys) zs first second = absurd first
+zip_joined Q R P follows (x ∷ xs) [] zs first second = absurd first
+zip_joined Q R P follows (x ∷ xs) (y ∷ ys) [] first second = absurd second
+zip_joined Q R P follows (x ∷ xs) (y ∷ ys) (z ∷ zs) first second =
+    (follows x y z first.0 second.0, zip_joined Q R P follows xs ys zs first.1 second.1)
+
 -- the sum over what the elements are seen as
 pub sum_by_seen : {A B : Type 0} (f : B → ℕ) (g : A → B) (xs : List A) → sum_by f (map g xs) ≡ sum_by (λ x. f (g x)) xs
 sum_by_seen f g [] = refl

@@ -20,6 +20,11 @@ abbrev pub AreHistoriesOf : {D : Type 0} → (D → Option Trace) → (D → ℕ
 AreHistoriesOf {D} trace ticks faults cells histories = AllZip (λ (c : Told D) h. IsHistoryOf (trace c.journal.dev)
     (ticks c.journal.dev) (faults c.journal.dev) c h) cells histories
 
+-- each history is that of the device which a store has under the name in its place
+abbrev pub AreHistoriesAt : (List ℕ → Option Trace) → List (List ℕ) → List TagHistory → Type 0
+AreHistoriesAt traces names histories =
+    AllZip (λ name h. (ticks : ℕ) × (faults : ℕ) × IsHistory h (traces name) ticks faults) names histories
+
 -- the device of each of these names is that of the cell in the same place, and any other device is as it was
 pub record AreGivenBack {D : Type 0} (trace : D → Option Trace) (names : List (List ℕ)) (cells : List (Told D))
     (old new : List ℕ → Option Trace) : Type 0 where

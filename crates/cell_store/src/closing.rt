@@ -1,7 +1,7 @@
 // Cells are given back.
 ghost use Rattle.std.specs.Prelude.{◌≡◌, ◌≢◌, ℕ, ◌^◌, ◌<◌, ◌≤◌, List, [], IsTrue, true, vec_len, vec_capacity, length};
 ghost use Rattle.disk_model.specs.Calls.{sum_of_counts};
-ghost use Rattle.cell_store.specs.Closings.{AreGivenBack, AreHistoriesOf, CountsCells, IsHistoryOf};
+ghost use Rattle.cell_store.specs.Closings.{AreGivenBack, AreHistoriesAt, AreHistoriesOf, CountsCells, IsHistoryOf};
 ghost use Rattle.cell_store.specs.Names.{AreApart, HasPlaces, texts};
 
 use disk_model::{Disk, Store};
@@ -21,6 +21,7 @@ pub fn close_cells<S: Store>(
     requires apart { AreApart (texts names.now) }
     requires places { HasPlaces (S.has_place store.old) (texts names.now) }
     ensures histories { AreHistoriesOf S.Dev.trace S.Dev.ticks S.Dev.fault_count cells.items histories.new.items }
+    ensures devices { AreHistoriesAt (S.device_at store.new) (texts names.now) histories.new.items }
     ensures given_back { AreGivenBack S.Dev.trace (texts names.now) cells.items (S.device_at store.old) (S.device_at store.new) }
     ensures kept_places { (n : List ℕ) → IsTrue (S.has_place store.old n) → IsTrue (S.has_place store.new n) }
     ensures counts { S.fault_count store.old < 2 ^ 64

@@ -43,8 +43,10 @@ pub fn open_cells<S: Store, R: Wait>(
     // Each cell is what its tag's device recovers, and has its room. The store keeps a place for each device.
     ensures opened { IfOk result (λ cells. AreCellsOpened S.Dev.trace S.Dev.ticks S.Dev.fault_count tags.now
         (S.device_at store.old) cells.items) }
+    ensures as_many { IfOk result (λ cells. length cells.items ≡ length tags.now) }
     ensures rooms { IfOk result (λ cells. map (λ c. c.room) cells.items ≡ rooms.now) }
     ensures few_records { IfOk result (λ cells. records_opened cells.items ≤ most_stored) }
+    ensures passed { OnOk result (S.fault_count store.new ≡ S.fault_count store.old) }
     ensures places { OnOk result (HasPlaces (S.has_place store.new) (texts names.now)) }
 
     // A refusal tells its first cause. A crash at any moment has left of each device what one before might have left, or what

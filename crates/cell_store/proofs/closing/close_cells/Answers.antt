@@ -4,7 +4,7 @@ use Rattle.std.proofs.lemmas.List.{length-map}
 use Rattle.std.proofs.lemmas.List.Elements.{All-get_or}
 use Rattle.std.proofs.lemmas.Grind.{common_steps}
 use Rattle.cell_store.specs.Names.{texts}
-use Rattle.cell_store.proofs.Backs.{all_back, begun, one_closed}
+use Rattle.cell_store.proofs.Backs.{all_at, all_back, begun, one_closed}
 use Rattle.cell_store.proofs.Labels.{text_at}
 use Rattle.cell_store.proofs.closing.close_cells.Goals as goal
 
@@ -73,6 +73,17 @@ returns-clause-given_back g c =
     let names = c.args.names.now in
     let none : into_iter_len c.loop-cell.rest ≡ 0 = grind (arith, common_steps) in
     all_back g.S.Dev.Disk.trace g.S.Dev.Disk.ticks g.S.Dev.Disk.fault_count (texts names) c.args.cells.items
+    (into_iter_items c.loop-cell.rest) c.loop-cell.histories.items (g.S.Store.device_at c.args.store.now)
+    (g.S.Store.device_at c.loop-cell.store) (g.S.Store.fault_count c.args.store.now) (g.S.Store.fault_count c.loop-cell.store)
+    inv.closed (omega (arith, inv.count, none))
+    (omega (arith, length-map names string_bytes, c.requires.as_many, c.args.cells.ok.0))
+
+pub returns-clause-devices : goal.returns-clause-devices
+returns-clause-devices g c =
+    let inv = c.loop-cell.invariant in
+    let names = c.args.names.now in
+    let none : into_iter_len c.loop-cell.rest ≡ 0 = grind (arith, common_steps) in
+    all_at g.S.Dev.Disk.trace g.S.Dev.Disk.ticks g.S.Dev.Disk.fault_count (texts names) c.args.cells.items
     (into_iter_items c.loop-cell.rest) c.loop-cell.histories.items (g.S.Store.device_at c.args.store.now)
     (g.S.Store.device_at c.loop-cell.store) (g.S.Store.fault_count c.args.store.now) (g.S.Store.fault_count c.loop-cell.store)
     inv.closed (omega (arith, inv.count, none))
