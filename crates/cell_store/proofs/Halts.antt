@@ -9,7 +9,7 @@ use Rattle.trend_num.specs.Limits.{most_stored}
 use Rattle.trend_num.specs.declared.refusal.What.TheVariants.{StoreRecords}
 use Rattle.trend_num.specs.declared.tag_def.TagDef.{TagDef}
 use Rattle.tag_core.specs.Core.{Core}
-use Rattle.disk_model.specs.Calls.{CountsFault, Rose}
+use Rattle.disk_model.specs.Calls.{CountsFault, Rose, sum_of_counts}
 use Rattle.disk_model.specs.Traces.{Trace}
 use Rattle.device_layout.specs.declared.failure.OpenNo.{OpenNo}
 use Rattle.device_layout.specs.declared.failure.OpenNo.TheVariants.{DeviceFault, Damaged, OtherTag, Full, WantOfMemory}
@@ -26,7 +26,7 @@ use Rattle.cell_store.specs.Closings.{AreGivenBack, CountsCells}
 use Rattle.cell_store.specs.Names.{names_of, texts}
 use Rattle.cell_store.specs.Openings.{core_of, IsCellOpened, AreCellsOpened, records_opened}
 use Rattle.cell_store.specs.Stops.{IsStopped}
-use Rattle.cell_store.proofs.Fronts.{AllStayFrom, all_stay, cores_opened, given_later, not_reached, one_longer, reached, records_are, turned_from, unchanged_from}
+use Rattle.cell_store.proofs.Fronts.{AllStayFrom, all_stay, cores_opened, given_later, not_reached, one_longer, reached, records_are, turned_from}
 use Rattle.cell_store.proofs.Labels.{given_of}
 use Rattle.cell_store.proofs.Lists.{zip_each}
 
@@ -110,36 +110,48 @@ stopped_there trace ticks faults tags i def cells old now mid before count why d
       counts = λ small. counted (Unit {0}) i before count why (counts small);
     }
 
--- behind a tag with whose records there are too many
-pub stopped_behind : {D : Type 0} (trace : D → Option Trace) (ticks faults : D → ℕ) (tags : List TagDef) (i : ℕ) (def : TagDef)
-    (cells : List (Told D)) (c : Told D) (old mid : List ℕ → Option Trace) (before count number : ℕ) → AreDistinct tags
-    → AreFirst trace ticks faults tags i cells old → AreOthersSame (take (i + 1) tags) old mid → IsTag tags i def
-    → IsCellOpened def (trace_of old def) (trace c.journal.dev) (ticks c.journal.dev) (faults c.journal.dev) c
+-- a cell that is opened now was opened as what its tag's device told at the beginning
+pub opened_since : {D : Type 0} (tags : List TagDef) (i : ℕ) (def : TagDef) (text : List ℕ) (old now : List ℕ → Option Trace)
+    (new : Option Trace) (ticks faults : ℕ) (c : Told D) → AreOthersSame (take i tags) old now → AreDistinct tags
+    → IsTag tags i def → text ≡ device_name def.name → IsCellOpened def (now text) new ticks faults c
+    → IsCellOpened def (trace_of old def) new ticks faults c
+opened_since tags i def text old now new ticks faults c others distinct tag named is =
+    subst (λ o. IsCellOpened def o new ticks faults c) (ap now named ∙ not_reached tags i i def old now others distinct tag (omega arith)) is
+
+-- at a tag with which there are too many records
+pub stopped_full : {D : Type 0} (trace : D → Option Trace) (ticks faults : D → ℕ) (tags : List TagDef) (i : ℕ) (def : TagDef)
+    (text : List ℕ) (cells : List (Told D)) (c : Told D) (old now mid : List ℕ → Option Trace) (before count after number : ℕ)
+    → AreDistinct tags → AreFirst trace ticks faults tags i cells old → AreOthersSame (take i tags) old now → IsTag tags i def
+    → text ≡ device_name def.name → ((n : List ℕ) → n ≢ text → mid n ≡ now n) → mid text ≡ trace c.journal.dev
+    → IsCellOpened def (now text) (trace c.journal.dev) (ticks c.journal.dev) (faults c.journal.dev) c
     → number ≡ records_opened cells + length c.opening.recs.items → most_stored < number → count ≡ before
-    → IsStopped trace tags (cells ++ c ∷ []) old mid before count (Limit StoreRecords number)
-stopped_behind {D} trace ticks faults tags i def cells c old mid before count number distinct first others tag is number_is many none =
-    let place : length (cells ++ c ∷ []) ≡ i + 1 = omega (arith, length_push cells c, first.count) in
-    let more = subst (λ l. AreCellsOpened trace ticks faults l old (cells ++ c ∷ [])) (sym (one_longer tags i def tag))
-    (all_zipped_more (λ (d : TagDef) (e : Told D). IsCellOpened d (trace_of old d) (trace e.journal.dev) (ticks e.journal.dev)
-    (faults e.journal.dev) e) (take i tags) cells def c first.opened is) in record {
-      refused = λ new after later same. (
+    → after ≡ sum_of_counts count (faults c.journal.dev)
+    → IsStopped trace tags cells old mid before after (Limit StoreRecords number)
+stopped_full {D} trace ticks faults tags i def text cells c old now mid before count after number distinct first others tag named
+    step told is number_is many none sum =
+    let place = first.count in
+    let turn = λ (n : List ℕ) (apart : n ≢ device_name def.name). step n (λ e. apart (e ∙ named)) in
+    let same = subst (λ (n : List ℕ). StaysSame def (now n) (mid n)) named (subst (λ o. StaysSame def (now text) o) (sym told) is.same) in
+    record {
+      refused = λ new after' later same'. (
         i,
         refused_there tags i def (map core_of cells) old new (IsTooMuch number)
-            (front_of trace ticks faults tags i def cells old new first tag (given_later tags (i + 1) (i + 1) old mid new others
-            (subst (λ n. AreOthersSame (take n tags) mid new) place later) (omega arith)))
+            (front_of trace ticks faults tags i def cells old new first tag (given_later tags (i + 1) i old mid new
+            (reached tags i def old now mid others tag turn) (subst (λ n. AreOthersSame (take n tags) mid new) place later) (omega arith)))
             (record {
               core = core_of c;
-              opened = is.found;
+              opened = (opened_since tags i def text old now (trace c.journal.dev) (ticks c.journal.dev) (faults c.journal.dev) c
+                  others distinct tag named is).found;
               number_is = omega (arith, number_is, records_are cells);
               many = many;
             }),
       );
       same = λ new later says.
-          all_stay trace ticks faults tags (cells ++ c ∷ []) old mid new distinct (omega (arith, place, tag.there))
-          (subst (λ n. AreCellsOpened trace ticks faults (take n tags) old (cells ++ c ∷ [])) (sym place) more)
-          (subst (λ n. AllStayFrom n tags old mid) (sym place)
-          (unchanged_from tags (i + 1) old mid distinct others)) later says;
-      counts = λ small. inl none;
+          all_stay trace ticks faults tags cells old mid new distinct (omega (arith, place, tag.there))
+          (subst (λ n. AreCellsOpened trace ticks faults (take n tags) old cells) (sym place) first.opened)
+          (subst (λ n. AllStayFrom n tags old mid) (sym place) (turned_from tags i def old now mid distinct tag others turn same))
+          later says;
+      counts = λ small. inl (omega (arith, sum, none, small, is.faultless));
     }
 
 -- ---- once the devices are given back
@@ -168,14 +180,6 @@ count_kept trace ticks faults tags all old now cells before count after why open
     (all_faultless trace ticks faults tags old cells opened)
 
 -- ---- one tag more
-
--- a cell that is opened now was opened as what its tag's device told at the beginning
-pub opened_since : {D : Type 0} (tags : List TagDef) (i : ℕ) (def : TagDef) (text : List ℕ) (old now : List ℕ → Option Trace)
-    (new : Option Trace) (ticks faults : ℕ) (c : Told D) → AreOthersSame (take i tags) old now → AreDistinct tags
-    → IsTag tags i def → text ≡ device_name def.name → IsCellOpened def (now text) new ticks faults c
-    → IsCellOpened def (trace_of old def) new ticks faults c
-opened_since tags i def text old now new ticks faults c others distinct tag named is =
-    subst (λ o. IsCellOpened def o new ticks faults c) (ap now named ∙ not_reached tags i i def old now others distinct tag (omega arith)) is
 
 -- it stands behind those before it
 pub opened_more : {D : Type 0} (trace : D → Option Trace) (ticks faults : D → ℕ) (tags : List TagDef) (i : ℕ) (def : TagDef)

@@ -36,7 +36,7 @@ pub fn close_cells<S: Store>(
 }
 
 // Gives the device of a cell back.
-fn close_cell<S: Store>(store: &mut S, name: &str, cell: Cell<S::Dev>) -> TagHistory
+pub(crate) fn close_cell<S: Store>(store: &mut S, name: &str, cell: Cell<S::Dev>) -> TagHistory
     requires { IsTrue (S.has_place store.old name.now) }
     ensures history { IsHistoryOf (S.Dev.trace cell.journal.dev) (S.Dev.ticks cell.journal.dev)
         (S.Dev.fault_count cell.journal.dev) cell result }

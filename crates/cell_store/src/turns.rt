@@ -14,6 +14,7 @@ ghost use Rattle.cell_store.specs.Names.{HasPlaces, names_of, texts};
 ghost use Rattle.cell_store.specs.Openings.{AreCellsOpened, IsCellOpened, records_opened};
 ghost use Rattle.cell_store.specs.Stops.{IsStopped};
 
+use crate::closing::close_cell;
 use crash_recovery::{OpenFail, OpenNo};
 use disk_model::{Disk, Store};
 use plant_status::Status;
@@ -24,8 +25,8 @@ use tag_cell::{Cell, open_cell};
 use tag_store::{LANE_SLOTS, MAX_STORE_RECORDS, status_of, too_many};
 use trend_num::TagDef;
 
-// Opens each tag in order, and adds its cell to the list, which has room for all. It stops at the first tag that is not opened,
-// whose device is given back, and behind the first with which there are too many records; the others are still out then.
+// Opens each tag in order, and adds its cell to the list, which has room for all. It stops at the first tag that is not opened, or
+// with which there are too many records. The device of that tag is given back; those of the cells before it are still out then.
 pub(crate) fn open_all<S: Store, R: Wait>(
     rt: &R,
     alloc: Global,
@@ -72,10 +73,11 @@ pub(crate) fn open_all<S: Store, R: Wait>(
             Err(why) => return Err(status_of(tag as u32, why)),
         };
         records += cell.recs().len() as u64;
-        cells.push_reserved(cell);
         if records > MAX_STORE_RECORDS {
+            drop(close_cell(store, name, cell));
             return Err(too_many(records));
         }
+        cells.push_reserved(cell);
     }
     Ok(())
 }

@@ -1,4 +1,4 @@
-use Rattle.std.proofs.Common.{◌≡◌, ℕ, ◌+◌, ◌<◌, List, [], ◌∷◌, ◌++◌, length, take, drop, sym, ◌∙◌, ap, subst, arith}
+use Rattle.std.proofs.Common.{◌≡◌, ◌≢◌, ℕ, ◌+◌, ◌<◌, List, ◌∷◌, length, drop, sym, ◌∙◌, ap, subst, arith}
 use Rattle.std.specs.Option.{IsSome}
 use Rattle.std.specs.Arc.{arc_value}
 use Rattle.std.specs.Vec.Iter.{into_iter_items, into_iter_len}
@@ -13,11 +13,10 @@ use Rattle.tag_cell.specs.Told.{Told}
 use Rattle.tag_store.specs.Refusals.{status_of}
 use Rattle.tag_store.proofs.Endings.{of_all}
 use Rattle.tag_store.proofs.Turns.{IsTag}
-use Rattle.cell_store.specs.Names.{HasPlaces, texts}
-use Rattle.cell_store.specs.Openings.{AreCellsOpened, records_opened}
+use Rattle.cell_store.specs.Openings.{records_opened}
 use Rattle.cell_store.specs.Stops.{IsStopped}
 use Rattle.cell_store.proofs.Fronts.{posts_to, reached}
-use Rattle.cell_store.proofs.Halts.{counted_since, opened_more, opened_since, records_more, rooms_more, stopped_behind, stopped_there}
+use Rattle.cell_store.proofs.Halts.{counted_since, opened_more, opened_since, records_more, rooms_more, stopped_full, stopped_there}
 use Rattle.cell_store.proofs.Labels.{as_many_names, name_of_tag, places_more}
 use Rattle.cell_store.proofs.Lists.{next_of, no_some}
 use Rattle.cell_store.proofs.turns.open_all.Goals as goal
@@ -86,57 +85,6 @@ returns-in-Err-clause-stopped g c =
     (counted_since {T = Told g.row.S-Dev.Denot} (g.S.Store.fault_count c.args.store.now) (g.S.Store.fault_count c.loop-def.store)
     (g.S.Store.fault_count c.open_one.new.store) c.in-Err.why inv.passed c.in-Err.ensures.counts))
 
-pub returns-then-records-gt-MAX_STORE_RECORDS-clause-opened :
-    goal.returns-then-records-gt-MAX_STORE_RECORDS-clause-opened
-returns-then-records-gt-MAX_STORE_RECORDS-clause-opened g c =
-    let inv = c.loop-def.invariant in
-    let i = c.loop-def.def-index in
-    let def = c.def-item.result in
-    let cell = c.in-Ok.cell in
-    let tags = c.args.tags.now in
-    let names = c.args.names.now in
-    let old = g.S.Store.device_at c.args.store.now in
-    let now = g.S.Store.device_at c.loop-def.store in
-    let new = g.S.Store.device_at c.open_one.new.store in
-    let tag : IsTag tags i def = record { there = c.loop-def-test.true; is = c.def-item.is } in
-    let place : c.len-tag.result ≡ i = omega (arith, c.len-tag.ensures, c.loop-def.cells.ok.0, inv.first.count) in
-    let named = name_of_tag names tags i c.len-tag.result c.index-names-tag.result c.as_str-name.result.now def c.requires.names tag
-    place c.index-names-tag.is c.as_str-name.ensures.value in
-    let is = opened_since tags i def c.as_str-name.result.now old now (g.S.Dev.Disk.trace cell.journal.dev)
-    (g.S.Dev.Disk.ticks cell.journal.dev) (g.S.Dev.Disk.fault_count cell.journal.dev) cell inv.others c.requires.distinct tag named
-    c.in-Ok.ensures.opened in
-    let more = opened_more g.S.Dev.Disk.trace g.S.Dev.Disk.ticks g.S.Dev.Disk.fault_count tags i def c.loop-def.cells.items
-    c.push_reserved.new.self.items cell old inv.first tag is c.push_reserved.ensures.items in
-    subst (λ n. AreCellsOpened g.S.Dev.Disk.trace g.S.Dev.Disk.ticks g.S.Dev.Disk.fault_count (take n tags) old
-    c.push_reserved.new.self.items) (sym more.1) more.0
-
-pub returns-then-records-gt-MAX_STORE_RECORDS-clause-places :
-    goal.returns-then-records-gt-MAX_STORE_RECORDS-clause-places
-returns-then-records-gt-MAX_STORE_RECORDS-clause-places g c =
-    let inv = c.loop-def.invariant in
-    let i = c.loop-def.def-index in
-    let def = c.def-item.result in
-    let cell = c.in-Ok.cell in
-    let tags = c.args.tags.now in
-    let names = c.args.names.now in
-    let old = g.S.Store.device_at c.args.store.now in
-    let now = g.S.Store.device_at c.loop-def.store in
-    let new = g.S.Store.device_at c.open_one.new.store in
-    let tag : IsTag tags i def = record { there = c.loop-def-test.true; is = c.def-item.is } in
-    let place : c.len-tag.result ≡ i = omega (arith, c.len-tag.ensures, c.loop-def.cells.ok.0, inv.first.count) in
-    let named = name_of_tag names tags i c.len-tag.result c.index-names-tag.result c.as_str-name.result.now def c.requires.names tag
-    place c.index-names-tag.is c.as_str-name.ensures.value in
-    let is = opened_since tags i def c.as_str-name.result.now old now (g.S.Dev.Disk.trace cell.journal.dev)
-    (g.S.Dev.Disk.ticks cell.journal.dev) (g.S.Dev.Disk.fault_count cell.journal.dev) cell inv.others c.requires.distinct tag named
-    c.in-Ok.ensures.opened in
-    let more = opened_more g.S.Dev.Disk.trace g.S.Dev.Disk.ticks g.S.Dev.Disk.fault_count tags i def c.loop-def.cells.items
-    c.push_reserved.new.self.items cell old inv.first tag is c.push_reserved.ensures.items in
-    let places = places_more (g.S.Store.has_place c.loop-def.store) (g.S.Store.has_place c.open_one.new.store) names i
-    c.len-tag.result c.index-names-tag.result c.as_str-name.result.now inv.places c.open_one.ensures.kept_places
-    c.in-Ok.ensures.place (omega (arith, tag.there, as_many_names names tags c.requires.names)) place c.index-names-tag.is
-    c.as_str-name.ensures.value in
-    subst (λ n. HasPlaces (g.S.Store.has_place c.open_one.new.store) (take n (texts names))) (sym more.1) places
-
 pub returns-then-records-gt-MAX_STORE_RECORDS-clause-others :
     goal.returns-then-records-gt-MAX_STORE_RECORDS-clause-others
 returns-then-records-gt-MAX_STORE_RECORDS-clause-others g c =
@@ -145,16 +93,16 @@ returns-then-records-gt-MAX_STORE_RECORDS-clause-others g c =
     let def = c.def-item.result in
     let cell = c.in-Ok.cell in
     let tags = c.args.tags.now in
-    let names = c.args.names.now in
     let old = g.S.Store.device_at c.args.store.now in
     let now = g.S.Store.device_at c.loop-def.store in
-    let new = g.S.Store.device_at c.open_one.new.store in
+    let new = g.S.Store.device_at c.close_cell.new.store in
     let tag : IsTag tags i def = record { there = c.loop-def-test.true; is = c.def-item.is } in
     let place : c.len-tag.result ≡ i = omega (arith, c.len-tag.ensures, c.loop-def.cells.ok.0, inv.first.count) in
-    let named = name_of_tag names tags i c.len-tag.result c.index-names-tag.result c.as_str-name.result.now def c.requires.names tag
-    place c.index-names-tag.is c.as_str-name.ensures.value in
-    let others = reached tags i def old now new inv.others tag (λ n apart. c.open_one.ensures.others n (λ e. apart (e ∙ named))) in
-    of_all tags (i + 1) old new others
+    let named = name_of_tag c.args.names.now tags i c.len-tag.result c.index-names-tag.result c.as_str-name.result.now def
+    c.requires.names tag place c.index-names-tag.is c.as_str-name.ensures.value in
+    of_all tags (i + 1) old new (reached tags i def old now new inv.others tag (λ n apart.
+    let other : n ≢ c.as_str-name.result.now = λ e. apart (e ∙ named) in
+    c.close_cell.ensures.others n other ∙ c.open_one.ensures.others n other))
 
 pub returns-then-records-gt-MAX_STORE_RECORDS-clause-stopped :
     goal.returns-then-records-gt-MAX_STORE_RECORDS-clause-stopped
@@ -164,27 +112,25 @@ returns-then-records-gt-MAX_STORE_RECORDS-clause-stopped g c =
     let def = c.def-item.result in
     let cell = c.in-Ok.cell in
     let tags = c.args.tags.now in
-    let names = c.args.names.now in
     let old = g.S.Store.device_at c.args.store.now in
     let now = g.S.Store.device_at c.loop-def.store in
-    let new = g.S.Store.device_at c.open_one.new.store in
+    let new = g.S.Store.device_at c.close_cell.new.store in
     let tag : IsTag tags i def = record { there = c.loop-def-test.true; is = c.def-item.is } in
     let place : c.len-tag.result ≡ i = omega (arith, c.len-tag.ensures, c.loop-def.cells.ok.0, inv.first.count) in
-    let named = name_of_tag names tags i c.len-tag.result c.index-names-tag.result c.as_str-name.result.now def c.requires.names tag
-    place c.index-names-tag.is c.as_str-name.ensures.value in
-    let others = reached tags i def old now new inv.others tag (λ n apart. c.open_one.ensures.others n (λ e. apart (e ∙ named))) in
-    let is = opened_since tags i def c.as_str-name.result.now old now (g.S.Dev.Disk.trace cell.journal.dev)
-    (g.S.Dev.Disk.ticks cell.journal.dev) (g.S.Dev.Disk.fault_count cell.journal.dev) cell inv.others c.requires.distinct tag named
-    c.in-Ok.ensures.opened in
+    let named = name_of_tag c.args.names.now tags i c.len-tag.result c.index-names-tag.result c.as_str-name.result.now def
+    c.requires.names tag place c.index-names-tag.is c.as_str-name.ensures.value in
+    let is = c.in-Ok.ensures.opened in
     let number_is : c.loop-def.records + length c.recs.result.now
-    ≡ records_opened c.loop-def.cells.items + length cell.opening.recs.items = omega (arith, inv.records, ap (length {A = Rec}) c.recs.ensures, ap (λ (s : State). length s.records) is.state_is) in
-    subst (λ l. IsStopped g.S.Dev.Disk.trace tags l old new (g.S.Store.fault_count c.args.store.now)
-    (g.S.Store.fault_count c.open_one.new.store) c.too_many.result) (sym c.push_reserved.ensures.items)
-    (subst (IsStopped g.S.Dev.Disk.trace tags (c.loop-def.cells.items ++ cell ∷ []) old new
-    (g.S.Store.fault_count c.args.store.now) (g.S.Store.fault_count c.open_one.new.store)) (sym c.too_many.ensures)
-    (stopped_behind g.S.Dev.Disk.trace g.S.Dev.Disk.ticks g.S.Dev.Disk.fault_count tags i def c.loop-def.cells.items cell old new
-    (g.S.Store.fault_count c.args.store.now) (g.S.Store.fault_count c.open_one.new.store) _ c.requires.distinct inv.first others tag
-    is number_is c.if-records-gt-MAX_STORE_RECORDS.true (c.in-Ok.ensures.passed ∙ inv.passed)))
+    ≡ records_opened c.loop-def.cells.items + length cell.opening.recs.items =
+    omega (arith, inv.records, ap (length {A = Rec}) c.recs.ensures, ap (λ (s : State). length s.records) is.state_is) in
+    subst (IsStopped g.S.Dev.Disk.trace tags c.loop-def.cells.items old new (g.S.Store.fault_count c.args.store.now)
+    (g.S.Store.fault_count c.close_cell.new.store)) (sym c.too_many.ensures)
+    (stopped_full g.S.Dev.Disk.trace g.S.Dev.Disk.ticks g.S.Dev.Disk.fault_count tags i def c.as_str-name.result.now
+    c.loop-def.cells.items cell old now new (g.S.Store.fault_count c.args.store.now) (g.S.Store.fault_count c.open_one.new.store)
+    (g.S.Store.fault_count c.close_cell.new.store) (c.loop-def.records + length c.recs.result.now) c.requires.distinct inv.first
+    inv.others tag named
+    (λ n other. c.close_cell.ensures.others n other ∙ c.open_one.ensures.others n other) c.close_cell.ensures.told is number_is
+    c.if-records-gt-MAX_STORE_RECORDS.true (c.in-Ok.ensures.passed ∙ inv.passed) c.close_cell.ensures.counted)
 
 pub loop-def-preserved :
     goal.loop-def-preserved
