@@ -1,5 +1,5 @@
 -- What a book is seen as, what its type keeps, and what its calls change.
-use Rattle.std.specs.Prelude.{◌≡◌, ◌⊎◌, ℕ, ◌+◌, ◌<◌, ◌≤◌, Bool, true, false, List, [], ◌∷◌, ◌++◌, length, map, Option, None, Some, IfSome, slice_index, slice_index_or, Vec}
+use Rattle.std.specs.Prelude.{◌≡◌, ◌≢◌, ◌⊎◌, ℕ, ◌+◌, ◌<◌, ◌≤◌, Bool, true, false, List, [], ◌∷◌, ◌++◌, length, map, Option, None, Some, IfSome, IsSome, slice_index, slice_index_or, Vec}
 use Rattle.std.specs.declared.alloc.Global.{Global}
 use Rattle.trend_num.specs.declared.archive.Rec.{Rec}
 use Rattle.trend_num.specs.declared.value.CalcValue.{CalcValue}
@@ -89,6 +89,10 @@ pub record IsKept (text : List ℕ) (def : GroupDefParts) (o : GroupOpening) (ta
   pub opened_before : o.moment ≤ ticks
   pub faultless : failed ≡ false → faults ≡ o.faults
   pub cause : failed ≡ true → Rose o.faults faults
+
+-- a book with a text, which is that of its device, has one
+abbrev pub IsOnDevice : {D : Type 0} → List ℕ → Option D → Type 0
+IsOnDevice text dev = text ≢ [] → IsSome dev
 
 -- so many calls and faults, where there is a device
 abbrev pub count_of : {D : Type 0} → (D → ℕ) → Option D → ℕ

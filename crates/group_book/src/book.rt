@@ -2,7 +2,7 @@
 ghost use Rattle.std.specs.Prelude.{◌≡◌, ◌<◌, List, length, slice_index_or};
 ghost use Rattle.trend_num.specs.declared.archive.Rec.{Rec};
 ghost use Rattle.calc_refresh.specs.Lists.{lists_of};
-ghost use Rattle.group_book.specs.Told.{IsHistory, count_of, trace_of, versions_of};
+ghost use Rattle.group_book.specs.Told.{IsHistory, IsOnDevice, count_of, trace_of, versions_of};
 
 use crate::history::{GroupHistory, GroupOpening};
 use crate::turn::Turn;
@@ -44,7 +44,7 @@ impl<D: Disk> Model for Book<D> {
     ghost use Rattle.calc_refresh.specs.Sheet.{grid_of};
     ghost use Rattle.group_book.specs.Crashes.{IsSafe};
     ghost use Rattle.group_book.specs.Histories.{IsLegal};
-    ghost use Rattle.group_book.specs.Told.{Told, Saved, IsDefined, IsKept, count_of, trace_of};
+    ghost use Rattle.group_book.specs.Told.{Told, Saved, IsDefined, IsKept, IsOnDevice, count_of, trace_of};
 
     ghost Value = { Told D };
 
@@ -68,7 +68,8 @@ impl<D: Disk> Model for Book<D> {
         × IsKept b.text.items b.def b.opening b.tape.items b.sheet.copies
         (record { number = b.number; versions = b.saved_versions.items; rows = lists_of b.saved_rows.items; end = b.end }) b.failed
         (trace_of D.trace b.dev) (count_of D.ticks b.dev) (count_of D.fault_count b.dev)
-        × IsSafe b.text.items b.def.calcs (grid_of b.def.start b.def.period) b.opening b.sheet.copies b.tape.items (LeftSince (trace_of D.trace b.dev)) };
+        × IsSafe b.text.items b.def.calcs (grid_of b.def.start b.def.period) b.opening b.sheet.copies b.tape.items (LeftSince (trace_of D.trace b.dev))
+        × IsOnDevice b.text.items b.dev };
 }
 
 impl<D: Disk> Book<D> {
@@ -133,9 +134,10 @@ impl<D: Disk> Book<D> {
         }
     }
 
-    /// The device, and all that happened to the group since it was opened.
+    /// The device, and all that happened to the group since it was opened. A book with a text has a device.
     pub fn into_history(self) -> (Option<D>, GroupHistory)
         ensures device { result.0 ≡ self.dev }
+        ensures there { IsOnDevice self.text result.0 }
         ensures group { result.1.group ≡ self.group }
         ensures def { result.1.def ≡ self.def }
         ensures text { result.1.text.items ≡ self.text }

@@ -1,5 +1,5 @@
 // A book over the device of its group.
-ghost use Rattle.std.specs.Prelude.{◌≡◌, ℕ, ◌^◌, ◌<◌, ◌≤◌, [], All, Option, Some, IfErr, IfOk, IsErrOf, OnOk, false, length, map, take, vec_len};
+ghost use Rattle.std.specs.Prelude.{◌≡◌, ℕ, ◌^◌, ◌<◌, ◌≤◌, [], All, Option, Some, IfErr, IfOk, IsErrOf, IsSome, OnOk, false, length, map, take, vec_len};
 ghost use Rattle.disk_model.specs.Calls.{CountsFault, Shows};
 ghost use Rattle.disk_model.specs.Gates.{IsShut};
 ghost use Rattle.disk_model.specs.Images.{IsSettled, Now};
@@ -73,6 +73,7 @@ pub fn load<D: Disk>(
     ensures text { IfOk result (λ b. b.text ≡ text.now) }
     ensures tags { IfOk result (λ b. b.tags ≡ tags.items) }
     ensures tape { IfOk result (λ b. b.tape ≡ []) }
+    ensures device { IfOk result (λ b. IsSome b.dev) }
     ensures usable { IfOk result (λ b. b.failed ≡ false) }
     ensures moment { IfOk result (λ b. b.opening.moment ≡ count_of D.ticks b.dev) }
     ensures faults { IfOk result (λ b. b.opening.faults ≡ count_of D.fault_count b.dev) }

@@ -53,7 +53,7 @@ new_name earlier (Some n) name e = by (tag_place earlier n) refl e
     by (Some k) is taken = absurd (cc)
 
 -- where no place was found, no element passes
-nobody : {X : Type 0} (test : X → Bool) (xs : List X) (k : ℕ) (d : X) → position test xs ≡ None → k < length xs → test (get_or xs k d) ≡ false
+pub nobody : {X : Type 0} (test : X → Bool) (xs : List X) (k : ℕ) (d : X) → position test xs ≡ None → k < length xs → test (get_or xs k d) ≡ false
 nobody test xs k d none below =
     let past : length xs ≤ position_or_len test xs = grind (arith, common_steps) in
     fails_before_first test xs k d (omega arith)

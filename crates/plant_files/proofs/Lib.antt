@@ -2,3 +2,4 @@ pub mod Refusals
 pub mod Named
 pub mod InOrder
 pub mod Distinct
+pub mod DistinctGroups

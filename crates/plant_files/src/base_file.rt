@@ -23,6 +23,7 @@ pub fn base_of<F: Files>(alloc: Global, files: &mut F, name: &str) -> Result<Bas
     ensures sound { IfOk result (λ base. All (IsSound (length base.tags.items)) base.groups.items) }
     ensures tuned { IfOk result (λ base. All (λ tag. TuningInRange tag.tuning) base.tags.items) }
     ensures distinct { IfOk result (λ base. AllPairs (λ x y. x ≢ y) (tag_names base.tags.items)) }
+    ensures distinct_groups { IfOk result (λ base. AllPairs (λ a b. a.name ≢ b.name) base.groups.items) }
     ensures refused { IfErr result (IsBaseRefusal (F.told files.old name.now)) }
     ensures stays { F.told files.new ≡ F.told files.old }
     ensures faults { F.fault_count files.new ≡ faults_after result (F.fault_count files.old) }

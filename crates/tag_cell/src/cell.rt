@@ -64,12 +64,17 @@ impl<D: Disk> Model for Cell<D> {
 }
 
 impl<D: Disk> Cell<D> {
+    ghost use Rattle.std.specs.Prelude.{◌^◌, ◌<◌, All};
+    ghost use Rattle.trend_num.specs.Ranges.{InRange};
     ghost use Rattle.disk_model.specs.Calls.{Rose};
 
-    /// The records, the oldest first.
+    /// The records, the oldest first. There are fewer than 2^32, and their points are in range.
     pub fn recs(&self) -> &[Rec]
-        ensures { result.now ≡ self.now.state.records }
+        ensures records { result.now ≡ self.now.state.records }
+        ensures short { length result.now < 2 ^ 32 }
+        ensures range { All (λ r. InRange r.point) result.now }
     {
+        let _count = self.core.record_count();
         self.core.recs()
     }
 

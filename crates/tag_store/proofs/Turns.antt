@@ -42,15 +42,15 @@ begun tags old = record {
 }
 
 -- two tags of one device name have one name
-one_name : (a b : TagDef) → device_name a.name ≡ device_name b.name → a.name ≡ b.name
+pub one_name : (a b : TagDef) → device_name a.name ≡ device_name b.name → a.name ≡ b.name
 one_name a b same = append_cancel_right a.name b.name (codes ".tag") same
 
 -- tag i is this one, whatever stands for one that is not there
-any_default : (tags : List TagDef) (i : ℕ) (def d : TagDef) → IsTag tags i def → get_or tags i d ≡ def
+pub any_default : (tags : List TagDef) (i : ℕ) (def d : TagDef) → IsTag tags i def → get_or tags i d ≡ def
 any_default tags i def d tag = get_or_default tags i d def tag.there ∙ sym tag.is
 
 -- another tag has another device
-apart : (tags : List TagDef) (k i : ℕ) (def d : TagDef) → AreDistinct tags → IsTag tags i def
+pub apart : (tags : List TagDef) (k i : ℕ) (def d : TagDef) → AreDistinct tags → IsTag tags i def
     → k < length tags
     → (k < i) ⊎ (i < k) → device_name (get_or tags k d).name ≢ device_name def.name
 apart tags k i def d distinct tag in' (inl before) same =
@@ -128,7 +128,7 @@ one_more tags i def old cores core front tag opened =
     (take i tags) cores def core front opened)
 
 -- what holds of pairs place by place follows from what else does
-zip_weaker : {A B : Type 0} (P Q : A → B → Type 0) (xs : List A) (ys : List B)
+pub zip_weaker : {A B : Type 0} (P Q : A → B → Type 0) (xs : List A) (ys : List B)
     → ((k : ℕ) (d : A) (y : B) → k < length xs → P (get_or xs k d) y → Q (get_or xs k d) y)
     → AllZip P xs ys → AllZip Q xs ys
 zip_weaker P Q [] [] follows all = tt

@@ -13,8 +13,8 @@ use std::alloc::{AllocError, Global};
 use tag_core::TagCore;
 use trend_num::{Name, TagDef};
 
-// How many lane slots a new device gets.
-const LANE_SLOTS: u32 = 64;
+/// How many lane slots a new device gets.
+pub const LANE_SLOTS: u32 = 64;
 
 // Opens the device of a tag, which is made where it is not there, and gives it back whatever came.
 pub(crate) fn open_device<S: Store>(
@@ -45,8 +45,8 @@ pub(crate) fn open_device<S: Store>(
     opened
 }
 
-// What a tag's device is called.
-fn device_name(alloc: Global, name: &Name) -> Result<String, AllocError>
+/// What a tag's device is called.
+pub fn device_name(alloc: Global, name: &Name) -> Result<String, AllocError>
     ensures { IfOk result (λ text. string_bytes text ≡ device_name name.now) }
 {
     let name = name.text();

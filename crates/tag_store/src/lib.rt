@@ -12,4 +12,5 @@
 mod device;
 mod opening;
 
-pub use opening::{MAX_STORE_RECORDS, open_tags};
+pub use device::{LANE_SLOTS, device_name};
+pub use opening::{MAX_STORE_RECORDS, open_tags, status_of, too_many};

@@ -66,8 +66,8 @@ pub fn open_tags<S: Store>(
     Ok(cores)
 }
 
-// What a tag that is not opened is answered with.
-fn status_of(tag: u32, why: OpenNo) -> Status
+/// What a tag that is not opened is answered with.
+pub fn status_of(tag: u32, why: OpenNo) -> Status
     ensures { result ≡ status_of tag why }
 {
     let unit = Unit::Tag(tag);
@@ -83,8 +83,8 @@ fn status_of(tag: u32, why: OpenNo) -> Status
     }
 }
 
-// What the tags of a store are answered with that have too many records.
-fn too_many(records: u64) -> Status
+/// What the tags of a store are answered with that have too many records.
+pub fn too_many(records: u64) -> Status
     ensures { result ≡ Status.Limit What.StoreRecords records }
 {
     Status::Limit {

@@ -1,4 +1,4 @@
-use Rattle.std.proofs.Common.{◌≡◌, ◌∙◌, ℕ, [], Err, false, List, length, map, sym, ap, subst, arith}
+use Rattle.std.proofs.Common.{◌≡◌, ◌∙◌, ℕ, [], Err, Some, false, List, length, map, refl, sym, ap, subst, arith}
 use Rattle.std.proofs.lemmas.List.{length-map}
 use Rattle.disk_model.specs.Calls.{Shows}
 use Rattle.disk_model.specs.Moments.{LeftSince}
@@ -12,7 +12,7 @@ use Rattle.group_book.specs.declared.turn.Turn.{Turn}
 use Rattle.group_book.specs.Crashes.{IsSafe}
 use Rattle.group_book.specs.Histories.{IsLegal}
 use Rattle.group_book.specs.Openings.{IsCause}
-use Rattle.group_book.specs.Told.{IsDefined, IsKept, Saved}
+use Rattle.group_book.specs.Told.{IsDefined, IsKept, IsOnDevice, Saved}
 use Rattle.group_book.proofs.Loaded.{loaded_holds, loaded_ready, opened_kept, opened_legal, opened_safe, scan_cause}
 use Rattle.group_book.proofs.loading.load.Goals as goal
 
@@ -62,19 +62,23 @@ invariant_of-result g c =
     subst (λ (d : GroupDefParts). IsDefined d c.args.tags.items s
     × IsLegal d.calcs (grid_of d.start d.period) o c.new.result.items vs s.copies s.rows
     × IsKept r.text.items d o c.new.result.items s.copies saved false (D.trace dev) (D.ticks dev) (D.fault_count dev)
-    × IsSafe r.text.items d.calcs (grid_of d.start d.period) o s.copies c.new.result.items left) (sym is.def)
+    × IsSafe r.text.items d.calcs (grid_of d.start d.period) o s.copies c.new.result.items left
+    × IsOnDevice r.text.items (Some dev)) (sym is.def)
     (subst (λ (l : List Turn). IsDefined def c.args.tags.items s
     × IsLegal def.calcs (grid_of def.start def.period) o l vs s.copies s.rows
     × IsKept r.text.items def o l s.copies saved false (D.trace dev) (D.ticks dev) (D.fault_count dev)
-    × IsSafe r.text.items def.calcs (grid_of def.start def.period) o s.copies l left) tape
+    × IsSafe r.text.items def.calcs (grid_of def.start def.period) o s.copies l left
+    × IsOnDevice r.text.items (Some dev)) tape
     (subst (λ (t : List ℕ). IsDefined def c.args.tags.items s
     × IsLegal def.calcs (grid_of def.start def.period) o [] vs s.copies s.rows
     × IsKept t def o [] s.copies saved false (D.trace dev) (D.ticks dev) (D.fault_count dev)
-    × IsSafe t def.calcs (grid_of def.start def.period) o s.copies [] left) (sym is.text) (
+    × IsSafe t def.calcs (grid_of def.start def.period) o s.copies [] left
+    × IsOnDevice t (Some dev)) (sym is.text) (
       defined,
       opened_legal c.args.text.now def o s.copies s.rows vs saved copied opened opened_rows saved_versions saved_rows,
       opened_kept c.args.text.now def o s.copies s.rows vs saved copied opened opened_rows saved_versions saved_rows (D.trace dev) ready
           holds (D.ticks dev) (D.fault_count dev) c.clock.ensures inputs (sym c.faults.ensures),
       opened_safe c.args.text.now def o s.copies s.rows vs saved copied opened opened_rows saved_versions saved_rows (D.trace dev) ready
           holds (D.ticks dev) (D.fault_count dev) c.clock.ensures c.requires.group.named (g.met.D.Disk.told dev),
+      λ some. refl,
     )))

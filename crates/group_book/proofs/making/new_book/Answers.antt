@@ -45,4 +45,5 @@ invariant_of-result g c =
       subst (λ tape. IsSafe c.new.result.items made.calcs (grid_of made.start made.period) o s.copies tape (LeftSince None)) empty
           (fresh_safe def made c.in_ok-def.ensures o s c.in_ok-versions.versions.items saved c.in_ok-sheet.ensures.empty
           c.in_ok-sheet.ensures.scratch versions c.in_ok-zeros.ensures rows saved_versions saved_rows c.new.result.items),
+      λ some. absurd (some c.new.ensures.items),
     )

@@ -33,4 +33,5 @@ invariant_of-self-2 g c =
       subst (λ l. IsSafe b.text.items b.def.calcs grid b.opening b.sheet.copies l left) (sym told)
           (safe_asked b.text.items b.def.calcs grid b.opening b.sheet.copies tape left a.reader a.row a.calc a.k reply
           c.self.invariant.3),
+      c.self.invariant.4,
     )

@@ -1,4 +1,5 @@
 use Rattle.std.proofs.Common.{◌≡◌, ◌+◌, ◌++◌, ◌∷◌, [], List, map, length, refl, sym, ap, ◌∙◌, subst}
+use Rattle.std.proofs.lemmas.List.{length-map}
 use Rattle.calc_refresh.specs.Lists.{lists_of}
 use Rattle.calc_refresh.specs.Refreshed.{IsRefreshed, evaluated}
 use Rattle.group_book.specs.declared.turn.Turn.{Turn}
@@ -6,6 +7,13 @@ use Rattle.group_book.specs.declared.turn.Turn.TheVariants.{Refresh}
 use Rattle.group_book.specs.Told.{GoesOn, Told, pulled_records}
 use Rattle.group_book.proofs.Pulls.{book_refreshed, published_by, versions_reached}
 use Rattle.group_book.proofs.book.Book.publish.Goals as goal
+
+pub apply-requires-clause-inputs : goal.apply-requires-clause-inputs
+apply-requires-clause-inputs g c =
+    let ps = c.args.pulled.items in
+    ap length c.deref-3.ensures.value
+    ∙ sym (length-map c.in_ok-deltas.deltas.items (λ v. v.items)) ∙ ap length c.in_ok-deltas.ensures ∙ length-map ps (λ p. p.recs.items)
+    ∙ c.requires.inputs ∙ sym (ap (λ (t : Told _). t.def.inputs) c.self.view_is) ∙ sym c.self.invariant.0.copies
 
 pub invariant_of-self-2 : goal.invariant_of-self-2
 invariant_of-self-2 g c =
@@ -22,10 +30,12 @@ invariant_of-self-2 g c =
     let versions = versions_reached b.sheet s ps c.in_ok-versions.versions.items goes inputs refreshed
     (c.in_ok-versions.ensures ∙ ap (map (λ p. p.upto)) c.deref-2.ensures.value) in
     let told = c.push_reserved.ensures.items ∙ ap (λ (l : List Turn). l ++ Refresh c.in_ok-entry.entry ∷ []) c.make_place.ensures.same in
-    book_refreshed b.text.items b.def b.tags.items b.opening b.tape.items c.push_reserved.new.self.items b.versions.items
+    let was = c.self.invariant in
+    let now = book_refreshed b.text.items b.def b.tags.items b.opening b.tape.items c.push_reserved.new.self.items b.versions.items
     c.in_ok-versions.versions.items c.in_ok-entry.entry b.sheet s (pulled_records ps)
     (record { number = b.number; versions = b.saved_versions.items; rows = lists_of b.saved_rows.items; end = b.end }) b.failed _ _ _ _
-    c.self.invariant refreshed entry versions told
+    (was.0, was.1, was.2, was.3) refreshed entry versions told in
+    (now.0, now.1, now.2, now.3, was.4)
 
 pub returns-clause-published : goal.returns-clause-published
 returns-clause-published g c =

@@ -1,18 +1,15 @@
-use Rattle.std.proofs.Common.{◌≡◌, ℕ, ◌+◌, ◌++◌, ◌∷◌, [], Bool, false, true, Some, Err, length, sym, ap, ◌∙◌, subst, arith}
+use Rattle.std.proofs.Common.{◌≡◌, ℕ, ◌+◌, ◌++◌, ◌∷◌, [], true, Some, Err, length, refl, sym, ap, ◌∙◌, subst, arith}
 use Rattle.disk_model.specs.Gates.{IsShut}
 use Rattle.disk_model.specs.Images.{Now}
 use Rattle.disk_model.specs.Moments.{LeftSince}
-use Rattle.calc_check.specs.Group.{Group}
 use Rattle.calc_refresh.specs.Lists.{lists_of}
 use Rattle.calc_refresh.specs.Sheet.{grid_of}
-use Rattle.sheet_law.specs.declared.grid.Grid.{Grid}
-use Rattle.sheet_law.specs.Windows.{complete_windows}
 use Rattle.group_layout.specs.Blocks.{block_size, parts_of}
 use Rattle.group_book.specs.declared.turn.Turn.TheVariants.{Save}
 use Rattle.group_book.specs.Crashes.{IsSafe}
 use Rattle.group_book.specs.Histories.{IsLegal}
 use Rattle.group_book.specs.Saves.{IsSaved, ListsChanges}
-use Rattle.group_book.specs.Told.{IsKept, Saved, Told, count_of, trace_of}
+use Rattle.group_book.specs.Told.{IsKept, Saved, Told, trace_of}
 use Rattle.group_book.proofs.Saving.{book_saved, kept_faulted, kept_there, next_block_is, safe_writing}
 use Rattle.group_book.proofs.book.Book.save.Goals as goal
 
@@ -54,7 +51,7 @@ invariant_of-self-in-Ok g c =
     c.push_reserved.new.self.items next s.failed (D.fault_count c.put_block.new.dev) longer
     (λ i. record { number = b.number; versions = versions_are i; rows = rows_are i; end = end_is i }) c.if-self.false
     c.in-Ok.ensures.cause.passed safe in
-    (was.0, kept'.0, kept'.1, kept'.2)
+    (was.0, kept'.0, kept'.1, kept'.2, λ some. refl)
 
 pub returns-in-Ok-clause-saved : goal.returns-in-Ok-clause-saved
 returns-in-Ok-clause-saved g c = λ d there.
@@ -151,4 +148,5 @@ invariant_of-self-in-Err-DeviceFault g c =
           (safe_writing s.text.items s.def s.opening tape s.versions.items copies s.sheet.rows saved (D.trace c.in-Some.dev)
           (D.ticks c.in-Some.dev) (D.fault_count c.in-Some.dev) was.0.group was.0.grid was.0.copies was.1 kept b is safe new
           c.put_block.ensures.any_moment),
+      λ some. refl,
     )

@@ -1,0 +1,96 @@
+-- The groups of a base, opened as books over a store of devices.
+use Rattle.std.specs.Prelude.{◌≡◌, ◌≢◌, ℕ, ◌<◌, List, [], ◌++◌, length, map, codes, string_bytes, slice_index_or, Option, Some, IsSome, false, All, AllPairs, String}
+use Rattle.std.specs.declared.alloc.Global.{Global}
+use Rattle.trend_num.specs.declared.archive.Rec.{Rec}
+use Rattle.disk_model.specs.Calls.{Shows}
+use Rattle.disk_model.specs.Moments.{During}
+use Rattle.disk_model.specs.Traces.{Trace}
+use Rattle.calc_refresh.specs.declared.definition.GroupDefParts.{GroupDefParts}
+use Rattle.calc_refresh.specs.Lists.{lists_of}
+use Rattle.group_layout.specs.Texts.{definition_text}
+use Rattle.tag_base.specs.declared.definition.GroupDef.{GroupDef}
+use Rattle.group_book.specs.declared.history.GroupOpening.{GroupOpening}
+use Rattle.group_book.specs.Openings.{StandsForGroup, StaysSame}
+use Rattle.group_book.specs.Tapes.{cut}
+use Rattle.group_book.specs.Told.{Told, count_of, trace_of, versions_of}
+
+-- the traces of a store's devices by name
+abbrev pub Devices : Type 0
+Devices = List ℕ → Option Trace
+
+-- what a group's device is called
+abbrev pub device_name : List ℕ → List ℕ
+device_name name = name ++ codes ".grp"
+
+-- the trace of a group's device, of these traces by name
+abbrev pub trace_at : Devices → GroupDef → Option Trace
+trace_at traces g = traces (device_name g.name)
+
+-- these are what the devices of the groups are called, in order
+abbrev pub AreNamesOf : List GroupDef → List (String Global) → Type 0
+AreNamesOf groups names = map string_bytes names ≡ map (λ g. device_name g.name) groups
+
+-- no two places of the list have one name
+abbrev pub AreDistinct : List GroupDef → Type 0
+AreDistinct groups = AllPairs (λ a b. a.name ≢ b.name) groups
+
+-- the definition of a group, as its book is made with it
+abbrev pub parts_of : GroupDef → GroupDefParts
+parts_of g = record { inputs = length g.inputs.items; start = g.start; period = g.period; calcs = g.calcs }
+
+-- the text that tells on a device which group it is of
+abbrev pub text_of : GroupDef → List ℕ
+text_of g = definition_text g.name g.start g.period g.calcs
+
+-- of each input of a group the records of its tag
+abbrev pub records_of : List (List Rec) → GroupDef → List (List Rec)
+records_of records g = map (λ tag. slice_index_or records tag []) g.inputs.items
+
+-- a group is opened so: its device stood for these versions and rows, and no version is above the records of its tag
+pub record IsOpening (g : GroupDef) (recovered : List (List Rec)) (o : Option Trace) (opening : GroupOpening) : Type 0 where
+  pub stood : Shows o (StandsForGroup (text_of g) (parts_of g) opening.versions.items (lists_of opening.rows.items))
+  pub within : map length (cut opening.versions.items recovered) ≡ opening.versions.items
+  pub faults : opening.faults ≡ 0
+
+-- so is each of the first groups
+abbrev pub AreOpened : ℕ → List GroupDef → List (List Rec) → Devices → List GroupOpening → Type 0
+AreOpened many groups records old openings = (k : ℕ) (g : GroupDef) (x : GroupOpening) → k < many
+    → IsOpening (slice_index_or groups k g) (records_of records (slice_index_or groups k g)) (trace_at old (slice_index_or groups k g))
+    (slice_index_or openings k x)
+
+-- A book is that of the group at place i as it is opened: it has what its device stood for, and the first records of its tags. A
+-- crash at any moment since left of the device what it might have left before, or what stands for the same.
+pub record IsBookOpened {D : Type 0} (trace : D → Option Trace) (ticks faults : D → ℕ) (i : ℕ) (g : GroupDef)
+    (recovered : List (List Rec)) (o : Option Trace) (b : Told D) : Type 0 where
+  pub group : b.group ≡ i
+  pub def : b.def ≡ parts_of g
+  pub text : b.text ≡ text_of g
+  pub tags : b.tags ≡ g.inputs.items
+  pub opening : IsOpening g recovered o b.opening
+  pub moment : b.opening.moment ≡ count_of ticks b.dev
+  pub versions : b.opening.versions.items ≡ versions_of b
+  pub copies : b.sheet.copies ≡ cut b.opening.versions.items recovered
+  pub rows : b.sheet.rows ≡ lists_of b.opening.rows.items
+  pub evals : b.sheet.evals ≡ 0
+  pub tape : b.tape ≡ []
+  pub usable : b.failed ≡ false
+  pub device : IsSome b.dev
+  pub faultless : count_of faults b.dev ≡ 0
+  pub same : During o (trace_of trace b.dev) (StaysSame (text_of g) (parts_of g) o)
+
+-- the books are those of the first groups, each in its place
+pub record AreBooksOpened {D : Type 0} (trace : D → Option Trace) (ticks faults : D → ℕ) (groups : List GroupDef)
+    (records : List (List Rec)) (old : Devices) (books : List (Told D)) : Type 0 where
+  pub each : (i : ℕ) (g : GroupDef) (b : Told D) → i < length books
+      → IsBookOpened trace ticks faults i (slice_index_or groups i g) (records_of records (slice_index_or groups i g))
+      (trace_at old (slice_index_or groups i g)) (slice_index_or books i b)
+
+-- a crash at any moment since left, of the device of each of these groups, what it might have left before, or what stands for the
+-- same
+abbrev pub AllStaySame : List GroupDef → Devices → Devices → Type 0
+AllStaySame groups old new =
+    All (λ g. During (trace_at old g) (trace_at new g) (StaysSame (text_of g) (parts_of g) (trace_at old g))) groups
+
+-- each device but those of these groups is as it was
+abbrev pub AreOthersSame : List GroupDef → Devices → Devices → Type 0
+AreOthersSame groups old new = (n : List ℕ) → All (λ g. n ≢ device_name g.name) groups → new n ≡ old n

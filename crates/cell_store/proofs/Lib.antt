@@ -1,0 +1,5 @@
+pub mod Lists
+pub mod Labels
+pub mod Backs
+pub mod Fronts
+pub mod Halts

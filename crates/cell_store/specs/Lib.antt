@@ -1,0 +1,4 @@
+pub mod Names
+pub mod Openings
+pub mod Closings
+pub mod Stops
