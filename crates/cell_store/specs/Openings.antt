@@ -3,13 +3,14 @@ use Rattle.std.specs.Prelude.{◌≡◌, ℕ, false, List, [], length, Option}
 use Rattle.std.specs.List.{AllZip, sum_by}
 use Rattle.trend_num.specs.declared.tag_def.TagDef.{TagDef}
 use Rattle.tag_core.specs.Core.{Core}
+use Rattle.disk_model.specs.Calls.{Shows}
 use Rattle.disk_model.specs.Traces.{Trace}
-use Rattle.crash_recovery.specs.Opening.{StaysSame}
+use Rattle.crash_recovery.specs.Opening.{HasSlots, LeavesFree, StaysSame}
 use Rattle.tag_cell.specs.Tapes.{opened}
 use Rattle.tag_cell.specs.Told.{Told}
-use Rattle.tag_store.specs.Tags.{trace_of, IsOpened, IsLeft}
+use Rattle.tag_store.specs.Tags.{lane_slots, trace_of, IsOpened, IsLeft}
 
--- the core of a cell as it was opened
+-- the core of a cell as it was opened; for how many records it had memory does not count here
 abbrev pub core_of : {D : Type 0} → Told D → Core
 core_of c = record { state = opened c.opening; step = c.def.step; spare = 0 }
 
@@ -20,6 +21,8 @@ pub record IsCellOpened {D : Type 0} (def : TagDef) (old new : Option Trace) (ti
   pub found : IsOpened def old (core_of c)
   pub left : IsLeft def old new (core_of c)
   pub same : StaysSame def old new
+  pub slots : Shows old (HasSlots lane_slots c.journal.slots)
+  pub free : Shows old (LeavesFree def c.journal.slots c.journal.free)
   pub state_is : c.state ≡ opened c.opening
   pub tape_is : c.tape ≡ []
   pub acked_is : c.journal.acked ≡ c.opening.summary.taken

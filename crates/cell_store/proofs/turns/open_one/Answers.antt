@@ -22,6 +22,8 @@ returns-in-Ok-open_cell-clause-opened g c =
           (ap (λ (d : TagDef). d.step) is.def);
       left = record { recovers = is.recovers; made = is.made; synced = is.synced };
       same = is.any_moment;
+      slots = is.slots;
+      free = is.free;
       state_is = is.state;
       tape_is = is.tape;
       acked_is = is.acked;
