@@ -8,4 +8,6 @@ mod books;
 #[cfg(test)]
 mod parts;
 #[cfg(test)]
+mod saves;
+#[cfg(test)]
 mod sheets;
