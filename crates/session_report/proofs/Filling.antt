@@ -1,5 +1,5 @@
 -- Places of answers on tapes, found entry by entry and tape by tape.
-use Rattle.std.proofs.Common.{◌≡◌, ℕ, ◌+◌, ◌<◌, List, [], ◌∷◌, ◌++◌, length, take, get_or, refl, suc, zero, sym, ap, subst, ◌∙◌, arith}
+use Rattle.std.proofs.Common.{◌≡◌, ℕ, ◌+◌, ◌<◌, List, [], ◌∷◌, ◌++◌, length, take, get_or, refl, suc, zero, sym, ap, ◌∙◌, arith}
 use Rattle.std.proofs.Common.{Option, None, Some, Bool, true, false, cond, nat_eq, nat_lt}
 use Rattle.std.specs.Prelude.{◌≢◌}
 use Rattle.std.specs.List.{find, position, position_from, position_or_len, slice_get}
@@ -19,7 +19,6 @@ use Rattle.group_book.specs.declared.history.GroupHistory.{GroupHistory}
 use Rattle.session_report.specs.declared.asker.Asker.{Asker}
 use Rattle.session_report.specs.Askers.{first_by, group_asker, is_by, tag_asker}
 use Rattle.session_report.specs.Places.{ArePlaces, IsFilled, Table, is_about, kept_first, place_by, place_in, place_of, query_in}
-use Rattle.session_report.specs.Report.{group_tape, tag_tape}
 
 -- ---- the first place of a list at which a test passes
 

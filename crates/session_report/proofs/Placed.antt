@@ -1,7 +1,8 @@
 -- Elements by their places, one more at the end.
 use Rattle.std.proofs.Common.{◌≡◌, ℕ, ◌+◌, ◌<◌, List, [], ◌∷◌, ◌++◌, length, take, get_or, sym, ap, ◌∙◌, arith}
-use Rattle.std.proofs.Common.{append-nil, append_assoc}
-use Rattle.std.specs.List.{concat}
+use Rattle.std.proofs.Common.{append-nil, append_assoc, Some, refl, suc, zero}
+use Rattle.std.specs.List.{concat, slice_get}
+use Rattle.std.specs.Option.{option_map}
 use Rattle.std.proofs.lemmas.List.{length-take-le, take_more}
 use Rattle.std.proofs.lemmas.List.Folds.{concat-append}
 use Rattle.session_report.specs.Report.{placed, texts}
@@ -37,3 +38,12 @@ pub text_more : {A : Type 0} (f : ℕ → A → List ℕ) (xs : List A) (i : ℕ
 text_more f xs i x start old new within is before gained =
     gained ∙ ap (λ t. t ++ f i x) before ∙ append_assoc start (texts f (take i xs)) (f i x)
     ∙ ap (λ t. start ++ t) (ap (λ y. texts f (take i xs) ++ f i y) is ∙ sym (texts_more f xs i x within))
+
+-- what is made of the element at a place
+pub placed_get : {A B : Type 0} (f : ℕ → A → B) (n : ℕ) (xs : List A) (i : ℕ)
+    → slice_get (placed f n xs) i ≡ option_map (f (n + i)) (slice_get xs i)
+placed_get f n [] i = refl
+placed_get f n (x ∷ xs) zero = ap (λ k. Some (f k x)) (omega arith)
+placed_get f n (x ∷ xs) (suc i) =
+    let number : n + 1 + i ≡ n + suc i = omega arith in
+    placed_get f (n + 1) xs i ∙ ap (λ k. option_map (f k) (slice_get xs i)) number

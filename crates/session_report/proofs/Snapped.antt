@@ -1,20 +1,75 @@
--- The points of a tag, among those of all tags.
-use Rattle.std.proofs.Common.{◌≡◌, ℕ, ◌<◌, List, [], length, map, get_or, sym, ap, ◌∙◌, arith, Vec}
+-- The points of the tags whose snapshots are asked.
+use Rattle.std.proofs.Common.{◌≡◌, ℕ, ◌+◌, ◌<◌, List, [], length, get_or, refl, sym, ap, ◌∙◌, arith}
+use Rattle.std.proofs.Common.{Option, None, Some, true, false, cond, ◌||◌, Vec, ◌∷◌, ◌++◌, take, ap₂, suc}
 use Rattle.std.specs.declared.alloc.Global.{Global}
-use Rattle.std.proofs.lemmas.List.{get_or-map, length-map}
+use Rattle.std.proofs.lemmas.List.{length-map, map_push, take_more}
+use Rattle.std.specs.List.{list_any, slice_get}
+use Rattle.std.specs.Option.{option_map, option_map_or, unwrap_or}
+use Rattle.std.proofs.lemmas.Bool.{eq-eqb}
+use Rattle.std.proofs.lemmas.List.Folds.{list_any-append, list_any_at}
+use Rattle.std.proofs.lemmas.Option.{unwrap_or-slice_get}
 use Rattle.trend_num.specs.declared.point.Point.{Point}
+use Rattle.value_rows.specs.declared.asked.Query.{Query}
+use Rattle.value_rows.specs.declared.asked.Query.TheVariants.{Snap}
 use Rattle.tag_cell.specs.declared.history.TagHistory.{TagHistory}
-use Rattle.calc_refresh.specs.Lists.{lists_of}
+use Rattle.session_report.specs.Places.{IsHeldFor, held_lists, is_snap, is_snapped}
+use Rattle.session_report.specs.Report.{placed}
 use Rattle.session_report.specs.Snaps.{held_points}
+use Rattle.calc_refresh.specs.Lists.{lists_of}
 use Rattle.session_report.proofs.Keeping.{list_at}
+use Rattle.session_report.proofs.Placed.{placed_get}
 
--- those at the place of a tag are its own
-pub held_at : (vs : List (Vec Point Global)) (tags : List TagHistory) (i : ℕ) (v : Vec Point Global) (tag : TagHistory)
-    → lists_of vs ≡ map (λ h. held_points h.tape.items) tags → i < length tags → v ≡ get_or vs i v → tag ≡ get_or tags i tag
-    → v.items ≡ held_points tag.tape.items
-held_at vs tags i v tag same within is_v is_tag =
-    let points : TagHistory → List Point = λ h. held_points h.tape.items in
-    let items : Vec Point Global → List Point = λ x. x.items in
-    let as_many : length vs ≡ length tags = omega (arith, length-map vs items, length-map tags points, ap length same) in
-    sym (list_at vs i v (omega (arith, within, as_many)) is_v) ∙ ap (λ l. get_or l i []) same
-    ∙ get_or-map points tags i tag [] within ∙ ap points (sym is_tag)
+-- the query at a place of a reader asks a snapshot, so that is asked
+snapped : (readers : List (List Query)) (reader k tag : ℕ) (d : Query) → reader < length readers → k < length (get_or readers reader [])
+    → get_or (get_or readers reader []) k d ≡ Snap tag → is_snapped readers tag ≡ true
+snapped readers reader k tag d there within is =
+    list_any_at (list_any (is_snap tag)) readers reader [] there
+    (list_any_at (is_snap tag) (get_or readers reader []) k d within (ap (is_snap tag) is ∙ eq-eqb tag tag refl))
+
+-- and there are the points of its tag
+pub held_for : (readers : List (List Query)) (tags : List TagHistory) (reader k : ℕ) (d : Query) → reader < length readers
+    → k < length (get_or readers reader []) → IsHeldFor (get_or (get_or readers reader []) k d) tags (held_lists readers tags)
+held_for readers tags reader k d there within tag is =
+    sym (unwrap_or-slice_get (held_lists readers tags) tag [])
+    ∙ ap (λ o. unwrap_or o []) (placed_get points 0 tags tag) ∙ by (slice_get tags tag)
+  where
+    points : ℕ → TagHistory → List Point
+    points n h = cond (is_snapped readers n) (held_points h.tape.items) []
+
+    wanted : is_snapped readers (0 + tag) ≡ true
+    wanted = let number : 0 + tag ≡ tag = omega arith in ap (is_snapped readers) number ∙ snapped readers reader k tag d there within is
+
+    by : (o : Option TagHistory) → unwrap_or (option_map (points (0 + tag)) o) [] ≡ held_points (option_map_or (λ h. h.tape.items) o [])
+    by None = refl
+    by (Some h) = ap (λ b. cond b (held_points h.tape.items) []) wanted
+
+-- a reader that asks the snapshot
+pub snapped_here : (files : List (Vec Query Global)) (i : ℕ) (queries : Vec Query Global) (tag : ℕ) → i < length files
+    → queries ≡ get_or files i queries → list_any (is_snap tag) queries.items ≡ true → is_snapped (lists_of files) tag ≡ true
+snapped_here files i queries tag there is asks =
+    let items : Vec Query Global → List Query = λ v. v.items in
+    list_any_at (list_any (is_snap tag)) (lists_of files) i [] (omega (arith, there, length-map files items))
+    (ap (list_any (is_snap tag)) (list_at files i queries there is) ∙ asks)
+
+-- one more that does not
+pub not_snapped_more : (files : List (Vec Query Global)) (i : ℕ) (queries : Vec Query Global) (tag : ℕ) → i < length files
+    → queries ≡ get_or files i queries → list_any (is_snap tag) queries.items ≡ false
+    → is_snapped (lists_of (take i files)) tag ≡ false → is_snapped (lists_of (take (i + 1) files)) tag ≡ false
+not_snapped_more files i queries tag there is asks before =
+    let items : Vec Query Global → List Query = λ v. v.items in
+    ap (λ l. is_snapped (lists_of l) tag) (take_more files i queries there ∙ ap (λ q. take i files ++ q ∷ []) (sym is))
+    ∙ ap (λ l. is_snapped l tag) (map_push items (take i files) queries)
+    ∙ list_any-append (list_any (is_snap tag)) (lists_of (take i files)) (queries.items ∷ [])
+    ∙ ap₂ (λ a b. a || (b || false)) before asks
+
+-- as many lists as tags
+pub as_many_held : (readers : List (List Query)) (tags : List TagHistory) (lists : List (Vec Point Global))
+    → lists_of lists ≡ held_lists readers tags → length lists ≡ length tags
+as_many_held readers tags lists same =
+    let items : Vec Point Global → List Point = λ v. v.items in
+    sym (length-map lists items) ∙ ap length same ∙ length-placed 0 tags
+  where
+    length-placed : (n : ℕ) (hs : List TagHistory)
+        → length (placed (λ tag h. cond (is_snapped readers tag) (held_points h.tape.items) []) n hs) ≡ length hs
+    length-placed n [] = refl
+    length-placed n (h ∷ hs) = ap suc (length-placed (n + 1) hs)

@@ -1,16 +1,39 @@
--- Where the answers to queries stand on tapes. For private functions: no public call cites it.
-use Rattle.std.specs.Prelude.{◌≡◌, ℕ, ◌+◌, ◌<◌, Bool, ◌&&◌, true, false, List, [], length, nat_eq, position, slice_get, slice_index_or, if◌then◌else◌}
+-- What is looked up for the queries of readers: where answers stand on tapes, and which points closed the lines of tags. For private functions: no public call cites it.
+use Rattle.std.specs.Prelude.{◌≡◌, ℕ, ◌+◌, ◌<◌, Bool, true, false, List, [], length, nat_eq, position, slice_get, slice_index_or, if◌then◌else◌}
 use Rattle.std.specs.Prelude.{Option, None, Some}
+use Rattle.std.specs.List.{list_any}
 use Rattle.std.specs.Option.{option_or}
+use Rattle.trend_num.specs.declared.point.Point.{Point}
 use Rattle.plant_status.specs.declared.unit.Unit.{Unit as UnitOf}
 use Rattle.plant_status.specs.declared.unit.Unit.TheVariants as unit
 use Rattle.value_rows.specs.declared.asked.Query.{Query}
-use Rattle.value_rows.specs.declared.asked.Query.TheVariants.{Tag, Row}
+use Rattle.value_rows.specs.declared.asked.Query.TheVariants.{Tag, Snap, Row}
 use Rattle.tag_cell.specs.declared.history.TagHistory.{TagHistory}
 use Rattle.group_book.specs.declared.history.GroupHistory.{GroupHistory}
 use Rattle.session_report.specs.declared.asker.Asker.{Asker}
 use Rattle.session_report.specs.Askers.{group_asker, is_by, tag_asker}
-use Rattle.session_report.specs.Report.{group_tape, tag_tape}
+use Rattle.session_report.specs.Report.{group_tape, placed, tag_tape}
+use Rattle.session_report.specs.Snaps.{held_points}
+
+-- ---- the points of tags
+
+-- a query asks the snapshot of a tag, and a reader does
+abbrev pub is_snap : ℕ → Query → Bool
+is_snap tag (Snap its) = nat_eq its tag
+is_snap tag other = false
+
+abbrev pub is_snapped : List (List Query) → ℕ → Bool
+is_snapped readers tag = list_any (list_any (is_snap tag)) readers
+
+-- of each tag of which a reader asks the snapshot, the points that closed its line after its takes; of the others none
+abbrev pub held_lists : List (List Query) → List TagHistory → List (List Point)
+held_lists readers tags = placed (λ tag h. if is_snapped readers tag then held_points h.tape.items else []) 0 tags
+
+-- there are those of the tag whose snapshot a query asks, if it does
+abbrev pub IsHeldFor : Query → List TagHistory → List (List Point) → Type 0
+IsHeldFor asked tags held = (tag : ℕ) → asked ≡ Snap tag → slice_index_or held tag [] ≡ held_points (tag_tape tags tag)
+
+-- ---- the places of answers
 
 -- a place, or none, for each query of each reader
 abbrev pub Table : Type 0

@@ -1,5 +1,5 @@
 -- The snapshots that a tag had, and the one that a reader is told.
-use Rattle.std.specs.Prelude.{ℕ, ◌+◌, ◌-◌, Bool, ◌&&◌, true, false, List, ◌∷◌, filter_map, map, nat_eq, nat_le, slice_get, if◌then◌else◌}
+use Rattle.std.specs.Prelude.{ℕ, ◌-◌, Bool, ◌&&◌, true, false, List, ◌∷◌, filter_map, map, nat_eq, nat_le, slice_get, if◌then◌else◌}
 use Rattle.std.specs.Prelude.{Option, None, Some, option_and_then}
 use Rattle.std.specs.Option.{option_map_or}
 use Rattle.std.specs.Ordering.{int_eq}

@@ -6,7 +6,8 @@
 //! of its queries; last the lines of each group. An answer about a tag or a group is that of the first entry of its tape that
 //! answers this row of this reader; a query that no entry answers is told as `none`, which a whole session never has. A
 //! snapshot is the one that the reader's note tells, where the tag had it, as it was opened or after a take; else it is that
-//! of the tag's end. Each tape is gone over once for the answers and once for the snapshots. The one error is want of memory.
+//! of the tag's end. Each tape is gone over once for the answers; that of a tag whose snapshot a reader asks once more for its points. The one
+//! error is want of memory.
 #![tactic(auto)]
 
 mod answer;

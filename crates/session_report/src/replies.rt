@@ -1,10 +1,9 @@
 // The lines of replies.
-ghost use Rattle.std.specs.Prelude.{◌≡◌, ℕ, ◌++◌, ◌+◌, ◌<◌, ◌^◌, IfOk, OnOk, Some, None, length, map, slice_get, slice_index_or, string_bytes};
+ghost use Rattle.std.specs.Prelude.{◌≡◌, ℕ, ◌++◌, ◌+◌, ◌<◌, ◌^◌, All, IfOk, OnOk, Some, None, length, slice_get, slice_index_or, string_bytes};
 ghost use Rattle.calc_refresh.specs.Lists.{lists_of};
 ghost use Rattle.trend_report.specs.Lines.{reply_text};
-ghost use Rattle.session_report.specs.Places.{ArePlaces, HasShape, place_of};
+ghost use Rattle.session_report.specs.Places.{IsHeldFor, place_of};
 ghost use Rattle.session_report.specs.Report.{replies_to, reply_lines, reply_to};
-ghost use Rattle.session_report.specs.Snaps.{held_points};
 
 use crate::answer::{group_answer, group_tape, tag_answer, tag_tape};
 use crate::places::places_of;
@@ -30,7 +29,7 @@ pub(crate) fn put_replies(
         ≡ string_bytes text.old ++ reply_lines session.now notes (lists_of readers.now)) }
 {
     let places = places_of(alloc, readers, &session.tags, &session.groups)?;
-    let held = held_lists(alloc, &session.tags)?;
+    let held = held_lists(alloc, readers, &session.tags)?;
     let table = places.as_slice();
     for reader in 0..readers.len() {
         let queries = readers[reader].as_slice();
@@ -52,7 +51,8 @@ fn put_reader(
     found: &[Option<usize>],
 ) -> Result<(), WantOfMemory>
     requires few { notes + reader + 1 < 2 ^ 32 }
-    requires held { lists_of held.now ≡ map (λ h. held_points h.tape.items) session.now.tags.items }
+    requires as_many_tags { length held.now ≡ length session.now.tags.items }
+    requires held { All (λ asked. IsHeldFor asked session.now.tags.items (lists_of held.now)) queries.now }
     requires as_many { length found.now ≡ length queries.now }
     requires found { (k : ℕ) → slice_index_or found.now k None
         ≡ place_of session.now.tags.items session.now.groups.items reader k (slice_get queries.now k) }
@@ -81,7 +81,8 @@ fn put_reply(
 ) -> Result<(), WantOfMemory>
     requires few { notes + reader + 1 < 2 ^ 32 }
     requires rows { place + 1 < 2 ^ 64 }
-    requires held { lists_of held.now ≡ map (λ h. held_points h.tape.items) session.now.tags.items }
+    requires as_many { length held.now ≡ length session.now.tags.items }
+    requires held { IsHeldFor query session.now.tags.items (lists_of held.now) }
     requires found { found ≡ place_of session.now.tags.items session.now.groups.items reader place (Some query) }
     ensures { OnOk result (string_bytes text.new
         ≡ string_bytes text.old ++ reply_text (reader + 1) (place + 1) (reply_to session.now notes reader place query)) }
@@ -103,7 +104,8 @@ fn reply_line(
 ) -> Result<String, WantOfMemory>
     requires few { notes + reader + 1 < 2 ^ 32 }
     requires rows { place + 1 < 2 ^ 64 }
-    requires held { lists_of held.now ≡ map (λ h. held_points h.tape.items) session.now.tags.items }
+    requires as_many { length held.now ≡ length session.now.tags.items }
+    requires held { IsHeldFor query session.now.tags.items (lists_of held.now) }
     requires found { found ≡ place_of session.now.tags.items session.now.groups.items reader place (Some query) }
     ensures { IfOk result (λ text. string_bytes text
         ≡ reply_text (reader + 1) (place + 1) (reply_to session.now notes reader place query)) }

@@ -1,26 +1,73 @@
 // The snapshots that readers are told.
-ghost use Rattle.std.specs.Prelude.{◌≡◌, IfOk, map};
+ghost use Rattle.std.specs.Prelude.{◌≡◌, ◌<◌, ◌^◌, [], IfOk, if◌then◌else◌, length, slice_index_or};
+ghost use Rattle.std.specs.List.{list_any};
 ghost use Rattle.calc_refresh.specs.Lists.{lists_of};
+ghost use Rattle.session_report.specs.Places.{held_lists, is_snap, is_snapped};
+ghost use Rattle.session_report.specs.Report.{tag_tape};
 ghost use Rattle.session_report.specs.Snaps.{checked, had, held_after, held_points, same_held, snap_at_end, snap_in, snap_of, told_at};
 
 use collector_pool::{Told, WorkerNote};
 use std::alloc::Global;
 use tag_cell::{Entry, TagHistory};
 use trend_num::{Point, Snap, WantOfMemory};
+use value_rows::Query;
 
-// Of each tag the points that closed its line after its takes, in order.
+// Of each tag of which a reader asks the snapshot, the points that closed its line after its takes, in order; of the others none.
 pub(crate) fn held_lists(
     alloc: Global,
+    readers: &[Vec<Query>],
     tags: &[TagHistory],
 ) -> Result<Vec<Vec<Point>>, WantOfMemory>
-    ensures { IfOk result (λ lists. lists_of lists.items ≡ map (λ h. held_points h.tape.items) tags.now) }
+    requires { length tags.now < 2 ^ 32 }
+    ensures { IfOk result (λ lists. lists_of lists.items ≡ held_lists (lists_of readers.now) tags.now) }
 {
     let mut lists = Vec::new(alloc);
-    for tag in tags {
-        let points = held_points(alloc, tag.tape.as_slice())?;
+    for place in 0..tags.len() {
+        let wanted = is_snapped(readers, place as u32);
+        let points = held_if(alloc, tags[place].tape.as_slice(), wanted)?;
         lists.push(points)?;
     }
     Ok(lists)
+}
+
+// Whether a reader asks the snapshot of a tag.
+fn is_snapped(readers: &[Vec<Query>], tag: u32) -> bool
+    ensures { result ≡ is_snapped (lists_of readers.now) tag }
+{
+    for queries in readers {
+        if has_snap(queries.as_slice(), tag) {
+            return true;
+        }
+    }
+    false
+}
+
+// Whether one of these queries does.
+fn has_snap(queries: &[Query], tag: u32) -> bool
+    ensures { result ≡ list_any (is_snap tag) queries.now }
+{
+    queries.iter().any(|query| is_snap(*query, tag))
+}
+
+// Whether a query does.
+fn is_snap(query: Query, tag: u32) -> bool
+    ensures { result ≡ is_snap tag query }
+{
+    match query {
+        Query::Snap { tag: its } => its == tag,
+        _ => false,
+    }
+}
+
+// The points of a tape, if they are wanted.
+fn held_if(alloc: Global, tape: &[Entry], wanted: bool) -> Result<Vec<Point>, WantOfMemory>
+    ensures { IfOk result (λ points. points.items ≡ (if wanted then held_points tape.now else [])) }
+{
+    if wanted {
+        held_points(alloc, tape)
+    } else {
+        Ok(Vec::new(alloc))
+    }
 }
 
 // The points that closed the line of a tag after its takes, in order.
@@ -70,7 +117,8 @@ pub(crate) fn snap_of(
     tag: u32,
     told: Option<Snap>,
 ) -> Snap
-    requires { lists_of held.now ≡ map (λ h. held_points h.tape.items) tags.now }
+    requires as_many { length held.now ≡ length tags.now }
+    requires held { slice_index_or (lists_of held.now) tag [] ≡ held_points (tag_tape tags.now tag) }
     ensures { result ≡ snap_of tags.now tag told }
 {
     let place = tag as usize;

@@ -1,5 +1,4 @@
 use Rattle.std.proofs.Common.{◌≡◌, ◌+◌, ◌∙◌, IfOk, Some, ap, sym, subst, string_bytes}
-use Rattle.trend_report.specs.declared.reply_line.ReplyText.{ReplyText}
 use Rattle.trend_report.specs.Lines.{reply_text}
 use Rattle.session_report.specs.Askers.{tag_asker}
 use Rattle.session_report.specs.Report.{answer_of_tag}

@@ -1,4 +1,4 @@
-use Rattle.std.proofs.Common.{◌≡◌, ◌+◌, ◌∙◌, sym, subst, take}
+use Rattle.std.proofs.Common.{◌+◌, ◌∙◌, sym, subst, take}
 use Rattle.calc_refresh.specs.Lists.{lists_of}
 use Rattle.session_report.specs.Places.{HasShape, IsFilled}
 use Rattle.session_report.proofs.Filling.{filled_answer, filled_other, none_of}
