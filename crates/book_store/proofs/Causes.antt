@@ -134,7 +134,7 @@ stays_small WantOfMemory before now small counts =
 -- ---- all devices are back
 
 -- a book that has a device gives it back
-back_is : {D : Type 0} (trace : D → Option Trace) (dev : Option D) (o : Option Trace) → IsSome dev
+pub back_is : {D : Type 0} (trace : D → Option Trace) (dev : Option D) (o : Option Trace) → IsSome dev
     → trace_after trace dev o ≡ trace_of trace dev
 back_is trace None o there = absurd (cc (there))
 back_is trace (Some dev) o there = refl

@@ -3,9 +3,12 @@ use Rattle.std.proofs.Common.{◌≡◌, inl, inr, ℕ, ◌^◌, ◌<◌, List, 
 use Rattle.byte_io.specs.Outside.{Outside, CountsNoFault, IsWritten, IsCutShort}
 use Rattle.plant_files.specs.Asked.{ToldFiles}
 use Rattle.plant_files.specs.Reading.{faults_after, faults_told}
-use Rattle.store_commands.specs.Commands.{Devices, IsCheckRefusal, IsTrendRefusal, OfBase, OfGroup, OfPlan, OfReader, OfTag, OfMemory}
+use Rattle.store_commands.specs.Commands.{CountsDevices, Devices, IsCheckRefusal, IsTrendRefusal, OfBase, OfGroup, OfPlan, OfReader, OfTag, OfMemory}
 use Rattle.disk_model.specs.Calls.{Rose}
-use Rattle.tag_store.specs.Refusals.{CountsStore}
+use Rattle.trend_num.specs.declared.archive.Rec.{Rec}
+use Rattle.tag_base.specs.declared.definition.GroupDef.{GroupDef}
+use Rattle.book_store.specs.Refusals as group
+use Rattle.store_commands.specs.GroupRows.{IsRowsRefusal, OfCells, OfCopies, OfOpening, OfWant}
 use Rattle.plant_status.specs.declared.unit.Unit.{Unit}
 use Rattle.plant_status.specs.declared.unit.Unit.TheVariants.{Tag, Group}
 use Rattle.plant_status.specs.declared.status.Status.{Status}
@@ -101,7 +104,7 @@ ended_so P before now (Err why) status done fault refused printed told = subst P
 
 -- the faults of the store that an answer tells are those that its status tells, once it was printed
 pub counts_so : (IsRefusal : Status → Type 0) (before now : Outside) (answer : Result (String Global) Status) (status : Status)
-    (old new : ℕ) → CountsStore answer old new → IfErr answer IsRefusal
+    (old new : ℕ) → CountsDevices answer old new → IfErr answer IsRefusal
     → ((unit : Unit) → IsRefusal (DeviceFault unit) → Rose old new)
     → IfOk answer (λ text. IsPrintedSo (string_bytes text) before now status)
     → IfErr answer (λ why. (status ≡ why) × IsTold before now why) → CountsFor status old new
@@ -112,11 +115,11 @@ counts_so IsRefusal before now (Ok text) status old new counts refusal rose (inr
 counts_so IsRefusal before now (Err why) status old new counts refusal rose printed told =
     subst (λ s. CountsFor s old new) (sym told.0) (of_refusal why refusal counts)
   where
-    same : (s : Status) → ((i : ℕ) → s ≢ DeviceFault (Tag i)) → CountsStore {T = String Global} (Err s) old new → new ≡ old
+    same : (s : Status) → ((u : Unit) → s ≢ DeviceFault u) → CountsDevices {T = String Global} (Err s) old new → new ≡ old
     same s other (inl is) = is
     same s other (inr fault) = absurd (other fault.0 fault.1)
 
-    of_refusal : (s : Status) → IsRefusal s → CountsStore {T = String Global} (Err s) old new → CountsFor s old new
+    of_refusal : (s : Status) → IsRefusal s → CountsDevices {T = String Global} (Err s) old new → CountsFor s old new
     of_refusal (DeviceFault unit) is counts = rose unit is
     of_refusal Done is counts = same Done (λ i e. cc) counts
     of_refusal WriteFault is counts = same WriteFault (λ i e. cc) counts
@@ -133,6 +136,37 @@ counts_so IsRefusal before now (Err why) status old new counts refusal rose prin
     of_refusal NotYet is counts = same NotYet (λ i e. cc) counts
 
 -- ---- a refusal is not Done, and no fault of the output
+
+module _ (groups : List GroupDef) (records : List (List Rec)) (old : Devices) (before now : ℕ) where
+  rows_not_done : IsRowsRefusal groups records old before now Done → ⊥
+  rows_not_done (OfOpening (group.OfFault i is at)) = cc
+  rows_not_done (OfOpening (group.OfDamage i a byte is at)) = cc
+  rows_not_done (OfOpening (group.OfVersion i input found version is at)) = cc
+  rows_not_done (OfOpening (group.OfWindows i windows rows is at)) = cc
+  rows_not_done (OfOpening (group.OfMemory is)) = cc
+  rows_not_done (OfCells i number is at) = cc
+  rows_not_done (OfCopies i number is at) = cc
+  rows_not_done (OfWant is) = cc
+
+  rows_no_output : IsRowsRefusal groups records old before now WriteFault → ⊥
+  rows_no_output (OfOpening (group.OfFault i is at)) = cc
+  rows_no_output (OfOpening (group.OfDamage i a byte is at)) = cc
+  rows_no_output (OfOpening (group.OfVersion i input found version is at)) = cc
+  rows_no_output (OfOpening (group.OfWindows i windows rows is at)) = cc
+  rows_no_output (OfOpening (group.OfMemory is)) = cc
+  rows_no_output (OfCells i number is at) = cc
+  rows_no_output (OfCopies i number is at) = cc
+  rows_no_output (OfWant is) = cc
+
+  rows_rose : before < 2 ^ 64 → (unit : Unit) → IsRowsRefusal groups records old before now (DeviceFault unit) → Rose before now
+  rows_rose few unit (OfOpening (group.OfFault i is at)) = at.cause few
+  rows_rose few unit (OfOpening (group.OfDamage i a byte is at)) = cc
+  rows_rose few unit (OfOpening (group.OfVersion i input found version is at)) = cc
+  rows_rose few unit (OfOpening (group.OfWindows i windows rows is at)) = cc
+  rows_rose few unit (OfOpening (group.OfMemory is)) = cc
+  rows_rose few unit (OfCells i number is at) = cc
+  rows_rose few unit (OfCopies i number is at) = cc
+  rows_rose few unit (OfWant is) = cc
 
 module _ (name plan_name : List ℕ) (told : ToldFiles) (old new : Devices) (before now : ℕ) where
   pub check_not_done : IsCheckRefusal name told old new before now Done → ⊥
@@ -156,18 +190,18 @@ module _ (name plan_name : List ℕ) (told : ToldFiles) (old new : Devices) (bef
 
   pub trend_not_done : IsTrendRefusal name plan_name told old new before now Done → ⊥
   trend_not_done (OfBase refused same) = refused
-  trend_not_done (OfGroup base read some is same) = cc
-  trend_not_done (OfPlan base read none refused same) = refused
-  trend_not_done (OfReader base plan read none planned refused same) = (refused done_is_not_memory).first.refused
-  trend_not_done (OfTag base plan lists read none planned asked refused) = refused
+  trend_not_done (OfPlan base read refused same) = refused
+  trend_not_done (OfReader base plan read planned refused same) = (refused done_is_not_memory).first.refused
+  trend_not_done (OfTag base plan lists read planned asked refused) = refused
+  trend_not_done (OfGroup base plan lists cores read planned asked opened refused) = rows_not_done base.groups.items _ _ _ _ refused
   trend_not_done (OfMemory same) = cc
 
   pub trend_no_fault : IsTrendRefusal name plan_name told old new before now WriteFault → ⊥
   trend_no_fault (OfBase refused same) = refused
-  trend_no_fault (OfGroup base read some is same) = cc
-  trend_no_fault (OfPlan base read none refused same) = refused
-  trend_no_fault (OfReader base plan read none planned refused same) = (refused fault_is_not_memory).first.refused
-  trend_no_fault (OfTag base plan lists read none planned asked refused) = refused
+  trend_no_fault (OfPlan base read refused same) = refused
+  trend_no_fault (OfReader base plan read planned refused same) = (refused fault_is_not_memory).first.refused
+  trend_no_fault (OfTag base plan lists read planned asked refused) = refused
+  trend_no_fault (OfGroup base plan lists cores read planned asked opened refused) = rows_no_output base.groups.items _ _ _ _ refused
   trend_no_fault (OfMemory same) = cc
 
   -- a device fault is told where one was counted
@@ -180,11 +214,12 @@ module _ (name plan_name : List ℕ) (told : ToldFiles) (old new : Devices) (bef
   pub trend_rose : before < 2 ^ 64 → (unit : Unit) → IsTrendRefusal name plan_name told old new before now (DeviceFault unit)
       → Rose before now
   trend_rose few unit (OfBase refused same) = absurd refused
-  trend_rose few unit (OfGroup base read some is same) = cc
-  trend_rose few unit (OfPlan base read none refused same) = absurd refused
-  trend_rose few unit (OfReader base plan read none planned refused same) = absurd (refused (device_is_not_memory unit)).first.refused
-  trend_rose few (Tag i) (OfTag base plan lists read none planned asked refused) = refused.cause few
-  trend_rose few (Group i) (OfTag base plan lists read none planned asked refused) = absurd refused
+  trend_rose few unit (OfPlan base read refused same) = absurd refused
+  trend_rose few unit (OfReader base plan read planned refused same) = absurd (refused (device_is_not_memory unit)).first.refused
+  trend_rose few (Tag i) (OfTag base plan lists read planned asked refused) = refused.cause few
+  trend_rose few (Group i) (OfTag base plan lists read planned asked refused) = absurd refused
+  trend_rose few unit (OfGroup base plan lists cores read planned asked opened refused) =
+      rows_rose base.groups.items _ _ before now few unit refused
   trend_rose few unit (OfMemory same) = cc
 
 -- ---- a run for whose words no memory was found

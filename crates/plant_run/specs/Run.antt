@@ -15,7 +15,7 @@ use Rattle.plant_files.specs.Asked.{ToldFiles}
 use Rattle.plant_files.specs.Reading.{faults_told}
 use Rattle.pack_command.specs.Pack.{IsRead, IsPackRefusal, first_full, history_of, origin_of}
 use Rattle.disk_model.specs.Calls.{Rose}
-use Rattle.store_commands.specs.Commands.{Devices, IsDurable, IsFaultOfNamed, IsChecked, IsCheckRefusal, IsTrend, IsTrendRefusal, AreKept}
+use Rattle.store_commands.specs.Commands.{Devices, IsDurable, IsFaultOfNamed, IsChecked, IsCheckRefusal, IsTrend, IsTrendRefusal, AreAllKept, AreKept}
 use Rattle.plant_run.specs.CommandLine.{Form, Pack, Check, Trend, Unknown, form_of}
 
 -- all of the input was read, and this is the text of what its history keeps. That is near all values of the history.
@@ -121,7 +121,7 @@ EndsIn words = EndsFor (form_of words)
 -- the devices after a run of words of this form: a command over stored archives keeps them, and any other leaves them alone
 abbrev pub KeepsFor : Form → ToldFiles → Devices → Devices → Type 0
 KeepsFor (Check base) files old new = AreKept base files old new
-KeepsFor (Trend base plan) files old new = AreKept base files old new
+KeepsFor (Trend base plan) files old new = AreAllKept base files old new
 KeepsFor form files old new = new ≡ old
 
 -- it ends in a status of this exit code

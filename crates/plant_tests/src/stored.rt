@@ -19,6 +19,9 @@ base.toml: [[tag]]|name = \"T1\"|exc_dev = 0|exc_max = 1000000|comp_dev = 0|comp
 loose.toml: [[tag]]|name = \"T1\"|exc_dev = 0|exc_max = 1000000|comp_dev = 5|comp_min = 0|comp_max = 1000000|
 group.toml: [[tag]]|name = \"T1\"|exc_dev = 0|exc_max = 1000000|comp_dev = 0|comp_min = 0|comp_max = 1000000|\
 [[group]]|name = \"g\"|tags = [\"T1\"]|start = 0|period = 5|[[group.calc]]|name = \"m\"|formula = \"avg('T1')\"|
+grid.toml: [[tag]]|name = \"T1\"|exc_dev = 0|exc_max = 1000000|comp_dev = 0|comp_min = 0|comp_max = 1000000|\
+[[group]]|name = \"g\"|tags = [\"T1\"]|start = 0|period = 1000|[[group.calc]]|name = \"m\"|formula = \"avg('T1')\"|
+rows.toml: [[reader]]|file = \"rows.csv\"|
 none.toml: |
 broken.toml: ?
 plan.toml: [[reader]]|file = \"lines.csv\"|[[reader]]|file = \"steps.csv\"|
@@ -29,6 +32,7 @@ long.toml: [[reader]]|file = \"long.csv\"|
 lines.csv: at,T1,25|at,T1,20|at,T1,31|avg,T1,5,15|points,T1,0,20|avg,T1,25,31|snap,T1|
 steps.csv: at,S1,15|at,S1,20|area,S1,0,30|avg,S1,0,30|low,S1,0,30|high,S1,0,30|last,S1,0,30|snap,S1|
 long.csv: snap,T1|count,T1,0,1999|area,T1,0,1999|avg,T1,10,1990|at,T1,1234|at,T1,2000|high,T1,1000,1001|
+rows.csv: row,g,m,0|row,g,m,1|row,g,m,2|row,g,m,3|snap,T1|
 worse.csv: snap,T1|snap,S1||row,g,m,0|";
 
 // What the devices hold, the read of a file that fails, and the words; then the exit code and what is printed.
@@ -51,7 +55,10 @@ other 99 check base.toml => 9 fault: other tag 1|
 damaged 99 check missing.toml => 5 fault: read base|
 damaged 99 check none.toml => 3 fault: text base rule 2 place 0 at 0|
 damaged 99 check broken.toml => 3 fault: text base rule 1 place 0 at 0|
-damaged 99 trend group.toml missing.toml => 14 fault: notyet|
+late 99 check grid.toml => 0 tag T1 taken=4 records=3 kept=2 late=1 held=4000,9|
+late 99 trend grid.toml rows.toml => 0 reply 1 1 20|reply 1 2 50|reply 1 3 20|reply 1 4 none|reply 1 5 snap 4 4000,9|
+new 99 trend grid.toml rows.toml => 0 reply 1 1 none|reply 1 2 none|reply 1 3 none|reply 1 4 none|reply 1 5 snap 0 none|
+damaged 99 trend group.toml missing.toml => 5 fault: read plan|
 damaged 99 trend base.toml missing.toml => 5 fault: read plan|
 damaged 99 trend base.toml broken.toml => 3 fault: text plan rule 1 place 0 at 0|
 damaged 99 trend base.toml late.toml => 5 fault: read reader 2|
@@ -123,6 +130,7 @@ fn devices(rt: &impl Abort, alloc: Global, kind: &str) -> Result<(MemDisk, MemDi
     let new = MemDisk::new(Vec::new(alloc), Vec::new(alloc));
     let first = match kind {
         "kept" => kept(rt, alloc, &line, 64, "0,0 10,10 20,0 30,5"),
+        "late" => kept(rt, alloc, &line, 64, "0,0 3000,0 4000,9 1500,60"),
         "straight" => kept(rt, alloc, &line, 64, "0,0 10,10 20,20"),
         "long" => kept(rt, alloc, &line, 2048, in_turn(alloc)?.as_str()),
         "other" => kept(rt, alloc, &tag(rt, "T1", true), 64, ""),

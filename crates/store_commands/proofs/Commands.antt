@@ -1,11 +1,15 @@
 -- What the commands over stored archives need of a base and of its queries.
-use Rattle.std.proofs.Common.{◌≡◌, ◌≢◌, ℕ, true, false, Vec, vec_len, ◌==◌, List, [], All, length, map, refl, sym, ◌∙◌, subst, arith, ap}
+use Rattle.std.proofs.Common.{◌≡◌, ◌≢◌, ℕ, ◌^◌, ◌<◌, ◌≤◌, List, [], All, length, map, refl, sym, ◌∙◌, subst, arith, ap}
 use Rattle.std.specs.List.{AllPairs}
-use Rattle.std.proofs.lemmas.List.{nil_from_length, get_or-map, length-map}
-use Rattle.std.proofs.lemmas.Bool.{eqb-true, eqb-false}
+use Rattle.std.proofs.lemmas.List.{get_or-map, length-map}
+use Rattle.std.proofs.lemmas.List.Sums.{get_or-le-sum_by}
 use Rattle.std.proofs.lemmas.List.Elements.{All-weaker}
 use Rattle.trend_num.specs.declared.tag_def.TagDef.{TagDef}
+use Rattle.trend_num.specs.declared.archive.Rec.{Rec}
+use Rattle.trend_num.specs.Limits.{most_stored}
+use Rattle.tag_core.specs.Core.{Core}
 use Rattle.tag_base.specs.declared.definition.Base.{Base}
+use Rattle.tag_base.specs.declared.definition.GroupDef.{GroupDef}
 use Rattle.value_rows.specs.declared.asked.Query.{Query}
 use Rattle.value_rows.specs.declared.asked.Query.TheVariants.{Tag, Snap, Row}
 use Rattle.plant_files.specs.Texts.{tag_names}
@@ -16,9 +20,11 @@ use Rattle.plant_status.specs.declared.status.Status.TheVariants.{Done, BadWords
 use Rattle.plant_status.specs.declared.status.Status.TheVariants.{Damaged, OtherTag, Limit, Mismatch, Halted, WantOfMemory, NotYet}
 use Rattle.plant_files.specs.Reading.{faults_told}
 use Rattle.disk_model.specs.Traces.{Trace}
-use Rattle.tag_store.specs.Tags.{AreDistinct}
+use Rattle.tag_store.specs.Tags.{AreDistinct, records_in}
 use Rattle.tag_store.specs.Refusals.{IsRefusal}
+use Rattle.book_store.specs.Refusals.{OfDamage, OfFault, OfMemory, OfVersion, OfWindows}
 use Rattle.trend_command.specs.Replies.{IsAsked}
+use Rattle.store_commands.specs.GroupRows.{IsRowsRefusal, OfCells, OfCopies, OfOpening, OfWant}
 use Rattle.std.proofs.Common.{Option, Result, Ok, Err, IfErr, ◌∷◌}
 
 -- a fact of each image of a list is one of each element
@@ -34,17 +40,18 @@ distinct_tags tags all i j d less below same =
     get_or-map named tags i d d.name (omega (arith, less, below)) ∙ same
     ∙ sym (get_or-map named tags j d d.name below))
 
--- a query of a base that has no groups is asked of one of its tags
-asked_one : (base : Base) (n : ℕ) → base.groups.items ≡ [] → n ≡ length base.tags.items → (q : Query) → IsQueryOf base q → IsAsked n q
-asked_one base n none as_many (Tag tag query) is = (omega (arith, is.0, as_many), is.1)
-asked_one base n none as_many (Snap tag) is = omega (arith, is, as_many)
-asked_one base n none as_many (Row group calc k) is = absurd (omega (arith, ap length none, is.0))
+-- a query of a base is asked of one of its tags or of one of its groups
+asked_one : (base : Base) (n m : ℕ) → n ≡ length base.tags.items → m ≡ length base.groups.items → (q : Query) → IsQueryOf base q
+    → IsAsked n m q
+asked_one base n m tags groups (Tag tag query) is = (omega (arith, is.0, tags), is.1)
+asked_one base n m tags groups (Snap tag) is = omega (arith, is, tags)
+asked_one base n m tags groups (Row group calc k) is = omega (arith, groups, is.0)
 
-pub asked_lists : (base : Base) (n : ℕ) (lists : List (List Query)) → base.groups.items ≡ [] → n ≡ length base.tags.items
-    → All (All (IsQueryOf base)) lists → All (All (IsAsked n)) lists
-asked_lists base n lists none as_many all =
-    All-weaker (All (IsQueryOf base)) (All (IsAsked n))
-    (λ qs each. All-weaker (IsQueryOf base) (IsAsked n) (asked_one base n none as_many) qs each) lists all
+pub asked_lists : (base : Base) (n m : ℕ) (lists : List (List Query)) → n ≡ length base.tags.items → m ≡ length base.groups.items
+    → All (All (IsQueryOf base)) lists → All (All (IsAsked n m)) lists
+asked_lists base n m lists tags groups all =
+    All-weaker (All (IsQueryOf base)) (All (IsAsked n m))
+    (λ qs each. All-weaker (IsQueryOf base) (IsAsked n m) (asked_one base n m tags groups) qs each) lists all
 
 -- the refusal of a tag is no fault of a file
 pub no_file_fault : (tags : List TagDef) (old new : List ℕ → Option Trace) (before now : ℕ) (why : Status)
@@ -64,12 +71,22 @@ no_file_fault tags old new before now (Halted worker) is n = refl
 no_file_fault tags old new before now WantOfMemory is n = refl
 no_file_fault tags old new before now NotYet is n = refl
 
--- a vector that is found empty has no item, and one that is not found so has one
-pub found_empty : {X Z : Type 0} (v : Vec X Z) → (vec_len v == 0) ≡ true → v.items ≡ []
-found_empty v found = nil_from_length v.items (omega (arith, v.ok, eqb-true (vec_len v) 0 found))
+-- nor is that of a group
+pub rows_no_fault : (groups : List GroupDef) (records : List (List Rec)) (old : List ℕ → Option Trace) (before now : ℕ) (why : Status)
+    → IsRowsRefusal groups records old before now why → (n : ℕ) → faults_told why n ≡ n
+rows_no_fault groups records old before now why (OfOpening (OfFault i is at)) n = ap (λ s. faults_told s n) is
+rows_no_fault groups records old before now why (OfOpening (OfDamage i a byte is at)) n = ap (λ s. faults_told s n) is
+rows_no_fault groups records old before now why (OfOpening (OfVersion i input found version is at)) n = ap (λ s. faults_told s n) is
+rows_no_fault groups records old before now why (OfOpening (OfWindows i windows rows is at)) n = ap (λ s. faults_told s n) is
+rows_no_fault groups records old before now why (OfOpening (OfMemory is)) n = ap (λ s. faults_told s n) is
+rows_no_fault groups records old before now why (OfCells i number is at) n = ap (λ s. faults_told s n) is
+rows_no_fault groups records old before now why (OfCopies i number is at) n = ap (λ s. faults_told s n) is
+rows_no_fault groups records old before now why (OfWant is) n = ap (λ s. faults_told s n) is
 
-pub found_some : {X Z : Type 0} (v : Vec X Z) → (vec_len v == 0) ≡ false → v.items ≢ []
-found_some v found same = eqb-false (vec_len v) 0 found (omega (arith, v.ok, ap length same))
+-- each of these is one of fewer than all
+pub few_each : (cores : List Core) → records_in cores ≤ most_stored → All (λ core. length core.state.records < 2 ^ 32) cores
+few_each cores few k d below =
+    let one = get_or-le-sum_by (λ (core : Core). length core.state.records) cores k d below in omega (arith, few, one)
 
 -- a fact of a refusal follows from another
 pub if_err : {T E : Type 0} (r : Result T E) (P Q : E → Type 0) → ((e : E) → P e → Q e) → IfErr r P → IfErr r Q

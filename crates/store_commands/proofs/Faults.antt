@@ -2,6 +2,7 @@
 use Rattle.std.proofs.Common.{◌≡◌, ℕ, List, Option, subst}
 use Rattle.std.specs.Prelude.{◌≢◌}
 use Rattle.byte_io.specs.Files.{FileTold, IsFaultOf}
+use Rattle.trend_num.specs.declared.archive.Rec.{Rec}
 use Rattle.trend_num.specs.declared.tag_def.TagDef.{TagDef}
 use Rattle.disk_model.specs.Traces.{Trace}
 use Rattle.tag_base.specs.declared.definition.Base.{Base}
@@ -15,12 +16,26 @@ use Rattle.plant_files.specs.Texts.{IsBaseFile, IsBaseRefusal, IsPlanFile, IsPla
 use Rattle.plant_files.specs.Asked.{ToldFiles, IsQueriesRefusal}
 use Rattle.plant_files.specs.Reading.{IsFaultAt}
 use Rattle.tag_store.specs.Refusals.{IsRefusal}
+use Rattle.book_store.specs.Refusals.{OfDamage, OfFault, OfMemory, OfVersion, OfWindows}
 use Rattle.store_commands.specs.Commands.{IsFaultOfNamed}
+use Rattle.store_commands.specs.GroupRows.{IsRowsRefusal, OfCells, OfCopies, OfOpening, OfWant}
 
 -- the refusal of a tag is no read fault
 pub tag_is_no_fault : (tags : List TagDef) (old new : List ℕ → Option Trace) (before now : ℕ) (why : Status)
     → IsRefusal tags old new before now why → (which : FileId) → why ≢ ReadFault which
 tag_is_no_fault tags old new before now why is which same = subst (IsRefusal tags old new before now) same is
+
+-- nor is that of a group
+pub group_is_no_fault : (groups : List GroupDef) (records : List (List Rec)) (old : List ℕ → Option Trace) (before now : ℕ) (why : Status)
+    → IsRowsRefusal groups records old before now why → (which : FileId) → why ≢ ReadFault which
+group_is_no_fault groups records old before now why (OfOpening (OfFault i is at)) which same = cc
+group_is_no_fault groups records old before now why (OfOpening (OfDamage i a byte is at)) which same = cc
+group_is_no_fault groups records old before now why (OfOpening (OfVersion i input found version is at)) which same = cc
+group_is_no_fault groups records old before now why (OfOpening (OfWindows i windows rows is at)) which same = cc
+group_is_no_fault groups records old before now why (OfOpening (OfMemory is)) which same = cc
+group_is_no_fault groups records old before now why (OfCells i number is at) which same = cc
+group_is_no_fault groups records old before now why (OfCopies i number is at) which same = cc
+group_is_no_fault groups records old before now why (OfWant is) which same = cc
 
 -- two files are not one
 base_is_no_plan : file.Plan ≢ file.Base

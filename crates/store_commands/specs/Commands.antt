@@ -1,21 +1,25 @@
 -- What the commands over stored archives print, and why they print nothing.
-use Rattle.std.specs.Prelude.{◌≡◌, ◌≢◌, ◌⊎◌, ℕ, List, [], Option}
+use Rattle.std.specs.Prelude.{◌≡◌, ◌≢◌, ◌⊎◌, ℕ, List, All, Option, Result, Ok, Err}
+use Rattle.disk_model.specs.Calls.{Rose}
 use Rattle.disk_model.specs.Traces.{Trace}
 use Rattle.tag_core.specs.Core.{Core}
 use Rattle.tag_base.specs.declared.definition.Base.{Base}
 use Rattle.tag_base.specs.declared.schedule.Plan.{Plan}
 use Rattle.value_rows.specs.declared.asked.Query.{Query}
 use Rattle.plant_status.specs.declared.status.Status.{Status}
-use Rattle.plant_status.specs.declared.status.Status.TheVariants.{ReadFault, NotYet, WantOfMemory}
+use Rattle.plant_status.specs.declared.status.Status.TheVariants.{DeviceFault, ReadFault, WantOfMemory}
 use Rattle.plant_status.specs.declared.file.FileId.TheVariants as file
+use Rattle.plant_status.specs.declared.unit.Unit.{Unit}
 use Rattle.byte_io.specs.Files.{IsFaultOf}
 use Rattle.plant_files.specs.Reading.{IsFaultAt}
 use Rattle.plant_files.specs.Texts.{IsBaseFile, IsBaseRefusal, IsPlanFile, IsPlanRefusal}
 use Rattle.plant_files.specs.Asked.{ToldFiles, AreQueries, IsQueriesRefusal}
-use Rattle.tag_store.specs.Tags.{AreOpened, AreLeft, AllStaySame, AreOthersSame}
+use Rattle.tag_store.specs.Tags.{AreOpened, AreLeft, AllStaySame, AreOthersSame, device_name}
 use Rattle.store_commands.specs.Lines.{check_text}
 use Rattle.tag_store.specs.Refusals.{IsRefusal}
-use Rattle.trend_command.specs.Replies.{trend_text}
+use Rattle.book_store.specs.Groups as group
+use Rattle.trend_command.specs.Replies.{Rows, trend_text}
+use Rattle.store_commands.specs.GroupRows.{AreGroupsTold, IsRowsRefusal, tag_records}
 
 -- the traces of a store's devices by name
 abbrev pub Devices : Type 0
@@ -54,33 +58,36 @@ pub record IsDurable (name : List ℕ) (told : ToldFiles) (old new : Devices) : 
 
 -- ---- trend
 
--- the base has no group, the plan and the files of its readers were read, the tags are opened, and these are the replies
+-- the plan and the files of its readers were read, the tags are opened, these are the rows of the groups, and these the replies
 pub record IsTrend (name plan_name : List ℕ) (told : ToldFiles) (old : Devices) (text : List ℕ) : Type 0 where
   pub base : Base
   pub plan : Plan
   pub lists : List (List Query)
   pub cores : List Core
+  pub groups : List Rows
   pub read : IsBaseFile (told name) base
-  pub no_group : base.groups.items ≡ []
   pub planned : IsPlanFile base.groups.items (told plan_name) plan
   pub asked : AreQueries base told plan.readers.items lists
   pub opened : AreOpened base.tags.items old cores
-  pub same : text ≡ trend_text cores lists
+  pub rows : AreGroupsTold base.groups.items (tag_records cores) old groups
+  pub same : text ≡ trend_text cores groups lists
 
--- the refusals, in their order: of the base, of a group, of the plan, of a reader's file, of a tag. Before that of a tag no device
+-- the refusals, in their order: of the base, of the plan, of a reader's file, of a tag, of a group. Before that of a tag no device
 -- has changed
 pub data IsTrendRefusal (name plan_name : List ℕ) (told : ToldFiles) (old new : Devices) (before now : ℕ) (why : Status) : Type 0 where
   OfBase : IsBaseRefusal (told name) why → AreUntouched old new → IsTrendRefusal name plan_name told old new before now why
-  OfGroup : (base : Base) → IsBaseFile (told name) base → base.groups.items ≢ [] → why ≡ NotYet
-      → AreUntouched old new → IsTrendRefusal name plan_name told old new before now why
-  OfPlan : (base : Base) → IsBaseFile (told name) base → base.groups.items ≡ []
+  OfPlan : (base : Base) → IsBaseFile (told name) base
       → IsPlanRefusal base.groups.items (told plan_name) why → AreUntouched old new → IsTrendRefusal name plan_name told old new before now why
-  OfReader : (base : Base) (plan : Plan) → IsBaseFile (told name) base → base.groups.items ≡ []
+  OfReader : (base : Base) (plan : Plan) → IsBaseFile (told name) base
       → IsPlanFile base.groups.items (told plan_name) plan → IsQueriesRefusal base told plan.readers.items why
       → AreUntouched old new → IsTrendRefusal name plan_name told old new before now why
-  OfTag : (base : Base) (plan : Plan) (lists : List (List Query)) → IsBaseFile (told name) base → base.groups.items ≡ []
+  OfTag : (base : Base) (plan : Plan) (lists : List (List Query)) → IsBaseFile (told name) base
       → IsPlanFile base.groups.items (told plan_name) plan → AreQueries base told plan.readers.items lists
       → IsRefusal base.tags.items old new before now why → IsTrendRefusal name plan_name told old new before now why
+  OfGroup : (base : Base) (plan : Plan) (lists : List (List Query)) (cores : List Core) → IsBaseFile (told name) base
+      → IsPlanFile base.groups.items (told plan_name) plan → AreQueries base told plan.readers.items lists
+      → AreOpened base.tags.items old cores → IsRowsRefusal base.groups.items (tag_records cores) old before now why
+      → IsTrendRefusal name plan_name told old new before now why
   OfMemory : why ≡ WantOfMemory → IsTrendRefusal name plan_name told old new before now why
 
 -- ---- whose read failed
@@ -101,3 +108,22 @@ pub record IsFaultOfNamed (name plan_name : List ℕ) (told : ToldFiles) (failed
 abbrev pub AreKept : List ℕ → ToldFiles → Devices → Devices → Type 0
 AreKept name told old new = AreUntouched old new
     ⊎ ((base : Base) × IsBaseFile (told name) base × AllStaySame base.tags.items old new × AreOthersSame base.tags.items old new)
+
+-- each device but those of these tags and groups is as it was
+abbrev pub AreRestSame : Base → Devices → Devices → Type 0
+AreRestSame base old new = (n : List ℕ) → All (λ def. n ≢ device_name def.name) base.tags.items
+    → All (λ g. n ≢ group.device_name g.name) base.groups.items → new n ≡ old n
+
+-- no device has changed; or those of the base's tags and groups alone have, and a crash at any moment since leaves of each an image
+-- that one before might have left, or that recovers or stands for the same, or, of a tag, that as it is opened
+abbrev pub AreAllKept : List ℕ → ToldFiles → Devices → Devices → Type 0
+AreAllKept name told old new = AreUntouched old new
+    ⊎ ((base : Base) × IsBaseFile (told name) base × AllStaySame base.tags.items old new
+    × group.AllStaySame base.groups.items old new × AreRestSame base old new)
+
+-- ---- faults of devices
+
+-- one fault of the store is counted where a call of a device has failed, which is told then; and else none
+abbrev pub CountsDevices : {T : Type 0} → Result T Status → ℕ → ℕ → Type 0
+CountsDevices (Ok x) before now = now ≡ before
+CountsDevices (Err why) before now = (now ≡ before) ⊎ ((unit : Unit) × (why ≡ DeviceFault unit) × Rose before now)

@@ -26,6 +26,7 @@ pub(crate) fn open_base<S: Store>(
     ensures left { IfOk result (λ cores. AreLeft base.now.tags.items (S.device_at store.old)
         (S.device_at store.new) cores.items) }
     ensures as_many { IfOk result (λ cores. length cores.items ≡ length base.now.tags.items) }
+    ensures short { IfOk result (λ cores. All (λ core. length core.state.records < 2 ^ 32) cores.items) }
     ensures refused { IfErr result (IsRefusal base.now.tags.items (S.device_at store.old) (S.device_at store.new)
         (S.fault_count store.old) (S.fault_count store.new)) }
     ensures no_file_fault { IfErr result (λ why. (n : ℕ) → faults_told why n ≡ n) }

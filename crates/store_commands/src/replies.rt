@@ -1,13 +1,14 @@
 // The command `trend`.
 ghost use Rattle.std.specs.Prelude.{◌^◌, ◌<◌, ◌≤◌, ◌≡◌, length, map, string_bytes, All, IfOk, IfErr, OnOk};
-ghost use Rattle.trend_command.specs.Replies.{IsAsked, trend_text};
+ghost use Rattle.trend_command.specs.Replies.{IsAsked, rows_in, trend_text};
 ghost use Rattle.plant_files.specs.Reading.{faults_after};
-ghost use Rattle.store_commands.specs.Commands.{AreKept, IsDurable, IsFaultOfNamed, IsTrend, IsTrendRefusal};
-ghost use Rattle.tag_store.specs.Refusals.{CountsStore};
+ghost use Rattle.store_commands.specs.Commands.{AreAllKept, CountsDevices, IsDurable, IsFaultOfNamed, IsTrend, IsTrendRefusal};
 
+use crate::groups::histories_of;
 use crate::opened::open_base;
 use byte_io::Files;
 use disk_model::Store;
+use group_book::GroupHistory;
 use plant_files::{ReaderQueries, base_of, plan_of, queries_of};
 use plant_status::Status;
 use std::alloc::{AllocError, Global};
@@ -17,7 +18,8 @@ use trend_num::WantOfMemory;
 use value_rows::Query;
 
 /// What `trend` prints: the answers to the queries of the readers of the plan in the file of that name, over the base in the
-/// file of this name. The device of each tag is opened, and made where there is none. A base with groups is not answered yet.
+/// file of this name. The device of each tag and of each group is opened, and made where there is none. A group is answered
+/// after one refresh from all records of its tags, which is not saved.
 pub fn trend<F: Files, S: Store>(
     alloc: Global,
     files: &mut F,
@@ -29,21 +31,18 @@ pub fn trend<F: Files, S: Store>(
         (string_bytes text)) }
     ensures refused { IfErr result (IsTrendRefusal name.now plan_name.now (F.told files.old) (S.device_at store.old)
         (S.device_at store.new) (S.fault_count store.old) (S.fault_count store.new)) }
-    ensures kept { AreKept name.now (F.told files.old) (S.device_at store.old) (S.device_at store.new) }
+    ensures kept { AreAllKept name.now (F.told files.old) (S.device_at store.old) (S.device_at store.new) }
     ensures stays { F.told files.new ≡ F.told files.old }
     ensures file_faults { F.fault_count files.new ≡ faults_after result (F.fault_count files.old) }
     ensures whose { IfErr result (IsFaultOfNamed name.now plan_name.now (F.told files.old) (F.failed_name files.new)) }
     ensures durable { OnOk result (IsDurable name.now (F.told files.old) (S.device_at store.old) (S.device_at store.new)) }
     ensures counts { S.fault_count store.old < 2 ^ 64
-        → CountsStore result (S.fault_count store.old) (S.fault_count store.new) }
+        → CountsDevices result (S.fault_count store.old) (S.fault_count store.new) }
 {
     let base = match base_of(alloc, files, name) {
         Ok(base) => base,
         Err(why) => return Err(why),
     };
-    if !base.groups.is_empty() {
-        return Err(Status::NotYet);
-    }
     let plan = match plan_of(alloc, files, plan_name, &base) {
         Ok(plan) => plan,
         Err(why) => return Err(why),
@@ -56,7 +55,11 @@ pub fn trend<F: Files, S: Store>(
         Ok(cores) => cores,
         Err(why) => return Err(why),
     };
-    match replies(alloc, &cores, &readers) {
+    let groups = match histories_of(alloc, store, &base.groups, &cores) {
+        Ok(groups) => groups,
+        Err(why) => return Err(why),
+    };
+    match replies(alloc, &cores, &groups, &readers) {
         Ok(text) => Ok(text),
         Err(_) => Err(Status::WantOfMemory),
     }
@@ -66,16 +69,17 @@ pub fn trend<F: Files, S: Store>(
 fn replies(
     alloc: Global,
     cores: &[TagCore],
+    groups: &[GroupHistory],
     readers: &[ReaderQueries],
 ) -> Result<String, WantOfMemory>
-    requires asked { All (All (IsAsked (length cores.now))) readers.now }
+    requires asked { All (All (IsAsked (length cores.now) (length groups.now))) readers.now }
     requires few { length readers.now < 2 ^ 32 }
-    ensures { IfOk result (λ text. string_bytes text ≡ trend_text cores.now readers.now) }
+    ensures { IfOk result (λ text. string_bytes text ≡ trend_text cores.now (rows_in groups.now) readers.now) }
 {
     let Ok(lists) = lists_of(alloc, readers) else {
         return Err(WantOfMemory);
     };
-    trend_text(alloc, cores, &lists)
+    trend_text(alloc, cores, groups, &lists)
 }
 
 /// The queries of each reader.

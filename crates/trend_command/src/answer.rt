@@ -4,27 +4,31 @@ ghost use Rattle.trend_num.specs.Queries.{IsTagQuery};
 ghost use Rattle.trend_model.specs.Contents.{listed};
 ghost use Rattle.trend_report.specs.Lines.{answer_text, told_text};
 ghost use Rattle.trend_command.specs.Contents.{AreContentsOf};
-ghost use Rattle.trend_command.specs.Replies.{IsAsked, answer_in, told};
+ghost use Rattle.calc_refresh.specs.Lists.{lists_of};
+ghost use Rattle.group_layout.specs.Rows.{cell_of};
+ghost use Rattle.trend_command.specs.Replies.{IsAsked, answer_in, rows_in, told};
 
+use group_book::GroupHistory;
 use interp_read::{Reply, TagQuery};
 use late_insert::Content;
 use std::alloc::Global;
 use tag_core::TagCore;
-use trend_num::{Snap, WantOfMemory};
+use trend_num::{CalcValue, Snap, WantOfMemory};
 use trend_report::ReplyText;
 use value_rows::Query;
 use weighted_total::answer;
 
-/// The answer to a query of one of these tags.
+/// The answer to a query of one of these tags, or of one of these groups.
 pub(crate) fn reply_to(
     alloc: Global,
     cores: &[TagCore],
     contents: &[Content],
+    groups: &[GroupHistory],
     query: Query,
 ) -> Result<ReplyText, WantOfMemory>
     requires contents { AreContentsOf cores.now contents.now }
-    requires asked { IsAsked (length cores.now) query }
-    ensures { IfOk result (λ reply. told_text reply ≡ told cores.now query) }
+    requires asked { IsAsked (length cores.now) (length groups.now) query }
+    ensures { IfOk result (λ reply. told_text reply ≡ told cores.now (rows_in groups.now) query) }
 {
     match query {
         Query::Tag { tag, query } => {
@@ -33,7 +37,22 @@ pub(crate) fn reply_to(
             Ok(ReplyText::Tag(reply))
         }
         Query::Snap { tag } => Ok(ReplyText::Snap(snapshot(&cores[tag as usize]))),
-        Query::Row { .. } => unreachable!(),
+        Query::Row { group, calc, k } => {
+            let value = value_at(&groups[group as usize], calc, k);
+            Ok(ReplyText::Row(value))
+        }
+    }
+}
+
+/// The value of a calculation in a window, by the rows of its group.
+fn value_at(group: &GroupHistory, calc: u32, k: u64) -> Option<CalcValue>
+    ensures { result ≡ cell_of (lists_of group.now.rows.items) calc k }
+{
+    let (calc, k) = (calc as usize, k as usize);
+    if calc < group.rows.len() && k < group.rows[calc].len() {
+        Some(group.rows[calc][k])
+    } else {
+        None
     }
 }
 

@@ -1,10 +1,11 @@
 // All replies, in one text.
 ghost use Rattle.std.specs.Prelude.{◌≡◌, ◌++◌, ◌<◌, ◌^◌, All, IfOk, OnOk, length, map, string_bytes};
 ghost use Rattle.trend_command.specs.Contents.{AreContentsOf};
-ghost use Rattle.trend_command.specs.Replies.{IsAsked, replies_from, trend_text};
+ghost use Rattle.trend_command.specs.Replies.{IsAsked, replies_from, rows_in, trend_text};
 
 use crate::answer::reply_to;
 use crate::contents::contents_of;
+use group_book::GroupHistory;
 use late_insert::Content;
 use std::alloc::Global;
 use tag_core::TagCore;
@@ -13,16 +14,17 @@ use trend_report::reply_text;
 use value_rows::Query;
 
 /// What `trend` prints: the answers to the queries of the readers, in order, from the tags as they were
-/// opened. A query asks one of these tags, and never a group.
+/// opened and from the rows of the groups. A query asks one of these tags, or one of these groups.
 pub fn trend_text(
     alloc: Global,
     cores: &[TagCore],
+    groups: &[GroupHistory],
     readers: &[Vec<Query>],
 ) -> Result<String, WantOfMemory>
     requires few_readers { length readers.now < 2 ^ 32 }
-    requires asked { All (λ queries. All (IsAsked (length cores.now)) queries.items) readers.now }
+    requires asked { All (λ queries. All (IsAsked (length cores.now) (length groups.now)) queries.items) readers.now }
     ensures { IfOk result (λ text. string_bytes text
-        ≡ trend_text cores.now (map (λ queries. queries.items) readers.now)) }
+        ≡ trend_text cores.now (rows_in groups.now) (map (λ queries. queries.items) readers.now)) }
 {
     let contents = contents_of(alloc, cores)?;
     let mut text = String::new(alloc);
@@ -33,6 +35,7 @@ pub fn trend_text(
             &mut text,
             cores,
             contents.as_slice(),
+            groups,
             reader,
             queries.as_slice(),
         )?;
@@ -46,16 +49,17 @@ fn put_replies(
     text: &mut String,
     cores: &[TagCore],
     contents: &[Content],
+    groups: &[GroupHistory],
     reader: u32,
     queries: &[Query],
 ) -> Result<(), WantOfMemory>
     requires contents { AreContentsOf cores.now contents.now }
-    requires asked { All (IsAsked (length cores.now)) queries.now }
+    requires asked { All (IsAsked (length cores.now) (length groups.now)) queries.now }
     ensures { OnOk result (string_bytes text.new
-        ≡ string_bytes text.old ++ replies_from cores.now reader 1 queries.now) }
+        ≡ string_bytes text.old ++ replies_from cores.now (rows_in groups.now) reader 1 queries.now) }
 {
     for (place, query) in queries.iter().enumerate() {
-        let reply = reply_to(alloc, cores, contents, *query)?;
+        let reply = reply_to(alloc, cores, contents, groups, *query)?;
         let line = reply_text(alloc, reader, place as u64 + 1, &reply)?;
         put_text(text, line.as_str())?;
     }

@@ -4,6 +4,7 @@ use Rattle.plant_status.specs.declared.file.FileId.{FileId}
 use Rattle.plant_status.specs.declared.status.Status.TheVariants.{Done, ReadFault, WriteFault}
 use Rattle.store_commands.specs.Commands.{IsCheckRefusal, IsChecked, IsFaultOfNamed, IsTrend, IsTrendRefusal}
 use Rattle.store_commands.proofs.Faults.{of_none}
+use Rattle.store_commands.proofs.Stores.{of_tags}
 use Rattle.plant_run.specs.CommandLine.{asked}
 use Rattle.plant_run.proofs.Printing.{answered_so, counts_so, done_so, faults_so, ended_so, check_no_fault, check_not_done, check_rose, trend_no_fault, trend_not_done, trend_rose}
 use Rattle.plant_run.proofs.top_call.run.Goals as goal
@@ -32,7 +33,7 @@ returns-in-Check-clause-ends g c =
             no_done no_fault text line;
         file_faults = faults_so before now c.check.result c.finish.result _ _ c.check.ensures.file_faults text line;
         device_faults = λ few. counts_so IsRefused before now c.check.result c.finish.result faults more
-            (c.check.ensures.counts few) c.check.ensures.refused (rose few) text line;
+            (of_tags c.check.result faults more (c.check.ensures.counts few)) c.check.ensures.refused (rose few) text line;
         input = refl;
       },
       ended_so (λ status. (which : FileId) → status ≡ ReadFault which → IsFaultOf (g.F.Files.failed_name c.check.new.files) base)

@@ -1,10 +1,12 @@
-use Rattle.std.proofs.Common.{◌≡◌, ◌≢◌, ℕ, List, AllPairs, subst, sym}
+use Rattle.std.proofs.Common.{◌≡◌, ◌≢◌, ℕ, ◌^◌, ◌<◌, ◌≤◌, List, All, AllPairs, length, subst, sym}
+use Rattle.std.proofs.lemmas.Result.{IfOk-weaker}
+use Rattle.trend_num.specs.Limits.{most_stored}
 use Rattle.trend_num.specs.declared.tag_def.TagDef.{TagDef}
 use Rattle.plant_files.specs.Reading.{faults_told}
 use Rattle.plant_files.specs.Texts.{tag_names}
-use Rattle.tag_store.specs.Tags.{AreDistinct}
+use Rattle.tag_store.specs.Tags.{AreDistinct, records_in}
 use Rattle.tag_store.specs.Refusals.{IsRefusal}
-use Rattle.store_commands.proofs.Commands.{distinct_tags, no_file_fault, if_err}
+use Rattle.store_commands.proofs.Commands.{distinct_tags, few_each, no_file_fault, if_err}
 use Rattle.store_commands.proofs.opened.open_base.Goals as goal
 
 -- the tags that are opened are distinct
@@ -37,3 +39,8 @@ pub returns-clause-left : goal.returns-clause-left
 returns-clause-left g c =
     let tags = c.deref.ensures.value in
     rw (← tags) (c.open_tags.ensures.left (opened_distinct _ _ c.requires.distinct tags))
+
+pub returns-clause-short : goal.returns-clause-short
+returns-clause-short g c =
+    IfOk-weaker c.open_tags.result (λ cores. records_in cores.items ≤ most_stored)
+    (λ cores. All (λ core. length core.state.records < 2 ^ 32) cores.items) (λ cores few. few_each cores.items few) c.open_tags.ensures.few_records

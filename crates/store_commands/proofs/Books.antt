@@ -1,0 +1,206 @@
+-- Books that are opened, refreshed once, and closed.
+use Rattle.std.proofs.Common.{◌≡◌, ◌≢◌, inl, inr, ℕ, ◌+◌, ◌<◌, ◌≤◌, List, [], ◌∷◌, All, length, map, get_or, set, string_bytes, Option, refl, sym, ap, subst, ◌∙◌, arith}
+use Rattle.std.specs.Prelude.{String}
+use Rattle.std.specs.declared.alloc.Global.{Global}
+use Rattle.std.proofs.lemmas.Bool.{cases_eq}
+use Rattle.std.proofs.lemmas.List.{get_or-map, get_or-set_other, get_or-set_same, get_or_default, length-map, length-set}
+use Rattle.std.proofs.lemmas.List.Elements.{All-get_or}
+use Rattle.trend_num.specs.declared.archive.Rec.{Rec}
+use Rattle.disk_model.specs.Moments.{During}
+use Rattle.disk_model.specs.Traces.{Trace}
+use Rattle.calc_refresh.specs.declared.definition.GroupDefParts.{GroupDefParts}
+use Rattle.calc_refresh.specs.Lists.{lists_of}
+use Rattle.calc_refresh.specs.Sheet.{grid_of}
+use Rattle.sheet_law.specs.Scratch.{IsScratch}
+use Rattle.tag_base.specs.declared.definition.GroupDef.{GroupDef}
+use Rattle.tag_base.specs.Groups.{IsSound}
+use Rattle.plant_status.specs.declared.status.Status.{Status}
+use Rattle.group_book.specs.declared.history.GroupHistory.{GroupHistory}
+use Rattle.group_book.specs.declared.history.GroupOpening.{GroupOpening}
+use Rattle.group_book.specs.declared.refusal.RefreshNo.{RefreshNo}
+use Rattle.group_book.specs.declared.refusal.RefreshNo.TheVariants.{Ahead, CellLimit, CopyLimit, WantOfMemory}
+use Rattle.group_book.specs.Histories.{IsRight}
+use Rattle.group_book.specs.Openings.{StaysSame}
+use Rattle.group_book.specs.Told.{Told, count_of, trace_of}
+use Rattle.group_session.specs.Inputs.{IsInputsOf}
+use Rattle.book_store.specs.Endings.{AreGivenBack, AreHistoriesOf, IsHistoryOf, trace_after}
+use Rattle.book_store.specs.Groups.{AllStaySame, AreBooksOpened, AreNamesOf, Devices, IsBookOpened, parts_of, records_of, text_of, trace_at}
+use Rattle.book_store.proofs.Causes.{back_is, front_of}
+use Rattle.book_store.proofs.Names.{as_many, named_at}
+use Rattle.trend_command.specs.Replies.{Rows, rows_in}
+use Rattle.store_commands.specs.GroupRows.{AreGroupsTold, IsGroupTold, IsRowsRefusal, IsTooMuchAt, OfCells, OfCopies, OfWant}
+use Rattle.store_commands.specs.Refreshing.{AreCutBooks, AreRefreshedOnce, HaveDevicesOf, IsCutBook, IsOverIn, IsOverSome, IsRefreshedOnce, lists_at, refresh_status}
+
+-- books that were opened have the first records of their tags
+pub cut_books : {D : Type 0} (trace : D → Option Trace) (ticks faults : D → ℕ) (groups : List GroupDef) (records : List (List Rec))
+    (old : Devices) (books : List (Told D)) → length books ≡ length groups
+    → AreBooksOpened trace ticks faults groups records old books → AreCutBooks groups records books
+cut_books trace ticks faults groups records old books many opened i g b below =
+    let book = opened.each i g b (omega (arith, below, many)) in
+    (book.def, record { copies = book.copies; versions = book.versions })
+
+-- ---- one refresh after the other
+
+-- the inputs of a group are those of its book
+pub inputs_of : {D : Type 0} (tags : ℕ) (g : GroupDef) (b : Told D) → IsSound tags g → b.def ≡ parts_of g → IsInputsOf tags g.inputs.items b
+inputs_of tags g b sound def = record {
+  same = sym (ap (λ d. d.inputs) def);
+  few = sound.few_inputs;
+  known = sound.inputs_are_tags;
+}
+
+pub devices_refl : {D : Type 0} (books : List (Told D)) → HaveDevicesOf books books
+devices_refl books = record { as_many = refl; each = λ i b. refl }
+
+-- a book that has the device that it had
+pub devices_set : {D : Type 0} (first now : List (Told D)) (at : ℕ) (b d : Told D) → at < length now → b.dev ≡ (get_or now at d).dev
+    → HaveDevicesOf first now → HaveDevicesOf first (set now at b)
+devices_set first now at b d within same before = record {
+  as_many = length-set now at b ∙ before.as_many;
+  each = λ i e. elim (cases_eq i at) [
+    | inl is ↦ subst (λ n. (get_or (set now at b) n e).dev ≡ (get_or first n e).dev) (sym is)
+        (ap (λ x. x.dev) (get_or-set_same now at b e within) ∙ same
+        ∙ ap (λ x. x.dev) (get_or_default now at d e within) ∙ before.each at e)
+    | inr differ ↦ ap (λ x. x.dev) (get_or-set_other now at i b e differ) ∙ before.each i e
+  ];
+}
+
+-- the first books are refreshed, and the others are as they were
+pub record AreRefreshedTo {D : Type 0} (groups : List GroupDef) (records : List (List Rec)) (upto : ℕ) (old now : List (Told D))
+    : Type 0 where
+  pub devices : HaveDevicesOf old now
+  pub done : (i : ℕ) (g : GroupDef) (b : Told D) → i < upto
+      → IsRefreshedOnce (lists_at records (get_or groups i g).inputs.items) (get_or old i b) (get_or now i b)
+  pub to_come : (i : ℕ) (b : Told D) → upto ≤ i → get_or now i b ≡ get_or old i b
+
+pub none_refreshed : {D : Type 0} (groups : List GroupDef) (records : List (List Rec)) (books : List (Told D))
+    → AreRefreshedTo groups records 0 books books
+none_refreshed groups records books = record {
+  devices = devices_refl books;
+  done = λ i g b below. absurd (omega (arith, below));
+  to_come = λ i b from. refl;
+}
+
+-- a book that is refreshed has the device that it had
+pub same_device : {D : Type 0} (recovered : List (List Rec)) (old new : Told D) → IsRefreshedOnce recovered old new → new.dev ≡ old.dev
+same_device recovered old new is = ap (λ b. b.dev) is.changed
+
+-- one more
+pub one_refreshed : {D : Type 0} (groups : List GroupDef) (records : List (List Rec)) (at : ℕ) (old now : List (Told D)) (g : GroupDef)
+    (b d : Told D) → at < length now → at < length groups → g ≡ get_or groups at g → d ≡ get_or now at d
+    → IsRefreshedOnce (lists_at records g.inputs.items) d b → AreRefreshedTo groups records at old now
+    → AreRefreshedTo groups records (at + 1) old (set now at b)
+one_refreshed groups records at old now g b d within there is is_book one before = record {
+  devices = devices_set old now at b d within (same_device _ d b one ∙ ap (λ x. x.dev) is_book) before.devices;
+  done = λ i e f below. elim (cases_eq i at) [
+    | inl same ↦ subst (λ n. IsRefreshedOnce (lists_at records (get_or groups n e).inputs.items) (get_or old n f) (get_or (set now at b) n f))
+        (sym same)
+        (subst (λ x. IsRefreshedOnce (lists_at records (get_or groups at e).inputs.items) (get_or old at f) x)
+        (sym (get_or-set_same now at b f within))
+        (subst (λ x. IsRefreshedOnce (lists_at records (get_or groups at e).inputs.items) x b)
+        (is_book ∙ get_or_default now at d f within ∙ before.to_come at f (omega arith))
+        (subst (λ (x : GroupDef). IsRefreshedOnce (lists_at records x.inputs.items) d b) (is ∙ get_or_default groups at g e there) one)))
+    | inr differ ↦ subst (λ x. IsRefreshedOnce (lists_at records (get_or groups i e).inputs.items) (get_or old i f) x)
+        (sym (get_or-set_other now at i b f differ)) (before.done i e f (omega (arith, below, differ)))
+  ];
+  to_come = λ i f from. get_or-set_other now at i b f (λ same. omega (arith, from, same)) ∙ before.to_come i f (omega (arith, from));
+}
+
+-- ---- what they come to
+
+-- one group
+group_told : {D : Type 0} (trace : D → Option Trace) (ticks faults : D → ℕ) (i : ℕ) (g : GroupDef) (recovered : List (List Rec))
+    (o : Option Trace) (b c : Told D) (h : GroupHistory) → IsBookOpened trace ticks faults i g recovered o b → IsRefreshedOnce recovered b c
+    → IsHistoryOf trace ticks faults c h → IsGroupTold g recovered o (lists_of h.rows.items)
+group_told trace ticks faults i g recovered o b c h book once told = record {
+  opening = b.opening;
+  opened = book.opening;
+  scratch = subst (λ (d : GroupDefParts). IsRight d.calcs (grid_of d.start d.period) b.opening recovered
+      → IsScratch d.calcs (grid_of d.start d.period) recovered (lists_of h.rows.items))
+      (told.def ∙ ap (λ x. x.def) once.changed ∙ book.def)
+      (subst (λ (x : GroupOpening). IsRight h.def.calcs (grid_of h.def.start h.def.period) x recovered
+      → IsScratch h.def.calcs (grid_of h.def.start h.def.period) recovered (lists_of h.rows.items))
+      (told.opening ∙ ap (λ x. x.opening) once.changed)
+      (subst (λ (l : List (List Rec)). IsRight h.def.calcs (grid_of h.def.start h.def.period) h.opening l
+      → IsScratch h.def.calcs (grid_of h.def.start h.def.period) l (lists_of h.rows.items))
+      (told.copies ∙ once.copies) told.history.legal.scratch));
+}
+
+-- all groups
+pub all_told : {D : Type 0} (trace : D → Option Trace) (ticks faults : D → ℕ) (groups : List GroupDef) (records : List (List Rec))
+    (old : Devices) (books closed : List (Told D)) (hs : List GroupHistory) → length books ≡ length groups
+    → AreBooksOpened trace ticks faults groups records old books → HaveDevicesOf books closed
+    → AreRefreshedOnce groups records books closed → AreHistoriesOf trace ticks faults closed hs
+    → AreGroupsTold groups records old (rows_in hs)
+all_told {D} trace ticks faults groups records old books closed hs many opened devices once told = record {
+  as_many = length-map hs rows_of ∙ told.as_many ∙ devices.as_many ∙ many;
+  each = λ i g r below. by i g r below books hs refl refl;
+}
+  where
+    rows_of : GroupHistory → Rows
+    rows_of h = lists_of h.rows.items
+
+    by : (i : ℕ) (g : GroupDef) (r : Rows) → i < length groups → (bs : List (Told D)) (all : List GroupHistory) → bs ≡ books → all ≡ hs
+        → IsGroupTold (get_or groups i g) (records_of records (get_or groups i g)) (trace_at old (get_or groups i g)) (get_or (rows_in hs) i r)
+    by i g r below [] all is same = absurd (omega (arith, below, many, ap length is))
+    by i g r below (b ∷ bs) [] is same = absurd (omega (arith, below, many, devices.as_many, told.as_many, ap length same))
+    by i g r below (b ∷ bs) (h ∷ all) is same =
+        subst (λ x. IsGroupTold (get_or groups i g) (records_of records (get_or groups i g)) (trace_at old (get_or groups i g)) x)
+        (sym (get_or-map rows_of hs i h r (omega (arith, below, many, devices.as_many, told.as_many))))
+        (group_told trace ticks faults i (get_or groups i g) (records_of records (get_or groups i g)) (trace_at old (get_or groups i g))
+        (get_or books i b) (get_or closed i b) (get_or hs i h) (opened.each i g b (omega (arith, below, many))) (once i g b below)
+        (told.each i b h (omega (arith, below, many, devices.as_many))))
+
+-- the device of each is back, and stays the same
+pub all_back : {D : Type 0} (trace : D → Option Trace) (ticks faults : D → ℕ) (groups : List GroupDef) (names : List (String Global))
+    (records : List (List Rec)) (old mid new : Devices) (books closed : List (Told D)) → AreNamesOf groups names
+    → length books ≡ length groups → AreBooksOpened trace ticks faults groups records old books → HaveDevicesOf books closed
+    → AreGivenBack trace names closed mid new → AllStaySame groups old new
+all_back trace ticks faults groups names records old mid new [] closed are many opened devices given i g below =
+    absurd (omega (arith, below, many))
+all_back trace ticks faults groups [] records old mid new (b ∷ bs) closed are many opened devices given i g below =
+    absurd (omega (arith, below, as_many groups [] are))
+all_back trace ticks faults groups (s ∷ ss) records old mid new (b ∷ bs) closed are many opened devices given i g below =
+    let book = opened.each i g b (omega (arith, below, many)) in
+    let is : trace_at new (get_or groups i g) ≡ trace_of trace (get_or (b ∷ bs) i b).dev =
+    ap new (sym (named_at groups (s ∷ ss) i g s are below)) ∙ given i b s (omega (arith, below, many, devices.as_many))
+    ∙ ap (λ dev. trace_after trace dev (mid (string_bytes (get_or (s ∷ ss) i s)))) (devices.each i b)
+    ∙ back_is trace (get_or (b ∷ bs) i b).dev _ book.device in
+    subst (λ o. During (trace_at old (get_or groups i g)) o
+    (StaysSame (text_of (get_or groups i g)) (parts_of (get_or groups i g)) (trace_at old (get_or groups i g)))) (sym is) book.same
+
+-- none has counted a fault
+pub none_counted : {D : Type 0} (trace : D → Option Trace) (ticks faults : D → ℕ) (groups : List GroupDef) (records : List (List Rec))
+    (old : Devices) (books closed : List (Told D)) → length books ≡ length groups
+    → AreBooksOpened trace ticks faults groups records old books → HaveDevicesOf books closed
+    → All (λ b. count_of faults b.dev ≡ 0) closed
+none_counted trace ticks faults [] records old books closed many opened devices i b below =
+    absurd (omega (arith, below, many, devices.as_many))
+none_counted trace ticks faults (g ∷ gs) records old books closed many opened devices i b below =
+    ap (count_of faults) (devices.each i b) ∙ (opened.each i g b (omega (arith, below, devices.as_many))).faultless
+
+-- ---- a group that comes to too much
+
+pub over_some : {D : Type 0} (trace : D → Option Trace) (ticks faults : D → ℕ) (groups : List GroupDef) (records : List (List Rec))
+    (old : Devices) (books : List (Told D)) (before now : ℕ) (s : Status) → length books ≡ length groups
+    → AreBooksOpened trace ticks faults groups records old books → IsOverSome groups records s
+    → IsRowsRefusal groups records old before now s
+over_some trace ticks faults [] records old books before now s many opened over = absurd (omega (arith, over.there))
+over_some {D} trace ticks faults (g ∷ gs) records old books before now s many opened over = by over.why (over.over g) over.told
+  where
+    much : (P : List (List Rec) → Type 0) → P (records_of records (get_or (g ∷ gs) over.i g)) → IsTooMuchAt (g ∷ gs) records old over.i P
+    much P p = record {
+      g = get_or (g ∷ gs) over.i g;
+      openings = map (λ b. b.opening) books;
+      there = over.there;
+      is_group = get_or_default (g ∷ gs) over.i (get_or (g ∷ gs) over.i g) g over.there;
+      opened = λ k d x below. front_of trace ticks faults (g ∷ gs) records old books opened k d x (omega (arith, below, many));
+      over = p;
+    }
+
+    by : (why : RefreshNo) → IsOverIn (lists_at records (get_or (g ∷ gs) over.i g).inputs.items) why
+        → s ≡ refresh_status why → IsRowsRefusal (g ∷ gs) records old before now s
+    by (Ahead input version found) is told = absurd is
+    by (CellLimit n) is told = OfCells over.i n told (much _ is)
+    by (CopyLimit n) is told = OfCopies over.i n told (much _ is)
+    by WantOfMemory is told = OfWant told

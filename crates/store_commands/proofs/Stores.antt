@@ -1,0 +1,144 @@
+-- The devices of tags and of groups, which are opened one after the other.
+use Rattle.std.proofs.Common.{◌≡◌, ◌≢◌, ◌⊎◌, inl, inr, ℕ, ◌+◌, ◌^◌, ◌<◌, List, [], ◌∷◌, ◌++◌, All, length, length-append, map, get_or, codes, Option, Result, Ok, Err, refl, sym, ap, subst, ◌∙◌, arith}
+use Rattle.std.proofs.lemmas.List.{get_or-append-add}
+use Rattle.trend_num.specs.declared.archive.Rec.{Rec}
+use Rattle.trend_num.specs.declared.tag_def.TagDef.{TagDef}
+use Rattle.tag_core.specs.Core.{Core}
+use Rattle.disk_model.specs.Calls.{Rose}
+use Rattle.disk_model.specs.Moments.{During}
+use Rattle.disk_model.specs.Traces.{Trace}
+use Rattle.crash_recovery.specs.Opening.{StaysSame as TagStaysSame}
+use Rattle.plant_status.specs.declared.status.Status.{Status}
+use Rattle.plant_status.specs.declared.unit.Unit.TheVariants.{Tag, Group}
+use Rattle.tag_base.specs.declared.definition.Base.{Base}
+use Rattle.tag_base.specs.declared.definition.GroupDef.{GroupDef}
+use Rattle.tag_store.specs.Refusals as tags
+use Rattle.tag_store.specs.Tags as tag
+use Rattle.group_book.specs.declared.history.GroupOpening.{GroupOpening}
+use Rattle.group_book.specs.Openings.{StaysSame}
+use Rattle.book_store.specs.Groups as group
+use Rattle.book_store.specs.Groups.{Devices, IsOpening, parts_of, records_of, text_of, trace_at}
+use Rattle.book_store.specs.Refusals as groups
+use Rattle.book_store.specs.Refusals.{IsRefusal, IsRefusedAt, OfDamage, OfFault, OfMemory, OfVersion, OfWindows}
+use Rattle.book_store.proofs.Turns.{untouched}
+use Rattle.trend_command.specs.Replies.{Rows}
+use Rattle.store_commands.specs.Commands.{AreRestSame, CountsDevices}
+use Rattle.store_commands.specs.GroupRows.{AreGroupsTold, IsGroupTold, IsRowsRefusal, IsTooMuchAt, OfCells, OfCopies, OfOpening, OfWant}
+
+-- no group's device is called as a tag's
+pub names_apart : (g t : List ℕ) → group.device_name g ≢ tag.device_name t
+names_apart g t same =
+    let many : length g ≡ length t =
+    omega (arith, ap length same, length-append g (codes ".grp"), length-append t (codes ".tag")) in
+    let of_group = get_or-append-add g (codes ".grp") 3 0 in
+    let of_tag = get_or-append-add t (codes ".tag") 3 0 in
+    let last : 112 ≡ 103 = sym of_group ∙ ap (λ l. get_or l (length g + 3) 0) same ∙ ap (λ n. get_or (t ++ codes ".tag") (n + 3) 0) many ∙ of_tag in
+    absurd (omega (arith, last))
+
+-- so the devices of groups are as they were where those of tags alone have changed
+pub groups_same : (tags : List TagDef) (old new : Devices) → tag.AreOthersSame tags old new → (g : GroupDef)
+    → trace_at new g ≡ trace_at old g
+groups_same tags old new others g =
+    others (group.device_name g.name) (λ k d below. names_apart g.name (get_or tags k d).name)
+
+-- and those of tags where those of groups alone have
+pub tags_same : (gs : List GroupDef) (old new : Devices) → group.AreOthersSame gs old new → (t : TagDef)
+    → tag.trace_of new t ≡ tag.trace_of old t
+tags_same gs old new others t =
+    others (tag.device_name t.name) (λ k d below same. names_apart (get_or gs k d).name t.name (sym same))
+
+-- ---- what is said of groups after the tags were opened is so of the devices before
+
+module _ (gs : List GroupDef) (records : List (List Rec)) (old mid : Devices) (same : (g : GroupDef) → trace_at mid g ≡ trace_at old g) where
+  pub told_before : (rows : List Rows) → AreGroupsTold gs records mid rows → AreGroupsTold gs records old rows
+  told_before rows told = record {
+    as_many = told.as_many;
+    each = λ i g r below. subst (λ o. IsGroupTold (get_or gs i g) (records_of records (get_or gs i g)) o (get_or rows i r))
+        (same (get_or gs i g)) (told.each i g r below);
+  }
+
+  opened_before : (many : ℕ) (openings : List GroupOpening) → group.AreOpened many gs records mid openings
+      → group.AreOpened many gs records old openings
+  opened_before many openings opened k g x below =
+      subst (λ o. IsOpening (get_or gs k g) (records_of records (get_or gs k g)) o (get_or openings k x)) (same (get_or gs k g))
+      (opened k g x below)
+
+  at_before : (i : ℕ) (P Q : GroupDef → List (List Rec) → Option Trace → Type 0)
+      → ((g : GroupDef) (recovered : List (List Rec)) (o : Option Trace) → P g recovered o → Q g recovered o)
+      → IsRefusedAt gs records mid i P → IsRefusedAt gs records old i Q
+  at_before i P Q follows at = record {
+    g = at.g;
+    openings = at.openings;
+    there = at.there;
+    is_group = at.is_group;
+    as_many = at.as_many;
+    front = opened_before i at.openings at.front;
+    cause = subst (Q at.g (records_of records at.g)) (same at.g) (follows at.g (records_of records at.g) (trace_at mid at.g) at.cause);
+  }
+
+  refusal_before : (before mid_count now : ℕ) (why : Status) → (before < 2 ^ 64 → mid_count ≡ before)
+      → IsRefusal gs records mid mid_count now why → IsRefusal gs records old before now why
+  refusal_before before count now why first (OfFault i is at) =
+      OfFault i is (at_before i _ _ (λ g recovered o rose small.
+      subst (λ n. Rose n now) (first small) (rose (subst (λ n. n < 2 ^ 64) (sym (first small)) small))) at)
+  refusal_before before count now why first (OfDamage i a byte is at) = OfDamage i a byte is (at_before i _ _ (λ g recovered o p. p) at)
+  refusal_before before count now why first (OfVersion i input found version is at) =
+      OfVersion i input found version is (at_before i _ _ (λ g recovered o p. p) at)
+  refusal_before before count now why first (OfWindows i windows rows is at) =
+      OfWindows i windows rows is (at_before i _ _ (λ g recovered o p. p) at)
+  refusal_before before count now why first (OfMemory is) = OfMemory is
+
+  much_before : (i : ℕ) (P : List (List Rec) → Type 0) → IsTooMuchAt gs records mid i P → IsTooMuchAt gs records old i P
+  much_before i P at = record {
+    g = at.g;
+    openings = at.openings;
+    there = at.there;
+    is_group = at.is_group;
+    opened = opened_before (length gs) at.openings at.opened;
+    over = at.over;
+  }
+
+  pub rows_before : (before mid_count now : ℕ) (why : Status) → (before < 2 ^ 64 → mid_count ≡ before)
+      → IsRowsRefusal gs records mid mid_count now why → IsRowsRefusal gs records old before now why
+  rows_before before count now why first (OfOpening refused) = OfOpening (refusal_before before count now why first refused)
+  rows_before before count now why first (OfCells i number is at) = OfCells i number is (much_before i _ at)
+  rows_before before count now why first (OfCopies i number is at) = OfCopies i number is (much_before i _ at)
+  rows_before before count now why first (OfWant is) = OfWant is
+
+  pub same_before : (new : Devices) → group.AllStaySame gs mid new → group.AllStaySame gs old new
+  same_before new kept i g below =
+      subst (λ o. During o (trace_at new (get_or gs i g)) (StaysSame (text_of (get_or gs i g)) (parts_of (get_or gs i g)) o))
+      (same (get_or gs i g)) (kept i g below)
+
+  -- groups that were not opened stay the same
+  pub same_untouched : group.AllStaySame gs old mid
+  same_untouched i g below = untouched (get_or gs i g) _ _ (same (get_or gs i g))
+
+-- ---- what is said of tags before the groups were opened is so of the devices after
+
+pub kept_after : (ts : List TagDef) (old mid new : Devices) → ((t : TagDef) → tag.trace_of new t ≡ tag.trace_of mid t)
+    → tag.AllStaySame ts old mid → tag.AllStaySame ts old new
+kept_after ts old mid new same kept k d below =
+    subst (λ o. TagStaysSame (get_or ts k d) (tag.trace_of old (get_or ts k d)) o) (sym (same (get_or ts k d))) (kept k d below)
+
+pub left_after : (ts : List TagDef) (cores : List Core) (old mid new : Devices)
+    → ((t : TagDef) → tag.trace_of new t ≡ tag.trace_of mid t) → tag.AreLeft ts old mid cores → tag.AreLeft ts old new cores
+left_after [] [] old mid new same left = tt
+left_after [] (c ∷ cs) old mid new same left = absurd left
+left_after (t ∷ ts) [] old mid new same left = absurd left
+left_after (t ∷ ts) (c ∷ cs) old mid new same left = (
+  subst (λ o. tag.IsLeft t (tag.trace_of old t) o c) (sym (same t)) left.0,
+  left_after ts cs old mid new same left.1,
+)
+
+-- no device but theirs has changed
+pub rest_same : (base : Base) (old mid new : Devices) → tag.AreOthersSame base.tags.items old mid
+    → group.AreOthersSame base.groups.items mid new → AreRestSame base old new
+rest_same base old mid new first second n no_tag no_group = second n no_group ∙ first n no_tag
+
+-- ---- faults
+
+pub of_tags : {T : Type 0} (r : Result T Status) (before now : ℕ) → tags.CountsStore r before now → CountsDevices r before now
+of_tags (Ok x) before now same = same
+of_tags (Err why) before now (inl same) = inl same
+of_tags (Err why) before now (inr fault) = inr (Tag fault.0, fault.1, fault.2)
