@@ -122,7 +122,7 @@ returns-then-records-gt-MAX_STORE_RECORDS-clause-stopped g c =
     let is = c.in-Ok.ensures.opened in
     let number_is : c.loop-def.records + length c.recs.result.now
     ≡ records_opened c.loop-def.cells.items + length cell.opening.recs.items =
-    omega (arith, inv.records, ap (length {A = Rec}) c.recs.ensures, ap (λ (s : State). length s.records) is.state_is) in
+    omega (arith, inv.records, ap (length {A = Rec}) c.recs.ensures.records, ap (λ (s : State). length s.records) is.state_is) in
     subst (IsStopped g.S.Dev.Disk.trace tags c.loop-def.cells.items old new (g.S.Store.fault_count c.args.store.now)
     (g.S.Store.fault_count c.close_cell.new.store)) (sym c.too_many.ensures)
     (stopped_full g.S.Dev.Disk.trace g.S.Dev.Disk.ticks g.S.Dev.Disk.fault_count tags i def c.as_str-name.result.now
@@ -162,7 +162,7 @@ loop-def-preserved g c =
     sym inv.posters ∙ c.in-Some.ensures.items in
     let records = records_more c.loop-def.cells.items c.push_reserved.new.self.items cell c.push_reserved.ensures.items in
     let counted : c.loop-def.records + length c.recs.result.now ≡ records_opened c.push_reserved.new.self.items =
-    omega (arith, inv.records, records, ap (length {A = Rec}) c.recs.ensures, ap (λ (s : State). length s.records) is.state_is) in
+    omega (arith, inv.records, records, ap (length {A = Rec}) c.recs.ensures.records, ap (λ (s : State). length s.records) is.state_is) in
     record {
       first = record {
         opened = more.0;
