@@ -8,6 +8,4 @@ mod books;
 #[cfg(test)]
 mod parts;
 #[cfg(test)]
-mod saves;
-#[cfg(test)]
 mod sheets;
