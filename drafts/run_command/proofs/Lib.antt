@@ -1,0 +1,5 @@
+pub mod Kept
+pub mod Results
+pub mod Making
+pub mod Mismatches
+pub mod Notes

@@ -1,0 +1,6 @@
+pub mod Copies
+pub mod Endings
+pub mod Refusals
+pub mod Rooms
+pub mod Sessions
+pub mod Steps
