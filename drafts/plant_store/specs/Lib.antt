@@ -1,3 +1,0 @@
-pub mod Shelves
-pub mod Openings
-pub mod Closings

@@ -1,6 +1,0 @@
-pub mod Copies
-pub mod Endings
-pub mod Refusals
-pub mod Rooms
-pub mod Sessions
-pub mod Steps
