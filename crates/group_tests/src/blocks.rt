@@ -49,7 +49,7 @@ const ROWS: &str = "\
 104 165 => damaged 105 none";
 
 /// The device after the first save, with another byte at a place.
-pub fn saved_once(alloc: Global, at: usize, byte: u8) -> Result<MemDisk, Fail> {
+fn saved_once(alloc: Global, at: usize, byte: u8) -> Result<MemDisk, Fail> {
     let mut bytes = Vec::new(alloc);
     bytes.extend_from_slice(&HEAD)?;
     bytes.extend_from_slice(TEXT)?;

@@ -1,10 +1,8 @@
-//! Tests of groups: their sheets, their books, and their devices.
+//! Tests of groups: their sheets, and the blocks of their devices.
 #![tactic(auto)]
 
 #[cfg(test)]
 mod blocks;
-#[cfg(test)]
-mod books;
 #[cfg(test)]
 mod parts;
 #[cfg(test)]

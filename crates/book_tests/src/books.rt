@@ -3,7 +3,7 @@ ghost use Rattle.std.specs.Prelude.{◌≡◌, ◌<◌, IfOk};
 ghost use Rattle.snapshot_table.specs.Boards.{PostsTo};
 ghost use Rattle.snapshot_table.specs.Snaps.{nothing};
 
-use crate::sheets::def_of;
+use crate::groups::means;
 use calc_refresh::CalcValue;
 use disk_model::MemDisk;
 use group_book::{Book, RefreshNo, Turn, new_book};
@@ -121,8 +121,8 @@ pub fn answers(alloc: Global, book: &mut Book<MemDisk>) -> Result<String, Fail> 
 }
 
 // A book of one tag and one calculation.
-fn book_of(rt: &impl Abort, alloc: Global) -> Result<Book<MemDisk>, Fail> {
-    let def = def_of(rt, alloc, 1, 1000, "avg('T1')")?;
+fn book_of(alloc: Global) -> Result<Book<MemDisk>, Fail> {
+    let def = means(alloc)?;
     let tags = vec![in alloc; 0; 1]?;
     let book = new_book(alloc, 0, &def, tags)?;
     Ok(book)
@@ -130,7 +130,7 @@ fn book_of(rt: &impl Abort, alloc: Global) -> Result<Book<MemDisk>, Fail> {
 
 // Follows the steps of a line.
 fn follow<R: Abort + Wait>(rt: &R, alloc: Global, line: &str) -> Result<(), Fail> {
-    let mut book = book_of(rt, alloc)?;
+    let mut book = book_of(alloc)?;
     let mut cells = Vec::new(alloc);
     let cell = cell_of(rt, alloc).ok_or("a cell")?;
     cells.push(Mutex::new(cell))?;
@@ -163,7 +163,7 @@ fn a_refresh_takes_what_is_acknowledged(rt: HostRuntime) -> Result<(), Fail> {
 
 #[test]
 fn an_input_without_its_tag_gives_nothing(rt: HostRuntime) -> Result<(), Fail> {
-    let mut book = book_of(&rt, rt.alloc())?;
+    let mut book = book_of(rt.alloc())?;
     assert!(&rt; refresh(&rt, &mut book, &[]).is_ok());
     assert_eq!(&rt; book.tape().len(), 1);
     assert!(&rt; matches!(book.tape().first(), Some(Turn::Refresh { .. })));
@@ -173,7 +173,7 @@ fn an_input_without_its_tag_gives_nothing(rt: HostRuntime) -> Result<(), Fail> {
 
 #[test]
 fn a_version_above_the_records_is_ahead(rt: HostRuntime) -> Result<(), Fail> {
-    let mut book = book_of(&rt, rt.alloc())?;
+    let mut book = book_of(rt.alloc())?;
     let mut cells = Vec::new(rt.alloc());
     let mut cell = cell_of(&rt, rt.alloc()).ok_or("a cell")?;
     take_all(&rt, &mut cell, "0,0 3000,0 4000,9 commit").ok_or("values")?;

@@ -1,4 +1,4 @@
-use Rattle.group_tests.proofs.books.refresh.Given as goal
+use Rattle.book_tests.proofs.books.refresh.Given as goal
 
 -- the ledger is that of the blank
 abbrev pub ghosts-refresh_on : goal.ghosts-refresh_on

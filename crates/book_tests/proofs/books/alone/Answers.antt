@@ -1,6 +1,6 @@
 use Rattle.std.proofs.Common.{rules}
-use Rattle.group_tests.proofs.Lone.{lone_posts, lone_is_new}
-use Rattle.group_tests.proofs.books.alone.Goals as goal
+use Rattle.book_tests.proofs.Lone.{lone_posts, lone_is_new}
+use Rattle.book_tests.proofs.books.alone.Goals as goal
 
 pub returns-in-Some-clause-posts : goal.returns-in-Some-clause-posts
 returns-in-Some-clause-posts g c = search (rules, lone_posts)
