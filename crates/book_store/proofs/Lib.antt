@@ -2,3 +2,4 @@ pub mod Names
 pub mod Turns
 pub mod Causes
 pub mod Returns
+pub mod Devices

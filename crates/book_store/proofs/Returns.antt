@@ -176,7 +176,8 @@ later_risen : (before now last : ℕ) → HasRisen before now → now ≤ last �
 later_risen before now last (inl rose) later small = inl (omega (arith, rose, later))
 later_risen before now last (inr end) later small = inr (omega (arith, end, later, small))
 
-counts_small : {D : Type 0} (faults : D → ℕ) (books : List (Told D)) (before : ℕ) → before < 2 ^ 64 → counts_after faults books before < 2 ^ 64
+-- the count stays within its type
+pub counts_small : {D : Type 0} (faults : D → ℕ) (books : List (Told D)) (before : ℕ) → before < 2 ^ 64 → counts_after faults books before < 2 ^ 64
 counts_small faults [] before small = small
 counts_small faults (b ∷ bs) before small = counts_small faults bs (count_after faults b.dev before) (one_later faults b.dev before small).1
 

@@ -1,5 +1,5 @@
 // The devices of books are given back.
-ghost use Rattle.std.specs.Prelude.{◌≡◌, ◌≢◌, ℕ, ◌+◌, ◌-◌, ◌^◌, ◌<◌, ◌≤◌, [], All, AllPairs, length, slice_index_or, string_bytes, vec_capacity, vec_len};
+ghost use Rattle.std.specs.Prelude.{◌≡◌, ◌≢◌, ℕ, ◌+◌, ◌-◌, ◌^◌, ◌<◌, ◌≤◌, List, [], All, AllPairs, IsTrue, length, slice_index_or, string_bytes, vec_capacity, vec_len};
 ghost use Rattle.group_book.specs.Told.{Told, count_of};
 ghost use Rattle.book_store.specs.Endings.{AreGivenBack, AreHistoriesOf, HasRisen, counts_after};
 ghost use Rattle.book_store.specs.Steps.{AreOtherNamesSame, HavePlaces};
@@ -26,6 +26,7 @@ pub fn close_books<S: Store>(
     ensures closed { AreHistoriesOf S.Dev.trace S.Dev.ticks S.Dev.fault_count books.items histories.new.items }
     ensures given { AreGivenBack S.Dev.trace names.now books.items (S.device_at store.old) (S.device_at store.new) }
     ensures others { AreOtherNamesSame (length names.now) names.now (S.device_at store.old) (S.device_at store.new) }
+    ensures kept_places { (n : List ℕ) → IsTrue (S.has_place store.old n) → IsTrue (S.has_place store.new n) }
 
     // The faults of the devices are added to the store's, whose count is not below what it was. It rose where a device has counted
     // one, and is as it was where none has.
@@ -54,6 +55,7 @@ pub(crate) fn give_back_all<S: Store>(store: &mut S, names: &[String], books: Ve
     requires distinct { AllPairs (λ a b. string_bytes a ≢ string_bytes b) names.now }
     ensures given { AreGivenBack S.Dev.trace names.now books.items (S.device_at store.old) (S.device_at store.new) }
     ensures others { AreOtherNamesSame (vec_len books) names.now (S.device_at store.old) (S.device_at store.new) }
+    ensures kept_places { (n : List ℕ) → IsTrue (S.has_place store.old n) → IsTrue (S.has_place store.new n) }
     ensures counted { S.fault_count store.new ≡ counts_after S.Dev.fault_count books.items (S.fault_count store.old) }
 {
     let mut rest = books.into_iter();

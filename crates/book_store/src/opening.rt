@@ -1,5 +1,5 @@
 // The groups of a base are opened.
-ghost use Rattle.std.specs.Prelude.{◌≡◌, ℕ, ◌^◌, ◌<◌, ◌≤◌, [], All, IfErr, IfOk, OnErr, OnOk, length, map, vec_capacity};
+ghost use Rattle.std.specs.Prelude.{◌≡◌, ℕ, ◌^◌, ◌<◌, ◌≤◌, List, [], All, IfErr, IfOk, IsTrue, OnErr, OnOk, length, map, vec_capacity};
 ghost use Rattle.calc_refresh.specs.Sheet.{IsCopy};
 ghost use Rattle.disk_model.specs.Calls.{CountsFault};
 ghost use Rattle.tag_base.specs.Groups.{IsSound};
@@ -48,6 +48,7 @@ pub fn open_books<S: Store>(
 
     // No other device is changed. One fault is counted where a call has failed, and else none.
     ensures others { AreOthersSame groups.now (S.device_at store.old) (S.device_at store.new) }
+    ensures kept_places { (n : List ℕ) → IsTrue (S.has_place store.old n) → IsTrue (S.has_place store.new n) }
     ensures counts { S.fault_count store.old < 2 ^ 64
         → CountsStore result (S.fault_count store.old) (S.fault_count store.new) }
 {
@@ -87,6 +88,7 @@ fn open_all<S: Store>(
     ensures places { HavePlaces (length books.new.items) names.now (S.has_place store.new) }
     ensures rest { RestStaysSame (length books.new.items) groups.now (S.device_at store.old) (S.device_at store.new) }
     ensures others { AreOthersSame groups.now (S.device_at store.old) (S.device_at store.new) }
+    ensures kept_places { (n : List ℕ) → IsTrue (S.has_place store.old n) → IsTrue (S.has_place store.new n) }
     ensures cause { IfErr result (IsCauseAt (length books.new.items) groups.now (map (λ r. r.now) records.now) (S.device_at store.old)) }
     ensures counts { S.fault_count store.old < 2 ^ 64
         → CountsFault result DeviceFault (S.fault_count store.old) (S.fault_count store.new) }

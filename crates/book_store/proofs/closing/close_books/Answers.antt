@@ -35,6 +35,7 @@ loop-book-preserved g c =
           (omega (arith, c.requires.as_many, before.taken, c.in-Some.ensures.len, c.args.books.ok)) left before.back
           c.index-names-place.is c.as_str.ensures.value c.close_book-history.ensures.given c.close_book-history.ensures.others;
       places = λ i s below. c.close_book-history.ensures.places _ (before.places i s below);
+      kept_places = λ n was. c.close_book-history.ensures.places n (before.kept_places n was);
       faults = before.faults
           ∙ (ap (λ l. counts_after D.fault_count l (g.S.Store.fault_count c.loop-book.store)) is
           ∙ ap (counts_after D.fault_count (into_iter_items c.next.new.self)) (sym c.close_book-history.ensures.counted));

@@ -1,4 +1,5 @@
-use Rattle.std.proofs.Common.{◌≡◌, ◌<◌, ◌≤◌, ◌+◌, drop, length}
+use Rattle.std.proofs.Common.{◌≡◌, ◌<◌, ◌≤◌, ◌+◌, ℕ, List, drop, length}
+use Rattle.std.specs.Prelude.{IsTrue}
 use Rattle.std.specs.Vec.Iter.{into_iter_items, into_iter_len}
 use Rattle.book_store.specs.Endings.{counts_after}
 use Rattle.book_store.specs.Steps.{HavePlaces}
@@ -12,6 +13,7 @@ invariant-loop-book g l = record {
   taken : l.place + into_iter_len l.rest ≡ length l.fn.books.items;
   back : AreBack g.S.Dev.Disk.trace l.names l.fn.books.items l.place (g.S.Store.device_at l.fn.store) (g.S.Store.device_at l.store);
   places : HavePlaces (length l.fn.books.items) l.names (g.S.Store.has_place l.store);
+  kept_places : (n : List ℕ) → IsTrue (g.S.Store.has_place l.fn.store n) → IsTrue (g.S.Store.has_place l.store n);
   faults : counts_after g.S.Dev.Disk.fault_count l.fn.books.items (g.S.Store.fault_count l.fn.store)
       ≡ counts_after g.S.Dev.Disk.fault_count (into_iter_items l.rest) (g.S.Store.fault_count l.store);
 }

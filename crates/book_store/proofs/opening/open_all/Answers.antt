@@ -30,6 +30,7 @@ loop-place-preserved g c =
       places = one_place names i c.index-names-place.result c.as_str-name.result.now _ _
           (omega (arith, c.loop-place-test.true, as_many groups names c.requires.names)) c.index-names-place.is
           c.as_str-name.ensures.value before.places c.open_book.ensures.places c.in-Ok.ensures.place;
+      kept_places = λ n was. c.open_book.ensures.places n (before.kept_places n was);
       faults = λ small.
           let so_far = before.faults small in
           (c.in-Ok.ensures.counts (subst (λ n. n < 2 ^ 64) (sym so_far) small)).passed ∙ so_far;

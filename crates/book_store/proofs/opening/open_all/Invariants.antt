@@ -1,4 +1,5 @@
-use Rattle.std.proofs.Common.{◌≡◌, ◌^◌, ◌<◌, ◌≤◌, length, map, vec_capacity}
+use Rattle.std.proofs.Common.{◌≡◌, ◌^◌, ◌<◌, ◌≤◌, ℕ, List, length, map, vec_capacity}
+use Rattle.std.specs.Prelude.{IsTrue}
 use Rattle.book_store.specs.Steps.{HavePlaces}
 use Rattle.book_store.proofs.Turns.{IsSoFar}
 use Rattle.book_store.proofs.opening.open_all.Given as goal
@@ -10,6 +11,7 @@ invariant-loop-place g l = record {
   count : length l.books.items ≡ l.place;
   room : length l.groups ≤ vec_capacity l.books;
   places : HavePlaces l.place l.names (g.S.Store.has_place l.store);
+  kept_places : (n : List ℕ) → IsTrue (g.S.Store.has_place l.fn.store n) → IsTrue (g.S.Store.has_place l.store n);
   faults : g.S.Store.fault_count l.fn.store < 2 ^ 64
       → g.S.Store.fault_count l.store ≡ g.S.Store.fault_count l.fn.store;
 }

@@ -1,0 +1,68 @@
+-- How a plant's devices come back.
+use Rattle.std.proofs.Common.{◌≡◌, ◌≢◌, inl, inr, ℕ, ◌-◌, ◌^◌, ◌<◌, ◌≤◌, List, [], length, get_or, Option, sym, ◌∙◌, arith}
+use Rattle.std.specs.Prelude.{All, true, string_bytes}
+use Rattle.std.proofs.lemmas.Bool.{cases_lt}
+use Rattle.std.proofs.lemmas.List.{get_or-map, length-map}
+use Rattle.std.proofs.lemmas.List.Elements.{All-weaker}
+use Rattle.disk_model.specs.Traces.{Trace}
+use Rattle.tag_cell.specs.Told.{Told as Cell}
+use Rattle.group_book.specs.Told.{Told as Book, count_of}
+use Rattle.cell_store.specs.Closings.{AreGivenBack, CountsCells, HasRisen}
+use Rattle.cell_store.specs.Names.{texts}
+use Rattle.book_store.specs.Endings.{AreGivenBack as AreBooksBack, counts_after}
+use Rattle.book_store.specs.Groups.{Devices}
+use Rattle.book_store.specs.Steps.{AreOtherNamesSame}
+use Rattle.book_store.proofs.Returns.{counts_small}
+use Rattle.plant_store.specs.declared.shelf.Shelf.{Shelf}
+use Rattle.plant_store.specs.Closings.{AreDevicesBack, CountsClosed}
+use Rattle.plant_store.specs.Shelves.{IsShelf}
+
+-- the devices of the books are given back, and then those of the cells
+pub all_back : {D : Type 0} (trace : D → Option Trace) (shelf : Shelf) (cells : List (Cell D)) (books : List (Book D))
+    (old mid new : Devices) → IsShelf shelf → length shelf.group_names.items ≡ length books
+    → AreBooksBack trace shelf.group_names.items books old mid
+    → AreOtherNamesSame (length shelf.group_names.items) shelf.group_names.items old mid
+    → AreGivenBack trace (texts shelf.tag_names.items) cells mid new → AreDevicesBack trace shelf cells books old new
+all_back trace shelf cells books old mid new is many given rest back =
+    let names = shelf.group_names.items in
+    let as_many = length-map names string_bytes in
+    record {
+      of_tags = back.given;
+      of_groups = λ i b s below.
+          let there : i < length names = omega (arith, below, many) in
+          back.others (string_bytes (get_or names i s)) (λ k d within same.
+          is.kinds_apart k d within i [] (omega (arith, there, as_many)) (sym same ∙ sym (get_or-map string_bytes names i s [] there)))
+          ∙ given i b s below;
+      others = λ n no_tag no_group. back.others n no_tag ∙ rest n (λ i s there same.
+          no_group i [] (omega (arith, there, as_many)) (same ∙ sym (get_or-map string_bytes names i s [] there)));
+    }
+
+-- what has risen stays so
+still_risen : (before mid now : ℕ) → before < 2 ^ 64 → mid ≤ now → HasRisen before mid → HasRisen before now
+still_risen before mid now small later (inl rose) = inl (omega (arith, rose, later))
+still_risen before mid now small later (inr end) = elim (cases_lt before now) [
+  | inl rose ↦ inl rose
+  | inr same ↦ inr (omega (arith, end, later, same, small))
+]
+
+-- and what rises later has risen
+sooner_risen : (before mid now : ℕ) → before ≤ mid → HasRisen mid now → HasRisen before now
+sooner_risen before mid now later (inl rose) = inl (omega (arith, rose, later))
+sooner_risen before mid now later (inr end) = inr end
+
+-- the faults of the books' devices are counted, and then those of the cells'
+pub all_counted : {D : Type 0} (faults : D → ℕ) (cells : List (Cell D)) (books : List (Book D)) (before mid now : ℕ) → before < 2 ^ 64
+    → mid ≡ counts_after faults books before → before ≤ mid
+    → ((i : ℕ) (b : Book D) → i < length books → 0 < count_of faults (get_or books i b).dev → HasRisen before mid)
+    → (All (λ (b : Book D). count_of faults b.dev ≡ 0) books → mid ≡ before)
+    → (mid < 2 ^ 64 → CountsCells faults cells mid now) → CountsClosed faults cells books before now
+all_counted {D} faults cells books before mid now small is later rose none closed =
+    let counts = closed (omega (arith, is, counts_small faults books before small)) in
+    record {
+      later = omega (arith, later, counts.later);
+      of_cells = All-weaker (λ (c : Cell D). c.journal.failed ≡ true → HasRisen mid now)
+          (λ (c : Cell D). c.journal.failed ≡ true → HasRisen before now)
+          (λ c risen failed. sooner_risen before mid now later (risen failed)) cells counts.risen;
+      of_books = λ i b below some. still_risen before mid now small counts.later (rose i b below some);
+      faultless = λ no_cell no_book. counts.faultless no_cell ∙ none no_book;
+    }

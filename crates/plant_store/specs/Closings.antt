@@ -1,0 +1,29 @@
+-- What becomes of a plant whose devices are given back.
+use Rattle.std.specs.Prelude.{◌≡◌, ◌≢◌, ℕ, ◌<◌, ◌≤◌, true, List, Option, All}
+use Rattle.std.specs.List.{AllZip}
+use Rattle.disk_model.specs.Traces.{Trace}
+use Rattle.tag_cell.specs.Told.{Told as Cell}
+use Rattle.group_book.specs.Told.{Told as Book, count_of}
+use Rattle.cell_store.specs.Closings.{HasRisen}
+use Rattle.cell_store.specs.Names.{texts}
+use Rattle.book_store.specs.Endings.{AreGivenBack}
+use Rattle.book_store.specs.Groups.{Devices}
+use Rattle.plant_store.specs.declared.shelf.Shelf.{Shelf}
+
+-- under the name of each tag is the device of its cell, under that of each group the device of its book, where it has one; and any
+-- other device is as it was
+pub record AreDevicesBack {D : Type 0} (trace : D → Option Trace) (shelf : Shelf) (cells : List (Cell D)) (books : List (Book D))
+    (old new : Devices) : Type 0 where
+  pub of_tags : AllZip (λ name (c : Cell D). new name ≡ trace c.journal.dev) (texts shelf.tag_names.items) cells
+  pub of_groups : AreGivenBack trace shelf.group_names.items books old new
+  pub others : (n : List ℕ) → All (λ name. n ≢ name) (texts shelf.tag_names.items)
+      → All (λ name. n ≢ name) (texts shelf.group_names.items) → new n ≡ old n
+
+-- The faults of a store before these devices are given back and after it: they are no fewer. They have risen, or stand at the end of
+-- their type, where the journal of a cell has failed or the device of a book has counted one, and are as before where no device has.
+pub record CountsClosed {D : Type 0} (faults : D → ℕ) (cells : List (Cell D)) (books : List (Book D)) (before now : ℕ) : Type 0 where
+  pub later : before ≤ now
+  pub of_cells : All (λ (c : Cell D). c.journal.failed ≡ true → HasRisen before now) cells
+  pub of_books : All (λ (b : Book D). 0 < count_of faults b.dev → HasRisen before now) books
+  pub faultless : All (λ (c : Cell D). faults c.journal.dev ≡ 0) cells → All (λ (b : Book D). count_of faults b.dev ≡ 0) books
+      → now ≡ before

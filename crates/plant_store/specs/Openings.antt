@@ -1,0 +1,40 @@
+-- What a plant is opened as, and why it is not.
+use Rattle.std.specs.Prelude.{◌≡◌, ◌≢◌, ◌⊎◌, ℕ, List, All, map, Result, Ok, Err}
+use Rattle.trend_num.specs.declared.archive.Rec.{Rec}
+use Rattle.tag_core.specs.Core.{Core}
+use Rattle.disk_model.specs.Calls.{Rose}
+use Rattle.plant_status.specs.declared.status.Status.{Status}
+use Rattle.plant_status.specs.declared.status.Status.TheVariants.{DeviceFault}
+use Rattle.plant_status.specs.declared.unit.Unit.{Unit as Device}
+use Rattle.tag_base.specs.declared.definition.Base.{Base}
+use Rattle.tag_cell.specs.Told.{Told}
+use Rattle.tag_store.specs.Refusals as tags
+use Rattle.tag_store.specs.Tags as tag
+use Rattle.book_store.specs.Groups as group
+use Rattle.book_store.specs.Groups.{Devices}
+use Rattle.book_store.specs.Refusals as groups
+
+-- the records of each cell
+abbrev pub records_in : {D : Type 0} → List (Told D) → List (List Rec)
+records_in {D} cells = map (λ (c : Told D). c.state.records) cells
+
+-- and of each opened tag
+abbrev pub records_of : List Core → List (List Rec)
+records_of cores = map (λ (core : Core). core.state.records) cores
+
+-- Why a plant is not opened, where the store counted so many faults before and so many now: the tags of its base are refused; or
+-- all are opened, and its groups are refused over their records.
+pub data IsPlantRefusal (base : Base) (old new : Devices) (before now : ℕ) (why : Status) : Type 0 where
+  OfTags : tags.IsRefusal base.tags.items old new before now why → IsPlantRefusal base old new before now why
+  OfGroups : (cores : List Core) → tag.AreOpened base.tags.items old cores
+      → groups.IsRefusal base.groups.items (records_of cores) old before now why → IsPlantRefusal base old new before now why
+
+-- each device but those of the base's tags and groups is as it was
+abbrev pub AreRestSame : Base → Devices → Devices → Type 0
+AreRestSame base old new = (n : List ℕ) → All (λ def. n ≢ tag.device_name def.name) base.tags.items
+    → All (λ g. n ≢ group.device_name g.name) base.groups.items → new n ≡ old n
+
+-- one fault of the store is counted where a call of a device has failed, which is told then; and else none
+abbrev pub CountsPlant : {T : Type 0} → Result T Status → ℕ → ℕ → Type 0
+CountsPlant (Ok x) before now = now ≡ before
+CountsPlant (Err why) before now = (now ≡ before) ⊎ ((unit : Device) × (why ≡ DeviceFault unit) × Rose before now)

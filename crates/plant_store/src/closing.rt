@@ -1,0 +1,52 @@
+// A plant's devices are given back.
+ghost use Rattle.std.specs.Prelude.{◌≡◌, ◌^◌, ◌<◌, length, vec_len};
+ghost use Rattle.cell_store.specs.Closings.{AreHistoriesAt, AreHistoriesOf};
+ghost use Rattle.cell_store.specs.Names.{texts};
+ghost use Rattle.book_store.specs.Endings.{AreHistoriesOf as AreGroupHistoriesOf};
+ghost use Rattle.plant_store.specs.Closings.{AreDevicesBack, CountsClosed};
+ghost use Rattle.plant_store.specs.Shelves.{HasPlacesOf, IsShelf};
+
+use crate::opening::OpenPlant;
+use crate::shelf::Shelf;
+use book_store::close_books;
+use cell_store::close_cells;
+use disk_model::Store;
+use group_book::GroupHistory;
+use tag_cell::TagHistory;
+
+/// Gives every device of a plant back under its name, and hands out what happened to each tag and each group, in order. It takes no
+/// memory.
+pub fn close_plant<S: Store>(
+    store: &mut S,
+    shelf: Shelf,
+    plant: OpenPlant<S::Dev>,
+) -> (Vec<TagHistory>, Vec<GroupHistory>)
+    requires shelf { IsShelf shelf }
+    requires tags { length shelf.tag_names.items ≡ vec_len plant.cells }
+    requires groups { length shelf.group_names.items ≡ vec_len plant.books }
+    requires places { HasPlacesOf shelf (S.has_place store.old) }
+
+    // There is one history for each cell and each book, in its place.
+    ensures tags { AreHistoriesOf S.Dev.trace S.Dev.ticks S.Dev.fault_count plant.cells.items result.0.items }
+    ensures groups { AreGroupHistoriesOf S.Dev.trace S.Dev.ticks S.Dev.fault_count plant.books.items result.1.items }
+
+    // The device of each is back under its name, and no other one has changed.
+    ensures back { AreDevicesBack S.Dev.trace shelf plant.cells.items plant.books.items (S.device_at store.old)
+        (S.device_at store.new) }
+    ensures devices { AreHistoriesAt (S.device_at store.new) (texts shelf.tag_names.items) result.0.items }
+
+    // The faults of the devices are added to the store's.
+    ensures counts { S.fault_count store.old < 2 ^ 64 → CountsClosed S.Dev.fault_count plant.cells.items plant.books.items
+        (S.fault_count store.old) (S.fault_count store.new) }
+{
+    let Shelf {
+        tag_names,
+        group_names,
+        mut tags,
+        mut groups,
+    } = shelf;
+    let OpenPlant { cells, books } = plant;
+    close_books(store, &group_names, books, &mut groups);
+    close_cells(store, &tag_names, cells, &mut tags);
+    (tags, groups)
+}

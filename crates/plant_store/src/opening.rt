@@ -1,0 +1,143 @@
+// A plant is opened.
+ghost use Rattle.std.specs.Prelude.{◌≡◌, ◌^◌, ◌<◌, ◌≤◌, ℕ, List, All, IfErr, IfOk, IsTrue, OnErr, OnOk, length, map};
+ghost use Rattle.std.specs.Arc.{arc_value};
+ghost use Rattle.trend_num.specs.Limits.{most_stored};
+ghost use Rattle.trend_num.specs.Ranges.{TuningInRange};
+ghost use Rattle.calc_refresh.specs.Sheet.{IsCopy};
+ghost use Rattle.snapshot_table.specs.Boards.{new_posters};
+ghost use Rattle.tag_base.specs.Groups.{IsSound};
+ghost use Rattle.tag_store.specs.Tags.{AllStaySame, AreDistinct};
+ghost use Rattle.cell_store.specs.Openings.{AreCellsOpened, records_opened};
+ghost use Rattle.book_store.specs.Groups.{AllStaySame as AllGroupsStaySame, AreBooksOpened, AreDistinct as AreDistinctGroups, AreNamesOf, AreOthersSame};
+ghost use Rattle.book_store.specs.Refusals.{CountsStore, IsRefusal};
+ghost use Rattle.book_store.specs.Steps.{HavePlaces};
+ghost use Rattle.plant_store.specs.Openings.{AreRestSame, CountsPlant, IsPlantRefusal, records_in};
+ghost use Rattle.plant_store.specs.Shelves.{HasPlacesOf, IsShelfFor};
+
+use crate::shelf::Shelf;
+use book_store::open_books;
+use cell_store::{close_cells, open_cells};
+use disk_model::{Disk, Store};
+use group_book::Book;
+use plant_status::Status;
+use snapshot_table::{Board, Poster};
+use std::alloc::Global;
+use std::sync::{Arc, Wait};
+use tag_base::Base;
+use tag_cell::Cell;
+use trend_num::{Rec, WantOfMemory};
+
+/// The cells and books of a plant, whose devices are out.
+pub struct OpenPlant<D: Disk> {
+    pub cells: Vec<Cell<D>>,
+    pub books: Vec<Book<D>>,
+}
+
+/// Opens the tags of a base in order as cells, each with room for so many takes, and then its groups as books over the records of
+/// those cells. A device that is not there is made. It stops at the first tag or group that is not opened, and where the tags
+/// together have too many records; every device is given back then. The posters are those of a new board.
+pub fn open_plant<S: Store, R: Wait>(
+    rt: &R,
+    alloc: Global,
+    store: &mut S,
+    base: &Base,
+    shelf: &Shelf,
+    rooms: &[u32],
+    board: &Arc<Board, Global>,
+    posters: Vec<Poster>,
+) -> Result<OpenPlant<S::Dev>, Status>
+    requires tuned { All (λ def. TuningInRange def.tuning) base.now.tags.items }
+    requires distinct { AreDistinct base.now.tags.items }
+    requires sound { All (IsSound (length base.now.tags.items)) base.now.groups.items }
+    requires distinct_groups { AreDistinctGroups base.now.groups.items }
+    requires shelf { IsShelfFor base.now shelf.now }
+    requires rooms { length rooms.now ≡ length base.now.tags.items }
+    requires posters { posters.items ≡ new_posters 0 (arc_value board.now) }
+    requires places { length base.now.tags.items ≤ length (arc_value board.now) }
+
+    // Each cell is what its tag's device recovers, and each book has what its group's device stands for, over the records of the
+    // cells. The store keeps a place for each device.
+    ensures tags { IfOk result (λ plant. AreCellsOpened S.Dev.trace S.Dev.ticks S.Dev.fault_count base.now.tags.items
+        (S.device_at store.old) plant.cells.items) }
+    ensures groups { IfOk result (λ plant. AreBooksOpened S.Dev.trace S.Dev.ticks S.Dev.fault_count base.now.groups.items
+        (records_in plant.cells.items) (S.device_at store.old) plant.books.items) }
+    ensures as_many_cells { IfOk result (λ plant. length plant.cells.items ≡ length base.now.tags.items) }
+    ensures as_many_books { IfOk result (λ plant. length plant.books.items ≡ length base.now.groups.items) }
+    ensures rooms { IfOk result (λ plant. map (λ c. c.room) plant.cells.items ≡ rooms.now) }
+    ensures few_records { IfOk result (λ plant. records_opened plant.cells.items ≤ most_stored) }
+    ensures places { OnOk result (HasPlacesOf shelf.now (S.has_place store.new)) }
+
+    // A refusal tells its first cause. A crash at any moment has left of each device what one before might have left, or what
+    // recovers or stands for the same.
+    ensures refused { IfErr result (IsPlantRefusal base.now (S.device_at store.old) (S.device_at store.new)
+        (S.fault_count store.old) (S.fault_count store.new)) }
+    ensures same_tags { OnErr result (AllStaySame base.now.tags.items (S.device_at store.old) (S.device_at store.new)) }
+    ensures same_groups { OnErr result (AllGroupsStaySame base.now.groups.items (S.device_at store.old) (S.device_at store.new)) }
+
+    // No other device is changed. One fault is counted where a call has failed, and else none.
+    ensures others { AreRestSame base.now (S.device_at store.old) (S.device_at store.new) }
+    ensures counts { S.fault_count store.old < 2 ^ 64
+        → CountsPlant result (S.fault_count store.old) (S.fault_count store.new) }
+{
+    let Ok(mut histories) = Vec::with_capacity(alloc, base.tags.len()) else {
+        return Err(Status::WantOfMemory);
+    };
+    let names = &shelf.tag_names;
+    let cells = match open_cells(rt, alloc, store, &base.tags, names, rooms, board, posters) {
+        Ok(cells) => cells,
+        Err(why) => return Err(why),
+    };
+    match open_groups(alloc, store, base, &shelf.group_names, &cells) {
+        Ok(books) => Ok(OpenPlant { cells, books }),
+        Err(why) => {
+            close_cells(store, names, cells, &mut histories);
+            Err(why)
+        }
+    }
+}
+
+// Opens the groups of a base over the records of the cells of its tags.
+fn open_groups<S: Store>(
+    alloc: Global,
+    store: &mut S,
+    base: &Base,
+    names: &[String],
+    cells: &[Cell<S::Dev>],
+) -> Result<Vec<Book<S::Dev>>, Status>
+    requires sound { All (IsSound (length cells.now)) base.now.groups.items }
+    requires distinct { AreDistinctGroups base.now.groups.items }
+    requires names { AreNamesOf base.now.groups.items names.now }
+    ensures opened { IfOk result (λ books. AreBooksOpened S.Dev.trace S.Dev.ticks S.Dev.fault_count base.now.groups.items
+        (records_in cells.now) (S.device_at store.old) books.items) }
+    ensures as_many { IfOk result (λ books. length books.items ≡ length base.now.groups.items) }
+    ensures places { OnOk result (HavePlaces (length base.now.groups.items) names.now (S.has_place store.new)) }
+    ensures refused { IfErr result (IsRefusal base.now.groups.items (records_in cells.now) (S.device_at store.old)
+        (S.fault_count store.old) (S.fault_count store.new)) }
+    ensures any_moment { OnErr result (AllGroupsStaySame base.now.groups.items (S.device_at store.old) (S.device_at store.new)) }
+    ensures others { AreOthersSame base.now.groups.items (S.device_at store.old) (S.device_at store.new) }
+    ensures kept_places { (n : List ℕ) → IsTrue (S.has_place store.old n) → IsTrue (S.has_place store.new n) }
+    ensures counts { S.fault_count store.old < 2 ^ 64
+        → CountsStore result (S.fault_count store.old) (S.fault_count store.new) }
+{
+    let Ok(records) = records_of(alloc, cells) else {
+        return Err(Status::WantOfMemory);
+    };
+    open_books(alloc, store, &base.groups, names, &records)
+}
+
+// The records of each cell.
+fn records_of<'c, D: Disk>(
+    alloc: Global,
+    cells: &'c [Cell<D>],
+) -> Result<Vec<&'c [Rec]>, WantOfMemory>
+    ensures records { IfOk result (λ v. map (λ r. r.now) v.items ≡ records_in cells.now) }
+    ensures copied { IfOk result (λ v. All (λ r. IsCopy r.now) v.items) }
+{
+    let mut records = Vec::new(alloc);
+    for cell in cells {
+        let Ok(()) = records.push(cell.recs()) else {
+            return Err(WantOfMemory);
+        };
+    }
+    Ok(records)
+}

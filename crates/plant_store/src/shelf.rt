@@ -1,0 +1,48 @@
+// What giving a plant's devices back needs.
+ghost use Rattle.std.specs.Prelude.{◌≡◌, ◌≤◌, [], IfOk, vec_capacity};
+ghost use Rattle.tag_store.specs.Tags.{AreDistinct};
+ghost use Rattle.book_store.specs.Groups.{AreDistinct as AreDistinctGroups};
+ghost use Rattle.plant_store.specs.Shelves.{IsShelfFor};
+
+use group_book::GroupHistory;
+use std::alloc::Global;
+use tag_base::Base;
+use tag_cell::TagHistory;
+use trend_num::WantOfMemory;
+
+/// The names of the devices of a base's tags and groups, and room for their histories. It is made before the devices are taken, so
+/// that giving them back takes no memory.
+#[derive(Drop)]
+pub struct Shelf {
+    pub tag_names: Vec<String>,
+    pub group_names: Vec<String>,
+    pub tags: Vec<TagHistory>,
+    pub groups: Vec<GroupHistory>,
+}
+
+/// Makes the shelf for a base.
+pub fn shelf_for(alloc: Global, base: &Base) -> Result<Shelf, WantOfMemory>
+    requires distinct { AreDistinct base.now.tags.items }
+    requires distinct_groups { AreDistinctGroups base.now.groups.items }
+    ensures { IfOk result (IsShelfFor base.now) }
+{
+    let tag_names = cell_store::device_names(alloc, &base.tags)?;
+    let group_names = book_store::device_names(alloc, &base.groups)?;
+    let tags = list_for(alloc, base.tags.len())?;
+    let groups = list_for(alloc, base.groups.len())?;
+    Ok(Shelf {
+        tag_names,
+        group_names,
+        tags,
+        groups,
+    })
+}
+
+// An empty list with room for so many items.
+fn list_for<T: Drop>(alloc: Global, count: usize) -> Result<Vec<T>, WantOfMemory>
+    ensures none { IfOk result (λ list. list.items ≡ []) }
+    ensures room { IfOk result (λ list. count ≤ vec_capacity list) }
+{
+    let list = Vec::with_capacity(alloc, count)?;
+    Ok(list)
+}

@@ -1,0 +1,67 @@
+-- What `run` reads of its files, and why it holds no session.
+use Rattle.std.specs.Prelude.{◌≡◌, ◌≢◌, ℕ, ◌<◌, ◌≤◌, List, All, AllPairs, length, Option, vec_len}
+use Rattle.trend_num.specs.Ranges.{TuningInRange}
+use Rattle.byte_io.specs.Files.{IsFaultOf}
+use Rattle.plant_status.specs.declared.file.FileId.TheVariants as file
+use Rattle.plant_status.specs.declared.status.Status.{Status}
+use Rattle.plant_status.specs.declared.status.Status.TheVariants.{ReadFault, WantOfMemory}
+use Rattle.tag_base.specs.declared.definition.Base.{Base}
+use Rattle.tag_base.specs.declared.schedule.Plan.{Plan}
+use Rattle.tag_base.specs.Groups.{IsSound}
+use Rattle.value_rows.specs.declared.asked.Query.{Query}
+use Rattle.value_rows.specs.declared.raw.RawRow.{RawRow}
+use Rattle.plant_files.specs.Asked.{AreQueries, IsQueriesRefusal, IsQueryOf}
+use Rattle.plant_files.specs.Collected.{AreRows, AreRowsTooMany, IsRowOf, IsRowsRefusal, most_rows, row_count}
+use Rattle.plant_files.specs.Reading.{IsFaultAt}
+use Rattle.plant_files.specs.RowFiles.{ToldFiles}
+use Rattle.plant_files.specs.Texts.{IsBaseFile, IsBaseRefusal, IsPlanFile, IsPlanRefusal}
+
+-- the tunings of a base are in range, its groups name tags and calculations that are there, and no two tags or groups have one name
+pub record IsGoodBase (base : Base) : Type 0 where
+  pub tuned : All (λ def. TuningInRange def.tuning) base.tags.items
+  pub sound : All (IsSound (length base.tags.items)) base.groups.items
+  pub distinct : AllPairs (λ a b. a.name ≢ b.name) base.tags.items
+  pub distinct_groups : AllPairs (λ a b. a.name ≢ b.name) base.groups.items
+
+-- the rows of a plan over a base are of its tags and in range, its queries are of its tags and groups, and so are its refreshers
+pub record IsGoodPlan (base : Base) (plan : Plan) (rows : List (List RawRow)) (queries : List (List Query)) : Type 0 where
+  pub rows_of_tags : All (All (IsRowOf base)) rows
+  pub queries_of_base : All (All (IsQueryOf base)) queries
+  pub refreshers_of_groups : All (λ r. r.group < vec_len base.groups) plan.refreshers.items
+
+-- the base was read of the file of the first name, the plan of that of the second; these are the rows of its collectors, and
+-- these the queries of its readers, each of its file
+pub record IsPlanned (name plan_name : List ℕ) (told : ToldFiles) (base : Base) (plan : Plan) (rows : List (List RawRow))
+    (queries : List (List Query)) : Type 0 where
+  pub read : IsBaseFile (told name) base
+  pub planned : IsPlanFile base.groups.items (told plan_name) plan
+  pub fed : AreRows base told plan.collectors.items rows
+  pub asked : AreQueries base told plan.readers.items queries
+  pub few : row_count rows ≤ most_rows
+
+-- the refusals, in their order: of the base, of the plan, of a collector's file, of a reader's, of the number of rows
+pub data IsPlanningRefusal (name plan_name : List ℕ) (told : ToldFiles) (why : Status) : Type 0 where
+  OfBase : IsBaseRefusal (told name) why → IsPlanningRefusal name plan_name told why
+  OfPlan : (base : Base) → IsBaseFile (told name) base → IsPlanRefusal base.groups.items (told plan_name) why
+      → IsPlanningRefusal name plan_name told why
+  OfCollector : (base : Base) (plan : Plan) → IsBaseFile (told name) base → IsPlanFile base.groups.items (told plan_name) plan
+      → IsRowsRefusal base told plan.collectors.items why → IsPlanningRefusal name plan_name told why
+  OfReader : (base : Base) (plan : Plan) (rows : List (List RawRow)) → IsBaseFile (told name) base
+      → IsPlanFile base.groups.items (told plan_name) plan → AreRows base told plan.collectors.items rows
+      → IsQueriesRefusal base told plan.readers.items why → IsPlanningRefusal name plan_name told why
+  OfRows : (base : Base) (plan : Plan) (rows : List (List RawRow)) → IsBaseFile (told name) base
+      → IsPlanFile base.groups.items (told plan_name) plan → AreRows base told plan.collectors.items rows
+      → AreRowsTooMany (row_count rows) why → IsPlanningRefusal name plan_name told why
+  OfMemory : why ≡ WantOfMemory → IsPlanningRefusal name plan_name told why
+
+-- where a read fault is told, and it is told whose read failed last, that is the file that is told of: the base's, the plan's, or
+-- that of a collector or a reader of the plan that was read
+pub record IsFaultOfPlanned (name plan_name : List ℕ) (told : ToldFiles) (failed : Option (List ℕ)) (why : Status) : Type 0 where
+  pub base : why ≡ ReadFault file.Base → IsFaultOf failed name
+  pub plan : why ≡ ReadFault file.Plan → IsFaultOf failed plan_name
+  pub collector : (place : ℕ) → why ≡ ReadFault (file.Collector place) → (base : Base) × (plan : Plan)
+      × IsBaseFile (told name) base × IsPlanFile base.groups.items (told plan_name) plan
+      × IsFaultAt plan.collectors.items place failed
+  pub reader : (place : ℕ) → why ≡ ReadFault (file.Reader place) → (base : Base) × (plan : Plan)
+      × IsBaseFile (told name) base × IsPlanFile base.groups.items (told plan_name) plan
+      × IsFaultAt plan.readers.items place failed

@@ -1,0 +1,86 @@
+// The files of a session.
+ghost use Rattle.std.specs.Prelude.{◌≡◌, All, IfErr, IfOk, map};
+ghost use Rattle.plant_files.specs.Reading.{faults_after};
+ghost use Rattle.session_files.specs.Plans.{IsFaultOfPlanned, IsGoodBase, IsGoodPlan, IsPlanned, IsPlanningRefusal};
+
+use byte_io::Files;
+use plant_files::{ReaderQueries, base_of, check_row_count, plan_of, queries_of, rows_of};
+use plant_status::Status;
+use std::alloc::{AllocError, Global};
+use tag_base::{Base, Plan};
+use value_rows::{Query, RawRow};
+
+/// A base and a plan over it, the rows of its collectors, and the queries of its readers.
+#[derive(Drop)]
+pub struct SessionFiles {
+    pub base: Base,
+    pub plan: Plan,
+    /// The rows of each collector, in plan order.
+    pub rows: Vec<Vec<RawRow>>,
+    /// The queries of each reader, in plan order.
+    pub queries: Vec<Vec<Query>>,
+}
+
+/// Reads the base of the first name and the plan of the second, and the files of its collectors and readers. More than 4,000,000
+/// rows are refused.
+pub fn read_session<F: Files>(
+    alloc: Global,
+    files: &mut F,
+    name: &str,
+    plan_name: &str,
+) -> Result<SessionFiles, Status>
+    // What was read is what the files tell, whole and in form.
+    ensures planned { IfOk result (λ s. IsPlanned name.now plan_name.now (F.told files.old) s.base s.plan
+        (map (λ list. list.items) s.rows.items) (map (λ list. list.items) s.queries.items)) }
+    ensures base { IfOk result (λ s. IsGoodBase s.base) }
+    ensures plan { IfOk result (λ s. IsGoodPlan s.base s.plan (map (λ list. list.items) s.rows.items)
+        (map (λ list. list.items) s.queries.items)) }
+
+    // A refusal tells its first cause.
+    ensures refused { IfErr result (IsPlanningRefusal name.now plan_name.now (F.told files.old)) }
+    ensures stays { F.told files.new ≡ F.told files.old }
+    ensures faults { F.fault_count files.new ≡ faults_after result (F.fault_count files.old) }
+    ensures whose { IfErr result (IsFaultOfPlanned name.now plan_name.now (F.told files.old) (F.failed_name files.new)) }
+{
+    let base = match base_of(alloc, files, name) {
+        Ok(base) => base,
+        Err(why) => return Err(why),
+    };
+    let plan = match plan_of(alloc, files, plan_name, &base) {
+        Ok(plan) => plan,
+        Err(why) => return Err(why),
+    };
+    let rows = match rows_of(alloc, files, &plan, &base) {
+        Ok(rows) => rows,
+        Err(why) => return Err(why),
+    };
+    let readers = match queries_of(alloc, files, &plan, &base) {
+        Ok(readers) => readers,
+        Err(why) => return Err(why),
+    };
+    if let Err(why) = check_row_count(&rows) {
+        return Err(why);
+    }
+    match lists_out(alloc, readers) {
+        Ok(queries) => Ok(SessionFiles {
+            base,
+            plan,
+            rows,
+            queries,
+        }),
+        Err(_) => Err(Status::WantOfMemory),
+    }
+}
+
+// The queries of each reader, moved out.
+fn lists_out(alloc: Global, readers: Vec<ReaderQueries>) -> Result<Vec<Vec<Query>>, AllocError>
+    ensures { IfOk result (λ lists. map (λ list. list.items) lists.items ≡ readers.items) }
+{
+    let mut lists = Vec::with_capacity(alloc, readers.len())?;
+    let mut rest = readers.into_iter();
+    while let Some(reader) = rest.next() {
+        lists.push_reserved(reader.into_rows());
+    }
+    rest.destroy_empty();
+    Ok(lists)
+}
