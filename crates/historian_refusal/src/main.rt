@@ -3,7 +3,7 @@
 
 use byte_io::{DirFiles, StdSink, StdSource};
 use disk_model::DirStore;
-use plant_run::run_args;
+use plant_run::{OpenPasses, run_args};
 use std::process::ExitCode;
 use std::{env, io};
 
@@ -20,5 +20,6 @@ fn main(rt: HostRuntime) -> ExitCode {
         &mut files,
         &mut out,
         &mut store,
+        &mut OpenPasses,
     )
 }

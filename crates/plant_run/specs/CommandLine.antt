@@ -6,6 +6,7 @@ use Rattle.trend_num.specs.Numerals.{numeral, natural_upto}
 use Rattle.trend_num.specs.Ranges.{TuningInRange, last_time, largest_value}
 use Rattle.plant_run.specs.declared.command_line.Form.{Form as FormOfWords}
 use Rattle.plant_run.specs.declared.command_line.Form.TheVariants as form
+use Rattle.plant_run.specs.declared.command_line.Planned.{Planned}
 
 -- a numeral's number, from 0 up to `most`
 abbrev pub number_upto : ℕ → List ℕ → Option ℕ
@@ -46,7 +47,16 @@ abbrev pub packing : Option Tuning → Form
 packing None = Unknown
 packing (Some tuning) = Pack tuning
 
--- `check BASE`, `trend BASE PLAN`, or `pack EXCDEV EXCMAX COMPDEV COMPMIN COMPMAX`
+-- the files of a base and a plan that a command line asks to run: `run BASE PLAN`
+abbrev pub plan_words : List (List ℕ) → Option (List ℕ × List ℕ)
+plan_words (verb ∷ base ∷ plan ∷ []) = cond (bytes_eq verb (codes "run")) (Some (base, plan)) None
+plan_words words = None
+
+-- those that the code has of it
+abbrev pub named : Planned → List ℕ × List ℕ
+named p = (p.base.now, p.plan.now)
+
+-- what any other command line asks for: `check BASE`, `trend BASE PLAN`, or `pack EXCDEV EXCMAX COMPDEV COMPMIN COMPMAX`
 abbrev pub form_of : List (List ℕ) → Form
 form_of (verb ∷ base ∷ []) = cond (bytes_eq verb (codes "check")) (Check base) Unknown
 form_of (verb ∷ base ∷ plan ∷ []) = cond (bytes_eq verb (codes "trend")) (Trend base plan) Unknown

@@ -1,17 +1,19 @@
 // The arguments of the process, and its exit code.
-ghost use Rattle.std.specs.Prelude.{◌≡◌, ◌⊎◌, drop, map, string_bytes, IfOk, IfErr};
+ghost use Rattle.std.specs.Prelude.{◌≡◌, ◌⊎◌, ℕ, List, None, Some, drop, map, string_bytes, IfOk, IfErr};
 ghost use Rattle.std.specs.IoError.{error_kind};
 ghost use Rattle.std.specs.Process.{exit_status};
 ghost use Rattle.std.specs.Vec.Iter.{into_iter_items};
 ghost use Rattle.plant_status.specs.Status.{code_of};
 ghost use Rattle.plant_run.specs.Argument.{status_of_args};
 ghost use Rattle.plant_run.specs.Run.{EndsWithCode, IsTold, KeepsFor, world};
-ghost use Rattle.plant_run.specs.CommandLine.{Unknown, form_of};
+ghost use Rattle.plant_run.specs.CommandLine.{Unknown, form_of, plan_words};
+ghost use Rattle.plant_run.specs.Sessions.{RunsWithCode};
 
-use crate::top_call::{refuse, run};
+use crate::program::run;
+use crate::top_call::refuse;
 use byte_io::{Files, Sink, Source};
 use disk_model::Store;
-use plant_status::{Status, code};
+use plant_status::{Passes, Status, code};
 use std::alloc::{AllocError, Global};
 use std::env::Args;
 use std::io;
@@ -22,7 +24,7 @@ use std::thread::Threads;
 /// Runs the program on the arguments of its process, of which the first is its name: what the others ask for is done, and
 /// the exit code is that of the status. Where the arguments are not to be had, since one of them is no text or there is no
 /// memory for them, nothing is read, and the line of that is printed.
-pub fn run_args<R: Threads + Wait + Sync, I: Source, F: Files, O: Sink, S: Store>(
+pub fn run_args<R: Threads + Wait + Sync, I: Source, F: Files, O: Sink, S: Store, P: Passes>(
     rt: &R,
     alloc: Global,
     args: io::Result<Args>,
@@ -30,18 +32,29 @@ pub fn run_args<R: Threads + Wait + Sync, I: Source, F: Files, O: Sink, S: Store
     files: &mut F,
     out: &mut O,
     store: &mut S,
+    passes: &mut P,
 ) -> ExitCode
     // The words are the arguments after the first.
-    ensures ends { IfOk args (λ given. EndsWithCode (map string_bytes (drop 1 (into_iter_items given)))
+    ensures ends { IfOk args (λ given. plan_words (map string_bytes (drop 1 (into_iter_items given))) ≡ None
+        → EndsWithCode (map string_bytes (drop 1 (into_iter_items given)))
         (world (I.meaning input.old) (O.meaning out.old) (F.told files.old) (F.fault_count files.old) (F.failed_name files.old)
         (S.device_at store.old) (S.fault_count store.old))
         (world (I.meaning input.new) (O.meaning out.new) (F.told files.new) (F.fault_count files.new) (F.failed_name files.new)
         (S.device_at store.new) (S.fault_count store.new)) (exit_status result)) }
-    ensures bad_words { IfOk args (λ given. form_of (map string_bytes (drop 1 (into_iter_items given))) ≡ Unknown
+    ensures session { IfOk args (λ given. (base plan : List ℕ)
+        → plan_words (map string_bytes (drop 1 (into_iter_items given))) ≡ Some (base, plan)
+        → RunsWithCode S.Dev.trace S.Dev.ticks S.Dev.fault_count base plan
+        (world (I.meaning input.old) (O.meaning out.old) (F.told files.old) (F.fault_count files.old) (F.failed_name files.old)
+        (S.device_at store.old) (S.fault_count store.old))
+        (world (I.meaning input.new) (O.meaning out.new) (F.told files.new) (F.fault_count files.new) (F.failed_name files.new)
+        (S.device_at store.new) (S.fault_count store.new)) (P.stops passes.old) (P.stops passes.new) (exit_status result)) }
+    ensures bad_words { IfOk args (λ given. plan_words (map string_bytes (drop 1 (into_iter_items given))) ≡ None
+        → form_of (map string_bytes (drop 1 (into_iter_items given))) ≡ Unknown
         → (exit_status result ≡ code_of Status.BadWords) ⊎ (exit_status result ≡ code_of Status.WantOfMemory)) }
 
     // What a crash at any moment leaves of the devices.
-    ensures devices { IfOk args (λ given. KeepsFor (form_of (map string_bytes (drop 1 (into_iter_items given))))
+    ensures devices { IfOk args (λ given. plan_words (map string_bytes (drop 1 (into_iter_items given))) ≡ None
+        → KeepsFor (form_of (map string_bytes (drop 1 (into_iter_items given))))
         (F.told files.old) (S.device_at store.old) (S.device_at store.new)) }
 
     // No arguments.
@@ -53,7 +66,7 @@ pub fn run_args<R: Threads + Wait + Sync, I: Source, F: Files, O: Sink, S: Store
 {
     let status = match args {
         Ok(given) => match words_of(alloc, given) {
-            Ok(words) => run(rt, alloc, words.as_slice(), input, files, out, store),
+            Ok(words) => run(rt, alloc, words.as_slice(), input, files, out, store, passes).status,
             Err(_) => refuse(Status::WantOfMemory, out),
         },
         Err(why) => refuse(status_of_args(why.kind()), out),

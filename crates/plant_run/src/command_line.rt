@@ -1,7 +1,7 @@
 // The words of a command line.
-ghost use Rattle.std.specs.Prelude.{◌≡◌, ◌≤◌, map, string_bytes, IfSome};
+ghost use Rattle.std.specs.Prelude.{◌≡◌, ◌≤◌, map, string_bytes, IfSome, option_map};
 ghost use Rattle.trend_num.specs.Ranges.{TuningInRange};
-ghost use Rattle.plant_run.specs.CommandLine.{FormInRange, asked, form_of, number_upto, packing, tuning_of};
+ghost use Rattle.plant_run.specs.CommandLine.{FormInRange, asked, form_of, named, number_upto, packing, plan_words, tuning_of};
 
 use trend_num::{MAX_DEV, MAX_T, Tuning, numeral};
 
@@ -18,7 +18,27 @@ pub(crate) enum Form<'w> {
     Unknown,
 }
 
-/// What these words ask for.
+/// The files of a base and of a plan over it.
+#[derive(Clone, Copy)]
+pub(crate) struct Planned<'w> {
+    pub(crate) base: &'w str,
+    pub(crate) plan: &'w str,
+}
+
+/// The files that these words ask to run, if they are `run BASE PLAN`.
+pub(crate) fn plan_words(words: &[String]) -> Option<Planned<'_>>
+    ensures { option_map named result ≡ plan_words (map string_bytes words.now) }
+{
+    match words {
+        [verb, base, plan] if verb.as_str() == "run" => Some(Planned {
+            base: base.as_str(),
+            plan: plan.as_str(),
+        }),
+        _ => None,
+    }
+}
+
+/// What these words ask for, unless that is to run a plan.
 pub(crate) fn form_of(words: &[String]) -> Form<'_>
     ensures form { asked result ≡ form_of (map string_bytes words.now) }
     ensures tuned { FormInRange (asked result) }

@@ -9,8 +9,10 @@
 
 mod argument;
 mod command_line;
+mod program;
 mod top_call;
 
 pub use argument::run_args;
-pub use plant_status::{FileId, Reason, Status, What};
-pub use top_call::{refuse, run};
+pub use plant_status::{FileId, OpenPasses, Reason, Status, What};
+pub use program::{Outcome, run};
+pub use top_call::refuse;

@@ -1,4 +1,4 @@
-// The top call, and the line of a refusal.
+// The commands that hold no session, and the line of a refusal.
 ghost use Rattle.std.specs.Prelude.{◌≡◌, ◌↔◌, ◌⊎◌, ◌≢◌, map, string_bytes, IfOk, IfErr, OnOk, OnErr};
 ghost use Rattle.trend_num.specs.Ranges.{TuningInRange};
 ghost use Rattle.plant_run.specs.CommandLine.{Unknown, form_of};
@@ -10,17 +10,14 @@ use disk_model::Store;
 use pack_command::pack;
 use plant_status::{Status, line};
 use std::alloc::Global;
-use std::sync::Wait;
-use std::thread::Threads;
 use store_commands::{check, trend};
 use trend_num::Tuning;
 
-/// Does what the words of a command line ask for, and tells how it went. `pack EXCDEV EXCMAX COMPDEV COMPMIN COMPMAX`
-/// reads lines `TIME,VALUE` from `input` to its end, and prints the records that the archive of one tag keeps of them,
-/// and the point that it holds. `check BASE` opens the tags of a base, and prints a line for each. `trend BASE PLAN` opens them
-/// too, and answers the queries of the plan's readers. Each refusal but that of a write prints its one line instead.
-pub fn run<R: Threads + Wait + Sync, I: Source, F: Files, O: Sink, S: Store>(
-    _rt: &R,
+/// Does what the words of a command line ask for, unless that is to run a plan, and tells how it went. `pack EXCDEV EXCMAX COMPDEV
+/// COMPMIN COMPMAX` reads lines `TIME,VALUE` from `input` to its end, and prints the records that the archive of one tag keeps of
+/// them, and the point that it holds. `check BASE` opens the tags of a base, and prints a line for each. `trend BASE PLAN` opens
+/// them too, and answers the queries of the plan's readers. Each refusal but that of a write prints its one line instead.
+pub(crate) fn answer<I: Source, F: Files, O: Sink, S: Store>(
     alloc: Global,
     words: &[String],
     input: &mut I,
@@ -66,7 +63,7 @@ fn run_pack<I: Source, O: Sink>(alloc: Global, tuning: Tuning, input: &mut I, ou
 }
 
 /// Prints a text, or the line of a refusal.
-fn finish<O: Sink>(answer: Result<String, Status>, out: &mut O) -> Status
+pub(crate) fn finish<O: Sink>(answer: Result<String, Status>, out: &mut O) -> Status
     ensures text { IfOk answer (λ text. IsPrintedSo (string_bytes text) (O.meaning out.old) (O.meaning out.new) result) }
     ensures refused { IfErr answer (λ why. (result ≡ why) × IsTold (O.meaning out.old) (O.meaning out.new) why) }
 {

@@ -15,9 +15,9 @@ returns-clause-ends g c =
           let words : w.as_slice.result.now ≡ drop 1 (into_iter_items w.in-Ok.given) =
           w.as_slice.ensures.value ∙ w.in-Ok-words_of.ensures in
           rw w.in-Ok.is (
-            w.run.result,
+            w.run.result.status,
             code ∙ ap code_of w.status-is,
-            rw (w.input-is, w.files-is, w.out-is, w.store-is, ← words) w.run.ensures.ends,
+            rw (w.input-is, w.files-is, w.out-is, w.store-is, ← words) (w.run.ensures.ends (rw words none)),
           )
       | in-Ok+in-Err-words_of w ↦
           rw w.in-Ok.is (

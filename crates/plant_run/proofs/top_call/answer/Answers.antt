@@ -7,7 +7,7 @@ use Rattle.store_commands.proofs.Faults.{of_none}
 use Rattle.store_commands.proofs.Stores.{of_tags}
 use Rattle.plant_run.specs.CommandLine.{asked}
 use Rattle.plant_run.proofs.Printing.{answered_so, counts_so, done_so, faults_so, ended_so, check_no_fault, check_not_done, check_rose, trend_no_fault, trend_not_done, trend_rose}
-use Rattle.plant_run.proofs.top_call.run.Goals as goal
+use Rattle.plant_run.proofs.top_call.answer.Goals as goal
 
 pub returns-in-Check-clause-ends : goal.returns-in-Check-clause-ends
 returns-in-Check-clause-ends g c =

@@ -1,0 +1,9 @@
+pub mod Kept
+pub mod Results
+pub mod Making
+pub mod Mismatches
+pub mod Notes
+pub mod Copied
+pub mod Continued
+pub mod Crossing
+pub mod Told

@@ -1,0 +1,25 @@
+use Rattle.std.proofs.Common.{Result, String, ap, arith, length, subst, sym}
+use Rattle.std.specs.Prelude.{IfErr}
+use Rattle.std.specs.declared.alloc.Global.{Global}
+use Rattle.plant_status.specs.declared.status.Status.{Status}
+use Rattle.run_command.specs.Runs.{IsUnopened, OfPlant}
+use Rattle.run_command.proofs.plant.run_given.Goals as goal
+
+pub hold_open-answer-requires-clause-defined : goal.hold_open-answer-requires-clause-defined
+hold_open-answer-requires-clause-defined g c κs within = λ i d b below. (c.in-Ok-open_plant.ensures.groups.each i d b below).def
+
+pub hold_open-answer-requires-clause-board : goal.hold_open-answer-requires-clause-board
+hold_open-answer-requires-clause-board g c κs within =
+    omega (arith, ap length c.deref-in-Ok-open_plant.ensures, c.in-Ok-boarding_for.ensures.tags, c.in-Ok-open_plant.ensures.as_many_cells,
+    c.len.ensures, c.args.base.now.few_tags, c.args.base.now.tags.ok, c.in-Ok-open_plant.open.cells.ok)
+
+pub returns-in-Err-clause-unheld : goal.returns-in-Err-clause-unheld
+returns-in-Err-clause-unheld g c = λ none.
+    subst (λ (r : Result (String Global) Status). IfErr r (IsUnopened c.args.base.now (g.S.Store.device_at c.args.store.now)
+    (g.S.Store.device_at c.open_plant.new.store) (g.S.Store.fault_count c.args.store.now) (g.S.Store.fault_count c.open_plant.new.store)))
+    (sym c.refused-in-Err.ensures.answer)
+    (OfPlant c.in-Err.ensures.refused (record {
+      tags = c.in-Err.ensures.same_tags;
+      groups = c.in-Err.ensures.same_groups;
+      others = c.open_plant.ensures.others;
+    }))

@@ -1,0 +1,33 @@
+use Rattle.std.proofs.Common.{◌∙◌, List, ap, sym, subst, length}
+use Rattle.collector_pool.specs.declared.note.WorkerNote.{WorkerNote}
+use Rattle.run_command.specs.Refusals.{IsRefused, OfRest, notes_of}
+use Rattle.run_command.proofs.Kept.{books_as_kept, cells_as_kept}
+use Rattle.run_command.proofs.Making.{inputs_of_kept}
+use Rattle.run_command.proofs.Mismatches.{group_is_opening, tag_is_opening}
+use Rattle.run_command.proofs.Results.{err_weaker}
+use Rattle.run_command.proofs.settling.settle.Goals as goal
+
+pub returns-in-Err-clause-known : goal.returns-in-Err-clause-known
+returns-in-Err-clause-known g c = λ none. absurd (none (tag_is_opening _ _ c.in-Err.why c.in-Err.ensures.differs))
+
+pub returns-in-Err-clause-known_groups : goal.returns-in-Err-clause-known_groups
+returns-in-Err-clause-known_groups g c = λ none. absurd (none (tag_is_opening _ _ c.in-Err.why c.in-Err.ensures.differs))
+
+pub returns-in-Err-compare_books-clause-known_groups : goal.returns-in-Err-compare_books-clause-known_groups
+returns-in-Err-compare_books-clause-known_groups g c =
+    λ none. absurd (none (group_is_opening _ _ c.in-Err-compare_books.why c.in-Err-compare_books.ensures.differs))
+
+pub complete_all-requires-clause-inputs : goal.complete_all-requires-clause-inputs
+complete_all-requires-clause-inputs g c =
+    inputs_of_kept (length c.args.cells.now) _ _ _ c.requires.groups_are c.requires.inputs c.in_default-compare_books.ensures.same
+
+pub returns-in-Ok-clause-known : goal.returns-in-Ok-clause-known
+returns-in-Ok-clause-known g c = λ none. cells_as_kept _ _ _ c.complete_all.ensures.cells c.in_default.ensures.same
+
+pub returns-in-Ok-clause-known_groups : goal.returns-in-Ok-clause-known_groups
+returns-in-Ok-clause-known_groups g c = λ none. books_as_kept _ _ _ c.complete_all.ensures.books c.in_default-compare_books.ensures.same
+
+pub returns-in-Ok-clause-refused : goal.returns-in-Ok-clause-refused
+returns-in-Ok-clause-refused g c = err_weaker c.complete_all.result
+    (λ why is. OfRest (subst (λ (l : List WorkerNote). IsRefused c.args.given.now l c.complete_all.new.cells c.complete_all.new.books why)
+    (c.deref.ensures.value ∙ sym (ap notes_of c.in-Ok.is)) is)) c.complete_all.ensures.refused

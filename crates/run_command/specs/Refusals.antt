@@ -1,0 +1,77 @@
+-- Why a session is refused once its workers have ended.
+use Rattle.std.specs.Prelude.{◌≡◌, List, [], length, Vec, Result, Ok, Err, ⊤}
+use Rattle.std.specs.declared.alloc.Global.{Global}
+use Rattle.trend_num.specs.declared.refusal.WantOfMemory.{WantOfMemory as NoMemory}
+use Rattle.plant_status.specs.declared.status.Status.{Status}
+use Rattle.plant_status.specs.declared.mismatch.Place.TheVariants.{Opening}
+use Rattle.plant_status.specs.declared.status.Status.TheVariants.{Mismatch, WantOfMemory}
+use Rattle.tape_audit.specs.Agendas.{ask_item, row_item, take_item}
+use Rattle.tape_audit.specs.Found.{Reached}
+use Rattle.calc_refresh.specs.Lists.{lists_of}
+use Rattle.tag_cell.specs.Told.{Told as Cell}
+use Rattle.collector_pool.specs.declared.note.WorkerNote.{WorkerNote}
+use Rattle.plant_session.specs.declared.comparing.Kept.{Kept}
+use Rattle.plant_session.specs.Finding.{IsAskMismatch, IsTakeMismatch}
+use Rattle.plant_session.specs.Refusals.{AreUnlike, IsCommitRefusal, IsTakeRefusal}
+use Rattle.plant_session.specs.Starting.{AreUnfound}
+use Rattle.plant_session.specs.Workers.{AreOver}
+use Rattle.group_book.specs.Told.{Told as Book}
+use Rattle.group_session.specs.declared.comparing.KeptGroup.{KeptGroup}
+use Rattle.group_session.specs.Finding.{IsRowAskMismatch}
+use Rattle.group_session.specs.Openings.{IsGroupMismatch}
+use Rattle.group_session.specs.Pulls.{IsPullMismatch}
+use Rattle.group_session.specs.Refreshing.{durable_lists}
+use Rattle.group_session.specs.Refusals.{IsRefreshRefusal}
+use Rattle.group_session.specs.Turns.{IsTurnsMismatch}
+use Rattle.run_command.specs.declared.known.Given.{Given}
+use Rattle.run_command.specs.Endings.{IsStop}
+use Rattle.run_command.specs.Steps.{AreAsKept, IsTagMismatch}
+
+-- what tapes have is not what the workers have to do: a take is not its collector's next row there, a question is not its reader's
+-- next one there, or a group was refreshed more often than it has turns
+pub data IsFindingRefusal {D : Type 0} (g : Given) (cells : List (Cell D)) (books : List (Book D)) (s : Status) : Type 0 where
+  OfTake : (works : List Reached) → AreOver take_item (length cells) (lists_of g.work.collectors.items) works
+      → AreUnfound (length cells) works → IsTakeMismatch cells works s → IsFindingRefusal g cells books s
+  OfAsk : (works : List Reached) → AreOver ask_item (length cells) (lists_of g.work.readers.items) works
+      → AreUnfound (length cells) works → IsAskMismatch cells works s → IsFindingRefusal g cells books s
+  OfRowAsk : (works : List Reached) → AreOver row_item (length books) (lists_of g.work.readers.items) works
+      → AreUnfound (length books) works → IsRowAskMismatch books works s → IsFindingRefusal g cells books s
+  OfTurns : IsTurnsMismatch g.turns.items books s → IsFindingRefusal g cells books s
+
+-- what tapes lack is not done: a row is not taken, a commit or a refresh is refused, or no memory is found
+pub data IsMakingRefusal {D : Type 0} (g : Given) (cells : List (Cell D)) (books : List (Book D)) (s : Status) : Type 0 where
+  OfTaking : IsTakeRefusal g.rooms.items cells s → AreUnlike s → IsMakingRefusal g cells books s
+  OfCommit : IsCommitRefusal cells s → IsMakingRefusal g cells books s
+  OfRefresh : IsRefreshRefusal (durable_lists cells) (lists_of g.inputs.items) books s → IsMakingRefusal g cells books s
+  OfMemory : s ≡ WantOfMemory → IsMakingRefusal g cells books s
+
+-- the first of these, or that a worker was stopped, or what a group has is not what it pulled of its inputs' tags
+pub data IsRefused {D : Type 0} (g : Given) (notes : List WorkerNote) (cells : List (Cell D)) (books : List (Book D)) (s : Status)
+    : Type 0 where
+  OfFinding : IsFindingRefusal g cells books s → IsRefused g notes cells books s
+  OfStop : IsStop notes s → IsRefused g notes cells books s
+  OfMaking : IsMakingRefusal g cells books s → IsRefused g notes cells books s
+  OfPull : IsPullMismatch (lists_of g.inputs.items) cells books s → IsRefused g notes cells books s
+
+-- ---- with the openings
+
+-- a refusal is told of an opening that is not as it was kept
+abbrev pub IsOpening : Status → Type 0
+IsOpening (Mismatch (Opening unit) kept told) = ⊤
+IsOpening other = ⊥
+
+abbrev pub IsOfOpening : {T : Type 0} → Result T Status → Type 0
+IsOfOpening (Ok x) = ⊥
+IsOfOpening (Err why) = IsOpening why
+
+-- the notes of workers that began
+abbrev pub notes_of : Result (Vec WorkerNote Global) NoMemory → List WorkerNote
+notes_of (Ok notes) = notes.items
+notes_of (Err why) = []
+
+-- an opening is not as it was kept, of a tag or of a group; or else one of the refusals above, or no worker began
+pub data IsSettlingRefusal {D : Type 0} (g : Given) (notes : List WorkerNote) (known : List Kept) (known_groups : List KeptGroup)
+    (cells : List (Cell D)) (books : List (Book D)) (s : Status) : Type 0 where
+  OfTag : IsTagMismatch cells known s → IsSettlingRefusal g notes known known_groups cells books s
+  OfGroup : AreAsKept cells known → IsGroupMismatch books known_groups s → IsSettlingRefusal g notes known known_groups cells books s
+  OfRest : IsRefused g notes cells books s → IsSettlingRefusal g notes known known_groups cells books s

@@ -1,0 +1,14 @@
+-- Room for the cells and books of a session.
+use Rattle.std.specs.Prelude.{◌≡◌, ℕ, ◌≤◌, [], vec_capacity}
+use Rattle.run_command.specs.declared.workers.Room.{Room}
+
+-- each list is empty, and has room for so many cells or books
+pub record HasRoomFor {D : Type 0} (cells books : ℕ) (r : Room D) : Type 0 where
+  pub no_locked_cells : r.locked_cells.items ≡ []
+  pub no_locked_books : r.locked_books.items ≡ []
+  pub no_cells : r.cells.items ≡ []
+  pub no_books : r.books.items ≡ []
+  pub locked_cells_room : cells ≤ vec_capacity r.locked_cells
+  pub locked_books_room : books ≤ vec_capacity r.locked_books
+  pub cells_room : cells ≤ vec_capacity r.cells
+  pub books_room : books ≤ vec_capacity r.books

@@ -1,0 +1,165 @@
+-- What a run of a plan comes to: its session, or why it holds none.
+use Rattle.std.specs.Prelude.{◌≡◌, ℕ, ◌<◌, List, length, map, Option, Result, Err, OnOk, IfErr, IfOk, String, string_bytes, slice_index_or}
+use Rattle.std.specs.List.{AllZip}
+use Rattle.std.specs.declared.alloc.Global.{Global}
+use Rattle.disk_model.specs.Traces.{Trace}
+use Rattle.tag_base.specs.declared.definition.Base.{Base}
+use Rattle.tag_base.specs.declared.definition.GroupDef.{GroupDef}
+use Rattle.tag_base.specs.declared.schedule.Plan.{Plan}
+use Rattle.value_rows.specs.declared.asked.Query.{Query}
+use Rattle.value_rows.specs.declared.raw.RawRow.{RawRow}
+use Rattle.plant_status.specs.declared.status.Status.{Status}
+use Rattle.plant_status.specs.declared.status.Status.TheVariants.{WantOfMemory}
+use Rattle.plant_files.specs.RowFiles.{ToldFiles}
+use Rattle.session_files.specs.Plans.{IsPlanned, IsPlanningRefusal}
+use Rattle.calc_refresh.specs.Lists.{lists_of}
+use Rattle.tag_cell.specs.Told.{Told as Cell}
+use Rattle.group_book.specs.Told.{Told as Book}
+use Rattle.plant_session.specs.declared.comparing.Kept.{Kept}
+use Rattle.group_session.specs.declared.comparing.KeptGroup.{KeptGroup}
+use Rattle.group_session.specs.Pulls.{ArePulled}
+use Rattle.cell_store.specs.Openings.{AreCellsOpened}
+use Rattle.cell_store.specs.Closings.{AreHistoriesAt, AreHistoriesOf}
+use Rattle.cell_store.specs.Names.{names_of}
+use Rattle.tag_store.specs.Tags.{AllStaySame}
+use Rattle.book_store.specs.Groups.{AllStaySame as AllGroupsStaySame, AreBooksOpened, Devices, parts_of}
+use Rattle.book_store.specs.Endings.{AreHistoriesOf as AreGroupHistoriesOf}
+use Rattle.plant_store.specs.Openings.{AreRestSame, IsPlantRefusal, records_in}
+use Rattle.session_report.specs.declared.session.Session.{Session}
+use Rattle.session_report.specs.Report.{report}
+use Rattle.run_command.specs.declared.known.Given.{Given}
+use Rattle.run_command.specs.Copies.{AreCopied, AreCopiedGroups}
+use Rattle.run_command.specs.Refusals.{IsOfOpening, IsSettlingRefusal}
+use Rattle.run_command.specs.Sessions.{AreNotes}
+use Rattle.run_command.specs.Steps.{AreGivenFor, IsMade, planned_turn, turn_of}
+
+-- no device has changed
+abbrev pub AreUntouched : Devices → Devices → Type 0
+AreUntouched old new = (n : List ℕ) → new n ≡ old n
+
+-- ---- no session
+
+-- no device but those of a base's tags and groups has changed, and a crash at any moment since leaves of each an image that one before
+-- might have left, or that recovers or stands for the same
+pub record AreKept (base : Base) (old new : Devices) : Type 0 where
+  pub tags : AllStaySame base.tags.items old new
+  pub groups : AllGroupsStaySame base.groups.items old new
+  pub others : AreRestSame base old new
+
+-- why the devices of a base are not out: a tag or a group is not opened; or memory is wanting before
+pub data IsUnopened (base : Base) (old new : Devices) (before now : ℕ) (why : Status) : Type 0 where
+  OfPlant : IsPlantRefusal base old new before now why → AreKept base old new → IsUnopened base old new before now why
+  OfWant : why ≡ WantOfMemory → AreUntouched old new → IsUnopened base old new before now why
+
+-- why no session is held: a file is refused, or the devices are not opened; or memory is wanting before
+pub data IsUnheld (name plan_name : List ℕ) (told : ToldFiles) (old new : Devices) (before now : ℕ) (why : Status) : Type 0 where
+  OfFiles : IsPlanningRefusal name plan_name told why → AreUntouched old new
+      → IsUnheld name plan_name told old new before now why
+  OfOpening : (base : Base) (plan : Plan) (rows : List (List RawRow)) (queries : List (List Query))
+      → IsPlanned name plan_name told base plan rows queries → IsUnopened base old new before now why
+      → IsUnheld name plan_name told old new before now why
+  OfMemory : why ≡ WantOfMemory → AreUntouched old new → IsUnheld name plan_name told old new before now why
+
+-- ---- a session
+
+-- the work of a plan over a base, whose collectors have these rows, and whose readers these queries
+pub record IsGivenOf (base : Base) (plan : Plan) (rows : List (List RawRow)) (queries : List (List Query)) (g : Given) : Type 0 where
+  pub collectors : lists_of g.work.collectors.items ≡ rows
+  pub readers : lists_of g.work.readers.items ≡ queries
+  pub refreshers : map turn_of g.work.refreshers.items ≡ map planned_turn plan.refreshers.items
+  pub inputs : lists_of g.inputs.items ≡ map (λ d. d.inputs.items) base.groups.items
+  pub sized : AreGivenFor (length base.tags.items) (length base.groups.items) g
+
+-- the devices of a base's tags and groups were opened as these cells and books
+pub record IsOpen {D : Type 0} (trace : D → Option Trace) (ticks faults : D → ℕ) (base : Base) (old : Devices)
+    (cells : List (Cell D)) (books : List (Book D)) : Type 0 where
+  pub tags : AreCellsOpened trace ticks faults base.tags.items old cells
+  pub groups : AreBooksOpened trace ticks faults base.groups.items (records_in cells) old books
+  pub as_many_tags : length cells ≡ length base.tags.items
+  pub as_many_groups : length books ≡ length base.groups.items
+
+-- each book is of the definition of the group in its place
+abbrev pub AreDefined : {D : Type 0} → List GroupDef → List (Book D) → Type 0
+AreDefined {D} groups books = (i : ℕ) (g : GroupDef) (b : Book D) → i < length books
+    → (slice_index_or books i b).def ≡ parts_of (slice_index_or groups i g)
+
+-- The histories of a session are those of these cells and books. Each tag's is that of the device which is under its name, and no
+-- device but those of the base's tags and groups has changed.
+pub record IsOver {D : Type 0} (trace : D → Option Trace) (ticks faults : D → ℕ) (base : Base) (old new : Devices)
+    (cells : List (Cell D)) (books : List (Book D)) (s : Session) : Type 0 where
+  pub tags : AreHistoriesOf trace ticks faults cells s.tags.items
+  pub groups : AreGroupHistoriesOf trace ticks faults books s.groups.items
+  pub as_many_tags : length cells ≡ length base.tags.items
+  pub as_many_groups : length books ≡ length base.groups.items
+  pub devices : AreHistoriesAt new (names_of base.tags.items) s.tags.items
+  pub others : AreRestSame base old new
+
+-- a cell is of the definition that another one is of, and was opened as that was
+pub record IsContinued {D : Type 0} (first last : Cell D) : Type 0 where
+  pub def : last.def ≡ first.def
+  pub summary : last.opening.summary ≡ first.opening.summary
+  pub records : last.opening.recs.items ≡ first.opening.recs.items
+  pub moment : last.opening.moment ≡ first.opening.moment
+  pub faults : last.opening.faults ≡ first.opening.faults
+
+-- a book is of the group that another one is of, and was opened as that was
+pub record IsContinuedGroup {D : Type 0} (first last : Book D) : Type 0 where
+  pub group : last.group ≡ first.group
+  pub def : last.def ≡ first.def
+  pub text : last.text ≡ first.text
+  pub versions : last.opening.versions.items ≡ first.opening.versions.items
+  pub rows : lists_of last.opening.rows.items ≡ lists_of first.opening.rows.items
+  pub moment : last.opening.moment ≡ first.opening.moment
+  pub faults : last.opening.faults ≡ first.opening.faults
+
+-- A session that is done: each tape has what its collectors, readers and refreshers had to do, and no more; each group has what it
+-- pulled of its tags; and this is its report.
+pub record IsDone {D : Type 0} (base : Base) (g : Given) (cells : List (Cell D)) (books : List (Book D)) (s : Session)
+    (text : List ℕ) : Type 0 where
+  pub made : IsMade g cells books
+  pub pulled : ArePulled (lists_of g.inputs.items) cells books
+  pub same : text ≡ report base (length g.work.collectors.items) (lists_of g.work.readers.items) s
+
+-- why a session is not done: what its workers left is refused beside copies of what was opened, or memory is wanting
+pub data IsUndone {D : Type 0} (g : Given) (opened : List (Cell D)) (opened_books : List (Book D)) (cells : List (Cell D))
+    (books : List (Book D)) (s : Session) (why : Status) : Type 0 where
+  OfSettling : (known : List Kept) (known_groups : List KeptGroup) → AreCopied opened known → AreCopiedGroups opened_books known_groups
+      → IsSettlingRefusal g s.workers.items known known_groups cells books why
+      → IsUndone g opened opened_books cells books s why
+  OfNone : why ≡ WantOfMemory → IsUndone g opened opened_books cells books s why
+
+-- what is answered of a session that came to this: its report, if it is done and there is memory for it; and else why there is none
+pub record IsTold (base : Base) (g : Given) (s : Session) (came : Result Unit Status) (told : Result (String Global) Status) : Type 0 where
+  pub text : OnOk came (IfOk told (λ text. string_bytes text
+      ≡ report base (length g.work.collectors.items) (lists_of g.work.readers.items) s))
+  pub want : OnOk came (IfErr told (λ why. why ≡ WantOfMemory))
+  pub refused : IfErr came (λ why. told ≡ Err why)
+
+-- A session of this work over a base, and what came of it: the devices were opened, and are given back; unless an opening is told
+-- to be another, each cell and book is the one that was opened; as many workers were stopped as the passes counted; and it is done,
+-- or there is a cause.
+pub record IsRun {D : Type 0} (trace : D → Option Trace) (ticks faults : D → ℕ) (base : Base) (g : Given) (old new : Devices)
+    (stops_before stops_now : ℕ) (answer : Result (String Global) Status) (s : Session) : Type 0 where
+  pub opened : List (Cell D)
+  pub opened_books : List (Book D)
+  pub cells : List (Cell D)
+  pub books : List (Book D)
+  pub opening : IsOpen trace ticks faults base old opened opened_books
+  pub over : IsOver trace ticks faults base old new cells books s
+  pub same_tags : (IsOfOpening answer → ⊥) → AllZip IsContinued opened cells
+  pub same_groups : (IsOfOpening answer → ⊥) → AllZip IsContinuedGroup opened_books books
+  pub notes : AreNotes D g.work stops_before stops_now s.workers.items
+  pub done : IfOk answer (λ text. IsDone base g cells books s (string_bytes text))
+  pub undone : IfErr answer (IsUndone g opened opened_books cells books s)
+
+-- a session of the plan in a file over the base in another, and what came of it
+pub record IsSession {D : Type 0} (trace : D → Option Trace) (ticks faults : D → ℕ) (name plan_name : List ℕ) (told : ToldFiles)
+    (old new : Devices) (stops_before stops_now : ℕ) (answer : Result (String Global) Status) (s : Session) : Type 0 where
+  pub base : Base
+  pub plan : Plan
+  pub rows : List (List RawRow)
+  pub queries : List (List Query)
+  pub given : Given
+  pub planned : IsPlanned name plan_name told base plan rows queries
+  pub work : IsGivenOf base plan rows queries given
+  pub run : IsRun trace ticks faults base given old new stops_before stops_now answer s

@@ -1,0 +1,94 @@
+// What a session is held against, of the base and the plan of a plant and of the rows of their files.
+ghost use Rattle.std.specs.Prelude.{◌≡◌, ◌↔◌, ℕ, ◌+◌, ◌^◌, ◌<◌, IfOk, IsTrue, length, map, slice_index};
+ghost use Rattle.calc_refresh.specs.Lists.{lists_of};
+ghost use Rattle.run_command.specs.Steps.{AreGivenFor, planned_turn, turn_of};
+
+use crate::known::Given;
+use collector_pool::{Refresh, Work};
+use group_session::turns_of;
+use plant_session::rooms_of;
+use std::alloc::Global;
+use tag_base::{Base, GroupDef, Plan, Refresher};
+use trend_num::WantOfMemory;
+use value_rows::{Query, RawRow};
+
+// The work of a plan over a base, whose collectors take these rows, and whose readers ask these queries. Work of other tags or
+// groups, which no file that was read gives, or of more than 2^32 - 1 workers, and more than 2^32 - 2 turns of one group are
+// told as memory that is not there.
+pub(crate) fn given_of(
+    alloc: Global,
+    base: &Base,
+    plan: &Plan,
+    collectors: Vec<Vec<RawRow>>,
+    readers: Vec<Vec<Query>>,
+) -> Result<Given, WantOfMemory>
+    ensures given { IfOk result (AreGivenFor (length base.now.tags.items) (length base.now.groups.items)) }
+    ensures inputs { IfOk result (λ g. lists_of g.inputs.items ≡ map (λ d. d.inputs.items) base.now.groups.items) }
+    ensures collectors { IfOk result (λ g. g.work.collectors ≡ collectors) }
+    ensures readers { IfOk result (λ g. g.work.readers ≡ readers) }
+    ensures refreshers { IfOk result (λ g. map turn_of g.work.refreshers.items ≡ map planned_turn plan.now.refreshers.items) }
+{
+    let (tags, groups) = (base.tags.len(), base.groups.len() as u32);
+    let work = Work {
+        collectors,
+        readers,
+        refreshers: refreshers_of(alloc, &plan.refreshers)?,
+    };
+    if !work.fits(tags, groups) {
+        return Err(WantOfMemory);
+    }
+    let rooms = rooms_of(alloc, &work.collectors, tags as u32)?;
+    let turns = turns_of(alloc, &work.refreshers, groups)?;
+    if !are_few(&turns) {
+        return Err(WantOfMemory);
+    }
+    let inputs = inputs_of(alloc, &base.groups)?;
+    Ok(Given {
+        work,
+        rooms,
+        turns,
+        inputs,
+    })
+}
+
+// The turns of refreshers.
+fn refreshers_of(alloc: Global, refreshers: &[Refresher]) -> Result<Vec<Refresh>, WantOfMemory>
+    ensures { IfOk result (λ list. map turn_of list.items ≡ map planned_turn refreshers.now) }
+{
+    let mut list = Vec::new(alloc);
+    for refresher in refreshers {
+        let Refresher { group, turns } = *refresher;
+        list.push(Refresh { group, turns })?;
+    }
+    Ok(list)
+}
+
+// Whether one more than each of these has a number too.
+fn are_few(turns: &[u32]) -> bool
+    ensures { IsTrue result → (i : ℕ) → i < length turns.now → slice_index turns.now i + 1 < 2 ^ 32 }
+{
+    for i in 0..turns.len() {
+        if turns[i] == u32::MAX {
+            return false;
+        }
+    }
+    true
+}
+
+// The tags of each group's inputs.
+fn inputs_of(alloc: Global, groups: &[GroupDef]) -> Result<Vec<Vec<u32>>, WantOfMemory>
+    ensures { IfOk result (λ list. lists_of list.items ≡ map (λ d. d.inputs.items) groups.now) }
+{
+    let mut list = Vec::new(alloc);
+    for group in groups {
+        list.push(tags_of(alloc, &group.inputs)?)?;
+    }
+    Ok(list)
+}
+
+// The same tags again.
+fn tags_of(alloc: Global, tags: &[u32]) -> Result<Vec<u32>, WantOfMemory>
+    ensures { IfOk result (λ list. list.items ≡ tags.now) }
+{
+    Vec::from_slice(alloc, tags).map_err(|_| WantOfMemory)
+}
