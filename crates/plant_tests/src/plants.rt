@@ -1,7 +1,7 @@
 // What a run of the program is over, and what it tells.
 use byte_io::{MemFiles, MemSink, MemSource};
 use disk_model::MemStore;
-use plant_run::run_args;
+use plant_run::{OpenPasses, run_args};
 use std::alloc::{AllocError, Global};
 use std::process::{Abort, ExitCode};
 use std::sync::Wait;
@@ -52,7 +52,17 @@ pub fn told<R: Threads + Wait + Sync>(
     let mut input = MemSource::new(input.to_vec(alloc)?, only(alloc, fail.0)?);
     let mut out = MemSink::new(alloc, only(alloc, fail.1)?);
     let args = Ok(words.into_iter());
-    let exit = run_args(rt, alloc, args, &mut input, files, &mut out, store);
+    let mut passes = OpenPasses;
+    let exit = run_args(
+        rt,
+        alloc,
+        args,
+        &mut input,
+        files,
+        &mut out,
+        store,
+        &mut passes,
+    );
     let mut code = u8::MAX;
     for c in 0..100u8 {
         if ExitCode::from(c) == exit {

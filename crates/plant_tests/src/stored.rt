@@ -1,4 +1,4 @@
-// Runs of `check` and `trend` over stored archives.
+// Runs of `check`, `trend` and `run` over stored archives.
 ghost use Rattle.std.specs.Prelude.{◌≡◌, ◌<◌};
 
 use crate::plants::{NO_FAULT, number, only, text, told};
@@ -33,7 +33,18 @@ lines.csv: at,T1,25|at,T1,20|at,T1,31|avg,T1,5,15|points,T1,0,20|avg,T1,25,31|sn
 steps.csv: at,S1,15|at,S1,20|area,S1,0,30|avg,S1,0,30|low,S1,0,30|high,S1,0,30|last,S1,0,30|snap,S1|
 long.csv: snap,T1|count,T1,0,1999|area,T1,0,1999|avg,T1,10,1990|at,T1,1234|at,T1,2000|high,T1,1000,1001|
 rows.csv: row,g,m,0|row,g,m,1|row,g,m,2|row,g,m,3|snap,T1|
-worse.csv: snap,T1|snap,S1||row,g,m,0|";
+worse.csv: snap,T1|snap,S1||row,g,m,0|
+feed.toml: [[collector]]|file = \"feed.csv\"|
+read.toml: [[collector]]|file = \"feed.csv\"|[[reader]]|file = \"third.csv\"|
+two.toml: [[collector]]|file = \"one.csv\"|[[collector]]|file = \"one.csv\"|
+far.toml: [[collector]]|file = \"far.csv\"|
+lost.toml: [[collector]]|file = \"one.csv\"|[[collector]]|file = \"missing.csv\"|
+fine.toml: [[tag]]|name = \"T1\"|exc_dev = 0|exc_max = 1000000|comp_dev = 0|comp_min = 0|comp_max = 1000000|\
+[[group]]|name = \"g\"|tags = [\"T1\"]|start = 0|period = 1|[[group.calc]]|name = \"m\"|formula = \"count('T1')\"|
+feed.csv: T1,0,0|T1,3000,0|T1,4000,9|T1,1500,60|
+third.csv: row,g,m,3|
+one.csv: T1,0,5|
+far.csv: T1,0,0|T1,2000000,1|T1,2000001,0|";
 
 // What the devices hold, the read of a file that fails, and the words; then the exit code and what is printed.
 const RUNS: &str = "\
@@ -64,6 +75,19 @@ damaged 99 trend base.toml broken.toml => 3 fault: text plan rule 1 place 0 at 0
 damaged 99 trend base.toml late.toml => 5 fault: read reader 2|
 damaged 99 trend base.toml worse.toml => 4 fault: row reader 1 3 name|
 damaged 99 trend base.toml plan.toml => 8 fault: damaged tag 1 2 end|
+new 99 run grid.toml feed.toml => 0 tag T1 taken=4 records=3 kept=2 late=1 held=4000,9|\
+group g windows=3 refreshes=1 evals=3|calc g m 2 20|
+late 99 run grid.toml none.toml => 0 tag T1 taken=4 records=3 kept=2 late=1 held=4000,9|\
+group g windows=3 refreshes=1 evals=3|calc g m 2 20|
+new 99 run grid.toml read.toml => 0 tag T1 taken=4 records=3 kept=2 late=1 held=4000,9|reply 1 1 none|\
+group g windows=3 refreshes=1 evals=3|calc g m 2 20|
+new 99 run base.toml two.toml => 0 tag T1 taken=2 records=2 kept=1 late=1 held=0,5|\
+tag S1 taken=0 records=0 kept=0 late=0 held=none|
+new 99 run fine.toml far.toml => 10 fault: limit cells 2000000|
+failing 99 run base.toml two.toml => 7 fault: device tag 1|
+damaged 99 run base.toml two.toml => 8 fault: damaged tag 1 2 end|
+damaged 99 run missing.toml two.toml => 5 fault: read base|
+damaged 99 run base.toml lost.toml => 5 fault: read collector 2|
 kept 0 trend base.toml plan.toml => 5 fault: read base|
 kept 3 trend base.toml plan.toml => 5 fault: read plan|
 kept 5 trend base.toml plan.toml => 5 fault: read reader 1|

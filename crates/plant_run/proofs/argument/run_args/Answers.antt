@@ -1,8 +1,8 @@
-use Rattle.std.proofs.Common.{◌≡◌, drop, map, string_bytes, ap, refl, ◌∙◌}
+use Rattle.std.proofs.Common.{◌≡◌, None, drop, inl, inr, map, string_bytes, ap, refl, subst, sym, ◌∙◌}
 use Rattle.std.specs.Vec.Iter.{into_iter_items}
 use Rattle.plant_status.specs.Status.{code_of}
 use Rattle.plant_status.specs.declared.status.Status.TheVariants.{WantOfMemory}
-use Rattle.plant_run.specs.CommandLine.{form_of}
+use Rattle.plant_run.specs.CommandLine.{form_of, plan_words}
 use Rattle.plant_run.proofs.Printing.{memory_ends, same_kept}
 use Rattle.plant_run.proofs.argument.run_args.Goals as goal
 use Rattle.plant_run.proofs.argument.run_args.Goals.{in-Ok+in-Ok-words_of, in-Ok+in-Err-words_of, in-Err}
@@ -14,18 +14,40 @@ returns-clause-ends g c =
       | in-Ok+in-Ok-words_of w ↦
           let words : w.as_slice.result.now ≡ drop 1 (into_iter_items w.in-Ok.given) =
           w.as_slice.ensures.value ∙ w.in-Ok-words_of.ensures in
-          rw w.in-Ok.is (
+          rw w.in-Ok.is (λ none. (
             w.run.result.status,
             code ∙ ap code_of w.status-is,
-            rw (w.input-is, w.files-is, w.out-is, w.store-is, ← words) (w.run.ensures.ends (rw words none)),
-          )
+            rw (w.input-is, w.files-is, w.out-is, w.store-is, ← words)
+                (w.run.ensures.ends (subst (λ l. plan_words (map string_bytes l) ≡ None) (sym words) none)),
+          ))
       | in-Ok+in-Err-words_of w ↦
-          rw w.in-Ok.is (
+          rw w.in-Ok.is (λ none. (
             WantOfMemory,
             code ∙ ap code_of (w.status-is ∙ w.refuse.ensures.same),
             rw (w.input-is, w.files-is, w.out-is, w.store-is)
                 (memory_ends (form_of (map string_bytes (drop 1 (into_iter_items w.in-Ok.given)))) _ _ refl w.refuse.ensures.line refl refl refl),
-          )
+          ))
+      | in-Err w ↦ rw w.in-Err.is tt
+    ]
+
+pub returns-clause-session : goal.returns-clause-session
+returns-clause-session g c =
+    let code = c.from.ensures ∙ c.code.ensures in
+    elim c.match-args.branch [
+      | in-Ok+in-Ok-words_of w ↦
+          let words : w.as_slice.result.now ≡ drop 1 (into_iter_items w.in-Ok.given) =
+          w.as_slice.ensures.value ∙ w.in-Ok-words_of.ensures in
+          rw w.in-Ok.is (λ base plan is. inl (
+            w.run.result,
+            code ∙ ap code_of w.status-is,
+            rw (w.input-is, w.files-is, w.out-is, w.store-is, w.passes-is)
+                (w.run.ensures.session base plan (subst (λ l. plan_words (map string_bytes l) ≡ _) (sym words) is)),
+          ))
+      | in-Ok+in-Err-words_of w ↦
+          rw w.in-Ok.is (λ base plan is. inr (
+            code ∙ ap code_of (w.status-is ∙ w.refuse.ensures.same),
+            rw (w.out-is) w.refuse.ensures.line,
+          ))
       | in-Err w ↦ rw w.in-Err.is tt
     ]
 
@@ -34,9 +56,10 @@ returns-clause-devices g c = elim c.match-args.branch [
   | in-Ok+in-Ok-words_of w ↦
       let words : w.as_slice.result.now ≡ drop 1 (into_iter_items w.in-Ok.given) =
       w.as_slice.ensures.value ∙ w.in-Ok-words_of.ensures in
-      rw w.in-Ok.is (rw (w.store-is, ← words) w.run.ensures.devices)
+      rw w.in-Ok.is (λ none. rw (w.store-is, ← words)
+      (w.run.ensures.devices (subst (λ l. plan_words (map string_bytes l) ≡ None) (sym words) none)))
   | in-Ok+in-Err-words_of w ↦
-      rw w.in-Ok.is (rw w.store-is
+      rw w.in-Ok.is (λ none. rw w.store-is
       (same_kept (form_of (map string_bytes (drop 1 (into_iter_items w.in-Ok.given)))) _ _))
   | in-Err w ↦ rw w.in-Err.is tt
 ]
