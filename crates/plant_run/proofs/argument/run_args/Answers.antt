@@ -1,4 +1,4 @@
-use Rattle.std.proofs.Common.{◌≡◌, None, drop, inl, inr, map, string_bytes, ap, refl, subst, sym, ◌∙◌}
+use Rattle.std.proofs.Common.{◌≡◌, None, Some, drop, inl, inr, map, string_bytes, ap, refl, subst, sym, ◌∙◌}
 use Rattle.std.specs.Vec.Iter.{into_iter_items}
 use Rattle.plant_status.specs.Status.{code_of}
 use Rattle.plant_status.specs.declared.status.Status.TheVariants.{WantOfMemory}
@@ -41,7 +41,7 @@ returns-clause-session g c =
             w.run.result,
             code ∙ ap code_of w.status-is,
             rw (w.input-is, w.files-is, w.out-is, w.store-is, w.passes-is)
-                (w.run.ensures.session base plan (subst (λ l. plan_words (map string_bytes l) ≡ _) (sym words) is)),
+                (w.run.ensures.session base plan (subst (λ l. plan_words (map string_bytes l) ≡ Some (base, plan)) (sym words) is)),
           ))
       | in-Ok+in-Err-words_of w ↦
           rw w.in-Ok.is (λ base plan is. inr (
