@@ -66,7 +66,17 @@ pub fn run_args<R: Threads + Wait + Sync, I: Source, F: Files, O: Sink, S: Store
 {
     let status = match args {
         Ok(given) => match words_of(alloc, given) {
-            Ok(words) => run(rt, alloc, words.as_slice(), input, files, out, store, passes).status,
+            Ok(words) => run(
+                rt,
+                alloc,
+                words.as_slice(),
+                input,
+                files,
+                out,
+                store,
+                passes,
+            )
+            .status,
             Err(_) => refuse(Status::WantOfMemory, out),
         },
         Err(why) => refuse(status_of_args(why.kind()), out),

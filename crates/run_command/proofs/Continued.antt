@@ -38,10 +38,12 @@ module _ {D : Type 0} where
         records = same.records ∙ copy.records;
         moment = same.moment ∙ copy.moment;
         faults = same.faults ∙ copy.faults;
-      } in
-      (now, continued os cs ks (omega (arith, many)) copied.1 (record {
-        each = λ i a b below. kept.each (suc i) a b (omega (arith, below));
-      }))
+      } in (
+        now,
+        continued os cs ks (omega (arith, many)) copied.1 (record {
+          each = λ i a b below. kept.each (suc i) a b (omega (arith, below));
+        }),
+      )
 
   -- so are books
   pub groups_continued : (opened books : List (Book D)) (known : List KeptGroup) → length known ≡ length books
@@ -62,10 +64,12 @@ module _ {D : Type 0} where
         rows = same.opened.rows ∙ copy.rows;
         moment = same.opened.moment ∙ copy.moment;
         faults = same.opened.faults ∙ copy.faults;
-      } in
-      (now, groups_continued os cs ks (omega (arith, many)) copied.1 (record {
-        each = λ i a b below. kept.each (suc i) a b (omega (arith, below));
-      }))
+      } in (
+        now,
+        groups_continued os cs ks (omega (arith, many)) copied.1 (record {
+          each = λ i a b below. kept.each (suc i) a b (omega (arith, below));
+        }),
+      )
 
   -- what was opened is continued by itself
   pub still : (cells : List (Cell D)) → AllZip IsContinued cells cells
@@ -74,15 +78,18 @@ module _ {D : Type 0} where
 
   pub groups_still : (books : List (Book D)) → AllZip IsContinuedGroup books books
   groups_still [] = tt
-  groups_still (b ∷ bs) = (record {
-    group = refl;
-    def = refl;
-    text = refl;
-    versions = refl;
-    rows = refl;
-    moment = refl;
-    faults = refl;
-  }, groups_still bs)
+  groups_still (b ∷ bs) = (
+    record {
+      group = refl;
+      def = refl;
+      text = refl;
+      versions = refl;
+      rows = refl;
+      moment = refl;
+      faults = refl;
+    },
+    groups_still bs,
+  )
 
   -- the tags of a group's inputs are those that it is made for
   pub inputs_at : (many : ℕ) (groups : List GroupDef) (books : List (Book D)) (known : List KeptGroup) → All (IsSound many) groups

@@ -101,8 +101,13 @@ parts_field_send : IsSend (GroupDefParts.the_field).row
 parts_field_send = struct_send (shape GroupDefParts.the_type) (search sendable, (search sendable, (search sendable, (checked_field_send, tt))))
 
 opening_field_send : IsSend (GroupOpening.the_field).row
-opening_field_send = struct_send (shape GroupOpening.the_type) (Vec-send u32 (search sendable), (Vec-send _ (Vec-send CalcValue.the_row value_send),
-    (search sendable, (search sendable, tt))))
+opening_field_send = struct_send (shape GroupOpening.the_type) (
+  Vec-send u32 (search sendable),
+  (
+    Vec-send _ (Vec-send CalcValue.the_row value_send),
+    (search sendable, (search sendable, tt)),
+  ),
+)
 
 sheet_field_send : IsSend (Sheet.the_field).row
 sheet_field_send = sheet_send
@@ -110,22 +115,52 @@ sheet_field_send = sheet_send
 inside_send : (D : RattleType) (k : Ghosts D.Denot) → IsSend D → IsSend (Inside.the_row D k)
 inside_send D k s = recorded_send (Inside.the_field D k).row _ _ (Inside.the_type D k).to_one
     (struct_send (shape (Inside.the_type D k)) (
-    (search sendable), (
-    (search sendable), (
-    (parts_field_send), (
-    (Vec-send u8 (search sendable)), (
-    (Vec-send u32 (search sendable)), (
-    (opening_field_send), (
-    (Vec-send Turn.the_row turn_send), (
-    (sheet_field_send), (
-    (Vec-send u32 (search sendable)), (
-    (search (s, sendable)), (
-    (search sendable), (
-    (Vec-send u32 (search sendable)), (
-    (Vec-send _ (Vec-send CalcValue.the_row value_send)), (
-    (search sendable), (
-    (search sendable), (
-    tt)))))))))))))))))
+      (search sendable),
+      (
+        (search sendable),
+        (
+          (parts_field_send),
+          (
+            (Vec-send u8 (search sendable)),
+            (
+              (Vec-send u32 (search sendable)),
+              (
+                (opening_field_send),
+                (
+                  (Vec-send Turn.the_row turn_send),
+                  (
+                    (sheet_field_send),
+                    (
+                      (Vec-send u32 (search sendable)),
+                      (
+                        (search (s, sendable)),
+                        (
+                          (search sendable),
+                          (
+                            (Vec-send u32 (search sendable)),
+                            (
+                              (Vec-send _ (Vec-send CalcValue.the_row value_send)),
+                              (
+                                (search sendable),
+                                (
+                                  (search sendable),
+                                  (
+                                      tt),
+                                ),
+                              ),
+                            ),
+                          ),
+                        ),
+                      ),
+                    ),
+                  ),
+                ),
+              ),
+            ),
+          ),
+        ),
+      ),
+    ))
 
 pub book_send : (D : RattleType) (k : Ghosts D.Denot) → IsSend D → IsSend (Book.the_row D k)
 book_send D k s = view_send (Inside.the_row D k) _ _ _ _ (inside_send D k s)

@@ -79,15 +79,15 @@ module _ {D : Type 0} where
       → AreAsKept new known
   cells_as_kept old new known each kept = record {
     each = λ tag c k below.
-    let was = kept.each tag c k (subst (λ n. tag < n) each.as_many below) in
-    let same = each.each tag c in
-    record {
-      def = same.def ∙ was.def;
-      summary = ap (λ (o : TagOpening). o.summary) same.opening ∙ was.summary;
-      records = ap (λ (o : TagOpening). o.recs.items) same.opening ∙ was.records;
-      moment = ap (λ (o : TagOpening). o.moment) same.opening ∙ was.moment;
-      faults = ap (λ (o : TagOpening). o.faults) same.opening ∙ was.faults;
-    };
+        let was = kept.each tag c k (subst (λ n. tag < n) each.as_many below) in
+        let same = each.each tag c in
+        record {
+          def = same.def ∙ was.def;
+          summary = ap (λ (o : TagOpening). o.summary) same.opening ∙ was.summary;
+          records = ap (λ (o : TagOpening). o.recs.items) same.opening ∙ was.records;
+          moment = ap (λ (o : TagOpening). o.moment) same.opening ∙ was.moment;
+          faults = ap (λ (o : TagOpening). o.faults) same.opening ∙ was.faults;
+        };
   }
 
   -- and so are books
@@ -95,14 +95,14 @@ module _ {D : Type 0} where
       → AreGroupsAsKept new known
   books_as_kept old new known each kept = record {
     each = λ group b k below.
-    let was = kept.each group b k (subst (λ n. group < n) each.as_many below) in
-    let same = each.each group b in
-    record {
-      defined = record {
-        group = same.group ∙ was.defined.group;
-        def = same.def ∙ was.defined.def;
-        text = same.text ∙ was.defined.text;
-      };
-      opened = subst (λ (o : GroupOpening). IsSameOpening o (get_or known group k).opening) (sym same.opening) was.opened;
-    };
+        let was = kept.each group b k (subst (λ n. group < n) each.as_many below) in
+        let same = each.each group b in
+        record {
+          defined = record {
+            group = same.group ∙ was.defined.group;
+            def = same.def ∙ was.defined.def;
+            text = same.text ∙ was.defined.text;
+          };
+          opened = subst (λ (o : GroupOpening). IsSameOpening o (get_or known group k).opening) (sym same.opening) was.opened;
+        };
   }

@@ -55,8 +55,8 @@ module _ {D : Type 0} where
       subst (λ m. AreInputs m more new) (sym same) (subst (λ l. AreInputs many l new) (sym same_inputs) (record {
         as_many = are.as_many ∙ sym kept.as_many;
         each = λ group b below.
-        let it = are.each group b (subst (λ m. group < m) kept.as_many below) in
-        record { same = it.same ∙ sym (ap (λ d. d.inputs) (kept.each group b).def); few = it.few; known = it.known };
+            let it = are.each group b (subst (λ m. group < m) kept.as_many below) in
+            record { same = it.same ∙ sym (ap (λ d. d.inputs) (kept.each group b).def); few = it.few; known = it.known };
       }))
 
   -- those of groups whose openings were kept are those of their books
@@ -69,8 +69,8 @@ module _ {D : Type 0} where
   inputs_of_kept many inputs (k ∷ ks) books same are kept = record {
     as_many = are.as_many ∙ same;
     each = λ group b below.
-    let it = are.each group k (subst (λ m. group < m) (sym same) below) in
-    record { same = it.same ∙ sym (ap (λ d. d.inputs) (kept.each group b k below).defined.def); few = it.few; known = it.known };
+        let it = are.each group k (subst (λ m. group < m) (sym same) below) in
+        record { same = it.same ∙ sym (ap (λ d. d.inputs) (kept.each group b k below).defined.def); few = it.few; known = it.known };
   }
 
   -- groups that have made their turns and one more have refreshes that have a number

@@ -13,7 +13,10 @@ use tag_cell::{Cell, TagOpening};
 use trend_num::WantOfMemory;
 
 // What is kept of each cell.
-pub(crate) fn copies_of<D: Disk>(alloc: Global, cells: &[Cell<D>]) -> Result<Vec<Kept>, WantOfMemory>
+pub(crate) fn copies_of<D: Disk>(
+    alloc: Global,
+    cells: &[Cell<D>],
+) -> Result<Vec<Kept>, WantOfMemory>
     ensures as_many { IfOk result (λ known. vec_len known ≡ length cells.now) }
     ensures copied { IfOk result (λ known. AreCopied cells.now known.items) }
 {

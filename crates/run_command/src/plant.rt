@@ -68,7 +68,16 @@ pub(crate) fn run_given<S: Store, P: Passes, R: Threads + Wait + Sync>(
         posters,
         lookers,
     } = boarding;
-    match open_plant(rt, alloc, store, base, &shelf, &given.rooms, &board, posters) {
+    match open_plant(
+        rt,
+        alloc,
+        store,
+        base,
+        &shelf,
+        &given.rooms,
+        &board,
+        posters,
+    ) {
         Ok(open) => {
             let (answer, session) = hold_open(
                 rt, alloc, store, passes, base, given, shelf, open, &board, lookers,

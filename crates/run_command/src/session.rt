@@ -82,7 +82,9 @@ pub(crate) fn hold<D: Disk + Send, P: Passes, R: Threads + Wait + Sync>(
         &given.work,
         passes,
     );
-    let answer = settle_all(rt, alloc, &mut cells, &mut books, &tags, &groups, given, &notes);
+    let answer = settle_all(
+        rt, alloc, &mut cells, &mut books, &tags, &groups, given, &notes,
+    );
     Ended {
         cells,
         books,

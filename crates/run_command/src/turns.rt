@@ -20,12 +20,7 @@ impl<D: Disk + Send> GroupTurns<D> for Groups<D> {
 
     ghost groups = { λ g. vec_len g.books };
 
-    fn refresh<R: Wait>(
-        &self,
-        rt: &R,
-        group: u32,
-        cells: &[Mutex<Cell<D>>],
-    ) -> Result<(), TurnNo> {
+    fn refresh<R: Wait>(&self, rt: &R, group: u32, cells: &[Mutex<Cell<D>>]) -> Result<(), TurnNo> {
         let mut book = self.books[group as usize].lock(rt);
         if let Err(no) = refresh_on::<Brand, R, D>(rt, &mut book, cells, Blank::new(1)) {
             return Err(no);

@@ -67,7 +67,16 @@ pub(crate) fn work_all<D: Disk + Send, P: Passes, R: Threads + Wait + Sync>(
     let groups = Groups {
         books: locked_books,
     };
-    let notes = work_over(rt, alloc, &locked_cells, board, lookers, &groups, work, passes);
+    let notes = work_over(
+        rt,
+        alloc,
+        &locked_cells,
+        board,
+        lookers,
+        &groups,
+        work,
+        passes,
+    );
     unlock_all(locked_cells, &mut cells_again);
     let Groups { books } = groups;
     unlock_all(books, &mut books_again);

@@ -20,6 +20,6 @@ returns-in-Halted-clause-first c =
       halted = ap (λ (n : WorkerNote). n.ending) (here ∙ get_or_default notes at note _ c.loop-place-test.true) ∙ c.in-Halted.is;
       number = ap (λ (n : WorkerNote). n.worker) here;
       first = λ i d below.
-      let before : i < at = omega (arith, below, long) in
-      subst (λ (n : WorkerNote). n.ending ≢ Halted) (sym (get_or-take at notes i d before)) (c.loop-place.invariant i d before);
+          let before : i < at = omega (arith, below, long) in
+          subst (λ (n : WorkerNote). n.ending ≢ Halted) (sym (get_or-take at notes i d before)) (c.loop-place.invariant i d before);
     }

@@ -9,8 +9,14 @@ use Rattle.run_command.proofs.held.close.Goals as goal
 
 pub told-requires-clause-few_tags : goal.told-requires-clause-few_tags
 told-requires-clause-few_tags g c =
-    omega (arith, zip_length _ _ _ c.close_plant-tags.ensures.tags, c.requires.cells, c.args.ended.cells.ok, c.args.base.now.few_tags,
-    c.args.base.now.tags.ok)
+    omega (
+      arith,
+      zip_length _ _ _ c.close_plant-tags.ensures.tags,
+      c.requires.cells,
+      c.args.ended.cells.ok,
+      c.args.base.now.few_tags,
+      c.args.base.now.tags.ok,
+    )
 
 pub returns-clause-over : goal.returns-clause-over
 returns-clause-over g c old rest =

@@ -43,12 +43,28 @@ returns-in-Ok g c old was rest =
       opening = was;
       over = c.close.ensures.over old rest;
       same_tags = λ none. continued opened cells c.in-Ok.ready.tags.items
-          (omega (arith, c.in-Ok.ensures.tags_are, ap length c.deref.ensures.value, c.hold-ended.ensures.cells, c.in-Ok.ready.tags.ok,
-          c.hold-ended.result.cells.ok, c.args.plant.cells.ok, c.deref.ensures.len)) copied
+          (omega (
+            arith,
+            c.in-Ok.ensures.tags_are,
+            ap length c.deref.ensures.value,
+            c.hold-ended.ensures.cells,
+            c.in-Ok.ready.tags.ok,
+            c.hold-ended.result.cells.ok,
+            c.args.plant.cells.ok,
+            c.deref.ensures.len,
+          )) copied
           (c.hold-ended.ensures.known (λ of. none (opening_told base given s came _ told of)));
       same_groups = λ none. groups_continued opened_books books c.in-Ok.ready.groups.items
-          (omega (arith, c.in-Ok.ensures.groups_are, ap length c.deref-2.ensures.value, c.hold-ended.ensures.books, c.in-Ok.ready.groups.ok,
-          c.hold-ended.result.books.ok, c.args.plant.books.ok, c.deref-2.ensures.len)) groups_copied
+          (omega (
+            arith,
+            c.in-Ok.ensures.groups_are,
+            ap length c.deref-2.ensures.value,
+            c.hold-ended.ensures.books,
+            c.in-Ok.ready.groups.ok,
+            c.hold-ended.result.books.ok,
+            c.args.plant.books.ok,
+            c.deref-2.ensures.len,
+          )) groups_copied
           (c.hold-ended.ensures.known_groups (λ of. none (opening_told base given s came _ told of)));
       notes = subst (λ (v : Vec WorkerNote Global). AreNotes g.row.S-Dev.Denot given.work (g.P.Passes.stops c.args.passes.now)
           (g.P.Passes.stops c.hold-ended.new.passes) v.items) (sym c.close.ensures.notes) c.hold-ended.ensures.notes;

@@ -10,8 +10,16 @@ hold_open-answer-requires-clause-defined g c κs within = λ i d b below. (c.in-
 
 pub hold_open-answer-requires-clause-board : goal.hold_open-answer-requires-clause-board
 hold_open-answer-requires-clause-board g c κs within =
-    omega (arith, ap length c.deref-in-Ok-open_plant.ensures, c.in-Ok-boarding_for.ensures.tags, c.in-Ok-open_plant.ensures.as_many_cells,
-    c.len.ensures, c.args.base.now.few_tags, c.args.base.now.tags.ok, c.in-Ok-open_plant.open.cells.ok)
+    omega (
+      arith,
+      ap length c.deref-in-Ok-open_plant.ensures,
+      c.in-Ok-boarding_for.ensures.tags,
+      c.in-Ok-open_plant.ensures.as_many_cells,
+      c.len.ensures,
+      c.args.base.now.few_tags,
+      c.args.base.now.tags.ok,
+      c.in-Ok-open_plant.open.cells.ok,
+    )
 
 pub returns-in-Err-clause-unheld : goal.returns-in-Err-clause-unheld
 returns-in-Err-clause-unheld g c = λ none.

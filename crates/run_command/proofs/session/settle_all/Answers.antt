@@ -4,14 +4,18 @@ use Rattle.run_command.proofs.session.settle_all.Goals as goal
 
 pub returns-clause-made : goal.returns-clause-made
 returns-clause-made g c =
-    rw (whole_again c.args.cells.now.len c.args.cells.now.items c.settle.new.cells (search rules) (search rules),
-    whole_again c.args.books.now.len c.args.books.now.items c.settle.new.books (search rules) (search rules))
+    rw (
+      whole_again c.args.cells.now.len c.args.cells.now.items c.settle.new.cells (search rules) (search rules),
+      whole_again c.args.books.now.len c.args.books.now.items c.settle.new.books (search rules) (search rules),
+    )
     c.settle.ensures.made
 
 pub returns-clause-pulled : goal.returns-clause-pulled
 returns-clause-pulled g c =
-    rw (whole_again c.args.cells.now.len c.args.cells.now.items c.settle.new.cells (search rules) (search rules),
-    whole_again c.args.books.now.len c.args.books.now.items c.settle.new.books (search rules) (search rules))
+    rw (
+      whole_again c.args.cells.now.len c.args.cells.now.items c.settle.new.cells (search rules) (search rules),
+      whole_again c.args.books.now.len c.args.books.now.items c.settle.new.books (search rules) (search rules),
+    )
     c.settle.ensures.pulled
 
 pub returns-clause-known : goal.returns-clause-known
@@ -26,6 +30,8 @@ returns-clause-known_groups g c = λ none.
 
 pub returns-clause-refused : goal.returns-clause-refused
 returns-clause-refused g c =
-    rw (whole_again c.args.cells.now.len c.args.cells.now.items c.settle.new.cells (search rules) (search rules),
-    whole_again c.args.books.now.len c.args.books.now.items c.settle.new.books (search rules) (search rules))
+    rw (
+      whole_again c.args.cells.now.len c.args.cells.now.items c.settle.new.cells (search rules) (search rules),
+      whole_again c.args.books.now.len c.args.books.now.items c.settle.new.books (search rules) (search rules),
+    )
     c.settle.ensures.refused
