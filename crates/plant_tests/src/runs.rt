@@ -2,7 +2,7 @@
 use crate::plants::{NO_FAULT, number, text, told};
 use byte_io::{MemFiles, MemSink, MemSource};
 use disk_model::MemStore;
-use plant_run::run_args;
+use plant_run::{OpenPasses, run_args};
 use std::alloc::Global;
 use std::io;
 use std::process::ExitCode;
@@ -182,8 +182,16 @@ fn arguments_that_are_no_text_are_told(rt: HostRuntime) -> Result<(), Fail> {
         let mut out = MemSink::new(alloc, Vec::new(alloc));
         let mut store = MemStore::new(Vec::new(alloc));
         let args = Err(io::Error::from(kind));
+        let mut passes = OpenPasses;
         let code = run_args(
-            &rt, alloc, args, &mut input, &mut files, &mut out, &mut store,
+            &rt,
+            alloc,
+            args,
+            &mut input,
+            &mut files,
+            &mut out,
+            &mut store,
+            &mut passes,
         );
         assert_eq!(rt; code, ExitCode::from(want), "{line}");
         assert_eq!(rt; out.bytes(), line.as_bytes());
