@@ -75,15 +75,15 @@ damaged 99 trend base.toml broken.toml => 3 fault: text plan rule 1 place 0 at 0
 damaged 99 trend base.toml late.toml => 5 fault: read reader 2|
 damaged 99 trend base.toml worse.toml => 4 fault: row reader 1 3 name|
 damaged 99 trend base.toml plan.toml => 8 fault: damaged tag 1 2 end|
-new 99 run grid.toml feed.toml => 0 tag T1 taken=4 records=3 kept=2 late=1 held=4000,9|\
+once 99 run grid.toml feed.toml => 0 tag T1 taken=4 records=3 kept=2 late=1 held=4000,9|\
 group g windows=3 refreshes=1 evals=3|calc g m 2 20|
-late 99 run grid.toml none.toml => 0 tag T1 taken=4 records=3 kept=2 late=1 held=4000,9|\
+later 99 run grid.toml none.toml => 0 tag T1 taken=4 records=3 kept=2 late=1 held=4000,9|\
 group g windows=3 refreshes=1 evals=3|calc g m 2 20|
-new 99 run grid.toml read.toml => 0 tag T1 taken=4 records=3 kept=2 late=1 held=4000,9|reply 1 1 none|\
+once 99 run grid.toml read.toml => 0 tag T1 taken=4 records=3 kept=2 late=1 held=4000,9|reply 1 1 none|\
 group g windows=3 refreshes=1 evals=3|calc g m 2 20|
-new 99 run base.toml two.toml => 0 tag T1 taken=2 records=2 kept=1 late=1 held=0,5|\
+once 99 run base.toml two.toml => 0 tag T1 taken=2 records=2 kept=1 late=1 held=0,5|\
 tag S1 taken=0 records=0 kept=0 late=0 held=none|
-new 99 run fine.toml far.toml => 10 fault: limit cells 2000000|
+once 99 run fine.toml far.toml => 10 fault: limit cells 2000000|
 failing 99 run base.toml two.toml => 7 fault: device tag 1|
 damaged 99 run base.toml two.toml => 8 fault: damaged tag 1 2 end|
 damaged 99 run missing.toml two.toml => 5 fault: read base|
@@ -154,7 +154,7 @@ fn devices(rt: &impl Abort, alloc: Global, kind: &str) -> Result<(MemDisk, MemDi
     let new = MemDisk::new(Vec::new(alloc), Vec::new(alloc));
     let first = match kind {
         "kept" => kept(rt, alloc, &line, 64, "0,0 10,10 20,0 30,5"),
-        "late" => kept(rt, alloc, &line, 64, "0,0 3000,0 4000,9 1500,60"),
+        "late" | "later" => kept(rt, alloc, &line, 64, "0,0 3000,0 4000,9 1500,60"),
         "straight" => kept(rt, alloc, &line, 64, "0,0 10,10 20,20"),
         "long" => kept(rt, alloc, &line, 2048, in_turn(alloc)?.as_str()),
         "other" => kept(rt, alloc, &tag(rt, "T1", true), 64, ""),
@@ -203,8 +203,11 @@ fn stored_archives_are_told(rt: HostRuntime) -> Result<(), Fail> {
         let line = format!(in alloc; "historian {line}")?;
         let (first, second) = devices(&rt, alloc, kind)?;
         let mut store = store(alloc, first, second)?;
-        // A run that comes after finds what the first one left.
-        let runs = if kind == "failing" { 1 } else { 2 };
+        // A run that comes after finds what the first one left, and collectors feed the same values once more.
+        let runs = match kind {
+            "failing" | "once" | "later" => 1,
+            _ => 2,
+        };
         for _ in 0..runs {
             let mut files = files(&rt, alloc, number(&rt, fail), "")?;
             let told = told(
