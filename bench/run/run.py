@@ -6,6 +6,7 @@ million values goes into one tag, and into eight tags by eight collectors; the s
 log and full synchronous; and as bare batches of 64 as a lane has them, two writes and two syncs each. Then `trend` answers one and a
 thousand windows of the archive, and SQLite the same averages of the raw rows. It tells medians over the runs, ratios and what
 was aimed at, bytes on the device and of memory a value. It runs by hand, never as a test, with all processors free."""
+import multiprocessing
 import os
 import random
 import shutil
@@ -68,7 +69,7 @@ def session(program, folder):
 
 def bare(folder, batches):
     """Bare batches: a slot and its gate, a sync behind each."""
-    path = os.path.join(folder, "bare")
+    path = os.path.join(folder, "bare%d" % os.getpid())
     slots = 4096
     fd = os.open(path, os.O_RDWR | os.O_CREAT | os.O_TRUNC)
     os.pwrite(fd, bytes(400 + slots + 1034 * slots), 0)
@@ -84,6 +85,12 @@ def bare(folder, batches):
     os.close(fd)
     os.remove(path)
     return took
+
+
+def at_once(folder, batches):
+    """The longest of eight processes that write as many bare batches together."""
+    with multiprocessing.Pool(8) as pool:
+        return max(pool.starmap(bare, [(folder, batches // 8)] * 8))
 
 
 def database(folder, count):
@@ -143,7 +150,8 @@ def main():
         os.makedirs(eights)
         lay(ones, 1, VALUES)
         lay(eights, 8, VALUES // 8)
-        runs = [(session(program, ones), bare(ones, VALUES // 64), database(ones, VALUES), session(program, eights)) for _ in range(RUNS)]
+        runs = [(session(program, ones), bare(ones, VALUES // 64), database(ones, VALUES), session(program, eights),
+                 at_once(eights, VALUES // 64)) for _ in range(RUNS)]
         one = statistics.median(run[0][0] for run in runs)
         plain = statistics.median(run[1] for run in runs)
         base = statistics.median(run[2][0] for run in runs)
@@ -152,6 +160,7 @@ def main():
         aimed("one tag, in the rate of bare batches", plain / one, 0.8)
         aimed("one tag, in SQLite's rate", base / one, 1.2)
         aimed("eight tags and collectors, in one tag's rate", one / eight, 3.0)
+        print("the disk's own: eight bare writers at once, in one's rate %6.2f" % (plain / statistics.median(run[4] for run in runs)))
         memory = runs[-1][0][1] / VALUES
         print("memory a raw value: %.0f bytes, at most 200 aimed at: %s" % (memory, "met" if memory <= 200 else "MISSED"))
         print("device a raw value: %.1f bytes" % (os.path.getsize(os.path.join(ones, "historian.d", "T0.tag")) / VALUES))
