@@ -12,7 +12,7 @@ use Rattle.store_commands.specs.GroupRows.{IsRowsRefusal, OfCells, OfCopies, OfO
 use Rattle.plant_status.specs.declared.unit.Unit.{Unit}
 use Rattle.plant_status.specs.declared.unit.Unit.TheVariants.{Tag, Group}
 use Rattle.plant_status.specs.declared.status.Status.{Status}
-use Rattle.plant_status.specs.declared.status.Status.TheVariants.{Done, BadWords, BadText, BadRow, ReadFault, WriteFault, DeviceFault, Damaged, OtherTag, Limit, Mismatch, Halted, WantOfMemory, NotYet}
+use Rattle.plant_status.specs.declared.status.Status.TheVariants.{Done, BadWords, BadText, BadRow, ReadFault, WriteFault, DeviceFault, Damaged, OtherTag, Limit, Mismatch, Halted, WantOfMemory}
 use Rattle.plant_run.specs.CommandLine.{Form, Pack, Check, Trend, Unknown}
 use Rattle.store_commands.proofs.Faults.{of_none}
 use Rattle.plant_run.specs.Run.{World, CountsFor, EndsFor, KeepsFor, IsPrintedSo, IsTold, PrintsSo, WhereDone}
@@ -34,7 +34,6 @@ module _ (IsText : List ℕ → Type 0) (IsRefusal : Status → Type 0) (before 
   told_so (Mismatch place kept told_one) refusal no_done no_fault told = (refusal, told)
   told_so (Halted worker) refusal no_done no_fault told = (refusal, told)
   told_so WantOfMemory refusal no_done no_fault told = (refusal, told)
-  told_so NotYet refusal no_done no_fault told = (refusal, told)
 
   -- what was printed of a text, by the answer of the call that printed it
   pub written_so : {X E : Type 0} (answer : Result X E) (text : List ℕ) (status : Status) → OnOk answer (status ≡ Done)
@@ -92,7 +91,6 @@ done_so P IsRefusal before now (Err why) status fact refusal no_done no_fault pr
     of_refusal (Mismatch place kept told_one) is = tt
     of_refusal (Halted worker) is = tt
     of_refusal WantOfMemory is = tt
-    of_refusal NotYet is = tt
 
 -- a fact of each refusal, and of what was printed, is one of the status once the answer was printed
 pub ended_so : (P : Status → Type 0) (before now : Outside) (answer : Result (String Global) Status) (status : Status)
@@ -133,7 +131,6 @@ counts_so IsRefusal before now (Err why) status old new counts refusal rose prin
     of_refusal (Mismatch place kept told_one) is counts = same (Mismatch place kept told_one) (λ i e. cc) counts
     of_refusal (Halted worker) is counts = same (Halted worker) (λ i e. cc) counts
     of_refusal WantOfMemory is counts = same WantOfMemory (λ i e. cc) counts
-    of_refusal NotYet is counts = same NotYet (λ i e. cc) counts
 
 -- ---- a refusal is not Done, and no fault of the output
 

@@ -6,12 +6,15 @@ use Rattle.disk_model.specs.Traces.{Trace}
 use Rattle.plant_status.specs.Status.{code_of}
 use Rattle.plant_status.specs.declared.status.Status.{Status}
 use Rattle.plant_status.specs.declared.status.Status.TheVariants.{WantOfMemory}
+use Rattle.plant_files.specs.Reading.{faults_after}
+use Rattle.session_files.specs.Plans.{IsFaultOfPlanned}
 use Rattle.run_command.specs.Runs.{IsSession, IsUnheld}
 use Rattle.plant_run.specs.declared.program.Outcome.{Outcome}
 use Rattle.plant_run.specs.Run.{IsPrintedSo, IsTold, World}
 
 -- The run of the plan in a file over the base in another: its report is printed, or the line that tells why there is none; the input
--- is left alone. Where the devices were opened there is a session, whatever came of it; else there is a cause.
+-- is left alone. Where the devices were opened there is a session, whatever came of it; else there is a cause. So many reads of files
+-- have failed as are told, and it is told whose.
 pub record IsRunSo {D : Type 0} (trace : D → Option Trace) (ticks faults : D → ℕ) (base plan : List ℕ) (before now : World)
     (stops_before stops_now : ℕ) (o : Outcome) : Type 0 where
   pub answer : Result (String Global) Status
@@ -20,6 +23,9 @@ pub record IsRunSo {D : Type 0} (trace : D → Option Trace) (ticks faults : D �
       answer)
   pub unheld : o.session ≡ None → IfErr answer (IsUnheld base plan before.files before.devices now.devices before.device_faults
       now.device_faults)
+  pub file_faults : o.session ≡ None → now.file_faults ≡ faults_after answer before.file_faults
+  pub no_file_fault : IsSome o.session → now.file_faults ≡ before.file_faults
+  pub whose : o.session ≡ None → IfErr answer (IsFaultOfPlanned base plan before.files now.failed_name)
   pub printed : IfOk answer (λ text. IsPrintedSo (string_bytes text) before.output now.output o.status)
   pub refused : IfErr answer (λ why. (o.status ≡ why) × IsTold before.output now.output why)
   pub input : now.input ≡ before.input

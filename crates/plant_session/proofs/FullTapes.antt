@@ -46,7 +46,6 @@ due_for worker at tag s works d (status.OtherTag _ _ _) m is = tt
 due_for worker at tag s works d (status.Limit _ _) m is = tt
 due_for worker at tag s works d (status.Halted _) m is = tt
 due_for worker at tag s works d status.WantOfMemory m is = tt
-due_for worker at tag s works d status.NotYet m is = tt
 
 -- the number of a number
 abbrev number_of : Seen → ℕ
@@ -88,4 +87,3 @@ unlike tags collector rooms files cells works d (status.OtherTag _ _ _) over fou
 unlike tags collector rooms files cells works d (status.Limit _ _) over found_so within as_many counted so due_so = tt
 unlike tags collector rooms files cells works d (status.Halted _) over found_so within as_many counted so due_so = tt
 unlike tags collector rooms files cells works d status.WantOfMemory over found_so within as_many counted so due_so = tt
-unlike tags collector rooms files cells works d status.NotYet over found_so within as_many counted so due_so = tt

@@ -71,8 +71,6 @@ pub enum Status {
     },
     /// No memory was found.
     WantOfMemory,
-    /// The input has a form that is not built yet.
-    NotYet,
 }
 
 /// The exit code of a status.
@@ -93,7 +91,6 @@ pub fn code(status: &Status) -> u8
         Status::Mismatch { .. } => 11,
         Status::Halted { .. } => 12,
         Status::WantOfMemory => 13,
-        Status::NotYet => 14,
     }
 }
 
@@ -136,7 +133,6 @@ pub fn line(status: &Status) -> Line
         Status::Mismatch { .. } => Line::fault("mismatch").end(),
         Status::Halted { worker } => Line::fault("halted").number(u64::from(worker)).end(),
         Status::WantOfMemory => Line::fault("memory").end(),
-        Status::NotYet => Line::fault("notyet").end(),
     }
 }
 

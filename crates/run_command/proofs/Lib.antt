@@ -7,3 +7,4 @@ pub mod Copied
 pub mod Continued
 pub mod Crossing
 pub mod Told
+pub mod Unheld

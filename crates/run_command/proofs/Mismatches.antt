@@ -2,7 +2,7 @@
 use Rattle.std.proofs.Common.{List}
 use Rattle.plant_status.specs.declared.mismatch.Place.TheVariants as place
 use Rattle.plant_status.specs.declared.status.Status.{Status}
-use Rattle.plant_status.specs.declared.status.Status.TheVariants.{Done, BadWords, BadText, BadRow, ReadFault, WriteFault, DeviceFault, Damaged, OtherTag, Limit, Mismatch, Halted, WantOfMemory, NotYet}
+use Rattle.plant_status.specs.declared.status.Status.TheVariants.{Done, BadWords, BadText, BadRow, ReadFault, WriteFault, DeviceFault, Damaged, OtherTag, Limit, Mismatch, Halted, WantOfMemory}
 use Rattle.plant_session.specs.declared.comparing.Kept.{Kept}
 use Rattle.tag_cell.specs.Told.{Told as Cell}
 use Rattle.group_book.specs.Told.{Told as Book}
@@ -34,7 +34,6 @@ module _ {D : Type 0} where
   tag_is_opening cells known (Limit what number) is = absurd is
   tag_is_opening cells known (Halted worker) is = absurd is
   tag_is_opening cells known WantOfMemory is = absurd is
-  tag_is_opening cells known NotYet is = absurd is
 
   pub group_is_opening : (books : List (Book D)) (known : List KeptGroup) (s : Status) → IsGroupMismatch books known s → IsOpening s
   group_is_opening books known (Mismatch (place.Opening unit) kept told) is = tt
@@ -58,4 +57,3 @@ module _ {D : Type 0} where
   group_is_opening books known (Limit what number) is = absurd is
   group_is_opening books known (Halted worker) is = absurd is
   group_is_opening books known WantOfMemory is = absurd is
-  group_is_opening books known NotYet is = absurd is

@@ -1,5 +1,5 @@
 -- What a run of a plan comes to: its session, or why it holds none.
-use Rattle.std.specs.Prelude.{◌≡◌, ℕ, ◌<◌, List, length, map, Option, Result, Err, OnOk, IfErr, IfOk, String, string_bytes, slice_index_or}
+use Rattle.std.specs.Prelude.{◌≡◌, ◌≢◌, ℕ, ◌<◌, List, length, map, Option, Result, Err, OnOk, IfErr, IfOk, String, string_bytes, slice_index_or}
 use Rattle.std.specs.List.{AllZip}
 use Rattle.std.specs.declared.alloc.Global.{Global}
 use Rattle.disk_model.specs.Traces.{Trace}
@@ -9,7 +9,8 @@ use Rattle.tag_base.specs.declared.schedule.Plan.{Plan}
 use Rattle.value_rows.specs.declared.asked.Query.{Query}
 use Rattle.value_rows.specs.declared.raw.RawRow.{RawRow}
 use Rattle.plant_status.specs.declared.status.Status.{Status}
-use Rattle.plant_status.specs.declared.status.Status.TheVariants.{WantOfMemory}
+use Rattle.plant_status.specs.declared.file.FileId.{FileId}
+use Rattle.plant_status.specs.declared.status.Status.TheVariants.{ReadFault, WantOfMemory}
 use Rattle.plant_files.specs.RowFiles.{ToldFiles}
 use Rattle.session_files.specs.Plans.{IsPlanned, IsPlanningRefusal}
 use Rattle.calc_refresh.specs.Lists.{lists_of}
@@ -50,6 +51,10 @@ pub record AreKept (base : Base) (old new : Devices) : Type 0 where
 pub data IsUnopened (base : Base) (old new : Devices) (before now : ℕ) (why : Status) : Type 0 where
   OfPlant : IsPlantRefusal base old new before now why → AreKept base old new → IsUnopened base old new before now why
   OfWant : why ≡ WantOfMemory → AreUntouched old new → IsUnopened base old new before now why
+
+-- this is told of no file whose read has failed
+abbrev pub IsNoReadFault : Status → Type 0
+IsNoReadFault why = (which : FileId) → why ≢ ReadFault which
 
 -- why no session is held: a file is refused, or the devices are not opened; or memory is wanting before
 pub data IsUnheld (name plan_name : List ℕ) (told : ToldFiles) (old new : Devices) (before now : ℕ) (why : Status) : Type 0 where

@@ -3,7 +3,7 @@ ghost use Rattle.std.specs.Prelude.{◌≡◌, Err, IfErr, IfSome, None, OnOk, l
 ghost use Rattle.std.specs.Option.{IsSome};
 ghost use Rattle.calc_refresh.specs.Lists.{lists_of};
 ghost use Rattle.session_files.specs.Plans.{IsGoodBase};
-ghost use Rattle.run_command.specs.Runs.{IsRun, IsUnopened};
+ghost use Rattle.run_command.specs.Runs.{IsNoReadFault, IsRun, IsUnopened};
 ghost use Rattle.run_command.specs.Steps.{AreGivenFor};
 
 use crate::boarding::{Boarding, boarding_for};
@@ -55,6 +55,7 @@ pub(crate) fn run_given<S: Store, P: Passes, R: Threads + Wait + Sync>(
         (S.device_at store.old) (S.device_at store.new) (P.stops passes.old) (P.stops passes.new) result.answer) }
     ensures unheld { result.session ≡ None → IfErr result.answer (IsUnopened base.now (S.device_at store.old)
         (S.device_at store.new) (S.fault_count store.old) (S.fault_count store.new)) }
+    ensures other { result.session ≡ None → IfErr result.answer IsNoReadFault }
 {
     let (tags, readers) = (base.tags.len() as u32, given.work.readers.len() as u32);
     let Ok(shelf) = shelf_for(alloc, base) else {

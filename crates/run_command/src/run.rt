@@ -1,9 +1,10 @@
 // The command `run`: the plan of one file over the base of another.
 ghost use Rattle.std.specs.Prelude.{◌≡◌, ℕ, List, IfErr, IfSome, None, OnOk, map};
 ghost use Rattle.std.specs.Option.{IsSome};
+ghost use Rattle.plant_files.specs.Reading.{faults_after};
 ghost use Rattle.plant_files.specs.RowFiles.{ToldFiles};
 ghost use Rattle.session_files.specs.Plans.{IsFaultOfPlanned, IsGoodBase, IsGoodPlan, IsPlanned};
-ghost use Rattle.run_command.specs.Runs.{IsSession, IsUnheld};
+ghost use Rattle.run_command.specs.Runs.{IsNoReadFault, IsSession, IsUnheld};
 
 use crate::given::given_of;
 use crate::plant::{Ran, run_given};
@@ -33,6 +34,12 @@ pub fn run_plan<F: Files, S: Store, P: Passes, R: Threads + Wait + Sync>(
     ensures unheld { result.session ≡ None → IfErr result.answer (IsUnheld name.now plan_name.now (F.told files.old)
         (S.device_at store.old) (S.device_at store.new) (S.fault_count store.old) (S.fault_count store.new)) }
     ensures stays { F.told files.new ≡ F.told files.old }
+
+    // One fault of the files is counted where a read has failed, and else none; and whose read that was.
+    ensures file_faults { result.session ≡ None → F.fault_count files.new ≡ faults_after result.answer (F.fault_count files.old) }
+    ensures no_file_fault { IsSome result.session → F.fault_count files.new ≡ F.fault_count files.old }
+    ensures whose { result.session ≡ None → IfErr result.answer (IsFaultOfPlanned name.now plan_name.now (F.told files.old)
+        (F.failed_name files.new)) }
 {
     match read_session(alloc, files, name, plan_name) {
         Ok(read) => run_read(rt, alloc, store, passes, read),
@@ -58,6 +65,7 @@ fn run_read<S: Store, P: Passes, R: Threads + Wait + Sync>(
         (map (λ list. list.items) read.rows.items) (map (λ list. list.items) read.queries.items)
         → result.session ≡ None → IfErr result.answer (IsUnheld name plan_name told
         (S.device_at store.old) (S.device_at store.new) (S.fault_count store.old) (S.fault_count store.new)) }
+    ensures other { result.session ≡ None → IfErr result.answer IsNoReadFault }
 {
     let SessionFiles {
         base,

@@ -136,7 +136,6 @@ fn a_run_ends_in_these(rt: HostRuntime) {
     tells(&rt, mismatch, 11, "fault: mismatch");
     tells(&rt, Status::Halted { worker: 0 }, 12, "fault: halted 0");
     tells(&rt, Status::WantOfMemory, 13, "fault: memory");
-    tells(&rt, Status::NotYet, 14, "fault: notyet");
     for (what, want) in WHATS.into_iter().zip(LIMITS.lines()) {
         tells(&rt, Status::Limit { what, number: 7 }, 10, want);
     }

@@ -2,7 +2,8 @@ use Rattle.std.proofs.Common.{Result, String, ap, arith, length, subst, sym}
 use Rattle.std.specs.Prelude.{IfErr}
 use Rattle.std.specs.declared.alloc.Global.{Global}
 use Rattle.plant_status.specs.declared.status.Status.{Status}
-use Rattle.run_command.specs.Runs.{IsUnopened, OfPlant}
+use Rattle.run_command.specs.Runs.{IsNoReadFault, IsUnopened, OfPlant}
+use Rattle.run_command.proofs.Unheld.{unopened_is_no_fault}
 use Rattle.run_command.proofs.plant.run_given.Goals as goal
 
 pub hold_open-answer-requires-clause-defined : goal.hold_open-answer-requires-clause-defined
@@ -31,3 +32,14 @@ returns-in-Err-clause-unheld g c = λ none.
       groups = c.in-Err.ensures.same_groups;
       others = c.open_plant.ensures.others;
     }))
+
+pub returns-in-Err-clause-other : goal.returns-in-Err-clause-other
+returns-in-Err-clause-other g c = λ none.
+    subst (λ (r : Result (String Global) Status). IfErr r IsNoReadFault) (sym c.refused-in-Err.ensures.answer)
+    (unopened_is_no_fault c.args.base.now (g.S.Store.device_at c.args.store.now) (g.S.Store.device_at c.open_plant.new.store)
+    (g.S.Store.fault_count c.args.store.now) (g.S.Store.fault_count c.open_plant.new.store) c.in-Err.why
+    (OfPlant c.in-Err.ensures.refused (record {
+      tags = c.in-Err.ensures.same_tags;
+      groups = c.in-Err.ensures.same_groups;
+      others = c.open_plant.ensures.others;
+    })))

@@ -1,8 +1,12 @@
-use Rattle.std.proofs.Common.{Result, String, refl, subst, sym}
+use Rattle.std.proofs.Common.{◌∙◌, Result, String, ap, refl, subst, sym}
 use Rattle.std.specs.Prelude.{IfErr}
 use Rattle.std.specs.declared.alloc.Global.{Global}
 use Rattle.plant_status.specs.declared.status.Status.{Status}
+use Rattle.plant_files.specs.Reading.{faults_after}
+use Rattle.session_files.specs.Plans.{IsFaultOfPlanned}
 use Rattle.run_command.specs.Runs.{IsUnheld, OfFiles}
+use Rattle.run_command.proofs.Results.{err_weaker}
+use Rattle.run_command.proofs.Unheld.{after_none, of_none}
 use Rattle.run_command.proofs.run.run_plan.Goals as goal
 
 pub returns-in-Err-clause-unheld : goal.returns-in-Err-clause-unheld
@@ -11,3 +15,23 @@ returns-in-Err-clause-unheld g c = λ none.
     let faults = g.S.Store.fault_count c.args.store.now in
     subst (λ (r : Result (String Global) Status). IfErr r (IsUnheld c.args.name.now c.args.plan_name.now (g.F.Files.told c.args.files.now)
     old old faults faults)) (sym c.refused.ensures.answer) (OfFiles c.in-Err.ensures.refused (λ n. refl))
+
+pub returns-in-Err-clause-file_faults : goal.returns-in-Err-clause-file_faults
+returns-in-Err-clause-file_faults g c = λ none.
+    c.in-Err.ensures.faults ∙ ap (λ (r : Result (String Global) Status). faults_after r (g.F.Files.fault_count c.args.files.now))
+    (sym c.refused.ensures.answer)
+
+pub returns-in-Err-clause-whose : goal.returns-in-Err-clause-whose
+returns-in-Err-clause-whose g c = λ none.
+    subst (λ (r : Result (String Global) Status). IfErr r (IsFaultOfPlanned c.args.name.now c.args.plan_name.now
+    (g.F.Files.told c.args.files.now) (g.F.Files.failed_name c.read_session.new.files))) (sym c.refused.ensures.answer)
+    c.in-Err.ensures.whose
+
+pub returns-in-Ok-clause-file_faults : goal.returns-in-Ok-clause-file_faults
+returns-in-Ok-clause-file_faults g c = λ none.
+    c.in-Ok.ensures.faults ∙ sym (after_none c.run_read.result.answer (g.F.Files.fault_count c.args.files.now) (c.run_read.ensures.other none))
+
+pub returns-in-Ok-clause-whose : goal.returns-in-Ok-clause-whose
+returns-in-Ok-clause-whose g c = λ none. err_weaker c.run_read.result.answer
+    (λ why other. of_none c.args.name.now c.args.plan_name.now (g.F.Files.told c.args.files.now)
+    (g.F.Files.failed_name c.read_session.new.files) why other) (c.run_read.ensures.other none)

@@ -1,0 +1,59 @@
+-- A session that is not held for its devices has no fault of a file.
+use Rattle.std.proofs.Common.{◌≡◌, ℕ, List, Option, Result, Ok, Err, refl, subst}
+use Rattle.std.specs.Prelude.{IfErr}
+use Rattle.std.specs.declared.alloc.Global.{Global}
+use Rattle.std.proofs.Common.{String}
+use Rattle.plant_status.specs.declared.file.FileId.TheVariants as file
+use Rattle.plant_status.specs.declared.status.Status.{Status}
+use Rattle.plant_status.specs.declared.status.Status.TheVariants.{Done, BadWords, BadText, BadRow, ReadFault, WriteFault, DeviceFault, Damaged, OtherTag, Limit, Mismatch, Halted, WantOfMemory}
+use Rattle.plant_files.specs.Reading.{faults_after, faults_told}
+use Rattle.plant_files.specs.RowFiles.{ToldFiles}
+use Rattle.tag_base.specs.declared.definition.Base.{Base}
+use Rattle.tag_store.specs.Refusals as tags
+use Rattle.book_store.specs.Groups.{Devices}
+use Rattle.book_store.specs.Refusals.{OfDamage, OfFault, OfMemory, OfVersion, OfWindows}
+use Rattle.plant_store.specs.Openings.{OfGroups, OfTags}
+use Rattle.session_files.specs.Plans.{IsFaultOfPlanned}
+use Rattle.run_command.specs.Runs.{IsNoReadFault, IsUnopened, OfPlant, OfWant}
+
+-- no refusal of devices is a read fault
+pub unopened_is_no_fault : (base : Base) (old new : Devices) (before now : ℕ) (why : Status) → IsUnopened base old new before now why
+    → IsNoReadFault why
+unopened_is_no_fault base old new before now why (OfPlant (OfTags is) kept) which same =
+    subst (tags.IsRefusal base.tags.items old new before now) same is
+unopened_is_no_fault base old new before now why (OfPlant (OfGroups cores opened (OfFault i is at)) kept) which same = cc
+unopened_is_no_fault base old new before now why (OfPlant (OfGroups cores opened (OfDamage i a byte is at)) kept) which same = cc
+unopened_is_no_fault base old new before now why (OfPlant (OfGroups cores opened (OfVersion i input found version is at)) kept) which same = cc
+unopened_is_no_fault base old new before now why (OfPlant (OfGroups cores opened (OfWindows i windows rows is at)) kept) which same = cc
+unopened_is_no_fault base old new before now why (OfPlant (OfGroups cores opened (OfMemory is)) kept) which same = cc
+unopened_is_no_fault base old new before now why (OfWant is untouched) which same = cc
+
+-- what is no read fault counts none
+told_none : (why : Status) (n : ℕ) → IsNoReadFault why → faults_told why n ≡ n
+told_none Done n other = refl
+told_none BadWords n other = refl
+told_none (BadText file rule place at) n other = refl
+told_none (BadRow file row reason) n other = refl
+told_none (ReadFault which) n other = absurd (other which refl)
+told_none WriteFault n other = refl
+told_none (DeviceFault unit) n other = refl
+told_none (Damaged unit at byte) n other = refl
+told_none (OtherTag tag found wanted) n other = refl
+told_none (Limit what number) n other = refl
+told_none (Mismatch place kept told) n other = refl
+told_none (Halted worker) n other = refl
+told_none WantOfMemory n other = refl
+
+pub after_none : (answer : Result (String Global) Status) (n : ℕ) → IfErr answer IsNoReadFault → faults_after answer n ≡ n
+after_none (Ok text) n other = refl
+after_none (Err why) n other = told_none why n other
+
+-- and is told of no file
+pub of_none : (name plan_name : List ℕ) (told : ToldFiles) (failed : Option (List ℕ)) (why : Status) → IsNoReadFault why
+    → IsFaultOfPlanned name plan_name told failed why
+of_none name plan_name told failed why other = record {
+  base = λ same. absurd (other file.Base same);
+  plan = λ same. absurd (other file.Plan same);
+  collector = λ place same. absurd (other (file.Collector place) same);
+  reader = λ place same. absurd (other (file.Reader place) same);
+}
