@@ -1,11 +1,11 @@
 -- Books whose devices are given back, and the histories that they leave.
-use Rattle.std.specs.Prelude.{◌≡◌, ◌⊎◌, ℕ, ◌-◌, ◌^◌, ◌<◌, List, [], ◌∷◌, length, slice_index_or, string_bytes, Option, None, Some, String}
+use Rattle.std.specs.Prelude.{◌≡◌, ◌⊎◌, ℕ, ◌-◌, ◌^◌, ◌<◌, true, List, [], ◌∷◌, length, slice_index_or, string_bytes, Option, None, Some, String}
 use Rattle.std.specs.declared.alloc.Global.{Global}
-use Rattle.disk_model.specs.Calls.{sum_of_counts}
+use Rattle.disk_model.specs.Calls.{Rose, sum_of_counts}
 use Rattle.disk_model.specs.Traces.{Trace}
 use Rattle.calc_refresh.specs.Lists.{lists_of}
 use Rattle.group_book.specs.declared.history.GroupHistory.{GroupHistory}
-use Rattle.group_book.specs.Told.{IsHistory, Told, count_of, trace_of, versions_of}
+use Rattle.group_book.specs.Told.{IsHistory, IsOnDevice, Told, count_of, trace_of, versions_of}
 use Rattle.book_store.specs.Groups.{Devices}
 
 -- what happened to the group of a book, as the book tells it
@@ -20,6 +20,8 @@ pub record IsHistoryOf {D : Type 0} (trace : D → Option Trace) (ticks faults :
   pub rows : lists_of h.rows.items ≡ b.sheet.rows
   pub evals : h.evals ≡ b.sheet.evals
   pub history : IsHistory h (trace_of trace b.dev) (count_of ticks b.dev) (count_of faults b.dev)
+  pub there : IsOnDevice b.text b.dev
+  pub rose : b.failed ≡ true → Rose b.opening.faults (count_of faults b.dev)
 
 -- there is one history for each book, in its place
 pub record AreHistoriesOf {D : Type 0} (trace : D → Option Trace) (ticks faults : D → ℕ) (books : List (Told D))

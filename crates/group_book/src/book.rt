@@ -1,5 +1,6 @@
 // A book: a group with all that lies under its lock.
-ghost use Rattle.std.specs.Prelude.{◌≡◌, ◌<◌, List, length, slice_index_or};
+ghost use Rattle.std.specs.Prelude.{◌≡◌, ◌<◌, List, false, length, slice_index_or, true};
+ghost use Rattle.disk_model.specs.Calls.{Rose};
 ghost use Rattle.trend_num.specs.declared.archive.Rec.{Rec};
 ghost use Rattle.calc_refresh.specs.Lists.{lists_of};
 ghost use Rattle.group_book.specs.Told.{IsHistory, IsOnDevice, count_of, trace_of, versions_of};
@@ -134,7 +135,8 @@ impl<D: Disk> Book<D> {
         }
     }
 
-    /// The device, and all that happened to the group since it was opened. A book with a text has a device.
+    /// The device, and all that happened to the group since it was opened. A book with a text has a device. A book that has failed
+    /// has counted one fault of it since then, and any other none.
     pub fn into_history(self) -> (Option<D>, GroupHistory)
         ensures device { result.0 ≡ self.dev }
         ensures there { IsOnDevice self.text result.0 }
@@ -148,6 +150,8 @@ impl<D: Disk> Book<D> {
         ensures rows { lists_of result.1.rows.items ≡ self.sheet.rows }
         ensures evals { result.1.evals ≡ self.sheet.evals }
         ensures history { IsHistory result.1 (trace_of D.trace result.0) (count_of D.ticks result.0) (count_of D.fault_count result.0) }
+        ensures rose { self.failed ≡ true → Rose self.opening.faults (count_of D.fault_count result.0) }
+        ensures faultless { self.failed ≡ false → count_of D.fault_count result.0 ≡ self.opening.faults }
     {
         let Book {
             group,
