@@ -20,7 +20,7 @@ use Rattle.group_session.specs.Tapes.{pull_of, pulled}
 -- ---- all is acknowledged
 
 -- each value counts
-counted : (step : Bool) (s : State) (u : Tuning) (ps : List Point) → s.summary.tuning ≡ Some u
+pub counted : (step : Bool) (s : State) (u : Tuning) (ps : List Point) → s.summary.tuning ≡ Some u
     → (replay step s (map Raw ps)).summary.taken ≡ s.summary.taken + length ps
 counted step s u [] tuned = omega arith
 counted step s u (p ∷ ps) tuned =

@@ -1,25 +1,28 @@
 -- What the run of a plan comes to: what is printed, and its session.
-use Rattle.std.specs.Prelude.{◌≡◌, ◌⊎◌, ℕ, List, None, Option, Result, String, IfErr, IfOk, IfSome, OnOk, string_bytes}
+use Rattle.std.specs.Prelude.{◌≡◌, ◌≢◌, ◌⊎◌, ℕ, List, None, Option, Result, String, IfErr, IfOk, IfSome, OnOk, string_bytes}
 use Rattle.std.specs.Option.{IsSome}
 use Rattle.std.specs.declared.alloc.Global.{Global}
 use Rattle.disk_model.specs.Traces.{Trace}
 use Rattle.plant_status.specs.Status.{code_of}
 use Rattle.plant_status.specs.declared.status.Status.{Status}
-use Rattle.plant_status.specs.declared.status.Status.TheVariants.{WantOfMemory}
+use Rattle.plant_status.specs.declared.status.Status.TheVariants.{BadWords, WantOfMemory}
 use Rattle.plant_files.specs.Reading.{faults_after}
 use Rattle.session_files.specs.Plans.{IsFaultOfPlanned}
+use Rattle.run_command.specs.Headline.{IsPromised}
 use Rattle.run_command.specs.Runs.{IsSession, IsUnheld}
 use Rattle.plant_run.specs.declared.program.Outcome.{Outcome}
 use Rattle.plant_run.specs.Run.{IsPrintedSo, IsTold, World}
 
 -- The run of the plan in a file over the base in another: its report is printed, or the line that tells why there is none; the input
--- is left alone. Where the devices were opened there is a session, whatever came of it; else there is a cause. So many reads of files
--- have failed as are told, and it is told whose.
+-- is left alone. Where the devices were opened there is a session, whatever came of it, and what is promised of one; else there is a
+-- cause, which is never the words. So many reads of files have failed as are told, and it is told whose.
 pub record IsRunSo {D : Type 0} (trace : D → Option Trace) (ticks faults : D → ℕ) (base plan : List ℕ) (before now : World)
     (stops_before stops_now : ℕ) (o : Outcome) : Type 0 where
   pub answer : Result (String Global) Status
   pub held : OnOk answer (IsSome o.session)
-  pub session : IfSome o.session (IsSession trace ticks faults base plan before.files before.devices now.devices stops_before stops_now
+  pub session : IfSome o.session (IsSession trace ticks faults base plan before.files before.devices now.devices before.device_faults
+      now.device_faults stops_before stops_now answer)
+  pub promised : IfSome o.session (IsPromised base plan before.files before.devices now.devices before.device_faults now.device_faults
       answer)
   pub unheld : o.session ≡ None → IfErr answer (IsUnheld base plan before.files before.devices now.devices before.device_faults
       now.device_faults)
@@ -28,6 +31,7 @@ pub record IsRunSo {D : Type 0} (trace : D → Option Trace) (ticks faults : D �
   pub whose : o.session ≡ None → IfErr answer (IsFaultOfPlanned base plan before.files now.failed_name)
   pub printed : IfOk answer (λ text. IsPrintedSo (string_bytes text) before.output now.output o.status)
   pub refused : IfErr answer (λ why. (o.status ≡ why) × IsTold before.output now.output why)
+  pub understood : o.status ≢ BadWords
   pub input : now.input ≡ before.input
 
 -- it ends so with this exit code; or there was no memory for the words

@@ -13,6 +13,7 @@ mod program;
 mod top_call;
 
 pub use argument::run_args;
-pub use plant_status::{FileId, OpenPasses, Reason, Status, What};
+pub use plant_status::{FileId, OpenPasses, Pass, Passes, Reason, Status, What};
 pub use program::{Outcome, run};
+pub use session_report::Session;
 pub use top_call::refuse;

@@ -66,6 +66,7 @@ fn run_pack<I: Source, O: Sink>(alloc: Global, tuning: Tuning, input: &mut I, ou
 pub(crate) fn finish<O: Sink>(answer: Result<String, Status>, out: &mut O) -> Status
     ensures text { IfOk answer (λ text. IsPrintedSo (string_bytes text) (O.meaning out.old) (O.meaning out.new) result) }
     ensures refused { IfErr answer (λ why. (result ≡ why) × IsTold (O.meaning out.old) (O.meaning out.new) why) }
+    ensures known { IfErr answer (λ why. why ≢ Status.BadWords) → result ≢ Status.BadWords }
 {
     match answer {
         Ok(text) => printed(write_all(out, text.as_bytes())),

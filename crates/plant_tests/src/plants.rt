@@ -34,6 +34,15 @@ pub fn only(alloc: Global, number: u64) -> Result<Vec<u64>, AllocError> {
     Ok(vec![in alloc; number]?)
 }
 
+// The words of a line.
+pub fn words(alloc: Global, line: &str) -> Result<Vec<String>, AllocError> {
+    let mut words = Vec::new(alloc);
+    for word in line.split(' ') {
+        words.push(String::from_str(alloc, word)?)?;
+    }
+    Ok(words)
+}
+
 // Runs a line of words, of which the first is the program's name: the exit code, a space, and what is printed. The read of
 // the input and the write with these numbers fail.
 pub fn told<R: Threads + Wait + Sync>(
@@ -45,10 +54,7 @@ pub fn told<R: Threads + Wait + Sync>(
     store: &mut MemStore,
     fail: (u64, u64),
 ) -> Result<String, Fail> {
-    let mut words = Vec::new(alloc);
-    for word in line.split(' ') {
-        words.push(String::from_str(alloc, word)?)?;
-    }
+    let words = words(alloc, line)?;
     let mut input = MemSource::new(input.to_vec(alloc)?, only(alloc, fail.0)?);
     let mut out = MemSink::new(alloc, only(alloc, fail.1)?);
     let args = Ok(words.into_iter());

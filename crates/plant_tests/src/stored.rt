@@ -4,7 +4,7 @@ ghost use Rattle.std.specs.Prelude.{◌≡◌, ◌<◌};
 use crate::plants::{NO_FAULT, number, only, text, told};
 use byte_io::MemFiles;
 use crash_recovery::open_tag;
-use disk_model::{MemDisk, MemStore};
+use disk_model::{MemDisk, MemStore, Store};
 use std::alloc::{AllocError, Global};
 use std::fmt::Write;
 use std::process::Abort;
@@ -35,16 +35,28 @@ long.csv: snap,T1|count,T1,0,1999|area,T1,0,1999|avg,T1,10,1990|at,T1,1234|at,T1
 rows.csv: row,g,m,0|row,g,m,1|row,g,m,2|row,g,m,3|snap,T1|
 worse.csv: snap,T1|snap,S1||row,g,m,0|
 feed.toml: [[collector]]|file = \"feed.csv\"|
-read.toml: [[collector]]|file = \"feed.csv\"|[[reader]]|file = \"third.csv\"|
+read.toml: [[collector]]|file = \"feed.csv\"|[[reader]]|file = \"last.csv\"|
 two.toml: [[collector]]|file = \"one.csv\"|[[collector]]|file = \"one.csv\"|
 far.toml: [[collector]]|file = \"far.csv\"|
 lost.toml: [[collector]]|file = \"one.csv\"|[[collector]]|file = \"missing.csv\"|
 fine.toml: [[tag]]|name = \"T1\"|exc_dev = 0|exc_max = 1000000|comp_dev = 0|comp_min = 0|comp_max = 1000000|\
 [[group]]|name = \"g\"|tags = [\"T1\"]|start = 0|period = 1|[[group.calc]]|name = \"m\"|formula = \"count('T1')\"|
 feed.csv: T1,0,0|T1,3000,0|T1,4000,9|T1,1500,60|
-third.csv: row,g,m,3|
+last.csv: row,g,m,3|
 one.csv: T1,0,5|
-far.csv: T1,0,0|T1,2000000,1|T1,2000001,0|";
+far.csv: T1,0,0|T1,2000000,1|T1,2000001,0|
+flow.toml: [[tag]]|name = \"FIC101.PV\"|exc_dev = 5|exc_max = 600000|comp_dev = 10|comp_min = 0|comp_max = 28800000|
+fill.toml: [[collector]]|file = \"fill.csv\"|
+fill.csv: FIC101.PV,1700000000000,1200|FIC101.PV,1700000060000,1203|FIC101.PV,1700000120000,1204|\
+FIC101.PV,1700000180000,1212|FIC101.PV,1700000240000,1213|FIC101.PV,1700000300000,1240|FIC101.PV,1700000360000,1238|
+whole.toml: [[collector]]|file = \"whole.csv\"|
+first.toml: [[collector]]|file = \"first.csv\"|
+second.toml: [[collector]]|file = \"second.csv\"|
+third.toml: [[collector]]|file = \"third.csv\"|
+whole.csv: T1,0,0|T1,10,10|S1,0,10|S1,10,11|T1,20,0|T1,30,5|S1,20,15|S1,30,14|
+first.csv: T1,0,0|T1,10,10|S1,0,10|S1,10,11|
+second.csv: T1,20,0|T1,30,5|S1,20,15|S1,30,14|
+third.csv: T1,40,12|T1,50,20|T1,60,30|";
 
 // What the devices hold, the read of a file that fails, and the words; then the exit code and what is printed.
 const RUNS: &str = "\
@@ -92,6 +104,31 @@ kept 0 trend base.toml plan.toml => 5 fault: read base|
 kept 3 trend base.toml plan.toml => 5 fault: read plan|
 kept 5 trend base.toml plan.toml => 5 fault: read reader 1|
 kept 6 trend base.toml plan.toml => 5 fault: read reader 2|";
+
+// Runs one after the other: whether the devices are new, those that the run before left, or those with fewer records of the tag; the
+// write that fails, and the words; then the exit code and what is printed.
+const SESSIONS: &str = "\
+new 99 run flow.toml fill.toml => 0 tag FIC101.PV taken=7 records=2 kept=2 late=0 held=1700000300000,1240|
+new 99 run base.toml whole.toml => 0 tag T1 taken=4 records=3 kept=3 late=0 held=30,5|\
+tag S1 taken=4 records=2 kept=2 late=0 held=30,14|
+left 99 trend base.toml plan.toml => 0 reply 1 1 line 3|reply 1 2 exact 0|reply 1 3 flat 5|reply 1 4 8|\
+reply 1 5 0,0 10,10 20,0 end|reply 1 6 none|reply 1 7 snap 4 30,5|reply 2 1 flat 10|reply 2 2 exact 15|reply 2 3 700|\
+reply 2 4 12|reply 2 5 10|reply 2 6 15|reply 2 7 14|reply 2 8 snap 4 30,14|
+new 99 run base.toml first.toml => 0 tag T1 taken=2 records=1 kept=1 late=0 held=10,10|\
+tag S1 taken=2 records=1 kept=1 late=0 held=10,11|
+left 99 run base.toml second.toml => 0 tag T1 taken=4 records=3 kept=3 late=0 held=30,5|\
+tag S1 taken=4 records=2 kept=2 late=0 held=30,14|
+left 99 trend base.toml plan.toml => 0 reply 1 1 line 3|reply 1 2 exact 0|reply 1 3 flat 5|reply 1 4 8|\
+reply 1 5 0,0 10,10 20,0 end|reply 1 6 none|reply 1 7 snap 4 30,5|reply 2 1 flat 10|reply 2 2 exact 15|reply 2 3 700|\
+reply 2 4 12|reply 2 5 10|reply 2 6 15|reply 2 7 14|reply 2 8 snap 4 30,14|
+new 99 run base.toml first.toml => 0 tag T1 taken=2 records=1 kept=1 late=0 held=10,10|\
+tag S1 taken=2 records=1 kept=1 late=0 held=10,11|
+left 99 run loose.toml third.toml => 0 tag T1 taken=6 records=3 kept=3 late=0 held=60,30|
+new 0 run grid.toml feed.toml => 6
+left 99 run grid.toml none.toml => 0 tag T1 taken=4 records=3 kept=2 late=1 held=4000,9|\
+group g windows=3 refreshes=1 evals=0|calc g m 2 20|
+left 99 trend grid.toml rows.toml => 0 reply 1 1 20|reply 1 2 50|reply 1 3 20|reply 1 4 none|reply 1 5 snap 4 4000,9|
+fewer 99 run grid.toml none.toml => 11 fault: mismatch|";
 
 // How often a line stands in one file more, the line, the words of a run over new devices, and how what is told ends.
 const LARGE: &str = "\
@@ -221,6 +258,56 @@ fn stored_archives_are_told(rt: HostRuntime) -> Result<(), Fail> {
             )?;
             assert_eq!(rt; told.as_str(), text(alloc, want)?.as_str(), "{given}");
         }
+    }
+    Ok(())
+}
+
+// The store that a run begins with, after one that left this one. Where the tag has fewer records, the group's device is as it was left.
+fn store_of(
+    rt: &impl Abort,
+    alloc: Global,
+    kind: &str,
+    mut left: MemStore,
+) -> Result<MemStore, Fail> {
+    match kind {
+        "left" => Ok(left),
+        "fewer" => {
+            let group = left.device("g.grp").map_err(|_| "a device")?;
+            let tag = kept(rt, alloc, &tag(rt, "T1", false), 64, "0,0 3000,0 4000,9");
+            let mut devices = Vec::new(alloc);
+            devices.push((String::from_str(alloc, "T1.tag")?, tag))?;
+            devices.push((String::from_str(alloc, "g.grp")?, group))?;
+            Ok(MemStore::new(devices))
+        }
+        _ => Ok(MemStore::new(Vec::new(alloc))),
+    }
+}
+
+#[test]
+fn a_session_goes_on_where_the_last_one_ended(rt: HostRuntime) -> Result<(), Fail> {
+    let alloc = rt.alloc();
+    let mut store = MemStore::new(Vec::new(alloc));
+    for row in SESSIONS.lines() {
+        let (given, want) = row.split_once(" => ").ok_or("row")?;
+        let (kind, rest) = given.split_once(' ').ok_or("devices")?;
+        let (fail, line) = rest.split_once(' ').ok_or("write")?;
+        let line = format!(in alloc; "historian {line}")?;
+        let mut files = files(&rt, alloc, 99, "")?;
+        store = store_of(&rt, alloc, kind, store)?;
+        let told = told(
+            &rt,
+            alloc,
+            line.as_str(),
+            b"",
+            &mut files,
+            &mut store,
+            (99, number(&rt, fail)),
+        )?;
+        assert_eq!(rt;
+            told.as_str().trim_end_matches(' '),
+            text(alloc, want)?.as_str(),
+            "{given}"
+        );
     }
     Ok(())
 }

@@ -8,3 +8,7 @@ pub mod Continued
 pub mod Crossing
 pub mod Told
 pub mod Unheld
+pub mod GroupDevices
+pub mod DeviceFaults
+pub mod Headline
+pub mod Understood

@@ -1,5 +1,5 @@
 -- What a run of a plan comes to: its session, or why it holds none.
-use Rattle.std.specs.Prelude.{◌≡◌, ◌≢◌, ℕ, ◌<◌, List, length, map, Option, Result, Err, OnOk, IfErr, IfOk, String, string_bytes, slice_index_or}
+use Rattle.std.specs.Prelude.{◌≡◌, ◌≢◌, ℕ, ◌^◌, ◌<◌, List, [], length, map, Option, Result, Err, OnOk, IfErr, IfOk, String, string_bytes, slice_index_or}
 use Rattle.std.specs.List.{AllZip}
 use Rattle.std.specs.declared.alloc.Global.{Global}
 use Rattle.disk_model.specs.Traces.{Trace}
@@ -12,10 +12,11 @@ use Rattle.plant_status.specs.declared.status.Status.{Status}
 use Rattle.plant_status.specs.declared.file.FileId.{FileId}
 use Rattle.plant_status.specs.declared.status.Status.TheVariants.{ReadFault, WantOfMemory}
 use Rattle.plant_files.specs.RowFiles.{ToldFiles}
-use Rattle.session_files.specs.Plans.{IsPlanned, IsPlanningRefusal}
+use Rattle.session_files.specs.Plans.{IsGoodBase, IsPlanned, IsPlanningRefusal}
 use Rattle.calc_refresh.specs.Lists.{lists_of}
 use Rattle.tag_cell.specs.Told.{Told as Cell}
-use Rattle.group_book.specs.Told.{Told as Book}
+use Rattle.group_book.specs.declared.history.GroupHistory.{GroupHistory}
+use Rattle.group_book.specs.Told.{IsHistory as IsGroupHistory, Told as Book}
 use Rattle.plant_session.specs.declared.comparing.Kept.{Kept}
 use Rattle.group_session.specs.declared.comparing.KeptGroup.{KeptGroup}
 use Rattle.group_session.specs.Pulls.{ArePulled}
@@ -23,8 +24,9 @@ use Rattle.cell_store.specs.Openings.{AreCellsOpened}
 use Rattle.cell_store.specs.Closings.{AreHistoriesAt, AreHistoriesOf}
 use Rattle.cell_store.specs.Names.{names_of}
 use Rattle.tag_store.specs.Tags.{AllStaySame}
-use Rattle.book_store.specs.Groups.{AllStaySame as AllGroupsStaySame, AreBooksOpened, Devices, parts_of}
+use Rattle.book_store.specs.Groups.{AllStaySame as AllGroupsStaySame, AreBooksOpened, Devices, parts_of, trace_at}
 use Rattle.book_store.specs.Endings.{AreHistoriesOf as AreGroupHistoriesOf}
+use Rattle.plant_store.specs.Closings.{CountsClosed}
 use Rattle.plant_store.specs.Openings.{AreRestSame, IsPlantRefusal, records_in}
 use Rattle.session_report.specs.declared.session.Session.{Session}
 use Rattle.session_report.specs.Report.{report}
@@ -88,8 +90,17 @@ abbrev pub AreDefined : {D : Type 0} → List GroupDef → List (Book D) → Typ
 AreDefined {D} groups books = (i : ℕ) (g : GroupDef) (b : Book D) → i < length books
     → (slice_index_or books i b).def ≡ parts_of (slice_index_or groups i g)
 
--- The histories of a session are those of these cells and books. Each tag's is that of the device which is under its name, and no
--- device but those of the base's tags and groups has changed.
+-- a history is that of a group's device, which tells these calls
+abbrev pub IsGroupHistoryAt : Option Trace → GroupHistory → Type 0
+IsGroupHistoryAt trace g = (ticks : ℕ) × (faults : ℕ) × IsGroupHistory g trace ticks faults
+
+-- each history of a group that has a text is that of the device which a store has under the name of the group
+pub record AreGroupHistoriesAt (groups : List GroupDef) (traces : Devices) (histories : List GroupHistory) : Type 0 where
+  pub each : (i : ℕ) (d : GroupDef) (g : GroupHistory) → i < length histories → (slice_index_or histories i g).text.items ≢ []
+      → IsGroupHistoryAt (trace_at traces (slice_index_or groups i d)) (slice_index_or histories i g)
+
+-- The histories of a session are those of these cells and books. Each is that of the device which is under its name, and no device
+-- but those of the base's tags and groups has changed.
 pub record IsOver {D : Type 0} (trace : D → Option Trace) (ticks faults : D → ℕ) (base : Base) (old new : Devices)
     (cells : List (Cell D)) (books : List (Book D)) (s : Session) : Type 0 where
   pub tags : AreHistoriesOf trace ticks faults cells s.tags.items
@@ -97,6 +108,7 @@ pub record IsOver {D : Type 0} (trace : D → Option Trace) (ticks faults : D �
   pub as_many_tags : length cells ≡ length base.tags.items
   pub as_many_groups : length books ≡ length base.groups.items
   pub devices : AreHistoriesAt new (names_of base.tags.items) s.tags.items
+  pub group_devices : AreGroupHistoriesAt base.groups.items new s.groups.items
   pub others : AreRestSame base old new
 
 -- a cell is of the definition that another one is of, and was opened as that was
@@ -142,15 +154,16 @@ pub record IsTold (base : Base) (g : Given) (s : Session) (came : Result Unit St
 
 -- A session of this work over a base, and what came of it: the devices were opened, and are given back; unless an opening is told
 -- to be another, each cell and book is the one that was opened; as many workers were stopped as the passes counted; and it is done,
--- or there is a cause.
+-- or there is a cause. The store counts the faults of the devices: so many before, and so many now.
 pub record IsRun {D : Type 0} (trace : D → Option Trace) (ticks faults : D → ℕ) (base : Base) (g : Given) (old new : Devices)
-    (stops_before stops_now : ℕ) (answer : Result (String Global) Status) (s : Session) : Type 0 where
+    (before now : ℕ) (stops_before stops_now : ℕ) (answer : Result (String Global) Status) (s : Session) : Type 0 where
   pub opened : List (Cell D)
   pub opened_books : List (Book D)
   pub cells : List (Cell D)
   pub books : List (Book D)
   pub opening : IsOpen trace ticks faults base old opened opened_books
   pub over : IsOver trace ticks faults base old new cells books s
+  pub counts : before < 2 ^ 64 → CountsClosed faults cells books before now
   pub same_tags : (IsOfOpening answer → ⊥) → AllZip IsContinued opened cells
   pub same_groups : (IsOfOpening answer → ⊥) → AllZip IsContinuedGroup opened_books books
   pub notes : AreNotes D g.work stops_before stops_now s.workers.items
@@ -159,12 +172,14 @@ pub record IsRun {D : Type 0} (trace : D → Option Trace) (ticks faults : D →
 
 -- a session of the plan in a file over the base in another, and what came of it
 pub record IsSession {D : Type 0} (trace : D → Option Trace) (ticks faults : D → ℕ) (name plan_name : List ℕ) (told : ToldFiles)
-    (old new : Devices) (stops_before stops_now : ℕ) (answer : Result (String Global) Status) (s : Session) : Type 0 where
+    (old new : Devices) (before now : ℕ) (stops_before stops_now : ℕ) (answer : Result (String Global) Status) (s : Session)
+    : Type 0 where
   pub base : Base
   pub plan : Plan
   pub rows : List (List RawRow)
   pub queries : List (List Query)
   pub given : Given
+  pub good : IsGoodBase base
   pub planned : IsPlanned name plan_name told base plan rows queries
   pub work : IsGivenOf base plan rows queries given
-  pub run : IsRun trace ticks faults base given old new stops_before stops_now answer s
+  pub run : IsRun trace ticks faults base given old new before now stops_before stops_now answer s

@@ -4,6 +4,7 @@ ghost use Rattle.calc_refresh.specs.Lists.{lists_of};
 ghost use Rattle.session_files.specs.Plans.{IsGoodBase};
 ghost use Rattle.snapshot_table.specs.Boards.{LooksAt};
 ghost use Rattle.book_store.specs.Groups.{Devices};
+ghost use Rattle.plant_store.specs.Closings.{CountsClosed};
 ghost use Rattle.plant_store.specs.Openings.{AreRestSame};
 ghost use Rattle.plant_store.specs.Shelves.{HasPlacesOf, IsShelfFor};
 ghost use Rattle.run_command.specs.Runs.{AreDefined, IsOpen, IsOver, IsRun, IsTold};
@@ -51,7 +52,7 @@ pub(crate) fn hold_open<S: Store, P: Passes, R: Threads + Wait + Sync>(
     ensures { (old : Devices) → IsOpen S.Dev.trace S.Dev.ticks S.Dev.fault_count base.now old plant.cells.items plant.books.items
         → AreRestSame base.now old (S.device_at store.old)
         → IsRun S.Dev.trace S.Dev.ticks S.Dev.fault_count base.now given.now old (S.device_at store.new)
-        (P.stops passes.old) (P.stops passes.new) result.0 result.1 }
+        (S.fault_count store.old) (S.fault_count store.new) (P.stops passes.old) (P.stops passes.new) result.0 result.1 }
 {
     let OpenPlant { cells, books } = plant;
     match make_ready(alloc, &cells, &books) {
@@ -100,6 +101,8 @@ fn close<S: Store>(
     ensures over { (old : Devices) → AreRestSame base.now old (S.device_at store.old)
         → IsOver S.Dev.trace S.Dev.ticks S.Dev.fault_count base.now old (S.device_at store.new) ended.cells.items ended.books.items
         result.1 }
+    ensures counts { S.fault_count store.old < 2 ^ 64 → CountsClosed S.Dev.fault_count ended.cells.items ended.books.items
+        (S.fault_count store.old) (S.fault_count store.new) }
     ensures notes { result.1.workers ≡ ended.notes }
     ensures told { IsTold base.now given.now result.1 ended.answer result.0 }
 {

@@ -52,7 +52,8 @@ pub(crate) fn run_given<S: Store, P: Passes, R: Threads + Wait + Sync>(
     requires inputs { lists_of given.now.inputs.items ≡ map (λ d. d.inputs.items) base.now.groups.items }
     ensures held { OnOk result.answer (IsSome result.session) }
     ensures session { IfSome result.session (IsRun S.Dev.trace S.Dev.ticks S.Dev.fault_count base.now given.now
-        (S.device_at store.old) (S.device_at store.new) (P.stops passes.old) (P.stops passes.new) result.answer) }
+        (S.device_at store.old) (S.device_at store.new) (S.fault_count store.old) (S.fault_count store.new) (P.stops passes.old)
+        (P.stops passes.new) result.answer) }
     ensures unheld { result.session ≡ None → IfErr result.answer (IsUnopened base.now (S.device_at store.old)
         (S.device_at store.new) (S.fault_count store.old) (S.fault_count store.new)) }
     ensures other { result.session ≡ None → IfErr result.answer IsNoReadFault }

@@ -1,9 +1,10 @@
 // The command `run`: the plan of one file over the base of another.
-ghost use Rattle.std.specs.Prelude.{◌≡◌, ℕ, List, IfErr, IfSome, None, OnOk, map};
+ghost use Rattle.std.specs.Prelude.{◌≡◌, ◌≢◌, ℕ, List, IfErr, IfSome, None, OnOk, map};
 ghost use Rattle.std.specs.Option.{IsSome};
 ghost use Rattle.plant_files.specs.Reading.{faults_after};
 ghost use Rattle.plant_files.specs.RowFiles.{ToldFiles};
 ghost use Rattle.session_files.specs.Plans.{IsFaultOfPlanned, IsGoodBase, IsGoodPlan, IsPlanned};
+ghost use Rattle.run_command.specs.Headline.{IsPromised};
 ghost use Rattle.run_command.specs.Runs.{IsNoReadFault, IsSession, IsUnheld};
 
 use crate::given::given_of;
@@ -30,9 +31,13 @@ pub fn run_plan<F: Files, S: Store, P: Passes, R: Threads + Wait + Sync>(
 ) -> Ran
     ensures held { OnOk result.answer (IsSome result.session) }
     ensures session { IfSome result.session (IsSession S.Dev.trace S.Dev.ticks S.Dev.fault_count name.now plan_name.now
-        (F.told files.old) (S.device_at store.old) (S.device_at store.new) (P.stops passes.old) (P.stops passes.new) result.answer) }
+        (F.told files.old) (S.device_at store.old) (S.device_at store.new) (S.fault_count store.old) (S.fault_count store.new)
+        (P.stops passes.old) (P.stops passes.new) result.answer) }
+    ensures promised { IfSome result.session (IsPromised name.now plan_name.now (F.told files.old) (S.device_at store.old)
+        (S.device_at store.new) (S.fault_count store.old) (S.fault_count store.new) result.answer) }
     ensures unheld { result.session ≡ None → IfErr result.answer (IsUnheld name.now plan_name.now (F.told files.old)
         (S.device_at store.old) (S.device_at store.new) (S.fault_count store.old) (S.fault_count store.new)) }
+    ensures understood { IfErr result.answer (λ why. why ≢ Status.BadWords) }
     ensures stays { F.told files.new ≡ F.told files.old }
 
     // One fault of the files is counted where a read has failed, and else none; and whose read that was.
@@ -60,7 +65,8 @@ fn run_read<S: Store, P: Passes, R: Threads + Wait + Sync>(
     ensures session { (name plan_name : List ℕ) (told : ToldFiles) → IsPlanned name plan_name told read.base read.plan
         (map (λ list. list.items) read.rows.items) (map (λ list. list.items) read.queries.items)
         → IfSome result.session (IsSession S.Dev.trace S.Dev.ticks S.Dev.fault_count name plan_name
-        told (S.device_at store.old) (S.device_at store.new) (P.stops passes.old) (P.stops passes.new) result.answer) }
+        told (S.device_at store.old) (S.device_at store.new) (S.fault_count store.old) (S.fault_count store.new)
+        (P.stops passes.old) (P.stops passes.new) result.answer) }
     ensures unheld { (name plan_name : List ℕ) (told : ToldFiles) → IsPlanned name plan_name told read.base read.plan
         (map (λ list. list.items) read.rows.items) (map (λ list. list.items) read.queries.items)
         → result.session ≡ None → IfErr result.answer (IsUnheld name plan_name told

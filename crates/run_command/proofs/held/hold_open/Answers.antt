@@ -42,6 +42,7 @@ returns-in-Ok g c old was rest =
       books = books;
       opening = was;
       over = c.close.ensures.over old rest;
+      counts = c.close.ensures.counts;
       same_tags = λ none. continued opened cells c.in-Ok.ready.tags.items
           (omega (
             arith,
@@ -93,6 +94,7 @@ returns-in-Err g c old was rest =
       books = books;
       opening = was;
       over = c.close-in-Err.ensures.over old rest;
+      counts = c.close-in-Err.ensures.counts;
       same_tags = λ none. subst (λ (v : Vec (Cell g.row.S-Dev.Denot) Global). AllZip IsContinued opened v.items) (sym c.unready-ended.ensures.cells) (still opened);
       same_groups = λ none. subst (λ (v : Vec (Book g.row.S-Dev.Denot) Global). AllZip IsContinuedGroup opened_books v.items) (sym c.unready-ended.ensures.books)
           (groups_still opened_books);

@@ -1,7 +1,8 @@
-use Rattle.std.proofs.Common.{Result, String, ap, arith, length, subst, sym}
-use Rattle.std.specs.Prelude.{IfErr}
+use Rattle.std.proofs.Common.{◌<◌, Result, String, ap, arith, length, subst, sym}
+use Rattle.std.specs.Prelude.{◌^◌, IfErr}
 use Rattle.std.specs.declared.alloc.Global.{Global}
 use Rattle.plant_status.specs.declared.status.Status.{Status}
+use Rattle.plant_store.specs.Closings.{CountsClosed}
 use Rattle.run_command.specs.Runs.{IsNoReadFault, IsUnopened, OfPlant}
 use Rattle.run_command.proofs.Unheld.{unopened_is_no_fault}
 use Rattle.run_command.proofs.plant.run_given.Goals as goal
@@ -43,3 +44,31 @@ returns-in-Err-clause-other g c = λ none.
       groups = c.in-Err.ensures.same_groups;
       others = c.open_plant.ensures.others;
     })))
+
+pub returns-in-Ok-open_plant-clause-session : goal.returns-in-Ok-open_plant-clause-session
+returns-in-Ok-open_plant-clause-session g c =
+    let faults = g.S.Store.fault_count in
+    let plant = c.in-Ok-open_plant in
+    let run = c.hold_open-answer.ensures (g.S.Store.device_at c.args.store.now) (record {
+      tags = plant.ensures.tags;
+      groups = plant.ensures.groups;
+      as_many_tags = omega (arith, plant.ensures.as_many_cells, plant.open.cells.ok);
+      as_many_groups = omega (arith, plant.ensures.as_many_books, plant.open.books.ok);
+    }) c.open_plant.ensures.others in
+    record {
+      opened = run.opened;
+      opened_books = run.opened_books;
+      cells = run.cells;
+      books = run.books;
+      opening = run.opening;
+      over = run.over;
+      counts = λ few.
+          let same = plant.ensures.counts few in
+          subst (λ n. CountsClosed g.S.Dev.Disk.fault_count run.cells run.books n (faults c.hold_open-answer.new.store)) same
+          (run.counts (subst (λ n. n < 2 ^ 64) (sym same) few));
+      same_tags = run.same_tags;
+      same_groups = run.same_groups;
+      notes = run.notes;
+      done = run.done;
+      undone = run.undone;
+    }

@@ -1,11 +1,15 @@
 use Rattle.std.proofs.Common.{◌∙◌, Result, String, ap, refl, subst, sym}
-use Rattle.std.specs.Prelude.{IfErr}
+use Rattle.std.specs.Prelude.{◌≢◌, IfErr}
 use Rattle.std.specs.declared.alloc.Global.{Global}
 use Rattle.plant_status.specs.declared.status.Status.{Status}
+use Rattle.plant_status.specs.declared.status.Status.TheVariants.{BadWords}
 use Rattle.plant_files.specs.Reading.{faults_after}
 use Rattle.session_files.specs.Plans.{IsFaultOfPlanned}
 use Rattle.run_command.specs.Runs.{IsUnheld, OfFiles}
 use Rattle.run_command.proofs.Results.{err_weaker}
+use Rattle.run_command.proofs.Headline.{promised}
+use Rattle.run_command.proofs.Told.{some_weaker}
+use Rattle.run_command.proofs.Understood.{files_understood, understood}
 use Rattle.run_command.proofs.Unheld.{after_none, of_none}
 use Rattle.run_command.proofs.run.run_plan.Goals as goal
 
@@ -35,3 +39,39 @@ pub returns-in-Ok-clause-whose : goal.returns-in-Ok-clause-whose
 returns-in-Ok-clause-whose g c = λ none. err_weaker c.run_read.result.answer
     (λ why other. of_none c.args.name.now c.args.plan_name.now (g.F.Files.told c.args.files.now)
     (g.F.Files.failed_name c.read_session.new.files) why other) (c.run_read.ensures.other none)
+
+pub returns-in-Ok-clause-promised : goal.returns-in-Ok-clause-promised
+returns-in-Ok-clause-promised g c =
+    let trace = g.S.Dev.Disk.trace in
+    let ticks = g.S.Dev.Disk.ticks in
+    let faults = g.S.Dev.Disk.fault_count in
+    let name = c.args.name.now in
+    let plan_name = c.args.plan_name.now in
+    let told = g.F.Files.told c.args.files.now in
+    let store = c.args.store.now in
+    let after = c.run_read.new.store in
+    some_weaker c.run_read.result.session (λ s is. promised trace ticks faults name plan_name told (g.S.Store.device_at store)
+    (g.S.Store.device_at after) (g.S.Store.fault_count store) (g.S.Store.fault_count after) (g.P.Passes.stops c.args.passes.now)
+    (g.P.Passes.stops c.run_read.new.passes) c.run_read.result.answer s is)
+    (c.run_read.ensures.session name plan_name told c.in-Ok.ensures.planned)
+
+pub returns-in-Ok-clause-understood : goal.returns-in-Ok-clause-understood
+returns-in-Ok-clause-understood g c =
+    let trace = g.S.Dev.Disk.trace in
+    let ticks = g.S.Dev.Disk.ticks in
+    let faults = g.S.Dev.Disk.fault_count in
+    let name = c.args.name.now in
+    let plan_name = c.args.plan_name.now in
+    let told = g.F.Files.told c.args.files.now in
+    let store = c.args.store.now in
+    let after = c.run_read.new.store in
+    understood trace ticks faults name plan_name told (g.S.Store.device_at store) (g.S.Store.device_at after)
+    (g.S.Store.fault_count store) (g.S.Store.fault_count after) (g.P.Passes.stops c.args.passes.now)
+    (g.P.Passes.stops c.run_read.new.passes) c.run_read.result.session c.run_read.result.answer
+    (c.run_read.ensures.unheld name plan_name told c.in-Ok.ensures.planned)
+    (c.run_read.ensures.session name plan_name told c.in-Ok.ensures.planned)
+
+pub returns-in-Err-clause-understood : goal.returns-in-Err-clause-understood
+returns-in-Err-clause-understood g c =
+    subst (λ (r : Result (String Global) Status). IfErr r (λ why. why ≢ BadWords)) (sym c.refused.ensures.answer)
+    (files_understood c.args.name.now c.args.plan_name.now (g.F.Files.told c.args.files.now) c.in-Err.why c.in-Err.ensures.refused)

@@ -15,6 +15,7 @@ returns-in-Ok-clause-session g c = λ name plan_name told planned. some_weaker c
   rows = map (λ list. list.items) c.args.read.rows.items;
   queries = map (λ list. list.items) c.args.read.queries.items;
   given = c.in-Ok.given;
+  good = c.requires.base;
   planned = planned;
   work = record {
     collectors = ap (λ (v : Vec (Vec RawRow Global) Global). lists_of v.items) c.in-Ok.ensures.collectors;

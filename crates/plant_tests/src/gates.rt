@@ -1,0 +1,263 @@
+// Passes that hold or stop workers, and a device whose sync waits for one of them.
+ghost use Rattle.std.specs.Prelude.{◌≡◌, ◌+◌, length, Some, IfOk, OnOk, IsErr, refl};
+
+use disk_model::{Disk, Failed, MemDisk, MemStore, Store};
+use plant_run::{Pass, Passes};
+use std::sync::atomic::{AtomicU64, Ordering};
+use std::thread;
+
+// How often one looks whether another has come before it gives up.
+pub const PATIENT: u64 = 50_000_000;
+
+// Whether a word comes to be so much while one looks.
+fn comes(word: &AtomicU64, least: u64) -> bool {
+    for _ in 0..PATIENT {
+        if word.load(Ordering::SeqCst) >= least {
+            return true;
+        }
+        thread::yield_now();
+    }
+    false
+}
+
+// Passes that hold each worker, at each step but its first, until so many workers have asked for their step of that number.
+#[derive(Drop)]
+pub struct InTurn<'a> {
+    pub asked: &'a AtomicU64,
+    pub workers: u64,
+    pub stops: u64,
+}
+
+pub struct InTurnPass<'a> {
+    asked: &'a AtomicU64,
+    workers: u64,
+    stops: u64,
+}
+
+impl<'a> Pass for InTurnPass<'a> {
+    ghost stops = { λ pass. pass.stops };
+
+    fn pass(&mut self, step: u64) -> bool {
+        if step == 0 {
+            return true;
+        }
+        self.asked.fetch_add(1, Ordering::SeqCst);
+        let come = comes(self.asked, self.workers.saturating_mul(step));
+        if !come {
+            self.stops = self.stops.saturating_add(1);
+        }
+        come
+    }
+}
+
+impl<'a> Passes for InTurn<'a> {
+    type One = InTurnPass<'a>;
+
+    ghost stops = { λ passes. passes.stops };
+
+    fn hand(&mut self, _worker: u32) -> InTurnPass<'a> {
+        InTurnPass {
+            asked: self.asked,
+            workers: self.workers,
+            stops: 0,
+        }
+    }
+
+    fn give_back(&mut self, one: InTurnPass<'a>) {
+        let InTurnPass {
+            asked: _,
+            workers: _,
+            stops,
+        } = one;
+        self.stops = self.stops.saturating_add(stops);
+    }
+}
+
+// Passes that stop worker 0 at its first step.
+#[derive(Drop)]
+pub struct Shut {
+    pub stops: u64,
+}
+
+pub struct ShutPass {
+    shut: bool,
+    stops: u64,
+}
+
+impl Pass for ShutPass {
+    ghost stops = { λ pass. pass.stops };
+
+    fn pass(&mut self, _step: u64) -> bool {
+        if self.shut {
+            self.stops = self.stops.saturating_add(1);
+        }
+        !self.shut
+    }
+}
+
+impl Passes for Shut {
+    type One = ShutPass;
+
+    ghost stops = { λ passes. passes.stops };
+
+    fn hand(&mut self, worker: u32) -> ShutPass {
+        ShutPass {
+            shut: worker == 0,
+            stops: 0,
+        }
+    }
+
+    fn give_back(&mut self, one: ShutPass) {
+        let ShutPass { shut: _, stops } = one;
+        self.stops = self.stops.saturating_add(stops);
+    }
+}
+
+// What a device and the pass of a reader tell each other: how far the device's sync is, and how far the reader.
+#[derive(Drop)]
+pub struct Signs {
+    pub device: AtomicU64,
+    pub reader: AtomicU64,
+}
+
+// The device has been opened, and is in a sync.
+const OPENED: u64 = 1;
+
+const IN_SYNC: u64 = 2;
+
+// Passes of a collector, and of a reader that waits at its first step until the device is in a sync, and says at its second one that
+// it has come there.
+#[derive(Drop)]
+pub struct AtSync<'a> {
+    pub signs: &'a Signs,
+    pub stops: u64,
+}
+
+pub struct AtSyncPass<'a> {
+    signs: &'a Signs,
+    reads: bool,
+    stops: u64,
+}
+
+impl<'a> Pass for AtSyncPass<'a> {
+    ghost stops = { λ pass. pass.stops };
+
+    fn pass(&mut self, step: u64) -> bool {
+        if !self.reads {
+            return true;
+        }
+        if step == 0 && !comes(&self.signs.device, IN_SYNC) {
+            self.stops = self.stops.saturating_add(1);
+            return false;
+        }
+        self.signs.reader.store(step, Ordering::SeqCst);
+        true
+    }
+}
+
+impl<'a> Passes for AtSync<'a> {
+    type One = AtSyncPass<'a>;
+
+    ghost stops = { λ passes. passes.stops };
+
+    fn hand(&mut self, worker: u32) -> AtSyncPass<'a> {
+        self.signs.device.store(OPENED, Ordering::SeqCst);
+        AtSyncPass {
+            signs: self.signs,
+            reads: worker == 1,
+            stops: 0,
+        }
+    }
+
+    fn give_back(&mut self, one: AtSyncPass<'a>) {
+        let AtSyncPass {
+            signs: _,
+            reads: _,
+            stops,
+        } = one;
+        self.stops = self.stops.saturating_add(stops);
+    }
+}
+
+// A device in memory whose first sync after its opening lasts until the reader has come to its second step. Where it does not come the
+// sync fails.
+pub struct GateDisk<'a> {
+    disk: MemDisk,
+    signs: &'a Signs,
+}
+
+impl<'a> Disk for GateDisk<'a> {
+    ghost trace = { λ d. Some d.disk.trace };
+
+    ghost ticks = { λ d. length d.disk.trace.calls };
+
+    ghost fault_count = { λ d. d.disk.faults };
+
+    ghost told = { λ d. refl };
+
+    fn len(&mut self) -> Result<u64, Failed> {
+        self.disk.len()
+    }
+
+    fn read(&mut self, at: u64, buf: &mut [u8]) -> Result<(), Failed> {
+        self.disk.read(at, buf)
+    }
+
+    fn write_at(&mut self, at: u64, bytes: &[u8]) -> Result<(), Failed> {
+        self.disk.write_at(at, bytes)
+    }
+
+    fn cut(&mut self, len: u64) -> Result<(), Failed> {
+        self.disk.cut(len)
+    }
+
+    fn sync(&mut self) -> Result<(), Failed> {
+        if self.signs.device.load(Ordering::SeqCst) == OPENED {
+            self.signs.device.store(IN_SYNC, Ordering::SeqCst);
+            if !comes(&self.signs.reader, 1) {
+                self.disk.stop_after(0);
+            }
+        }
+        self.disk.sync()
+    }
+
+    fn clock(&self) -> u64 {
+        self.disk.clock()
+    }
+
+    fn faults(&self) -> u64 {
+        self.disk.faults()
+    }
+}
+
+// A store that hands out such devices.
+#[derive(Drop)]
+pub struct GateStore<'a> {
+    pub store: MemStore,
+    pub signs: &'a Signs,
+}
+
+impl<'a> Store for GateStore<'a> {
+    ghost use Rattle.disk_model.specs.Stores.{trace_at, is_among};
+
+    type Dev = GateDisk<'a>;
+
+    ghost device_at = { λ s name. Some (trace_at s.store.devices name) };
+
+    ghost has_place = { λ s name. is_among s.store.devices name };
+
+    ghost fault_count = { λ s. s.store.faults };
+
+    fn device(&mut self, name: &str) -> Result<GateDisk<'a>, Failed> {
+        let disk = self.store.device(name)?;
+        Ok(GateDisk {
+            disk,
+            signs: self.signs,
+        })
+    }
+
+    fn give_back(&mut self, name: &str, dev: GateDisk<'a>) {
+        let GateDisk { disk, signs: _ } = dev;
+        self.store.give_back(name, disk);
+    }
+}

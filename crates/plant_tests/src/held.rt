@@ -1,0 +1,146 @@
+// Sessions whose workers are held or stopped at their steps.
+use crate::gates::{AtSync, GateStore, InTurn, Shut, Signs};
+use crate::plants::{text, words};
+use byte_io::{MemFiles, MemSink, MemSource};
+use disk_model::{MemStore, Store};
+use plant_run::{Outcome, Passes, Status, run};
+use std::alloc::Global;
+use std::fmt::Write;
+use std::sync::Wait;
+use std::sync::atomic::AtomicU64;
+use std::test::Fail;
+use std::thread::Threads;
+use tag_cell::Entry;
+
+// Names and texts of files; a bar stands for a line feed.
+const FILES: &str = "\
+base.toml: [[tag]]|name = \"T1\"|exc_dev = 0|exc_max = 1000000|comp_dev = 0|comp_min = 0|comp_max = 1000000|
+four.toml: [[collector]]|file = \"same.csv\"|[[collector]]|file = \"same.csv\"|[[collector]]|file = \"same.csv\"|\
+[[collector]]|file = \"same.csv\"|
+snap.toml: [[collector]]|file = \"rising.csv\"|[[reader]]|file = \"snap.csv\"|
+snap.csv: snap,T1|at,T1,0|";
+
+// The files, with the same row a hundred times and with 65 rising ones.
+fn files(alloc: Global) -> Result<MemFiles, Fail> {
+    let mut files = Vec::new(alloc);
+    for row in FILES.lines() {
+        let (name, field) = row.split_once(": ").ok_or("a file")?;
+        let text = text(alloc, field)?.into_bytes();
+        files.push((String::from_str(alloc, name)?, text))?;
+    }
+    let same = "T1,0,5\n".repeat(alloc, 100)?;
+    files.push((String::from_str(alloc, "same.csv")?, same.into_bytes()))?;
+    let mut rising = String::new(alloc);
+    for t in 0..65 {
+        write!(rising, "T1,{t},{t}\n")?;
+    }
+    files.push((String::from_str(alloc, "rising.csv")?, rising.into_bytes()))?;
+    Ok(MemFiles::new(files, Vec::new(alloc)))
+}
+
+// Runs words over a store with these passes: how it ended, and what is printed.
+fn ended<R: Threads + Wait + Sync, S: Store, P: Passes>(
+    rt: &R,
+    alloc: Global,
+    line: &str,
+    store: &mut S,
+    passes: &mut P,
+) -> Result<(Outcome, String), Fail> {
+    let words = words(alloc, line)?;
+    let mut input = MemSource::new(Vec::new(alloc), Vec::new(alloc));
+    let mut files = files(alloc)?;
+    let mut out = MemSink::new(alloc, Vec::new(alloc));
+    let outcome = run(
+        rt, alloc, &words, &mut input, &mut files, &mut out, store, passes,
+    );
+    let printed = str::from_utf8(out.bytes()).map_err(|_| "text")?;
+    Ok((outcome, String::from_str(alloc, printed)?))
+}
+
+// The numbers of the rows that the first tag of a session took, in the order of its tape.
+fn taken_rows(alloc: Global, ended: &Outcome) -> Result<Vec<u64>, Fail> {
+    let session = ended.session.as_ref().ok_or("no session")?;
+    let mut rows = Vec::new(alloc);
+    for entry in session.tags[0].tape.iter() {
+        if let Entry::Take { row, .. } = entry {
+            rows.push(*row)?;
+        }
+    }
+    Ok(rows)
+}
+
+#[test]
+fn four_held_collectors_take_row_by_row(rt: HostRuntime) -> Result<(), Fail> {
+    let alloc = rt.alloc();
+    let asked = AtomicU64::new(0);
+    let mut passes = InTurn {
+        asked: &asked,
+        workers: 4,
+        stops: 0,
+    };
+    let mut store = MemStore::new(Vec::new(alloc));
+    let (outcome, printed) = ended(
+        &rt,
+        alloc,
+        "run base.toml four.toml",
+        &mut store,
+        &mut passes,
+    )?;
+    assert_eq!(rt; outcome.status, Status::Done);
+    assert_eq!(rt;
+        printed.as_str(),
+        "tag T1 taken=400 records=400 kept=1 late=399 held=0,5\n"
+    );
+    let rows = taken_rows(alloc, &outcome)?;
+    assert_eq!(rt; rows.len(), 400);
+    assert!(rt; rows.is_sorted());
+    Ok(())
+}
+
+#[test]
+fn a_stopped_worker_is_told(rt: HostRuntime) -> Result<(), Fail> {
+    let alloc = rt.alloc();
+    let mut passes = Shut { stops: 0 };
+    let mut store = MemStore::new(Vec::new(alloc));
+    let (outcome, printed) = ended(
+        &rt,
+        alloc,
+        "run base.toml four.toml",
+        &mut store,
+        &mut passes,
+    )?;
+    assert_eq!(rt; outcome.status, Status::Halted { worker: 0 });
+    assert_eq!(rt; printed.as_str(), "fault: halted 0\n");
+    assert_eq!(rt; passes.stops, 1);
+    Ok(())
+}
+
+#[test]
+fn a_snapshot_is_looked_at_while_its_tag_is_in_a_sync(rt: HostRuntime) -> Result<(), Fail> {
+    let alloc = rt.alloc();
+    let signs = Signs {
+        device: AtomicU64::new(0),
+        reader: AtomicU64::new(0),
+    };
+    let mut passes = AtSync {
+        signs: &signs,
+        stops: 0,
+    };
+    let mut store = GateStore {
+        store: MemStore::new(Vec::new(alloc)),
+        signs: &signs,
+    };
+    let (outcome, printed) = ended(
+        &rt,
+        alloc,
+        "run base.toml snap.toml",
+        &mut store,
+        &mut passes,
+    )?;
+    assert_eq!(rt; outcome.status, Status::Done);
+    assert_eq!(rt;
+        printed.as_str(),
+        "tag T1 taken=65 records=1 kept=1 late=0 held=64,64\nreply 1 1 snap 64 63,63\nreply 1 2 exact 0\n"
+    );
+    Ok(())
+}

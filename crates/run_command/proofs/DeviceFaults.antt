@@ -1,0 +1,93 @@
+-- A fault of a device that a session tells is one that the store counts.
+use Rattle.std.proofs.Common.{◌≡◌, ◌+◌, ◌-◌, ◌<◌, ℕ, List, Option, Some, Result, Ok, Err, String, arith, subst, min}
+use Rattle.std.specs.Prelude.{◌^◌, IfErr, slice_get, true}
+use Rattle.std.specs.declared.alloc.Global.{Global}
+use Rattle.disk_model.specs.Traces.{Trace}
+use Rattle.tag_cell.specs.Told.{Told as Cell}
+use Rattle.plant_status.specs.declared.status.Status.{Status}
+use Rattle.plant_status.specs.declared.status.Status.TheVariants.{DeviceFault}
+use Rattle.plant_status.specs.declared.unit.Unit.{Unit as Device}
+use Rattle.plant_status.specs.declared.unit.Unit.TheVariants.{Tag, Group}
+use Rattle.tape_audit.proofs.Walking.{at_place}
+use Rattle.group_book.specs.Told.{Told as Book}
+use Rattle.group_book.specs.declared.refusal.RefreshNo.TheVariants as refresh
+use Rattle.group_book.specs.declared.refusal.SaveNo.{SaveNo}
+use Rattle.group_book.specs.declared.refusal.SaveNo.TheVariants as save
+use Rattle.trend_num.specs.declared.archive.Rec.{Rec}
+use Rattle.group_session.specs.Refreshing.{durable_lists}
+use Rattle.group_session.specs.Refusals.{IsBookRefusal, IsSaveCause, OfRefresh, OfSave, save_status}
+use Rattle.cell_store.specs.Closings.{HasRisen}
+use Rattle.book_store.specs.Groups.{Devices}
+use Rattle.plant_store.specs.Closings.{CountsClosed}
+use Rattle.session_report.specs.declared.session.Session.{Session}
+use Rattle.tag_base.specs.declared.definition.Base.{Base}
+use Rattle.run_command.specs.declared.known.Given.{Given}
+use Rattle.run_command.specs.Refusals.{IsMakingRefusal, IsRefused, OfAsk, OfCommit, OfFinding, OfGroup, OfMaking, OfMemory, OfPull, OfRefresh as OfRefreshing, OfRest, OfRowAsk, OfStop, OfTag, OfTake, OfTaking, OfTurns}
+use Rattle.run_command.specs.Runs.{IsOver, IsUndone, OfNone, OfSettling}
+use Rattle.run_command.specs.Headline.{IsFaultCounted}
+use Rattle.run_command.proofs.GroupDevices.{element}
+use Rattle.plant_session.specs.Refusals.{IsSo}
+use Rattle.collector_pool.specs.declared.note.WorkerNote.{WorkerNote}
+
+-- what is counted once more is not zero
+some_count : (n m : ℕ) → m ≡ min (n + 1) (2 ^ 64 - 1) → 0 < m
+some_count n m same = omega (arith, same)
+
+module _ {D : Type 0} (trace : D → Option Trace) (ticks faults : D → ℕ) (base : Base) (old new : Devices) (before now : ℕ)
+    (cells : List (Cell D)) (books : List (Book D)) (s : Session) (is : IsOver trace ticks faults base old new cells books s)
+    (counts : CountsClosed faults cells books before now) where
+  -- a cell whose journal has failed
+  of_cell : (tag : ℕ) → IsSo cells tag (λ c. c.journal.failed ≡ true) → HasRisen before now
+  of_cell tag so = at_place (λ (c : Cell D). c.journal.failed ≡ true → HasRisen before now) cells tag so.cell counts.of_cells so.there so.so
+
+  -- a book whose device has failed
+  of_book : (group : ℕ) (b : Book D) → slice_get books group ≡ Some b → b.failed ≡ true → HasRisen before now
+  of_book group b there failed =
+      at_place (λ (b : Book D). b.failed ≡ true → HasRisen before now) books group b
+      (λ i d below down. counts.of_books i d below (some_count _ _ ((is.groups.each i d (element s.groups.items i (omega (arith, is.groups.as_many, below))) below).rose down)))
+      there failed
+
+  of_save : (group : ℕ) (b : Book D) (unit : Device) (why : SaveNo) → slice_get books group ≡ Some b → IsSaveCause b why
+      → DeviceFault unit ≡ save_status group why → HasRisen before now
+  of_save group b unit save.Broken there cause same = of_book group b there cause
+  of_save group b unit save.DeviceFault there cause same = of_book group b there cause
+  of_save group b unit save.WantOfMemory there cause same = absurd (cc same)
+
+  of_refresh : (group : ℕ) (b : Book D) (durables : List (List Rec)) (tags : List ℕ) (unit : Device) → slice_get books group ≡ Some b
+      → IsBookRefusal durables tags group b (DeviceFault unit) → HasRisen before now
+  of_refresh group b durables tags unit there (OfRefresh (refresh.Ahead input version records) cause same) = absurd (cc same)
+  of_refresh group b durables tags unit there (OfRefresh (refresh.CellLimit n) cause same) = absurd (cc same)
+  of_refresh group b durables tags unit there (OfRefresh (refresh.CopyLimit n) cause same) = absurd (cc same)
+  of_refresh group b durables tags unit there (OfRefresh refresh.WantOfMemory cause same) = absurd (cc same)
+  of_refresh group b durables tags unit there (OfSave refused) = of_save group b unit refused.why there refused.cause refused.told
+
+  module _ (g : Given) where
+    of_making : (unit : Device) → IsMakingRefusal g cells books (DeviceFault unit) → HasRisen before now
+    of_making (Tag tag) (OfTaking so unlike) = of_cell tag so
+    of_making (Group group) (OfTaking so unlike) = absurd so
+    of_making (Tag tag) (OfCommit so) = of_cell tag so
+    of_making (Group group) (OfCommit so) = absurd so
+    of_making unit (OfRefreshing so) = of_refresh so.group so.book (durable_lists cells) _ unit so.there so.refused
+    of_making unit (OfMemory same) = absurd (cc same)
+
+    of_rest : (notes : List WorkerNote) (unit : Device) → IsRefused g notes cells books (DeviceFault unit) → HasRisen before now
+    of_rest notes unit (OfFinding (OfTake works over unfound so)) = absurd so
+    of_rest notes unit (OfFinding (OfAsk works over unfound so)) = absurd so
+    of_rest notes unit (OfFinding (OfRowAsk works over unfound so)) = absurd so
+    of_rest notes unit (OfFinding (OfTurns so)) = absurd so
+    of_rest notes unit (OfStop so) = absurd so
+    of_rest notes unit (OfMaking so) = of_making unit so
+    of_rest notes unit (OfPull so) = absurd so.differs.differs
+
+    of_undone : (opened : List (Cell D)) (opened_books : List (Book D)) (unit : Device)
+        → IsUndone g opened opened_books cells books s (DeviceFault unit) → HasRisen before now
+    of_undone opened opened_books unit (OfSettling known known_groups copied groups_copied (OfTag so)) = absurd so
+    of_undone opened opened_books unit (OfSettling known known_groups copied groups_copied (OfGroup kept so)) = absurd so
+    of_undone opened opened_books unit (OfSettling known known_groups copied groups_copied (OfRest so)) = of_rest s.workers.items unit so
+    of_undone opened opened_books unit (OfNone same) = absurd (cc same)
+
+    pub faults_counted : (opened : List (Cell D)) (opened_books : List (Book D)) (answer : Result (String Global) Status)
+        → IfErr answer (IsUndone g opened opened_books cells books s) → IfErr answer (IsFaultCounted before now)
+    faults_counted opened opened_books (Ok text) undone = tt
+    faults_counted opened opened_books (Err why) undone = λ unit same.
+        of_undone opened opened_books unit (subst (IsUndone g opened opened_books cells books s) same undone)

@@ -1,0 +1,50 @@
+-- Group histories, and the devices that are back under the groups' names.
+use Rattle.std.proofs.Common.{◌≡◌, ◌∙◌, ◌<◌, ℕ, List, [], ◌∷◌, Option, None, Some, String, string_bytes, arith, ap, sym, subst, refl, length, get_or}
+use Rattle.std.specs.Prelude.{IsSome}
+use Rattle.std.specs.declared.alloc.Global.{Global}
+use Rattle.std.proofs.lemmas.List.{get_or-map, length-map}
+use Rattle.disk_model.specs.Traces.{Trace}
+use Rattle.group_book.specs.declared.history.GroupHistory.{GroupHistory}
+use Rattle.group_book.specs.Told.{IsHistory, Told as Book, count_of, trace_of}
+use Rattle.tag_base.specs.declared.definition.GroupDef.{GroupDef}
+use Rattle.book_store.specs.Endings.{AreGivenBack, AreHistoriesOf, trace_after}
+use Rattle.book_store.specs.Groups.{AreNamesOf, Devices, device_name, trace_at}
+use Rattle.run_command.specs.Runs.{AreGroupHistoriesAt}
+
+-- a list that has a place has an element
+pub element : {A : Type 0} (xs : List A) (i : ℕ) → i < length xs → A
+element [] i below = absurd (omega (arith, below))
+element (x ∷ xs) i below = x
+
+-- the device of a book that has one is that under its name
+back_is : {D : Type 0} (trace : D → Option Trace) (dev : Option D) (old : Option Trace) → IsSome dev
+    → trace_after trace dev old ≡ trace_of trace dev
+back_is trace None old there = absurd (cc there)
+back_is trace (Some dev) old there = refl
+
+pub groups_back : {D : Type 0} (trace : D → Option Trace) (ticks faults : D → ℕ) (groups : List GroupDef) (books : List (Book D))
+    (old new : Devices) (names : List (String Global)) (histories : List GroupHistory) → AreNamesOf groups names
+    → length books ≡ length groups → AreHistoriesOf trace ticks faults books histories → AreGivenBack trace names books old new
+    → AreGroupHistoriesAt groups new histories
+groups_back trace ticks faults groups books old new names histories named many of back = record {
+  each = λ i d g below some.
+      let there : i < length books = omega (arith, of.as_many, below) in
+      let here : i < length groups = omega (arith, there, many) in
+      let as_many : length names ≡ length groups = sym (length-map names string_bytes) ∙ ap length named
+      ∙ length-map groups (λ x. device_name x.name) in
+      let inside : i < length names = omega (arith, here, as_many) in
+      let b = element books i there in
+      let s = element names i inside in
+      let is = of.each i b g there in
+      let dev = (get_or books i b).dev in
+      let name : string_bytes (get_or names i s) ≡ device_name (get_or groups i d).name =
+      sym (get_or-map string_bytes names i s [] inside) ∙ ap (λ l. get_or l i []) named
+      ∙ get_or-map (λ (x : GroupDef). device_name x.name) groups i d [] here in
+      let now : trace_at new (get_or groups i d) ≡ trace_of trace dev =
+      ap new (sym name) ∙ back i b s there
+      ∙ back_is trace dev (old (string_bytes (get_or names i s))) (is.there (λ none. some (is.text ∙ none))) in (
+        count_of ticks dev,
+        count_of faults dev,
+        subst (λ t. IsHistory (get_or histories i g) t (count_of ticks dev) (count_of faults dev)) (sym now) is.history,
+      );
+}

@@ -1,0 +1,406 @@
+-- The promise of a session, from its cells and books.
+use Rattle.std.proofs.Common.{◌≡◌, ◌∙◌, ◌<◌, ◌≤◌, ◌+◌, ℕ, zero, suc, Bool, List, [], ◌∷◌, ◌++◌, All, Option, Result, Ok, Err, IfOk, String, arith, ap, sym, subst, refl, length, map, take, get_or}
+use Rattle.std.specs.Prelude.{◌≢◌, nat_eq, string_bytes, if◌then◌else◌}
+use Rattle.std.specs.List.{AllZip, fold}
+use Rattle.std.specs.declared.alloc.Global.{Global}
+use Rattle.std.proofs.lemmas.List.{ext_get_or, get_or-map, length-map, length_push, take_all}
+use Rattle.trend_num.specs.declared.point.Point.{Point}
+use Rattle.trend_num.specs.declared.archive.Summary.{Summary}
+use Rattle.trend_num.specs.declared.tag_def.TagDef.{TagDef}
+use Rattle.trend_model.specs.History.{Raw}
+use Rattle.trend_model.specs.State.{State, followed}
+use Rattle.trend_model.proofs.BoundLaw.{bounded}
+use Rattle.disk_model.specs.Calls.{Shows}
+use Rattle.disk_model.specs.Traces.{Trace}
+use Rattle.crash_recovery.specs.TagImages.{ImageStands, StandsOpened}
+use Rattle.tag_cell.specs.declared.entry.Entry.{Entry}
+use Rattle.tag_cell.specs.declared.entry.Entry.TheVariants.{Take, Ask, Pull, Commit}
+use Rattle.tag_cell.specs.declared.history.TagHistory.{TagHistory}
+use Rattle.tag_cell.specs.declared.history.TagOpening.{TagOpening}
+use Rattle.tag_cell.specs.Replays.{FitAll, IsReplayed, Shown, replayed}
+use Rattle.tag_cell.specs.Tapes.{Walk, after_entry, opened, start, taken, walked}
+use Rattle.tag_cell.specs.Told.{IsHistory, Told as Cell, durable_records, waits}
+use Rattle.tag_cell.proofs.Entries.{points-end}
+use Rattle.tag_cell.proofs.Laws.{legal}
+use Rattle.calc_refresh.specs.Lists.{lists_of}
+use Rattle.group_book.specs.declared.history.GroupHistory.{GroupHistory}
+use Rattle.group_book.specs.declared.history.GroupOpening.{GroupOpening}
+use Rattle.group_book.specs.Openings.{StandsForGroup}
+use Rattle.group_book.specs.Told.{Told as Book, versions_of}
+use Rattle.value_rows.specs.declared.asked.Query.{Query}
+use Rattle.value_rows.specs.declared.raw.RawRow.{RawRow}
+use Rattle.plant_status.specs.declared.status.Status.{Status}
+use Rattle.plant_files.specs.RowFiles.{ToldFiles}
+use Rattle.tape_audit.specs.declared.agenda.Item.{Item}
+use Rattle.tape_audit.specs.declared.kind.Shown.{Shown as ShownBy}
+use Rattle.tape_audit.specs.Agendas.{ask_item, row_item, take_item}
+use Rattle.tape_audit.specs.Found.{shown_by}
+use Rattle.tape_audit.specs.Tapes.{ask_of, take_of}
+use Rattle.plant_session.specs.Workers.{AreTapesWhole, file_due}
+use Rattle.group_session.specs.Durable.{durable_in}
+use Rattle.group_session.specs.Pulls.{ArePulled}
+use Rattle.group_session.specs.Refreshing.{EndsInSave, durable_lists, durable_numbers}
+use Rattle.group_session.specs.Tapes.{pulled as pulls_of, reached, refreshes, row_ask_of}
+use Rattle.group_session.specs.Turns.{turns_for}
+use Rattle.group_session.proofs.Laws.{all_durable, counted, pulled_for_good}
+use Rattle.collector_pool.specs.declared.work.Refresh.{Refresh}
+use Rattle.tag_base.specs.declared.definition.Base.{Base}
+use Rattle.tag_base.specs.declared.definition.GroupDef.{GroupDef}
+use Rattle.tag_base.specs.declared.schedule.Plan.{Plan}
+use Rattle.tag_base.specs.declared.schedule.Refresher.{Refresher}
+use Rattle.tag_store.specs.Tags.{trace_of}
+use Rattle.cell_store.specs.Closings.{AreHistoriesAt, AreHistoriesOf, IsHistoryOf}
+use Rattle.cell_store.specs.Names.{names_of}
+use Rattle.cell_store.specs.Openings.{AreCellsOpened}
+use Rattle.book_store.specs.Groups.{AreBooksOpened, Devices, parts_of, text_of, trace_at}
+use Rattle.plant_store.specs.Openings.{records_in}
+use Rattle.session_files.specs.Plans.{IsGoodBase}
+use Rattle.session_report.specs.declared.session.Session.{Session}
+use Rattle.session_report.specs.Report.{report}
+use Rattle.run_command.specs.declared.known.Given.{Given}
+use Rattle.run_command.specs.Headline.{AreGroupsSound, AreOpened, IsDoneSo, IsGroupOpened, IsMixed, IsPromised, IsRefreshed, IsTagOpened, IsTagSound, entries, records_of, turns, turns_in}
+use Rattle.run_command.specs.Refusals.{IsOfOpening}
+use Rattle.run_command.specs.Runs.{IsContinued, IsContinuedGroup, IsDone, IsGivenOf, IsOver, IsSession}
+use Rattle.run_command.specs.Steps.{IsMade, planned_turn, turn_of}
+use Rattle.run_command.proofs.Continued.{zip_length}
+use Rattle.run_command.proofs.DeviceFaults.{faults_counted}
+use Rattle.run_command.proofs.GroupDevices.{element}
+
+-- ---- lists that are related place by place
+
+-- at one place
+pub zip_at : {A B : Type 0} (R : A → B → Type 0) (xs : List A) (ys : List B) (i : ℕ) (x : A) (y : B) → AllZip R xs ys → i < length ys
+    → R (get_or xs i x) (get_or ys i y)
+zip_at R [] [] i x y zip below = absurd (omega (arith, below))
+zip_at R [] (b ∷ ys) i x y zip below = absurd zip
+zip_at R (a ∷ xs) [] i x y zip below = absurd zip
+zip_at R (a ∷ xs) (b ∷ ys) zero x y zip below = zip.0
+zip_at R (a ∷ xs) (b ∷ ys) (suc i) x y zip below = zip_at R xs ys i x y zip.1 (omega (arith, below))
+
+-- ---- tags
+
+-- the history of a cell is sound
+sound_tag : (trace : Option Trace) (ticks faults : ℕ) (t : TagHistory) → IsHistory t trace ticks faults → IsTagSound t trace
+sound_tag trace ticks faults t is =
+    let s : State = record { records = t.recs.items; summary = t.summary } in
+    record {
+      kept = λ org h step stands. record {
+        legal = legal org h t.def t.opening t.tape.items s t.acked step stands is.replayed;
+        bounded = bounded org (followed h (map Raw (taken t.tape.items)));
+      };
+      safe = is.safe;
+      pulled = λ group n upto there. pulled_for_good t.def t.opening t.tape.items s t.acked group n upto is.replayed there;
+    }
+
+pub sound_tags : (new : Devices) (defs : List TagDef) (ts : List TagHistory) → AreHistoriesAt new (names_of defs) ts
+    → AllZip (λ (def : TagDef) t. IsTagSound t (trace_of new def)) defs ts
+sound_tags new [] [] is = tt
+sound_tags new [] (t ∷ ts) is = absurd is
+sound_tags new (d ∷ ds) [] is = absurd is
+sound_tags new (d ∷ ds) (t ∷ ts) is = (sound_tag (trace_of new d) is.0.0 is.0.1 t is.0.2, sound_tags new ds ts is.1)
+
+module _ {D : Type 0} (trace : D → Option Trace) (ticks faults : D → ℕ) (old : Devices) where
+  -- each was opened as its device stood
+  pub opened_tags : (defs : List TagDef) (first last : List (Cell D)) (ts : List TagHistory)
+      → AreCellsOpened trace ticks faults defs old first → AllZip IsContinued first last → AreHistoriesOf trace ticks faults last ts
+      → AllZip (λ def t. IsTagOpened def (trace_of old def) t) defs ts
+  opened_tags [] [] [] [] was same is = tt
+  opened_tags [] [] [] (t ∷ ts) was same is = absurd is
+  opened_tags [] [] (c ∷ cs) ts was same is = absurd same
+  opened_tags [] (c ∷ cs) last ts was same is = absurd was
+  opened_tags (d ∷ ds) [] last ts was same is = absurd was
+  opened_tags (d ∷ ds) (c ∷ cs) [] ts was same is = absurd same
+  opened_tags (d ∷ ds) (c ∷ cs) (e ∷ es) [] was same is = absurd is
+  opened_tags (d ∷ ds) (c ∷ cs) (e ∷ es) (t ∷ ts) was same is =
+      let opening : opened c.opening ≡ opened t.opening = λ i. record {
+        records = (sym (ap (λ (o : TagOpening). o.recs.items) is.0.opening_is ∙ same.0.records)) i;
+        summary = (sym (ap (λ (o : TagOpening). o.summary) is.0.opening_is ∙ same.0.summary)) i;
+      } in (
+        record {
+          def_is = is.0.def_is ∙ same.0.def ∙ was.0.def_is;
+          opening = λ org h. subst (λ s. Shows (trace_of old d) (λ c. ImageStands d org h c → StandsOpened d org h s)) opening
+              (was.0.found.stands org h);
+        },
+        opened_tags ds cs es ts was.1 same.1 is.1,
+      )
+
+-- ---- all is acknowledged
+
+-- no more is acknowledged than was taken
+acked_within : (show : List Point → Shown) (step : Bool) (o : TagOpening) (w : Walk) (es : List Entry)
+    → w.acked ≤ o.summary.taken + length w.points → FitAll show step o w es
+    → (walked w es).acked ≤ o.summary.taken + length (walked w es).points
+acked_within show step o w [] within fits = within
+acked_within show step o w (Take collector row p h n ∷ es) within fits =
+    acked_within show step o (after_entry w (Take collector row p h n)) es (omega (arith, within, length_push w.points p)) fits.1
+acked_within show step o w (Ask reader row q a ∷ es) within fits = acked_within show step o w es within fits.1
+acked_within show step o w (Pull group first upto ∷ es) within fits = acked_within show step o w es within fits.1
+acked_within show step o w (Commit moment acked ∷ es) within fits =
+    acked_within show step o (after_entry w (Commit moment acked)) es fits.0.within fits.1
+
+all_acked : (def : TagDef) (o : TagOpening) (tape : List Entry) (s : State) (acked : ℕ) → IsReplayed def o tape s acked
+    → s.summary.taken ≤ acked → acked ≡ s.summary.taken
+all_acked def o tape s acked is full = omega (
+  arith,
+  is.acked_are,
+  full,
+  ap (λ (x : State). x.summary.taken) is.stands,
+  counted def.step (opened o) def.tuning (taken tape) is.tuning,
+  ap length (points-end o tape),
+  acked_within (replayed def.step o) def.step o (start o) tape (omega arith) is.entries,
+)
+
+-- ---- tapes
+
+module _ {C T E A : Type 0} (tape_of : C → List E) (told_of : T → List E) (work : E → Option ShownBy) (item_of : ℕ → ℕ → A → Option Item)
+    (files : List (List A)) where
+  -- what the tapes of cells or books show, those of their histories show
+  whole_tapes : (cs : List C) (ts : List T) → length ts ≡ length cs
+      → ((i : ℕ) (c : C) (t : T) → i < length ts → told_of (get_or ts i t) ≡ tape_of (get_or cs i c))
+      → AreTapesWhole tape_of work item_of files cs → AreTapesWhole told_of work item_of files ts
+  whole_tapes cs ts many same whole = record {
+    each = λ unit worker t below.
+        let there : unit < length cs = omega (arith, many, below) in
+        let c = element cs unit there in
+        subst (λ l. shown_by work worker l ≡ file_due item_of files worker unit) (sym (same unit c t below)) (whole.each unit worker c there);
+  }
+
+-- the records of a cell whose history has all acknowledged are such as no crash takes away
+durable_all : {D : Type 0} (trace : Option Trace) (ticks faults : ℕ) (c : Cell D) (t : TagHistory) → IsHistoryOf trace ticks faults c t
+    → waits c ≡ 0 → durable_records c ≡ t.recs.items
+durable_all trace ticks faults c t is none =
+    let s : State = record { records = t.recs.items; summary = t.summary } in
+    (λ i. durable_in ((sym is.def_is) i) ((sym is.opening_is) i) ((sym is.tape_is) i))
+    ∙ all_durable t.def t.opening t.tape.items s t.acked is.history.replayed
+    (omega (arith, none, is.acked_is, ap (λ (x : Summary). x.taken) is.summary_is))
+
+-- ---- turns of refreshers
+
+-- what is added up of what is made of elements
+fold_map : {X Y : Type 0} (f : X → Y) (count : Y → ℕ) (n : ℕ) (xs : List X)
+    → fold (λ a x. a + count (f x)) n xs ≡ fold (λ a y. a + count y) n (map f xs)
+fold_map f count n [] = refl
+fold_map f count n (x ∷ xs) = fold_map f count (n + count (f x)) xs
+
+turns_same : (group : ℕ) (xs : List Refresh) (ys : List Refresher) → map turn_of xs ≡ map planned_turn ys
+    → turns_for group xs ≡ turns_in group ys
+turns_same group xs ys same =
+    let count : ℕ × ℕ → ℕ = λ p. if nat_eq p.0 group then p.1 else 0 in
+    fold_map turn_of count 0 xs ∙ ap (fold (λ a y. a + count y) 0) same ∙ sym (fold_map planned_turn count 0 ys)
+
+-- ---- groups
+
+-- the definition text of a group is not empty
+some_text : (front : List ℕ) (byte : ℕ) (back : List ℕ) → front ++ byte ∷ back ≢ []
+some_text [] byte back none = absurd (cc none)
+some_text (x ∷ front) byte back none = absurd (cc none)
+
+module _ {D : Type 0} (trace : D → Option Trace) (ticks faults : D → ℕ) (base : Base) (old new : Devices) where
+  pub sound_groups : (cells : List (Cell D)) (books : List (Book D)) (s : Session) → IsOver trace ticks faults base old new cells books s
+      → AreGroupsSound base.groups.items new s.groups.items
+  sound_groups cells books s is =
+      let many : length s.groups.items ≡ length books = is.groups.as_many in
+      record {
+        as_many = many ∙ is.as_many_groups;
+        kept = λ i g below.
+            let there : i < length books = omega (arith, many, below) in
+            (is.groups.each i (element books i there) g there).history.legal;
+        safe = λ i d g below some. (is.group_devices.each i d g below some).2.safe;
+      }
+
+  -- each was opened as what its device stood for
+  pub opened_groups : (first last_cells : List (Cell D)) (opened last : List (Book D)) (s : Session)
+      → AreBooksOpened trace ticks faults base.groups.items (records_in first) old opened → AllZip IsContinuedGroup opened last
+      → IsOver trace ticks faults base old new last_cells last s → (i : ℕ) (d : GroupDef) (g : GroupHistory) → i < length s.groups.items
+      → IsGroupOpened i (get_or base.groups.items i d) (trace_at old (get_or base.groups.items i d)) (get_or s.groups.items i g)
+  opened_groups first last_cells opened last s was same is i d g below =
+      let def = get_or base.groups.items i d in
+      let there : i < length last = omega (arith, is.groups.as_many, below) in
+      let there_first : i < length opened = omega (arith, there, zip_length IsContinuedGroup opened last same) in
+      let b = element last i there in
+      let a = element opened i there_first in
+      let history = is.groups.each i b g there in
+      let continued = zip_at IsContinuedGroup opened last i a b same there in
+      let book = was.each i d a there_first in
+      let versions : (get_or s.groups.items i g).opening.versions.items ≡ (get_or opened i a).opening.versions.items =
+      ap (λ (o : GroupOpening). o.versions.items) history.opening ∙ continued.versions in
+      let rows : lists_of (get_or s.groups.items i g).opening.rows.items ≡ lists_of (get_or opened i a).opening.rows.items =
+      ap (λ (o : GroupOpening). lists_of o.rows.items) history.opening ∙ continued.rows in
+      record {
+        number = history.group ∙ continued.group ∙ book.group;
+        def_is = history.def ∙ continued.def ∙ book.def;
+        text = history.text ∙ continued.text ∙ book.text;
+        opening = subst (λ v. Shows (trace_at old def) (StandsForGroup (text_of def) (parts_of def) v
+            (lists_of (get_or s.groups.items i g).opening.rows.items))) (sym versions)
+            (subst (λ r. Shows (trace_at old def) (StandsForGroup (text_of def) (parts_of def) (get_or opened i a).opening.versions.items r))
+            (sym rows) book.opening.stood);
+      }
+
+  -- ---- a session that is done
+
+  module _ (g : Given) (cells : List (Cell D)) (books : List (Book D)) (s : Session) (is : IsOver trace ticks faults base old new cells books s) where
+    tags_many : length s.tags.items ≡ length cells
+    tags_many = zip_length _ cells s.tags.items is.tags
+
+    -- the history of the cell at a place
+    history_at : (i : ℕ) (c : Cell D) (t : TagHistory) → i < length s.tags.items
+        → IsHistoryOf (trace (get_or cells i c).journal.dev) (ticks (get_or cells i c).journal.dev) (faults (get_or cells i c).journal.dev)
+        (get_or cells i c) (get_or s.tags.items i t)
+    history_at i c t below = zip_at (λ (x : Cell D) h. IsHistoryOf (trace x.journal.dev) (ticks x.journal.dev) (faults x.journal.dev) x h)
+        cells s.tags.items i c t is.tags below
+
+    mixed : (plan : Plan) (rows : List (List RawRow)) (queries : List (List Query)) → IsGoodBase base → IsGivenOf base plan rows queries g
+        → IsMade g cells books → ArePulled (lists_of g.inputs.items) cells books → IsMixed base rows queries s
+    mixed plan rows queries good given made pulled = record {
+      takes = subst (λ files. AreTapesWhole entries take_of take_item files s.tags.items) given.collectors
+          (whole_tapes (λ (c : Cell D). c.tape) entries take_of take_item (lists_of g.work.collectors.items) cells s.tags.items tags_many
+          (λ i c t below. (history_at i c t below).tape_is) made.takes);
+      asks = subst (λ files. AreTapesWhole entries ask_of ask_item files s.tags.items) given.readers
+          (whole_tapes (λ (c : Cell D). c.tape) entries ask_of ask_item (lists_of g.work.readers.items) cells s.tags.items tags_many
+          (λ i c t below. (history_at i c t below).tape_is) made.asks);
+      row_asks = subst (λ files. AreTapesWhole turns row_ask_of row_item files s.groups.items) given.readers
+          (whole_tapes (λ (b : Book D). b.tape) turns row_ask_of row_item (lists_of g.work.readers.items) books s.groups.items
+          is.groups.as_many (λ i b h below. (is.groups.each i b h (omega (arith, is.groups.as_many, below))).tape) made.row_asks);
+      pulls = λ group input d h t below within.
+          let there : group < length books = omega (arith, is.groups.as_many, below) in
+          let of_base : group < length base.groups.items = omega (arith, there, is.as_many_groups) in
+          let def = get_or base.groups.items group d in
+          let tags : get_or (lists_of g.inputs.items) group [] ≡ def.inputs.items =
+          ap (λ l. get_or l group []) given.inputs ∙ get_or-map (λ (x : GroupDef). x.inputs.items) base.groups.items group d [] of_base in
+          let tag = get_or def.inputs.items input 0 in
+          let known : tag < length s.tags.items = omega (
+            arith,
+            tags_many,
+            is.as_many_tags,
+            (good.sound group d of_base).inputs_are_tags input 0 within,
+          ) in
+          let cell = element cells tag (omega (arith, tags_many, known)) in
+          let book = element books group there in
+          let ends = ((pulled.each group book there).each input cell (subst (λ l. input < length l) (sym tags) within)).ends in
+          ap (pulls_of group) ((history_at tag cell t known).tape_is)
+          ∙ subst (λ l. pulls_of group (get_or cells (get_or l input 0) cell).tape ≡ reached input (get_or books group book).tape) tags ends
+          ∙ ap (reached input) (sym (is.groups.each group book h there).tape);
+      acknowledged = λ i t below.
+          let there : i < length cells = omega (arith, tags_many, below) in
+          let c = element cells i there in
+          let of = history_at i c t below in
+          let h = get_or s.tags.items i t in
+          all_acked h.def h.opening h.tape.items (record { records = h.recs.items; summary = h.summary }) h.acked of.history.replayed
+          (omega (arith, made.none_waits i c there, of.acked_is, ap (λ (x : Summary). x.taken) of.summary_is));
+    }
+
+    -- the records of a tag are those of its cell, and no crash takes one away
+    records_at : (tag : ℕ) (c : Cell D) → tag < length s.tags.items → All (λ x. waits x ≡ 0) cells
+        → (records_of s tag ≡ (get_or cells tag c).state.records) × (get_or (durable_lists cells) tag [] ≡ (get_or cells tag c).state.records)
+    records_at tag c below none =
+        let t = element s.tags.items tag below in
+        let there : tag < length cells = omega (arith, tags_many, below) in
+        let of = history_at tag c t below in (
+          get_or-map (λ (x : TagHistory). x.recs.items) s.tags.items tag t [] below ∙ of.records_are,
+          get_or-map durable_records cells tag c [] there
+              ∙ durable_all _ _ _ (get_or cells tag c) (get_or s.tags.items tag t) of (none tag c there) ∙ of.records_are,
+        )
+
+    -- what a group has of an input are the records of its tag
+    copy_at : (i input : ℕ) (b : Book D) (tags : List ℕ) → i < length books → input < length tags
+        → get_or (lists_of g.inputs.items) i [] ≡ tags → All (λ tag. tag < length s.tags.items) tags → All (λ x. waits x ≡ 0) cells
+        → ArePulled (lists_of g.inputs.items) cells books → versions_of (get_or books i b) ≡ durable_numbers (durable_lists cells) tags
+        → get_or (get_or books i b).sheet.copies input [] ≡ records_of s (get_or tags input 0)
+    copy_at i input b tags there within same known none pulled versions =
+        let tag = get_or tags input 0 in
+        let book = get_or books i b in
+        let below : tag < length s.tags.items = known input 0 within in
+        let cell = element cells tag (omega (arith, tags_many, below)) in
+        let at = records_at tag cell below none in
+        let copies : length book.sheet.copies ≡ length tags = sym (length-map book.sheet.copies length) ∙ ap length versions
+        ∙ length-map tags (λ tag. length (get_or (durable_lists cells) tag [])) in
+        let long : length (get_or book.sheet.copies input []) ≡ length (get_or cells tag cell).state.records =
+        sym (get_or-map length book.sheet.copies input [] 0 (omega (arith, copies, within))) ∙ ap (λ l. get_or l input 0) versions
+        ∙ get_or-map (λ tag. length (get_or (durable_lists cells) tag [])) tags input 0 0 within ∙ ap length at.1 in
+        let copy = ((pulled.each i b there).each input cell (subst (λ l. input < length l) (sym same) within)).copy in
+        subst (λ l. get_or book.sheet.copies input []
+        ≡ take (length (get_or book.sheet.copies input [])) (get_or cells (get_or l input 0) cell).state.records) same copy
+        ∙ take_all (length (get_or book.sheet.copies input [])) (get_or cells tag cell).state.records (omega (arith, long))
+        ∙ sym at.0
+
+    refreshed : (plan : Plan) (rows : List (List RawRow)) (queries : List (List Query)) → IsGoodBase base
+        → IsGivenOf base plan rows queries g → IsMade g cells books → ArePulled (lists_of g.inputs.items) cells books
+        → AreOpened base old s → (i : ℕ) (d : GroupDef) (h : GroupHistory) → i < length s.groups.items
+        → IsRefreshed (get_or base.groups.items i d) (turns_in i plan.refreshers.items) s (get_or s.groups.items i h)
+    refreshed plan rows queries good given made pulled was i d h below =
+        let there : i < length books = omega (arith, is.groups.as_many, below) in
+        let of_base : i < length base.groups.items = omega (arith, there, is.as_many_groups) in
+        let def = get_or base.groups.items i d in
+        let b = element books i there in
+        let book = get_or books i b in
+        let of = is.groups.each i b h there in
+        let tags : get_or (lists_of g.inputs.items) i [] ≡ def.inputs.items =
+        ap (λ l. get_or l i []) given.inputs ∙ get_or-map (λ (x : GroupDef). x.inputs.items) base.groups.items i d [] of_base in
+        let known : All (λ tag. tag < length s.tags.items) def.inputs.items =
+        λ input e within. omega (arith, tags_many, is.as_many_tags, (good.sound i d of_base).inputs_are_tags input e within) in
+        let to = made.refreshed.each i b there in
+        let versions : versions_of book ≡ durable_numbers (durable_lists cells) def.inputs.items =
+        to.versions ∙ ap (durable_numbers (durable_lists cells)) tags in
+        let copies : length book.sheet.copies ≡ length def.inputs.items = sym (length-map book.sheet.copies length) ∙ ap length versions
+        ∙ length-map def.inputs.items (λ tag. length (get_or (durable_lists cells) tag [])) in
+        record {
+          refreshed = ap (λ l. length (refreshes l)) of.tape ∙ to.refreshed
+              ∙ ap (λ n. n + 1) (given.sized.turns i of_base ∙ turns_same i g.work.refreshers.items plan.refreshers.items given.refreshers);
+          copies = of.copies ∙ ext_get_or [] book.sheet.copies (map (records_of s) def.inputs.items)
+              (copies ∙ sym (length-map def.inputs.items (records_of s)))
+              (λ input within.
+              let inside : input < length def.inputs.items = omega (arith, copies, within) in
+              copy_at i input b def.inputs.items there inside tags known made.none_waits pulled versions
+              ∙ sym (get_or-map (records_of s) def.inputs.items input 0 [] inside));
+          saved = subst EndsInSave (sym of.tape) (to.saved (of.there (λ none.
+              some_text def.name 44 _ (sym (was.groups i d h below).text ∙ of.text ∙ none))));
+        }
+
+    done : (plan : Plan) (rows : List (List RawRow)) (queries : List (List Query)) (text : List ℕ) → IsGoodBase base
+        → IsGivenOf base plan rows queries g → AreOpened base old s → IsDone base g cells books s text
+        → IsDoneSo base plan rows queries s text
+    done plan rows queries text good given was it = record {
+      mixed = mixed plan rows queries good given it.made it.pulled;
+      refreshed = refreshed plan rows queries good given it.made it.pulled was;
+      same = it.same ∙ (λ k. report base ((sym (length-map g.work.collectors.items _) ∙ ap length given.collectors) k) (given.readers k) s);
+    }
+
+-- ---- all of it
+
+-- what is done was opened as it was kept
+if_done : {P : Type 0} {X Y : String Global → Type 0} (answer : Result (String Global) Status) → ((IsOfOpening answer → ⊥) → P)
+    → (P → (text : String Global) → X text → Y text) → IfOk answer X → IfOk answer Y
+if_done (Ok text) opened follows x = follows (opened (λ none. none)) text x
+if_done (Err why) opened follows x = tt
+
+pub promised : {D : Type 0} (trace : D → Option Trace) (ticks faults : D → ℕ) (name plan_name : List ℕ) (told : ToldFiles)
+    (old new : Devices) (before now stops_before stops_now : ℕ) (answer : Result (String Global) Status) (s : Session)
+    → IsSession trace ticks faults name plan_name told old new before now stops_before stops_now answer s
+    → IsPromised name plan_name told old new before now answer s
+promised trace ticks faults name plan_name told old new before now stops_before stops_now answer s is =
+    let run = is.run in
+    let opened_as : (IsOfOpening answer → ⊥) → AreOpened is.base old s = λ none. record {
+      tags = opened_tags trace ticks faults old is.base.tags.items run.opened run.cells s.tags.items run.opening.tags (run.same_tags none)
+          run.over.tags;
+      groups = opened_groups trace ticks faults is.base old new run.opened run.cells run.opened_books run.books s run.opening.groups
+          (run.same_groups none) run.over;
+    } in
+    record {
+      base = is.base;
+      plan = is.plan;
+      rows = is.rows;
+      queries = is.queries;
+      planned = is.planned;
+      tags = sound_tags new is.base.tags.items s.tags.items run.over.devices;
+      groups = sound_groups trace ticks faults is.base old new run.cells run.books s run.over;
+      opened_as = opened_as;
+      done = if_done answer opened_as
+          (λ was text. done trace ticks faults is.base old new is.given run.cells run.books s run.over is.plan is.rows is.queries
+          (string_bytes text) is.good is.work was) run.done;
+      counted = λ few.
+          let counts = run.counts few in (
+            counts.later,
+            faults_counted trace ticks faults is.base old new before now run.cells run.books s run.over counts is.given run.opened
+                run.opened_books answer run.undone,
+          );
+    }

@@ -1,0 +1,177 @@
+-- The promise of a session: what is so of each of its tags and groups, and of all of it once it is done.
+use Rattle.std.specs.Prelude.{◌≡◌, ◌≢◌, ℕ, ◌+◌, ◌^◌, ◌<◌, ◌≤◌, List, [], All, length, map, nat_eq, slice_get, slice_index, slice_index_or, Option, Some, Result, IfErr, IfOk, String, string_bytes, if◌then◌else◌}
+use Rattle.std.specs.List.{AllZip, sum_by}
+use Rattle.std.specs.declared.alloc.Global.{Global}
+use Rattle.trend_num.specs.declared.archive.Rec.{Rec}
+use Rattle.trend_num.specs.declared.tag_def.TagDef.{TagDef}
+use Rattle.trend_model.specs.Bound.{IsBounded}
+use Rattle.trend_model.specs.History.{Event, Origin, Raw}
+use Rattle.trend_model.specs.State.{Stands, followed}
+use Rattle.disk_model.specs.Calls.{Shows}
+use Rattle.disk_model.specs.Moments.{LeftSince}
+use Rattle.disk_model.specs.Traces.{Trace}
+use Rattle.crash_recovery.specs.TagImages.{ImageStands, StandsOpened}
+use Rattle.tag_cell.specs.declared.entry.Entry.{Entry}
+use Rattle.tag_cell.specs.declared.history.TagHistory.{TagHistory}
+use Rattle.tag_cell.specs.Crashes.{IsSafe}
+use Rattle.tag_cell.specs.Replays.{IsLegal}
+use Rattle.tag_cell.specs.Tapes.{opened, taken}
+use Rattle.sheet_law.specs.declared.grid.Grid.{Grid}
+use Rattle.calc_refresh.specs.Lists.{lists_of}
+use Rattle.calc_refresh.specs.Sheet.{grid_of}
+use Rattle.group_book.specs.declared.history.GroupHistory.{GroupHistory}
+use Rattle.group_book.specs.declared.turn.Turn.{Turn}
+use Rattle.group_book.specs.Crashes.{IsSafe as IsGroupSafe}
+use Rattle.group_book.specs.Histories.{IsLegal as IsGroupLegal}
+use Rattle.group_book.specs.Openings.{StandsForGroup}
+use Rattle.book_store.specs.Groups.{Devices, parts_of, text_of, trace_at}
+use Rattle.tag_base.specs.declared.definition.Base.{Base}
+use Rattle.tag_base.specs.declared.definition.GroupDef.{GroupDef}
+use Rattle.tag_base.specs.declared.schedule.Plan.{Plan}
+use Rattle.tag_base.specs.declared.schedule.Refresher.{Refresher}
+use Rattle.tag_store.specs.Tags.{trace_of}
+use Rattle.value_rows.specs.declared.asked.Query.{Query}
+use Rattle.value_rows.specs.declared.raw.RawRow.{RawRow}
+use Rattle.plant_status.specs.declared.status.Status.{Status}
+use Rattle.plant_status.specs.declared.status.Status.TheVariants.{DeviceFault}
+use Rattle.plant_status.specs.declared.unit.Unit.{Unit as Device}
+use Rattle.cell_store.specs.Closings.{HasRisen}
+use Rattle.plant_files.specs.RowFiles.{ToldFiles}
+use Rattle.tape_audit.specs.Agendas.{ask_item, row_item, take_item}
+use Rattle.tape_audit.specs.Tapes.{ask_of, take_of}
+use Rattle.plant_session.specs.Workers.{AreTapesWhole}
+use Rattle.group_session.specs.Refreshing.{EndsInSave}
+use Rattle.group_session.specs.Durable.{HadForGood}
+use Rattle.group_session.specs.Tapes.{pulled, reached, refreshes, row_ask_of}
+use Rattle.session_files.specs.Plans.{IsPlanned}
+use Rattle.session_report.specs.declared.session.Session.{Session}
+use Rattle.session_report.specs.Report.{report}
+use Rattle.run_command.specs.Refusals.{IsOfOpening}
+
+-- ---- a tag
+
+-- For a history of a tag of this origin: each entry of the tape says what the archive of that history, followed by the values taken
+-- before it, gives; and what the archive keeps of all of them is near each of them.
+pub record IsKeptFor (org : Origin) (h : List Event) (t : TagHistory) : Type 0 where
+  pub legal : IsLegal org h t.def t.opening t.tape.items (record { records = t.recs.items; summary = t.summary }) t.acked
+  pub bounded : IsBounded org (followed h (map Raw (taken t.tape.items)))
+
+-- So it is for every history for which the tag's opening stands. A crash at any moment since the opening leaves of the tag's device,
+-- whose calls are these, the oldest values that were taken since, with all that are acknowledged. And wherever a pull of a group
+-- ended, the tag had as many records for good.
+pub record IsTagSound (t : TagHistory) (trace : Option Trace) : Type 0 where
+  pub kept : (org : Origin) (h : List Event) → org.step ≡ t.def.step → Stands org h (opened t.opening) → IsKeptFor org h t
+  pub safe : IsSafe t.def t.opening t.tape.items (LeftSince trace)
+  pub pulled : (group n upto : ℕ) → slice_get (pulled group t.tape.items) n ≡ Some upto → HadForGood t.def t.opening t.tape.items upto
+
+-- a tag is that of a base, and its opening stands for every history for which its device, whose calls were these, stood before, or
+-- for that and a retuning
+pub record IsTagOpened (def : TagDef) (before : Option Trace) (t : TagHistory) : Type 0 where
+  pub def_is : t.def ≡ def
+  pub opening : (org : Origin) (h : List Event) → Shows before (λ c. ImageStands def org h c → StandsOpened def org h (opened t.opening))
+
+-- ---- a group
+
+abbrev pub grid : GroupHistory → Grid
+grid g = grid_of g.def.start g.def.period
+
+-- the group's rows are those from scratch on the records of its tags, and so is each reply, at the version that it had then, where
+-- the opening's are
+abbrev pub IsGroupKept : GroupHistory → Type 0
+IsGroupKept g = IsGroupLegal g.def.calcs (grid g) g.opening g.tape.items g.versions.items (lists_of g.copies.items)
+    (lists_of g.rows.items)
+
+-- a crash at any moment since the opening leaves of the group's device, whose calls are these, one of the versions since the last
+-- save before it, and its rows from scratch
+abbrev pub IsGroupKeptBy : GroupHistory → Option Trace → Type 0
+IsGroupKeptBy g trace = IsGroupSafe g.text.items g.def.calcs (grid g) g.opening (lists_of g.copies.items) g.tape.items (LeftSince trace)
+
+-- so it is of each group. One with a definition text has a device, under its name
+pub record AreGroupsSound (groups : List GroupDef) (devices : Devices) (histories : List GroupHistory) : Type 0 where
+  pub as_many : length histories ≡ length groups
+  pub kept : (i : ℕ) (g : GroupHistory) → i < length histories → IsGroupKept (slice_index_or histories i g)
+  pub safe : (i : ℕ) (d : GroupDef) (g : GroupHistory) → i < length histories → (slice_index_or histories i g).text.items ≢ []
+      → IsGroupKeptBy (slice_index_or histories i g) (trace_at devices (slice_index_or groups i d))
+
+-- a group is that of a base at this place, and its opening is what its device, whose calls were these, stood for before
+pub record IsGroupOpened (i : ℕ) (d : GroupDef) (before : Option Trace) (g : GroupHistory) : Type 0 where
+  pub number : g.group ≡ i
+  pub def_is : g.def ≡ parts_of d
+  pub text : g.text.items ≡ text_of d
+  pub opening : Shows before (StandsForGroup (text_of d) (parts_of d) g.opening.versions.items (lists_of g.opening.rows.items))
+
+-- ---- what was opened
+
+-- each tag and each group was opened so
+pub record AreOpened (base : Base) (before : Devices) (s : Session) : Type 0 where
+  pub tags : AllZip (λ def t. IsTagOpened def (trace_of before def) t) base.tags.items s.tags.items
+  pub groups : (i : ℕ) (d : GroupDef) (g : GroupHistory) → i < length s.groups.items
+      → IsGroupOpened i (slice_index_or base.groups.items i d) (trace_at before (slice_index_or base.groups.items i d))
+      (slice_index_or s.groups.items i g)
+
+-- ---- a session that is done
+
+abbrev pub entries : TagHistory → List Entry
+entries t = t.tape.items
+
+abbrev pub turns : GroupHistory → List Turn
+turns g = g.tape.items
+
+-- Each tag has taken of each collector the rows of its file that are its own, in their order, each once, and no others. So it is of
+-- the readers' questions, at tags and at groups. Each pull of a group ended at the version of the refresh of its number. All that was
+-- taken is acknowledged.
+pub record IsMixed (base : Base) (rows : List (List RawRow)) (queries : List (List Query)) (s : Session) : Type 0 where
+  pub takes : AreTapesWhole entries take_of take_item rows s.tags.items
+  pub asks : AreTapesWhole entries ask_of ask_item queries s.tags.items
+  pub row_asks : AreTapesWhole turns row_ask_of row_item queries s.groups.items
+  pub pulls : (group input : ℕ) (d : GroupDef) (g : GroupHistory) (t : TagHistory) → group < length s.groups.items
+      → input < length (slice_index_or base.groups.items group d).inputs.items
+      → pulled group (slice_index_or s.tags.items (slice_index (slice_index_or base.groups.items group d).inputs.items input) t).tape.items
+      ≡ reached input (slice_index_or s.groups.items group g).tape.items
+  pub acknowledged : All (λ t. t.acked ≡ t.summary.taken) s.tags.items
+
+-- the records of the tag at a place
+abbrev pub records_of : Session → ℕ → List Rec
+records_of s tag = slice_index_or (map (λ t. t.recs.items) s.tags.items) tag []
+
+-- how many turns the refreshers of a group make together
+abbrev pub turns_in : ℕ → List Refresher → ℕ
+turns_in group refreshers = sum_by (λ r. if nat_eq r.group group then r.turns else 0) refreshers
+
+-- A group has taken the records of its inputs' tags into account, all of them; it was refreshed once more than its refreshers have
+-- turns; and it was saved then.
+pub record IsRefreshed (d : GroupDef) (turns : ℕ) (s : Session) (g : GroupHistory) : Type 0 where
+  pub refreshed : length (refreshes g.tape.items) ≡ turns + 1
+  pub copies : lists_of g.copies.items ≡ map (records_of s) d.inputs.items
+  pub saved : EndsInSave g.tape.items
+
+-- a session that is done: each row and question had its turn, each group is up to date, and this is its report
+pub record IsDoneSo (base : Base) (plan : Plan) (rows : List (List RawRow)) (queries : List (List Query)) (s : Session)
+    (text : List ℕ) : Type 0 where
+  pub mixed : IsMixed base rows queries s
+  pub refreshed : (i : ℕ) (d : GroupDef) (g : GroupHistory) → i < length s.groups.items
+      → IsRefreshed (slice_index_or base.groups.items i d) (turns_in i plan.refreshers.items) s (slice_index_or s.groups.items i g)
+  pub same : text ≡ report base (length rows) queries s
+
+-- ---- the promise
+
+-- where a fault of a device is told, the store's count of faults has risen, or stands at the end of its type
+abbrev pub IsFaultCounted : ℕ → ℕ → Status → Type 0
+IsFaultCounted before now why = (unit : Device) → why ≡ DeviceFault unit → HasRisen before now
+
+-- The session of the plan in a file over the base in another, whose devices told such calls before and tell such calls now, and what
+-- is answered of it. Whatever the answer is, each tag and each group is sound; unless an opening is told to be another, each was
+-- opened as what its device stood for; and where there is a text, the session is done. The store counted so many faults before, and
+-- so many now.
+pub record IsPromised (name plan_name : List ℕ) (told : ToldFiles) (before now : Devices) (faults_before faults_now : ℕ)
+    (answer : Result (String Global) Status) (s : Session) : Type 0 where
+  pub base : Base
+  pub plan : Plan
+  pub rows : List (List RawRow)
+  pub queries : List (List Query)
+  pub planned : IsPlanned name plan_name told base plan rows queries
+  pub tags : AllZip (λ (def : TagDef) t. IsTagSound t (trace_of now def)) base.tags.items s.tags.items
+  pub groups : AreGroupsSound base.groups.items now s.groups.items
+  pub opened_as : (IsOfOpening answer → ⊥) → AreOpened base before s
+  pub done : IfOk answer (λ text. IsDoneSo base plan rows queries s (string_bytes text))
+  pub counted : faults_before < 2 ^ 64 → (faults_before ≤ faults_now) × IfErr answer (IsFaultCounted faults_before faults_now)
