@@ -1,0 +1,71 @@
+#!/usr/bin/env python3
+"""after.py [PROGRAM]: how long a session of `run` goes on once its workers have ended, where nothing lacks.
+
+Four million rows over 1,024 tags by 16 collectors, each by 64 rows of a tag in turn, on devices in memory (/dev/shm), so that the
+disk does not count. strace tells when the last worker's thread ends and when the report is written: between them lie the
+comparison of all openings and tapes with the files, what lacks (nothing), the end of every device, and the text. It runs by hand,
+never as a test, with all processors free."""
+import os
+import re
+import statistics
+import subprocess
+import sys
+import tempfile
+
+HERE = os.path.dirname(os.path.abspath(__file__))
+ROOT = os.path.dirname(os.path.dirname(HERE))
+RUNS = 3
+TAGS, COLLECTORS, ROWS, BATCH = 1024, 16, 4_000_000, 64
+TAG = """[[tag]]
+name = "T%d"
+exc_dev = 1
+exc_max = 600_000
+comp_dev = 2
+comp_min = 0
+comp_max = 28_800_000
+"""
+
+
+def lay(folder):
+    """A plant whose collectors go round its tags, 64 rows each time."""
+    with open(os.path.join(folder, "base.toml"), "w") as out:
+        out.write("\n".join(TAG % n for n in range(TAGS)))
+    with open(os.path.join(folder, "plan.toml"), "w") as out:
+        out.write("\n".join('[[collector]]\nfile = "%d.csv"\n' % n for n in range(COLLECTORS)))
+    for n in range(COLLECTORS):
+        with open(os.path.join(folder, "%d.csv" % n), "w") as out:
+            for k in range(ROWS // COLLECTORS):
+                tag = (n + k // BATCH * COLLECTORS) % TAGS
+                out.write("T%d,%d,%d\n" % (tag, 1000 * k, k * k % 7))
+
+
+def after(program, folder):
+    """The seconds from the end of the last worker to the report."""
+    subprocess.run(["rm", "-rf", os.path.join(folder, "historian.d")], check=True)
+    trace = os.path.join(folder, "trace")
+    words = ["strace", "-f", "--seccomp-bpf", "-ttt", "-e", "trace=exit,write", "-o", trace, program, "run", "base.toml", "plan.toml"]
+    report = subprocess.run(words, cwd=folder, capture_output=True, check=True).stdout
+    taken = sum(int(n) for n in re.findall(rb" taken=(\d+) ", report))
+    if taken != ROWS:
+        sys.exit("%d values are told as taken, and not %d" % (taken, ROWS))
+    ended = None
+    with open(trace) as lines:
+        for line in lines:
+            _, moment, call = line.split(None, 2)
+            if call.startswith("exit("):
+                ended = float(moment)
+            elif call.startswith("write(1,"):
+                return float(moment) - ended
+    sys.exit("no report was written")
+
+
+def main():
+    program = os.path.abspath(sys.argv[1]) if len(sys.argv) > 1 else os.path.join(ROOT, "crates", "historian", "out", "historian")
+    with tempfile.TemporaryDirectory(dir="/dev/shm") as folder:
+        lay(folder)
+        took = statistics.median(after(program, folder) for _ in range(RUNS))
+        print("after the workers, %d rows, %d tags, %d collectors: %.2f s  aim at most 1.0 %s"
+              % (ROWS, TAGS, COLLECTORS, took, "met" if took <= 1 else "MISSED"))
+
+
+main()
