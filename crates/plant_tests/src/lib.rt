@@ -10,4 +10,6 @@ mod plants;
 #[cfg(test)]
 mod runs;
 #[cfg(test)]
+mod stops;
+#[cfg(test)]
 mod stored;

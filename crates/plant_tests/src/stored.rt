@@ -24,6 +24,9 @@ grid.toml: [[tag]]|name = \"T1\"|exc_dev = 0|exc_max = 1000000|comp_dev = 0|comp
 rows.toml: [[reader]]|file = \"rows.csv\"|
 none.toml: |
 broken.toml: ?
+cut.toml: [[tag]]|name = \"T
+torn.toml: [[collector]]|file = \"torn.csv\"|
+torn.csv: T1,0,5|T1,5
 plan.toml: [[reader]]|file = \"lines.csv\"|[[reader]]|file = \"steps.csv\"|
 late.toml: [[reader]]|file = \"lines.csv\"|[[reader]]|file = \"missing.csv\"|
 worse.toml: [[reader]]|file = \"worse.csv\"|[[reader]]|file = \"missing.csv\"|
@@ -78,6 +81,8 @@ other 99 check base.toml => 9 fault: other tag 1|
 damaged 99 check missing.toml => 5 fault: read base|
 damaged 99 check none.toml => 3 fault: text base rule 2 place 0 at 0|
 damaged 99 check broken.toml => 3 fault: text base rule 1 place 0 at 0|
+damaged 99 check cut.toml => 3 fault: text base rule 1 place 0 at 0|
+damaged 99 run base.toml torn.toml => 4 fault: row collector 1 2 fields|
 late 99 check grid.toml => 0 tag T1 taken=4 records=3 kept=2 late=1 held=4000,9|
 late 99 trend grid.toml rows.toml => 0 reply 1 1 20|reply 1 2 50|reply 1 3 20|reply 1 4 none|reply 1 5 snap 4 4000,9|
 new 99 trend grid.toml rows.toml => 0 reply 1 1 none|reply 1 2 none|reply 1 3 none|reply 1 4 none|reply 1 5 snap 0 none|

@@ -1,0 +1,241 @@
+// Sessions whose devices all stop at one call, and what a crash then leaves.
+ghost use Rattle.std.specs.Prelude.{length, Some, refl};
+
+use crate::plants::{NO_FAULT, text, told, words};
+use byte_io::{MemFiles, MemSink, MemSource};
+use disk_model::{Disk, Failed, MemDisk, MemStore, Pick, Store};
+use plant_run::{OpenPasses, Outcome, run};
+use std::alloc::Global;
+use std::sync::Wait;
+use std::sync::atomic::{AtomicU64, Ordering};
+use std::test::Fail;
+use std::thread::Threads;
+
+// Names and texts of files; a bar stands for a line feed. Two tags and a group of one of them, and two sessions.
+const FILES: &str = "\
+base.toml: [[tag]]|name = \"T1\"|exc_dev = 0|exc_max = 1000000|comp_dev = 0|comp_min = 0|comp_max = 1000000|\
+[[tag]]|name = \"S1\"|exc_dev = 0|exc_max = 1000000|comp_dev = 2|comp_min = 0|comp_max = 1000000|step = true|\
+[[group]]|name = \"g\"|tags = [\"T1\"]|start = 0|period = 1000|[[group.calc]]|name = \"m\"|formula = \"avg('T1')\"|
+first.toml: [[collector]]|file = \"first.csv\"|
+second.toml: [[collector]]|file = \"second.csv\"|
+asks.toml: [[reader]]|file = \"asks.csv\"|
+first.csv: T1,0,0|S1,0,10|T1,3000,0|S1,10,11|
+second.csv: T1,4000,9|S1,20,15|T1,1500,60|S1,30,14|
+asks.csv: row,g,m,0|row,g,m,1|row,g,m,2|snap,T1|snap,S1|";
+
+// How many values of a tag are there after the crash, and what is told of the tag and its group then.
+const LINES: &str = "\
+2 reply 1 1 none|reply 1 2 none|reply 1 3 none|reply 1 4 snap 2 0,0|
+4 reply 1 1 20|reply 1 2 50|reply 1 3 20|reply 1 4 snap 4 4000,9|";
+
+const STEPS: &str = "\
+2 reply 1 5 snap 2 10,11|
+4 reply 1 5 snap 4 30,14|";
+
+// More calls than the devices of the second session have.
+const MOST: u64 = 96;
+
+// A device in memory that stops once so many calls were made of all devices of its store.
+struct StopDisk<'a> {
+    disk: MemDisk,
+    calls: &'a AtomicU64,
+    most: u64,
+}
+
+impl<'a> StopDisk<'a> {
+    // Counts a call, and stops the device where there were enough.
+    fn count(&mut self)
+        ensures trace { self.new.disk.trace ≡ self.old.disk.trace }
+        ensures faults { self.new.disk.faults ≡ self.old.disk.faults }
+    {
+        if self.calls.fetch_add(1, Ordering::SeqCst) >= self.most {
+            self.disk.stop_after(0);
+        }
+    }
+}
+
+impl<'a> Disk for StopDisk<'a> {
+    ghost trace = { λ d. Some d.disk.trace };
+
+    ghost ticks = { λ d. length d.disk.trace.calls };
+
+    ghost fault_count = { λ d. d.disk.faults };
+
+    ghost told = { λ d. refl };
+
+    fn len(&mut self) -> Result<u64, Failed> {
+        self.count();
+        self.disk.len()
+    }
+
+    fn read(&mut self, at: u64, buf: &mut [u8]) -> Result<(), Failed> {
+        self.count();
+        self.disk.read(at, buf)
+    }
+
+    fn write_at(&mut self, at: u64, bytes: &[u8]) -> Result<(), Failed> {
+        self.count();
+        self.disk.write_at(at, bytes)
+    }
+
+    fn cut(&mut self, len: u64) -> Result<(), Failed> {
+        self.count();
+        self.disk.cut(len)
+    }
+
+    fn sync(&mut self) -> Result<(), Failed> {
+        self.count();
+        self.disk.sync()
+    }
+
+    fn clock(&self) -> u64 {
+        self.disk.clock()
+    }
+
+    fn faults(&self) -> u64 {
+        self.disk.faults()
+    }
+}
+
+// A store whose devices stop together.
+#[derive(Drop)]
+struct StopStore<'a> {
+    store: MemStore,
+    calls: &'a AtomicU64,
+    most: u64,
+}
+
+impl<'a> Store for StopStore<'a> {
+    ghost use Rattle.disk_model.specs.Stores.{trace_at, is_among};
+
+    type Dev = StopDisk<'a>;
+
+    ghost device_at = { λ s name. Some (trace_at s.store.devices name) };
+
+    ghost has_place = { λ s name. is_among s.store.devices name };
+
+    ghost fault_count = { λ s. s.store.faults };
+
+    fn device(&mut self, name: &str) -> Result<StopDisk<'a>, Failed> {
+        let disk = self.store.device(name)?;
+        Ok(StopDisk {
+            disk,
+            calls: self.calls,
+            most: self.most,
+        })
+    }
+
+    fn give_back(&mut self, name: &str, dev: StopDisk<'a>) {
+        let StopDisk {
+            disk,
+            calls: _,
+            most: _,
+        } = dev;
+        self.store.give_back(name, disk);
+    }
+}
+
+// The files.
+fn files(alloc: Global) -> Result<MemFiles, Fail> {
+    let mut files = Vec::new(alloc);
+    for row in FILES.lines() {
+        let (name, field) = row.split_once(": ").ok_or("a file")?;
+        let text = text(alloc, field)?.into_bytes();
+        files.push((String::from_str(alloc, name)?, text))?;
+    }
+    Ok(MemFiles::new(files, Vec::new(alloc)))
+}
+
+// Runs a line of words over a store.
+fn ended<R: Threads + Wait + Sync, S: Store>(
+    rt: &R,
+    alloc: Global,
+    line: &str,
+    store: &mut S,
+) -> Result<Outcome, Fail> {
+    let words = words(alloc, line)?;
+    let mut input = MemSource::new(Vec::new(alloc), Vec::new(alloc));
+    let mut files = files(alloc)?;
+    let mut out = MemSink::new(alloc, Vec::new(alloc));
+    Ok(run(
+        rt,
+        alloc,
+        &words,
+        &mut input,
+        &mut files,
+        &mut out,
+        store,
+        &mut OpenPasses,
+    ))
+}
+
+// What a crash leaves of the devices of a store.
+fn crashed(alloc: Global, store: &mut MemStore, pick: Pick) -> Result<MemStore, Fail> {
+    let mut devices = Vec::new(alloc);
+    for name in "T1.tag S1.tag g.grp".split(' ') {
+        let dev = store.device(name).map_err(|_| "a device")?;
+        let left = dev.crash(pick).map_err(|_| "memory")?;
+        store.give_back(name, dev);
+        devices.push((String::from_str(alloc, name)?, left))?;
+    }
+    Ok(MemStore::new(devices))
+}
+
+// Whether one of the rows is told that has so many values at least.
+fn is_told(rows: &str, least: u64, printed: &str, alloc: Global) -> Result<bool, Fail> {
+    for row in rows.lines() {
+        let (count, told) = row.split_once(' ').ok_or("row")?;
+        let count = count.parse::<u64>().map_err(|_| "count")?;
+        if count >= least && printed.contains(text(alloc, told)?.as_str()) {
+            return Ok(true);
+        }
+    }
+    Ok(false)
+}
+
+// How many values of the tags are acknowledged; two are where no session was held.
+fn acknowledged(ended: &Outcome) -> (u64, u64) {
+    match &ended.session {
+        Some(session) if session.tags.len() == 2 => (session.tags[0].acked, session.tags[1].acked),
+        _ => (2, 2),
+    }
+}
+
+// The second session, whose devices stop after so many calls: whether no call was stopped. Whatever the crash leaves is opened again, and
+// tells a first part of the values with all that were acknowledged, and the group's rows from scratch.
+fn stopped_at<R: Threads + Wait + Sync>(rt: &R, alloc: Global, most: u64) -> Result<bool, Fail> {
+    let calls = AtomicU64::new(0);
+    let mut store = StopStore {
+        store: MemStore::new(Vec::new(alloc)),
+        calls: &calls,
+        most: u64::MAX,
+    };
+    ended(rt, alloc, "run base.toml first.toml", &mut store)?;
+    calls.store(0, Ordering::SeqCst);
+    store.most = most;
+    let outcome = ended(rt, alloc, "run base.toml second.toml", &mut store)?;
+    let (lines, steps) = acknowledged(&outcome);
+    for pick in [Pick::Old, Pick::New, Pick::Fill(0xa5), Pick::Fill(0)] {
+        let mut left = crashed(alloc, &mut store.store, pick)?;
+        let mut files = files(alloc)?;
+        let line = "historian trend base.toml asks.toml";
+        let told = told(rt, alloc, line, b"", &mut files, &mut left, NO_FAULT)?;
+        let printed = told.as_str();
+        if !is_told(LINES, lines, printed, alloc)? || !is_told(STEPS, steps, printed, alloc)? {
+            return Err("what is left is not told".into());
+        }
+    }
+    Ok(calls.load(Ordering::SeqCst) <= most)
+}
+
+#[test]
+fn devices_that_stop_together_keep_what_is_acknowledged(rt: HostRuntime) -> Result<(), Fail> {
+    let mut whole = 0;
+    for most in 0..MOST {
+        if stopped_at(&rt, rt.alloc(), most)? {
+            whole += 1;
+        }
+    }
+    assert!(rt; 1 <= whole && whole < MOST);
+    Ok(())
+}
