@@ -1,0 +1,50 @@
+// The frames of one list that are not in another.
+ghost use Rattle.std.specs.Prelude.{◌≡◌, ℕ, ◌+◌, ◌*◌, ◌^◌, ◌<◌, ◌≤◌, AllPairs, length, slice_index_or, vec_len, vec_capacity};
+ghost use Rattle.event_frames.specs.declared.frame.Frame.{Frame};
+ghost use Rattle.event_frames.specs.Near.{AddsMissing, edit_of};
+
+use crate::frame::{Edit, Frame};
+
+/// A frame that came, or went, as an edit.
+fn edit(came: bool, frame: Frame) -> Edit
+    ensures { result ≡ edit_of came frame }
+{
+    if came {
+        Edit::New(frame)
+    } else {
+        Edit::Gone(frame)
+    }
+}
+
+/// The first place from one on whose frame does not begin before a window.
+fn place_from(frames: &[Frame], place: usize, from: u64) -> usize
+    requires { place ≤ length frames.now }
+    ensures order { place ≤ result }
+    ensures within { result ≤ length frames.now }
+    ensures before { (i : ℕ) (d : Frame) → place ≤ i → i < result → (slice_index_or frames.now i d).from < from }
+    ensures behind { (d : Frame) → result < length frames.now → from ≤ (slice_index_or frames.now result d).from }
+{
+    for i in place..frames.len() {
+        if from <= frames[i].from {
+            return i;
+        }
+    }
+    frames.len()
+}
+
+/// Puts the frames that are not among others behind the edits, as ones that came or went.
+pub(crate) fn push_missing(frames: &[Frame], others: &[Frame], came: bool, edits: &mut Vec<Edit>)
+    requires frames { AllPairs (λ f g. f.from < g.from) frames.now }
+    requires others { AllPairs (λ f g. f.from < g.from) others.now }
+    requires room { vec_len edits.old + length frames.now ≤ vec_capacity edits.old }
+    ensures added { AddsMissing edits.old.items edits.new.items came frames.now others.now (length frames.now) }
+    ensures capacity { vec_capacity edits.new ≡ vec_capacity edits.old }
+{
+    let mut place = 0;
+    for frame in frames {
+        place = place_from(others, place, frame.from);
+        if place == others.len() || others[place] != *frame {
+            edits.push_reserved(edit(came, *frame));
+        }
+    }
+}

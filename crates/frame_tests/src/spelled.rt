@@ -1,0 +1,83 @@
+// Rows, changes and frames as text.
+ghost use Rattle.std.specs.Prelude.{◌≡◌, ℕ, ◌+◌, ◌-◌, ◌<◌, ◌≤◌, IsTrue, length, max, slice_index_or};
+ghost use Rattle.event_frames.specs.declared.frame.Change.{Change};
+ghost use Rattle.event_frames.specs.Row.{IsChangeList};
+
+use event_frames::{Bad, CalcValue, Change, Edit, Frame};
+use std::alloc::{AllocError, Global};
+use std::fmt::Write;
+
+/// The value that a word spells: a number, or a bad one.
+fn value(word: &str) -> CalcValue {
+    match word.parse() {
+        Ok(n) => CalcValue::Num(n),
+        Err(_) => CalcValue::Bad(Bad::NoData),
+    }
+}
+
+/// The row that a text spells.
+pub(crate) fn row(alloc: Global, text: &str) -> Result<Vec<CalcValue>, AllocError> {
+    let mut row = Vec::new(alloc);
+    for word in text.split_whitespace() {
+        row.push(value(word))?;
+    }
+    Ok(row)
+}
+
+/// The changes that a text spells, each as WINDOW:VALUE.
+pub(crate) fn changes(alloc: Global, text: &str) -> Result<Vec<Change>, AllocError> {
+    let mut changes = Vec::new(alloc);
+    for word in text.split_whitespace() {
+        let (window, spelled) = word.split_once(':').unwrap_or((word, ""));
+        changes.push(Change {
+            k: window.parse().unwrap_or(0),
+            value: value(spelled),
+        })?;
+    }
+    Ok(changes)
+}
+
+/// Writes a frame as its first and its last window, with a star where that is the last one there is.
+pub(crate) fn write_frame(told: &mut String, frame: Frame) -> Result<(), AllocError> {
+    let mark = if frame.last { "*" } else { "" };
+    write!(told, " {}-{}{mark}", frame.from, frame.upto)
+}
+
+/// Writes an edit: a frame behind a minus where it is gone, and behind a plus where it is new.
+pub(crate) fn write_edit(told: &mut String, edit: Edit) -> Result<(), AllocError> {
+    let (sign, frame) = match edit {
+        Edit::Gone(frame) => ("-", frame),
+        Edit::New(frame) => ("+", frame),
+    };
+    let mark = if frame.last { "*" } else { "" };
+    write!(told, " {sign}{}-{}{mark}", frame.from, frame.upto)
+}
+
+/// Whether the change at a place follows the one before it.
+fn follows(windows: u64, changes: &[Change], i: usize) -> bool
+    requires { i < length changes.now }
+    ensures first { IsTrue result → i ≡ 0 → (d : Change) → (slice_index_or changes.now i d).k ≤ windows }
+    ensures rising { IsTrue result → 0 < i
+        → (d : Change) → (slice_index_or changes.now (i - 1) d).k < (slice_index_or changes.now i d).k }
+    ensures gapless { IsTrue result → 0 < i
+        → (d : Change) → (slice_index_or changes.now i d).k ≤ max windows ((slice_index_or changes.now (i - 1) d).k + 1) }
+{
+    let window = changes[i].k;
+    if i == 0 {
+        return window <= windows;
+    }
+    let before = changes[i - 1].k;
+    before < window && (window <= windows || window - 1 == before)
+}
+
+/// Whether these are changes of a row of so many windows.
+pub(crate) fn are_changes(windows: u64, changes: &[Change]) -> bool
+    ensures { IsTrue result → IsChangeList windows changes.now }
+{
+    for i in 0..changes.len() {
+        if !follows(windows, changes, i) {
+            return false;
+        }
+    }
+    true
+}
