@@ -1,7 +1,7 @@
 -- The frames of one list that are not in another, and the edits of a change.
 use Rattle.std.proofs.Common.{◌≡◌, ℕ, ◌+◌, ◌-◌, ◌<◌, ◌≤◌, ◌⊎◌, inl, inr, Bool, true, false, List, [], ◌∷◌, ◌++◌, length, get_or, map, refl, sym, ap, ◌∙◌, subst, arith}
 use Rattle.std.specs.Prelude.{AllPairs, Contains}
-use Rattle.std.proofs.lemmas.Bool.{cases_lt, cases_eq, cases_order}
+use Rattle.std.proofs.lemmas.Bool.{cases_Bool, cases_lt, cases_order}
 use Rattle.std.proofs.lemmas.List.{append_assoc, append-nil, get_or_default, map-append, length-append, length-map, length_push}
 use Rattle.event_frames.specs.declared.frame.Frame.{Frame}
 use Rattle.event_frames.specs.declared.frame.Change.{Change}
@@ -162,3 +162,40 @@ pub record IsMissingSoFar (before now : List Edit) (came : Bool) (frames others 
   pub added : AddsMissing before now came frames others i
   pub within : place ≤ length others
   pub low : (j m : ℕ) (d : Frame) → j < place → i ≤ m → m < length frames → (get_or others j d).from < (get_or frames m d).from
+
+-- one frame more, that is told where it is not among the others
+pub missing_step : (before now new : List Edit) (came : Bool) (frames others : List Frame) (i place next : ℕ) (tells : Bool) (f : Frame)
+    → AllPairs (λ g h. g.from < h.from) frames → AllPairs (λ g h. g.from < h.from) others → i < length frames
+    → get_or frames i f ≡ f → IsMissingSoFar before now came frames others i place → next ≤ length others
+    → ((j : ℕ) (d : Frame) → place ≤ j → j < next → (get_or others j d).from < f.from)
+    → ((d : Frame) → next < length others → f.from ≤ (get_or others next d).from)
+    → (tells ≡ true → next < length others → get_or others next f ≡ f → ⊥)
+    → (tells ≡ false → (next < length others) × (get_or others next f ≡ f))
+    → (tells ≡ true → new ≡ now ++ edit_of came f ∷ []) → (tells ≡ false → new ≡ now)
+    → IsMissingSoFar before new came frames others (i + 1) next
+missing_step before now new came frames others i place next tells f rising others_rise inside here was within before_f behind_f missing there told same =
+    let low_f : (j : ℕ) (d : Frame) → j < next → (get_or others j d).from < f.from = λ j d less.
+    elim (cases_lt j place) [
+      | inl early ↦
+          let low = was.low j i d early (omega arith) inside in
+          let at : (get_or frames i d).from ≡ f.from =
+          ap (λ (g : Frame). g.from) (get_or_default frames i d f inside ∙ here) in omega (arith, low, at)
+      | inr late ↦ before_f j d late less
+    ] in
+    record {
+      added = elim (cases_Bool tells) [
+        | inl telling ↦ subst (λ (es : List Edit). AddsMissing before es came frames others (i + 1)) (sym (told telling))
+            (missing_more before now came frames others i f rising inside here
+            (not_among others f next others_rise (λ j less. low_f j f less) (λ reach. behind_f f reach) (missing telling)) was.added)
+        | inr silent ↦
+            let at = there silent in
+            subst (λ (es : List Edit). AddsMissing before es came frames others (i + 1)) (sym (same silent))
+            (missing_same before now came frames others i f rising inside here (next, at.0, at.1) was.added)
+      ];
+      within = within;
+      low = λ j m d early late reach.
+          let low = low_f j d early in
+          let at : (get_or frames i d).from ≡ f.from =
+          ap (λ (g : Frame). g.from) (get_or_default frames i d f inside ∙ here) in
+          let rise = rising i m d (omega arith) reach in omega (arith, low, at, rise);
+    }

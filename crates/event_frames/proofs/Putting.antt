@@ -45,7 +45,7 @@ pub put_at-within : {X : Type 0} (xs : List X) (k : ℕ) (x : X) → k < length 
 put_at-within xs k x there = cond-true (nat_lt k (length xs)) (set xs k x) (xs ++ x ∷ []) (lt-ltb k (length xs) there)
 
 -- a function of each element of it
-put_at-map : {X Y : Type 0} (f : X → Y) (xs : List X) (k : ℕ) (x : X) → put_at (map f xs) k (f x) ≡ map f (put_at xs k x)
+pub put_at-map : {X Y : Type 0} (f : X → Y) (xs : List X) (k : ℕ) (x : X) → put_at (map f xs) k (f x) ≡ map f (put_at xs k x)
 put_at-map {X} {Y} f xs k x =
     subst (λ n. cond (nat_lt k n) (set (map f xs) k (f x)) (map f xs ++ f x ∷ []) ≡ map f (put_at xs k x))
     (sym (length-map xs f))

@@ -1,5 +1,5 @@
 // The frames of one list that are not in another.
-ghost use Rattle.std.specs.Prelude.{◌≡◌, ℕ, ◌+◌, ◌*◌, ◌^◌, ◌<◌, ◌≤◌, AllPairs, length, slice_index_or, vec_len, vec_capacity};
+ghost use Rattle.std.specs.Prelude.{◌≡◌, ℕ, ◌+◌, ◌*◌, ◌^◌, ◌<◌, ◌≤◌, [], ◌∷◌, ◌++◌, true, false, AllPairs, length, slice_index_or, vec_len, vec_capacity};
 ghost use Rattle.event_frames.specs.declared.frame.Frame.{Frame};
 ghost use Rattle.event_frames.specs.Near.{AddsMissing, edit_of};
 
@@ -32,19 +32,40 @@ fn place_from(frames: &[Frame], place: usize, from: u64) -> usize
     frames.len()
 }
 
+/// Whether there is no such frame at a place.
+fn is_missing_at(frames: &[Frame], place: usize, frame: Frame) -> bool
+    requires { place ≤ length frames.now }
+    ensures missing { result ≡ true → place < length frames.now → slice_index_or frames.now place frame ≡ frame → ⊥ }
+    ensures there { result ≡ false → (place < length frames.now) × (slice_index_or frames.now place frame ≡ frame) }
+{
+    place == frames.len() || frames[place] != frame
+}
+
+/// Puts an edit behind others, if it is to be told.
+fn push_if(edits: &mut Vec<Edit>, tells: bool, edit: Edit)
+    requires { vec_len edits.old < vec_capacity edits.old }
+    ensures told { tells ≡ true → edits.new.items ≡ edits.old.items ++ edit ∷ [] }
+    ensures same { tells ≡ false → edits.new.items ≡ edits.old.items }
+    ensures more { vec_len edits.new ≤ vec_len edits.old + 1 }
+    ensures capacity { vec_capacity edits.new ≡ vec_capacity edits.old }
+{
+    if tells {
+        edits.push_reserved(edit);
+    }
+}
+
 /// Puts the frames that are not among others behind the edits, as ones that came or went.
 pub(crate) fn push_missing(frames: &[Frame], others: &[Frame], came: bool, edits: &mut Vec<Edit>)
     requires frames { AllPairs (λ f g. f.from < g.from) frames.now }
     requires others { AllPairs (λ f g. f.from < g.from) others.now }
     requires room { vec_len edits.old + length frames.now ≤ vec_capacity edits.old }
     ensures added { AddsMissing edits.old.items edits.new.items came frames.now others.now (length frames.now) }
+    ensures more { vec_len edits.new ≤ vec_len edits.old + length frames.now }
     ensures capacity { vec_capacity edits.new ≡ vec_capacity edits.old }
 {
     let mut place = 0;
     for frame in frames {
         place = place_from(others, place, frame.from);
-        if place == others.len() || others[place] != *frame {
-            edits.push_reserved(edit(came, *frame));
-        }
+        push_if(edits, is_missing_at(others, place, *frame), edit(came, *frame));
     }
 }

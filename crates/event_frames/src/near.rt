@@ -1,5 +1,5 @@
 // The frames near changed windows.
-ghost use Rattle.std.specs.Prelude.{◌≡◌, ℕ, ◌+◌, ◌*◌, ◌^◌, ◌<◌, ◌≤◌, [], ◌++◌, All, IfSome, OnOk, Some, length, vec_len, vec_capacity};
+ghost use Rattle.std.specs.Prelude.{◌≡◌, ℕ, ◌+◌, ◌*◌, ◌^◌, ◌<◌, ◌≤◌, [], ◌++◌, All, IfSome, OnOk, Some, false, length, vec_len, vec_capacity};
 ghost use Rattle.std.specs.Option.{option_to_list};
 ghost use Rattle.event_frames.specs.declared.frame.Frame.{Frame};
 ghost use Rattle.event_frames.specs.Frames.{AreFrames, IsFrame, IsListOf};
@@ -21,7 +21,8 @@ fn frame_between(levels: &Levels, least: u32, at: usize, behind: usize) -> Optio
     ensures at { IfSome result (λ f. f.from ≡ at) }
     ensures all { (f : Frame) → IsFrame levels.now.truths least f → f.from ≡ at → result ≡ Some f }
 {
-    if behind - at < least as usize {
+    let long = behind - at;
+    if long < least as usize {
         return None;
     }
     Some(Frame {

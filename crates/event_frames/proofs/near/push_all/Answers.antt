@@ -12,9 +12,9 @@ loop-at-preserved c =
     let truths = c.args.levels.now.truths in
     let items : c.push_some.new.frames.items ≡ c.loop-at.frames.items ++ option_to_list c.frame_between.result =
     c.push_some.ensures.items ∙ ap (λ (fs : List Frame). fs ++ option_to_list c.frame_between.result) c.in_ok-reserve.ensures.items in
-    subst (IsListed truths c.args.least (c.behind.result + 1)) (sym items)
-    (listed_more truths c.args.least c.loop-at.at c.behind.result c.loop-at.frames.items c.frame_between.result c.loop-at.invariant
-    c.behind.ensures c.frame_between.ensures.frame c.frame_between.ensures.at c.frame_between.ensures.all)
+    subst (IsListed truths c.args.least (c.behind-behind.result + 1)) (sym items)
+    (listed_more truths c.args.least c.loop-at.at c.behind-behind.result c.loop-at.frames.items c.frame_between.result c.loop-at.invariant
+    c.behind-behind.ensures c.frame_between.ensures.frame c.frame_between.ensures.at c.frame_between.ensures.all)
 
 pub returns : goal.returns
 returns c =

@@ -35,8 +35,8 @@ loop-change-preserved c =
     let here : i - 1 + 1 ≡ i = omega arith in
     let rise = c.requires.rising (i - 1) no_change (omega (arith, c.loop-change-test.true)) in
     subst (λ n. window_of cs (i - 1) < window_of cs n) here rise in
-    let items : c.push_some-2.new.frames.items ≡ (c.loop-change.frames.items ++ option_to_list o) ++ option_to_list p =
-    c.push_some-2.ensures.items ∙ ap (λ (fs : List Frame). fs ++ option_to_list p) c.push_some.ensures.items in
+    let items : c.push_some-in-loop-change.new.frames.items ≡ (c.loop-change.frames.items ++ option_to_list o) ++ option_to_list p =
+    c.push_some-in-loop-change.ensures.items ∙ ap (λ (fs : List Frame). fs ++ option_to_list p) c.push_some.ensures.items in
     let place : i + 1 - 1 ≡ i = omega arith in
     (record {
       list = subst (IsListBelow (IsNearFrame truths c.args.least cs (i + 1)) (k + 2)) (sym items)
@@ -44,5 +44,5 @@ loop-change-preserved c =
           before after was.0.list);
       none = λ e. absurd (omega arith);
       some = λ _. ap (λ n. window_of cs n + 2) place;
-    }, omega (arith, was.1, c.push_some.ensures.more, c.push_some-2.ensures.more),
-    c.push_some-2.ensures.capacity ∙ (c.push_some.ensures.capacity ∙ was.2))
+    }, omega (arith, was.1, c.push_some.ensures.more, c.push_some-in-loop-change.ensures.more),
+    c.push_some-in-loop-change.ensures.capacity ∙ (c.push_some.ensures.capacity ∙ was.2))

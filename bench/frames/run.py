@@ -1,0 +1,79 @@
+#!/usr/bin/env python3
+"""run.py: times single changes of a row's frames, beside going over the whole row after each.
+
+Lays main.rattle as a crate into a copy of the crates that it stands on, builds it (`rt run`), and runs it over rows of
+100,000 and of 1,000,000 windows, with runs that are short, long, and as long as the row. It tells medians of the time a change,
+what was aimed at (20 microseconds at 100,000 windows; at 1,000,000 at most 1.5 times that of 100,000), and how much faster than
+going over the row it is. It runs by hand, never as a test; with a word it builds in that folder, and keeps it; with a second
+word it takes that many windows in place of 100,000, and ten times as many in place of 1,000,000."""
+import os
+import shutil
+import statistics
+import subprocess
+import sys
+import tempfile
+
+HERE = os.path.dirname(os.path.abspath(__file__))
+ROOT = os.path.dirname(os.path.dirname(HERE))
+BELOW = ["trend_num", "event_frames"]
+RUNS = 5
+# One window in how many is not true: runs of a few windows, of thousands, and one run.
+GAPS = [4, 5_000, 1_000_000_000]
+MOST_NANOSECONDS = 20_000
+MOST_RATIO = 1.5
+
+
+def build(folder):
+    """The program, built in a repository of its own."""
+    crates = os.path.join(folder, "crates")
+    for name in BELOW:
+        shutil.copytree(os.path.join(ROOT, "crates", name), os.path.join(crates, name), dirs_exist_ok=True,
+                        ignore=shutil.ignore_patterns("out", "must-fail"))
+    source = os.path.join(crates, "frames_bench", "src")
+    os.makedirs(source, exist_ok=True)
+    shutil.copyfile(os.path.join(HERE, "main.rattle"), os.path.join(source, "main.rt"))
+    with open(os.path.join(ROOT, "crates.txt")) as listed:
+        lines = [line for line in listed if line.split(":")[0] in BELOW]
+    with open(os.path.join(folder, "crates.txt"), "w") as out:
+        out.write("".join(lines) + "frames_bench: anyhow trend_num event_frames\n")
+    subprocess.run(["rt", "run", "--jobs", "2"], cwd=os.path.dirname(source), stdin=subprocess.DEVNULL,
+                   stdout=subprocess.DEVNULL, stderr=subprocess.DEVNULL, check=True)
+    return os.path.join(crates, "frames_bench", "out", "frames_bench")
+
+
+def run(program, windows, gap, how):
+    """The nanoseconds of a change, and those of making the frames of the row."""
+    words = [program, str(windows), str(gap), how]
+    child = subprocess.run(words, stdin=subprocess.DEVNULL, capture_output=True, check=True)
+    making, work, count, _ = [int(word) for word in child.stdout.split()]
+    return work / count, making
+
+
+def measure(program, windows, gap):
+    """Medians: a change in both ways, and making."""
+    kept, anew = [], []
+    for _ in range(RUNS):
+        kept.append(run(program, windows, gap, "kept"))
+        anew.append(run(program, windows, gap, "anew"))
+    change = statistics.median(each for each, _ in kept)
+    making = statistics.median(making for _, making in kept)
+    whole = statistics.median(each for each, _ in anew)
+    print("%8d windows, 1 in %10d not true: %8.1f ns a change, %8.0f times as fast as going over the row; made in %.2f ms"
+          % (windows, gap, change, whole / change, making / 1e6), flush=True)
+    return change
+
+
+def main():
+    few = int(sys.argv[2]) if len(sys.argv) > 2 else 100_000
+    with tempfile.TemporaryDirectory() as scratch:
+        program = build(sys.argv[1] if len(sys.argv) > 1 else scratch)
+        print("load", os.getloadavg())
+        for gap in GAPS:
+            one = measure(program, few, gap)
+            ten = measure(program, 10 * few, gap)
+            print("  aims: %s at %d windows, %s at ten times as many (%.2f times)"
+                  % ("met" if one <= MOST_NANOSECONDS else "MISSED", few, "met" if ten <= MOST_RATIO * one else "MISSED", ten / one))
+        print("load", os.getloadavg())
+
+
+main()
