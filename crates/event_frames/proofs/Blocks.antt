@@ -4,7 +4,6 @@ use Rattle.std.proofs.Common.{inl, inr, refl, sym, ap, ◌∙◌, subst, arith}
 use Rattle.std.specs.Prelude.{IsTrue, ◌↔◌}
 use Rattle.std.proofs.lemmas.Bool.{cases_lt, cases_eq}
 use Rattle.std.proofs.lemmas.List.{get_or_past, get_or_default, get_or-set_same, get_or-set_other, length-set, length_push}
-use Rattle.event_frames.specs.Row.{is_true_in}
 use Rattle.event_frames.specs.Levels.{AreLevels, AreSet, IsBehind, IsGapFrom, IsOver, is_set}
 
 -- a gap is a flag that is there

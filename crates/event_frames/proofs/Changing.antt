@@ -1,8 +1,8 @@
 -- A row with changes, one change after another, and the frames that changes leave as they are.
-use Rattle.std.proofs.Common.{◌≡◌, ℕ, zero, suc, ◌+◌, ◌-◌, ◌<◌, ◌≤◌, ◌⊎◌, inl, inr, Bool, true, false, cond, List, [], ◌∷◌, ◌++◌, length, get_or, set, map, refl, sym, ap, ◌∙◌, subst, arith}
-use Rattle.std.specs.Prelude.{◌==◌, nat_lt, fold, take}
-use Rattle.std.proofs.lemmas.Bool.{cases_lt, cases_eq, cases_order, cond_both, cond-true, cond-false, lt-ltb, le-ltb, ltb-true, ltb-false, ne_eqb}
-use Rattle.std.proofs.lemmas.List.{get_or_past, get_or_append_left, get_or-append_right, get_or-set_other, length-set, length-map, length_push, map-append, length-take-le, take_more}
+use Rattle.std.proofs.Common.{◌≡◌, ℕ, zero, suc, ◌+◌, ◌-◌, ◌<◌, ◌≤◌, ◌⊎◌, inl, inr, Bool, false, List, [], ◌∷◌, ◌++◌, length, get_or, refl, sym, ap, ◌∙◌, subst, arith}
+use Rattle.std.specs.Prelude.{◌==◌, take}
+use Rattle.std.proofs.lemmas.Bool.{cases_lt, cases_order, ne_eqb}
+use Rattle.std.proofs.lemmas.List.{length-map, map-append, length-take-le, take_more}
 use Rattle.std.proofs.lemmas.List.Folds.{fold_along}
 use Rattle.std.proofs.lemmas.List.Sums.{fold_more}
 use Rattle.trend_num.specs.declared.value.CalcValue.{CalcValue}
@@ -45,11 +45,14 @@ changed_more old now cs i k v here within is =
             | inl before ↦
                 let changed = is.grown j past before in
                 (changed.0, (let early = changed.1 in omega (arith, early)), changed.2)
-            | inr behind ↦
-                (i, omega arith, here ∙ elim (cases_lt k (length now)) as (λ _. k ≡ j) [
-                  | inl inside ↦ let same = size.4 inside in absurd (omega (arith, same))
-                  | inr last ↦ let more = size.3 last in omega (arith, more)
-                ])
+            | inr behind ↦ (
+              i,
+              omega arith,
+              here ∙ elim (cases_lt k (length now)) as (λ _. k ≡ j) [
+                | inl inside ↦ let same = size.4 inside in absurd (omega (arith, same))
+                | inr last ↦ let more = size.3 last in omega (arith, more)
+              ],
+            )
           ];
     }
 

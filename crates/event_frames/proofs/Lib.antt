@@ -5,3 +5,4 @@ pub mod Nearing
 pub mod Putting
 pub mod Changing
 pub mod Differing
+pub mod Unique

@@ -1,9 +1,9 @@
 -- Lists of the frames of which something is so, one frame after another.
-use Rattle.std.proofs.Common.{◌≡◌, ℕ, ◌+◌, ◌<◌, ◌≤◌, ◌⊎◌, inl, inr, List, [], ◌∷◌, ◌++◌, length, get_or, Option, None, Some, refl, sym, ap, ◌∙◌, subst, arith}
-use Rattle.std.specs.Prelude.{All, AllPairs, Contains, IfSome}
+use Rattle.std.proofs.Common.{◌≡◌, ℕ, ◌<◌, ◌≤◌, ◌⊎◌, inl, inr, List, [], ◌∷◌, ◌++◌, length, get_or, Option, None, Some, refl, sym, ◌∙◌, subst, arith}
+use Rattle.std.specs.Prelude.{All, AllPairs, IfSome}
 use Rattle.std.specs.Option.{option_to_list}
-use Rattle.std.proofs.lemmas.Bool.{cases_lt, cases_order}
-use Rattle.std.proofs.lemmas.List.{append-nil, get_or_append_left, get_or_push, get_or_default, length_push}
+use Rattle.std.proofs.lemmas.Bool.{cases_order}
+use Rattle.std.proofs.lemmas.List.{append-nil, get_or_append_left, get_or_push, length_push}
 use Rattle.std.proofs.lemmas.List.Elements.{All-push}
 use Rattle.std.proofs.lemmas.List.Quantifiers.{all_pairs_push}
 use Rattle.event_frames.specs.declared.frame.Frame.{Frame}
@@ -57,10 +57,10 @@ pub list_more : (P Q : Frame → Type 0) (s t : ℕ) (fs : List Frame) (o : Opti
     → ((g : Frame) → Q g → P g ⊎ (o ≡ Some g)) → IsListBelow Q t (fs ++ option_to_list o)
 list_more P Q s t fs None is more new there back =
     subst (IsListBelow Q t) (sym (append-nil fs))
-    (list_keep P Q s t fs is more there (λ g so. elim (back g so) [ | inl old ↦ old | inr one ↦ absurd (cc) ]))
+    (list_keep P Q s t fs is more there (λ g so. elim (back g so) [ inl old ↦ old | inr one ↦ absurd (cc) ]))
 list_more P Q s t fs (Some f) is more new there back =
     list_push P Q s t fs f is more new.0 new.1 new.2 there
-    (λ g so. elim (back g so) as (λ _. P g ⊎ (g ≡ f)) [ | inl old ↦ inl old | inr one ↦ inr (cc) ])
+    (λ g so. elim (back g so) as (λ _. P g ⊎ (g ≡ f)) [ inl old ↦ inl old | inr one ↦ inr (cc) ])
 
 -- frames with one first window are one frame, in a list
 pub same_place : (fs : List Frame) → AllPairs (λ f g. f.from < g.from) fs → (i j : ℕ) (d : Frame) → i < length fs

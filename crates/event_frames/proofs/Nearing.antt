@@ -1,6 +1,6 @@
 -- The frames near the first changes, one change after another.
-use Rattle.std.proofs.Common.{◌≡◌, ℕ, ◌+◌, ◌-◌, ◌<◌, ◌≤◌, ◌⊎◌, inl, inr, Bool, true, false, List, [], ◌++◌, length, get_or, Option, None, Some, refl, sym, ap, ◌∙◌, subst, arith}
-use Rattle.std.specs.Prelude.{AllPairs, IfSome}
+use Rattle.std.proofs.Common.{◌≡◌, ℕ, ◌+◌, ◌-◌, ◌<◌, ◌≤◌, ◌⊎◌, inl, inr, Bool, true, false, List, [], ◌++◌, length, Option, None, Some, sym, ap, ◌∙◌, subst, arith}
+use Rattle.std.specs.Prelude.{IfSome}
 use Rattle.std.specs.Option.{option_to_list}
 use Rattle.std.proofs.lemmas.Bool.{cases_lt, cases_order}
 use Rattle.event_frames.specs.declared.frame.Frame.{Frame}
@@ -47,10 +47,18 @@ after_new : (truths : List Bool) (least : ℕ) (cs : List Change) (i k : ℕ) (o
 after_new truths least cs i k None here is = tt
 after_new truths least cs i k (Some f) here is =
     let at : f.from ≡ k + 1 = is.at in
-    let near : k ≤ f.upto + 1 = is.near in
-    (omega arith, omega arith, (is.frame, record {
-      place = i; early = omega arith;
-      near = subst (λ n. IsNear n f) (sym here) (record { begins = omega arith; ends = near }) }))
+    let near : k ≤ f.upto + 1 = is.near in (
+      omega arith,
+      omega arith,
+      (
+        is.frame,
+        record {
+          place = i;
+          early = omega arith;
+          near = subst (λ n. IsNear n f) (sym here) (record { begins = omega arith; ends = near });
+        },
+      ),
+    )
 
 -- a frame that begins before what was seen, and is near the next change, is near the one before
 near_before : (cs : List Change) (i k seen : ℕ) (f : Frame) → (i ≡ 0 → seen ≡ 0) → (0 < i → window_of cs (i - 1) + 2 ≡ seen)
@@ -61,7 +69,8 @@ near_before cs i k seen f none some rises near early =
           let is = some more in
           let less = rises more in
           record {
-            place = i - 1; early = omega arith;
+            place = i - 1;
+            early = omega arith;
             near = record { begins = omega (arith, is); ends = omega (arith, less, near.ends) };
           }
       | inr first ↦ let zero_seen = none (omega arith) in absurd (omega (arith, zero_seen))

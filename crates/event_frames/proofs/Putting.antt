@@ -1,5 +1,5 @@
 -- A list with something at a place of it, or behind it.
-use Rattle.std.proofs.Common.{◌≡◌, ℕ, ◌+◌, ◌<◌, ◌≤◌, inl, inr, Bool, true, false, cond, List, [], ◌∷◌, ◌++◌, length, get_or, set, map, refl, sym, ap, ◌∙◌, subst, arith}
+use Rattle.std.proofs.Common.{◌≡◌, ℕ, ◌+◌, ◌<◌, ◌≤◌, inl, inr, cond, List, [], ◌∷◌, ◌++◌, length, get_or, set, map, sym, ap, ◌∙◌, subst, arith}
 use Rattle.std.specs.Prelude.{nat_lt}
 use Rattle.std.proofs.lemmas.Bool.{cases_lt, cases_order, cond_both, cond-true, cond-false, lt-ltb, le-ltb, ltb-true, ltb-false}
 use Rattle.std.proofs.lemmas.List.{get_or_past, get_or_append_left, get_or-set_other, length-set, length-map, length_push, map-set, map-append, set_at}
@@ -8,7 +8,7 @@ use Rattle.event_frames.specs.Row.{put_at}
 -- how long a list is with something at a place of it, or behind it
 pub length-put_at : {X : Type 0} (xs : List X) (k : ℕ) (x : X) → k ≤ length xs
     → (length xs ≤ length (put_at xs k x)) × (length (put_at xs k x) ≤ length xs + 1) × (k < length (put_at xs k x))
-        × (length xs ≤ k → length (put_at xs k x) ≡ length xs + 1) × (k < length xs → length (put_at xs k x) ≡ length xs)
+    × (length xs ≤ k → length (put_at xs k x) ≡ length xs + 1) × (k < length xs → length (put_at xs k x) ≡ length xs)
 length-put_at {X} xs k x within =
     cond_both (nat_lt k (length xs)) (set xs k x) (xs ++ x ∷ [])
     (λ (ys : List X). (length xs ≤ length ys) × (length ys ≤ length xs + 1) × (k < length ys)
@@ -31,7 +31,7 @@ get_or-put_at {X} xs k j x d within other =
           let last : length (xs ++ x ∷ []) ≤ j =
           elim (cases_order j k) [
             | inl same ↦ absurd (other same)
-            | inr apart ↦ elim apart [ | inl less ↦ absurd (omega (arith, past)) | inr more ↦ omega (arith, length_push xs x) ]
+            | inr apart ↦ elim apart [ inl less ↦ absurd (omega (arith, past)) | inr more ↦ omega (arith, length_push xs x) ]
           ] in
           get_or_past (xs ++ x ∷ []) j d last ∙ sym (get_or_past xs j d behind)
     ])

@@ -1,5 +1,5 @@
 -- What a change of a row does to its frames.
-use Rattle.std.specs.Prelude.{◌≡◌, ℕ, Bool, true, false, List, ◌++◌, map}
+use Rattle.std.specs.Prelude.{◌≡◌, ℕ, Bool, List, ◌++◌, map}
 use Rattle.event_frames.specs.declared.frame.Frame.{Frame}
 use Rattle.event_frames.specs.declared.frame.Edit.{Edit}
 use Rattle.event_frames.specs.declared.frame.Edit.TheVariants.{Gone, New}

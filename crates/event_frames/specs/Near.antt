@@ -1,5 +1,5 @@
 -- Frames near changed windows, and lists of frames in turn.
-use Rattle.std.specs.Prelude.{◌≡◌, ℕ, pos, ◌+◌, ◌<◌, ◌≤◌, Bool, true, false, cond, List, ◌++◌, length, map, slice_index_or, Contains}
+use Rattle.std.specs.Prelude.{◌≡◌, ℕ, pos, ◌+◌, ◌<◌, ◌≤◌, Bool, false, cond, List, ◌++◌, length, map, slice_index_or, Contains}
 use Rattle.trend_num.specs.declared.value.CalcValue.TheVariants.{Num}
 use Rattle.event_frames.specs.declared.frame.Frame.{Frame}
 use Rattle.event_frames.specs.declared.frame.Change.{Change}

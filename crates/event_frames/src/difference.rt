@@ -66,6 +66,10 @@ pub(crate) fn push_missing(frames: &[Frame], others: &[Frame], came: bool, edits
     let mut place = 0;
     for frame in frames {
         place = place_from(others, place, frame.from);
-        push_if(edits, is_missing_at(others, place, *frame), edit(came, *frame));
+        push_if(
+            edits,
+            is_missing_at(others, place, *frame),
+            edit(came, *frame),
+        );
     }
 }

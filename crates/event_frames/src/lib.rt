@@ -11,9 +11,11 @@ mod difference;
 mod frame;
 mod frames;
 mod gap;
+mod law;
 mod levels;
 mod near;
 
 pub use frame::{Change, Edit, Frame};
 pub use frames::{Frames, new_frames};
+pub use law::{edits_are_one_list, frames_are_one_list};
 pub use trend_num::{Bad, CalcValue, WantOfMemory};

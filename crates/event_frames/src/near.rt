@@ -44,7 +44,11 @@ fn frame_at(levels: &Levels, least: u32, at: usize, k: u64) -> Option<Frame>
         return None;
     }
     let frame = frame_between(levels, least, at, levels.behind(at))?;
-    if k <= frame.upto + 1 { Some(frame) } else { None }
+    if k <= frame.upto + 1 {
+        Some(frame)
+    } else {
+        None
+    }
 }
 
 /// The frame that is near a window and begins there or before it, but not before another one.
@@ -96,7 +100,11 @@ pub(crate) fn push_near(levels: &Levels, least: u32, changes: &[Change], frames:
 }
 
 /// Lists all frames.
-pub(crate) fn push_all(levels: &Levels, least: u32, frames: &mut Vec<Frame>) -> Result<(), AllocError>
+pub(crate) fn push_all(
+    levels: &Levels,
+    least: u32,
+    frames: &mut Vec<Frame>,
+) -> Result<(), AllocError>
     requires some { 1 ≤ least }
     requires empty { frames.old.items ≡ [] }
     ensures { OnOk result (AreFrames levels.now.truths least frames.new.items) }

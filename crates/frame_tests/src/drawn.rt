@@ -1,12 +1,13 @@
 // Drawn changes, beside a list that plain code makes anew.
-use crate::spelled::are_changes;
+use crate::spelled::applied;
 use event_frames::{Bad, CalcValue, Change, Edit, Frame, new_frames};
 use std::alloc::{AllocError, Global};
 use std::test::Fail;
 
 // The next of a sequence that is fixed by its first number.
 fn drawn(seed: u64) -> u64 {
-    seed.wrapping_mul(6_364_136_223_846_793_005).wrapping_add(1_442_695_040_888_963_407)
+    seed.wrapping_mul(6_364_136_223_846_793_005)
+        .wrapping_add(1_442_695_040_888_963_407)
 }
 
 // One value in four is 0, and one in eight is bad.
@@ -24,7 +25,10 @@ fn plain(alloc: Global, row: &[CalcValue], least: u64) -> Result<Vec<Frame>, All
     let mut long = 0u64;
     for (k, value) in row.iter().enumerate() {
         let holds = !matches!(value, CalcValue::Num(0) | CalcValue::Bad(_));
-        let ends = holds && row.get(k.wrapping_add(1)).is_none_or(|v| matches!(v, CalcValue::Num(0) | CalcValue::Bad(_)));
+        let ends = holds
+            && row
+                .get(k.wrapping_add(1))
+                .is_none_or(|v| matches!(v, CalcValue::Num(0) | CalcValue::Bad(_)));
         long = if holds { long.wrapping_add(1) } else { 0 };
         if ends && least <= long {
             frames.push(Frame {
@@ -91,8 +95,7 @@ fn drawn_changes_are_as_a_list_made_anew(rt: HostRuntime) -> Result<(), Fail> {
         for _ in 0..300u32 {
             seed = drawn(seed);
             let changes = draw(rt.alloc(), seed, &mut row)?;
-            assert!(rt; are_changes(frames.windows(), changes.as_slice()));
-            let told = frames.apply(changes.as_slice())?;
+            let told = applied(&rt, &mut frames, changes.as_slice())?;
             let now = plain(rt.alloc(), row.as_slice(), u64::from(least))?;
             assert!(rt; told == edits(rt.alloc(), before.as_slice(), now.as_slice())?);
             assert!(rt; frames.list()? == now);

@@ -1,11 +1,12 @@
 // Rows, changes and frames as text.
-ghost use Rattle.std.specs.Prelude.{◌≡◌, ℕ, ◌+◌, ◌-◌, ◌<◌, ◌≤◌, IsTrue, length, max, slice_index_or};
+ghost use Rattle.std.specs.Prelude.{◌≡◌, ℕ, ◌+◌, ◌<◌, ◌≤◌, IsTrue, length, max, slice_index_or};
 ghost use Rattle.event_frames.specs.declared.frame.Change.{Change};
 ghost use Rattle.event_frames.specs.Row.{IsChangeList};
 
-use event_frames::{Bad, CalcValue, Change, Edit, Frame};
+use event_frames::{Bad, CalcValue, Change, Edit, Frame, Frames, WantOfMemory};
 use std::alloc::{AllocError, Global};
 use std::fmt::Write;
+use std::process::Abort;
 
 /// The value that a word spells: a number, or a bad one.
 fn value(word: &str) -> CalcValue {
@@ -57,10 +58,10 @@ pub(crate) fn write_edit(told: &mut String, edit: Edit) -> Result<(), AllocError
 fn follows(windows: u64, changes: &[Change], i: usize) -> bool
     requires { i < length changes.now }
     ensures first { IsTrue result → i ≡ 0 → (d : Change) → (slice_index_or changes.now i d).k ≤ windows }
-    ensures rising { IsTrue result → 0 < i
-        → (d : Change) → (slice_index_or changes.now (i - 1) d).k < (slice_index_or changes.now i d).k }
-    ensures gapless { IsTrue result → 0 < i
-        → (d : Change) → (slice_index_or changes.now i d).k ≤ max windows ((slice_index_or changes.now (i - 1) d).k + 1) }
+    ensures rising { IsTrue result → (j : ℕ) → j + 1 ≡ i
+        → (d : Change) → (slice_index_or changes.now j d).k < (slice_index_or changes.now i d).k }
+    ensures gapless { IsTrue result → (j : ℕ) → j + 1 ≡ i
+        → (d : Change) → (slice_index_or changes.now i d).k ≤ max windows ((slice_index_or changes.now j d).k + 1) }
 {
     let window = changes[i].k;
     if i == 0 {
@@ -71,7 +72,7 @@ fn follows(windows: u64, changes: &[Change], i: usize) -> bool
 }
 
 /// Whether these are changes of a row of so many windows.
-pub(crate) fn are_changes(windows: u64, changes: &[Change]) -> bool
+fn are_changes(windows: u64, changes: &[Change]) -> bool
     ensures { IsTrue result → IsChangeList windows changes.now }
 {
     for i in 0..changes.len() {
@@ -80,4 +81,14 @@ pub(crate) fn are_changes(windows: u64, changes: &[Change]) -> bool
         }
     }
     true
+}
+
+/// The edits that changes tell.
+pub(crate) fn applied(
+    rt: &impl Abort,
+    frames: &mut Frames,
+    changes: &[Change],
+) -> Result<Vec<Edit>, WantOfMemory> {
+    assert!(rt; are_changes(frames.windows(), changes));
+    frames.apply(changes)
 }

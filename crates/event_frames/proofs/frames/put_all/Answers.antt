@@ -1,7 +1,4 @@
-use Rattle.std.proofs.Common.{◌≡◌, ◌<◌, ◌≤◌, List, Bool, length, take, refl, subst, sym, ap, ◌∙◌, arith}
-use Rattle.std.proofs.lemmas.List.{take_all}
-use Rattle.trend_num.specs.declared.value.CalcValue.{CalcValue}
-use Rattle.event_frames.specs.Row.{truths_of}
+use Rattle.std.proofs.Common.{◌∙◌, arith}
 use Rattle.event_frames.specs.Near.{no_change}
 use Rattle.event_frames.proofs.Changing.{row_len, row_more}
 use Rattle.event_frames.proofs.frames.put_all.Goals as goal
@@ -17,6 +14,8 @@ put-requires-clause-room c =
     omega (arith, long, c.loop-k.invariant.1, c.requires.room, c.loop-k-test.true)
 
 pub loop-k-preserved : goal.loop-k-preserved
-loop-k-preserved c =
-    (c.put.ensures.truths ∙ row_more c.loop-k.levels.truths c.args.row.now c.loop-k.k no_change.value c.is_true.result
-    c.loop-k-test.true c.loop-k.invariant.0 c.is_true.ensures, c.put.ensures.room ∙ c.loop-k.invariant.1)
+loop-k-preserved c = (
+  c.put.ensures.truths ∙ row_more c.loop-k.levels.truths c.args.row.now c.loop-k.k no_change.value c.is_true.result
+      c.loop-k-test.true c.loop-k.invariant.0 c.is_true.ensures,
+  c.put.ensures.room ∙ c.loop-k.invariant.1,
+)

@@ -1,4 +1,4 @@
-use Rattle.std.proofs.Common.{◌≡◌, ◌<◌, ◌≤◌, arith}
+use Rattle.std.proofs.Common.{arith}
 use Rattle.event_frames.proofs.Framing.{starts_there}
 use Rattle.event_frames.proofs.near.frame_before.Goals as goal
 

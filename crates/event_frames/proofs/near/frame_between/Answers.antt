@@ -1,4 +1,4 @@
-use Rattle.std.proofs.Common.{◌≡◌, ◌-◌, ◌<◌, ◌≤◌, ◌∙◌, Bool, length, Some, subst, sym, ap, arith}
+use Rattle.std.proofs.Common.{◌-◌, Bool, Some, subst, sym, ap}
 use Rattle.std.specs.Prelude.{◌==◌}
 use Rattle.event_frames.specs.declared.frame.Frame.{Frame}
 use Rattle.event_frames.specs.Frames.{IsFrame}

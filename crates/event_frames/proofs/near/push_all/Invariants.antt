@@ -1,4 +1,4 @@
-use Rattle.std.proofs.Common.{◌+◌, ◌-◌, length}
+use Rattle.std.proofs.Common.{◌-◌, length}
 use Rattle.event_frames.proofs.Nearing.{IsListed}
 use Rattle.event_frames.proofs.near.push_all.Given as goal
 

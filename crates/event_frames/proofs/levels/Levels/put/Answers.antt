@@ -1,4 +1,4 @@
-use Rattle.std.proofs.Common.{◌≡◌, ◌<◌, ◌∙◌, ℕ, List, Bool, true, length, set, sym, ap, arith}
+use Rattle.std.proofs.Common.{◌≡◌, ◌<◌, ◌∙◌, List, Bool, true, length, set, sym, ap, arith}
 use Rattle.std.specs.Prelude.{vec_capacity}
 use Rattle.event_frames.specs.Levels.{LevelsState}
 use Rattle.event_frames.specs.Row.{put_at}
