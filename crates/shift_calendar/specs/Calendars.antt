@@ -1,0 +1,165 @@
+-- What the text of a calendar says.
+use Rattle.std.specs.Prelude.{◌≤◌, ℕ, ◌+◌, ◌-◌, ◌*◌, Bool, true, false, if◌then◌else◌, ◌&&◌, List, [], ◌∷◌, ◌++◌, length, position, slice_index, codes, bytes_eq, nat_eq, nat_le, nat_lt, Option, None, Some, option_and_then, option_map, Result, Ok}
+use Rattle.std.specs.Char.{is_ascii_digit}
+use Rattle.std.specs.List.{list_any}
+use Rattle.toml.specs.Data.{Items, Members, no_items, item, as_str}
+use Rattle.jiff.specs.Types.{TimeZone, Posix}
+use Rattle.jiff_tz.specs.PosixReader.{read_whole}
+use Rattle.jiff_tz.specs.PosixText.{TzText, tz_view}
+use Rattle.trend_num.specs.declared.measure.Measure.{Measure}
+use Rattle.trend_num.specs.declared.measure.Measure.TheVariants.{Area, Avg, Total, Low, High, Count, First, Last}
+use Rattle.shift_calendar.specs.declared.refusal.CalNo.{CalNo}
+use Rattle.shift_calendar.specs.declared.refusal.CalNo.TheVariants.{BadText}
+use Rattle.shift_calendar.specs.Answers.{when, given}
+use Rattle.shift_calendar.specs.Tables.{document, has_keys, string_at, array_at, is_count}
+
+-- the most shifts of a day, and the most tags, of a calendar
+abbrev pub most_starts : ℕ
+most_starts = 24
+
+abbrev pub most_tags : ℕ
+most_tags = 64
+
+-- ---- starts
+
+-- the number of two decimal digits that stand at a place, where it is below a limit
+abbrev pub two_digits : List ℕ → ℕ → ℕ → Option ℕ
+two_digits bytes at limit =
+    let number = (slice_index bytes at - 48) * 10 + (slice_index bytes (at + 1) - 48) in
+    if is_ascii_digit (slice_index bytes at) && is_ascii_digit (slice_index bytes (at + 1)) && nat_lt number limit
+    then Some number else None
+
+-- the minute of the day that a text `HH:MM` names, from 00:00 to 23:59
+abbrev pub start_of : List ℕ → Option ℕ
+start_of bytes =
+    if nat_eq (length bytes) 5 && nat_eq (slice_index bytes 2) 58
+    then option_and_then (λ hour. option_map (λ minute. hour * 60 + minute) (two_digits bytes 3 60))
+    (two_digits bytes 0 24)
+    else None
+
+-- the minutes that items name, each a text, after some minutes
+abbrev pub starts_after : List ℕ → Items → Option (List ℕ)
+starts_after earlier no_items = Some earlier
+starts_after earlier (item d ds) =
+    option_and_then (λ start. starts_after (earlier ++ start ∷ []) ds) (option_and_then start_of (as_str d))
+
+-- numbers that rise, the first of which is not below another number
+abbrev pub rises_from : ℕ → List ℕ → Bool
+rises_from least [] = true
+rises_from least (n ∷ ns) = nat_le least n && rises_from (n + 1) ns
+
+-- the starts of the shifts, which rise strictly
+abbrev pub starts_of : Items → Option (List ℕ)
+starts_of items =
+    if is_count most_starts items
+    then option_and_then (λ starts. if rises_from 0 starts then Some starts else None) (starts_after [] items)
+    else None
+
+abbrev pub starts_at : Members → Option (List ℕ)
+starts_at ms = option_and_then starts_of (array_at (codes "starts") ms)
+
+-- ---- tags
+
+-- the place of the first tag of a name
+abbrev pub place_of : List (List ℕ) → List ℕ → Option ℕ
+place_of names name = position (λ n. bytes_eq n name) names
+
+-- whether a place is among earlier ones
+abbrev pub is_taken : List ℕ → ℕ → Bool
+is_taken earlier place = list_any (λ p. nat_eq p place) earlier
+
+-- a place, where it is among no earlier ones
+abbrev pub untaken : List ℕ → ℕ → Option ℕ
+untaken earlier place = if is_taken earlier place then None else Some place
+
+-- the place of the tag of a name, where it is among no earlier places
+abbrev pub new_place : List (List ℕ) → List ℕ → List ℕ → Option ℕ
+new_place names earlier name = option_and_then (untaken earlier) (place_of names name)
+
+-- the places of the tags that items name, each a text, after some places
+abbrev pub places_after : List (List ℕ) → List ℕ → Items → Option (List ℕ)
+places_after names earlier no_items = Some earlier
+places_after names earlier (item d ds) =
+    option_and_then (λ place. places_after names (earlier ++ place ∷ []) ds)
+    (option_and_then (new_place names earlier) (as_str d))
+
+abbrev pub places_of : List (List ℕ) → Items → Option (List ℕ)
+places_of names items = if is_count most_tags items then places_after names [] items else None
+
+abbrev pub places_at : List (List ℕ) → Members → Option (List ℕ)
+places_at names ms = option_and_then (places_of names) (array_at (codes "tags") ms)
+
+-- ---- measure and zone
+
+-- the measure of a word
+abbrev pub measure_of : List ℕ → Option Measure
+measure_of word =
+    if bytes_eq word (codes "area") then Some Area
+    else (if bytes_eq word (codes "avg") then Some Avg
+    else (if bytes_eq word (codes "total") then Some Total
+    else (if bytes_eq word (codes "low") then Some Low
+    else (if bytes_eq word (codes "high") then Some High
+    else (if bytes_eq word (codes "count") then Some Count
+    else (if bytes_eq word (codes "first") then Some First
+    else (if bytes_eq word (codes "last") then Some Last
+    else None)))))))
+
+abbrev pub measure_at : Members → Option Measure
+measure_at ms = option_and_then measure_of (string_at (codes "measure") ms)
+
+-- the rule of a POSIX time zone that `jiff` reads
+abbrev pub zone_at : Members → Option TzText
+zone_at ms = option_and_then read_whole (string_at (codes "zone") ms)
+
+-- ---- the whole
+
+-- a calendar: its zone, the minutes of the day at which its shifts begin, the places of its tags, and its
+-- measure
+pub record Parts : Type 0 where
+  pub zone : TimeZone
+  pub starts : List ℕ
+  pub tags : List ℕ
+  pub measure : Measure
+
+-- the same, with the rule of the zone as its text says it
+pub record Form : Type 0 where
+  pub zone : Option TzText
+  pub starts : List ℕ
+  pub tags : List ℕ
+  pub measure : Measure
+
+-- what the rule of a POSIX zone says
+abbrev pub zone_rule : TimeZone → Option TzText
+zone_rule (Posix rule) = Some (tz_view rule)
+zone_rule _ = None
+
+abbrev pub form_of : Parts → Form
+form_of c =
+    record {
+      zone = zone_rule c.zone;
+      starts = c.starts;
+      tags = c.tags;
+      measure = c.measure;
+    }
+
+abbrev pub calendar_keys : List (List ℕ)
+calendar_keys = codes "zone" ∷ codes "starts" ∷ codes "tags" ∷ codes "measure" ∷ []
+
+-- the calendar that bytes spell over the names of tags, by the rules in their order: 1 a document, 2 its
+-- keys, 3 its zone, 4 its starts, 5 its tags, 6 its measure
+abbrev pub calendar : List (List ℕ) → List ℕ → Result Form CalNo
+calendar names bytes =
+    given (document bytes) (BadText 1) (λ ms.
+    when (has_keys calendar_keys ms) (BadText 2)
+    (given (zone_at ms) (BadText 3) (λ zone.
+    given (starts_at ms) (BadText 4) (λ starts.
+    given (places_at names ms) (BadText 5) (λ tags.
+    given (measure_at ms) (BadText 6) (λ measure.
+    Ok (record { zone = Some zone; starts = starts; tags = tags; measure = measure })))))))
+
+-- as many shifts a day, and as many tags, as a calendar has
+pub record IsSized (starts tags : ℕ) : Type 0 where
+  pub some_starts : 1 ≤ starts
+  pub few_starts : starts ≤ most_starts
+  pub some_tags : 1 ≤ tags
+  pub few_tags : tags ≤ most_tags

@@ -1,0 +1,6 @@
+pub mod Answers
+pub mod Tables
+pub mod Calendars
+pub mod Instants
+pub mod Windows
+pub mod Days

@@ -1,0 +1,42 @@
+// From days and times of day to instants.
+ghost use Rattle.std.specs.Prelude.{◌≡◌, ◌≤◌, ◌*◌};
+ghost use Rattle.jiff.specs.Words.{epoch_day, plain_zone, time_nanos};
+ghost use Rattle.trend_num.specs.Ranges.{last_time};
+ghost use Rattle.shift_calendar.specs.Days.{IsDay, IsShiftDay};
+ghost use Rattle.shift_calendar.specs.Instants.{IsInstant};
+
+use crate::start::Start;
+use jiff::civil::{Date, DateTime};
+use jiff::tz::TimeZone;
+
+/// The date of a day, by its number from 1970-01-01.
+pub(crate) fn date_of(day: i32) -> Date
+    requires { IsDay day }
+    ensures { epoch_day result ≡ day }
+{
+    match jiff_core::civil::Date::from_unix_epoch_day(i64::from(day)) {
+        Ok(date) => Date::from_plain(date),
+        Err(_) => unreachable!(),
+    }
+}
+
+/// A date at a time of day.
+fn local_time(date: Date, start: Start) -> DateTime
+    ensures date { result.date ≡ date }
+    ensures time { time_nanos result.time ≡ start.minute * 60_000_000_000 }
+{
+    date.at((start.minute / 60) as i8, (start.minute % 60) as i8, 0, 0)
+}
+
+/// The instant, in milliseconds from 1970, of a day and a time of day in a zone.
+pub(crate) fn instant(zone: &TimeZone<'static>, day: i32, start: Start) -> u64
+    requires { IsShiftDay day }
+    ensures instant { IsInstant (plain_zone zone.now) day start.minute result }
+    ensures in_time { result ≤ last_time }
+{
+    let local = local_time(date_of(day), start);
+    match zone.to_timestamp(local) {
+        Ok(instant) => instant.as_millisecond() as u64,
+        Err(_) => unreachable!(),
+    }
+}
