@@ -1,5 +1,9 @@
 // Windows of shifts on days on which the clock is set, and on others: instants of an independent program.
-use shift_calendar::{ShiftWindow, day_of_word, read_calendar, shift_windows, word_of_day};
+ghost use Rattle.shift_calendar.specs.Days.{IsFirstDay};
+
+use shift_calendar::{
+    Calendar, DayWord, ShiftWindow, day_of_word, read_calendar, shift_windows, word_of_day,
+};
 use std::alloc::{AllocError, Global};
 use std::fmt::Write;
 use std::process::Abort;
@@ -38,6 +42,15 @@ fn calendar_text(alloc: Global, zone: &str, starts: &str) -> Result<String, Allo
     Ok(text)
 }
 
+// The word of the day of a window.
+fn word(day: i32) -> DayWord {
+    if 0 <= day && day <= 2_932_896 {
+        word_of_day(day)
+    } else {
+        word_of_day(0)
+    }
+}
+
 // The line of a window.
 fn line(
     rt: &impl Abort,
@@ -45,14 +58,28 @@ fn line(
     window: Option<&ShiftWindow>,
 ) -> Result<String, AllocError> {
     let window = window.expect(rt, "a window");
-    let word = word_of_day(window.day.max(0).min(2_932_896));
-    format!(in alloc;
-        "{} {} {} {}",
-        word.text(),
-        window.shift,
-        window.from,
-        window.to
-    )
+    let word = word(window.day);
+    let (shift, from, to) = (window.shift, window.from, window.to);
+    format!(in alloc; "{} {shift} {from} {to}", word.text())
+}
+
+// How many windows there are, the first and the last.
+fn told(
+    rt: &impl Abort,
+    alloc: Global,
+    calendar: &Calendar,
+    day: i32,
+    days: u32,
+) -> Result<String, Fail>
+    requires { IsFirstDay day }
+{
+    if days < 1 || days > 366 {
+        return Ok(String::from_str(alloc, "days")?);
+    }
+    let windows = shift_windows(alloc, calendar, day, days)?;
+    let first = line(rt, alloc, windows.first())?;
+    let last = line(rt, alloc, windows.last())?;
+    Ok(format!(in alloc; "{}; {first}; {last}", windows.len())?)
 }
 
 #[test]
@@ -64,19 +91,13 @@ fn shifts_go_from_one_start_to_the_next_on_the_local_clock(rt: HostRuntime) -> R
         let mut fields = given.split(' ');
         let zone = fields.next().ok_or("zone")?;
         let text = calendar_text(alloc, zone, fields.next().ok_or("starts")?)?;
-        let calendar = read_calendar(alloc, text.as_bytes(), &names).map_err(|_| "calendar")?;
-        let day = day_of_word(fields.next().ok_or("day")?).ok_or("day")?;
-        let days = fields
-            .next()
-            .ok_or("days")?
-            .parse::<u32>()
-            .map_err(|_| "days")?;
-        let windows = shift_windows(alloc, &calendar, day, days.min(366).max(1)).map_err(
-            |_| "memory",
-        )?;
-        let first = line(&rt, alloc, windows.first())?;
-        let last = line(&rt, alloc, windows.last())?;
-        let told = format!(in alloc; "{}; {first}; {last}", windows.len())?;
+        let calendar = read_calendar(alloc, text.as_bytes(), &names)?;
+        let day = day_of_word(fields.next().ok_or("day")?);
+        let days = fields.next().ok_or("days")?.parse::<u32>()?;
+        let told = match day {
+            Some(day) => told(&rt, alloc, &calendar, day, days)?,
+            None => String::from_str(alloc, "no day")?,
+        };
         assert_eq!(rt; told.as_str(), want, "{given}");
     }
     Ok(())
