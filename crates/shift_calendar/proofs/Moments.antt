@@ -1,15 +1,16 @@
 -- The instants of local times, in milliseconds.
-use Rattle.std.proofs.Common.{◌≡◌, ◌∙◌, ℕ, suc, ◌+◌, ◌-◌, ◌*◌, ◌<◌, ◌≤◌, ℤ, pos, negsuc, ◌+ℤ◌, ◌-ℤ◌, ◌*ℤ◌, int_div, sym, ap, subst, arith, FitsSigned, Fits, w32, w64, to_z, of_z, to_z-of_z}
+use Rattle.std.proofs.Common.{◌≡◌, ◌∙◌, ℕ, suc, ◌+◌, ◌-◌, ◌*◌, ◌<◌, ◌≤◌, ℤ, pos, negsuc, ◌+ℤ◌, ◌-ℤ◌, ◌*ℤ◌, int_div, Result, Ok, IfOk, sym, ap, subst, arith, FitsSigned, Fits, w32, w64, to_z, of_z, to_z-of_z}
 use Rattle.std.proofs.lemmas.Int.{ints}
 use lib.Dec.{T}
 use lib.IntN.{nat_abs}
 use lib.Signed.{non_neg}
-use Rattle.jiff.specs.Types.{Date, DateTime, TimeZone}
-use Rattle.jiff.specs.Words.{IsOffsetSeconds, IsTimestampNanos, epoch_day, time_nanos, civil_nanos, picked_instant, compatible_offset, ambiguous_at}
+use Rattle.jiff.specs.Types.{DateTime, TimeZone, Timestamp}
+use Rattle.jiff.specs.Words.{Error, IsOffsetSeconds, IsTimestampNanos, time_nanos, civil_nanos, picked_instant, compatible_offset, ambiguous_at}
 use Rattle.jiff.proofs.Family.{civil_nanos-parts}
 use Rattle.jiff.proofs.SpanFacts.{signed_arith}
 use Rattle.trend_num.specs.Ranges.{last_time}
 use Rattle.shift_calendar.specs.Days.{IsShiftDay}
+use Rattle.shift_calendar.specs.Instants.{IsLocalTime}
 
 -- nanoseconds that are whole milliseconds, before the year 9994
 pub record IsMoment (nanos : ℤ) : Type 0 where
@@ -38,15 +39,21 @@ at_day (pos day) minute seconds in_range in_day within =
 at_day (negsuc day) minute seconds in_range in_day within = absurd (omega (arith, signed_arith))
 
 -- a local time in a zone
-pub moment_of : (zone : TimeZone) (local : DateTime) (day : ℤ) (minute : ℕ) → epoch_day local.date ≡ day
-    → time_nanos local.time ≡ minute * 60_000_000_000 → IsShiftDay day → minute < 1440 → IsMoment (picked_instant zone local)
-moment_of zone local day minute date time in_range in_day =
+moment_of : (zone : TimeZone) (local : DateTime) (day : ℤ) (minute : ℕ) → IsLocalTime day minute local → IsShiftDay day → minute < 1440
+    → IsMoment (picked_instant zone local)
+moment_of zone local day minute shows in_range in_day =
     let offset = compatible_offset (ambiguous_at zone local) in
     let clock : civil_nanos local ≡ day *ℤ pos 86_400_000_000_000 +ℤ pos (minute * 60_000_000_000) =
-    civil_nanos-parts local ∙ ap (λ d. d *ℤ pos 86_400_000_000_000 +ℤ pos (time_nanos local.time)) date
-    ∙ ap (λ n. day *ℤ pos 86_400_000_000_000 +ℤ pos n) time in
+    civil_nanos-parts local ∙ ap (λ d. d *ℤ pos 86_400_000_000_000 +ℤ pos (time_nanos local.time)) shows.date
+    ∙ ap (λ n. day *ℤ pos 86_400_000_000_000 +ℤ pos n) shows.time in
     subst (λ n. IsMoment (n -ℤ (offset.seconds *ℤ pos 1_000_000_000))) (sym clock)
     (at_day day minute offset.seconds in_range in_day offset.in_range)
+
+-- the same, where the day went through the bits of its type
+pub moment_at : (zone : TimeZone) (local : DateTime) (day : ℤ) (minute : ℕ) → FitsSigned w32 day
+    → IsLocalTime (to_z w32 (of_z w32 day)) minute local → IsShiftDay day → minute < 1440 → IsMoment (picked_instant zone local)
+moment_at zone local day minute fits shows in_range in_day =
+    moment_of zone local day minute (subst (λ d. IsLocalTime d minute local) (to_z-of_z fits) shows) in_range in_day
 
 -- it is an instant that `jiff` has
 pub moment_in_range : (nanos : ℤ) → IsMoment nanos → IsTimestampNanos nanos
@@ -54,30 +61,19 @@ moment_in_range nanos m =
     let early = m.early in
     subst IsTimestampNanos m.is (omega (arith, signed_arith), omega (arith, signed_arith))
 
--- the same, where the day went through the bits of its type
-pub moment_at : (zone : TimeZone) (date : Date) (local : DateTime) (day : ℤ) (minute : ℕ) → FitsSigned w32 day
-    → epoch_day date ≡ to_z w32 (of_z w32 day) → local.date ≡ date → time_nanos local.time ≡ minute * 60_000_000_000
-    → IsShiftDay day → minute < 1440 → IsMoment (picked_instant zone local)
-moment_at zone date local day minute fits number same time in_range in_day =
-    moment_of zone local day minute (ap epoch_day same ∙ number ∙ to_z-of_z fits) time in_range in_day
-
--- its milliseconds
-pub milliseconds : (nanos found told : ℤ) → (m : IsMoment nanos) → found ≡ nanos → told ≡ int_div found (pos 1_000_000) → told ≡ pos m.instant
-milliseconds nanos found told m same is =
+-- what `jiff` tells of it in milliseconds goes through the bits of its type
+pub told : (nanos : ℤ) (m : IsMoment nanos) (r : Result Timestamp Error) (t : Timestamp) (millis : ℤ) → r ≡ Ok t
+    → IfOk r (λ (found : Timestamp). found.nanosecond ≡ nanos) → millis ≡ int_div t.nanosecond (pos 1_000_000)
+    → to_z w64 (of_z w64 millis) ≡ pos m.instant
+told nanos m r t millis ok value is =
+    let early = m.early in
+    let same : t.nanosecond ≡ nanos = subst (λ o. IfOk o (λ (found : Timestamp). found.nanosecond ≡ nanos)) ok value in
     let whole : int_div (pos (m.instant * 1_000_000)) (pos 1_000_000) ≡ pos m.instant = omega (arith, ints) in
-    is ∙ ap (λ n. int_div n (pos 1_000_000)) (same ∙ sym m.is) ∙ whole
+    let fits : FitsSigned w64 (pos m.instant) = omega (arith, ints) in
+    ap (λ z. to_z w64 (of_z w64 z)) (is ∙ ap (λ n. int_div n (pos 1_000_000)) (same ∙ sym m.is) ∙ whole) ∙ to_z-of_z fits
 
--- they go through the bits of their type
-through : (told : ℤ) (instant : ℕ) → told ≡ pos instant → instant ≤ 253_200_000_000_000 → to_z w64 (of_z w64 told) ≡ pos instant
-through told instant is early =
-    let fits : FitsSigned w64 (pos instant) = omega (arith, ints) in
-    ap (λ z. to_z w64 (of_z w64 z)) is ∙ to_z-of_z fits
-
-pub cast_fits : (told : ℤ) (instant : ℕ) → told ≡ pos instant → instant ≤ 253_200_000_000_000
-    → T (non_neg (to_z w64 (of_z w64 told))) × Fits w64 (nat_abs (to_z w64 (of_z w64 told)))
-cast_fits told instant is early =
+-- so it is no negative number, and fits
+pub cast_fits : (z : ℤ) (instant : ℕ) → z ≡ pos instant → instant ≤ 253_200_000_000_000 → T (non_neg z) × Fits w64 (nat_abs z)
+cast_fits z instant is early =
     let fits : Fits w64 instant = omega arith in
-    subst (λ z. T (non_neg z) × Fits w64 (nat_abs z)) (sym (through told instant is early)) (tt, fits)
-
-pub cast_is : (told : ℤ) (instant : ℕ) → told ≡ pos instant → instant ≤ 253_200_000_000_000 → instant ≡ nat_abs (to_z w64 (of_z w64 told))
-cast_is told instant is early = sym (ap nat_abs (through told instant is early))
+    subst (λ n. T (non_neg n) × Fits w64 (nat_abs n)) (sym is) (tt, fits)

@@ -3,11 +3,14 @@ use Rattle.std.specs.Prelude.{◌≡◌, ℕ, ◌*◌, ℤ, pos}
 use Rattle.jiff.specs.Types.{DateTime, TimeZone}
 use Rattle.jiff.specs.Words.{epoch_day, time_nanos, picked_instant}
 
--- the instant, in milliseconds from 1970, that `jiff`'s conversion to a zone names for a date, by its day
--- number from 1970-01-01, and a time of day, by its minute; where the clock skips this time or shows it
--- twice, too
-pub record IsInstant (zone : TimeZone) (day : ℤ) (minute instant : ℕ) : Type 0 where
-  pub local : DateTime
+-- the local time of a day, by its number from 1970-01-01, and a minute of it
+pub record IsLocalTime (day : ℤ) (minute : ℕ) (local : DateTime) : Type 0 where
   pub date : epoch_day local.date ≡ day
   pub time : time_nanos local.time ≡ minute * 60_000_000_000
+
+-- the instant, in milliseconds from 1970, that `jiff`'s conversion to a zone names for the local time of a
+-- day and a minute of it; where the clock skips this time or shows it twice, too
+pub record IsInstant (zone : TimeZone) (day : ℤ) (minute instant : ℕ) : Type 0 where
+  pub local : DateTime
+  pub shows : IsLocalTime day minute local
   pub named : pos (instant * 1_000_000) ≡ picked_instant zone local

@@ -1,9 +1,9 @@
 // From days and times of day to instants.
-ghost use Rattle.std.specs.Prelude.{◌≡◌, ◌≤◌, ◌*◌};
-ghost use Rattle.jiff.specs.Words.{epoch_day, plain_zone, time_nanos};
+ghost use Rattle.std.specs.Prelude.{◌≡◌, ◌≤◌};
+ghost use Rattle.jiff.specs.Words.{epoch_day, plain_zone};
 ghost use Rattle.trend_num.specs.Ranges.{last_time};
 ghost use Rattle.shift_calendar.specs.Days.{IsDay, IsShiftDay};
-ghost use Rattle.shift_calendar.specs.Instants.{IsInstant};
+ghost use Rattle.shift_calendar.specs.Instants.{IsInstant, IsLocalTime};
 
 use crate::start::Start;
 use jiff::civil::{Date, DateTime};
@@ -20,12 +20,13 @@ pub(crate) fn date_of(day: i32) -> Date
     }
 }
 
-/// A date at a time of day.
-fn local_time(date: Date, start: Start) -> DateTime
-    ensures date { result.date ≡ date }
-    ensures time { time_nanos result.time ≡ start.minute * 60_000_000_000 }
+/// The local time of a day and a time of day.
+fn local_time(day: i32, start: Start) -> DateTime
+    requires { IsDay day }
+    ensures { IsLocalTime day start.minute result }
 {
-    date.at((start.minute / 60) as i8, (start.minute % 60) as i8, 0, 0)
+    let (hour, minute) = (start.minute / 60, start.minute % 60);
+    date_of(day).at(hour as i8, minute as i8, 0, 0)
 }
 
 /// The instant, in milliseconds from 1970, of a day and a time of day in a zone.
@@ -34,8 +35,7 @@ pub(crate) fn instant(zone: &TimeZone<'static>, day: i32, start: Start) -> u64
     ensures instant { IsInstant (plain_zone zone.now) day start.minute result }
     ensures in_time { result ≤ last_time }
 {
-    let local = local_time(date_of(day), start);
-    match zone.to_timestamp(local) {
+    match zone.to_timestamp(local_time(day, start)) {
         Ok(instant) => instant.as_millisecond() as u64,
         Err(_) => unreachable!(),
     }
