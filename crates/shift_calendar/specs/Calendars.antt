@@ -1,5 +1,5 @@
 -- What the text of a calendar says.
-use Rattle.std.specs.Prelude.{◌≤◌, ℕ, ◌+◌, ◌-◌, ◌*◌, Bool, true, false, if◌then◌else◌, ◌&&◌, List, [], ◌∷◌, ◌++◌, length, position, slice_index, codes, bytes_eq, nat_eq, nat_le, nat_lt, Option, None, Some, option_and_then, option_map, Result, Ok}
+use Rattle.std.specs.Prelude.{◌≤◌, ℕ, ◌+◌, ◌-◌, ◌*◌, Bool, true, if◌then◌else◌, ◌&&◌, List, [], ◌∷◌, ◌++◌, length, position, slice_index, codes, bytes_eq, nat_eq, nat_le, nat_lt, Option, None, Some, option_and_then, option_map, Result, Ok}
 use Rattle.std.specs.Char.{is_ascii_digit}
 use Rattle.std.specs.List.{list_any}
 use Rattle.toml.specs.Data.{Items, Members, no_items, item, as_str}

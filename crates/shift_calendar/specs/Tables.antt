@@ -1,5 +1,5 @@
 -- What a table of a TOML document holds at its keys.
-use Rattle.std.specs.Prelude.{ℕ, Bool, true, if◌then◌else◌, ◌&&◌, ◌||◌, ◌+◌, List, Option, None, is_some, option_and_then, bytes_eq, nat_le}
+use Rattle.std.specs.Prelude.{ℕ, Bool, true, if◌then◌else◌, ◌&&◌, ◌+◌, List, Option, None, is_some, option_and_then, bytes_eq, nat_le}
 use Rattle.std.specs.List.{list_any, list_all}
 use Rattle.std.specs.Str.{is_utf8}
 use Rattle.toml.specs.Data.{Items, Members, no_items, item, no_members, member, get_member, as_str, as_array}

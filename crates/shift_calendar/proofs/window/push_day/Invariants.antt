@@ -1,4 +1,4 @@
-use Rattle.std.proofs.Common.{◌≡◌, ◌≤◌, List, ◌++◌, map, length, All}
+use Rattle.std.proofs.Common.{List, ◌++◌, map, All}
 use Rattle.shift_calendar.specs.Windows.{Shift, shift_at, below, AreWindows, IsTimed}
 use Rattle.shift_calendar.proofs.window.push_day.Given as goal
 

@@ -1,4 +1,4 @@
-use Rattle.std.proofs.Common.{◌≡◌, ◌<◌, ◌++◌, ◌+ℤ◌, pos, sym, subst, arith, FitsSigned, w32, to_z, of_z}
+use Rattle.std.proofs.Common.{◌<◌, ◌++◌, sym, subst, arith, FitsSigned, w32, to_z, of_z}
 use Rattle.shift_calendar.specs.Windows.{shifts_of, shifts_over, AreWindows}
 use Rattle.shift_calendar.proofs.DayNumbers.{days_after}
 use Rattle.shift_calendar.proofs.Lists.{shifts_over-more}

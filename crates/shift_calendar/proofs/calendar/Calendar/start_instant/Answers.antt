@@ -1,4 +1,4 @@
-use Rattle.std.proofs.Common.{◌≡◌, ◌<◌, ◌∙◌, ℤ, ℕ, List, map, slice_index, get_or, length, ap, sym, subst, FitsSigned, w32, to_z-of_z}
+use Rattle.std.proofs.Common.{◌≡◌, ◌<◌, ◌∙◌, ℕ, List, map, slice_index, length, ap, sym, subst, FitsSigned, w32, to_z-of_z}
 use Rattle.std.proofs.lemmas.List.{get_or-map, length-map}
 use Rattle.jiff.specs.Words.{plain_zone}
 use Rattle.shift_calendar.specs.declared.start.Start.{Start}
