@@ -7,7 +7,6 @@ use crate::instant::date_of;
 use arrayvec::ArrayString;
 use jiff::civil::Date;
 use jiff::fmt::temporal::DateTimePrinter;
-use std::fmt;
 use std::marker::Model;
 
 /// The number of the first day that is read, 1971-01-01.
