@@ -1,0 +1,270 @@
+-- What a log's type keeps, after a commit and after one whose device failed.
+use Rattle.std.proofs.Common.{◌≡◌, ◌⊎◌, inl, inr, ⊎_elim, ℕ, ◌+◌, ◌-◌, ◌<◌, ◌≤◌, Bool, true, false, List, [], ◌∷◌, ◌++◌, length, min, take, drop, get_or, nat_le, if◌then◌else◌, Option, None, Some, IfSome, refl, sym, ap, ◌∙◌, subst, arith, append_assoc, length-append, length-drop, length-take}
+use Rattle.std.proofs.lemmas.Bool.Decides.{nat_tests}
+use Rattle.std.proofs.lemmas.List.{append-nil, take-append-le}
+use Rattle.std.proofs.Math.Seq.{take-add, take-append_seam}
+use Rattle.disk_model.specs.Calls.{Rose, Sees}
+use Rattle.disk_model.specs.Gates.{IsGuarded, IsOpen, IsShut, open_byte}
+use Rattle.disk_model.specs.Images.{FromOld, IsSettled, MayLeave, Now}
+use Rattle.disk_model.specs.Moments.{ComesAfter, During, LeftSince}
+use Rattle.disk_model.specs.Traces.{Trace, seen, written}
+use Rattle.disk_model.proofs.Bytes.{length-written}
+use Rattle.disk_model.proofs.Images.{present}
+use Rattle.disk_model.proofs.Moments.{during_now, only_since, parted}
+use Rattle.commit_log.specs.declared.row.LogRow.{LogRow}
+use Rattle.commit_log.specs.declared.history.LogTurn.{LogTurn}
+use Rattle.commit_log.specs.declared.history.LogTurn.TheVariants.{Put, Commit}
+use Rattle.commit_log.specs.Blocks.{AreBlockRows, block_image, block_size, most_in_block}
+use Rattle.commit_log.specs.Images.{ByBlocks, StandsFor}
+use Rattle.commit_log.specs.Openings.{Stores}
+use Rattle.commit_log.specs.Tapes.{Walk, acked_at, after_turn, puts, start, walked}
+use Rattle.commit_log.specs.Writes.{IsBlockOf}
+use Rattle.commit_log.specs.Histories.{FitAll, IsLegal, IsSafe, StandsForPart}
+use Rattle.commit_log.specs.Told.{HasRoom, IsKept, IsReady, Waits}
+use Rattle.commit_log.proofs.BlockAdded.{block_either, block_opened, written_byte}
+use Rattle.commit_log.proofs.Tapes.{acked_at-commit, acked_at-most, fit-push, fit_rows, middle_rows, puts-append, puts_parts, walked-push, walked-rows}
+
+-- ---- images
+
+-- what is stored is what an image stands for
+pub stores_stand : (plant : List ℕ) (tags : ℕ) (rows : List LogRow) (end : ℕ) (c : List ℕ) → Stores plant tags rows end c
+    → StandsFor plant tags c rows
+stores_stand plant tags rows end c has =
+    ByBlocks has.lists.blocks (record { of_plant = has.of_plant; blocks = has.lists.are }) has.lists.rows_are
+
+-- the oldest rows that were put, of all of them
+stands_part : (plant : List ℕ) (tags : ℕ) (opening rows first behind : List LogRow) (least : ℕ) (c : List ℕ) → rows ≡ first ++ behind
+    → least ≤ length opening + length first → StandsFor plant tags c (opening ++ first) → StandsForPart plant tags opening rows least c
+stands_part plant tags opening rows first behind least c are enough stands = record {
+  count = length first;
+  enough = enough;
+  within = omega (arith, ap length are, length-append first behind);
+  stands = subst (λ (l : List LogRow). StandsFor plant tags c (opening ++ l)) (sym (ap (take (length first)) are ∙ take-append_seam first behind)) stands;
+}
+
+-- fewer are asked for
+part_least : (plant : List ℕ) (tags : ℕ) (opening rows : List LogRow) (least fewer : ℕ) (c : List ℕ) → fewer ≤ least
+    → StandsForPart plant tags opening rows least c → StandsForPart plant tags opening rows fewer c
+part_least plant tags opening rows least fewer c le is =
+    let enough : least ≤ length opening + is.count = is.enough in
+    record { count = is.count; enough = omega arith; within = is.within; stands = is.stands }
+
+-- each image of a device that is ready stores what is read
+ready_now : (plant : List ℕ) (tags : ℕ) (rows : List LogRow) (end : ℕ) (o : Option Trace) → IfSome o (IsReady plant tags rows end)
+    → (d : List ℕ) → MayLeave o d → Stores plant tags rows end d
+ready_now plant tags rows end None ready d may = absurd may.image
+ready_now plant tags rows end (Some t) ready d may = subst (Stores plant tags rows end) (sym (ready.settled.each d may)) ready.stores
+
+-- and has a closed gate where the next block goes
+pub ready_shut : (plant : List ℕ) (tags : ℕ) (rows : List LogRow) (end : ℕ) (o : Option Trace) → IfSome o (IsReady plant tags rows end)
+    → Now o (IsShut end)
+ready_shut plant tags rows end o ready = record { each = λ d may. shut_there d (ready_now plant tags rows end o ready d may) }
+  where
+    shut_there : (d : List ℕ) → Stores plant tags rows end d → IsShut end d
+    shut_there d has = subst (λ (n : ℕ). IsShut n d) (sym has.lists.end_is) has.lists.are.shut
+
+-- a test that passes
+le_when : (m t : ℕ) → nat_le m t ≡ true → m ≤ t
+le_when m t is = grind (arith, nat_tests)
+
+-- ---- a commit
+
+module _ (plant : List ℕ) (tags : ℕ) (opening : List LogRow) (moment faults : ℕ) (tape : List LogTurn) (next acked end : ℕ)
+    (old : Option Trace) (ticks faults_now : ℕ) (legal : IsLegal tags opening moment tape acked) (waits : Waits opening tape next acked)
+    (kept : IsKept plant tags opening moment faults tape next end false old ticks faults_now)
+    (count turns : ℕ) (bytes : List ℕ) (is : IsBlockOf acked count (drop next tape) bytes turns)
+    (some : 1 ≤ count) (few : count ≤ most_in_block) where
+  -- the rows that are acknowledged, the rows of the block, and those that still wait
+  abbrev first : List LogRow
+  first = puts (take next tape)
+
+  abbrev pub block : List LogRow
+  block = puts (take turns (drop next tape))
+
+  abbrev behind : List LogRow
+  behind = puts (drop turns (drop next tape))
+
+  abbrev done : List LogRow
+  done = opening ++ first
+
+  parts : puts tape ≡ (first ++ block) ++ behind
+  parts = puts_parts tape next turns
+
+  number : acked ≡ length done
+  number = waits.acked_are ∙ sym (length-append opening first)
+
+  pub rows_are : AreBlockRows tags block
+  rows_are = record {
+    some = omega (arith, is.long, some);
+    few = omega (arith, is.long, few);
+    each = middle_rows tags (puts tape) first block behind parts (fit_rows tags (start (length opening) moment) tape legal.turns);
+  }
+
+  -- the bytes that are written
+  pub bytes_are : bytes ≡ block_image (length done) block ++ 0 ∷ []
+  bytes_are = is.bytes_are ∙ ap (λ (n : ℕ). block_image n block ++ 0 ∷ []) number
+
+  abbrev pub IsWriting : List ℕ → Type 0
+  IsWriting = FromOld old (IsGuarded (end + 1) bytes end)
+
+  guarded_by : (d c : List ℕ) → IsGuarded (end + 1) bytes end d c → IsGuarded (end + 1) (block_image (length done) block ++ 0 ∷ []) end d c
+  guarded_by d c guarded = subst (λ (l : List ℕ). IsGuarded (end + 1) l end d c) bytes_are guarded
+
+  stored : (d : List ℕ) → MayLeave old d → Stores plant tags done end d
+  stored d may = ready_now plant tags done end old (kept.ready refl) d may
+
+  -- the rows of the block behind those that were acknowledged
+  both_are : done ++ block ≡ opening ++ (first ++ block)
+  both_are = append_assoc opening first block
+
+  -- while it is written an image stands for what was acknowledged, or for that and the block
+  writing_stands : (c : List ℕ) → IsWriting c → StandsForPart plant tags opening (puts tape) acked c
+  writing_stands c from = ⊎_elim without with_it (block_either plant tags done end from.0 c (stored from.0 from.1) block (guarded_by from.0 c from.2) rows_are)
+    where
+      without : Stores plant tags done end c → StandsForPart plant tags opening (puts tape) acked c
+      without has =
+          stands_part plant tags opening (puts tape) first (block ++ behind) acked c (parts ∙ append_assoc first block behind)
+          (omega (arith, waits.acked_are)) (stores_stand plant tags done end c has)
+
+      with_it : Stores plant tags (done ++ block) (end + block_size block) c → StandsForPart plant tags opening (puts tape) acked c
+      with_it has =
+          stands_part plant tags opening (puts tape) (first ++ block) behind acked c parts
+          (omega (arith, waits.acked_are, length-append first block))
+          (subst (StandsFor plant tags c) both_are (stores_stand plant tags (done ++ block) (end + block_size block) c has))
+
+  -- at each moment no more is acknowledged
+  most : (t : ℕ) → acked_at t (length opening) tape ≤ acked
+  most t = subst (λ (n : ℕ). acked_at t (length opening) tape ≤ n) (sym legal.last)
+      (acked_at-most tags (start (length opening) moment) tape t (length opening) (omega arith) legal.turns)
+
+  -- so the log stays safe
+  pub writing_safe : (new : Option Trace) → IsSafe plant tags opening moment tape (LeftSince old) → During old new IsWriting
+      → IsSafe plant tags opening moment tape (LeftSince new)
+  writing_safe new safe during = record {
+    images = λ t c since left. ⊎_elim
+        (λ now. part_least plant tags opening (puts tape) acked (acked_at t (length opening) tape) c (most t) (writing_stands c (during.each c now)))
+        (λ before. safe.images t c since before)
+        (parted old new t c during.later left);
+  }
+
+  -- a call of the device failed
+  pub kept_faulted : (new : Option Trace) (ticks' faults' : ℕ) → ticks ≤ ticks' → Rose faults_now faults'
+      → IsKept plant tags opening moment faults tape next end true new ticks' faults'
+  kept_faulted new ticks' faults' later rose = record {
+    ready = λ usable. absurd (cc (usable));
+    past = omega (arith, kept.past, later);
+    opened_before = omega (arith, kept.opened_before, later);
+    faultless = λ usable. absurd (cc (usable));
+    cause = λ failed. subst (λ (n : ℕ). Rose n faults') (kept.faultless refl) rose;
+  }
+
+  module _ (new : Option Trace) (ticks' faults' : ℕ) (clock : ticks' ≡ ticks + 4) (during : During old new IsWriting)
+      (sees : Sees new (written (written (seen old) (end + 1) bytes) end (open_byte ∷ []))) (settled : IsSettled new)
+      (told : IfSome new (λ t. length t.calls ≡ ticks')) (longer : List LogTurn)
+      (longer_is : longer ≡ tape ++ Commit ticks' (acked + count) ∷ []) where
+    same_puts : puts longer ≡ puts tape
+    same_puts = ap puts longer_is ∙ (puts-append tape (Commit ticks' (acked + count) ∷ []) ∙ append-nil (puts tape))
+
+    long : length longer ≡ length tape + 1
+    long = ap length longer_is ∙ length-append tape (Commit ticks' (acked + count) ∷ [])
+
+    walk_is : walked (start (length opening) moment) longer
+        ≡ after_turn (walked (start (length opening) moment) tape) (Commit ticks' (acked + count))
+    walk_is = ap (walked (start (length opening) moment)) longer_is ∙ walked-push (start (length opening) moment) tape (Commit ticks' (acked + count))
+
+    -- so many rows waited, and so many of them are written
+    pub commit_legal : count ≡ min most_in_block (length opening + length (puts tape) - acked) → IsLegal tags opening moment longer (acked + count)
+    commit_legal count_is = record {
+      opened = legal.opened;
+      turns = subst (FitAll tags (start (length opening) moment)) (sym longer_is)
+          (fit-push tags (start (length opening) moment) tape (Commit ticks' (acked + count)) legal.turns (record {
+            some = omega (arith, was, rows, count_is, some);
+            acked_are = omega (arith, was, rows, count_is);
+            later = omega (arith, kept.past, clock);
+          }));
+      last = sym (ap (λ (w : Walk). w.acked) walk_is);
+    }
+      where
+        was : (walked (start (length opening) moment) tape).acked ≡ acked
+        was = sym legal.last
+
+        rows : (walked (start (length opening) moment) tape).rows ≡ length opening + length (puts tape)
+        rows = walked-rows (start (length opening) moment) tape
+
+    pub commit_room : (places places' n room : ℕ) → HasRoom opening tape places n room → length tape + (room - n) + 1 ≤ places'
+        → HasRoom opening longer places' n room
+    commit_room places places' n room has enough = record {
+      count_is = has.count_is ∙ ap length (sym same_puts);
+      within = has.within;
+      tape_room = omega (arith, has.within, long, enough);
+      few = has.few;
+    }
+
+    -- the turns that are acknowledged then
+    upto : take (next + turns) longer ≡ take next tape ++ take turns (drop next tape)
+    upto =
+        let reach : next + turns ≤ length tape = omega (arith, is.within, length-drop next tape, waits.within) in
+        ap (take (next + turns)) longer_is ∙ (take-append-le (next + turns) tape (Commit ticks' (acked + count) ∷ []) reach ∙ take-add next turns tape)
+
+    upto_rows : puts (take (next + turns) longer) ≡ first ++ block
+    upto_rows = ap puts upto ∙ puts-append (take next tape) (take turns (drop next tape))
+
+    pub commit_waits : Waits opening longer (next + turns) (acked + count)
+    commit_waits = record {
+      within = omega (arith, is.within, length-drop next tape, waits.within, long);
+      acked_are = omega (arith, waits.acked_are, ap length upto_rows, length-append first block, is.long);
+    }
+
+    -- an image now has the block
+    stored_now : (c : List ℕ) → MayLeave new c → Stores plant tags (done ++ block) (end + block_size block) c
+    stored_now c may =
+        let from = (during_now old new IsWriting during).each c may in
+        block_opened plant tags done end from.0 c (stored from.0 from.1) block (guarded_by from.0 c from.2)
+        (opened old new (ready_shut plant tags done end old (kept.ready refl)) during.later sees settled c may) rows_are
+      where
+        opened : (x y : Option Trace) → Now x (IsShut end) → ComesAfter x y
+            → Sees y (written (written (seen x) (end + 1) bytes) end (open_byte ∷ [])) → IsSettled y → (c : List ℕ) → MayLeave y c → IsOpen end c
+        opened x None shut after sees settled c may = absurd may.image
+        opened None (Some u) shut after sees settled c may = absurd after
+        opened (Some t) (Some u) shut after sees settled c may =
+            let there : end < length (seen (Some t)) = (shut.each (seen (Some t)) (present t)).there in
+            ap (λ (l : List ℕ). get_or l end 0) (settled.each c may ∙ sees)
+            ∙ written_byte (written (seen (Some t)) (end + 1) bytes) end open_byte
+            (omega (arith, there, length-written (seen (Some t)) (end + 1) bytes (omega (arith, there))))
+
+    pub commit_kept : (end' : ℕ) → end' ≡ end + block_size block → faults' ≡ faults_now
+        → IsKept plant tags opening moment faults longer (next + turns) end' false new ticks' faults'
+    commit_kept end' end_is same = record {
+      ready = λ usable. subst (λ (n : ℕ). IfSome new (IsReady plant tags (opening ++ puts (take (next + turns) longer)) n)) (sym end_is)
+          (subst (λ (l : List LogRow). IfSome new (IsReady plant tags l (end + block_size block))) rows_is (shown new settled stored_now));
+      past = subst (λ (w : Walk). w.moment ≤ ticks') (sym walk_is) (omega arith);
+      opened_before = omega (arith, kept.opened_before, clock);
+      faultless = λ usable. same ∙ kept.faultless refl;
+      cause = λ failed. absurd (cc (failed));
+    }
+      where
+        rows_is : done ++ block ≡ opening ++ puts (take (next + turns) longer)
+        rows_is = both_are ∙ ap (λ (l : List LogRow). opening ++ l) (sym upto_rows)
+
+        shown : (x : Option Trace) → IsSettled x → ((c : List ℕ) → MayLeave x c → Stores plant tags (done ++ block) (end + block_size block) c)
+            → IfSome x (IsReady plant tags (done ++ block) (end + block_size block))
+        shown None settled has = tt
+        shown (Some t) settled has = record { settled = settled; stores = has (seen (Some t)) (present t) }
+
+    pub commit_safe : IsSafe plant tags opening moment tape (LeftSince old) → IsSafe plant tags opening moment longer (LeftSince new)
+    commit_safe safe = record {
+      images = λ t c since left.
+          subst (λ (l : List LogRow). StandsForPart plant tags opening l (acked_at t (length opening) longer) c) (sym same_puts)
+          (subst (λ (n : ℕ). StandsForPart plant tags opening (puts tape) n c)
+          (sym (ap (acked_at t (length opening)) longer_is ∙ acked_at-commit t (length opening) tape ticks' (acked + count)))
+          (by_moment t c since left (nat_le ticks' t) refl));
+    }
+      where
+        by_moment : (t : ℕ) (c : List ℕ) → moment ≤ t → LeftSince new t c → (x : Bool) → nat_le ticks' t ≡ x
+            → StandsForPart plant tags opening (puts tape) (if x then acked + count else acked_at t (length opening) tape) c
+        by_moment t c since left true e =
+            stands_part plant tags opening (puts tape) (first ++ block) behind (acked + count) c parts
+            (omega (arith, waits.acked_are, length-append first block, is.long))
+            (subst (StandsFor plant tags c) both_are (stores_stand plant tags (done ++ block) (end + block_size block) c
+            (stored_now c (only_since new ticks' t c told (le_when ticks' t e) left))))
+        by_moment t c since left false e = (writing_safe new safe during).images t c since left

@@ -1,0 +1,15 @@
+pub mod FieldLaws
+pub mod Spellings
+pub mod RowLaws
+pub mod Walks
+pub mod BlockLaws
+pub mod Beginnings
+pub mod Heads
+pub mod BlockAdded
+pub mod Tapes
+pub mod Puts
+pub mod Commits
+pub mod Written
+pub mod Differences
+pub mod Prefixes
+pub mod Opened

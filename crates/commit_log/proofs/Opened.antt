@@ -1,0 +1,138 @@
+-- A log while it is opened.
+use Rattle.std.proofs.Common.{◌≡◌, ◌⊎◌, inl, inr, ℕ, ◌+◌, ◌<◌, ◌≤◌, true, All, List, [], ◌∷◌, ◌++◌, length, Option, None, Some, IfSome, Result, Ok, Err, refl, sym, ap, ◌∙◌, subst, arith}
+use Rattle.std.proofs.lemmas.List.Elements.{All-append, All-nil}
+use Rattle.disk_model.specs.Calls.{IsNoted, Shows}
+use Rattle.disk_model.specs.Gates.{IsNew}
+use Rattle.disk_model.specs.Images.{IsSettled, MayLeave}
+use Rattle.disk_model.specs.Moments.{During}
+use Rattle.disk_model.specs.Traces.{Synced, Idle, Trace, noted, seen}
+use Rattle.disk_model.proofs.Images.{settled, synced_now}
+use Rattle.disk_model.proofs.Moments.{goes_on, in_turn, started, weaker}
+use Rattle.commit_log.specs.declared.block_reader.Stored.{Stored}
+use Rattle.commit_log.specs.declared.row.LogRow.{LogRow}
+use Rattle.commit_log.specs.Blocks.{HasBlocks, IsRow, block_size, rows_of}
+use Rattle.commit_log.specs.Images.{ByBlocks, ByNothing, IsEmpty, LogsNothing, StandsFor, blocks_at}
+use Rattle.commit_log.specs.Openings.{IsFound, IsLeftOrSame, IsLeftOrStands, IsTooMany, StandsSame, Stores}
+use Rattle.commit_log.specs.Told.{IsReady}
+use Rattle.commit_log.proofs.Commits.{stores_stand}
+
+-- ---- a sync
+
+-- it leaves what might have been left before
+pub left_synced : {E : Type 0} (P : List ℕ → Type 0) (r : Result (Unit {0}) E) (o mid : Option Trace) → IsNoted Synced Idle r o mid
+    → During o mid (λ c. MayLeave o c ⊎ P c)
+left_synced P r o mid is =
+    goes_on Synced Idle r o o mid (λ c. MayLeave o c ⊎ P c)
+    (started o (λ c. MayLeave o c ⊎ P c) (record { each = λ c may. inl may })) is
+    (record { each = λ c may. inl (synced_now r o mid c is may) })
+
+-- a synced device shows what it showed
+pub shown_before : (o mid : Option Trace) (P : List ℕ → Type 0) → mid ≡ noted Synced o → Shows mid P → Shows o P
+shown_before None mid P synced is = tt
+shown_before (Some t) mid P synced is = subst (λ x. Shows x P) synced is
+
+-- and has settled
+pub settled_after : (o mid new : Option Trace) → mid ≡ noted Synced o → new ≡ mid → IsSettled new
+settled_after o mid new synced same = subst IsSettled (sym (same ∙ synced)) (settled o)
+
+-- the same images until a later device that is the same
+pub during_same : (o mid new : Option Trace) (P : List ℕ → Type 0) → new ≡ mid → During o mid P → During o new P
+during_same o mid new P same during = subst (λ x. During o x P) (sym same) during
+
+-- ---- a log that is there
+
+-- what is stored is stood for
+pub found_stands : (plant : List ℕ) (tags : ℕ) (o : Option Trace) (f : Option Stored) (s : Stored) → f ≡ Some s
+    → Shows o (IsFound plant tags f) → Shows o (λ c. StandsFor plant tags c s.rows.items)
+found_stands plant tags None f s is found = tt
+found_stands plant tags (Some t) f s is found =
+    stores_stand plant tags s.rows.items s.end (seen (Some t)) (subst (λ x. IsFound plant tags x (seen (Some t))) is found)
+
+-- and the device is ready
+pub found_ready : (plant : List ℕ) (tags : ℕ) (o : Option Trace) (f : Option Stored) (s : Stored) → f ≡ Some s
+    → Shows o (IsFound plant tags f) → IsSettled o → IfSome o (IsReady plant tags s.rows.items s.end)
+found_ready plant tags None f s is found settled = tt
+found_ready plant tags (Some t) f s is found settled =
+    record { settled = settled; stores = subst (λ x. IsFound plant tags x (seen (Some t))) is found }
+
+-- with the room its rows are too many
+pub found_many : (plant : List ℕ) (tags room n : ℕ) (o : Option Trace) (f : Option Stored) (s : Stored) → f ≡ Some s
+    → n ≡ length s.rows.items + room → Shows o (IsFound plant tags f) → Shows o (IsTooMany plant tags room n)
+found_many plant tags room n None f s is together found = tt
+found_many plant tags room n (Some t) f s is together found = record {
+  rows = s.rows.items;
+  stands = stores_stand plant tags s.rows.items s.end (seen (Some t)) (subst (λ x. IsFound plant tags x (seen (Some t))) is found);
+  together = together;
+}
+
+-- the rows of blocks are rows
+blocks_rows : (c : List ℕ) (tags number at : ℕ) (bs : List (List LogRow)) → HasBlocks c tags number at bs → All (IsRow tags) (rows_of bs)
+blocks_rows c tags number at [] has = All-nil (IsRow tags)
+blocks_rows c tags number at (b ∷ bs) has =
+    All-append (IsRow tags) b (rows_of bs) has.0.rows_are.each (blocks_rows c tags (number + length b) (at + block_size b) bs has.1)
+
+pub stored_rows : (plant : List ℕ) (tags : ℕ) (rows : List LogRow) (end : ℕ) (c : List ℕ) → Stores plant tags rows end c
+    → All (IsRow tags) rows
+stored_rows plant tags rows end c has =
+    subst (All (IsRow tags)) (sym has.lists.rows_are)
+    (blocks_rows c tags 0 (blocks_at (length plant)) has.lists.blocks has.lists.are.blocks)
+
+-- ---- a new device
+
+-- what has no rows stands for none
+nothing_stands : (plant : List ℕ) (tags : ℕ) (c : List ℕ) → LogsNothing plant c → StandsFor plant tags c []
+nothing_stands plant tags c (inl new) = ByNothing new refl
+nothing_stands plant tags c (inr empty) =
+    ByBlocks [] (record { of_plant = empty.of_plant; blocks = record { blocks = tt; shut = empty.shut } }) refl
+
+-- a layout without blocks is ready
+pub empty_ready : (plant : List ℕ) (tags end : ℕ) (o : Option Trace) → end ≡ blocks_at (length plant) → Shows o (IsEmpty plant) → IsSettled o
+    → IfSome o (IsReady plant tags [] end)
+empty_ready plant tags end None is empty settled = tt
+empty_ready plant tags end (Some t) is empty settled = record {
+  settled = settled;
+  stores = record {
+    of_plant = empty.of_plant;
+    lists = record { blocks = []; are = record { blocks = tt; shut = empty.shut }; rows_are = refl; end_is = is };
+  };
+}
+
+-- a new device was found
+pub found_new : (plant : List ℕ) (tags : ℕ) (o : Option Trace) (f : Option Stored) → f ≡ None → Shows o (IsFound plant tags f) → Shows o IsNew
+found_new plant tags None f is found = tt
+found_new plant tags (Some t) f is found = subst (λ x. IsFound plant tags x (seen (Some t))) is found
+
+-- it stands for no rows
+pub new_stands : (plant : List ℕ) (tags : ℕ) (o : Option Trace) (rows : List LogRow) → Shows o IsNew → rows ≡ []
+    → Shows o (λ c. StandsFor plant tags c rows)
+new_stands plant tags None rows is none = tt
+new_stands plant tags (Some t) rows is none = ByNothing is none
+
+-- so the room alone is too many
+pub new_many : (plant : List ℕ) (tags room n : ℕ) (o : Option Trace) → Shows o IsNew → n ≡ room → Shows o (IsTooMany plant tags room n)
+new_many plant tags room n None is together = tt
+new_many plant tags room n (Some t) is together = record { rows = []; stands = ByNothing is refl; together = omega (arith, together) }
+
+-- what is begun behind a sync stands for no rows
+pub begun_stands : (plant : List ℕ) (tags : ℕ) (rows : List LogRow) (o mid new : Option Trace) → rows ≡ []
+    → During o mid (IsLeftOrStands plant tags rows o) → During mid new (LogsNothing plant) → During o new (IsLeftOrStands plant tags rows o)
+begun_stands plant tags rows o mid new none before begun =
+    in_turn o mid new (IsLeftOrStands plant tags rows o) before
+    (weaker mid new (LogsNothing plant) (IsLeftOrStands plant tags rows o)
+    (λ c nothing. inr (subst (StandsFor plant tags c) (sym none) (nothing_stands plant tags c nothing))) begun)
+
+-- and for what stood before
+pub begun_same : (plant : List ℕ) (tags : ℕ) (o mid new : Option Trace) → mid ≡ noted Synced o → Shows mid IsNew
+    → During o mid (IsLeftOrSame plant tags o) → During mid new (LogsNothing plant) → During o new (IsLeftOrSame plant tags o)
+begun_same plant tags o mid new synced is before begun =
+    in_turn o mid new (IsLeftOrSame plant tags o) before
+    (weaker mid new (LogsNothing plant) (IsLeftOrSame plant tags o)
+    (λ c nothing. inr (record {
+      rows = [];
+      stood = ByNothing (new_seen o mid synced is) refl;
+      stands = nothing_stands plant tags c nothing;
+    })) begun)
+  where
+    new_seen : (x y : Option Trace) → y ≡ noted Synced x → Shows y IsNew → IsNew (seen x)
+    new_seen None y synced is = inl (omega arith)
+    new_seen (Some t) y synced is = subst (λ x. Shows x IsNew) synced is

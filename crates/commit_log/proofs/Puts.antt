@@ -1,0 +1,75 @@
+-- What a log's type keeps, after a put.
+use Rattle.std.proofs.Common.{◌≡◌, ℕ, ◌+◌, ◌≤◌, Bool, true, false, List, [], ◌∷◌, ◌++◌, length, take, Option, IfSome, sym, ap, ◌∙◌, subst, arith, length-append}
+use Rattle.std.proofs.lemmas.List.{take-append-le}
+use Rattle.disk_model.specs.Traces.{Trace}
+use Rattle.commit_log.specs.declared.row.LogRow.{LogRow}
+use Rattle.commit_log.specs.declared.history.LogTurn.{LogTurn}
+use Rattle.commit_log.specs.declared.history.LogTurn.TheVariants.{Put, Commit}
+use Rattle.commit_log.specs.Blocks.{IsRow}
+use Rattle.commit_log.specs.Images.{StandsFor}
+use Rattle.commit_log.specs.Tapes.{Walk, acked_at, after_turn, puts, start, walked}
+use Rattle.commit_log.specs.Histories.{IsLegal, IsSafe, StandsForPart}
+use Rattle.commit_log.specs.Told.{HasRoom, IsKept, IsReady, Waits}
+use Rattle.commit_log.proofs.Tapes.{acked_at-put, fit-push, puts-append, walked-push}
+
+module _ (tags : ℕ) (opening : List LogRow) (moment : ℕ) (tape : List LogTurn) (row : LogRow) where
+  abbrev longer : List LogTurn
+  longer = tape ++ Put row ∷ []
+
+  -- the rows that were put
+  rows_are : puts longer ≡ puts tape ++ row ∷ []
+  rows_are = puts-append tape (Put row ∷ [])
+
+  pub put_legal : (acked : ℕ) → IsLegal tags opening moment tape acked → IsRow tags row → IsLegal tags opening moment longer acked
+  put_legal acked legal is = record {
+    opened = legal.opened;
+    turns = fit-push tags (start (length opening) moment) tape (Put row) legal.turns is;
+    last = legal.last ∙ sym (ap (λ (w : Walk). w.acked) (walked-push (start (length opening) moment) tape (Put row)));
+  }
+
+  pub put_room : (places places' count room : ℕ) → HasRoom opening tape places count room → count + 1 ≤ room → places' ≡ places
+      → HasRoom opening longer places' (count + 1) room
+  put_room places places' count room has within same = record {
+    count_is = omega (arith, has.count_is, ap length rows_are, length-append (puts tape) (row ∷ []));
+    within = within;
+    tape_room = omega (arith, has.tape_room, length-append tape (Put row ∷ []), same);
+    few = has.few;
+  }
+
+  -- the turns before a place are the same
+  before : (next : ℕ) → next ≤ length tape → take next longer ≡ take next tape
+  before next within = take-append-le next tape (Put row ∷ []) within
+
+  pub put_waits : (next acked : ℕ) → Waits opening tape next acked → Waits opening longer next acked
+  put_waits next acked waits = record {
+    within = omega (arith, waits.within, length-append tape (Put row ∷ []));
+    acked_are = waits.acked_are ∙ ap (λ (l : List LogTurn). length opening + length (puts l)) (sym (before next waits.within));
+  }
+
+  pub put_kept : (plant : List ℕ) (faults next end acked : ℕ) (failed : Bool) (trace : Option Trace) (ticks faults' : ℕ)
+      → Waits opening tape next acked → IsKept plant tags opening moment faults tape next end failed trace ticks faults'
+      → IsKept plant tags opening moment faults longer next end failed trace ticks faults'
+  put_kept plant faults next end acked failed trace ticks faults' waits kept = record {
+    ready = λ usable. subst (λ (l : List LogTurn). IfSome trace (IsReady plant tags (opening ++ puts l) end))
+        (sym (before next waits.within)) (kept.ready usable);
+    past = subst (λ (w : Walk). w.moment ≤ ticks) (sym (walked-push (start (length opening) moment) tape (Put row))) kept.past;
+    opened_before = kept.opened_before;
+    faultless = kept.faultless;
+    cause = kept.cause;
+  }
+
+  pub put_safe : (plant : List ℕ) (left : ℕ → List ℕ → Type 0) → IsSafe plant tags opening moment tape left
+      → IsSafe plant tags opening moment longer left
+  put_safe plant left safe = record { images = λ t c since was. part t c (safe.images t c since was) }
+    where
+      part : (t : ℕ) (c : List ℕ) → StandsForPart plant tags opening (puts tape) (acked_at t (length opening) tape) c
+          → StandsForPart plant tags opening (puts longer) (acked_at t (length opening) longer) c
+      part t c is =
+          let within : is.count ≤ length (puts tape) = is.within in
+          record {
+            count = is.count;
+            enough = subst (λ (n : ℕ). n ≤ length opening + is.count) (sym (acked_at-put t (length opening) tape row)) is.enough;
+            within = omega (arith, within, ap length rows_are, length-append (puts tape) (row ∷ []));
+            stands = subst (λ (l : List LogRow). StandsFor plant tags c (opening ++ l))
+                (sym (ap (take is.count) rows_are ∙ take-append-le is.count (puts tape) (row ∷ []) within)) is.stands;
+          }

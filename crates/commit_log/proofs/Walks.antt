@@ -1,0 +1,85 @@
+-- Blocks one behind the other, and one more.
+use Rattle.std.proofs.Common.{◌≡◌, ◌≢◌, ℕ, ◌+◌, ◌<◌, ◌≤◌, List, [], ◌∷◌, ◌++◌, length, get_or, Option, refl, sym, ap, ◌∙◌, subst, arith, append_assoc, length-append}
+use Rattle.std.proofs.lemmas.List.{append-nil}
+use Rattle.disk_model.specs.Gates.{IsOpen, open_byte}
+use Rattle.commit_log.specs.declared.row.LogRow.{LogRow}
+use Rattle.commit_log.specs.Fields.{BreaksFirst}
+use Rattle.commit_log.specs.Blocks.{HasBlock, HasBlocks, IsBlockDamage, block_fields, block_size, end_of, rows_of}
+use Rattle.commit_log.specs.Openings.{AddsBlock, ListsRows}
+
+-- where blocks and one more end
+pub end_of-push : (at : ℕ) (bs : List (List LogRow)) (x : List LogRow) → end_of at (bs ++ x ∷ []) ≡ end_of at bs + block_size x
+end_of-push at [] x = refl
+end_of-push at (y ∷ bs) x = end_of-push (at + block_size y) bs x
+
+-- their rows
+pub rows_of-push : (bs : List (List LogRow)) (x : List LogRow) → rows_of (bs ++ x ∷ []) ≡ rows_of bs ++ x
+rows_of-push [] x = append-nil x
+rows_of-push (y ∷ bs) x = ap (λ l. y ++ l) (rows_of-push bs x) ∙ sym (append_assoc y (rows_of bs) x)
+
+-- one more stands behind them
+pub has_push : (c : List ℕ) (tags number at : ℕ) (bs : List (List LogRow)) (x : List LogRow) → HasBlocks c tags number at bs
+    → HasBlock c tags (number + length (rows_of bs)) (end_of at bs) x → HasBlocks c tags number at (bs ++ x ∷ [])
+has_push c tags number at [] x has one =
+    let same : number + 0 ≡ number = omega arith in
+    (subst (λ n. HasBlock c tags n at x) same one, tt)
+has_push c tags number at (y ∷ bs) x has one =
+    let same : number + length (y ++ rows_of bs) ≡ number + length y + length (rows_of bs) = omega (arith, length-append y (rows_of bs)) in (
+      has.0,
+      has_push c tags (number + length y) (at + block_size y) bs x has.1
+          (subst (λ n. HasBlock c tags n (end_of (at + block_size y) bs) x) same one),
+    )
+
+-- the blocks up to a gate list these rows
+pub record IsWalked (c : List ℕ) (tags at next : ℕ) (rows : List LogRow) : Type 0 where
+  pub blocks : List (List LogRow)
+  pub has : HasBlocks c tags 0 at blocks
+  pub rows_are : rows ≡ rows_of blocks
+  pub end_is : next ≡ end_of at blocks
+
+-- before the first one
+pub walk_begins : (c : List ℕ) (tags at : ℕ) (rows : List LogRow) → rows ≡ [] → IsWalked c tags at at rows
+walk_begins c tags at rows none = record { blocks = []; has = tt; rows_are = none; end_is = refl }
+
+-- one more behind its open gate
+pub walk_on : (c : List ℕ) (tags at gate next : ℕ) (old new : List LogRow) → IsWalked c tags at gate old → IsOpen gate c
+    → AddsBlock c tags gate old new next → IsWalked c tags at next new
+walk_on c tags at gate next old new so_far opened added = record {
+  blocks = so_far.blocks ++ added.block ∷ [];
+  has = has_push c tags 0 at so_far.blocks added.block so_far.has
+      (subst (λ n. HasBlock c tags n (end_of at so_far.blocks) added.block) number
+      (subst (λ n. HasBlock c tags (length old) n added.block) so_far.end_is
+      (record { opened = opened; spelled = added.spelled.spelled; rows_are = added.rows_are })));
+  rows_are = added.are ∙ ap (λ l. l ++ added.block) so_far.rows_are ∙ sym (rows_of-push so_far.blocks added.block);
+  end_is = added.next_is ∙ ap (λ n. n + block_size added.block) so_far.end_is ∙ sym (end_of-push at so_far.blocks added.block);
+}
+  where
+    number : length old ≡ 0 + length (rows_of so_far.blocks)
+    number = omega (arith, ap length so_far.rows_are)
+
+-- the next one breaks a rule
+pub walk_breaks : (c : List ℕ) (tags at gate : ℕ) (rows : List LogRow) (a : ℕ) (byte : Option ℕ) → IsWalked c tags at gate rows
+    → IsOpen gate c → BreaksFirst c (block_fields c tags (length rows) gate) a byte → IsBlockDamage c tags at a byte
+walk_breaks c tags at gate rows a byte so_far opened breaks = record {
+  blocks = so_far.blocks;
+  whole = so_far.has;
+  opened = subst (λ n. IsOpen n c) so_far.end_is opened;
+  breaks = subst (λ n. BreaksFirst c (block_fields c tags (length (rows_of so_far.blocks)) n) a byte) so_far.end_is
+      (subst (λ l. BreaksFirst c (block_fields c tags (length l) gate) a byte) so_far.rows_are breaks);
+}
+
+-- there is none behind a closed gate
+pub walk_ends : (c : List ℕ) (tags at next end : ℕ) (rows : List LogRow) → IsWalked c tags at next rows → end ≡ next
+    → next < length c → get_or c next 0 ≢ open_byte → ListsRows c tags at rows end
+walk_ends c tags at next end rows so_far is there closed = record {
+  blocks = so_far.blocks;
+  are = record {
+    blocks = so_far.has;
+    shut = record {
+      there = subst (λ n. n < length c) so_far.end_is there;
+      closed = λ opened. closed (ap (λ n. get_or c n 0) so_far.end_is ∙ opened);
+    };
+  };
+  rows_are = so_far.rows_are;
+  end_is = is ∙ so_far.end_is;
+}

@@ -1,0 +1,34 @@
+-- The bytes of rows, added turn by turn.
+use Rattle.std.proofs.Common.{◌≡◌, inl, inr, ℕ, ◌+◌, ◌<◌, ◌≤◌, List, [], ◌∷◌, ◌++◌, length, get_or, take, sym, ap, ◌∙◌, arith, append_assoc, length-append}
+use Rattle.std.proofs.lemmas.Bool.{cases_lt}
+use Rattle.std.proofs.lemmas.Grind.{flat_map-append}
+use Rattle.std.proofs.lemmas.List.{take_all, take_more}
+use Rattle.commit_log.specs.declared.row.LogRow.{LogRow}
+use Rattle.commit_log.specs.declared.history.LogTurn.{LogTurn}
+use Rattle.commit_log.specs.Blocks.{row_image, rows_image}
+use Rattle.commit_log.specs.Tapes.{puts}
+use Rattle.commit_log.specs.Writes.{WritesRows}
+use Rattle.commit_log.proofs.Tapes.{puts-append}
+
+-- where rows are still to come there is a turn
+pub turn_left : (rest : List LogTurn) (turns done count : ℕ) → length (puts (take turns rest)) ≡ done → done < count
+    → count ≤ length (puts rest) → turns < length rest
+turn_left rest turns done count long more there = elim (cases_lt turns (length rest)) [
+  | inl low ↦ low
+  | inr high ↦ absurd (omega (arith, long, more, there, ap (λ (l : List LogTurn). length (puts l)) (take_all turns rest high)))
+]
+
+-- one turn more
+pub one_more : (rest : List LogTurn) (turns done n : ℕ) (old mid new : List ℕ) (e : LogTurn) → turns < length rest
+    → e ≡ get_or rest turns e → WritesRows done rest old mid turns → new ≡ mid ++ rows_image (puts (e ∷ []))
+    → n ≡ length (puts (e ∷ [])) → WritesRows (done + n) rest old new (turns + 1)
+one_more rest turns done n old mid new e low is so_far added count = record {
+  within = omega (arith, low);
+  long = omega (arith, ap length rows, length-append (puts (take turns rest)) (puts (e ∷ [])), so_far.long, count);
+  bytes_are = added ∙ ap (λ l. l ++ rows_image (puts (e ∷ []))) so_far.bytes_are
+      ∙ append_assoc old (rows_image (puts (take turns rest))) (rows_image (puts (e ∷ [])))
+      ∙ ap (λ l. old ++ l) (sym (ap rows_image rows ∙ flat_map-append row_image (puts (take turns rest)) (puts (e ∷ []))));
+}
+  where
+    rows : puts (take (turns + 1) rest) ≡ puts (take turns rest) ++ puts (e ∷ [])
+    rows = ap puts (take_more rest turns e low ∙ ap (λ x. take turns rest ++ x ∷ []) (sym is)) ∙ puts-append (take turns rest) (e ∷ [])

@@ -1,0 +1,77 @@
+use Rattle.std.proofs.Common.{◌≡◌, ◌+◌, ◌*◌, ◌<◌, ◌≤◌, ◌∷◌, [], true, All, length, nat_eq, refl, ap, ◌∙◌, subst, arith, lit<}
+use Rattle.std.proofs.lemmas.Result.{err_from_is_err_and}
+use Rattle.commit_log.specs.Fields.{BreaksFirst, Keeps, long_at}
+use Rattle.commit_log.proofs.FieldLaws.{breaks_part, field_of, told_through}
+use Rattle.commit_log.proofs.BlockLaws.{at_first, at_gate, at_rows, block_added}
+use Rattle.commit_log.proofs.block_reader.read_block.Goals as goal
+
+pub returns-in_err-check-clause-damaged : goal.returns-in_err-check-clause-damaged
+returns-in_err-check-clause-damaged c = λ a byte told.
+    let s = c.args.c.now in
+    let gate = c.args.gate in
+    let n = length c.args.rows.now.items in
+    let count = c.short_at-count.result in
+    let len : c.len.result ≡ n = omega (arith, c.len.ensures) in
+    let first = c.new.ensures ∙ ap (λ k. field_of (gate + 1) 8 (nat_eq k c.len.result)) c.long_at-number.ensures
+    ∙ ap (λ k. field_of (gate + 1) 8 (nat_eq (long_at s (gate + 1)) k)) len in
+    let second = c.new-2.ensures ∙ ap (field_of (gate + 9) 4) c.is_count_ok.ensures in
+    let out = err_from_is_err_and c.from_residual.result c.from_residual.ensures.1 in
+    breaks_part s _ _ _ a byte (at_first s c.args.tags gate n count c.short_at-count.ensures)
+    (subst (λ fs. BreaksFirst s fs a byte) (λ i. first i ∷ second i ∷ [])
+    (c.in_err-check.ensures.damaged a byte (told_through c.from_residual.result out.0 _ a byte out.1 out.2 told)))
+
+pub returns-in_err-read_rows-clause-damaged : goal.returns-in_err-read_rows-clause-damaged
+returns-in_err-read_rows-clause-damaged c = λ a byte told.
+    let s = c.args.c.now in
+    let gate = c.args.gate in
+    let n = length c.args.rows.now.items in
+    let count = c.short_at-count.result in
+    let len : c.len.result ≡ n = omega (arith, c.len.ensures) in
+    let first = c.new.ensures ∙ ap (λ k. field_of (gate + 1) 8 (nat_eq k c.len.result)) c.long_at-number.ensures
+    ∙ ap (λ k. field_of (gate + 1) 8 (nat_eq (long_at s (gate + 1)) k)) len in
+    let second = c.new-2.ensures ∙ ap (field_of (gate + 9) 4) c.is_count_ok.ensures in
+    let kept = subst (All (Keeps s)) (λ i. first i ∷ second i ∷ []) c.in_ok-check.ensures.kept in
+    let out = err_from_is_err_and c.from_residual-in_err-read_rows.result c.from_residual-in_err-read_rows.ensures.1 in
+    breaks_part s _ _ _ a byte (at_rows s c.args.tags gate n count c.short_at-count.ensures kept)
+    (c.in_err-read_rows.ensures.damaged a byte
+    (told_through c.from_residual-in_err-read_rows.result out.0 _ a byte out.1 out.2 told))
+
+pub returns-in_err-check-2-clause-damaged : goal.returns-in_err-check-2-clause-damaged
+returns-in_err-check-2-clause-damaged c = λ a byte told.
+    let s = c.args.c.now in
+    let gate = c.args.gate in
+    let n = length c.args.rows.now.items in
+    let count = c.short_at-count.result in
+    let len : c.len.result ≡ n = omega (arith, c.len.ensures) in
+    let first = c.new.ensures ∙ ap (λ k. field_of (gate + 1) 8 (nat_eq k c.len.result)) c.long_at-number.ensures
+    ∙ ap (λ k. field_of (gate + 1) 8 (nat_eq (long_at s (gate + 1)) k)) len in
+    let second = c.new-2.ensures ∙ ap (field_of (gate + 9) 4) c.is_count_ok.ensures in
+    let kept = subst (All (Keeps s)) (λ i. first i ∷ second i ∷ []) c.in_ok-check.ensures.kept in
+    let last = c.new-3.ensures in
+    let out = err_from_is_err_and c.from_residual-in_err-check-2.result c.from_residual-in_err-check-2.ensures.1 in
+    breaks_part s _ _ _ a byte
+    (at_gate s c.args.tags gate n count c.short_at-count.ensures kept c.in_ok-read_rows.ensures.kept)
+    (subst (λ f. BreaksFirst s (f ∷ []) a byte) last
+    (c.in_err-check-2.ensures.damaged a byte
+    (told_through c.from_residual-in_err-check-2.result out.0 _ a byte out.1 out.2 told)))
+
+pub returns-clause-added : goal.returns-clause-added
+returns-clause-added c =
+    let s = c.args.c.now in
+    let gate = c.args.gate in
+    let n = length c.args.rows.now.items in
+    let count = c.short_at-count.result in
+    let len : c.len.result ≡ n = omega (arith, c.len.ensures) in
+    let first = c.new.ensures ∙ ap (λ k. field_of (gate + 1) 8 (nat_eq k c.len.result)) c.long_at-number.ensures
+    ∙ ap (λ k. field_of (gate + 1) 8 (nat_eq (long_at s (gate + 1)) k)) len in
+    let second = c.new-2.ensures ∙ ap (field_of (gate + 9) 4) c.is_count_ok.ensures in
+    let kept = subst (All (Keeps s)) (λ i. first i ∷ second i ∷ []) c.in_ok-check.ensures.kept in
+    block_added s c.args.tags gate count _ c.args.rows.now.items c.read_rows.new.rows.items c.short_at-count.ensures
+    (λ i. omega (arith, c.type_inv.c i)) kept c.in_ok-read_rows.ensures.added refl
+
+pub returns-clause-next : goal.returns-clause-next
+returns-clause-next c =
+    let last = c.new-3.ensures in
+    let kept = subst (λ f. All (Keeps c.args.c.now) (f ∷ [])) last c.in_ok-check-2.ensures.kept in
+    let there : c.args.gate + 13 + 32 * c.short_at-count.result + 1 ≤ length c.args.c.now = (kept 0 (field_of 0 0 true) (lit< tt)).there in
+    omega (arith, there)

@@ -1,0 +1,38 @@
+-- What a log's tape says: which rows were put, and what is acknowledged.
+use Rattle.std.specs.Prelude.{ℕ, ◌+◌, List, [], ◌∷◌, nat_le, if◌then◌else◌}
+use Rattle.commit_log.specs.declared.row.LogRow.{LogRow}
+use Rattle.commit_log.specs.declared.history.LogTurn.{LogTurn}
+use Rattle.commit_log.specs.declared.history.LogTurn.TheVariants.{Put, Commit}
+
+-- the rows that were put
+abbrev pub puts : List LogTurn → List LogRow
+puts [] = []
+puts (Put row ∷ es) = row ∷ puts es
+puts (Commit moment acked ∷ es) = puts es
+
+-- how many rows the last commit at a moment, or before it, acknowledges, or so many where there is none
+abbrev pub acked_at : ℕ → ℕ → List LogTurn → ℕ
+acked_at t n [] = n
+acked_at t n (Put row ∷ es) = acked_at t n es
+acked_at t n (Commit moment acked ∷ es) = acked_at t (if nat_le moment t then acked else n) es
+
+-- where one is on a tape: how many rows there are so far, the opening's among them, and how many of them the last commit
+-- acknowledged, at which moment
+pub record Walk : Type 0 where
+  pub rows : ℕ
+  pub acked : ℕ
+  pub moment : ℕ
+
+-- at an opening with so many rows
+abbrev pub start : ℕ → ℕ → Walk
+start rows moment = record { rows = rows; acked = rows; moment = moment }
+
+-- after one more turn
+abbrev pub after_turn : Walk → LogTurn → Walk
+after_turn w (Put row) = record w { rows = w.rows + 1 }
+after_turn w (Commit moment acked) = record w { acked = acked; moment = moment }
+
+-- after these turns
+abbrev pub walked : Walk → List LogTurn → Walk
+walked w [] = w
+walked w (e ∷ es) = walked (after_turn w e) es

@@ -1,0 +1,151 @@
+// A log: the raw values of a plant with all that lies under its lock.
+ghost use Rattle.std.specs.Prelude.{◌≡◌};
+ghost use Rattle.commit_log.specs.Told.{HasHistory, IsHandedOut};
+
+use crate::history::{LogHistory, LogTurn};
+use crate::row::LogRow;
+use disk_model::Disk;
+use std::alloc::Global;
+use std::marker::Model;
+
+/// The log of a plant that runs.
+#[derive(Drop)]
+pub struct Log<D: Disk> {
+    pub(crate) alloc: Global,
+    pub(crate) plant: Vec<u8>,
+    pub(crate) tags: u32,
+    pub(crate) opening: Vec<LogRow>,
+    pub(crate) moment: u64,
+    pub(crate) faults: u64,
+    pub(crate) tape: Vec<LogTurn>,
+    // How many puts the tape has, and how many it may have.
+    pub(crate) count: u32,
+    pub(crate) room: u32,
+    // The turns before this place of the tape are acknowledged, and so many rows are.
+    pub(crate) next: usize,
+    pub(crate) acked: u64,
+    // Where the next block goes: the gate in front of it.
+    pub(crate) end: u64,
+    pub(crate) failed: bool,
+    pub(crate) dev: D,
+}
+
+impl<D: Disk> Model for Log<D> {
+    ghost use Rattle.std.specs.Prelude.{vec_capacity};
+    ghost use Rattle.disk_model.specs.Moments.{LeftSince};
+    ghost use Rattle.commit_log.specs.Histories.{IsLegal, IsSafe};
+    ghost use Rattle.commit_log.specs.Told.{Told, HasRoom, Waits, IsKept};
+
+    ghost Value = { Told D };
+
+    ghost view = { λ l. record {
+      plant = l.plant.items;
+      tags = l.tags;
+      opening = l.opening.items;
+      moment = l.moment;
+      faults = l.faults;
+      tape = l.tape.items;
+      room = l.room;
+      acked = l.acked;
+      end = l.end;
+      failed = l.failed;
+      dev = l.dev;
+    } };
+
+    ghost invariant = { λ l. IsLegal l.tags l.opening.items l.moment l.tape.items l.acked
+        × HasRoom l.opening.items l.tape.items (vec_capacity l.tape) l.count l.room
+        × Waits l.opening.items l.tape.items l.next l.acked
+        × IsKept l.plant.items l.tags l.opening.items l.moment l.faults l.tape.items l.next l.end l.failed
+        (D.trace l.dev) (D.ticks l.dev) (D.fault_count l.dev)
+        × IsSafe l.plant.items l.tags l.opening.items l.moment l.tape.items (LeftSince (D.trace l.dev)) };
+}
+
+impl<D: Disk> Log<D> {
+    /// The rows that stood on the device as it was opened, the oldest first.
+    pub fn opening(&self) -> &[LogRow]
+        ensures { result.now ≡ self.now.opening }
+    {
+        &self.opening
+    }
+
+    /// The device's clock as the opening ended.
+    pub fn moment(&self) -> u64
+        ensures { result ≡ self.now.moment }
+    {
+        self.moment
+    }
+
+    /// How often a call of the device had failed as it was opened.
+    pub fn faults(&self) -> u64
+        ensures { result ≡ self.now.faults }
+    {
+        self.faults
+    }
+
+    /// What the calls so far left, the oldest first. The history is legal, what a crash leaves is safe, and no moment is above the
+    /// device's clock.
+    pub fn tape(&self) -> &[LogTurn]
+        ensures tape { result.now ≡ self.now.tape }
+        ensures history { HasHistory D.trace D.ticks D.fault_count self.now }
+    {
+        &self.tape
+    }
+
+    /// The names of the plant's tags, in base order, with a line feed between two.
+    pub fn plant(&self) -> &[u8]
+        ensures { result.now ≡ self.now.plant }
+    {
+        &self.plant
+    }
+
+    /// How many tags the plant has.
+    pub fn tags(&self) -> u32
+        ensures { result ≡ self.now.tags }
+    {
+        self.tags
+    }
+
+    /// How often a call of the device has failed.
+    pub fn device_faults(&self) -> u64
+        ensures { result ≡ D.fault_count self.now.dev }
+    {
+        self.dev.faults()
+    }
+
+    /// The device, and all that happened to the log since it was opened.
+    pub fn into_history(self) -> (D, LogHistory)
+        ensures device { result.0 ≡ self.dev }
+        ensures plant { result.1.plant.items ≡ self.plant }
+        ensures tags { result.1.tags ≡ self.tags }
+        ensures opening { result.1.opening.items ≡ self.opening }
+        ensures moment { result.1.moment ≡ self.moment }
+        ensures faults { result.1.faults ≡ self.faults }
+        ensures tape { result.1.tape.items ≡ self.tape }
+        ensures acked { result.1.acked ≡ self.acked }
+        ensures history { IsHandedOut result.1 (D.trace result.0) (D.ticks result.0) (D.fault_count result.0) }
+    {
+        let Log {
+            plant,
+            tags,
+            opening,
+            moment,
+            faults,
+            tape,
+            acked,
+            dev,
+            ..
+        } = self;
+        (
+            dev,
+            LogHistory {
+                plant,
+                tags,
+                opening,
+                moment,
+                faults,
+                tape,
+                acked,
+            },
+        )
+    }
+}

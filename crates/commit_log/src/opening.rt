@@ -1,0 +1,211 @@
+// A log is opened.
+ghost use Rattle.std.specs.Prelude.{◌≡◌, ℕ, ◌+◌, ◌<◌, ◌≤◌, [], All, Option, IfErr, IfOk, IfSome, IsErrOf, OnErr, OnOk, false, length, vec_capacity};
+ghost use Rattle.disk_model.specs.Calls.{CountsFault, Shows};
+ghost use Rattle.disk_model.specs.Gates.{IsNew};
+ghost use Rattle.disk_model.specs.Images.{IsSettled};
+ghost use Rattle.disk_model.specs.Moments.{During};
+ghost use Rattle.commit_log.specs.declared.refusal.LogNo.TheVariants.{Damaged, DeviceFault, OtherPlant, TooMany};
+ghost use Rattle.commit_log.specs.Blocks.{IsRow};
+ghost use Rattle.commit_log.specs.Images.{LogsNothing, StandsFor};
+ghost use Rattle.commit_log.specs.Openings.{CountsRefusal, IsCause, IsLeftOrSame, IsLeftOrStands, most_rows};
+ghost use Rattle.commit_log.specs.Told.{IsReady};
+
+use crate::block_reader::Stored;
+use crate::history::LogTurn;
+use crate::layout::make_layout;
+use crate::layout_reader::read_log;
+use crate::log::Log;
+use crate::refusal::{LogFail, LogNo};
+use crate::row::LogRow;
+use archive_file::PutNo;
+use disk_model::Disk;
+use std::alloc::Global;
+
+// How many rows a log holds at most, with those that it has room for.
+const MOST_ROWS: u64 = 4_000_000;
+
+/// Opens the log of a plant with this text, the names of its tags in base order with a line feed between two, and so many tags,
+/// with room for so many puts. It begins with a sync; a new device is begun, and another one read. A crash at any moment leaves
+/// what it might have left before, or what stands for the same rows. A device that is not opened is handed back: a call of it
+/// failed, its layout is damaged, it is that of another plant, the rows and the room are more than 4,000,000, or memory is
+/// wanting.
+pub fn open_log<D: Disk>(
+    alloc: Global,
+    dev: D,
+    plant: &[u8],
+    tags: u32,
+    room: u32,
+) -> Result<Log<D>, LogFail<D>>
+    // It has the rows for which the device's bytes stood.
+    ensures opened { IfOk result (λ l. Shows (D.trace dev) (λ c. StandsFor plant.now tags c l.opening)) }
+    ensures any_moment { IfOk result (λ l. During (D.trace dev) (D.trace l.dev) (IsLeftOrStands plant.now tags l.opening (D.trace dev))) }
+    ensures any_moment_refused { IfErr result (λ e. During (D.trace dev) (D.trace e.dev) (IsLeftOrSame plant.now tags (D.trace dev))) }
+
+    ensures plant { IfOk result (λ l. l.plant ≡ plant.now) }
+    ensures tags { IfOk result (λ l. l.tags ≡ tags) }
+    ensures room { IfOk result (λ l. l.room ≡ room) }
+    ensures few { IfOk result (λ l. length l.opening + room ≤ most_rows) }
+    ensures tape { IfOk result (λ l. l.tape ≡ []) }
+    ensures acked { IfOk result (λ l. l.acked ≡ length l.opening) }
+    ensures usable { IfOk result (λ l. l.failed ≡ false) }
+    ensures moment { IfOk result (λ l. l.moment ≡ D.ticks l.dev) }
+    ensures faults { IfOk result (λ l. l.faults ≡ D.fault_count l.dev) }
+
+    // A refusal tells its cause. One fault is counted where a call of the device has failed, and else none.
+    ensures cause { IfErr result (λ e. IsCause plant.now tags room (D.trace dev) e.why) }
+    ensures faultless { IfOk result (λ l. D.fault_count l.dev ≡ D.fault_count dev) }
+    ensures counts { IfErr result (λ e. CountsRefusal e.why (D.fault_count dev) (D.fault_count e.dev)) }
+{
+    let mut dev = dev;
+    match open_parts(alloc, &mut dev, plant, tags, room) {
+        Ok(parts) => Ok(log_of(alloc, dev, tags, room, parts)),
+        Err(why) => Err(LogFail { dev, why }),
+    }
+}
+
+// What a log needs beside its device: its own copy of the plant's text, the rows on the device and where the next block goes, and
+// a tape with room.
+#[derive(Drop)]
+pub struct Parts {
+    pub plant: Vec<u8>,
+    pub rows: Vec<LogRow>,
+    pub end: u64,
+    pub tape: Vec<LogTurn>,
+}
+
+// The log on a device that was opened.
+fn log_of<D: Disk>(alloc: Global, dev: D, tags: u32, room: u32, parts: Parts) -> Log<D>
+    requires ready { IfSome (D.trace dev) (IsReady parts.plant.items tags parts.rows.items parts.end) }
+    requires rows { All (IsRow tags) parts.rows.items }
+    requires empty { parts.tape.items ≡ [] }
+    requires capacity { room ≤ vec_capacity parts.tape }
+    requires few { length parts.rows.items + room ≤ most_rows }
+    ensures { result ≡ record {
+      plant = parts.plant.items;
+      tags = tags;
+      opening = parts.rows.items;
+      moment = D.ticks dev;
+      faults = D.fault_count dev;
+      tape = [];
+      room = room;
+      acked = length parts.rows.items;
+      end = parts.end;
+      failed = false;
+      dev = dev;
+    } }
+{
+    let moment = dev.clock();
+    let faults = dev.faults();
+    let acked = parts.rows.len() as u64;
+    Log {
+        alloc,
+        plant: parts.plant,
+        tags,
+        opening: parts.rows,
+        moment,
+        faults,
+        tape: parts.tape,
+        count: 0,
+        room,
+        next: 0,
+        acked,
+        end: parts.end,
+        failed: false,
+        dev,
+    }
+}
+
+// Syncs and reads a device, and begins it where it is new.
+fn open_parts<D: Disk>(
+    alloc: Global,
+    dev: &mut D,
+    plant: &[u8],
+    tags: u32,
+    room: u32,
+) -> Result<Parts, LogNo>
+    ensures stood { IfOk result (λ p. Shows (D.trace dev.old) (λ c. StandsFor plant.now tags c p.rows.items)) }
+    ensures ready { IfOk result (λ p. IfSome (D.trace dev.new) (IsReady plant.now tags p.rows.items p.end)) }
+    ensures any_moment { IfOk result (λ p. During (D.trace dev.old) (D.trace dev.new)
+        (IsLeftOrStands plant.now tags p.rows.items (D.trace dev.old))) }
+    ensures any_moment_refused { OnErr result (During (D.trace dev.old) (D.trace dev.new) (IsLeftOrSame plant.now tags (D.trace dev.old))) }
+    ensures rows { IfOk result (λ p. All (IsRow tags) p.rows.items) }
+    ensures plant { IfOk result (λ p. p.plant.items ≡ plant.now) }
+    ensures tape { IfOk result (λ p. p.tape.items ≡ []) }
+    ensures capacity { IfOk result (λ p. room ≤ vec_capacity p.tape) }
+    ensures few { IfOk result (λ p. length p.rows.items + room ≤ most_rows) }
+    ensures cause { IfErr result (IsCause plant.now tags room (D.trace dev.old)) }
+    ensures counts { CountsFault result DeviceFault (D.fault_count dev.old) (D.fault_count dev.new) }
+{
+    let Ok(()) = dev.sync() else {
+        return Err(LogNo::DeviceFault);
+    };
+    match read_log(alloc, dev, plant, tags)? {
+        Some(stored) => parts_of(alloc, stored, plant, room),
+        None => begin(alloc, dev, plant, tags, room),
+    }
+}
+
+// What a log needs of what is stored: refuses rows that are too many with the room.
+fn parts_of(alloc: Global, stored: Stored, plant: &[u8], room: u32) -> Result<Parts, LogNo>
+    ensures rows { IfOk result (λ p. p.rows.items ≡ stored.rows.items) }
+    ensures end { IfOk result (λ p. p.end ≡ stored.end) }
+    ensures plant { IfOk result (λ p. p.plant.items ≡ plant.now) }
+    ensures tape { IfOk result (λ p. p.tape.items ≡ []) }
+    ensures capacity { IfOk result (λ p. room ≤ vec_capacity p.tape) }
+    ensures few { OnOk result (length stored.rows.items + room ≤ most_rows) }
+    ensures many { (n : ℕ) → IsErrOf result (TooMany n) → (n ≡ length stored.rows.items + room) × (most_rows < n) }
+    ensures undamaged { (a : ℕ) (byte : Option ℕ) → IsErrOf result (Damaged a byte) → ⊥ }
+    ensures not_other { (at : ℕ) → IsErrOf result (OtherPlant at) → ⊥ }
+    ensures no_fault { IsErrOf result DeviceFault → ⊥ }
+{
+    let together = stored.rows.len() as u64 + u64::from(room);
+    if together > MOST_ROWS {
+        return Err(LogNo::TooMany { rows: together });
+    }
+    let Ok(plant) = Vec::from_slice(alloc, plant) else {
+        return Err(LogNo::WantOfMemory);
+    };
+    let Ok(tape) = Vec::with_capacity(alloc, room as usize) else {
+        return Err(LogNo::WantOfMemory);
+    };
+    Ok(Parts {
+        plant,
+        rows: stored.rows,
+        end: stored.end,
+        tape,
+    })
+}
+
+// Begins a new device.
+fn begin<D: Disk>(
+    alloc: Global,
+    dev: &mut D,
+    plant: &[u8],
+    tags: u32,
+    room: u32,
+) -> Result<Parts, LogNo>
+    requires new { Shows (D.trace dev.old) IsNew }
+    requires settled { IsSettled (D.trace dev.old) }
+    ensures rows { IfOk result (λ p. p.rows.items ≡ []) }
+    ensures ready { IfOk result (λ p. IfSome (D.trace dev.new) (IsReady plant.now tags [] p.end)) }
+    ensures any_moment { During (D.trace dev.old) (D.trace dev.new) (LogsNothing plant.now) }
+    ensures plant { IfOk result (λ p. p.plant.items ≡ plant.now) }
+    ensures tape { IfOk result (λ p. p.tape.items ≡ []) }
+    ensures capacity { IfOk result (λ p. room ≤ vec_capacity p.tape) }
+    ensures few { OnOk result (room ≤ most_rows) }
+    ensures many { (n : ℕ) → IsErrOf result (TooMany n) → (n ≡ room) × (most_rows < n) }
+    ensures undamaged { (a : ℕ) (byte : Option ℕ) → IsErrOf result (Damaged a byte) → ⊥ }
+    ensures not_other { (at : ℕ) → IsErrOf result (OtherPlant at) → ⊥ }
+    ensures counts { CountsFault result DeviceFault (D.fault_count dev.old) (D.fault_count dev.new) }
+{
+    let none = Stored {
+        rows: Vec::new(alloc),
+        end: 9 + plant.len() as u64,
+    };
+    let parts = parts_of(alloc, none, plant, room)?;
+    match make_layout(alloc, dev, plant) {
+        Ok(()) => Ok(parts),
+        Err(PutNo::DeviceFault) => Err(LogNo::DeviceFault),
+        Err(PutNo::WantOfMemory) => Err(LogNo::WantOfMemory),
+    }
+}
