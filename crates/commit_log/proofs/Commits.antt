@@ -55,6 +55,11 @@ ready_now : (plant : List ℕ) (tags : ℕ) (rows : List LogRow) (end : ℕ) (o 
 ready_now plant tags rows end None ready d may = absurd may.image
 ready_now plant tags rows end (Some t) ready d may = subst (Stores plant tags rows end) (sym (ready.settled.each d may)) ready.stores
 
+-- so it stands for these rows
+pub ready_stands : (plant : List ℕ) (tags : ℕ) (rows : List LogRow) (end : ℕ) (o : Option Trace) → IfSome o (IsReady plant tags rows end)
+    → (d : List ℕ) → MayLeave o d → StandsFor plant tags d rows
+ready_stands plant tags rows end o ready d may = stores_stand plant tags rows end d (ready_now plant tags rows end o ready d may)
+
 -- and has a closed gate where the next block goes
 pub ready_shut : (plant : List ℕ) (tags : ℕ) (rows : List LogRow) (end : ℕ) (o : Option Trace) → IfSome o (IsReady plant tags rows end)
     → Now o (IsShut end)

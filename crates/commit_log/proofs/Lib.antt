@@ -13,3 +13,5 @@ pub mod Written
 pub mod Differences
 pub mod Prefixes
 pub mod Opened
+pub mod Openings
+pub mod Acks

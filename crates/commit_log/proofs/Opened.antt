@@ -12,7 +12,7 @@ use Rattle.commit_log.specs.declared.block_reader.Stored.{Stored}
 use Rattle.commit_log.specs.declared.row.LogRow.{LogRow}
 use Rattle.commit_log.specs.Blocks.{HasBlocks, IsRow, block_size, rows_of}
 use Rattle.commit_log.specs.Images.{ByBlocks, ByNothing, IsEmpty, LogsNothing, StandsFor, blocks_at}
-use Rattle.commit_log.specs.Openings.{IsFound, IsLeftOrSame, IsLeftOrStands, IsTooMany, StandsSame, Stores}
+use Rattle.commit_log.specs.Openings.{IsFound, IsLeftOrSame, IsLeftOrStands, IsTooMany, ListsRows, StandsSame}
 use Rattle.commit_log.specs.Told.{IsReady}
 use Rattle.commit_log.proofs.Commits.{stores_stand}
 
@@ -71,11 +71,9 @@ blocks_rows c tags number at [] has = All-nil (IsRow tags)
 blocks_rows c tags number at (b ∷ bs) has =
     All-append (IsRow tags) b (rows_of bs) has.0.rows_are.each (blocks_rows c tags (number + length b) (at + block_size b) bs has.1)
 
-pub stored_rows : (plant : List ℕ) (tags : ℕ) (rows : List LogRow) (end : ℕ) (c : List ℕ) → Stores plant tags rows end c
-    → All (IsRow tags) rows
-stored_rows plant tags rows end c has =
-    subst (All (IsRow tags)) (sym has.lists.rows_are)
-    (blocks_rows c tags 0 (blocks_at (length plant)) has.lists.blocks has.lists.are.blocks)
+pub lists_rows : (c : List ℕ) (tags at : ℕ) (rows : List LogRow) (end : ℕ) → ListsRows c tags at rows end → All (IsRow tags) rows
+lists_rows c tags at rows end lists =
+    subst (All (IsRow tags)) (sym lists.rows_are) (blocks_rows c tags 0 at lists.blocks lists.are.blocks)
 
 -- ---- a new device
 
