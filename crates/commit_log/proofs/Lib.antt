@@ -15,3 +15,4 @@ pub mod Prefixes
 pub mod Opened
 pub mod Openings
 pub mod Acks
+pub mod Keeps

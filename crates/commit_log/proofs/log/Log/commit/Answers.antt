@@ -1,0 +1,234 @@
+use Rattle.std.proofs.Common.{◌≡◌, ℕ, ◌+◌, ◌-◌, ◌≤◌, true, false, List, [], ◌∷◌, ◌++◌, length, min, take, drop, refl, sym, ap, ◌∙◌, subst, arith}
+use Rattle.std.specs.Prelude.{vec_capacity}
+use Rattle.disk_model.specs.Calls.{Sees}
+use Rattle.disk_model.specs.Gates.{open_byte}
+use Rattle.disk_model.specs.Traces.{seen, written}
+use Rattle.commit_log.specs.declared.history.LogAcked.{LogAcked}
+use Rattle.commit_log.specs.declared.history.LogTurn.{LogTurn}
+use Rattle.commit_log.specs.declared.history.LogTurn.TheVariants.{Commit}
+use Rattle.commit_log.specs.Blocks.{block_size, most_in_block}
+use Rattle.commit_log.specs.Tapes.{puts}
+use Rattle.commit_log.specs.Told.{IsAcknowledged, IsKept, Told}
+use Rattle.commit_log.specs.Writes.{IsBlockOf}
+use Rattle.commit_log.proofs.Acks.{oldest_are}
+use Rattle.commit_log.proofs.Beginnings.{length-block_image}
+use Rattle.commit_log.proofs.Commits.{commit_kept, commit_legal, commit_room, commit_safe, commit_waits, kept_faulted, writing_safe}
+use Rattle.commit_log.proofs.Keeps.{rest_waits, same_tape}
+use Rattle.commit_log.proofs.Tapes.{rest_is}
+use Rattle.commit_log.proofs.log.Log.commit.Goals as goal
+
+pub overflow_sub-waiting : goal.overflow_sub-waiting
+overflow_sub-waiting g c =
+    let s = c.self.inside in
+    let was = c.self.invariant in
+    omega (
+      arith,
+      rest_waits s.opening.items s.tape.items (drop s.next s.tape.items) s.next s.acked was.2 refl,
+      was.1.count_is,
+      c.len.ensures,
+      c.from.ensures,
+    )
+
+pub block_bytes-requires : goal.block_bytes-requires
+block_bytes-requires g c =
+    let s = c.self.inside in
+    let was = c.self.invariant in
+    let rest : List LogTurn = take (length c.deref.result.now - s.next) (drop s.next c.deref.result.now) in
+    let from : rest ≡ drop s.next s.tape.items
+    = rest_is c.deref.result.now s.tape.items s.next (c.deref.ensures.value ∙ c.make_places.ensures.same) in
+    record {
+      there = omega (
+        arith,
+        rest_waits s.opening.items s.tape.items rest s.next s.acked was.2 from,
+        was.1.count_is,
+        c.len.ensures,
+        c.from.ensures,
+        c.min-count.ensures,
+      );
+    }
+
+pub invariant_of-self-in-Ok : goal.invariant_of-self-in-Ok
+invariant_of-self-in-Ok g c =
+    let s = c.self.inside in
+    let was = c.self.invariant in
+    let D = g.D.Disk in
+    let o = s.opening.items in
+    let tape = s.tape.items in
+    let count = c.min-count.result in
+    let turns = c.in_ok-block.block.turns in
+    let bytes = c.deref-2.result.now in
+    let rest : List LogTurn = take (length c.deref.result.now - s.next) (drop s.next c.deref.result.now) in
+    let from : rest ≡ drop s.next tape = rest_is c.deref.result.now tape s.next (c.deref.ensures.value ∙ c.make_places.ensures.same) in
+    let is : IsBlockOf s.acked count (drop s.next tape) bytes turns
+    = subst (λ (l : List LogTurn). IsBlockOf s.acked count l bytes turns) from
+    (subst (λ (l : List ℕ). IsBlockOf s.acked count rest l turns) (sym c.deref-2.ensures.value) c.in_ok-block.ensures) in
+    let kept : IsKept s.plant.items s.tags o s.moment s.faults tape s.next s.end false (D.trace s.dev) (D.ticks s.dev) (D.fault_count s.dev)
+    = subst (λ f. IsKept s.plant.items s.tags o s.moment s.faults tape s.next s.end f (D.trace s.dev) (D.ticks s.dev) (D.fault_count s.dev))
+    c.if-self.false was.3 in
+    let some : 1 ≤ count = omega (arith, c.if-waiting-eq0.false, c.min-count.ensures, c.from-2.ensures) in
+    let few : count ≤ most_in_block = omega (arith, c.min-count.ensures, c.from-2.ensures) in
+    let count_is : count ≡ min most_in_block (length o + length (puts tape) - s.acked)
+    = omega (arith, c.min-count.ensures, c.from-2.ensures, c.len.ensures, c.from.ensures, was.1.count_is) in
+    let new = D.trace c.write_guarded.new.dev in
+    let ticks' : ℕ = D.ticks c.write_guarded.new.dev in
+    let longer : c.push_reserved.new.self.items ≡ tape ++ Commit ticks' (s.acked + count) ∷ []
+    = c.push_reserved.ensures.items
+    ∙ (ap (λ (l : List LogTurn). l ++ Commit c.clock.result (s.acked + count) ∷ []) c.make_places.ensures.same
+    ∙ ap (λ (m : ℕ). tape ++ Commit m (s.acked + count) ∷ []) c.clock.ensures) in
+    let end_is : c.in-Some.end ≡ s.end + block_size (puts (take turns (drop s.next tape)))
+    = omega (
+      arith,
+      c.in-Some.ensures,
+      c.len-2.ensures,
+      ap length c.in_ok-block.ensures.bytes_are,
+      length-block_image s.acked (puts (take turns rest)),
+      c.in_ok-block.ensures.long,
+      is.long,
+    ) in
+    let places = vec_capacity c.push_reserved.new.self in
+    let room : length tape + (s.room - s.count) + 1 ≤ places
+    = omega (arith, c.in_ok-make_places.ensures.room, c.push_reserved.ensures.capacity, was.1.within, s.tape.ok) in (
+      commit_legal s.plant.items s.tags o s.moment s.faults tape s.next s.acked s.end (D.trace s.dev) (D.ticks s.dev)
+          (D.fault_count s.dev) was.0 was.2 kept count turns bytes is some few
+          new ticks' (D.fault_count c.write_guarded.new.dev)
+          c.in-Ok.ensures.clock c.write_guarded.ensures.any_moment c.in-Ok.ensures.reads c.in-Ok.ensures.settled
+          (g.met.D.Disk.told c.write_guarded.new.dev) c.push_reserved.new.self.items longer count_is,
+      commit_room s.plant.items s.tags o s.moment s.faults tape s.next s.acked s.end (D.trace s.dev) (D.ticks s.dev)
+          (D.fault_count s.dev) was.0 was.2 kept count turns bytes is some few
+          new ticks' (D.fault_count c.write_guarded.new.dev)
+          c.in-Ok.ensures.clock c.write_guarded.ensures.any_moment c.in-Ok.ensures.reads c.in-Ok.ensures.settled
+          (g.met.D.Disk.told c.write_guarded.new.dev) c.push_reserved.new.self.items longer (vec_capacity s.tape) places s.count s.room was.1 room,
+      commit_waits s.plant.items s.tags o s.moment s.faults tape s.next s.acked s.end (D.trace s.dev) (D.ticks s.dev)
+          (D.fault_count s.dev) was.0 was.2 kept count turns bytes is some few
+          new ticks' (D.fault_count c.write_guarded.new.dev)
+          c.in-Ok.ensures.clock c.write_guarded.ensures.any_moment c.in-Ok.ensures.reads c.in-Ok.ensures.settled
+          (g.met.D.Disk.told c.write_guarded.new.dev) c.push_reserved.new.self.items longer,
+      subst (λ f. IsKept s.plant.items s.tags o s.moment s.faults c.push_reserved.new.self.items (s.next + turns) c.in-Some.end f new ticks'
+          (D.fault_count c.write_guarded.new.dev)) (sym c.if-self.false)
+          (commit_kept s.plant.items s.tags o s.moment s.faults tape s.next s.acked s.end (D.trace s.dev) (D.ticks s.dev)
+          (D.fault_count s.dev) was.0 was.2 kept count turns bytes is some few
+          new ticks' (D.fault_count c.write_guarded.new.dev)
+          c.in-Ok.ensures.clock c.write_guarded.ensures.any_moment c.in-Ok.ensures.reads c.in-Ok.ensures.settled
+          (g.met.D.Disk.told c.write_guarded.new.dev) c.push_reserved.new.self.items longer c.in-Some.end end_is c.in-Ok.ensures.cause.passed),
+      commit_safe s.plant.items s.tags o s.moment s.faults tape s.next s.acked s.end (D.trace s.dev) (D.ticks s.dev)
+          (D.fault_count s.dev) was.0 was.2 kept count turns bytes is some few
+          new ticks' (D.fault_count c.write_guarded.new.dev)
+          c.in-Ok.ensures.clock c.write_guarded.ensures.any_moment c.in-Ok.ensures.reads c.in-Ok.ensures.settled
+          (g.met.D.Disk.told c.write_guarded.new.dev) c.push_reserved.new.self.items longer was.4,
+    )
+
+pub invariant_of-self-in-Err : goal.invariant_of-self-in-Err
+invariant_of-self-in-Err g c =
+    let s = c.self.inside in
+    let was = c.self.invariant in
+    let D = g.D.Disk in
+    let o = s.opening.items in
+    let tape = s.tape.items in
+    let count = c.min-count.result in
+    let turns = c.in_ok-block.block.turns in
+    let bytes = c.deref-2.result.now in
+    let rest : List LogTurn = take (length c.deref.result.now - s.next) (drop s.next c.deref.result.now) in
+    let from : rest ≡ drop s.next tape = rest_is c.deref.result.now tape s.next (c.deref.ensures.value ∙ c.make_places.ensures.same) in
+    let is : IsBlockOf s.acked count (drop s.next tape) bytes turns
+    = subst (λ (l : List LogTurn). IsBlockOf s.acked count l bytes turns) from
+    (subst (λ (l : List ℕ). IsBlockOf s.acked count rest l turns) (sym c.deref-2.ensures.value) c.in_ok-block.ensures) in
+    let kept : IsKept s.plant.items s.tags o s.moment s.faults tape s.next s.end false (D.trace s.dev) (D.ticks s.dev) (D.fault_count s.dev)
+    = subst (λ f. IsKept s.plant.items s.tags o s.moment s.faults tape s.next s.end f (D.trace s.dev) (D.ticks s.dev) (D.fault_count s.dev))
+    c.if-self.false was.3 in
+    let some : 1 ≤ count = omega (arith, c.if-waiting-eq0.false, c.min-count.ensures, c.from-2.ensures) in
+    let few : count ≤ most_in_block = omega (arith, c.min-count.ensures, c.from-2.ensures) in
+    let new = D.trace c.write_guarded.new.dev in
+    let ticks' : ℕ = D.ticks c.write_guarded.new.dev in
+    let faults' : ℕ = D.fault_count c.write_guarded.new.dev in
+    same_tape s.plant.items s.tags o s.moment s.faults tape c.make_places.new.tape.items (vec_capacity s.tape)
+    (vec_capacity c.make_places.new.tape) s.count s.room s.next s.acked s.end true new ticks' faults' c.make_places.ensures.same
+    c.make_places.ensures.more (
+      was.0,
+      was.1,
+      was.2,
+      kept_faulted s.plant.items s.tags o s.moment s.faults tape s.next s.acked s.end (D.trace s.dev) (D.ticks s.dev)
+          (D.fault_count s.dev) was.0 was.2 kept count turns bytes is some few new ticks' faults' c.write_guarded.ensures.later c.in-Err.ensures.cause.failed,
+      writing_safe s.plant.items s.tags o s.moment s.faults tape s.next s.acked s.end (D.trace s.dev) (D.ticks s.dev)
+          (D.fault_count s.dev) was.0 was.2 kept count turns bytes is some few new was.4 c.write_guarded.ensures.any_moment,
+    )
+
+pub returns-in-Ok-clause-committed : goal.returns-in-Ok-clause-committed
+returns-in-Ok-clause-committed g c = λ more.
+    let s = c.self.inside in
+    let was = c.self.invariant in
+    let D = g.D.Disk in
+    let o = s.opening.items in
+    let tape = s.tape.items in
+    let count = c.min-count.result in
+    let turns = c.in_ok-block.block.turns in
+    let bytes = c.deref-2.result.now in
+    let rest : List LogTurn = take (length c.deref.result.now - s.next) (drop s.next c.deref.result.now) in
+    let from : rest ≡ drop s.next tape = rest_is c.deref.result.now tape s.next (c.deref.ensures.value ∙ c.make_places.ensures.same) in
+    let is : IsBlockOf s.acked count (drop s.next tape) bytes turns
+    = subst (λ (l : List LogTurn). IsBlockOf s.acked count l bytes turns) from
+    (subst (λ (l : List ℕ). IsBlockOf s.acked count rest l turns) (sym c.deref-2.ensures.value) c.in_ok-block.ensures) in
+    let kept : IsKept s.plant.items s.tags o s.moment s.faults tape s.next s.end false (D.trace s.dev) (D.ticks s.dev) (D.fault_count s.dev)
+    = subst (λ f. IsKept s.plant.items s.tags o s.moment s.faults tape s.next s.end f (D.trace s.dev) (D.ticks s.dev) (D.fault_count s.dev))
+    c.if-self.false was.3 in
+    let some : 1 ≤ count = omega (arith, c.if-waiting-eq0.false, c.min-count.ensures, c.from-2.ensures) in
+    let few : count ≤ most_in_block = omega (arith, c.min-count.ensures, c.from-2.ensures) in
+    let count_is : count ≡ min most_in_block (length o + length (puts tape) - s.acked)
+    = omega (arith, c.min-count.ensures, c.from-2.ensures, c.len.ensures, c.from.ensures, was.1.count_is) in
+    let new = D.trace c.write_guarded.new.dev in
+    let ticks' : ℕ = D.ticks c.write_guarded.new.dev in
+    let longer : c.push_reserved.new.self.items ≡ tape ++ Commit ticks' (s.acked + count) ∷ []
+    = c.push_reserved.ensures.items
+    ∙ (ap (λ (l : List LogTurn). l ++ Commit c.clock.result (s.acked + count) ∷ []) c.make_places.ensures.same
+    ∙ ap (λ (m : ℕ). tape ++ Commit m (s.acked + count) ∷ []) c.clock.ensures) in
+    let end_is : c.in-Some.end ≡ s.end + block_size (puts (take turns (drop s.next tape)))
+    = omega (
+      arith,
+      c.in-Some.ensures,
+      c.len-2.ensures,
+      ap length c.in_ok-block.ensures.bytes_are,
+      length-block_image s.acked (puts (take turns rest)),
+      c.in_ok-block.ensures.long,
+      is.long,
+    ) in
+    let told : Told _ = record {
+      plant = s.plant.items;
+      tags = s.tags;
+      opening = o;
+      moment = s.moment;
+      faults = s.faults;
+      tape = tape;
+      room = s.room;
+      acked = s.acked;
+      end = s.end;
+      failed = s.failed;
+      dev = s.dev;
+    } in
+    let done : Told _ = record told {
+      tape = c.push_reserved.new.self.items;
+      acked = s.acked + count;
+      end = c.in-Some.end;
+      dev = c.write_guarded.new.dev;
+    } in
+    let a : LogAcked = record { acked = s.acked + count; waiting = c.len.result + c.from.result - s.acked - count } in
+    subst (λ t. IsAcknowledged D.trace D.ticks a t done) c.self.view_is (record {
+      rows = puts (take turns (drop s.next tape));
+      rows_are = oldest_are o tape s.next s.acked turns was.2 (is.long ∙ count_is);
+      acked_are = ap (λ (n : ℕ). s.acked + n) count_is;
+      waiting_are = omega (arith, count_is, c.len.ensures, c.from.ensures, was.1.count_is);
+      clock = c.in-Ok.ensures.clock;
+      wrote = subst (λ (l : List ℕ). Sees new (written (written (seen (D.trace s.dev)) (s.end + 1) l) s.end (open_byte ∷ []))) is.bytes_are
+          c.in-Ok.ensures.reads;
+      changed = λ i. record {
+        plant = s.plant.items;
+        tags = s.tags;
+        opening = o;
+        moment = s.moment;
+        faults = s.faults;
+        tape = longer i;
+        room = s.room;
+        acked = s.acked + count;
+        end = end_is i;
+        failed = s.failed;
+        dev = c.write_guarded.new.dev;
+      };
+    })
