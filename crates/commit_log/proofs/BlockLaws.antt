@@ -1,12 +1,12 @@
 -- A block, read in turn: the number of its first row, how many rows there are, the rows, and the next gate.
-use Rattle.std.proofs.Common.{◌≡◌, ℕ, ◌+◌, ◌*◌, ◌<◌, ◌≤◌, ◌&&◌, true, All, List, [], ◌∷◌, ◌++◌, length, sym, ap, ◌∙◌, subst, arith, nat_eq, nat_le, lit<, eqb-true, leb-true}
+use Rattle.std.proofs.Common.{◌≡◌, ℕ, ◌+◌, ◌*◌, ◌&&◌, true, All, List, [], ◌∷◌, ◌++◌, length, sym, ◌∙◌, subst, arith, nat_eq, nat_le, lit<, eqb-true, leb-true}
 use Rattle.std.proofs.lemmas.Bool.{and_parts}
 use Rattle.archive_file.specs.Fields.{number_bytes}
 use Rattle.archive_file.proofs.Points.{IsBytes}
 use Rattle.commit_log.specs.declared.field.Field.{Field}
 use Rattle.commit_log.specs.declared.row.LogRow.{LogRow}
 use Rattle.commit_log.specs.Fields.{Keeps, Spells, long_at, short_at}
-use Rattle.commit_log.specs.Blocks.{AreBlockRows, block_fields, block_image, block_size, most_in_block, rows_fields, rows_image}
+use Rattle.commit_log.specs.Blocks.{block_fields, block_image, block_size, most_in_block, rows_fields}
 use Rattle.commit_log.specs.Openings.{AddsBlock, AddsRows}
 use Rattle.commit_log.proofs.FieldLaws.{KeptUpTo, field_of, kept_more, kept_none, spells_both}
 use Rattle.commit_log.proofs.Spellings.{spells_long, spells_short}

@@ -1,5 +1,5 @@
 -- What a log's type keeps, after a commit and after one whose device failed.
-use Rattle.std.proofs.Common.{◌≡◌, ◌⊎◌, inl, inr, ⊎_elim, ℕ, ◌+◌, ◌-◌, ◌<◌, ◌≤◌, Bool, true, false, List, [], ◌∷◌, ◌++◌, length, min, take, drop, get_or, nat_le, if◌then◌else◌, Option, None, Some, IfSome, refl, sym, ap, ◌∙◌, subst, arith, append_assoc, length-append, length-drop, length-take}
+use Rattle.std.proofs.Common.{◌≡◌, ⊎_elim, ℕ, ◌+◌, ◌-◌, ◌<◌, ◌≤◌, Bool, true, false, List, [], ◌∷◌, ◌++◌, length, min, take, drop, get_or, nat_le, if◌then◌else◌, Option, None, Some, IfSome, refl, sym, ap, ◌∙◌, subst, arith, append_assoc, length-append, length-drop}
 use Rattle.std.proofs.lemmas.Bool.Decides.{nat_tests}
 use Rattle.std.proofs.lemmas.List.{append-nil, take-append-le}
 use Rattle.std.proofs.Math.Seq.{take-add, take-append_seam}
@@ -13,7 +13,7 @@ use Rattle.disk_model.proofs.Images.{present}
 use Rattle.disk_model.proofs.Moments.{during_now, only_since, parted}
 use Rattle.commit_log.specs.declared.row.LogRow.{LogRow}
 use Rattle.commit_log.specs.declared.history.LogTurn.{LogTurn}
-use Rattle.commit_log.specs.declared.history.LogTurn.TheVariants.{Put, Commit}
+use Rattle.commit_log.specs.declared.history.LogTurn.TheVariants.{Commit}
 use Rattle.commit_log.specs.Blocks.{AreBlockRows, block_image, block_size, most_in_block}
 use Rattle.commit_log.specs.Images.{ByBlocks, StandsFor}
 use Rattle.commit_log.specs.Openings.{Stores}

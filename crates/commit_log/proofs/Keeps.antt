@@ -1,5 +1,5 @@
 -- What a log's type keeps while its tape is given more places.
-use Rattle.std.proofs.Common.{◌≡◌, ℕ, ◌+◌, ◌≤◌, Bool, List, ◌++◌, length, take, drop, Option, sym, ap, ◌∙◌, subst, arith, length-append}
+use Rattle.std.proofs.Common.{◌≡◌, ℕ, ◌+◌, ◌≤◌, Bool, List, ◌++◌, length, take, drop, Option, sym, ap, subst, arith, length-append}
 use Rattle.disk_model.specs.Moments.{LeftSince}
 use Rattle.disk_model.specs.Traces.{Trace}
 use Rattle.commit_log.specs.declared.row.LogRow.{LogRow}

@@ -1,5 +1,5 @@
 -- A log while it is opened.
-use Rattle.std.proofs.Common.{◌≡◌, ◌⊎◌, inl, inr, ℕ, ◌+◌, ◌<◌, ◌≤◌, true, All, List, [], ◌∷◌, ◌++◌, length, Option, None, Some, IfSome, Result, Ok, Err, refl, sym, ap, ◌∙◌, subst, arith}
+use Rattle.std.proofs.Common.{◌≡◌, ◌⊎◌, inl, inr, ℕ, ◌+◌, All, List, [], ◌∷◌, length, Option, None, Some, IfSome, Result, refl, sym, ◌∙◌, subst, arith}
 use Rattle.std.proofs.lemmas.List.Elements.{All-append, All-nil}
 use Rattle.disk_model.specs.Calls.{IsNoted, Shows}
 use Rattle.disk_model.specs.Gates.{IsNew}
@@ -12,7 +12,7 @@ use Rattle.commit_log.specs.declared.block_reader.Stored.{Stored}
 use Rattle.commit_log.specs.declared.row.LogRow.{LogRow}
 use Rattle.commit_log.specs.Blocks.{HasBlocks, IsRow, block_size, rows_of}
 use Rattle.commit_log.specs.Images.{ByBlocks, ByNothing, IsEmpty, LogsNothing, StandsFor, blocks_at}
-use Rattle.commit_log.specs.Openings.{IsFound, IsLeftOrSame, IsLeftOrStands, IsTooMany, ListsRows, StandsSame}
+use Rattle.commit_log.specs.Openings.{IsFound, IsLeftOrSame, IsLeftOrStands, IsTooMany, ListsRows}
 use Rattle.commit_log.specs.Told.{IsReady}
 use Rattle.commit_log.proofs.Commits.{stores_stand}
 

@@ -1,8 +1,7 @@
 -- What opening a log answers, and what its type keeps at first.
-use Rattle.std.proofs.Common.{◌≡◌, ℕ, ◌+◌, ◌<◌, ◌≤◌, false, All, List, [], ◌++◌, length, Option, Some, Result, Ok, Err, IfErr, IfOk, IfSome, IsErrOf, OnErr, refl, sym, ap, ◌∙◌, subst, arith}
+use Rattle.std.proofs.Common.{◌≡◌, ℕ, ◌+◌, ◌<◌, ◌≤◌, false, All, List, [], length, Option, Result, Ok, Err, IfErr, IfOk, IfSome, IsErrOf, OnErr, refl, sym, subst, arith}
 use Rattle.std.proofs.lemmas.List.{append-nil}
 use Rattle.disk_model.specs.Calls.{Shows}
-use Rattle.disk_model.specs.Images.{MayLeave}
 use Rattle.disk_model.specs.Moments.{LeftSince}
 use Rattle.disk_model.specs.Traces.{Synced, Trace, noted}
 use Rattle.disk_model.proofs.Moments.{only_since}
@@ -14,8 +13,7 @@ use Rattle.commit_log.specs.declared.row.LogRow.{LogRow}
 use Rattle.commit_log.specs.Blocks.{IsRow}
 use Rattle.commit_log.specs.Images.{IsLogDamage, IsOfOther, StandsFor}
 use Rattle.commit_log.specs.Openings.{IsCause, IsTooMany, most_rows}
-use Rattle.commit_log.specs.Histories.{IsLegal, IsSafe, StandsForPart}
-use Rattle.commit_log.specs.Tapes.{puts}
+use Rattle.commit_log.specs.Histories.{IsLegal, IsSafe}
 use Rattle.commit_log.specs.Told.{HasRoom, IsKept, IsReady, Waits}
 use Rattle.commit_log.proofs.Commits.{ready_stands}
 use Rattle.commit_log.proofs.Opened.{shown_before}
@@ -98,11 +96,13 @@ opened_keeps plant tags rows moment faults tape places room acked end trace tick
         faultless = λ usable. sym faults_is;
         cause = λ failed. absurd (cc (failed));
       },
-      record { images = λ t c since left. record {
-        count = 0;
-        enough = omega arith;
-        within = omega arith;
-        stands = subst (StandsFor plant tags c) (sym (append-nil rows))
-            (ready_stands plant tags rows end trace ready c (only_since trace ticks t c told (omega (arith, since)) left));
-      } },
+      record {
+        images = λ t c since left. record {
+          count = 0;
+          enough = omega arith;
+          within = omega arith;
+          stands = subst (StandsFor plant tags c) (sym (append-nil rows))
+              (ready_stands plant tags rows end trace ready c (only_since trace ticks t c told (omega (arith, since)) left));
+        };
+      },
     )

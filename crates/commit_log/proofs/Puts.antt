@@ -1,13 +1,13 @@
 -- What a log's type keeps, after a put.
-use Rattle.std.proofs.Common.{◌≡◌, ℕ, ◌+◌, ◌≤◌, Bool, true, false, List, [], ◌∷◌, ◌++◌, length, take, Option, IfSome, sym, ap, ◌∙◌, subst, arith, length-append}
+use Rattle.std.proofs.Common.{◌≡◌, ℕ, ◌+◌, ◌≤◌, Bool, List, [], ◌∷◌, ◌++◌, length, take, Option, IfSome, sym, ap, ◌∙◌, subst, arith, length-append}
 use Rattle.std.proofs.lemmas.List.{take-append-le}
 use Rattle.disk_model.specs.Traces.{Trace}
 use Rattle.commit_log.specs.declared.row.LogRow.{LogRow}
 use Rattle.commit_log.specs.declared.history.LogTurn.{LogTurn}
-use Rattle.commit_log.specs.declared.history.LogTurn.TheVariants.{Put, Commit}
+use Rattle.commit_log.specs.declared.history.LogTurn.TheVariants.{Put}
 use Rattle.commit_log.specs.Blocks.{IsRow}
 use Rattle.commit_log.specs.Images.{StandsFor}
-use Rattle.commit_log.specs.Tapes.{Walk, acked_at, after_turn, puts, start, walked}
+use Rattle.commit_log.specs.Tapes.{Walk, acked_at, puts, start}
 use Rattle.commit_log.specs.Histories.{IsLegal, IsSafe, StandsForPart}
 use Rattle.commit_log.specs.Told.{HasRoom, IsKept, IsReady, Waits}
 use Rattle.commit_log.proofs.Tapes.{acked_at-put, fit-push, puts-append, walked-push}

@@ -1,5 +1,5 @@
 -- A row whose fields are kept, and rows read in turn.
-use Rattle.std.proofs.Common.{◌≡◌, ℕ, suc, ◌+◌, ◌-◌, ◌*◌, ◌<◌, ◌≤◌, true, List, [], ◌∷◌, ◌++◌, All, length, get_or, length-append, append_assoc, Option, sym, ap, ◌∙◌, subst, arith, lit<, ltb-true, leb-true}
+use Rattle.std.proofs.Common.{◌≡◌, ℕ, suc, ◌+◌, ◌-◌, ◌*◌, ◌<◌, true, List, [], ◌∷◌, ◌++◌, All, length-append, append_assoc, Option, sym, ap, ◌∙◌, subst, arith, lit<, ltb-true, leb-true}
 use Rattle.std.specs.Int.{w64, cast_signed}
 use Rattle.std.proofs.lemmas.List.Elements.{All-push}
 use Rattle.std.proofs.lemmas.Int.{of_z-to_z}

@@ -1,5 +1,5 @@
 -- Blocks: the rows that commits left, one block behind the other, each behind its gate.
-use Rattle.std.specs.Prelude.{◌≡◌, ◌⊎◌, ℕ, zero, suc, ◌+◌, ◌*◌, ◌<◌, ◌≤◌, ◌&&◌, true, List, [], ◌∷◌, ◌++◌, All, length, flat_map, slice_index, Option, nat_eq, nat_le, nat_lt, unsigned_abs}
+use Rattle.std.specs.Prelude.{ℕ, zero, suc, ◌+◌, ◌*◌, ◌<◌, ◌≤◌, ◌&&◌, true, List, [], ◌∷◌, ◌++◌, All, length, flat_map, Option, nat_eq, nat_le, nat_lt, unsigned_abs}
 use Rattle.std.specs.Int.{w64, cast_signed}
 use Rattle.trend_num.specs.Ranges.{InRange, last_time, largest_value}
 use Rattle.disk_model.specs.Gates.{IsOpen, IsShut, Holds}

@@ -1,5 +1,5 @@
 -- What an image of a plant's log stands for, where it is damaged, and where it is that of another plant.
-use Rattle.std.specs.Prelude.{◌≡◌, ◌≢◌, ◌⊎◌, ℕ, ◌+◌, ◌<◌, ◌≤◌, true, List, [], ◌∷◌, ◌++◌, All, codes, length, min, take, drop, slice_index, filter, map, nat_eq, Option}
+use Rattle.std.specs.Prelude.{◌≡◌, ◌≢◌, ◌⊎◌, ℕ, ◌+◌, ◌<◌, true, List, [], ◌∷◌, ◌++◌, All, codes, length, min, take, drop, slice_index, filter, map, nat_eq, Option}
 use Rattle.trend_num.specs.declared.point.Point.{Point}
 use Rattle.disk_model.specs.Gates.{IsBegun, IsNew, IsShut}
 use Rattle.archive_file.specs.Fields.{number_bytes}

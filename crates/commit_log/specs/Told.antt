@@ -1,5 +1,5 @@
 -- What a log is seen as, what its type keeps, and what its calls change.
-use Rattle.std.specs.Prelude.{◌≡◌, ◌⊎◌, ℕ, ◌+◌, ◌-◌, ◌≤◌, Bool, true, false, List, [], ◌∷◌, ◌++◌, length, min, take, drop, Option, None, Some, IfSome, Result, Ok, Err, nat_eq, nat_le, if◌then◌else◌}
+use Rattle.std.specs.Prelude.{◌≡◌, ◌⊎◌, ℕ, ◌+◌, ◌-◌, ◌≤◌, Bool, true, false, List, [], ◌∷◌, ◌++◌, length, min, take, drop, Option, None, Some, IfSome, nat_eq, nat_le, if◌then◌else◌}
 use Rattle.disk_model.specs.Calls.{Rose, Sees}
 use Rattle.disk_model.specs.Gates.{open_byte}
 use Rattle.disk_model.specs.Images.{IsSettled}
@@ -8,7 +8,7 @@ use Rattle.disk_model.specs.Traces.{Trace, seen, written}
 use Rattle.commit_log.specs.declared.history.LogAcked.{LogAcked}
 use Rattle.commit_log.specs.declared.history.LogHistory.{LogHistory}
 use Rattle.commit_log.specs.declared.history.LogTurn.{LogTurn}
-use Rattle.commit_log.specs.declared.history.LogTurn.TheVariants.{Put, Commit}
+use Rattle.commit_log.specs.declared.history.LogTurn.TheVariants.{Commit}
 use Rattle.commit_log.specs.declared.refusal.PutRowNo.{PutRowNo}
 use Rattle.commit_log.specs.declared.refusal.PutRowNo.TheVariants.{NoTag, Broken, RoomFull}
 use Rattle.commit_log.specs.declared.row.LogRow.{LogRow}

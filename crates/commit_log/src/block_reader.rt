@@ -23,12 +23,7 @@ pub struct Stored {
 }
 
 // Reads the blocks from the gate at a place on, of a plant with so many tags.
-pub(crate) fn parse_blocks(
-    alloc: Global,
-    c: &[u8],
-    at: usize,
-    tags: u32,
-) -> Result<Stored, ScanNo>
+pub(crate) fn parse_blocks(alloc: Global, c: &[u8], at: usize, tags: u32) -> Result<Stored, ScanNo>
     requires gate { at < length c.now }
     requires small { length c.now < 2 ^ 63 }
     ensures stored { IfOk result (λ s. ListsRows c.now tags at s.rows.items s.end) }

@@ -7,19 +7,12 @@ pub enum LogNo {
     /// A call of the device failed.
     DeviceFault,
     /// The byte at `at`, the first of a field, breaks the layout; `None` where the device ends there.
-    Damaged {
-        at: u64,
-        byte: Option<u8>,
-    },
+    Damaged { at: u64, byte: Option<u8> },
     /// The device is that of another plant: the place of the first byte in which the two texts differ, or the length of the
     /// shorter one where they do not differ before it.
-    OtherPlant {
-        at: u32,
-    },
+    OtherPlant { at: u32 },
     /// The rows on the device and those that there should be room for are more than 4,000,000: how many they are together.
-    TooMany {
-        rows: u64,
-    },
+    TooMany { rows: u64 },
     WantOfMemory,
 }
 
@@ -34,15 +27,11 @@ pub struct LogFail<D> {
 #[derive(Clone, Copy, Debug, PartialEq, Eq)]
 pub enum PutRowNo {
     /// The tag is not below the number of tags, which is carried.
-    NoTag {
-        tags: u32,
-    },
+    NoTag { tags: u32 },
     /// A commit answered DeviceFault.
     Broken,
     /// As many rows were put as there is room for, which is carried.
-    RoomFull {
-        room: u32,
-    },
+    RoomFull { room: u32 },
 }
 
 /// Why nothing is acknowledged.

@@ -1,4 +1,4 @@
-use Rattle.std.proofs.Common.{◌≡◌, ◌+◌, ◌<◌, List, sym, subst, arith}
+use Rattle.std.proofs.Common.{◌+◌, ◌<◌, List, sym, subst, arith}
 use Rattle.std.specs.Prelude.{vec_capacity}
 use Rattle.disk_model.specs.Moments.{LeftSince}
 use Rattle.commit_log.specs.declared.history.LogTurn.{LogTurn}
