@@ -87,6 +87,9 @@ impl Levels {
         ensures truths { self.new.truths ≡ slice_set self.old.truths k holds }
         ensures room { self.new.room ≡ self.old.room }
     {
+        if self.truths[k] == holds {
+            return;
+        }
         self.truths[k] = holds;
         let whole = is_whole(&self.truths, k / BLOCK);
         raise(&mut self.blocks, &mut self.groups, k / BLOCK, whole);

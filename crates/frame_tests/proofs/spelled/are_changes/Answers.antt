@@ -1,5 +1,5 @@
-use Rattle.std.proofs.Common.{◌≡◌, arith}
-use Rattle.frame_tests.proofs.Checked.{AreChecked, checked_all, checked_more}
+use Rattle.std.proofs.Common.{arith}
+use Rattle.frame_tests.proofs.Checked.{checked_all, checked_more}
 use Rattle.frame_tests.proofs.spelled.are_changes.Goals as goal
 
 pub loop-i-preserved : goal.loop-i-preserved
