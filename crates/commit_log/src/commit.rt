@@ -49,12 +49,8 @@ impl<D: Disk> Log<D> {
         }
         let count = waiting.min(u64::from(MOST_IN_BLOCK));
         make_places(&mut self.tape, self.room - self.count)?;
-        let block = block_bytes(
-            self.alloc,
-            self.acked,
-            count as u32,
-            &self.tape[self.next..],
-        )?;
+        let rest = &self.tape[self.next..];
+        let block = block_bytes(self.alloc, self.acked, count as u32, rest)?;
         let Some(end) = self.end.checked_add(block.bytes.len() as u64) else {
             return Err(LogCommitNo::WantOfMemory);
         };
