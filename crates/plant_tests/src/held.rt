@@ -60,8 +60,9 @@ fn ended<R: Threads + Wait + Sync, S: Store, P: Passes>(
 // The numbers of the rows that the first tag of a session took, in the order of its tape.
 fn taken_rows(alloc: Global, ended: &Outcome) -> Result<Vec<u64>, Fail> {
     let session = ended.session.as_ref().ok_or("no session")?;
+    let tag = session.tags.first().ok_or("no tag")?;
     let mut rows = Vec::new(alloc);
-    for entry in session.tags[0].tape.iter() {
+    for entry in tag.tape.iter() {
         if let Entry::Take { row, .. } = entry {
             rows.push(*row)?;
         }

@@ -1,5 +1,5 @@
 // Sessions whose devices all stop at one call, and what a crash then leaves.
-ghost use Rattle.std.specs.Prelude.{length, Some, refl};
+ghost use Rattle.std.specs.Prelude.{◌≡◌, length, Some, refl};
 
 use crate::plants::{NO_FAULT, text, told, words};
 use byte_io::{MemFiles, MemSink, MemSource};
