@@ -3,7 +3,7 @@ use crate::gates::{AtSync, GateStore, InTurn, Shut, Signs};
 use crate::plants::{text, words};
 use byte_io::{MemFiles, MemSink, MemSource};
 use disk_model::{MemStore, Store};
-use plant_run::{Outcome, Passes, Status, run};
+use plant_run::{OpenPasses, Outcome, Passes, Status, run};
 use std::alloc::Global;
 use std::fmt::Write;
 use std::sync::Wait;
@@ -18,7 +18,12 @@ base.toml: [[tag]]|name = \"T1\"|exc_dev = 0|exc_max = 1000000|comp_dev = 0|comp
 four.toml: [[collector]]|file = \"same.csv\"|[[collector]]|file = \"same.csv\"|[[collector]]|file = \"same.csv\"|\
 [[collector]]|file = \"same.csv\"|
 snap.toml: [[collector]]|file = \"rising.csv\"|[[reader]]|file = \"snap.csv\"|
-snap.csv: snap,T1|at,T1,0|";
+snap.csv: snap,T1|at,T1,0|
+group.toml: [[tag]]|name = \"T1\"|exc_dev = 0|exc_max = 1000000|comp_dev = 0|comp_min = 0|comp_max = 1000000|\
+[[group]]|name = \"g\"|tags = [\"T1\"]|start = 0|period = 1000|[[group.calc]]|name = \"m\"|formula = \"avg('T1')\"|
+each.toml: [[collector]]|file = \"feed.csv\"|[[reader]]|file = \"asks.csv\"|[[refresher]]|group = \"g\"|turns = 1|
+feed.csv: T1,0,0|T1,3000,0|T1,4000,9|T1,1500,60|
+asks.csv: row,g,m,3|at,T1,0|";
 
 // The files, with the same row a hundred times and with 65 rising ones.
 fn files(alloc: Global) -> Result<MemFiles, Fail> {
@@ -95,6 +100,21 @@ fn four_held_collectors_take_row_by_row(rt: HostRuntime) -> Result<(), Fail> {
     let rows = taken_rows(alloc, &outcome)?;
     assert_eq!(rt; rows.len(), 400);
     assert!(rt; rows.is_sorted());
+    Ok(())
+}
+
+#[test]
+fn one_of_each_worker_beside_the_others(rt: HostRuntime) -> Result<(), Fail> {
+    let alloc = rt.alloc();
+    let mut store = MemStore::new(Vec::new(alloc));
+    let line = "run group.toml each.toml";
+    let (outcome, printed) = ended(&rt, alloc, line, &mut store, &mut OpenPasses)?;
+    assert_eq!(rt; outcome.status, Status::Done);
+    let printed = printed.as_str();
+    let first = "tag T1 taken=4 records=3 kept=2 late=1 held=4000,9\nreply 1 1 none\nreply 1 2 ";
+    assert!(rt; printed.starts_with(first));
+    assert!(rt; printed.contains("\ngroup g windows=3 refreshes=2 evals="));
+    assert!(rt; printed.ends_with("\ncalc g m 2 20\n"));
     Ok(())
 }
 

@@ -46,6 +46,8 @@ fine.toml: [[tag]]|name = \"T1\"|exc_dev = 0|exc_max = 1000000|comp_dev = 0|comp
 [[group]]|name = \"g\"|tags = [\"T1\"]|start = 0|period = 1|[[group.calc]]|name = \"m\"|formula = \"count('T1')\"|
 feed.csv: T1,0,0|T1,3000,0|T1,4000,9|T1,1500,60|
 last.csv: row,g,m,3|
+ask.toml: [[reader]]|file = \"ask.csv\"|
+ask.csv: at,T1,1500|
 one.csv: T1,0,5|
 far.csv: T1,0,0|T1,2000000,1|T1,2000001,0|
 flow.toml: [[tag]]|name = \"FIC101.PV\"|exc_dev = 5|exc_max = 600000|comp_dev = 10|comp_min = 0|comp_max = 28800000|
@@ -131,6 +133,8 @@ tag S1 taken=2 records=1 kept=1 late=0 held=10,11|
 left 99 run loose.toml third.toml => 0 tag T1 taken=6 records=3 kept=3 late=0 held=60,30|
 new 0 run grid.toml feed.toml => 6
 left 99 run grid.toml none.toml => 0 tag T1 taken=4 records=3 kept=2 late=1 held=4000,9|\
+group g windows=3 refreshes=1 evals=0|calc g m 2 20|
+left 99 run grid.toml ask.toml => 0 tag T1 taken=4 records=3 kept=2 late=1 held=4000,9|reply 1 1 exact 60|\
 group g windows=3 refreshes=1 evals=0|calc g m 2 20|
 left 99 trend grid.toml rows.toml => 0 reply 1 1 20|reply 1 2 50|reply 1 3 20|reply 1 4 none|reply 1 5 snap 4 4000,9|
 fewer 99 run grid.toml none.toml => 11 fault: mismatch|";
