@@ -230,10 +230,10 @@ fn stopped_at<R: Threads + Wait + Sync>(rt: &R, alloc: Global, most: u64) -> Res
 
 #[test]
 fn devices_that_stop_together_keep_what_is_acknowledged(rt: HostRuntime) -> Result<(), Fail> {
-    let mut whole = 0;
+    let mut whole = 0u64;
     for most in 0..MOST {
         if stopped_at(&rt, rt.alloc(), most)? {
-            whole += 1;
+            whole = whole.saturating_add(1);
         }
     }
     assert!(rt; 1 <= whole && whole < MOST);
