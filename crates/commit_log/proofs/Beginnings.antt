@@ -14,12 +14,12 @@ use Rattle.disk_model.specs.Gates.{Holds, IsClosing, IsGuarded, IsNew, IsOpen, I
 use Rattle.disk_model.proofs.Images.{present, wrote_now, synced_now}
 use Rattle.disk_model.proofs.Moments.{started, during_now, weaker, in_turn, goes_on}
 use Rattle.archive_file.specs.Fields.{number_bytes}
-use Rattle.commit_log.specs.declared.field.Field.{Field}
+use Rattle.layout_fields.specs.declared.field.Field.{Field}
 use Rattle.commit_log.specs.declared.row.LogRow.{LogRow}
-use Rattle.commit_log.specs.Fields.{Keeps, short_at}
+use Rattle.layout_fields.specs.Fields.{Keeps, short_at}
 use Rattle.commit_log.specs.Blocks.{block_image, block_size, row_image, rows_image}
 use Rattle.commit_log.specs.Images.{IsEmpty, LogsNothing, head_fields, head_image, letter_field, letters, text_in}
-use Rattle.commit_log.proofs.FieldLaws.{field_of}
+use Rattle.layout_fields.proofs.FieldLaws.{field_of}
 
 -- ---- the gate of the layout is closed
 

@@ -8,12 +8,12 @@ use Rattle.disk_model.proofs.Bytes.{holds_written}
 use Rattle.disk_model.specs.Gates.{Holds, IsGuarded, IsOpen, IsShut, open_byte}
 use Rattle.disk_model.specs.Traces.{written}
 use Rattle.commit_log.specs.declared.row.LogRow.{LogRow}
-use Rattle.commit_log.specs.Fields.{Keeps, short_at}
+use Rattle.layout_fields.specs.Fields.{Keeps, short_at}
 use Rattle.commit_log.specs.Blocks.{AreBlockRows, HasBlock, HasBlocks, block_image, block_size, end_of, rows_of}
 use Rattle.commit_log.specs.Images.{IsOfPlant, blocks_at, head_fields, letter_field, text_in}
 use Rattle.commit_log.specs.Openings.{Stores}
 use Rattle.commit_log.proofs.Beginnings.{all_six, holds_left, holds_right, holds_byte, holds_there, length-block_image}
-use Rattle.commit_log.proofs.FieldLaws.{field_of}
+use Rattle.layout_fields.proofs.FieldLaws.{field_of}
 use Rattle.commit_log.proofs.Heads.{text_place}
 use Rattle.commit_log.proofs.Walks.{end_of-push, has_push, rows_of-push}
 

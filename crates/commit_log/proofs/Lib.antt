@@ -1,5 +1,3 @@
-pub mod FieldLaws
-pub mod Spellings
 pub mod RowLaws
 pub mod Walks
 pub mod BlockLaws

@@ -6,13 +6,13 @@ use Rattle.std.proofs.lemmas.Int.{of_z-to_z}
 use Rattle.archive_file.specs.Fields.{number_bytes, value_bytes}
 use Rattle.archive_file.proofs.Joins.{images_push}
 use Rattle.archive_file.proofs.Points.{IsBytes}
-use Rattle.commit_log.specs.declared.field.Field.{Field}
+use Rattle.layout_fields.specs.declared.field.Field.{Field}
 use Rattle.commit_log.specs.declared.row.LogRow.{LogRow}
-use Rattle.commit_log.specs.Fields.{BreaksFirst, Keeps, Spells, long_at, short_at}
+use Rattle.layout_fields.specs.Fields.{BreaksFirst, Keeps, Spells, long_at, short_at}
 use Rattle.commit_log.specs.Blocks.{IsRow, row_at, row_fields, row_image, rows_fields, rows_image}
 use Rattle.commit_log.specs.Openings.{AddsRows}
-use Rattle.commit_log.proofs.FieldLaws.{KeptUpTo, breaks_after, breaks_within, kept_more, spells_both}
-use Rattle.commit_log.proofs.Spellings.{spells_long, spells_short, long_below}
+use Rattle.layout_fields.proofs.FieldLaws.{KeptUpTo, breaks_after, breaks_within, kept_more, spells_both}
+use Rattle.layout_fields.proofs.Spellings.{spells_long, spells_short, long_below}
 
 -- no field
 abbrev none : Field

@@ -4,8 +4,8 @@ use Rattle.trend_num.specs.declared.point.Point.{Point}
 use Rattle.disk_model.specs.Gates.{IsBegun, IsNew, IsShut}
 use Rattle.archive_file.specs.Fields.{number_bytes}
 use Rattle.commit_log.specs.declared.row.LogRow.{LogRow}
-use Rattle.commit_log.specs.declared.field.Field.{Field}
-use Rattle.commit_log.specs.Fields.{Keeps, BreaksFirst, short_at}
+use Rattle.layout_fields.specs.declared.field.Field.{Field}
+use Rattle.layout_fields.specs.Fields.{Keeps, BreaksFirst, short_at}
 use Rattle.commit_log.specs.Blocks.{AreBlocks, IsBlockDamage, rows_of}
 
 -- the letters behind the gate of the layout

@@ -1,4 +1,3 @@
-pub mod Fields
 pub mod Blocks
 pub mod Images
 pub mod Openings

@@ -10,7 +10,7 @@ use Rattle.commit_log.specs.declared.block_reader.Stored.{Stored}
 use Rattle.commit_log.specs.declared.refusal.LogNo.{LogNo}
 use Rattle.commit_log.specs.declared.refusal.LogNo.TheVariants.{DeviceFault, Damaged, OtherPlant, TooMany, WantOfMemory}
 use Rattle.commit_log.specs.declared.row.LogRow.{LogRow}
-use Rattle.commit_log.specs.Fields.{Spells}
+use Rattle.layout_fields.specs.Fields.{Spells}
 use Rattle.commit_log.specs.Blocks.{AreBlockRows, AreBlocks, IsRow, block_image, block_size, end_of, rows_image, rows_of}
 use Rattle.commit_log.specs.Images.{IsLogDamage, IsOfOther, IsOfPlant, StandsFor, blocks_at}
 

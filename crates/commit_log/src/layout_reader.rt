@@ -3,16 +3,16 @@ ghost use Rattle.std.specs.Prelude.{◌≡◌, ◌≢◌, ℕ, ◌+◌, ◌^◌,
 ghost use Rattle.disk_model.specs.Calls.{CountsFault, Shows};
 ghost use Rattle.archive_file.specs.declared.failure.ScanNo.TheVariants.{Damaged as BadField, DeviceFault as NoRead};
 ghost use Rattle.commit_log.specs.declared.refusal.LogNo.TheVariants.{Damaged, DeviceFault, OtherPlant, TooMany};
-ghost use Rattle.commit_log.specs.Fields.{BreaksFirst, Keeps, short_at};
+ghost use Rattle.layout_fields.specs.Fields.{BreaksFirst, Keeps, short_at};
 ghost use Rattle.commit_log.specs.Images.{IsLogDamage, IsOfOther, head_fields, letter_field, text_in};
 ghost use Rattle.commit_log.specs.Openings.{HasRowsOf, IsFound};
 
 use crate::block_reader::{Stored, parse_blocks};
 use crate::difference::first_difference;
-use crate::field::{Field, byte_at, check, short_at};
 use crate::refusal::LogNo;
 use archive_file::{ScanNo, read_bytes};
 use disk_model::{Disk, OPEN};
+use layout_fields::{Field, byte_at, check, short_at};
 use std::alloc::Global;
 
 // Reads the log of a plant with this text and so many tags; none is on a new device. Names the first byte of the first field that

@@ -16,12 +16,12 @@ use Rattle.disk_model.proofs.Images.{present, wrote_now, synced_now}
 use Rattle.disk_model.proofs.Moments.{started, during_now, weaker, in_turn, goes_on}
 use Rattle.archive_file.specs.Fields.{number_bytes}
 use Rattle.group_layout.specs.declared.block.BlockRow.{BlockRow}
-use Rattle.group_layout.specs.declared.field.Field.{Field}
-use Rattle.group_layout.specs.Fields.{Keeps, short_at}
+use Rattle.layout_fields.specs.declared.field.Field.{Field}
+use Rattle.layout_fields.specs.Fields.{Keeps, short_at}
 use Rattle.group_layout.specs.Blocks.{Parts, block_image, block_size, row_image, rows_image, versions_image}
 use Rattle.group_layout.specs.Images.{IsUnsaved, head_fields, letter_field, letters, text_in}
 use Rattle.group_layout.specs.Readings.{IsEmpty, SavesNothing, head_image}
-use Rattle.group_layout.proofs.FieldLaws.{field_of}
+use Rattle.layout_fields.proofs.FieldLaws.{field_of}
 
 -- ---- the gate of the layout is closed
 

@@ -12,13 +12,13 @@ use Rattle.disk_model.proofs.Bytes.{holds_written, length-written}
 use Rattle.disk_model.proofs.Images.{present}
 use Rattle.disk_model.proofs.Moments.{during_now}
 use Rattle.disk_model.specs.Gates.{Holds, IsGuarded, IsOpen, IsShut, open_byte}
-use Rattle.group_layout.specs.Fields.{Keeps, short_at}
+use Rattle.layout_fields.specs.Fields.{Keeps, short_at}
 use Rattle.group_layout.specs.Blocks.{HasBlock, HasBlocks, MayFollow, Parts, block_image, block_size, end_of, last_of, unsaved}
 use Rattle.group_layout.specs.Images.{HasSaved, IsOfText, blocks_at, head_fields, letter_field, text_in}
 use Rattle.group_layout.specs.Readings.{IsEmpty}
 use Rattle.group_layout.specs.Rows.{AreRowsOf}
 use Rattle.group_layout.proofs.Beginnings.{all_six, holds_left, holds_right, holds_byte, holds_there, length-block_image}
-use Rattle.group_layout.proofs.FieldLaws.{field_of}
+use Rattle.layout_fields.proofs.FieldLaws.{field_of}
 use Rattle.group_layout.proofs.Heads.{text_place}
 use Rattle.group_layout.proofs.Walks.{end_of-push, has_push, last_of-push}
 

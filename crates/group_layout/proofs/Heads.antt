@@ -3,9 +3,9 @@ use Rattle.std.proofs.Common.{◌≡◌, ℕ, ◌+◌, ◌<◌, ◌≤◌, true,
 use Rattle.disk_model.specs.Calls.{Shows}
 use Rattle.disk_model.specs.Traces.{Trace}
 use Rattle.disk_model.specs.Gates.{open_byte}
-use Rattle.group_layout.specs.Fields.{Keeps, short_at}
+use Rattle.layout_fields.specs.Fields.{Keeps, short_at}
 use Rattle.group_layout.specs.Images.{HasHead, IsOfText, blocks_at, head_fields}
-use Rattle.group_layout.proofs.FieldLaws.{field_of}
+use Rattle.layout_fields.proofs.FieldLaws.{field_of}
 
 -- what is read of all bytes holds of what a read gives
 pub shows_at : (o : Option Trace) (bytes : List ℕ) (P : List ℕ → Type 0) → Shows o (λ c. bytes ≡ c) → P bytes → Shows o P

@@ -1,5 +1,3 @@
-pub mod FieldLaws
-pub mod Spellings
 pub mod RowLaws
 pub mod VersionLaws
 pub mod BlockLaws

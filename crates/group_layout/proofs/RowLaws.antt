@@ -9,11 +9,11 @@ use Rattle.std.proofs.lemmas.Int.{of_z-to_z}
 use Rattle.archive_file.specs.Fields.{number_bytes, value_bytes}
 use Rattle.archive_file.proofs.Points.{IsBytes}
 use Rattle.group_layout.specs.declared.block.BlockRow.{BlockRow}
-use Rattle.group_layout.specs.declared.field.Field.{Field}
-use Rattle.group_layout.specs.Fields.{BreaksFirst, Keeps, Spells, long_at, short_at}
+use Rattle.layout_fields.specs.declared.field.Field.{Field}
+use Rattle.layout_fields.specs.Fields.{BreaksFirst, Keeps, Spells, long_at, short_at}
 use Rattle.group_layout.specs.Blocks.{IsBefore, IsRow, comes_before, is_in_order, row_at, row_fields, row_image, rows_fields}
-use Rattle.group_layout.proofs.FieldLaws.{KeptUpTo, breaks_after, breaks_within, kept_more, spells_both}
-use Rattle.group_layout.proofs.Spellings.{spells_byte, spells_long, spells_short, long_below}
+use Rattle.layout_fields.proofs.FieldLaws.{KeptUpTo, breaks_after, breaks_within, kept_more, spells_both}
+use Rattle.layout_fields.proofs.Spellings.{spells_byte, spells_long, spells_short, long_below}
 
 -- no field
 abbrev none : Field

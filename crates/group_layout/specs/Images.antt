@@ -2,8 +2,8 @@
 use Rattle.std.specs.Prelude.{◌≡◌, ◌≢◌, ◌⊎◌, ℕ, ◌+◌, true, List, [], ◌∷◌, All, codes, length, take, drop, replicate, slice_index, nat_eq, Option}
 use Rattle.trend_num.specs.declared.value.CalcValue.{CalcValue}
 use Rattle.disk_model.specs.Gates.{IsBegun, IsNew}
-use Rattle.group_layout.specs.declared.field.Field.{Field}
-use Rattle.group_layout.specs.Fields.{Keeps, BreaksFirst, short_at}
+use Rattle.layout_fields.specs.declared.field.Field.{Field}
+use Rattle.layout_fields.specs.Fields.{Keeps, BreaksFirst, short_at}
 use Rattle.group_layout.specs.Blocks.{Parts, AreBlocks, AreDamaged, unsaved, last_of}
 use Rattle.group_layout.specs.Rows.{AreRowsOf, IsIncomplete}
 

@@ -1,4 +1,3 @@
-pub mod Fields
 pub mod Blocks
 pub mod Rows
 pub mod Images

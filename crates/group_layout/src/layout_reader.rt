@@ -2,18 +2,18 @@
 ghost use Rattle.std.specs.Prelude.{◌≡◌, ◌≢◌, ℕ, ◌+◌, ◌^◌, ◌<◌, ◌≤◌, true, false, All, Option, IfOk, IsErrOf, OnOk, length, map};
 ghost use Rattle.disk_model.specs.Calls.{CountsFault, Shows};
 ghost use Rattle.archive_file.specs.declared.failure.ScanNo.TheVariants.{Damaged, DeviceFault};
-ghost use Rattle.group_layout.specs.Fields.{BreaksFirst, Keeps, short_at};
+ghost use Rattle.layout_fields.specs.Fields.{BreaksFirst, Keeps, short_at};
 ghost use Rattle.group_layout.specs.Blocks.{AreBlocks, AreDamaged, end_of, last_of, parts_of, unsaved};
 ghost use Rattle.group_layout.specs.Rows.{AreRowsOf, IsIncomplete, lists_of};
 ghost use Rattle.group_layout.specs.Images.{IsGroupDamage, head_fields, letter_field, text_in};
 ghost use Rattle.group_layout.specs.Readings.{HasFewWindows, IsFound, IsShaped};
 
 use crate::block::Blocks;
-use crate::field::{Field, byte_at, check, short_at};
 use crate::reader::{last_or, parse_blocks, size_of_block, unsaved_block};
 use crate::saved::rows_of;
 use archive_file::{ScanNo, read_bytes};
 use disk_model::{Disk, OPEN};
+use layout_fields::{Field, byte_at, check, short_at};
 use std::alloc::Global;
 use trend_num::CalcValue;
 

@@ -10,9 +10,9 @@ use Rattle.tag_base.specs.declared.definition.GroupDef.{GroupDef}
 use Rattle.book_store.specs.Refusals as group
 use Rattle.store_commands.specs.GroupRows.{IsRowsRefusal, OfCells, OfCopies, OfOpening, OfWant}
 use Rattle.plant_status.specs.declared.unit.Unit.{Unit}
-use Rattle.plant_status.specs.declared.unit.Unit.TheVariants.{Tag, Group}
+use Rattle.plant_status.specs.declared.unit.Unit.TheVariants.{Tag, Group, Log}
 use Rattle.plant_status.specs.declared.status.Status.{Status}
-use Rattle.plant_status.specs.declared.status.Status.TheVariants.{Done, BadWords, BadText, BadRow, ReadFault, WriteFault, DeviceFault, Damaged, OtherTag, Limit, Mismatch, Halted, WantOfMemory}
+use Rattle.plant_status.specs.declared.status.Status.TheVariants.{Done, BadWords, BadText, BadRow, ReadFault, WriteFault, DeviceFault, Damaged, OtherTag, Limit, Mismatch, Halted, WantOfMemory, OtherPlant, BadName}
 use Rattle.plant_run.specs.CommandLine.{Form, Pack, Check, Trend, Unknown}
 use Rattle.store_commands.proofs.Faults.{of_none}
 use Rattle.plant_run.specs.Run.{World, CountsFor, EndsFor, KeepsFor, IsPrintedSo, IsTold, PrintsSo, WhereDone}
@@ -34,6 +34,8 @@ module _ (IsText : List ℕ → Type 0) (IsRefusal : Status → Type 0) (before 
   told_so (Mismatch place kept told_one) refusal no_done no_fault told = (refusal, told)
   told_so (Halted worker) refusal no_done no_fault told = (refusal, told)
   told_so WantOfMemory refusal no_done no_fault told = (refusal, told)
+  told_so (OtherPlant at) refusal no_done no_fault told = (refusal, told)
+  told_so (BadName word) refusal no_done no_fault told = (refusal, told)
 
   -- what was printed of a text, by the answer of the call that printed it
   pub written_so : {X E : Type 0} (answer : Result X E) (text : List ℕ) (status : Status) → OnOk answer (status ≡ Done)
@@ -91,6 +93,8 @@ done_so P IsRefusal before now (Err why) status fact refusal no_done no_fault pr
     of_refusal (Mismatch place kept told_one) is = tt
     of_refusal (Halted worker) is = tt
     of_refusal WantOfMemory is = tt
+    of_refusal (OtherPlant at) is = tt
+    of_refusal (BadName word) is = tt
 
 -- a fact of each refusal, and of what was printed, is one of the status once the answer was printed
 pub ended_so : (P : Status → Type 0) (before now : Outside) (answer : Result (String Global) Status) (status : Status)
@@ -131,6 +135,8 @@ counts_so IsRefusal before now (Err why) status old new counts refusal rose prin
     of_refusal (Mismatch place kept told_one) is counts = same (Mismatch place kept told_one) (λ i e. cc) counts
     of_refusal (Halted worker) is counts = same (Halted worker) (λ i e. cc) counts
     of_refusal WantOfMemory is counts = same WantOfMemory (λ i e. cc) counts
+    of_refusal (OtherPlant at) is counts = same (OtherPlant at) (λ i e. cc) counts
+    of_refusal (BadName word) is counts = same (BadName word) (λ i e. cc) counts
 
 -- ---- a refusal is not Done, and no fault of the output
 
@@ -206,6 +212,7 @@ module _ (name plan_name : List ℕ) (told : ToldFiles) (old new : Devices) (bef
   check_rose few unit (inl base) = absurd base.0
   check_rose few (Tag i) (inr (inl tags)) = tags.2.cause few
   check_rose few (Group i) (inr (inl tags)) = absurd tags.2
+  check_rose few Log (inr (inl tags)) = absurd tags.2
   check_rose few unit (inr (inr memory)) = cc
 
   pub trend_rose : before < 2 ^ 64 → (unit : Unit) → IsTrendRefusal name plan_name told old new before now (DeviceFault unit)
@@ -215,6 +222,7 @@ module _ (name plan_name : List ℕ) (told : ToldFiles) (old new : Devices) (bef
   trend_rose few unit (OfReader base plan read planned refused same) = absurd (refused (device_is_not_memory unit)).first.refused
   trend_rose few (Tag i) (OfTag base plan lists read planned asked refused) = refused.cause few
   trend_rose few (Group i) (OfTag base plan lists read planned asked refused) = absurd refused
+  trend_rose few Log (OfTag base plan lists read planned asked refused) = absurd refused
   trend_rose few unit (OfGroup base plan lists cores read planned asked opened refused) =
       rows_rose base.groups.items _ _ before now few unit refused
   trend_rose few unit (OfMemory same) = cc

@@ -2,7 +2,7 @@
 use Rattle.std.specs.Prelude.{ℕ, ◌+◌, List, [], ◌++◌, codes}
 use Rattle.std.specs.Fmt.{decimal}
 use Rattle.plant_status.specs.declared.status.Status.{Status}
-use Rattle.plant_status.specs.declared.status.Status.TheVariants.{Done, BadWords, BadText, BadRow, ReadFault, WriteFault, DeviceFault, Damaged, OtherTag, Limit, Mismatch, Halted, WantOfMemory}
+use Rattle.plant_status.specs.declared.status.Status.TheVariants.{Done, BadWords, BadText, BadRow, ReadFault, WriteFault, DeviceFault, Damaged, OtherTag, Limit, Mismatch, Halted, WantOfMemory, OtherPlant, BadName}
 use Rattle.plant_status.specs.Word.{file_text, unit_text, byte_word, reason_word, what_word}
 
 abbrev pub code_of : Status → ℕ
@@ -19,6 +19,8 @@ code_of (Limit _ _) = 10
 code_of (Mismatch _ _ _) = 11
 code_of (Halted _) = 12
 code_of WantOfMemory = 13
+code_of (OtherPlant _) = 15
+code_of (BadName _) = 16
 
 -- the line with its line feed, or no bytes at all
 abbrev pub line_of : Status → List ℕ
@@ -42,6 +44,8 @@ line_of (Limit what number) = codes "fault: limit " ++ what_word what ++ codes "
 line_of (Mismatch _ _ _) = codes "fault: mismatch\n"
 line_of (Halted worker) = codes "fault: halted " ++ decimal worker ++ codes "\n"
 line_of WantOfMemory = codes "fault: memory\n"
+line_of (OtherPlant at) = codes "fault: other plant " ++ decimal at ++ codes "\n"
+line_of (BadName word) = codes "fault: name " ++ decimal word ++ codes "\n"
 
 -- a run that ended well prints nothing, and neither does one that could not write
 abbrev pub IsSilent : Status → Type 0

@@ -6,15 +6,16 @@ use Rattle.trend_num.specs.declared.refusal.Reason.TheVariants.{Fields, Verb, Na
 use Rattle.trend_num.specs.declared.refusal.What.{What}
 use Rattle.trend_num.specs.declared.refusal.What.TheVariants.{FileBytes, TextBytes, Rows, Tags, Collectors, Readers, Queries, Groups, Calcs, Records, StoreRecords, Copies, Cells}
 use Rattle.plant_status.specs.declared.unit.Unit.{Unit}
-use Rattle.plant_status.specs.declared.unit.Unit.TheVariants.{Tag, Group}
+use Rattle.plant_status.specs.declared.unit.Unit.TheVariants.{Tag, Group, Log}
 use Rattle.plant_status.specs.declared.file.FileId.{FileId}
-use Rattle.plant_status.specs.declared.file.FileId.TheVariants.{Input, Base, Plan, Collector, Reader}
+use Rattle.plant_status.specs.declared.file.FileId.TheVariants.{Input, Base, Plan, Calendar, Collector, Reader}
 
 -- files are numbered from 0 in a run, and from 1 in a line
 abbrev pub file_text : FileId → List ℕ
 file_text Input = codes "input"
 file_text Base = codes "base"
 file_text Plan = codes "plan"
+file_text Calendar = codes "calendar"
 file_text (Collector n) = codes "collector " ++ decimal (n + 1)
 file_text (Reader n) = codes "reader " ++ decimal (n + 1)
 
@@ -22,6 +23,7 @@ file_text (Reader n) = codes "reader " ++ decimal (n + 1)
 abbrev pub unit_text : Unit → List ℕ
 unit_text (Tag n) = codes "tag " ++ decimal (n + 1)
 unit_text (Group n) = codes "group " ++ decimal (n + 1)
+unit_text Log = codes "log"
 
 -- the digit of a number below 16: `0` to `9`, `a` to `f`
 abbrev pub hex_digit : ℕ → ℕ

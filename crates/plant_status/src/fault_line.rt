@@ -93,7 +93,17 @@ impl Line {
         self.word(digits.format(number))
     }
 
-    /// The line with a space and a tag or a group after it.
+    /// The line with a space, a word, a space and a number of ten digits at most after it.
+    pub(crate) fn named(self, word: &str, number: u32) -> Self
+        requires { length self + length word.now + 11 < 120 }
+        ensures text { result ≡ self ++ codes " " ++ word.now ++ codes " " ++ decimal number }
+        ensures short { length result ≤ length self + length word.now + 12 }
+        ensures printable { IsPrintable self → IsPrintable word.now → IsPrintable result }
+    {
+        self.word(word).small(number)
+    }
+
+    /// The line with a space and a tag, a group or the log after it.
     pub(crate) fn unit(self, unit: Unit) -> Self
         requires { length self + 27 < 120 }
         ensures text { result ≡ self ++ codes " " ++ unit_text unit }
@@ -103,6 +113,7 @@ impl Line {
         match unit {
             Unit::Tag(number) => self.word("tag").number(u64::from(number) + 1),
             Unit::Group(number) => self.word("group").number(u64::from(number) + 1),
+            Unit::Log => self.word("log"),
         }
     }
 
@@ -134,6 +145,7 @@ impl Line {
             FileId::Input => self.word("input"),
             FileId::Base => self.word("base"),
             FileId::Plan => self.word("plan"),
+            FileId::Calendar => self.word("calendar"),
             FileId::Collector(number) => self.word("collector").number(u64::from(number) + 1),
             FileId::Reader(number) => self.word("reader").number(u64::from(number) + 1),
         }

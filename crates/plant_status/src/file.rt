@@ -6,6 +6,7 @@ pub enum FileId {
     Input,
     Base,
     Plan,
+    Calendar,
     Collector(u32),
     Reader(u32),
 }

@@ -24,6 +24,8 @@ pub enum Place {
     Pull { group: u32, input: u32, turn: u32 },
     /// How often a group was refreshed.
     Turns { group: u32 },
+    /// A value that was put into the log of the plant, and the row that it is of.
+    Log { place: u64 },
 }
 
 /// What stands at a place in one of two accounts.
@@ -51,5 +53,13 @@ pub enum Seen {
         row: u64,
         calc: u32,
         k: u64,
+    },
+    /// A value of a collector's row in the log of the plant. Rows are counted from 1, tags and collectors from
+    /// 0.
+    Put {
+        tag: u32,
+        collector: u32,
+        row: u64,
+        point: Point,
     },
 }

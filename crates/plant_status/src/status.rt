@@ -71,6 +71,14 @@ pub enum Status {
     },
     /// No memory was found.
     WantOfMemory,
+    /// The log is that of another plant: the names of its tags differ first at this place, or end there.
+    OtherPlant {
+        at: u32,
+    },
+    /// A word of the command line, counted from 1, names no group of the base, or no calculation of the group.
+    BadName {
+        word: u8,
+    },
 }
 
 /// The exit code of a status.
@@ -91,6 +99,8 @@ pub fn code(status: &Status) -> u8
         Status::Mismatch { .. } => 11,
         Status::Halted { .. } => 12,
         Status::WantOfMemory => 13,
+        Status::OtherPlant { .. } => 15,
+        Status::BadName { .. } => 16,
     }
 }
 
@@ -133,6 +143,8 @@ pub fn line(status: &Status) -> Line
         Status::Mismatch { .. } => Line::fault("mismatch").end(),
         Status::Halted { worker } => Line::fault("halted").number(u64::from(worker)).end(),
         Status::WantOfMemory => Line::fault("memory").end(),
+        Status::OtherPlant { at } => Line::fault("other plant").small(at).end(),
+        Status::BadName { word } => Line::fault("name").small(u32::from(word)).end(),
     }
 }
 
@@ -143,11 +155,8 @@ fn bad_text(file: FileId, rule: u8, place: u32, at: u32) -> Line
 {
     Line::fault("text")
         .file(file)
-        .word("rule")
-        .small(u32::from(rule))
-        .word("place")
-        .small(place)
-        .word("at")
-        .small(at)
+        .named("rule", u32::from(rule))
+        .named("place", place)
+        .named("at", at)
         .end()
 }

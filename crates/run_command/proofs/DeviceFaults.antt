@@ -7,7 +7,7 @@ use Rattle.tag_cell.specs.Told.{Told as Cell}
 use Rattle.plant_status.specs.declared.status.Status.{Status}
 use Rattle.plant_status.specs.declared.status.Status.TheVariants.{DeviceFault}
 use Rattle.plant_status.specs.declared.unit.Unit.{Unit as Device}
-use Rattle.plant_status.specs.declared.unit.Unit.TheVariants.{Tag, Group}
+use Rattle.plant_status.specs.declared.unit.Unit.TheVariants.{Tag, Group, Log}
 use Rattle.tape_audit.proofs.Walking.{at_place}
 use Rattle.group_book.specs.Told.{Told as Book}
 use Rattle.group_book.specs.declared.refusal.RefreshNo.TheVariants as refresh
@@ -65,8 +65,10 @@ module _ {D : Type 0} (trace : D → Option Trace) (ticks faults : D → ℕ) (b
     of_making : (unit : Device) → IsMakingRefusal g cells books (DeviceFault unit) → HasRisen before now
     of_making (Tag tag) (OfTaking so unlike) = of_cell tag so
     of_making (Group group) (OfTaking so unlike) = absurd so
+    of_making Log (OfTaking so unlike) = absurd so
     of_making (Tag tag) (OfCommit so) = of_cell tag so
     of_making (Group group) (OfCommit so) = absurd so
+    of_making Log (OfCommit so) = absurd so
     of_making unit (OfRefreshing so) = of_refresh so.group so.book (durable_lists cells) _ unit so.there so.refused
     of_making unit (OfMemory same) = absurd (cc same)
 

@@ -2,7 +2,7 @@
 use Rattle.std.proofs.Common.{List}
 use Rattle.plant_status.specs.declared.mismatch.Place.TheVariants as place
 use Rattle.plant_status.specs.declared.status.Status.{Status}
-use Rattle.plant_status.specs.declared.status.Status.TheVariants.{Done, BadWords, BadText, BadRow, ReadFault, WriteFault, DeviceFault, Damaged, OtherTag, Limit, Mismatch, Halted, WantOfMemory}
+use Rattle.plant_status.specs.declared.status.Status.TheVariants.{Done, BadWords, BadText, BadRow, ReadFault, WriteFault, DeviceFault, Damaged, OtherTag, Limit, Mismatch, Halted, WantOfMemory, OtherPlant, BadName}
 use Rattle.plant_session.specs.declared.comparing.Kept.{Kept}
 use Rattle.tag_cell.specs.Told.{Told as Cell}
 use Rattle.group_book.specs.Told.{Told as Book}
@@ -22,6 +22,7 @@ module _ {D : Type 0} where
   tag_is_opening cells known (Mismatch (place.Windows group) kept told) is = absurd is
   tag_is_opening cells known (Mismatch (place.Pull group input turn) kept told) is = absurd is
   tag_is_opening cells known (Mismatch (place.Turns group) kept told) is = absurd is
+  tag_is_opening cells known (Mismatch (place.Log at) kept told) is = absurd is
   tag_is_opening cells known Done is = absurd is
   tag_is_opening cells known BadWords is = absurd is
   tag_is_opening cells known (BadText file rule at row) is = absurd is
@@ -34,6 +35,8 @@ module _ {D : Type 0} where
   tag_is_opening cells known (Limit what number) is = absurd is
   tag_is_opening cells known (Halted worker) is = absurd is
   tag_is_opening cells known WantOfMemory is = absurd is
+  tag_is_opening cells known (OtherPlant at) is = absurd is
+  tag_is_opening cells known (BadName word) is = absurd is
 
   pub group_is_opening : (books : List (Book D)) (known : List KeptGroup) (s : Status) → IsGroupMismatch books known s → IsOpening s
   group_is_opening books known (Mismatch (place.Opening unit) kept told) is = tt
@@ -45,6 +48,7 @@ module _ {D : Type 0} where
   group_is_opening books known (Mismatch (place.Windows group) kept told) is = absurd is
   group_is_opening books known (Mismatch (place.Pull group input turn) kept told) is = absurd is
   group_is_opening books known (Mismatch (place.Turns group) kept told) is = absurd is
+  group_is_opening books known (Mismatch (place.Log at) kept told) is = absurd is
   group_is_opening books known Done is = absurd is
   group_is_opening books known BadWords is = absurd is
   group_is_opening books known (BadText file rule at row) is = absurd is
@@ -57,3 +61,5 @@ module _ {D : Type 0} where
   group_is_opening books known (Limit what number) is = absurd is
   group_is_opening books known (Halted worker) is = absurd is
   group_is_opening books known WantOfMemory is = absurd is
+  group_is_opening books known (OtherPlant at) is = absurd is
+  group_is_opening books known (BadName word) is = absurd is

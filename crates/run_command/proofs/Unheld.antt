@@ -5,7 +5,7 @@ use Rattle.std.specs.declared.alloc.Global.{Global}
 use Rattle.std.proofs.Common.{String}
 use Rattle.plant_status.specs.declared.file.FileId.TheVariants as file
 use Rattle.plant_status.specs.declared.status.Status.{Status}
-use Rattle.plant_status.specs.declared.status.Status.TheVariants.{Done, BadWords, BadText, BadRow, ReadFault, WriteFault, DeviceFault, Damaged, OtherTag, Limit, Mismatch, Halted, WantOfMemory}
+use Rattle.plant_status.specs.declared.status.Status.TheVariants.{Done, BadWords, BadText, BadRow, ReadFault, WriteFault, DeviceFault, Damaged, OtherTag, Limit, Mismatch, Halted, WantOfMemory, OtherPlant, BadName}
 use Rattle.plant_files.specs.Reading.{faults_after, faults_told}
 use Rattle.plant_files.specs.RowFiles.{ToldFiles}
 use Rattle.tag_base.specs.declared.definition.Base.{Base}
@@ -43,6 +43,8 @@ told_none (Limit what number) n other = refl
 told_none (Mismatch place kept told) n other = refl
 told_none (Halted worker) n other = refl
 told_none WantOfMemory n other = refl
+told_none (OtherPlant at) n other = refl
+told_none (BadName word) n other = refl
 
 pub after_none : (answer : Result (String Global) Status) (n : ℕ) → IfErr answer IsNoReadFault → faults_after answer n ≡ n
 after_none (Ok text) n other = refl

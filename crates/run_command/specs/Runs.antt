@@ -1,5 +1,5 @@
 -- What a run of a plan comes to: its session, or why it holds none.
-use Rattle.std.specs.Prelude.{◌≡◌, ◌≢◌, ℕ, ◌^◌, ◌<◌, List, [], length, map, Option, Result, Err, OnOk, IfErr, IfOk, String, string_bytes, slice_index_or}
+use Rattle.std.specs.Prelude.{◌≡◌, ◌≢◌, ℕ, ◌^◌, ◌<◌, List, [], length, map, Option, None, Result, Err, OnOk, IfErr, IfOk, String, string_bytes, slice_index_or}
 use Rattle.std.specs.List.{AllZip}
 use Rattle.std.specs.declared.alloc.Global.{Global}
 use Rattle.disk_model.specs.Traces.{Trace}
@@ -99,8 +99,8 @@ pub record AreGroupHistoriesAt (groups : List GroupDef) (traces : Devices) (hist
   pub each : (i : ℕ) (d : GroupDef) (g : GroupHistory) → i < length histories → (slice_index_or histories i g).text.items ≢ []
       → IsGroupHistoryAt (trace_at traces (slice_index_or groups i d)) (slice_index_or histories i g)
 
--- The histories of a session are those of these cells and books. Each is that of the device which is under its name, and no device
--- but those of the base's tags and groups has changed.
+-- The histories of a session are those of these cells and books. Each is that of the device which is under its name, no device but
+-- those of the base's tags and groups has changed, and no log was written.
 pub record IsOver {D : Type 0} (trace : D → Option Trace) (ticks faults : D → ℕ) (base : Base) (old new : Devices)
     (cells : List (Cell D)) (books : List (Book D)) (s : Session) : Type 0 where
   pub tags : AreHistoriesOf trace ticks faults cells s.tags.items
@@ -110,6 +110,7 @@ pub record IsOver {D : Type 0} (trace : D → Option Trace) (ticks faults : D �
   pub devices : AreHistoriesAt new (names_of base.tags.items) s.tags.items
   pub group_devices : AreGroupHistoriesAt base.groups.items new s.groups.items
   pub others : AreRestSame base old new
+  pub no_log : s.log ≡ None
 
 -- a cell is of the definition that another one is of, and was opened as that was
 pub record IsContinued {D : Type 0} (first last : Cell D) : Type 0 where

@@ -117,6 +117,7 @@ fn close<S: Store>(
         tags,
         groups,
         workers: notes,
+        log: None,
     };
     (told(alloc, base, given, answer, &session), session)
 }

@@ -1,5 +1,6 @@
 // What is left of a session.
 use collector_pool::WorkerNote;
+use commit_log::LogHistory;
 use group_book::GroupHistory;
 use tag_cell::TagHistory;
 
@@ -12,4 +13,6 @@ pub struct Session {
     pub groups: Vec<GroupHistory>,
     /// The notes of the workers: of the collectors, then of the readers, then of the refreshers.
     pub workers: Vec<WorkerNote>,
+    /// The history of the plant's log, where the session wrote one in place of its tags' archives.
+    pub log: Option<LogHistory>,
 }

@@ -1,7 +1,7 @@
 use Rattle.std.proofs.Common.{◌≡◌, ◌+◌, ◌∷◌, [], true, All, OnOk, ap, ◌∙◌, subst}
-use Rattle.commit_log.specs.Fields.{Keeps}
+use Rattle.layout_fields.specs.Fields.{Keeps}
 use Rattle.commit_log.specs.Images.{head_fields}
-use Rattle.commit_log.proofs.FieldLaws.{field_of}
+use Rattle.layout_fields.proofs.FieldLaws.{field_of}
 use Rattle.commit_log.proofs.layout_reader.check_head.Goals as goal
 
 pub returns-clause-kept : goal.returns-clause-kept

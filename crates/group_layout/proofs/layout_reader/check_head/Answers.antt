@@ -1,7 +1,7 @@
 use Rattle.std.proofs.Common.{◌≡◌, ◌+◌, ◌∷◌, [], true, All, OnOk, ap, ◌∙◌, subst}
-use Rattle.group_layout.specs.Fields.{Keeps}
+use Rattle.layout_fields.specs.Fields.{Keeps}
 use Rattle.group_layout.specs.Images.{head_fields}
-use Rattle.group_layout.proofs.FieldLaws.{field_of}
+use Rattle.layout_fields.proofs.FieldLaws.{field_of}
 use Rattle.group_layout.proofs.layout_reader.check_head.Goals as goal
 
 pub returns-clause-kept : goal.returns-clause-kept

@@ -4,7 +4,7 @@ use Rattle.group_layout.specs.Blocks.{AreBlocks, AreDamaged, parts_of}
 use Rattle.group_layout.specs.Images.{IsOfText, blocks_at}
 use Rattle.group_layout.specs.Images.IsGroupDamage.{BadBlock, BadRows}
 use Rattle.group_layout.specs.Rows.{IsIncomplete}
-use Rattle.group_layout.proofs.FieldLaws.{told_through}
+use Rattle.layout_fields.proofs.FieldLaws.{told_through}
 use Rattle.group_layout.proofs.Heads.{head_found, text_place}
 use Rattle.group_layout.proofs.layout_reader.parse_group.Goals as goal
 

@@ -4,7 +4,7 @@ use Rattle.disk_model.specs.Moments.{During}
 use Rattle.group_layout.specs.Images.{IsGroupDamage, IsUnsaved, StandsFor}
 use Rattle.group_layout.specs.Readings.{IsLeftOrSame, SavesNothing}
 use Rattle.group_layout.specs.Rows.{lists_of}
-use Rattle.group_layout.proofs.FieldLaws.{told_through}
+use Rattle.layout_fields.proofs.FieldLaws.{told_through}
 use Rattle.group_layout.proofs.Openings.{during_same, found_unsaved, left_begun, left_synced, read_stands, shown_before, unsaved_stands}
 use Rattle.group_layout.proofs.opening.open_group.Goals as goal
 

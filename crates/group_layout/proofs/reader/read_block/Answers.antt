@@ -1,8 +1,8 @@
 use Rattle.std.proofs.Common.{◌≡◌, ◌+◌, ◌*◌, ◌≤◌, ◌∷◌, [], true, All, length, refl, ap, ◌∙◌, subst, arith, lit<}
 use Rattle.std.proofs.lemmas.Result.{err_from_is_err_and}
-use Rattle.group_layout.specs.Fields.{BreaksFirst, Keeps, short_at}
+use Rattle.layout_fields.specs.Fields.{BreaksFirst, Keeps, short_at}
 use Rattle.group_layout.specs.Blocks.{parts_of}
-use Rattle.group_layout.proofs.FieldLaws.{breaks_part, field_of, told_through}
+use Rattle.layout_fields.proofs.FieldLaws.{breaks_part, field_of, told_through}
 use Rattle.group_layout.proofs.BlockLaws.{at_number, at_versions, at_counts, at_rows, at_gate, block_follows, block_spelled}
 use Rattle.group_layout.proofs.reader.read_block.Goals as goal
 

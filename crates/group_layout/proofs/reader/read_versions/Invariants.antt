@@ -1,7 +1,7 @@
 use Rattle.std.proofs.Common.{◌≡◌, ℕ, ◌+◌, ◌*◌, ◌<◌, ◌≤◌, drop, get_or, length}
-use Rattle.group_layout.specs.Fields.{Spells}
+use Rattle.layout_fields.specs.Fields.{Spells}
 use Rattle.group_layout.specs.Blocks.{version_fields, versions_image}
-use Rattle.group_layout.proofs.FieldLaws.{KeptUpTo}
+use Rattle.layout_fields.proofs.FieldLaws.{KeptUpTo}
 use Rattle.group_layout.proofs.reader.read_versions.Given as goal
 
 abbrev pub invariant-loop-least : goal.invariant-loop-least

@@ -1,7 +1,7 @@
 use Rattle.std.proofs.Common.{◌≡◌, ◌∷◌, [], All, OnOk, ap, ◌∙◌, ◌+◌, subst}
-use Rattle.group_layout.specs.Fields.{Keeps}
+use Rattle.layout_fields.specs.Fields.{Keeps}
 use Rattle.group_layout.specs.Blocks.{row_fields}
-use Rattle.group_layout.proofs.FieldLaws.{field_of}
+use Rattle.layout_fields.proofs.FieldLaws.{field_of}
 use Rattle.group_layout.proofs.row_reader.check_row.Goals as goal
 
 pub returns-clause-kept : goal.returns-clause-kept

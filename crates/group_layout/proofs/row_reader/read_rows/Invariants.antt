@@ -1,7 +1,7 @@
 use Rattle.std.proofs.Common.{◌≡◌, ◌+◌, ◌-◌, ◌*◌, ◌≤◌, All, AllPairs, None, length}
-use Rattle.group_layout.specs.Fields.{Spells}
+use Rattle.layout_fields.specs.Fields.{Spells}
 use Rattle.group_layout.specs.Blocks.{IsBefore, IsRow, rows_fields, rows_image}
-use Rattle.group_layout.proofs.FieldLaws.{KeptUpTo}
+use Rattle.layout_fields.proofs.FieldLaws.{KeptUpTo}
 use Rattle.group_layout.proofs.RowLaws.{IsLastOf}
 use Rattle.group_layout.proofs.row_reader.read_rows.Given as goal
 

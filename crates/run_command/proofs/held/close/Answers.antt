@@ -1,4 +1,4 @@
-use Rattle.std.proofs.Common.{◌∙◌, All, arith, subst, sym}
+use Rattle.std.proofs.Common.{◌∙◌, All, arith, refl, subst, sym}
 use Rattle.std.specs.Prelude.{◌≢◌}
 use Rattle.std.proofs.lemmas.List.Elements.{All-map}
 use Rattle.tag_store.specs.Tags as tag
@@ -41,4 +41,5 @@ returns-clause-over g c old rest =
           (g.S.Store.device_at c.args.store.now) new c.args.shelf.group_names.items c.close_plant-tags.result.1.items
           c.requires.shelf.group_names_are (omega (arith, c.requires.books, c.args.ended.books.ok))
           c.close_plant-tags.ensures.groups c.close_plant-tags.ensures.back.of_groups;
+      no_log = refl;
     }

@@ -1,11 +1,11 @@
 // Fields of an image that is in memory.
 ghost use Rattle.std.specs.Prelude.{◌≡◌, ℕ, ◌+◌, All, Option, IfOk, IsErrOf, OnOk, slice_index};
 ghost use Rattle.archive_file.specs.declared.failure.ScanNo.TheVariants.{Damaged, DeviceFault, WantOfMemory};
-ghost use Rattle.commit_log.specs.Fields.{Breaks, BreaksFirst, Keeps, long_at, short_at};
+ghost use Rattle.layout_fields.specs.Fields.{Breaks, BreaksFirst, Keeps, long_at, short_at};
 
 use archive_file::ScanNo;
 
-// So many bytes at a place, and whether they keep the rule of their field.
+/// So many bytes at a place, and whether they keep the rule of their field.
 #[derive(Clone, Copy)]
 pub struct Field {
     pub place: usize,
@@ -14,7 +14,8 @@ pub struct Field {
 }
 
 impl Field {
-    pub(crate) fn new(place: usize, size: usize, is_kept: bool) -> Field
+    /// The field of so many bytes at a place.
+    pub fn new(place: usize, size: usize, is_kept: bool) -> Field
         ensures { result ≡ record { place = place; size = size; is_kept = is_kept } }
     {
         Field {
@@ -47,8 +48,8 @@ impl Field {
     }
 }
 
-// Refuses the first of some fields that is not there, or that breaks its rule.
-pub(crate) fn check(c: &[u8], fields: &[Field]) -> Result<(), ScanNo>
+/// Refuses the first of some fields that is not there, or that breaks its rule.
+pub fn check(c: &[u8], fields: &[Field]) -> Result<(), ScanNo>
     ensures kept { OnOk result (All (Keeps c.now) fields.now) }
     ensures damaged { (a : ℕ) (byte : Option ℕ) → IsErrOf result (Damaged a byte) → BreaksFirst c.now fields.now a byte }
     ensures no_fault { IsErrOf result DeviceFault → ⊥ }
@@ -60,8 +61,8 @@ pub(crate) fn check(c: &[u8], fields: &[Field]) -> Result<(), ScanNo>
     Ok(())
 }
 
-// The byte at a place; 0 where the image ends before it.
-pub(crate) fn byte_at(c: &[u8], at: usize) -> u8
+/// The byte at a place; 0 where the image ends before it.
+pub fn byte_at(c: &[u8], at: usize) -> u8
     ensures { result ≡ slice_index c.now at }
 {
     byte_behind(c, at, 0)
@@ -78,8 +79,8 @@ fn byte_behind(c: &[u8], at: usize, i: usize) -> u8
     }
 }
 
-// The number of 4 bytes from a place on.
-pub(crate) fn short_at(c: &[u8], at: usize) -> u32
+/// The number of 4 bytes from a place on, the highest first; what is not there counts as zeros.
+pub fn short_at(c: &[u8], at: usize) -> u32
     ensures { result ≡ short_at c.now at }
 {
     u32::from_be_bytes([
@@ -90,8 +91,8 @@ pub(crate) fn short_at(c: &[u8], at: usize) -> u32
     ])
 }
 
-// The number of 8 bytes from a place on.
-pub(crate) fn long_at(c: &[u8], at: usize) -> u64
+/// The number of 8 bytes from a place on, the highest first; what is not there counts as zeros.
+pub fn long_at(c: &[u8], at: usize) -> u64
     ensures { result ≡ long_at c.now at }
 {
     u64::from_be_bytes([

@@ -1,6 +1,6 @@
 use Rattle.std.proofs.Common.{lit<, arith}
-use Rattle.commit_log.proofs.Spellings.{byte_of}
-use Rattle.commit_log.proofs.field.long_at.Goals as goal
+use Rattle.layout_fields.proofs.Spellings.{byte_of}
+use Rattle.layout_fields.proofs.field.long_at.Goals as goal
 
 pub returns : goal.returns
 returns c =

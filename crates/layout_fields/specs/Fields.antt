@@ -1,7 +1,7 @@
 -- Fields of an image, one behind the other, and the first of them that breaks its rule.
 use Rattle.std.specs.Prelude.{◌≡◌, ◌⊎◌, ℕ, ◌+◌, ◌<◌, ◌≤◌, true, false, List, ◌∷◌, ◌++◌, All, length, take, drop, slice_index, Option, None, Some}
 use Rattle.std.specs.Int.{w32, w64, from_be_bytes}
-use Rattle.commit_log.specs.declared.field.Field.{Field}
+use Rattle.layout_fields.specs.declared.field.Field.{Field}
 
 -- the number of 8 bytes at a place, and that of 4 bytes; what is not there counts as zeros
 abbrev pub long_at : List ℕ → ℕ → ℕ

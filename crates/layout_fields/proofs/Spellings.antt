@@ -5,7 +5,7 @@ use Rattle.std.proofs.lemmas.List.{get_or-take, get_or-drop, get_or_past, drop_m
 use Rattle.std.proofs.lemmas.Bool.{cases_lt}
 use Rattle.archive_file.specs.Fields.{number_bytes}
 use Rattle.archive_file.proofs.Points.{IsBytes}
-use Rattle.group_layout.specs.Fields.{Spells, long_at, short_at}
+use Rattle.layout_fields.specs.Fields.{Spells, long_at, short_at}
 
 -- the byte i of n bytes at a place
 pub byte_of : (c : List ℕ) (at n i : ℕ) → i < n → get_or (take n (drop at c)) i 0 ≡ get_or c (at + i) 0

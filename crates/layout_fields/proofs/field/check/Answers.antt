@@ -2,8 +2,8 @@ use Rattle.std.proofs.Common.{◌+◌, ◌++◌, Err, take, drop, sym, ap, ◌�
 use Rattle.std.proofs.lemmas.Result.{err_from_is_err_and}
 use Rattle.std.proofs.lemmas.List.{drop_more, take-append-drop, take_all}
 use Rattle.std.proofs.lemmas.List.Elements.{All-more}
-use Rattle.commit_log.specs.Fields.{Keeps}
-use Rattle.commit_log.proofs.field.check.Goals as goal
+use Rattle.layout_fields.specs.Fields.{Keeps}
+use Rattle.layout_fields.proofs.field.check.Goals as goal
 
 pub loop-field-preserved : goal.loop-field-preserved
 loop-field-preserved c =

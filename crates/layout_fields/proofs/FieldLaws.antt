@@ -5,8 +5,8 @@ use Rattle.std.proofs.lemmas.List.{append-nil, drop-drop}
 use Rattle.std.proofs.lemmas.List.Elements.{All-append, All-cons, All-nil}
 use Rattle.archive_file.specs.declared.failure.ScanNo.{ScanNo}
 use Rattle.archive_file.specs.declared.failure.ScanNo.TheVariants.{Damaged}
-use Rattle.commit_log.specs.declared.field.Field.{Field}
-use Rattle.commit_log.specs.Fields.{Spells, Keeps, EndsIn, Breaks, BreaksFirst}
+use Rattle.layout_fields.specs.declared.field.Field.{Field}
+use Rattle.layout_fields.specs.Fields.{Spells, Keeps, EndsIn, Breaks, BreaksFirst}
 
 -- a field at a place, and whether it is kept
 abbrev pub field_of : ℕ → ℕ → Bool → Field

@@ -1,6 +1,0 @@
-use Rattle.std.proofs.Common.{All, take}
-use Rattle.group_layout.specs.Fields.{Keeps}
-use Rattle.group_layout.proofs.field.check.Given as goal
-
-abbrev pub invariant-loop-field : goal.invariant-loop-field
-invariant-loop-field l = All (Keeps l.c) (take l.field-index l.fields)
