@@ -34,6 +34,7 @@ due_for worker at tag s works d (status.Mismatch (place.Windows _) _ _) m is = t
 due_for worker at tag s works d (status.Mismatch (place.Opening _) _ _) m is = tt
 due_for worker at tag s works d (status.Mismatch (place.Pull _ _ _) _ _) m is = tt
 due_for worker at tag s works d (status.Mismatch (place.Turns _) _ _) m is = tt
+due_for worker at tag s works d (status.Mismatch (place.Log _) _ _) m is = tt
 due_for worker at tag s works d status.Done m is = tt
 due_for worker at tag s works d status.BadWords m is = tt
 due_for worker at tag s works d (status.BadText _ _ _ _) m is = tt
@@ -46,6 +47,8 @@ due_for worker at tag s works d (status.OtherTag _ _ _) m is = tt
 due_for worker at tag s works d (status.Limit _ _) m is = tt
 due_for worker at tag s works d (status.Halted _) m is = tt
 due_for worker at tag s works d status.WantOfMemory m is = tt
+due_for worker at tag s works d (status.OtherPlant _) m is = tt
+due_for worker at tag s works d (status.BadName _) m is = tt
 
 -- the number of a number
 abbrev number_of : Seen → ℕ
@@ -75,6 +78,7 @@ unlike tags collector rooms files cells works d (status.Mismatch (place.Windows 
 unlike tags collector rooms files cells works d (status.Mismatch (place.Opening _) _ _) over found_so within as_many counted so due_so = absurd so
 unlike tags collector rooms files cells works d (status.Mismatch (place.Pull _ _ _) _ _) over found_so within as_many counted so due_so = absurd so
 unlike tags collector rooms files cells works d (status.Mismatch (place.Turns _) _ _) over found_so within as_many counted so due_so = absurd so
+unlike tags collector rooms files cells works d (status.Mismatch (place.Log _) _ _) over found_so within as_many counted so due_so = absurd so
 unlike tags collector rooms files cells works d status.Done over found_so within as_many counted so due_so = tt
 unlike tags collector rooms files cells works d status.BadWords over found_so within as_many counted so due_so = tt
 unlike tags collector rooms files cells works d (status.BadText _ _ _ _) over found_so within as_many counted so due_so = tt
@@ -87,3 +91,5 @@ unlike tags collector rooms files cells works d (status.OtherTag _ _ _) over fou
 unlike tags collector rooms files cells works d (status.Limit _ _) over found_so within as_many counted so due_so = tt
 unlike tags collector rooms files cells works d (status.Halted _) over found_so within as_many counted so due_so = tt
 unlike tags collector rooms files cells works d status.WantOfMemory over found_so within as_many counted so due_so = tt
+unlike tags collector rooms files cells works d (status.OtherPlant _) over found_so within as_many counted so due_so = tt
+unlike tags collector rooms files cells works d (status.BadName _) over found_so within as_many counted so due_so = tt

@@ -17,7 +17,7 @@ use Rattle.plant_files.specs.Asked.{IsQueryOf, ToldFiles, AreReaderFiles}
 use Rattle.value_rows.specs.declared.asked.GroupNames.{GroupNames}
 use Rattle.plant_status.specs.declared.status.Status.{Status}
 use Rattle.plant_status.specs.declared.status.Status.TheVariants.{Done, BadWords, BadText, BadRow, ReadFault, WriteFault, DeviceFault}
-use Rattle.plant_status.specs.declared.status.Status.TheVariants.{Damaged, OtherTag, Limit, Mismatch, Halted, WantOfMemory}
+use Rattle.plant_status.specs.declared.status.Status.TheVariants.{Damaged, OtherTag, Limit, Mismatch, Halted, WantOfMemory, OtherPlant, BadName}
 use Rattle.plant_files.specs.Reading.{faults_told}
 use Rattle.disk_model.specs.Traces.{Trace}
 use Rattle.tag_store.specs.Tags.{AreDistinct, records_in}
@@ -69,6 +69,8 @@ no_file_fault tags old new before now (Limit what number) is n = refl
 no_file_fault tags old new before now (Mismatch place kept told) is n = refl
 no_file_fault tags old new before now (Halted worker) is n = refl
 no_file_fault tags old new before now WantOfMemory is n = refl
+no_file_fault tags old new before now (OtherPlant at) is n = refl
+no_file_fault tags old new before now (BadName word) is n = refl
 
 -- nor is that of a group
 pub rows_no_fault : (groups : List GroupDef) (records : List (List Rec)) (old : List ℕ → Option Trace) (before now : ℕ) (why : Status)
