@@ -13,7 +13,11 @@ use Rattle.plant_status.specs.declared.unit.Unit.{Unit}
 use Rattle.plant_status.specs.declared.unit.Unit.TheVariants.{Tag, Group, Log}
 use Rattle.plant_status.specs.declared.status.Status.{Status}
 use Rattle.plant_status.specs.declared.status.Status.TheVariants.{Done, BadWords, BadText, BadRow, ReadFault, WriteFault, DeviceFault, Damaged, OtherTag, Limit, Mismatch, Halted, WantOfMemory, OtherPlant, BadName}
-use Rattle.plant_run.specs.CommandLine.{Form, Pack, Check, Trend, Unknown}
+use Rattle.shift_command.specs.Shifts as shift
+use Rattle.frame_command.specs.Commands as frame
+use Rattle.frame_command.specs.Names as frame_names
+use Rattle.frame_command.specs.Rows as frame_rows
+use Rattle.plant_run.specs.CommandLine.{Form, Pack, Check, Trend, Shifts, Frames, Unknown}
 use Rattle.store_commands.proofs.Faults.{of_none}
 use Rattle.plant_run.specs.Run.{World, CountsFor, EndsFor, KeepsFor, IsPrintedSo, IsTold, PrintsSo, WhereDone}
 
@@ -227,6 +231,73 @@ module _ (name plan_name : List ℕ) (told : ToldFiles) (old new : Devices) (bef
       rows_rose base.groups.items _ _ before now few unit refused
   trend_rose few unit (OfMemory same) = cc
 
+module _ (name calendar : List ℕ) (told : ToldFiles) (old new : Devices) (before now : ℕ) where
+  pub shifts_not_done : shift.IsShiftsRefusal name calendar told old new before now Done → ⊥
+  shifts_not_done (shift.OfBase refused same) = refused
+  shifts_not_done (shift.OfCalendar base read refused same) = refused
+  shifts_not_done (shift.OfTag base parts read dated refused) = refused
+  shifts_not_done (shift.OfMemory same) = cc
+
+  pub shifts_no_fault : shift.IsShiftsRefusal name calendar told old new before now WriteFault → ⊥
+  shifts_no_fault (shift.OfBase refused same) = refused
+  shifts_no_fault (shift.OfCalendar base read refused same) = refused
+  shifts_no_fault (shift.OfTag base parts read dated refused) = refused
+  shifts_no_fault (shift.OfMemory same) = cc
+
+  pub shifts_rose : before < 2 ^ 64 → (unit : Unit) → shift.IsShiftsRefusal name calendar told old new before now (DeviceFault unit)
+      → Rose before now
+  shifts_rose few unit (shift.OfBase refused same) = absurd refused
+  shifts_rose few unit (shift.OfCalendar base read refused same) = absurd refused
+  shifts_rose few (Tag i) (shift.OfTag base parts read dated refused) = refused.cause few
+  shifts_rose few (Group i) (shift.OfTag base parts read dated refused) = absurd refused
+  shifts_rose few Log (shift.OfTag base parts read dated refused) = absurd refused
+  shifts_rose few unit (shift.OfMemory same) = cc
+
+module _ (name group calc : List ℕ) (told : ToldFiles) (old new : Devices) (before now : ℕ) where
+  pub frames_not_done : frame.IsFramesRefusal name group calc told old new before now Done → ⊥
+  frames_not_done (frame.OfBase refused same) = refused
+  frames_not_done (frame.OfName base read (frame_names.NoGroup is none) same) = cc
+  frames_not_done (frame.OfName base read (frame_names.NoCalculation g is there named none) same) = cc
+  frames_not_done (frame.OfTag base g i k read named refused) = refused
+  frames_not_done (frame.OfGroup base g i k cores read named opened (frame_rows.OfFault is cause)) = cc
+  frames_not_done (frame.OfGroup base g i k cores read named opened (frame_rows.OfDamage at byte is shows)) = cc
+  frames_not_done (frame.OfGroup base g i k cores read named opened (frame_rows.OfVersion input found version is shows)) = cc
+  frames_not_done (frame.OfGroup base g i k cores read named opened (frame_rows.OfWindows windows rows is shows)) = cc
+  frames_not_done (frame.OfGroup base g i k cores read named opened (frame_rows.OfCells number is many above)) = cc
+  frames_not_done (frame.OfGroup base g i k cores read named opened (frame_rows.OfCopies number is many above)) = cc
+  frames_not_done (frame.OfGroup base g i k cores read named opened (frame_rows.OfMemory is)) = cc
+  frames_not_done (frame.OfMemory is) = cc
+
+  pub frames_no_fault : frame.IsFramesRefusal name group calc told old new before now WriteFault → ⊥
+  frames_no_fault (frame.OfBase refused same) = refused
+  frames_no_fault (frame.OfName base read (frame_names.NoGroup is none) same) = cc
+  frames_no_fault (frame.OfName base read (frame_names.NoCalculation g is there named none) same) = cc
+  frames_no_fault (frame.OfTag base g i k read named refused) = refused
+  frames_no_fault (frame.OfGroup base g i k cores read named opened (frame_rows.OfFault is cause)) = cc
+  frames_no_fault (frame.OfGroup base g i k cores read named opened (frame_rows.OfDamage at byte is shows)) = cc
+  frames_no_fault (frame.OfGroup base g i k cores read named opened (frame_rows.OfVersion input found version is shows)) = cc
+  frames_no_fault (frame.OfGroup base g i k cores read named opened (frame_rows.OfWindows windows rows is shows)) = cc
+  frames_no_fault (frame.OfGroup base g i k cores read named opened (frame_rows.OfCells number is many above)) = cc
+  frames_no_fault (frame.OfGroup base g i k cores read named opened (frame_rows.OfCopies number is many above)) = cc
+  frames_no_fault (frame.OfGroup base g i k cores read named opened (frame_rows.OfMemory is)) = cc
+  frames_no_fault (frame.OfMemory is) = cc
+
+  pub frames_rose : before < 2 ^ 64 → (unit : Unit) → frame.IsFramesRefusal name group calc told old new before now (DeviceFault unit) → Rose before now
+  frames_rose few unit (frame.OfBase refused same) = absurd refused
+  frames_rose few unit (frame.OfName base read (frame_names.NoGroup is none) same) = cc
+  frames_rose few unit (frame.OfName base read (frame_names.NoCalculation g is there named none) same) = cc
+  frames_rose few (Tag n) (frame.OfTag base g i k read named refused) = refused.cause few
+  frames_rose few (Group n) (frame.OfTag base g i k read named refused) = absurd refused
+  frames_rose few Log (frame.OfTag base g i k read named refused) = absurd refused
+  frames_rose few unit (frame.OfGroup base g i k cores read named opened (frame_rows.OfFault is cause)) = cause few
+  frames_rose few unit (frame.OfGroup base g i k cores read named opened (frame_rows.OfDamage at byte is shows)) = cc
+  frames_rose few unit (frame.OfGroup base g i k cores read named opened (frame_rows.OfVersion input found version is shows)) = cc
+  frames_rose few unit (frame.OfGroup base g i k cores read named opened (frame_rows.OfWindows windows rows is shows)) = cc
+  frames_rose few unit (frame.OfGroup base g i k cores read named opened (frame_rows.OfCells number is many above)) = cc
+  frames_rose few unit (frame.OfGroup base g i k cores read named opened (frame_rows.OfCopies number is many above)) = cc
+  frames_rose few unit (frame.OfGroup base g i k cores read named opened (frame_rows.OfMemory is)) = cc
+  frames_rose few unit (frame.OfMemory is) = cc
+
 -- ---- a run for whose words no memory was found
 
 pub memory_ends : (form : Form) (before now : World) → CountsNoFault before.input now.input
@@ -240,6 +311,10 @@ memory_ends (Trend base plan) before now same told faults devices left = (
   record { durable = tt; file_faults = faults; device_faults = λ few. devices; input = left },
   of_none base plan before.files now.failed_name WantOfMemory (λ which same. cc),
 )
+memory_ends (Shifts base calendar word days) before now same told faults devices left =
+    inr ((inr refl, told, faults, devices, left), λ same. cc)
+memory_ends (Frames base group calc least) before now same told faults devices left =
+    ((frame.OfMemory refl, told), record { durable = tt; file_faults = faults; device_faults = λ few. devices; input = left }, λ which same. cc)
 memory_ends Unknown before now same told faults devices left = (inr refl, told, faults, devices, left)
 
 -- devices that are as they were are kept
@@ -247,4 +322,6 @@ pub same_kept : (form : Form) (told : ToldFiles) (devices : Devices) → KeepsFo
 same_kept (Pack tuning) told devices = refl
 same_kept (Check base) told devices = inl (λ n. refl)
 same_kept (Trend base plan) told devices = inl (λ n. refl)
+same_kept (Shifts base calendar word days) told devices = inl (λ n. refl)
+same_kept (Frames base group calc least) told devices = inl (λ n. refl)
 same_kept Unknown told devices = refl

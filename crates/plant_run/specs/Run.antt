@@ -1,5 +1,5 @@
 -- How a run of the program ends: what it has read and printed, and what became of the devices, in each status.
-use Rattle.std.specs.Prelude.{◌≡◌, ◌⊎◌, ℕ, ◌^◌, ◌<◌, List, Option, None}
+use Rattle.std.specs.Prelude.{◌≡◌, ◌⊎◌, ℕ, ℤ, ◌^◌, ◌<◌, List, Option, None}
 use Rattle.trend_num.specs.declared.point.Point.{Point}
 use Rattle.trend_num.specs.declared.tuning.Tuning.{Tuning}
 use Rattle.trend_model.specs.Walk.{records, held}
@@ -16,7 +16,10 @@ use Rattle.plant_files.specs.Reading.{faults_told}
 use Rattle.pack_command.specs.Pack.{IsRead, IsPackRefusal, first_full, history_of, origin_of}
 use Rattle.disk_model.specs.Calls.{Rose}
 use Rattle.store_commands.specs.Commands.{Devices, IsDurable, IsFaultOfNamed, IsChecked, IsCheckRefusal, IsTrend, IsTrendRefusal, AreAllKept, AreKept}
-use Rattle.plant_run.specs.CommandLine.{Form, Pack, Check, Trend, Unknown, form_of}
+use Rattle.shift_calendar.specs.Days.{IsDayWord, IsFirstDay}
+use Rattle.shift_command.specs.Shifts.{IsFaultOfRead, IsShifts, IsShiftsRefusal}
+use Rattle.frame_command.specs.Commands.{AreFramesKept, IsFrames, IsFramesRefusal}
+use Rattle.plant_run.specs.CommandLine.{Form, Pack, Check, Trend, Shifts, Frames, Unknown, form_of}
 
 -- all of the input was read, and this is the text of what its history keeps. That is near all values of the history.
 pub record IsPacked (tuning : Tuning) (before now : Outside) (text : List ℕ) : Type 0 where
@@ -88,6 +91,33 @@ pub record EndsOver (base : List ℕ) (before now : World) (status : Status) : T
   pub device_faults : before.device_faults < 2 ^ 64 → CountsFor status before.device_faults now.device_faults
   pub input : now.input ≡ before.input
 
+-- no day from 1971-01-01 to 9990-12-31 has this word
+abbrev pub IsNoDay : List ℕ → Type 0
+IsNoDay word = (day : ℤ) → IsFirstDay day → IsDayWord word day → ⊥
+
+-- words of this form ask for nothing that there is
+abbrev pub MeansNothing : Form → Type 0
+MeansNothing (Shifts base calendar word days) = IsNoDay word
+MeansNothing Unknown = Unit {0}
+MeansNothing other = ⊥
+
+-- a run that read nothing, since its words ask for nothing, or no memory was found for them
+abbrev pub EndsUnread : World → World → Status → Type 0
+EndsUnread before now status =
+    ((status ≡ BadWords) ⊎ (status ≡ WantOfMemory)) × IsTold before.output now.output status
+    × (now.file_faults ≡ before.file_faults)
+    × (now.device_faults ≡ before.device_faults)
+    × (now.input ≡ before.input)
+
+-- a run that tells shifts, from this day on, ends in this status
+abbrev pub EndsOverDays : List ℕ → List ℕ → ℤ → ℕ → World → World → Status → Type 0
+EndsOverDays base calendar day days before now status =
+    PrintsSo (IsShifts base calendar day days before.files before.devices)
+    (IsShiftsRefusal base calendar before.files before.devices now.devices before.device_faults now.device_faults)
+    before.output now.output status
+    × EndsOver base before now status
+    × IsFaultOfRead base calendar now.failed_name status
+
 -- a run of words of this form ends in this status; `pack` alone reads the input, and it reads nothing else. No memory may be found
 -- for the words themselves
 abbrev pub EndsFor : Form → World → World → Status → Type 0
@@ -108,11 +138,16 @@ EndsFor (Trend base plan) before now status =
     before.output now.output status
     × EndsOver base before now status
     × IsFaultOfNamed base plan before.files now.failed_name status
-EndsFor Unknown before now status =
-    ((status ≡ BadWords) ⊎ (status ≡ WantOfMemory)) × IsTold before.output now.output status
-    × (now.file_faults ≡ before.file_faults)
-    × (now.device_faults ≡ before.device_faults)
-    × (now.input ≡ before.input)
+EndsFor (Shifts base calendar word days) before now status =
+    ((day : ℤ) × IsFirstDay day × IsDayWord word day × EndsOverDays base calendar day days before now status)
+    ⊎ (EndsUnread before now status × (status ≡ BadWords → IsNoDay word))
+EndsFor (Frames base group calc least) before now status =
+    PrintsSo (IsFrames base group calc least before.files before.devices)
+    (IsFramesRefusal base group calc before.files before.devices now.devices before.device_faults now.device_faults)
+    before.output now.output status
+    × EndsOver base before now status
+    × ((which : FileId) → status ≡ ReadFault which → IsFaultOf now.failed_name base)
+EndsFor Unknown before now status = EndsUnread before now status
 
 -- a run of these words ends in this status
 abbrev pub EndsIn : List (List ℕ) → World → World → Status → Type 0
@@ -122,6 +157,8 @@ EndsIn words = EndsFor (form_of words)
 abbrev pub KeepsFor : Form → ToldFiles → Devices → Devices → Type 0
 KeepsFor (Check base) files old new = AreKept base files old new
 KeepsFor (Trend base plan) files old new = AreAllKept base files old new
+KeepsFor (Shifts base calendar word days) files old new = AreKept base files old new
+KeepsFor (Frames base group calc least) files old new = AreFramesKept base group calc files old new
 KeepsFor form files old new = new ≡ old
 
 -- it ends in a status of this exit code

@@ -5,9 +5,9 @@ ghost use Rattle.std.specs.Process.{exit_status};
 ghost use Rattle.std.specs.Vec.Iter.{into_iter_items};
 ghost use Rattle.plant_status.specs.Status.{code_of};
 ghost use Rattle.plant_run.specs.Argument.{status_of_args};
-ghost use Rattle.plant_run.specs.Run.{EndsWithCode, IsTold, KeepsFor, world};
-ghost use Rattle.plant_run.specs.CommandLine.{Unknown, form_of, plan_words};
-ghost use Rattle.plant_run.specs.Sessions.{RunsWithCode};
+ghost use Rattle.plant_run.specs.Run.{EndsWithCode, IsTold, KeepsFor, MeansNothing, world};
+ghost use Rattle.plant_run.specs.CommandLine.{form_of, log_words, plan_words};
+ghost use Rattle.plant_run.specs.Sessions.{HoldsNone, LogsWithCode, RunsWithCode};
 
 use crate::program::run;
 use crate::top_call::refuse;
@@ -35,7 +35,7 @@ pub fn run_args<R: Threads + Wait + Sync, I: Source, F: Files, O: Sink, S: Store
     passes: &mut P,
 ) -> ExitCode
     // The words are the arguments after the first.
-    ensures ends { IfOk args (λ given. plan_words (map string_bytes (drop 1 (into_iter_items given))) ≡ None
+    ensures ends { IfOk args (λ given. HoldsNone (map string_bytes (drop 1 (into_iter_items given)))
         → EndsWithCode (map string_bytes (drop 1 (into_iter_items given)))
         (world (I.meaning input.old) (O.meaning out.old) (F.told files.old) (F.fault_count files.old) (F.failed_name files.old)
         (S.device_at store.old) (S.fault_count store.old))
@@ -48,12 +48,19 @@ pub fn run_args<R: Threads + Wait + Sync, I: Source, F: Files, O: Sink, S: Store
         (S.device_at store.old) (S.fault_count store.old))
         (world (I.meaning input.new) (O.meaning out.new) (F.told files.new) (F.fault_count files.new) (F.failed_name files.new)
         (S.device_at store.new) (S.fault_count store.new)) (P.stops passes.old) (P.stops passes.new) (exit_status result)) }
-    ensures bad_words { IfOk args (λ given. plan_words (map string_bytes (drop 1 (into_iter_items given))) ≡ None
-        → form_of (map string_bytes (drop 1 (into_iter_items given))) ≡ Unknown
+    ensures log { IfOk args (λ given. (base plan : List ℕ)
+        → log_words (map string_bytes (drop 1 (into_iter_items given))) ≡ Some (base, plan)
+        → LogsWithCode S.Dev.trace S.Dev.ticks S.Dev.fault_count base plan
+        (world (I.meaning input.old) (O.meaning out.old) (F.told files.old) (F.fault_count files.old) (F.failed_name files.old)
+        (S.device_at store.old) (S.fault_count store.old))
+        (world (I.meaning input.new) (O.meaning out.new) (F.told files.new) (F.fault_count files.new) (F.failed_name files.new)
+        (S.device_at store.new) (S.fault_count store.new)) (P.stops passes.old) (P.stops passes.new) (exit_status result)) }
+    ensures bad_words { IfOk args (λ given. HoldsNone (map string_bytes (drop 1 (into_iter_items given)))
+        → MeansNothing (form_of (map string_bytes (drop 1 (into_iter_items given))))
         → (exit_status result ≡ code_of Status.BadWords) ⊎ (exit_status result ≡ code_of Status.WantOfMemory)) }
 
     // What a crash at any moment leaves of the devices.
-    ensures devices { IfOk args (λ given. plan_words (map string_bytes (drop 1 (into_iter_items given))) ≡ None
+    ensures devices { IfOk args (λ given. HoldsNone (map string_bytes (drop 1 (into_iter_items given)))
         → KeepsFor (form_of (map string_bytes (drop 1 (into_iter_items given))))
         (F.told files.old) (S.device_at store.old) (S.device_at store.new)) }
 

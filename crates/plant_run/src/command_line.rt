@@ -1,7 +1,7 @@
 // The words of a command line.
 ghost use Rattle.std.specs.Prelude.{◌≡◌, ◌≤◌, map, string_bytes, IfSome, option_map};
 ghost use Rattle.trend_num.specs.Ranges.{TuningInRange};
-ghost use Rattle.plant_run.specs.CommandLine.{FormInRange, asked, form_of, named, number_upto, packing, plan_words, tuning_of};
+ghost use Rattle.plant_run.specs.CommandLine.{FormInRange, asked, count_upto, form_of, framing, log_words, most_days, most_least, named, number_upto, over_days, packing, plan_words, tuning_of};
 
 use trend_num::{MAX_DEV, MAX_T, Tuning, numeral};
 
@@ -11,12 +11,37 @@ pub(crate) enum Form<'w> {
     /// To pack the input with this tuning.
     Pack(Tuning),
     /// To check the tags of the base in this file.
-    Check { base: &'w str },
+    Check {
+        base: &'w str,
+    },
     /// To answer the readers of the plan in this file.
-    Trend { base: &'w str, plan: &'w str },
+    Trend {
+        base: &'w str,
+        plan: &'w str,
+    },
+    /// To tell the shifts of a calendar over the tags of a base, from the day of a word on, for so many days.
+    Shifts {
+        base: &'w str,
+        calendar: &'w str,
+        day: &'w str,
+        days: u32,
+    },
+    /// To tell the frames of a calculation of a group of the base that have at least so many windows.
+    Frames {
+        base: &'w str,
+        group: &'w str,
+        calc: &'w str,
+        least: u32,
+    },
     /// Nothing that there is.
     Unknown,
 }
+
+/// For how many days shifts are told at most.
+const MOST_DAYS: u32 = 366;
+
+/// How many windows frames may be asked to have at least.
+const MOST_LEAST: u32 = 1_000_000;
 
 /// The files of a base and of a plan over it.
 #[derive(Clone, Copy)]
@@ -38,6 +63,19 @@ pub(crate) fn plan_words(words: &[String]) -> Option<Planned<'_>>
     }
 }
 
+/// The files whose collectors these words ask to log, if they are `log BASE PLAN`.
+pub(crate) fn log_words(words: &[String]) -> Option<Planned<'_>>
+    ensures { option_map named result ≡ log_words (map string_bytes words.now) }
+{
+    match words {
+        [verb, base, plan] if verb.as_str() == "log" => Some(Planned {
+            base: base.as_str(),
+            plan: plan.as_str(),
+        }),
+        _ => None,
+    }
+}
+
 /// What these words ask for, unless that is to run a plan.
 pub(crate) fn form_of(words: &[String]) -> Form<'_>
     ensures form { asked result ≡ form_of (map string_bytes words.now) }
@@ -51,6 +89,18 @@ pub(crate) fn form_of(words: &[String]) -> Form<'_>
             base: base.as_str(),
             plan: plan.as_str(),
         },
+        [verb, base, calendar, day, days] if verb.as_str() == "shifts" => over_days(
+            base.as_str(),
+            calendar.as_str(),
+            day.as_str(),
+            count_upto(MOST_DAYS, days.as_bytes()),
+        ),
+        [verb, base, group, calc, least] if verb.as_str() == "frames" => framing(
+            base.as_str(),
+            group.as_str(),
+            calc.as_str(),
+            count_upto(MOST_LEAST, least.as_bytes()),
+        ),
         [verb, exc_dev, exc_max, comp_dev, comp_min, comp_max] if verb.as_str() == "pack" =>
             packing(tuning_of(
                 exc_dev.as_bytes(),
@@ -71,6 +121,40 @@ fn packing<'w>(tuning: Option<Tuning>) -> Form<'w>
 {
     match tuning {
         Some(tuning) => Form::Pack(tuning),
+        None => Form::Unknown,
+    }
+}
+
+/// To tell the shifts of so many days, where they are a number.
+fn over_days<'w>(base: &'w str, calendar: &'w str, day: &'w str, days: Option<u32>) -> Form<'w>
+    requires { IfSome days (λ n. (1 ≤ n) × (n ≤ most_days)) }
+    ensures form { asked result ≡ over_days base.now calendar.now day.now days }
+    ensures tuned { FormInRange (asked result) }
+{
+    match days {
+        Some(days) => Form::Shifts {
+            base,
+            calendar,
+            day,
+            days,
+        },
+        None => Form::Unknown,
+    }
+}
+
+/// To tell the frames of at least so many windows, where they are a number.
+fn framing<'w>(base: &'w str, group: &'w str, calc: &'w str, least: Option<u32>) -> Form<'w>
+    requires { IfSome least (λ n. (1 ≤ n) × (n ≤ most_least)) }
+    ensures form { asked result ≡ framing base.now group.now calc.now least }
+    ensures tuned { FormInRange (asked result) }
+{
+    match least {
+        Some(least) => Form::Frames {
+            base,
+            group,
+            calc,
+            least,
+        },
         None => Form::Unknown,
     }
 }
@@ -106,5 +190,16 @@ fn number_upto(most: u64, word: &[u8]) -> Option<u64>
         Some(n as u64)
     } else {
         None
+    }
+}
+
+/// The number of a numeral, from 1 up to `most`.
+fn count_upto(most: u32, word: &[u8]) -> Option<u32>
+    ensures value { result ≡ count_upto most word.now }
+    ensures range { IfSome result (λ n. (1 ≤ n) × (n ≤ most)) }
+{
+    match number_upto(u64::from(most), word)? {
+        0 => None,
+        n => Some(n as u32),
     }
 }

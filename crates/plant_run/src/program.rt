@@ -1,13 +1,16 @@
 // The top call.
-ghost use Rattle.std.specs.Prelude.{◌≡◌, ◌↔◌, ℕ, List, None, Some, map, string_bytes};
-ghost use Rattle.plant_run.specs.CommandLine.{Unknown, form_of, plan_words};
-ghost use Rattle.plant_run.specs.Run.{EndsIn, KeepsFor, world};
-ghost use Rattle.plant_run.specs.Sessions.{IsRunSo};
+ghost use Rattle.std.specs.Prelude.{◌≡◌, ◌↔◌, ℕ, IfNone, IfSome, List, None, OnSome, Some, map, string_bytes};
+ghost use Rattle.std.specs.Option.{IsSome};
+ghost use Rattle.plant_run.specs.CommandLine.{form_of, log_words, plan_words};
+ghost use Rattle.plant_run.specs.Run.{EndsIn, KeepsFor, MeansNothing, world};
+ghost use Rattle.plant_run.specs.Sessions.{HoldsNone, IsLogSo, IsOfLog, IsRunSo};
 
-use crate::command_line::{Planned, plan_words};
+use crate::command_line::{Planned, log_words, plan_words};
 use crate::top_call::{answer, finish};
 use byte_io::{Files, Sink, Source};
+use commit_log::LogHistory;
 use disk_model::Store;
+use log_command::{Logged, log_plan};
 use plant_status::{Passes, Status};
 use run_command::{Ran, run_plan};
 use session_report::Session;
@@ -25,7 +28,9 @@ pub struct Outcome {
 
 /// Does what the words of a command line ask for, and tells how it went. `run BASE PLAN` holds the session of a plan: its
 /// collectors feed the tags of the base, its readers ask, its refreshers bring the groups up to date; the report is printed once
-/// every device is given back. `pack`, `check` and `trend` hold none. Each refusal but that of a write prints its one line instead.
+/// every device is given back. `log BASE PLAN` puts the rows of these collectors into one log of the whole plant instead. All other
+/// commands hold none. Each refusal but that of a write prints its one line instead.
+#[tactic(auto, using(crate::proofs::Words::run_no_log))]
 pub fn run<R: Threads + Wait + Sync, I: Source, F: Files, O: Sink, S: Store, P: Passes>(
     rt: &R,
     alloc: Global,
@@ -44,22 +49,30 @@ pub fn run<R: Threads + Wait + Sync, I: Source, F: Files, O: Sink, S: Store, P: 
         (world (I.meaning input.new) (O.meaning out.new) (F.told files.new) (F.fault_count files.new) (F.failed_name files.new)
         (S.device_at store.new) (S.fault_count store.new)) (P.stops passes.old) (P.stops passes.new) result }
 
+    // The logging of a plan: its session, and what is printed of it.
+    ensures log { (base plan : List ℕ) → log_words (map string_bytes words.now) ≡ Some (base, plan)
+        → IsLogSo S.Dev.trace S.Dev.ticks S.Dev.fault_count base plan
+        (world (I.meaning input.old) (O.meaning out.old) (F.told files.old) (F.fault_count files.old) (F.failed_name files.old)
+        (S.device_at store.old) (S.fault_count store.old))
+        (world (I.meaning input.new) (O.meaning out.new) (F.told files.new) (F.fault_count files.new) (F.failed_name files.new)
+        (S.device_at store.new) (S.fault_count store.new)) (P.stops passes.old) (P.stops passes.new) result }
+
     // Any other words: what was read and printed where it ends so. Want of memory alone has no other cause.
-    ensures ends { plan_words (map string_bytes words.now) ≡ None → EndsIn (map string_bytes words.now)
+    ensures ends { HoldsNone (map string_bytes words.now) → EndsIn (map string_bytes words.now)
         (world (I.meaning input.old) (O.meaning out.old) (F.told files.old) (F.fault_count files.old) (F.failed_name files.old)
         (S.device_at store.old) (S.fault_count store.old))
         (world (I.meaning input.new) (O.meaning out.new) (F.told files.new) (F.fault_count files.new) (F.failed_name files.new)
         (S.device_at store.new) (S.fault_count store.new)) result.status }
-    ensures alone { plan_words (map string_bytes words.now) ≡ None → result.session ≡ None }
+    ensures alone { HoldsNone (map string_bytes words.now) → result.session ≡ None }
 
     // What a crash at any moment leaves of the devices.
-    ensures devices { plan_words (map string_bytes words.now) ≡ None
+    ensures devices { HoldsNone (map string_bytes words.now)
         → KeepsFor (form_of (map string_bytes words.now)) (F.told files.old) (S.device_at store.old) (S.device_at store.new) }
     ensures files { F.told files.new ≡ F.told files.old }
 
     // Words that are no form are refused as such, and nothing is read then.
-    ensures bad_words { plan_words (map string_bytes words.now) ≡ None
-        → (result.status ≡ Status.BadWords) ↔ (form_of (map string_bytes words.now) ≡ Unknown) }
+    ensures bad_words { HoldsNone (map string_bytes words.now)
+        → (result.status ≡ Status.BadWords) ↔ MeansNothing (form_of (map string_bytes words.now)) }
     ensures untouched { result.status ≡ Status.BadWords → input.new ≡ input.old }
 {
     match plan_words(words) {
@@ -70,9 +83,68 @@ pub fn run<R: Threads + Wait + Sync, I: Source, F: Files, O: Sink, S: Store, P: 
                 session,
             }
         }
+        None => run_other(rt, alloc, words, input, files, out, store, passes),
+    }
+}
+
+/// Does what words ask for that run no plan.
+fn run_other<R: Threads + Wait + Sync, I: Source, F: Files, O: Sink, S: Store, P: Passes>(
+    rt: &R,
+    alloc: Global,
+    words: &[String],
+    input: &mut I,
+    files: &mut F,
+    out: &mut O,
+    store: &mut S,
+    passes: &mut P,
+) -> Outcome
+    requires { plan_words (map string_bytes words.now) ≡ None }
+    ensures log { (base plan : List ℕ) → log_words (map string_bytes words.now) ≡ Some (base, plan)
+        → IsLogSo S.Dev.trace S.Dev.ticks S.Dev.fault_count base plan
+        (world (I.meaning input.old) (O.meaning out.old) (F.told files.old) (F.fault_count files.old) (F.failed_name files.old)
+        (S.device_at store.old) (S.fault_count store.old))
+        (world (I.meaning input.new) (O.meaning out.new) (F.told files.new) (F.fault_count files.new) (F.failed_name files.new)
+        (S.device_at store.new) (S.fault_count store.new)) (P.stops passes.old) (P.stops passes.new) result }
+    ensures ends { log_words (map string_bytes words.now) ≡ None → EndsIn (map string_bytes words.now)
+        (world (I.meaning input.old) (O.meaning out.old) (F.told files.old) (F.fault_count files.old) (F.failed_name files.old)
+        (S.device_at store.old) (S.fault_count store.old))
+        (world (I.meaning input.new) (O.meaning out.new) (F.told files.new) (F.fault_count files.new) (F.failed_name files.new)
+        (S.device_at store.new) (S.fault_count store.new)) result.status }
+    ensures alone { log_words (map string_bytes words.now) ≡ None → result.session ≡ None }
+    ensures devices { log_words (map string_bytes words.now) ≡ None
+        → KeepsFor (form_of (map string_bytes words.now)) (F.told files.old) (S.device_at store.old) (S.device_at store.new) }
+    ensures files { F.told files.new ≡ F.told files.old }
+    ensures bad_words { log_words (map string_bytes words.now) ≡ None
+        → (result.status ≡ Status.BadWords) ↔ MeansNothing (form_of (map string_bytes words.now)) }
+    ensures untouched { result.status ≡ Status.BadWords → input.new ≡ input.old }
+{
+    match log_words(words) {
+        Some(Planned { base, plan }) => {
+            let Logged { answer, log } = log_plan(rt, alloc, files, store, passes, base, plan);
+            Outcome {
+                status: finish(answer, out),
+                session: session_of(alloc, log),
+            }
+        }
         None => Outcome {
             status: answer(alloc, words, input, files, out, store),
             session: None,
         },
     }
+}
+
+/// The session of a log, if one was written.
+fn session_of(alloc: Global, log: Option<LogHistory>) -> Option<Session>
+    ensures none { IfNone log (result ≡ None) }
+    ensures some { OnSome log (IsSome result) }
+    ensures log { IfSome result (λ s. IfSome log (IsOfLog s)) }
+    ensures alone { OnSome result (IsSome log) }
+{
+    let log = log?;
+    Some(Session {
+        tags: Vec::new(alloc),
+        groups: Vec::new(alloc),
+        workers: Vec::new(alloc),
+        log: Some(log),
+    })
 }

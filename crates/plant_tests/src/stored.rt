@@ -61,7 +61,21 @@ third.toml: [[collector]]|file = \"third.csv\"|
 whole.csv: T1,0,0|T1,10,10|S1,0,10|S1,10,11|T1,20,0|T1,30,5|S1,20,15|S1,30,14|
 first.csv: T1,0,0|T1,10,10|S1,0,10|S1,10,11|
 second.csv: T1,20,0|T1,30,5|S1,20,15|S1,30,14|
-third.csv: T1,40,12|T1,50,20|T1,60,30|";
+third.csv: T1,40,12|T1,50,20|T1,60,30|
+alone.toml: [[tag]]|name = \"T1\"|exc_dev = 0|exc_max = 1000000|comp_dev = 0|comp_min = 0|comp_max = 1000000|
+twin.toml: [[tag]]|name = \"T2\"|exc_dev = 0|exc_max = 1000000|comp_dev = 0|comp_min = 0|comp_max = 1000000|
+three.toml: [[collector]]|file = \"three.csv\"|
+three.csv: T1,0,0|T1,3000,0|T1,4000,9|
+fourth.toml: [[collector]]|file = \"fourth.csv\"|
+fourth.csv: T1,1500,60|
+spring.toml: [[collector]]|file = \"spring.csv\"|
+spring.csv: T1,1711774800000,7|T1,1711857600000,7|
+autumn.toml: [[collector]]|file = \"autumn.csv\"|
+autumn.csv: T1,1729915200000,7|T1,1730005200000,7|
+early.toml: zone = \"CET-1CEST,M3.5.0,M10.5.0/3\"|starts = [\"06:00\"]|tags = [\"T1\"]|measure = \"total\"|
+swapped.toml: zone = \"CET-1CEST,M3.5.0,M10.5.0/3\"|starts = [\"14:00\", \"06:00\"]|tags = [\"T1\"]|measure = \"total\"|
+berlin.toml: zone = \"Europe/Berlin\"|starts = [\"06:00\"]|tags = [\"T1\"]|measure = \"total\"|
+stairs.toml: zone = \"UTC0\"|starts = [\"00:00\"]|tags = [\"S1\", \"T1\"]|measure = \"avg\"|";
 
 // What the devices hold, the read of a file that fails, and the words; then the exit code and what is printed.
 const RUNS: &str = "\
@@ -137,7 +151,40 @@ group g windows=3 refreshes=1 evals=0|calc g m 2 20|
 left 99 run grid.toml ask.toml => 0 tag T1 taken=4 records=3 kept=2 late=1 held=4000,9|reply 1 1 exact 60|\
 group g windows=3 refreshes=1 evals=0|calc g m 2 20|
 left 99 trend grid.toml rows.toml => 0 reply 1 1 20|reply 1 2 50|reply 1 3 20|reply 1 4 none|reply 1 5 snap 4 4000,9|
-fewer 99 run grid.toml none.toml => 11 fault: mismatch|";
+fewer 99 run grid.toml none.toml => 11 fault: mismatch|
+new 99 run grid.toml three.toml => 0 tag T1 taken=3 records=2 kept=2 late=0 held=4000,9|\
+group g windows=3 refreshes=1 evals=3|calc g m 2 0|
+left 99 run alone.toml fourth.toml => 0 tag T1 taken=4 records=3 kept=2 late=1 held=4000,9|
+left 99 frames grid.toml g m 2 => 0 new 0 3000 open|frame 0 3000 open|
+left 99 frames grid.toml g m 4 => 0
+left 99 frames grid.toml h m 2 => 16 fault: name 3|
+left 99 frames grid.toml g x 2 => 16 fault: name 4|
+left 99 frames missing.toml g x 2 => 5 fault: read base|
+left 99 frames grid.toml g m 0 => 2 fault: words|
+left 99 frames grid.toml g m 1000001 => 2 fault: words|
+left 99 run grid.toml none.toml => 0 tag T1 taken=4 records=3 kept=2 late=1 held=4000,9|\
+group g windows=3 refreshes=1 evals=3|calc g m 2 20|
+left 99 frames grid.toml g m 2 => 0 frame 0 3000 open|
+new 99 run alone.toml spring.toml => 0 tag T1 taken=2 records=1 kept=1 late=0 held=1711857600000,7|
+left 99 shifts alone.toml early.toml 2024-03-30 1 => 0 shift 2024-03-30 1 1711774800000 1711857600000 T1 579600|
+left 99 shifts alone.toml early.toml 2024-02-30 1 => 2 fault: words|
+left 99 shifts alone.toml early.toml 2024-03-30 0 => 2 fault: words|
+left 99 shifts alone.toml early.toml 2024-03-30 367 => 2 fault: words|
+left 99 shifts alone.toml swapped.toml 2024-03-30 1 => 3 fault: text calendar rule 4 place 0 at 0|
+left 99 shifts alone.toml berlin.toml 2024-03-30 1 => 3 fault: text calendar rule 3 place 0 at 0|
+left 99 shifts alone.toml missing.toml 2024-03-30 1 => 5 fault: read calendar|
+new 99 run alone.toml autumn.toml => 0 tag T1 taken=2 records=1 kept=1 late=0 held=1730005200000,7|
+left 99 shifts alone.toml early.toml 2024-10-26 1 => 0 shift 2024-10-26 1 1729915200000 1730005200000 T1 630000|
+left 99 shifts alone.toml early.toml 2024-10-27 1 => 0 shift 2024-10-27 1 1730005200000 1730091600000 T1 none|
+new 99 shifts base.toml stairs.toml 1971-01-01 1 => 0 shift 1971-01-01 1 31536000000 31622400000 S1 none|\
+shift 1971-01-01 1 31536000000 31622400000 T1 none|
+new 99 log alone.toml two.toml => 0 tag T1 taken=2 records=2 kept=1 late=1 held=0,5|
+left 99 log alone.toml two.toml => 0 tag T1 taken=4 records=4 kept=1 late=3 held=0,5|
+left 99 log alone.toml none.toml => 0 tag T1 taken=4 records=4 kept=1 late=3 held=0,5|
+left 99 log twin.toml none.toml => 15 fault: other plant 1|
+left 99 log base.toml two.toml => 15 fault: other plant 2|
+left 99 log alone.toml lost.toml => 5 fault: read collector 2|
+new 0 log alone.toml two.toml => 6";
 
 // How often a line stands in one file more, the line, the words of a run over new devices, and how what is told ends.
 const LARGE: &str = "\

@@ -2,7 +2,8 @@ use Rattle.std.proofs.Common.{◌≡◌, None, Some, drop, inl, inr, map, string
 use Rattle.std.specs.Vec.Iter.{into_iter_items}
 use Rattle.plant_status.specs.Status.{code_of}
 use Rattle.plant_status.specs.declared.status.Status.TheVariants.{WantOfMemory}
-use Rattle.plant_run.specs.CommandLine.{form_of, plan_words}
+use Rattle.plant_run.specs.CommandLine.{form_of, log_words, plan_words}
+use Rattle.plant_run.specs.Sessions.{HoldsNone}
 use Rattle.plant_run.proofs.Printing.{memory_ends, same_kept}
 use Rattle.plant_run.proofs.argument.run_args.Goals as goal
 use Rattle.plant_run.proofs.argument.run_args.Goals.{in-Ok+in-Ok-words_of, in-Ok+in-Err-words_of, in-Err}
@@ -18,7 +19,7 @@ returns-clause-ends g c =
             w.run.result.status,
             code ∙ ap code_of w.status-is,
             rw (w.input-is, w.files-is, w.out-is, w.store-is, ← words)
-                (w.run.ensures.ends (subst (λ l. plan_words (map string_bytes l) ≡ None) (sym words) none)),
+                (w.run.ensures.ends (subst (λ l. HoldsNone (map string_bytes l)) (sym words) none)),
           ))
       | in-Ok+in-Err-words_of w ↦
           rw w.in-Ok.is (λ none. (
@@ -51,13 +52,34 @@ returns-clause-session g c =
       | in-Err w ↦ rw w.in-Err.is tt
     ]
 
+pub returns-clause-log : goal.returns-clause-log
+returns-clause-log g c =
+    let code = c.from.ensures ∙ c.code.ensures in
+    elim c.match-args.branch [
+      | in-Ok+in-Ok-words_of w ↦
+          let words : w.as_slice.result.now ≡ drop 1 (into_iter_items w.in-Ok.given) =
+          w.as_slice.ensures.value ∙ w.in-Ok-words_of.ensures in
+          rw w.in-Ok.is (λ base plan is. inl (
+            w.run.result,
+            code ∙ ap code_of w.status-is,
+            rw (w.input-is, w.files-is, w.out-is, w.store-is, w.passes-is)
+                (w.run.ensures.log base plan (subst (λ l. log_words (map string_bytes l) ≡ Some (base, plan)) (sym words) is)),
+          ))
+      | in-Ok+in-Err-words_of w ↦
+          rw w.in-Ok.is (λ base plan is. inr (
+            code ∙ ap code_of (w.status-is ∙ w.refuse.ensures.same),
+            rw (w.out-is) w.refuse.ensures.line,
+          ))
+      | in-Err w ↦ rw w.in-Err.is tt
+    ]
+
 pub returns-clause-devices : goal.returns-clause-devices
 returns-clause-devices g c = elim c.match-args.branch [
   | in-Ok+in-Ok-words_of w ↦
       let words : w.as_slice.result.now ≡ drop 1 (into_iter_items w.in-Ok.given) =
       w.as_slice.ensures.value ∙ w.in-Ok-words_of.ensures in
       rw w.in-Ok.is (λ none. rw (w.store-is, ← words)
-      (w.run.ensures.devices (subst (λ l. plan_words (map string_bytes l) ≡ None) (sym words) none)))
+      (w.run.ensures.devices (subst (λ l. HoldsNone (map string_bytes l)) (sym words) none)))
   | in-Ok+in-Err-words_of w ↦
       rw w.in-Ok.is (λ none. rw w.store-is
       (same_kept (form_of (map string_bytes (drop 1 (into_iter_items w.in-Ok.given)))) _ _))

@@ -6,7 +6,8 @@ use Rattle.store_commands.specs.Commands.{IsCheckRefusal, IsChecked, IsFaultOfNa
 use Rattle.store_commands.proofs.Faults.{of_none}
 use Rattle.store_commands.proofs.Stores.{of_tags}
 use Rattle.plant_run.specs.CommandLine.{asked}
-use Rattle.plant_run.proofs.Printing.{answered_so, counts_so, done_so, faults_so, ended_so, check_no_fault, check_not_done, check_rose, trend_no_fault, trend_not_done, trend_rose}
+use Rattle.frame_command.specs.Commands.{IsFrames, IsFramesRefusal}
+use Rattle.plant_run.proofs.Printing.{answered_so, counts_so, done_so, faults_so, ended_so, check_no_fault, check_not_done, check_rose, trend_no_fault, trend_not_done, trend_rose, frames_no_fault, frames_not_done, frames_rose}
 use Rattle.plant_run.proofs.top_call.answer.Goals as goal
 
 pub returns-in-Check-clause-ends : goal.returns-in-Check-clause-ends
@@ -78,3 +79,47 @@ returns-in-Trend-clause-ends g c =
 
 pub returns-in-Trend-clause-devices : goal.returns-in-Trend-clause-devices
 returns-in-Trend-clause-devices g c = rw (sym c.form_of.ensures.form ∙ ap asked c.in-Trend.is) c.trend.ensures.kept
+
+pub returns-in-Frames-clause-ends : goal.returns-in-Frames-clause-ends
+returns-in-Frames-clause-ends g c =
+    let base = c.in-Frames.base.now in
+    let group = c.in-Frames.group.now in
+    let calc = c.in-Frames.calc.now in
+    let least = c.in-Frames.least in
+    let told = g.F.Files.told c.args.files.now in
+    let old = g.S.Store.device_at c.args.store.now in
+    let new = g.S.Store.device_at c.frames.new.store in
+    let faults = g.S.Store.fault_count c.args.store.now in
+    let more = g.S.Store.fault_count c.frames.new.store in
+    let before = g.O.Sink.meaning c.args.out.now in
+    let now = g.O.Sink.meaning c.finish-in-Frames.new.out in
+    let IsRefused = IsFramesRefusal base group calc told old new faults more in
+    let no_done = frames_not_done base group calc told old new faults more in
+    let no_fault = frames_no_fault base group calc told old new faults more in
+    let rose = frames_rose base group calc told old new faults more in
+    let text = c.finish-in-Frames.ensures.text in
+    let line = c.finish-in-Frames.ensures.refused in
+    rw (sym c.form_of.ensures.form ∙ ap asked c.in-Frames.is) (
+      answered_so (IsFrames base group calc least told old) IsRefused before now c.frames.result c.finish-in-Frames.result
+          c.frames.ensures.text c.frames.ensures.refused no_done no_fault text line,
+      record {
+        durable = done_so _ IsRefused before now c.frames.result c.finish-in-Frames.result c.frames.ensures.durable
+            c.frames.ensures.refused no_done no_fault text line;
+        file_faults = faults_so before now c.frames.result c.finish-in-Frames.result _ _ c.frames.ensures.file_faults text line;
+        device_faults = λ few. counts_so IsRefused before now c.frames.result c.finish-in-Frames.result faults more
+            (c.frames.ensures.counts few) c.frames.ensures.refused (rose few) text line;
+        input = refl;
+      },
+      ended_so (λ status. (which : FileId) → status ≡ ReadFault which → IsFaultOf (g.F.Files.failed_name c.frames.new.files) base)
+          before now c.frames.result c.finish-in-Frames.result (λ which same. cc) (λ which same. cc) c.frames.ensures.whose text line,
+    )
+
+pub returns-in-Frames-clause-devices : goal.returns-in-Frames-clause-devices
+returns-in-Frames-clause-devices g c = rw (sym c.form_of.ensures.form ∙ ap asked c.in-Frames.is) c.frames.ensures.kept
+
+pub returns-in-Shifts-clause-ends : goal.returns-in-Shifts-clause-ends
+returns-in-Shifts-clause-ends g c =
+    rw (sym c.form_of.ensures.form ∙ ap asked c.in-Shifts.is) (c.run_shifts.ensures.ends (g.I.Source.meaning c.args.input.now))
+
+pub returns-in-Shifts-clause-devices : goal.returns-in-Shifts-clause-devices
+returns-in-Shifts-clause-devices g c = rw (sym c.form_of.ensures.form ∙ ap asked c.in-Shifts.is) c.run_shifts.ensures.devices

@@ -1,0 +1,56 @@
+-- The lines of `frames`, byte for byte.
+use Rattle.std.specs.Prelude.{◌≡◌, ℕ, ◌^◌, ◌<◌, ◌≤◌, List, [], ◌++◌, codes, if◌then◌else◌}
+use Rattle.std.specs.Fmt.{decimal}
+use Rattle.std.specs.List.{flat_map}
+use Rattle.trend_num.specs.Ranges.{last_time}
+use Rattle.trend_num.specs.declared.value.CalcValue.{CalcValue}
+use Rattle.calc_refresh.specs.Sheet.{grid_of}
+use Rattle.sheet_law.specs.Windows.{window_from, window_to}
+use Rattle.tag_base.specs.declared.definition.GroupDef.{GroupDef}
+use Rattle.event_frames.specs.declared.frame.Edit.{Edit}
+use Rattle.event_frames.specs.declared.frame.Edit.TheVariants.{Gone, New}
+use Rattle.event_frames.specs.declared.frame.Frame.{Frame}
+use Rattle.event_frames.specs.Edits.{AreEdits}
+use Rattle.event_frames.specs.Frames.{AreFrames}
+use Rattle.event_frames.specs.Row.{truths_of}
+
+-- when a frame of a group's calculation begins, and when it ends, in milliseconds
+abbrev pub frame_from : GroupDef → Frame → ℕ
+frame_from g f = window_from (grid_of g.start g.period) f.from
+
+abbrev pub frame_to : GroupDef → Frame → ℕ
+frame_to g f = window_to (grid_of g.start g.period) f.upto
+
+-- a frame that begins and ends at times, and whose windows can be counted
+pub record IsTimed (g : GroupDef) (f : Frame) : Type 0 where
+  pub few : f.upto < 2 ^ 63
+  pub begins : frame_from g f ≤ last_time
+  pub ends : frame_to g f ≤ last_time
+
+-- the frame of which an edit tells
+abbrev pub frame_of : Edit → Frame
+frame_of (Gone f) = f
+frame_of (New f) = f
+
+-- the line of a frame behind a word: `WORD FROM TO`, with ` open` where its last window is the last one there is
+abbrev pub frame_text : List ℕ → GroupDef → Frame → List ℕ
+frame_text word g f = word ++ codes " " ++ decimal (frame_from g f) ++ codes " " ++ decimal (frame_to g f)
+    ++ (if f.last then codes " open" else []) ++ codes "\n"
+
+-- the line of an edit
+abbrev pub edit_text : GroupDef → Edit → List ℕ
+edit_text g (Gone f) = frame_text (codes "gone") g f
+edit_text g (New f) = frame_text (codes "new") g f
+
+-- a line for each edit, and then one for each frame
+abbrev pub frames_text : GroupDef → List Edit → List Frame → List ℕ
+frames_text g edits frames = flat_map (edit_text g) edits ++ flat_map (frame_text (codes "frame") g) frames
+
+-- A text tells of a calculation whose row was the one and is the other: what became of the frames that have at least so many
+-- windows, and then the frames there are.
+pub record TellsFrames (g : GroupDef) (least : ℕ) (saved refreshed : List CalcValue) (text : List ℕ) : Type 0 where
+  pub edits : List Edit
+  pub frames : List Frame
+  pub are_edits : AreEdits (truths_of saved) (truths_of refreshed) least edits
+  pub are_frames : AreFrames (truths_of refreshed) least frames
+  pub same : text ≡ frames_text g edits frames

@@ -1,0 +1,52 @@
+// The row of a calculation, and what changes in it.
+ghost use Rattle.std.specs.Prelude.{◌≡◌, ◌<◌, ◌≤◌, IfOk, IsTrue, Some, length, slice_get, ◌↔◌};
+ghost use Rattle.sheet_law.specs.Windows.{complete_windows};
+ghost use Rattle.event_frames.specs.Row.{IsChangeList, row_with};
+
+use calc_refresh::{CalcValue, Sheet};
+use event_frames::Change;
+use std::alloc::{AllocError, Global};
+
+/// The values of a calculation of a sheet, one for each complete window.
+pub(crate) fn row_of(alloc: Global, sheet: &Sheet, calc: u32) -> Result<Vec<CalcValue>, AllocError>
+    requires { calc < length sheet.now.group.calcs }
+    ensures row { IfOk result (λ row. slice_get sheet.now.rows calc ≡ Some row.items) }
+    ensures complete { IfOk result (λ row. length row.items ≡ complete_windows sheet.now.grid sheet.now.copies) }
+{
+    let mut row = Vec::with_capacity(alloc, sheet.rows()[calc as usize].len())?;
+    let mut k = 0;
+    while let Some(value) = sheet.row(calc, k) {
+        row.push(value)?;
+        k += 1;
+    }
+    Ok(row)
+}
+
+/// What makes one row another that is no shorter: each window with another value, and each that is new.
+pub(crate) fn changes(
+    alloc: Global,
+    old: &[CalcValue],
+    new: &[CalcValue],
+) -> Result<Vec<Change>, AllocError>
+    requires { length old.now ≤ length new.now }
+    ensures changes { IfOk result (λ changes. IsChangeList (length old.now) changes.items) }
+    ensures row { IfOk result (λ changes. row_with old.now changes.items ≡ new.now) }
+{
+    let mut changes = Vec::new(alloc);
+    for (k, value) in new.iter().enumerate() {
+        if !is_at(old, k, *value) {
+            changes.push(Change {
+                k: k as u64,
+                value: *value,
+            })?;
+        }
+    }
+    Ok(changes)
+}
+
+// Whether a row has this value in a window.
+fn is_at(row: &[CalcValue], k: usize, value: CalcValue) -> bool
+    ensures { IsTrue result ↔ (slice_get row.now k ≡ Some value) }
+{
+    k < row.len() && row[k] == value
+}

@@ -1,0 +1,13 @@
+pub mod Faults
+pub mod Texts
+pub mod Stopped
+pub mod Rows
+pub mod Found
+pub mod Counting
+pub mod Reports
+pub mod Runs
+pub mod Understood
+pub mod Kept
+pub mod Settled
+pub mod Putting
+pub mod Lines

@@ -1,0 +1,44 @@
+-- What is done with a log that lacks rows, and why it is not.
+use Rattle.std.specs.Prelude.{◌≡◌, ℕ, ◌<◌, List, [], ◌∷◌, ◌++◌, All, length, sum_by, ⊤}
+use Rattle.trend_num.specs.Ranges.{InRange}
+use Rattle.plant_status.specs.declared.unit.Unit.TheVariants.{Log as LogUnit}
+use Rattle.plant_status.specs.declared.mismatch.Place.TheVariants.{Log as LogPlace}
+use Rattle.plant_status.specs.declared.mismatch.Seen.TheVariants.{Number}
+use Rattle.plant_status.specs.declared.status.Status.{Status}
+use Rattle.plant_status.specs.declared.status.Status.TheVariants.{DeviceFault, Mismatch, WantOfMemory}
+use Rattle.value_rows.specs.declared.raw.RawRow.{RawRow}
+use Rattle.commit_log.specs.declared.history.LogTurn.TheVariants.{Put}
+use Rattle.commit_log.specs.declared.row.LogRow.{LogRow}
+use Rattle.commit_log.specs.Tapes.{puts}
+use Rattle.commit_log.specs.Told.{Told}
+
+-- how many rows the files of collectors have together
+abbrev pub total_rows : List (List RawRow) → ℕ
+total_rows files = sum_by length files
+
+-- a row of one of so many tags, whose point is in range
+pub record IsRowFor (tags : ℕ) (row : RawRow) : Type 0 where
+  pub tag : row.tag < tags
+  pub point : InRange row.point
+
+-- so is each row of the files
+abbrev pub AreRowsFor : ℕ → List (List RawRow) → Type 0
+AreRowsFor tags files = All (All (IsRowFor tags)) files
+
+-- a row is put, and nothing else has changed
+abbrev pub IsRowPut : {D : Type 0} → LogRow → Told D → Told D → Type 0
+IsRowPut row old new = new ≡ record old { tape = old.tape ++ Put row ∷ [] }
+
+-- Why a row is not put: the device of the log has counted a fault; or there is room for as many rows as were put, fewer than are to
+-- be put in all, and both numbers are told
+abbrev pub IsPutRefusal : {D : Type 0} → (D → ℕ) → ℕ → Told D → Status → Type 0
+IsPutRefusal faults total l (DeviceFault LogUnit) = 0 < faults l.dev
+IsPutRefusal faults total l (Mismatch (LogPlace place) (Number kept) (Number told)) =
+    (place ≡ length l.tape) × (kept ≡ length (puts l.tape)) × (told ≡ total) × (kept < told)
+IsPutRefusal faults total l other = ⊥
+
+-- why rows are not acknowledged: the device of the log has counted a fault, or memory is wanting
+abbrev pub IsCommitRefusal : {D : Type 0} → (D → ℕ) → Told D → Status → Type 0
+IsCommitRefusal faults l (DeviceFault LogUnit) = 0 < faults l.dev
+IsCommitRefusal faults l WantOfMemory = ⊤
+IsCommitRefusal faults l other = ⊥

@@ -1,0 +1,81 @@
+-- What a log comes to once its workers have ended, and why it is refused.
+use Rattle.std.specs.Prelude.{◌≡◌, ◌≢◌, ℕ, List, [], All, Any, slice_get, Some, take, Vec, Result, Ok, Err, ⊤}
+use Rattle.std.specs.declared.alloc.Global.{Global}
+use Rattle.trend_num.specs.declared.refusal.WantOfMemory.{WantOfMemory as NoMemory}
+use Rattle.plant_status.specs.declared.mismatch.Place.TheVariants.{Opening}
+use Rattle.plant_status.specs.declared.status.Status.{Status}
+use Rattle.plant_status.specs.declared.status.Status.TheVariants as status
+use Rattle.value_rows.specs.declared.raw.RawRow.{RawRow}
+use Rattle.commit_log.specs.Told.{Told, waits}
+use Rattle.log_pool.specs.declared.note.Ending.TheVariants.{Halted, WantOfMemory}
+use Rattle.log_pool.specs.declared.note.LogNote.{LogNote}
+use Rattle.log_pool.specs.Notes.{AreNotesOf, stops_with}
+use Rattle.log_command.specs.declared.known.Known.{Known}
+use Rattle.log_command.specs.Finding.{AreWhole, IsPutMismatch}
+use Rattle.log_command.specs.Known.{IsAsKnown, IsLogMismatch}
+use Rattle.log_command.specs.Making.{IsCommitRefusal, IsPutRefusal, total_rows}
+
+-- ---- the notes of workers
+
+-- these are the notes of all workers, of whom as many were stopped as the passes have counted more; or no worker began, and none
+-- was counted
+pub data AreNotes (D : Type 0) (files : List (List RawRow)) (before now : ℕ) (notes : List LogNote) : Type 0 where
+  OfAll : AreNotesOf D files notes → now ≡ stops_with before notes → AreNotes D files before now notes
+  OfNone : notes ≡ [] → now ≡ before → AreNotes D files before now notes
+
+-- the notes of workers that began
+abbrev pub notes_of : Result (Vec LogNote Global) NoMemory → List LogNote
+notes_of (Ok notes) = notes.items
+notes_of (Err why) = []
+
+-- this worker is the first that its pass stopped
+pub record IsFirstHalted (notes : List LogNote) (worker : ℕ) : Type 0 where
+  pub place : ℕ
+  pub note : LogNote
+  pub there : slice_get notes place ≡ Some note
+  pub halted : note.ending ≡ Halted
+  pub number : note.worker ≡ worker
+  pub first : All (λ n. n.ending ≢ Halted) (take place notes)
+
+-- that is told, or else that a worker found no memory
+abbrev pub IsStop : List LogNote → Status → Type 0
+IsStop notes (status.Halted worker) = IsFirstHalted notes worker
+IsStop notes status.WantOfMemory = Any (λ n. n.ending ≡ WantOfMemory) notes
+IsStop notes other = ⊥
+
+-- ---- what is done, and why it is not
+
+-- of each collector all rows were put, in their order, each once, and no others; and all rows are acknowledged
+pub record IsMade {D : Type 0} (files : List (List RawRow)) (l : Told D) : Type 0 where
+  pub whole : AreWhole files l.tape
+  pub none_waits : waits l ≡ 0
+
+-- no worker was stopped, and each found memory
+pub record AreUnstopped (notes : List LogNote) : Type 0 where
+  pub none_halted : All (λ n. n.ending ≢ Halted) notes
+  pub all_found : All (λ n. n.ending ≢ WantOfMemory) notes
+
+-- the refusals, in their order: a worker was stopped, or found no memory; a row is not put; rows are not acknowledged
+pub data IsRestRefusal {D : Type 0} (faults : D → ℕ) (files : List (List RawRow)) (notes : List LogNote) (l : Told D) (why : Status)
+    : Type 0 where
+  OfStop : IsStop notes why → IsRestRefusal faults files notes l why
+  OfPut : AreUnstopped notes → IsPutRefusal faults (total_rows files) l why → IsRestRefusal faults files notes l why
+  OfCommit : AreUnstopped notes → IsCommitRefusal faults l why → IsRestRefusal faults files notes l why
+
+-- the refusals, in their order: the log is not as it was kept; a put is not its collector's next row; one of the refusals above. No
+-- memory may be found at any time
+pub data IsSettlingRefusal {D : Type 0} (faults : D → ℕ) (files : List (List RawRow)) (notes : List LogNote) (known : Known)
+    (l : Told D) (why : Status) : Type 0 where
+  OfOpening : IsLogMismatch l known why → IsSettlingRefusal faults files notes known l why
+  OfFinding : IsAsKnown l known → IsPutMismatch files l.tape why → IsSettlingRefusal faults files notes known l why
+  OfRest : IsAsKnown l known → IsRestRefusal faults files notes l why → IsSettlingRefusal faults files notes known l why
+  OfMemory : why ≡ status.WantOfMemory → IsSettlingRefusal faults files notes known l why
+
+-- a refusal is told of an opening that is not as it was kept
+abbrev pub IsOpening : Status → Type 0
+IsOpening (status.Mismatch (Opening unit) kept told) = ⊤
+IsOpening other = ⊥
+
+abbrev pub IsOfOpening : {T : Type 0} → Result T Status → Type 0
+IsOfOpening (Ok x) = ⊥
+IsOfOpening (Err why) = IsOpening why

@@ -1,0 +1,12 @@
+-- The text of a plant, by which its log is known.
+use Rattle.std.specs.Prelude.{ℕ, List, [], ◌∷◌, ◌++◌, codes, flat_map}
+use Rattle.trend_num.specs.declared.tag_def.TagDef.{TagDef}
+
+-- what the device of the log is called
+abbrev pub log_name : List ℕ
+log_name = codes "plant.log"
+
+-- the names of the tags, in base order, with a line feed between two
+abbrev pub plant_text : List TagDef → List ℕ
+plant_text [] = []
+plant_text (def ∷ defs) = def.name ++ flat_map (λ d. 10 ∷ d.name) defs

@@ -1,0 +1,75 @@
+// A log whose workers have ended is brought to its end.
+ghost use Rattle.std.specs.Prelude.{◌≡◌, ◌^◌, ◌<◌, IfErr, OnOk, length};
+ghost use Rattle.log_pool.specs.Notes.{lists_of};
+ghost use Rattle.log_pool.specs.Turns.{IsSameLog};
+ghost use Rattle.log_command.specs.Finding.{AreFound};
+ghost use Rattle.log_command.specs.Known.{IsAsKnown};
+ghost use Rattle.log_command.specs.Making.{AreRowsFor, total_rows};
+ghost use Rattle.log_command.specs.Refusals.{IsMade, IsOfOpening, IsRestRefusal, IsSettlingRefusal, notes_of};
+
+use crate::endings::check_endings;
+use crate::finding::{find_puts, none_found};
+use crate::known::{Known, compare_log};
+use crate::made::{commit_rest, put_missing};
+use commit_log::Log;
+use disk_model::Disk;
+use log_pool::LogNote;
+use plant_status::Status;
+use std::alloc::Global;
+use trend_num::WantOfMemory;
+use value_rows::RawRow;
+
+// Compares a log with what was kept of it, and its tape with the rows of the collectors' files, and does what the tape lacks. It
+// takes no worker's word but that its pass stopped it, or that it found no memory.
+pub(crate) fn settle<D: Disk>(
+    alloc: Global,
+    log: &mut Log<D>,
+    known: &Known,
+    files: &[Vec<RawRow>],
+    notes: &Result<Vec<LogNote>, WantOfMemory>,
+) -> Result<(), Status>
+    requires few { length files.now < 2 ^ 32 }
+    requires rows { AreRowsFor known.now.tags (lists_of files.now) }
+    requires small { total_rows (lists_of files.now) < 2 ^ 64 }
+    ensures made { OnOk result (IsMade (lists_of files.now) log.new) }
+    ensures known { (IsOfOpening result → ⊥) → IsAsKnown log.new known.now }
+    ensures refused { IfErr result (IsSettlingRefusal D.fault_count (lists_of files.now) (notes_of notes.now) known.now log.new) }
+{
+    if let Err(why) = compare_log(log, known) {
+        return Err(why);
+    }
+    let Ok(mut next) = none_found(alloc, files.len()) else {
+        return Err(Status::WantOfMemory);
+    };
+    if let Err(why) = find_puts(log.tape(), files, &mut next) {
+        return Err(why);
+    }
+    match notes {
+        Ok(notes) => complete(log, files, &mut next, notes),
+        Err(_) => Err(Status::WantOfMemory),
+    }
+}
+
+// Does what the tape of a log lacks, where no worker was stopped and each found memory.
+fn complete<D: Disk>(
+    log: &mut Log<D>,
+    files: &[Vec<RawRow>],
+    next: &mut [usize],
+    notes: &[LogNote],
+) -> Result<(), Status>
+    requires few { length files.now < 2 ^ 32 }
+    requires rows { AreRowsFor log.old.tags (lists_of files.now) }
+    requires small { total_rows (lists_of files.now) < 2 ^ 64 }
+    requires found { AreFound (lists_of files.now) log.old.tape next.old }
+    ensures made { OnOk result (IsMade (lists_of files.now) log.new) }
+    ensures same { IsSameLog log.old log.new }
+    ensures refused { IfErr result (IsRestRefusal D.fault_count (lists_of files.now) notes.now log.new) }
+{
+    if let Err(why) = check_endings(notes) {
+        return Err(why);
+    }
+    if let Err(why) = put_missing(log, files, next) {
+        return Err(why);
+    }
+    commit_rest(log)
+}

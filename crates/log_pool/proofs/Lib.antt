@@ -1,0 +1,4 @@
+pub mod Committing
+pub mod Gathering
+pub mod Puts
+pub mod Seats

@@ -1,0 +1,46 @@
+-- What a worker leaves on the tape of a log.
+use Rattle.std.specs.Prelude.{◌≡◌, ℕ, ◌+◌, ◌==◌, ◌||◌, ◌%◌, Bool, false, true, List, [], ◌∷◌, ◌++◌, All, length, slice_get, Some, ⊤}
+use Rattle.value_rows.specs.declared.raw.RawRow.{RawRow}
+use Rattle.commit_log.specs.declared.row.LogRow.{LogRow}
+use Rattle.commit_log.specs.declared.history.LogTurn.{LogTurn}
+use Rattle.commit_log.specs.declared.history.LogTurn.TheVariants.{Put, Commit}
+use Rattle.commit_log.specs.Told.{Told, waits}
+
+-- a row of a collector, by its number from 1, as a log has it
+abbrev pub row_of : ℕ → ℕ → RawRow → LogRow
+row_of collector number row = record { tag = row.tag; collector = collector; row = number; point = row.point }
+
+-- a worker of so many rows commits after the row of this number: a multiple of 64, or the last one
+abbrev pub is_due : ℕ → ℕ → Bool
+is_due number rows = (number % 64 == 0) || (number == rows)
+
+-- a turn that is a commit
+abbrev pub IsCommit : LogTurn → Type 0
+IsCommit (Put row) = ⊥
+IsCommit (Commit moment acked) = ⊤
+
+-- the plant of a log, its opening and its room are as they were
+pub record IsSameLog {D : Type 0} (old new : Told D) : Type 0 where
+  pub plant : new.plant ≡ old.plant
+  pub tags : new.tags ≡ old.tags
+  pub opening : new.opening ≡ old.opening
+  pub moment : new.moment ≡ old.moment
+  pub faults : new.faults ≡ old.faults
+  pub room : new.room ≡ old.room
+
+-- the tape of a log is longer by commits alone
+pub record IsCommitted {D : Type 0} (old new : Told D) : Type 0 where
+  pub more : List LogTurn
+  pub each : All IsCommit more
+  pub tape : new.tape ≡ old.tape ++ more
+  pub same : IsSameLog old new
+
+-- the row of a collector at a place is put, and behind it, where that is due, all that waits is acknowledged
+pub record IsPutAt {D : Type 0} (collector : ℕ) (rows : List RawRow) (place : ℕ) (old new : Told D) : Type 0 where
+  pub row : RawRow
+  pub put : Told D
+  pub there : slice_get rows place ≡ Some row
+  pub appended : put ≡ record old { tape = old.tape ++ Put (row_of collector (place + 1) row) ∷ [] }
+  pub committed : IsCommitted put new
+  pub none_waits : is_due (place + 1) (length rows) ≡ true → waits new ≡ 0
+  pub unchanged : is_due (place + 1) (length rows) ≡ false → new ≡ put

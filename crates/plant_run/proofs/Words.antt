@@ -1,0 +1,19 @@
+-- Words that run a plan log none.
+use Rattle.std.proofs.Common.{◌≡◌, ℕ, Bool, true, false, List, [], ◌∷◌, Option, None, Some, refl, sym, subst}
+use Rattle.std.specs.Prelude.{codes, if◌then◌else◌}
+use Rattle.std.specs.Str.{bytes_eq}
+use Rattle.std.proofs.lemmas.Slice.Eq.{bytes_eq-Decides}
+use Rattle.plant_run.specs.CommandLine.{log_words, plan_words}
+
+pub run_no_log : (words : List (List ℕ)) (named : List ℕ × List ℕ) → plan_words words ≡ Some named → log_words words ≡ None
+run_no_log [] named is = refl
+run_no_log (verb ∷ []) named is = refl
+run_no_log (verb ∷ base ∷ []) named is = refl
+run_no_log (verb ∷ base ∷ plan ∷ []) named is = by (bytes_eq verb (codes "run")) refl
+  where
+    by : (b : Bool) → bytes_eq verb (codes "run") ≡ b → log_words (verb ∷ base ∷ plan ∷ []) ≡ None
+    by true same = subst (λ v. log_words (v ∷ base ∷ plan ∷ []) ≡ None) (sym ((bytes_eq-Decides verb (codes "run")).0 same)) refl
+    by false same =
+        let no : None ≡ Some named = subst (λ b. (if b then Some (base, plan) else None) ≡ Some named) same is in
+        absurd (cc (no))
+run_no_log (verb ∷ base ∷ plan ∷ more ∷ rest) named is = refl

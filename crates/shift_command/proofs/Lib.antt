@@ -1,0 +1,3 @@
+pub mod Tags
+pub mod Windows
+pub mod Refusals

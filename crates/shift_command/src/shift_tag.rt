@@ -1,0 +1,20 @@
+// A tag of a calendar, as it was opened.
+ghost use Rattle.trend_num.specs.Ranges.{InRange};
+ghost use Rattle.trend_model.specs.Contents.{IsNotBefore};
+ghost use Rattle.std.specs.Option.{ForSome};
+
+use late_insert::Content;
+use trend_num::{Name, Point};
+
+/// A tag of a calendar, and all that the measure of a window is taken of.
+#[derive(Drop)]
+pub(crate) struct ShiftTag {
+    pub(crate) name: Name,
+    /// Whether it is a step tag, which goes along a stair.
+    pub(crate) step: bool,
+    /// The point that closes the content.
+    pub(crate) held: Option<Point>,
+    pub(crate) content: Content,
+    ghost range: { ForSome held InRange },
+    ghost last: { ForSome held (IsNotBefore content.records) },
+}
