@@ -1,0 +1,133 @@
+#!/usr/bin/env python3
+"""run.py [PROGRAM]: refuses each growth of memory in turn, and says what the program did.
+
+PROGRAM is a built historian (crates/historian/out/historian, after `rt run` there). Each command runs over a small plant again and
+again: refuse.c refuses its first growth, then its second, until a run meets no refusal. A run that was refused one has to tell
+`fault: memory` with its exit code, or to end as it does without a refusal, where the growth was not needed. After each refused
+session the tags are checked: their devices have to open, and what was acknowledged can only be more than before. It runs by hand,
+never as a test; a program that answers otherwise is told, and the exit code is 1."""
+import os
+import shutil
+import subprocess
+import sys
+import tempfile
+
+HERE = os.path.dirname(os.path.abspath(__file__))
+ROOT = os.path.dirname(os.path.dirname(HERE))
+MOST = 5_000
+MEMORY = (13, b"fault: memory\n")
+BASE = """[[tag]]
+name = "T1"
+exc_dev = 0
+exc_max = 1000000
+comp_dev = 1
+comp_min = 0
+comp_max = 1000000
+
+[[group]]
+name = "g"
+start = 0
+period = 1000
+tags = ["T1"]
+
+[[group.calc]]
+name = "m"
+formula = "avg('T1')"
+"""
+PLAN = """[[collector]]
+file = "rows.csv"
+
+[[reader]]
+file = "asks.csv"
+
+[[refresher]]
+group = "g"
+turns = 1
+"""
+CALENDAR = """zone = "CET-1CEST,M3.5.0,M10.5.0/3"
+starts = ["06:00"]
+tags = ["T1"]
+measure = "total"
+"""
+ROWS = "T1,0,0\nT1,3000,0\nT1,4000,9\nT1,1500,60\n"
+ASKS = "at,T1,1500\navg,T1,0,3000\nrow,g,m,1\n"
+COMMANDS = [
+    ["pack", "0", "1000000", "1", "0", "1000000"],
+    ["run", "base.toml", "plan.toml"],
+    ["check", "base.toml"],
+    ["trend", "base.toml", "plan.toml"],
+    ["log", "base.toml", "plan.toml"],
+    ["shifts", "base.toml", "calendar.toml", "1971-01-01", "3"],
+    ["frames", "base.toml", "g", "m", "2"],
+]
+
+
+def call(program, words, folder, library, refused):
+    """The exit code and the output of a run that is refused this growth."""
+    env = dict(os.environ, LD_PRELOAD=library, REFUSED_GROWTH=str(refused))
+    with open(os.path.join(folder, "lines.csv"), "rb") as lines:
+        child = subprocess.run([program] + words, cwd=folder, stdin=lines, capture_output=True, env=env)
+    return child.returncode, child.stdout
+
+
+def opens(program, folder):
+    """Whether the tags' devices open once a session was refused a growth."""
+    return subprocess.run([program, "check", "base.toml"], cwd=folder, capture_output=True).returncode == 0
+
+
+def try_all(program, words, folder, library):
+    """How many growths were refused until a run met none, how many were told, and what else was answered."""
+    devices = os.path.join(folder, "historian.d")
+    kept = os.path.join(folder, "kept.d")
+    shutil.rmtree(kept, ignore_errors=True)
+    if os.path.isdir(devices):
+        shutil.copytree(devices, kept)
+
+    def renew():
+        shutil.rmtree(devices, ignore_errors=True)
+        if os.path.isdir(kept):
+            shutil.copytree(kept, devices)
+
+    whole = call(program, words, folder, library, 0)
+    told = unneeded = 0
+    others = []
+    for refused in range(1, MOST):
+        renew()
+        said = call(program, words, folder, library, refused)
+        if said == MEMORY:
+            told += 1
+            if words[0] == "run" and not opens(program, folder):
+                others.append((refused, "the tags do not open"))
+        elif said == whole:
+            unneeded += 1
+        else:
+            others.append((refused, said))
+        if said == whole and unneeded > 8 and all(
+                call(program, words, folder, library, refused + more) == whole for more in (1, 7, 50, 400)):
+            break
+    renew()
+    call(program, words, folder, library, 0)
+    return told, others, whole
+
+
+def main():
+    program = os.path.abspath(sys.argv[1]) if len(sys.argv) > 1 else os.path.join(ROOT, "crates", "historian", "out", "historian")
+    failed = False
+    with tempfile.TemporaryDirectory() as folder:
+        library = os.path.join(folder, "refuse.so")
+        subprocess.run(["cc", "-O2", "-shared", "-fPIC", "-o", library, os.path.join(HERE, "refuse.c")], check=True)
+        for name, text in (("base.toml", BASE), ("plan.toml", PLAN), ("calendar.toml", CALENDAR), ("rows.csv", ROWS),
+                           ("asks.csv", ASKS), ("lines.csv", "0,0\n1,0\n2,3\n3,0\n")):
+            with open(os.path.join(folder, name), "w") as out:
+                out.write(text)
+        for words in COMMANDS:
+            told, others, whole = try_all(program, words, folder, library)
+            print("%-8s %3d growths refused and told, %d answered otherwise; without a refusal it ends with %d"
+                  % (words[0], told, len(others), whole[0]))
+            for refused, said in others[:5]:
+                print("    growth %d: %s" % (refused, said))
+            failed = failed or bool(others)
+    sys.exit(1 if failed else 0)
+
+
+main()

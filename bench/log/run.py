@@ -1,0 +1,87 @@
+#!/usr/bin/env python3
+"""run.py [PROGRAM]: times `log` beside plain code with the same batches and calls, and beside one device a tag.
+
+PROGRAM is a built historian (crates/historian/out/historian, after `rt run` there). A million walk values of 64 tags in 16
+collectors go into one log; the same files through plain.c, a program in C that puts and commits as `log` does and makes no archive;
+and through `run`, where each tag has a device of its own. It tells medians over the runs, the rates, and what was aimed at. It
+runs by hand, never as a test, with all processors free and on the disk that devices are meant for."""
+import os
+import random
+import shutil
+import statistics
+import subprocess
+import sys
+import tempfile
+import time
+
+HERE = os.path.dirname(os.path.abspath(__file__))
+ROOT = os.path.dirname(os.path.dirname(HERE))
+RUNS, SEED = 3, 7
+TAGS, COLLECTORS, ROWS = 64, 16, 1_000_000
+TAG = """[[tag]]
+name = "T%d"
+exc_dev = 1
+exc_max = 600_000
+comp_dev = 2
+comp_min = 0
+comp_max = 28_800_000
+"""
+
+
+def lay(folder):
+    """A plant whose collectors have four tags each, a row of each in turn."""
+    with open(os.path.join(folder, "base.toml"), "w") as out:
+        out.write("\n".join(TAG % n for n in range(TAGS)))
+    with open(os.path.join(folder, "plan.toml"), "w") as out:
+        out.write("\n".join('[[collector]]\nfile = "%d.csv"\n' % n for n in range(COLLECTORS)))
+    own = TAGS // COLLECTORS
+    for n in range(COLLECTORS):
+        draw, values = random.Random(SEED + n), [0] * own
+        with open(os.path.join(folder, "%d.csv" % n), "w") as out:
+            for k in range(ROWS // COLLECTORS):
+                values[k % own] += draw.randint(-2, 2)
+                out.write("T%d,%d,%d\n" % (n * own + k % own, 1000 * (k // own), values[k % own]))
+
+
+def timed(words, folder):
+    """The seconds of a run over new devices, and what it printed."""
+    shutil.rmtree(os.path.join(folder, "historian.d"), ignore_errors=True)
+    start = time.perf_counter()
+    child = subprocess.run(words, cwd=folder, capture_output=True)
+    took = time.perf_counter() - start
+    if child.returncode != 0:
+        sys.exit("%s: %s" % (words[:2], (child.stdout + child.stderr).decode()[:400]))
+    return took, child.stdout.decode()
+
+
+def taken(text):
+    """How many values the tag lines tell as taken."""
+    return sum(int(word[6:]) for line in text.splitlines() for word in line.split() if word.startswith("taken="))
+
+
+def main():
+    program = os.path.abspath(sys.argv[1]) if len(sys.argv) > 1 else os.path.join(ROOT, "crates", "historian", "out", "historian")
+    with tempfile.TemporaryDirectory(dir=os.environ.get("BENCH_DIR", "/var/tmp")) as folder:
+        lay(folder)
+        plain = os.path.join(folder, "plain")
+        subprocess.run(["cc", "-O3", "-pthread", "-o", plain, os.path.join(HERE, "plain.c")], check=True)
+        files = ["%d.csv" % n for n in range(COLLECTORS)]
+        times = {"log": [], "plain": [], "run": []}
+        for _ in range(RUNS):
+            took, text = timed([plain] + files, folder)
+            times["plain"].append(took)
+            blocks = int(text.split()[2])
+            for verb in ("log", "run"):
+                took, text = timed([program, verb, "base.toml", "plan.toml"], folder)
+                if taken(text) != ROWS:
+                    sys.exit("%s: %d values are told as taken, and not %d" % (verb, taken(text), ROWS))
+                times[verb].append(took)
+        log, code, run = (statistics.median(times[name]) for name in ("log", "plain", "run"))
+        print("%d rows, %d tags, %d collectors, %d blocks of the plain program" % (ROWS, TAGS, COLLECTORS, blocks))
+        print("log          %.2f s  %.0f rows/s" % (log, ROWS / log))
+        print("plain code   %.2f s  %.0f rows/s" % (code, ROWS / code))
+        print("device a tag %.2f s  %.0f rows/s  log takes %.2f of its time" % (run, ROWS / run, log / run))
+        print("log against plain code: %.2f of its rate  aim at least 0.9 %s" % (code / log, "met" if code / log >= 0.9 else "MISSED"))
+
+
+main()

@@ -1,0 +1,23 @@
+"""What this disk allows."""
+import os
+import time
+
+
+def disk(folder):
+    file = os.open(f"{folder}/appended", os.O_CREAT | os.O_WRONLY | os.O_APPEND)
+
+    def append(block, times):
+        """Seconds of the writes and a sync."""
+        start = time.perf_counter()
+        for _ in range(times):
+            os.write(file, block)
+        os.fdatasync(file)
+        return time.perf_counter() - start
+
+    syncs = sorted(append(b"x" * 1024, 1) for _ in range(1000))
+    low, median, high = syncs[100], syncs[500], syncs[900]
+    speed = 512 * 2**20 / 1e6 / append(os.urandom(2**20), 512)
+    return (f"1 KiB append with fdatasync: median {median * 1e3:.3f} ms (10% {low * 1e3:.3f},"
+            f" 90% {high * 1e3:.3f}); sequential writing {speed:,.0f} MB/s; limit of durable"
+            f" batches of 64 at the median: {32 / median:,.0f} values/s with two syncs a batch,"
+            f" {64 / median:,.0f} with one")

@@ -1,0 +1,83 @@
+#!/usr/bin/env python3
+"""live_two_days.py PROGRAM [--make]: two days of the plant through the program, in a fresh folder, beside what is kept.
+
+PROGRAM is the command that runs it, `historian` on the path or a built one. The collectors' files are made by make_days.py; then the
+steps below run one after the other over the same devices, and each output has to be the kept one byte for byte (how often the
+calculations were evaluated hangs on when the refresher comes, and is left out). With --make what was printed is kept. How far it is
+is told on standard error, if that is a terminal."""
+import os
+import re
+import shlex
+import shutil
+import subprocess
+import sys
+import tempfile
+
+HERE = os.path.dirname(os.path.abspath(__file__))
+KEPT = os.path.join(HERE, "kept")
+STEPS = [
+    ("day1", "a day of two collectors, a reader and a refresher", ["run", "base.toml", "day1.toml"]),
+    ("trends1", "what a reader asks of it", ["trend", "base.toml", "ask.toml"]),
+    ("shifts1", "the figures of its shifts", ["shifts", "base.toml", "calendar.toml", "2024-03-30", "1"]),
+    ("hot1", "when it was hot", ["frames", "base.toml", "unit1", "hot", "2"]),
+    ("late", "an hour of the temperature that a logger had buffered", ["run", "tags.toml", "late.toml"]),
+    ("hot2", "what becomes of the hot times", ["frames", "base.toml", "unit1", "hot", "2"]),
+    ("day2", "the second day, with another tuning", ["run", "retuned.toml", "day2.toml"]),
+    ("shifts2", "the shifts of both days, one of them 11 hours long", ["shifts", "retuned.toml", "calendar.toml", "2024-03-30", "2"]),
+    ("check", "the tags in the end", ["check", "retuned.toml"]),
+    ("log", "the first day once more, into one log", ["log", "base.toml", "day1.toml"]),
+]
+
+
+def lay(folder):
+    """Copies the plant's texts, and makes the collectors' files."""
+    for name in os.listdir(HERE):
+        if name.endswith((".toml", ".csv")):
+            shutil.copy(os.path.join(HERE, name), folder)
+    subprocess.run([sys.executable, os.path.join(HERE, "make_days.py")], cwd=folder, check=True)
+
+
+def told(program, words, folder):
+    """What a step printed, without how often calculations were evaluated."""
+    child = subprocess.run(program + words, cwd=folder, stdin=subprocess.DEVNULL, capture_output=True)
+    text = re.sub(r" evals=\d+", "", child.stdout.decode())
+    return text if child.returncode == 0 else "%sexit %d\n" % (text, child.returncode)
+
+
+def live(program, folder, progress=lambda done: None):
+    """Each step's name, and what it printed."""
+    lay(folder)
+    for done, (name, _, words) in enumerate(STEPS):
+        progress(done)
+        yield name, told(program, words, folder)
+    progress(len(STEPS))
+
+
+def show(done):
+    """How far it is, on a terminal alone."""
+    if sys.stderr.isatty():
+        what = STEPS[done][1] if done < len(STEPS) else "done"
+        sys.stderr.write("\r\033[K%d of %d: %s" % (done, len(STEPS), what + ("\n" if done == len(STEPS) else "")))
+        sys.stderr.flush()
+
+
+def main():
+    program = shlex.split(sys.argv[1]) if len(sys.argv) > 1 else ["historian"]
+    differ = []
+    with tempfile.TemporaryDirectory() as folder:
+        for name, text in live(program, folder, show):
+            path = os.path.join(KEPT, name + ".txt")
+            if "--make" in sys.argv:
+                with open(path, "w") as out:
+                    out.write(text)
+            elif not os.path.exists(path) or open(path).read() != text:
+                differ.append((name, text))
+    for name, text in differ:
+        print("%s is not as it is kept:\n%s" % (name, text))
+    if not differ:
+        print("%d steps, each as it is kept" % len(STEPS))
+    sys.exit(1 if differ else 0)
+
+
+if __name__ == "__main__":
+    main()

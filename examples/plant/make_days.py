@@ -1,0 +1,88 @@
+#!/usr/bin/env python3
+"""make_days.py: writes the collectors' files of the plant into the working folder, from a fixed seed.
+
+Two days, 2024-03-30 and 2024-03-31, in the zone of the calendar: the second one has 23 hours. `flow1.csv` and `unit1.csv` are the
+first day, `flow2.csv` and `unit2.csv` the second; `buffer.csv` is what a logger had buffered of the first and hands over late."""
+
+DAY = 86_400_000
+FIRST = 1_711_753_200_000  # 2024-03-30 00:00 on the local clock
+SECOND = FIRST + DAY
+
+
+class Noise:
+    """Numbers from a generator of 31 bits, so that they are the same everywhere."""
+
+    def __init__(self, seed):
+        self.state = seed
+
+    def upto(self, most):
+        """A number from -most to most."""
+        self.state = (1_103_515_245 * self.state + 12_345) % 2**31
+        return (self.state >> 16) % (2 * most + 1) - most
+
+
+def along(corners, t):
+    """The value at t of a line through these corners, rounded down."""
+    for (t1, v1), (t2, v2) in zip(corners, corners[1:]):
+        if t1 <= t <= t2:
+            return v1 + (v2 - v1) * (t - t1) // (t2 - t1)
+    return corners[-1][1]
+
+
+def hours(corners):
+    """Corners whose times are in minutes of the day."""
+    return [(60_000 * m, v) for m, v in corners]
+
+
+FLOW = hours([(0, 5000), (360, 5200), (400, 6400), (1060, 6300), (1090, 5100), (1440, 5000)])
+HEAT = hours([(0, 8120), (420, 8200), (500, 8460), (560, 8690), (640, 8700), (700, 8420), (900, 8390), (950, 8650), (1000, 8640),
+              (1060, 8300), (1440, 8120)])
+LEVEL = hours([(0, 300), (200, 780), (240, 310), (480, 800), (520, 290), (760, 790), (800, 300), (1040, 770), (1080, 310), (1440, 640)])
+PRESSURE = hours([(0, 1200), (480, 1212), (960, 1196), (1440, 1200)])
+VALVE = [(0, 0), (360, 40), (400, 100), (620, 80), (700, 100), (1060, 40), (1090, 0)]
+
+
+def flow_rows(begin, noise):
+    """The flow every ten seconds, noisy, and the valve where it moves."""
+    for second in range(0, 86_400, 10):
+        t = 1000 * second
+        yield t, "FIC101.PV,%d,%d" % (begin + t, along(FLOW, t) + noise.upto(12))
+    for minute, value in VALVE:
+        yield 60_000 * minute, "XV101.ZSO,%d,%d" % (begin + 60_000 * minute, value)
+
+
+def unit_rows(begin, noise, missing):
+    """The temperature every ten seconds, noisy, but where it is missing; level and pressure every minute."""
+    for second in range(0, 86_400, 10):
+        t = 1000 * second
+        value = along(HEAT, t) + noise.upto(6)
+        if not missing or not missing[0] <= t < missing[1]:
+            yield t, "TIC201.PV,%d,%d" % (begin + t, value)
+    for minute in range(1440):
+        t = 60_000 * minute
+        yield t, "LIC301.PV,%d,%d" % (begin + t, along(LEVEL, t) + noise.upto(2))
+        yield t, "PIC401.PV,%d,%d" % (begin + t, along(PRESSURE, t) + noise.upto(1))
+
+
+def buffered(begin, missing):
+    """What a logger kept of the time in which the temperature was missing, a value a minute: hot for most of it."""
+    for t in range(missing[0], missing[1], 60_000):
+        yield t, "TIC201.PV,%d,%d" % (begin + t, 8660 + t // 60_000 % 7)
+
+
+def write(name, rows):
+    with open(name, "w") as out:
+        for _, row in sorted(rows, key=lambda row: row[0]):
+            out.write(row + "\n")
+
+
+def main():
+    missing = (60_000 * 640, 60_000 * 700)
+    write("flow1.csv", flow_rows(FIRST, Noise(11)))
+    write("unit1.csv", unit_rows(FIRST, Noise(12), missing))
+    write("flow2.csv", flow_rows(SECOND, Noise(13)))
+    write("unit2.csv", unit_rows(SECOND, Noise(14), None))
+    write("buffer.csv", buffered(FIRST, missing))
+
+
+main()
