@@ -1,8 +1,9 @@
 use Rattle.std.proofs.Common.{◌≡◌, None, Some, drop, inl, inr, map, string_bytes, ap, refl, subst, sym, ◌∙◌}
 use Rattle.std.specs.Vec.Iter.{into_iter_items}
 use Rattle.plant_status.specs.Status.{code_of}
-use Rattle.plant_status.specs.declared.status.Status.TheVariants.{WantOfMemory}
+use Rattle.plant_status.specs.declared.status.Status.TheVariants.{BadWords, WantOfMemory}
 use Rattle.plant_run.specs.CommandLine.{form_of, log_words, plan_words}
+use Rattle.plant_run.specs.Run.{MeansNothing}
 use Rattle.plant_run.specs.Sessions.{HoldsNone}
 use Rattle.plant_run.proofs.Printing.{memory_ends, same_kept}
 use Rattle.plant_run.proofs.argument.run_args.Goals as goal
@@ -70,6 +71,23 @@ returns-clause-log g c =
             code ∙ ap code_of (w.status-is ∙ w.refuse.ensures.same),
             rw (w.out-is) w.refuse.ensures.line,
           ))
+      | in-Err w ↦ rw w.in-Err.is tt
+    ]
+
+pub returns-clause-bad_words : goal.returns-clause-bad_words
+returns-clause-bad_words g c =
+    let code = c.from.ensures ∙ c.code.ensures in
+    elim c.match-args.branch [
+      | in-Ok+in-Ok-words_of w ↦
+          let words : w.as_slice.result.now ≡ drop 1 (into_iter_items w.in-Ok.given) =
+          w.as_slice.ensures.value ∙ w.in-Ok-words_of.ensures in
+          rw w.in-Ok.is (λ none nothing.
+          let bad : w.run.result.status ≡ BadWords =
+          (w.run.ensures.bad_words (subst (λ l. HoldsNone (map string_bytes l)) (sym words) none)).1
+          (subst (λ l. MeansNothing (form_of (map string_bytes l))) (sym words) nothing) in
+          inl (code ∙ ap code_of (w.status-is ∙ bad)))
+      | in-Ok+in-Err-words_of w ↦
+          rw w.in-Ok.is (λ none nothing. inr (code ∙ ap code_of (w.status-is ∙ w.refuse.ensures.same)))
       | in-Err w ↦ rw w.in-Err.is tt
     ]
 
