@@ -14,7 +14,7 @@ import tempfile
 
 HERE = os.path.dirname(os.path.abspath(__file__))
 ROOT = os.path.dirname(os.path.dirname(HERE))
-MOST = 5_000
+MOST = 3_000
 MEMORY = (13, b"fault: memory\n")
 BASE = """[[tag]]
 name = "T1"
@@ -36,13 +36,9 @@ formula = "avg('T1')"
 """
 PLAN = """[[collector]]
 file = "rows.csv"
-
-[[reader]]
+"""
+ASK = """[[reader]]
 file = "asks.csv"
-
-[[refresher]]
-group = "g"
-turns = 1
 """
 CALENDAR = """zone = "CET-1CEST,M3.5.0,M10.5.0/3"
 starts = ["06:00"]
@@ -55,7 +51,7 @@ COMMANDS = [
     ["pack", "0", "1000000", "1", "0", "1000000"],
     ["run", "base.toml", "plan.toml"],
     ["check", "base.toml"],
-    ["trend", "base.toml", "plan.toml"],
+    ["trend", "base.toml", "ask.toml"],
     ["log", "base.toml", "plan.toml"],
     ["shifts", "base.toml", "calendar.toml", "1971-01-01", "3"],
     ["frames", "base.toml", "g", "m", "2"],
@@ -116,7 +112,7 @@ def main():
     with tempfile.TemporaryDirectory() as folder:
         library = os.path.join(folder, "refuse.so")
         subprocess.run(["cc", "-O2", "-shared", "-fPIC", "-o", library, os.path.join(HERE, "refuse.c")], check=True)
-        for name, text in (("base.toml", BASE), ("plan.toml", PLAN), ("calendar.toml", CALENDAR), ("rows.csv", ROWS),
+        for name, text in (("base.toml", BASE), ("plan.toml", PLAN), ("ask.toml", ASK), ("calendar.toml", CALENDAR), ("rows.csv", ROWS),
                            ("asks.csv", ASKS), ("lines.csv", "0,0\n1,0\n2,3\n3,0\n")):
             with open(os.path.join(folder, name), "w") as out:
                 out.write(text)
