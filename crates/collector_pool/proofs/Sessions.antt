@@ -1,5 +1,5 @@
 -- The notes of all workers, once they have ended.
-use Rattle.std.proofs.Common.{◌≡◌, ℕ, suc, zero, ◌<◌, List, [], ◌∷◌, length, map, get_or, refl, sym, ◌∙◌, ap, subst, arith}
+use Rattle.std.proofs.Common.{◌≡◌, ℕ, suc, zero, ◌<◌, List, [], ◌∷◌, length, drop, map, get_or, refl, sym, ◌∙◌, ap, subst, arith}
 use Rattle.std.proofs.lemmas.List.{length-map}
 use Rattle.std.specs.Prelude.{All, Option, Vec}
 use Rattle.std.specs.declared.alloc.Global.{Global}
@@ -45,7 +45,7 @@ module _ (D : Type 0) (tells : RowAsk → ℕ → Option CalcValue → Type 0) (
   note_at board (Collector c) place n number here role note = record {
     numbered = number;
     collector = λ rows few.
-        subst (λ (i : ℕ). IsCollectorNote D i (get_or w.collectors.items i rows).items n) here (note rows);
+        subst (λ (i : ℕ). IsCollectorNote D i (drop w.earlier (get_or w.collectors.items i rows).items) n) here (note rows);
     reader = λ r queries few is. absurd (omega arith);
     refresher = λ r refresh few is. absurd (omega arith);
   }
@@ -94,11 +94,17 @@ pub all_stopped : {O : Type 0} (D : Type 0) (tells : RowAsk → ℕ → Option C
 all_stopped D tells refuses w stops old new same done = λ k d few. (done.each k d (omega arith)).stopped
 
 -- the note of a collector, a reader or a refresher is that of its role
-pub as_collector : (D : Type 0) (w : Work) (collector : ℕ) (rows : Vec RawRow Global) (n : WorkerNote)
-    → collector < length w.collectors.items → rows ≡ get_or w.collectors.items collector rows → IsCollectorNote D collector rows.items n
-    → (d : Vec RawRow Global) → IsCollectorNote D collector (get_or w.collectors.items collector d).items n
-as_collector D w collector rows n few is note d =
-    subst (λ (r : Vec RawRow Global). IsCollectorNote D collector r.items n) (is ∙ same_item w.collectors.items collector rows d few) note
+pub as_collector : (D : Type 0) (w : Work) (collector : ℕ) (rows : List RawRow) (n : WorkerNote)
+    → ((d : Vec RawRow Global) → rows ≡ drop w.earlier (get_or w.collectors.items collector d).items) → IsCollectorNote D collector rows n
+    → (d : Vec RawRow Global) → IsCollectorNote D collector (drop w.earlier (get_or w.collectors.items collector d).items) n
+as_collector D w collector rows n is note d = subst (λ (r : List RawRow). IsCollectorNote D collector r n) (is d) note
+
+-- the rows behind those of an earlier phase, of a collector
+pub work_rows : (w : Work) (collector : ℕ) (e : Vec RawRow Global) → collector < length w.collectors.items
+    → e ≡ get_or w.collectors.items collector e → (d : Vec RawRow Global)
+    → drop w.earlier e.items ≡ drop w.earlier (get_or w.collectors.items collector d).items
+work_rows w collector e few is d =
+    ap (λ (r : Vec RawRow Global). drop w.earlier r.items) (is ∙ same_item w.collectors.items collector e d few)
 
 pub as_reader : (D : Type 0) (tells : RowAsk → ℕ → Option CalcValue → Type 0) (refuses : ℕ → TurnNo → Type 0) (w : Work) (reader : ℕ)
     (queries : Vec Query Global) (n : WorkerNote) → reader < length w.readers.items → queries ≡ get_or w.readers.items reader queries

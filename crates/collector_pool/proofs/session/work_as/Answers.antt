@@ -3,11 +3,9 @@ use Rattle.collector_pool.proofs.session.work_as.Goals as goal
 
 pub returns-in-Collector-clause-note : goal.returns-in-Collector-clause-note
 returns-in-Collector-clause-note g c =
-    let few = rw c.in-Collector.is at c.requires.role in
-    let note = rw c.deref.ensures.value at c.collect.ensures.note in
     rw c.in-Collector.is
-    (as_collector g.row.D.Denot c.args.work.now c.in-Collector.collector c.index-rows.result.now c.collect.result few
-    c.index-rows.ensures note)
+    (as_collector g.row.D.Denot c.args.work.now c.in-Collector.collector c.rows_of.result.now c.collect.result
+    c.rows_of.ensures c.collect.ensures.note)
 
 pub returns-in-Reader-clause-note : goal.returns-in-Reader-clause-note
 returns-in-Reader-clause-note g c =
