@@ -33,7 +33,7 @@ use Rattle.plant_status.specs.declared.status.Status.{Status}
 use Rattle.plant_files.specs.RowFiles.{ToldFiles}
 use Rattle.tape_audit.specs.declared.agenda.Item.{Item}
 use Rattle.tape_audit.specs.declared.kind.Shown.{Shown as ShownBy}
-use Rattle.tape_audit.specs.Agendas.{ask_item, phase_item, row_item}
+use Rattle.tape_audit.specs.Agendas.{ask_item, phase_item, row_item, take_item}
 use Rattle.tape_audit.specs.Found.{shown_by}
 use Rattle.tape_audit.specs.Tapes.{ask_of, take_of}
 use Rattle.plant_session.specs.Workers.{AreTapesWhole, file_due}
@@ -361,10 +361,21 @@ module _ {D : Type 0} (trace : D → Option Trace) (ticks faults : D → ℕ) (b
       same = it.same ∙ (λ k. report base ((sym (length-map g.work.collectors.items _) ∙ ap length given.collectors) k) (given.readers k) s);
     }
 
+-- in the only phase of a session there are no turns beside those of its refreshers
+only_phase : (base : Base) (rows : List (List RawRow)) (queries : List (List Query)) (refreshers : List Refresher) (s : Session)
+    (text : List ℕ) → IsDoneSo (phase_item 0) (λ i. 0 + turns_in i refreshers) base rows queries s text
+    → IsDoneSo take_item (λ i. turns_in i refreshers) base rows queries s text
+only_phase base rows queries refreshers s text it = record {
+  mixed = it.mixed;
+  refreshed = λ i d g below. subst (λ n. IsRefreshed (get_or base.groups.items i d) n s (get_or s.groups.items i g))
+      (omega arith) (it.refreshed i d g below);
+  same = it.same;
+}
+
 -- ---- all of it
 
 -- what is done was opened as it was kept
-if_done : {P : Type 0} {X Y : String Global → Type 0} (answer : Result (String Global) Status) → ((IsOfOpening answer → ⊥) → P)
+pub if_done : {P : Type 0} {X Y : String Global → Type 0} (answer : Result (String Global) Status) → ((IsOfOpening answer → ⊥) → P)
     → (P → (text : String Global) → X text → Y text) → IfOk answer X → IfOk answer Y
 if_done (Ok text) opened follows x = follows (opened (λ none. none)) text x
 if_done (Err why) opened follows x = tt
@@ -391,8 +402,9 @@ promised trace ticks faults name plan_name told old new before now stops_before 
       groups = sound_groups trace ticks faults is.base old new run.cells run.books s run.over;
       opened_as = opened_as;
       done = if_done answer opened_as
-          (λ was text. done trace ticks faults is.base old new is.given run.cells run.books s run.over 0 0 is.rows is.queries
-          is.plan.refreshers.items (string_bytes text) is.good is.work was) run.done;
+          (λ was text it. only_phase is.base is.rows is.queries is.plan.refreshers.items s (string_bytes text)
+          (done trace ticks faults is.base old new is.given run.cells run.books s run.over 0 0 is.rows is.queries
+          is.plan.refreshers.items (string_bytes text) is.good is.work was it)) run.done;
       counted = λ few.
           let counts = run.counts few in (
             counts.later,

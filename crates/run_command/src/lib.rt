@@ -27,6 +27,7 @@ mod steps;
 mod turns;
 mod workers;
 
+pub use boarding::{Boarding, boarding_for};
 pub use given::given_of;
 pub use held::close;
 pub use known::Given;
