@@ -1,6 +1,7 @@
 -- The notes of all workers, once they have ended.
 use Rattle.std.proofs.Common.{◌≡◌, ℕ, suc, zero, ◌<◌, List, [], ◌∷◌, length, drop, map, get_or, refl, sym, ◌∙◌, ap, subst, arith}
 use Rattle.std.proofs.lemmas.List.{length-map}
+use Rattle.std.proofs.lemmas.List.Elements.{All-drop, All-get_or}
 use Rattle.std.specs.Prelude.{All, Option, Vec}
 use Rattle.std.specs.declared.alloc.Global.{Global}
 use Rattle.atomic_table.specs.Seated.{TableId}
@@ -18,7 +19,7 @@ use Rattle.collector_pool.specs.declared.work.Work.{Work}
 use Rattle.collector_pool.specs.Notes.{AreNotesOf, IsCollectorNote, IsNoteAt, IsReaderNote, IsRefresherNote, halts}
 use Rattle.collector_pool.specs.RowAsk.{RowAsk}
 use Rattle.collector_pool.specs.Slots.{AreDone, AreSeated, IsNoteAs, IsRoleOf, worker_of}
-use Rattle.collector_pool.specs.Work.{worker_count}
+use Rattle.collector_pool.specs.Work.{IsQueryOf, IsRowOf, IsWorkOf, worker_count}
 use Rattle.collector_pool.proofs.Firsts.{same_item}
 
 -- an element of a list
@@ -99,12 +100,26 @@ pub as_collector : (D : Type 0) (w : Work) (collector : ℕ) (rows : List RawRow
     → (d : Vec RawRow Global) → IsCollectorNote D collector (drop w.earlier (get_or w.collectors.items collector d).items) n
 as_collector D w collector rows n is note d = subst (λ (r : List RawRow). IsCollectorNote D collector r n) (is d) note
 
--- the rows behind those of an earlier phase, of a collector
-pub work_rows : (w : Work) (collector : ℕ) (e : Vec RawRow Global) → collector < length w.collectors.items
-    → e ≡ get_or w.collectors.items collector e → (d : Vec RawRow Global)
-    → drop w.earlier e.items ≡ drop w.earlier (get_or w.collectors.items collector d).items
-work_rows w collector e few is d =
-    ap (λ (r : Vec RawRow Global). drop w.earlier r.items) (is ∙ same_item w.collectors.items collector e d few)
+-- the rows that are a collector's work are of the plant's tags, and so are a reader's queries and a refresher's turns
+pub rows_known : (tags groups : ℕ) (w : Work) (collector : ℕ) (rows : List RawRow) → IsWorkOf tags groups w
+    → collector < length w.collectors.items
+    → ((d : Vec RawRow Global) → rows ≡ drop w.earlier (get_or w.collectors.items collector d).items) → All (IsRowOf tags) rows
+rows_known tags groups w collector rows work few is =
+    let d = element w.collectors.items collector few in
+    subst (All (IsRowOf tags)) (sym (is d)) (All-drop (IsRowOf tags) w.earlier (get_or w.collectors.items collector d).items
+    (All-get_or (λ (r : Vec RawRow Global). All (IsRowOf tags) r.items) w.collectors.items collector d few work.rows))
+
+pub queries_known : (tags groups : ℕ) (w : Work) (reader : ℕ) (queries : Vec Query Global) → IsWorkOf tags groups w
+    → reader < length w.readers.items → queries ≡ get_or w.readers.items reader queries → All (IsQueryOf tags groups) queries.items
+queries_known tags groups w reader queries work few is =
+    subst (λ (q : Vec Query Global). All (IsQueryOf tags groups) q.items) (sym is)
+    (All-get_or (λ (q : Vec Query Global). All (IsQueryOf tags groups) q.items) w.readers.items reader queries few work.queries)
+
+pub turns_known : (tags groups : ℕ) (w : Work) (refresher : ℕ) (turns : Refresh) → IsWorkOf tags groups w
+    → refresher < length w.refreshers.items → turns ≡ get_or w.refreshers.items refresher turns → turns.group < groups
+turns_known tags groups w refresher turns work few is =
+    subst (λ (r : Refresh). r.group < groups) (sym is)
+    (All-get_or (λ (r : Refresh). r.group < groups) w.refreshers.items refresher turns few work.turns)
 
 pub as_reader : (D : Type 0) (tells : RowAsk → ℕ → Option CalcValue → Type 0) (refuses : ℕ → TurnNo → Type 0) (w : Work) (reader : ℕ)
     (queries : Vec Query Global) (n : WorkerNote) → reader < length w.readers.items → queries ≡ get_or w.readers.items reader queries
