@@ -1,5 +1,5 @@
 -- The texts of a drill's calculations are formulas.
-use Rattle.std.proofs.Common.{◌≡◌, ◌≤◌, ℕ, zero, suc, List, [], ◌∷◌, true, None, codes, refl, lit<, lit≤, ap₂, arith}
+use Rattle.std.proofs.Common.{◌≡◌, ◌≤◌, ℕ, zero, suc, List, [], ◌∷◌, true, None, codes, refl, lit<, lit≤, ap₂, ◌∙◌, subst, sym, arith}
 use Rattle.std.proofs.lemmas.List.Elements.{All-from_recursion}
 use Rattle.trend_num.specs.declared.measure.Measure.TheVariants.{Avg, High, Low}
 use Rattle.calc_parser.specs.declared.tree.Op.TheVariants as op
@@ -10,7 +10,7 @@ use Rattle.std.proofs.lemmas.Fmt.{decimal_digit}
 use Rattle.calc_check.specs.declared.definition.CalcDef.{CalcDef}
 use Rattle.calc_check.specs.declared.refusal.CheckNo.{CheckNo}
 use Rattle.calc_check.specs.declared.refusal.CheckNo.TheVariants as check_no
-use Rattle.calc_check.specs.Group.{Calculation, Group, IsToldOf, calculation, fault_of, is_among}
+use Rattle.calc_check.specs.Group.{Calculation, Group, IsToldOf, calculation, fault_of, group_of, is_among}
 use Rattle.drill_plant.specs.Plant.{drill_names}
 
 -- the trees of the mean and of the spread
@@ -54,11 +54,20 @@ two_calcs mean spread mean_name mean_is spread_name spread_is =
     let make : List ℕ → Tree → Calculation = λ n t. record { name = n; tree = t } in
     ap₂ (λ (a b : Calculation). a ∷ b ∷ []) (ap₂ make mean_name mean_is) (ap₂ make spread_name spread_is)
 
--- no name is refused where each stands for something
-pub not_refused : (g : Group) (why : CheckNo) → fault_of g ≡ None → IsToldOf (fault_of g) why → why ≡ check_no.WantOfMemory
-not_refused g (check_no.UnknownName place name) none told = cc (none, told)
-not_refused g (check_no.Forward place name) none told = cc (none, told)
-not_refused g check_no.WantOfMemory none told = refl
+-- nothing else is told where each name stands for something
+told_alone : (g : Group) (why : CheckNo) → fault_of g ≡ None → IsToldOf (fault_of g) why → why ≡ check_no.WantOfMemory
+told_alone g (check_no.UnknownName place name) none told = cc (none, told)
+told_alone g (check_no.Forward place name) none told = cc (none, told)
+told_alone g check_no.WantOfMemory none told = refl
+
+-- nothing but want of memory is told of definitions that stand over names with the first tag's
+pub memory_alone : (names copied inputs : List (List ℕ)) (defs : List CalcDef) (why : CheckNo)
+    → is_among (codes "D0") names ≡ true → inputs ≡ copied → copied ≡ names
+    → ((ns : List (List ℕ)) → is_among (codes "D0") ns ≡ true → fault_of (group_of ns defs) ≡ None)
+    → IsToldOf (fault_of (group_of inputs defs)) why → why ≡ check_no.WantOfMemory
+memory_alone names copied inputs defs why named same copies stand told =
+    told_alone (group_of inputs defs) why
+    (stand inputs (subst (λ ns. is_among (codes "D0") ns ≡ true) (sym (same ∙ copies)) named)) told
 
 -- over names with the first tag's both calculations stand
 pub no_fault : (names : List (List ℕ)) (calcs : List Calculation) → is_among (codes "D0") names ≡ true
