@@ -3,7 +3,8 @@ use Rattle.std.proofs.Common.{◌≡◌, ℕ, Bool, true, false, List, [], ◌�
 use Rattle.std.specs.Prelude.{codes, if◌then◌else◌}
 use Rattle.std.specs.Str.{bytes_eq}
 use Rattle.std.proofs.lemmas.Slice.Eq.{bytes_eq-Decides}
-use Rattle.plant_run.specs.CommandLine.{log_words, plan_words}
+use Rattle.plant_more.specs.Words.{log_words}
+use Rattle.plant_run.specs.CommandLine.{plan_words}
 
 pub run_no_log : (words : List (List ℕ)) (named : List ℕ × List ℕ) → plan_words words ≡ Some named → log_words words ≡ None
 run_no_log [] named is = refl
