@@ -32,6 +32,7 @@ fn work_of(alloc: Global, files: &str) -> Option<Work> {
         collectors,
         readers,
         refreshers: Vec::new(alloc),
+        earlier: 0,
     })
 }
 
@@ -46,7 +47,7 @@ fn make_up(
     requires one { length cells.old ≡ 1 }
     requires work { IsWorkOf 1 0 work.now }
 {
-    let Ok(mut takes) = collectors_of(alloc, &work.collectors, 1) else {
+    let Ok(mut takes) = collectors_of(alloc, &work.collectors, 0, 1) else {
         return Err(Status::WantOfMemory);
     };
     let Ok(rooms) = rooms_of(alloc, &work.collectors, 1) else {
@@ -57,7 +58,7 @@ fn make_up(
     };
     find_all_takes(cells, &mut takes)?;
     find_all_asks(cells, &mut asks)?;
-    take_missing(rt, cells, &work.collectors, &rooms, &mut takes)?;
+    take_missing(rt, cells, &work.collectors, 0, &rooms, &mut takes)?;
     let Ok(()) = ask_missing(cells, &work.readers, &mut asks) else {
         return Err(Status::WantOfMemory);
     };

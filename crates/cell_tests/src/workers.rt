@@ -305,6 +305,7 @@ fn collecting(alloc: Global, collectors: Vec<Vec<RawRow>>) -> Work {
         collectors,
         readers: Vec::new(alloc),
         refreshers: Vec::new(alloc),
+        earlier: 0,
     }
 }
 

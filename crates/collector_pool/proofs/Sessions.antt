@@ -1,6 +1,7 @@
 -- The notes of all workers, once they have ended.
-use Rattle.std.proofs.Common.{◌≡◌, ℕ, suc, zero, ◌<◌, List, [], ◌∷◌, length, map, get_or, refl, sym, ◌∙◌, ap, subst, arith}
+use Rattle.std.proofs.Common.{◌≡◌, ℕ, suc, zero, ◌<◌, List, [], ◌∷◌, length, drop, map, get_or, refl, sym, ◌∙◌, ap, subst, arith}
 use Rattle.std.proofs.lemmas.List.{length-map}
+use Rattle.std.proofs.lemmas.List.Elements.{All-drop, All-get_or}
 use Rattle.std.specs.Prelude.{All, Option, Vec}
 use Rattle.std.specs.declared.alloc.Global.{Global}
 use Rattle.atomic_table.specs.Seated.{TableId}
@@ -18,7 +19,7 @@ use Rattle.collector_pool.specs.declared.work.Work.{Work}
 use Rattle.collector_pool.specs.Notes.{AreNotesOf, IsCollectorNote, IsNoteAt, IsReaderNote, IsRefresherNote, halts}
 use Rattle.collector_pool.specs.RowAsk.{RowAsk}
 use Rattle.collector_pool.specs.Slots.{AreDone, AreSeated, IsNoteAs, IsRoleOf, worker_of}
-use Rattle.collector_pool.specs.Work.{worker_count}
+use Rattle.collector_pool.specs.Work.{IsQueryOf, IsRowOf, IsWorkOf, worker_count}
 use Rattle.collector_pool.proofs.Firsts.{same_item}
 
 -- an element of a list
@@ -45,7 +46,7 @@ module _ (D : Type 0) (tells : RowAsk → ℕ → Option CalcValue → Type 0) (
   note_at board (Collector c) place n number here role note = record {
     numbered = number;
     collector = λ rows few.
-        subst (λ (i : ℕ). IsCollectorNote D i (get_or w.collectors.items i rows).items n) here (note rows);
+        subst (λ (i : ℕ). IsCollectorNote D i (drop w.earlier (get_or w.collectors.items i rows).items) n) here (note rows);
     reader = λ r queries few is. absurd (omega arith);
     refresher = λ r refresh few is. absurd (omega arith);
   }
@@ -94,11 +95,31 @@ pub all_stopped : {O : Type 0} (D : Type 0) (tells : RowAsk → ℕ → Option C
 all_stopped D tells refuses w stops old new same done = λ k d few. (done.each k d (omega arith)).stopped
 
 -- the note of a collector, a reader or a refresher is that of its role
-pub as_collector : (D : Type 0) (w : Work) (collector : ℕ) (rows : Vec RawRow Global) (n : WorkerNote)
-    → collector < length w.collectors.items → rows ≡ get_or w.collectors.items collector rows → IsCollectorNote D collector rows.items n
-    → (d : Vec RawRow Global) → IsCollectorNote D collector (get_or w.collectors.items collector d).items n
-as_collector D w collector rows n few is note d =
-    subst (λ (r : Vec RawRow Global). IsCollectorNote D collector r.items n) (is ∙ same_item w.collectors.items collector rows d few) note
+pub as_collector : (D : Type 0) (w : Work) (collector : ℕ) (rows : List RawRow) (n : WorkerNote)
+    → ((d : Vec RawRow Global) → rows ≡ drop w.earlier (get_or w.collectors.items collector d).items) → IsCollectorNote D collector rows n
+    → (d : Vec RawRow Global) → IsCollectorNote D collector (drop w.earlier (get_or w.collectors.items collector d).items) n
+as_collector D w collector rows n is note d = subst (λ (r : List RawRow). IsCollectorNote D collector r n) (is d) note
+
+-- the rows that are a collector's work are of the plant's tags, and so are a reader's queries and a refresher's turns
+pub rows_known : (tags groups : ℕ) (w : Work) (collector : ℕ) (rows : List RawRow) → IsWorkOf tags groups w
+    → collector < length w.collectors.items
+    → ((d : Vec RawRow Global) → rows ≡ drop w.earlier (get_or w.collectors.items collector d).items) → All (IsRowOf tags) rows
+rows_known tags groups w collector rows work few is =
+    let d = element w.collectors.items collector few in
+    subst (All (IsRowOf tags)) (sym (is d)) (All-drop (IsRowOf tags) w.earlier (get_or w.collectors.items collector d).items
+    (All-get_or (λ (r : Vec RawRow Global). All (IsRowOf tags) r.items) w.collectors.items collector d few work.rows))
+
+pub queries_known : (tags groups : ℕ) (w : Work) (reader : ℕ) (queries : Vec Query Global) → IsWorkOf tags groups w
+    → reader < length w.readers.items → queries ≡ get_or w.readers.items reader queries → All (IsQueryOf tags groups) queries.items
+queries_known tags groups w reader queries work few is =
+    subst (λ (q : Vec Query Global). All (IsQueryOf tags groups) q.items) (sym is)
+    (All-get_or (λ (q : Vec Query Global). All (IsQueryOf tags groups) q.items) w.readers.items reader queries few work.queries)
+
+pub turns_known : (tags groups : ℕ) (w : Work) (refresher : ℕ) (turns : Refresh) → IsWorkOf tags groups w
+    → refresher < length w.refreshers.items → turns ≡ get_or w.refreshers.items refresher turns → turns.group < groups
+turns_known tags groups w refresher turns work few is =
+    subst (λ (r : Refresh). r.group < groups) (sym is)
+    (All-get_or (λ (r : Refresh). r.group < groups) w.refreshers.items refresher turns few work.turns)
 
 pub as_reader : (D : Type 0) (tells : RowAsk → ℕ → Option CalcValue → Type 0) (refuses : ℕ → TurnNo → Type 0) (w : Work) (reader : ℕ)
     (queries : Vec Query Global) (n : WorkerNote) → reader < length w.readers.items → queries ≡ get_or w.readers.items reader queries

@@ -1,5 +1,5 @@
 -- What the note of a worker says: of its own work, in order, and how it ended.
-use Rattle.std.specs.Prelude.{◌≡◌, ◌≢◌, ◌⊎◌, ℕ, suc, ◌+◌, ◌<◌, ◌≤◌, true, List, [], ◌∷◌, Any, IsSomeAnd, Option, Some, Vec, length, slice_get, slice_index_or, fold, take}
+use Rattle.std.specs.Prelude.{◌≡◌, ◌≢◌, ◌⊎◌, ℕ, suc, ◌+◌, ◌<◌, ◌≤◌, true, List, [], ◌∷◌, Any, IsSomeAnd, Option, Some, Vec, length, slice_get, slice_index_or, drop, fold, take}
 use Rattle.std.specs.declared.alloc.Global.{Global}
 use Rattle.trend_num.specs.declared.query.TagQuery.{TagQuery}
 use Rattle.trend_num.specs.declared.value.CalcValue.{CalcValue}
@@ -156,12 +156,12 @@ pub record IsRefresherNote (refuses : ℕ → TurnNo → Type 0) (refresh : Refr
 
 -- ---- a session
 
--- the note of the worker at a place
+-- the note of the worker at a place. A collector's work are its rows behind those that it took in an earlier phase
 pub record IsNoteAt (D : Type 0) (tells : RowAsk → ℕ → Option CalcValue → Type 0) (refuses : ℕ → TurnNo → Type 0) (w : Work)
     (place : ℕ) (n : WorkerNote) : Type 0 where
   pub numbered : n.worker ≡ place
   pub collector : (rows : Vec RawRow Global) → place < length w.collectors.items
-      → IsCollectorNote D place (slice_index_or w.collectors.items place rows).items n
+      → IsCollectorNote D place (drop w.earlier (slice_index_or w.collectors.items place rows).items) n
   pub reader : (reader : ℕ) (queries : Vec Query Global) → reader < length w.readers.items
       → place ≡ length w.collectors.items + reader
       → IsReaderNote D tells refuses reader (slice_index_or w.readers.items reader queries).items n

@@ -1,5 +1,5 @@
 -- What a worker has before it begins, and what it leaves.
-use Rattle.std.specs.Prelude.{◌≡◌, ℕ, ◌+◌, ◌<◌, List, [], ◌∷◌, ◌++◌, All, Option, Vec, length, slice_index_or}
+use Rattle.std.specs.Prelude.{◌≡◌, ℕ, ◌+◌, ◌<◌, List, [], ◌∷◌, ◌++◌, All, Option, Vec, drop, length, slice_index_or}
 use Rattle.std.specs.declared.alloc.Global.{Global}
 use Rattle.atomic_table.specs.Seated.{TableId}
 use Rattle.trend_num.specs.declared.value.CalcValue.{CalcValue}
@@ -31,7 +31,8 @@ IsRoleOf w board (Refresher refresher) = refresher < length w.refreshers.items
 -- the note of a worker of this role
 abbrev pub IsNoteAs : Type 0 → (RowAsk → ℕ → Option CalcValue → Type 0) → (ℕ → TurnNo → Type 0) → Work → Role → WorkerNote → Type 0
 IsNoteAs D tells refuses w (Collector collector) n =
-    (rows : Vec RawRow Global) → IsCollectorNote D collector (slice_index_or w.collectors.items collector rows).items n
+    (rows : Vec RawRow Global)
+    → IsCollectorNote D collector (drop w.earlier (slice_index_or w.collectors.items collector rows).items) n
 IsNoteAs D tells refuses w (Reader reader looker) n =
     (queries : Vec Query Global) → IsReaderNote D tells refuses reader (slice_index_or w.readers.items reader queries).items n
 IsNoteAs D tells refuses w (Refresher refresher) n =

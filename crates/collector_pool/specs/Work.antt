@@ -1,5 +1,5 @@
 -- What the workers of a session have to do, and the plants that it is work for.
-use Rattle.std.specs.Prelude.{ℕ, ◌+◌, ◌^◌, ◌<◌, All, length}
+use Rattle.std.specs.Prelude.{ℕ, ◌+◌, ◌^◌, ◌<◌, ◌≤◌, All, length}
 use Rattle.trend_num.specs.Queries.{IsTagQuery}
 use Rattle.trend_num.specs.Ranges.{InRange}
 use Rattle.value_rows.specs.declared.asked.Query.{Query}
@@ -26,5 +26,6 @@ IsQueryOf tags groups (Row group calc k) = group < groups
 pub record IsWorkOf (tags groups : ℕ) (w : Work) : Type 0 where
   pub few : worker_count w < 2 ^ 32
   pub rows : All (λ rows. All (IsRowOf tags) rows.items) w.collectors.items
+  pub begun : All (λ rows. w.earlier ≤ length rows.items) w.collectors.items
   pub queries : All (λ queries. All (IsQueryOf tags groups) queries.items) w.readers.items
   pub turns : All (λ refresh. refresh.group < groups) w.refreshers.items

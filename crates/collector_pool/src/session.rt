@@ -264,7 +264,7 @@ fn work_as<D: Disk, G: GroupTurns<D>, O: Pass, R: Wait>(
 {
     match role {
         Role::Collector(collector) => {
-            let rows = &work.collectors[*collector as usize];
+            let rows = work.rows_of(*collector);
             collect(rt, alloc, cells, worker, *collector, rows, pass)
         }
         Role::Reader(reader, looker) => {

@@ -1,6 +1,8 @@
 // What the workers of a session have to do.
-ghost use Rattle.std.specs.Prelude.{◌↔◌, ◌<◌, ◌^◌, All, IsTrue};
+ghost use Rattle.std.specs.Prelude.{◌≡◌, ◌↔◌, ◌<◌, ◌≤◌, ◌^◌, All, IsTrue, Vec, drop, length, slice_index_or};
+ghost use Rattle.std.specs.declared.alloc.Global.{Global};
 ghost use Rattle.trend_num.specs.Queries.{IsTagQuery};
+ghost use Rattle.value_rows.specs.declared.raw.RawRow.{RawRow};
 ghost use Rattle.collector_pool.specs.Work.{worker_count, IsQueryOf, IsRowOf, IsWorkOf};
 
 use trend_num::{MAX_T, TagQuery, in_range};
@@ -20,6 +22,8 @@ pub struct Work {
     pub collectors: Vec<Vec<RawRow>>,
     pub readers: Vec<Vec<Query>>,
     pub refreshers: Vec<Refresh>,
+    /// How many rows of each collector it took in an earlier phase of the session: those behind them are its work.
+    pub earlier: u32,
 }
 
 impl Work {
@@ -31,10 +35,24 @@ impl Work {
         self.can_be_numbered()
             && self.collectors.iter().all(|rows| rows_fit(tags, rows))
             && self
+                .collectors
+                .iter()
+                .all(|rows| self.earlier as usize <= rows.len())
+            && self
                 .readers
                 .iter()
                 .all(|queries| queries_fit(tags, groups, queries))
             && self.refreshers.iter().all(|refresh| refresh.group < groups)
+    }
+
+    // The rows that are the work of a collector.
+    pub(crate) fn rows_of(&self, collector: u32) -> &[RawRow]
+        requires known { collector < length self.now.collectors.items }
+        requires begun { All (λ rows. self.now.earlier ≤ length rows.items) self.now.collectors.items }
+        ensures { (rows : Vec RawRow Global)
+            → result.now ≡ drop self.now.earlier (slice_index_or self.now.collectors.items collector rows).items }
+    {
+        &self.collectors[collector as usize][self.earlier as usize..]
     }
 
     // Whether there are fewer than 2^32 workers.

@@ -6,7 +6,7 @@ use Rattle.tag_cell.specs.declared.entry.Entry.{Entry}
 use Rattle.tag_cell.specs.declared.entry.Entry.TheVariants as entry
 use Rattle.tag_cell.specs.Tapes.{Walk, after_entry, done, start, state_after, walked}
 use Rattle.tag_cell.specs.Told.{Told as Cell, durable_records}
-use Rattle.tape_audit.specs.Agendas.{ask_item, take_item}
+use Rattle.tape_audit.specs.Agendas.{ask_item, phase_item}
 use Rattle.tape_audit.specs.Tapes.{ask_of, take_of}
 use Rattle.value_rows.specs.declared.asked.Query.{Query}
 use Rattle.value_rows.specs.declared.raw.RawRow.{RawRow}
@@ -73,9 +73,9 @@ longer_by old new step = record {
 }
 
 -- so what is shown of them stays
-pub takes_stay : {C : Type 0} (files : List (List RawRow)) (old new : List (Cell C)) → AreEach IsPulledMore old new
-    → AreAllShown take_of take_item files old → AreAllShown take_of take_item files new
-takes_stay files old new step = longer_shown take_of take_item IsPull files old new pull_takes (longer_by old new step)
+pub takes_stay : {C : Type 0} (earlier : ℕ) (files : List (List RawRow)) (old new : List (Cell C)) → AreEach IsPulledMore old new
+    → AreAllShown take_of (phase_item earlier) files old → AreAllShown take_of (phase_item earlier) files new
+takes_stay earlier files old new step = longer_shown take_of (phase_item earlier) IsPull files old new pull_takes (longer_by old new step)
 
 pub asks_stay : {C : Type 0} (files : List (List Query)) (old new : List (Cell C)) → AreEach IsPulledMore old new
     → AreAllShown ask_of ask_item files old → AreAllShown ask_of ask_item files new

@@ -31,7 +31,7 @@ pub fn row_askers_of<'a>(
     ensures over { IfOk result (λ works. AreOver row_item groups (lists_of files.now) works.items) }
     ensures unfound { IfOk result (λ works. AreUnfound groups works.items) }
 {
-    start::<RowAsks>(alloc, files, groups)
+    start::<RowAsks>(alloc, files, 0, groups)
 }
 
 /// Finds the questions of readers on the groups' tapes, group by group. It ends at the first one that is not its reader's next

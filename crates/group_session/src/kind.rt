@@ -14,11 +14,11 @@ impl Kind for RowAsks {
 
     type Entry = Turn;
 
-    ghost item_of = { row_item };
+    ghost item_of = { λ earlier. row_item };
 
     ghost shows = { row_ask_of };
 
-    fn rows(rows: &[Query]) -> Rows<'_> {
+    fn rows(rows: &[Query], _earlier: u32) -> Rows<'_> {
         Rows::RowAsks(rows)
     }
 

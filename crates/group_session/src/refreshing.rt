@@ -3,7 +3,7 @@ ghost use Rattle.std.specs.Prelude.{◌≡◌, ◌^◌, ◌<◌, ◌≤◌, List
 ghost use Rattle.value_rows.specs.declared.asked.Query.{Query};
 ghost use Rattle.value_rows.specs.declared.raw.RawRow.{RawRow};
 ghost use Rattle.calc_refresh.specs.Lists.{lists_of};
-ghost use Rattle.tape_audit.specs.Agendas.{ask_item, row_item, take_item};
+ghost use Rattle.tape_audit.specs.Agendas.{ask_item, row_item, phase_item};
 ghost use Rattle.tape_audit.specs.Tapes.{ask_of, take_of};
 ghost use Rattle.plant_session.specs.Cells.{AreAllShown};
 ghost use Rattle.plant_session.specs.Workers.{AreTapesWhole};
@@ -41,8 +41,8 @@ pub fn refresh_missing<C: Disk, D: Disk, L: Ledger>(
     requires within { IsWithinTurns turns.now books.old }
     ensures refreshed { OnOk result (AreRefreshed (durable_lists cells.new) (lists_of inputs.now) turns.now books.new) }
     ensures pulled { AreEach IsPulledMore cells.old cells.new }
-    ensures takes { (taken : List (List RawRow)) → AreAllShown take_of take_item taken cells.old
-        → AreAllShown take_of take_item taken cells.new }
+    ensures takes { (earlier : ℕ) (taken : List (List RawRow)) → AreAllShown take_of (phase_item earlier) taken cells.old
+        → AreAllShown take_of (phase_item earlier) taken cells.new }
     ensures asks { (asked : List (List Query)) → AreAllShown ask_of ask_item asked cells.old
         → AreAllShown ask_of ask_item asked cells.new }
     ensures gained { AreEach IsRefreshedMore books.old books.new }

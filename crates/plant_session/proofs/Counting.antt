@@ -16,7 +16,7 @@ use Rattle.tag_cell.specs.declared.entry.Entry.{Entry}
 use Rattle.tag_cell.specs.declared.entry.Entry.TheVariants.{Take, Ask, Pull, Commit}
 use Rattle.tag_cell.specs.Tapes.{taken}
 use Rattle.tape_audit.specs.declared.agenda.Item.{Item}
-use Rattle.tape_audit.specs.Agendas.{due, numbered, seen_at, take_item}
+use Rattle.tape_audit.specs.Agendas.{due, numbered, seen_at, phase_item}
 use Rattle.tape_audit.specs.Found.{AreFound, Reached, found, found_of, next_due, place_at, shown_by}
 use Rattle.tape_audit.specs.Tapes.{take_of}
 use Rattle.tape_audit.proofs.Walking.{next_shown}
@@ -142,10 +142,10 @@ taken_total n (Commit moment acked ∷ tape) none =
 -- ---- rows
 
 -- the rows of a file that are due at a tag are those that name it
-due_count : (tag w n : ℕ) (rows : List RawRow)
-    → length (due tag (numbered (take_item w) n rows)) ≡ count_by (λ r. nat_eq r.tag tag) rows
-due_count tag w n [] = refl
-due_count tag w n (r ∷ rest) = one (nat_eq r.tag tag) refl (due_count tag w (n + 1) rest)
+due_count : (earlier tag w n : ℕ) (rows : List RawRow)
+    → length (due tag (numbered (phase_item earlier w) n rows)) ≡ count_by (λ r. nat_eq r.tag tag) rows
+due_count earlier tag w n [] = refl
+due_count earlier tag w n (r ∷ rest) = one (nat_eq r.tag tag) refl (due_count earlier tag w (n + 1) rest)
   where
     count : List RawRow → ℕ
     count rows = count_by (λ r. nat_eq r.tag tag) rows
@@ -153,14 +153,14 @@ due_count tag w n (r ∷ rest) = one (nat_eq r.tag tag) refl (due_count tag w (n
     more : ◌≡◌ {A = ℕ} (count (r ∷ rest)) (cond (nat_eq r.tag tag) 1 0 + count rest)
     more = sum_by-cons (λ (x : RawRow). cond (nat_eq x.tag tag) 1 0) r rest
 
-    one : (b : Bool) → nat_eq r.tag tag ≡ b → length (due tag (numbered (take_item w) (n + 1) rest)) ≡ count rest
-        → length (due tag (numbered (take_item w) n (r ∷ rest))) ≡ count (r ∷ rest)
+    one : (b : Bool) → nat_eq r.tag tag ≡ b → length (due tag (numbered (phase_item earlier w) (n + 1) rest)) ≡ count rest
+        → length (due tag (numbered (phase_item earlier w) n (r ∷ rest))) ≡ count (r ∷ rest)
     one true is same =
-        let first : length (due tag (numbered (take_item w) n (r ∷ rest))) ≡ 1 + length (due tag (numbered (take_item w) (n + 1) rest)) = rw is (omega arith) in
+        let first : length (due tag (numbered (phase_item earlier w) n (r ∷ rest))) ≡ 1 + length (due tag (numbered (phase_item earlier w) (n + 1) rest)) = rw is (omega arith) in
         let test : ◌≡◌ {A = ℕ} (cond (nat_eq r.tag tag) 1 0) 1 = ap (λ b. cond b 1 0) is in
         omega (arith, first, same, more, test)
     one false is same =
-        let first : length (due tag (numbered (take_item w) n (r ∷ rest))) ≡ length (due tag (numbered (take_item w) (n + 1) rest)) = rw is refl in
+        let first : length (due tag (numbered (phase_item earlier w) n (r ∷ rest))) ≡ length (due tag (numbered (phase_item earlier w) (n + 1) rest)) = rw is refl in
         let test : ◌≡◌ {A = ℕ} (cond (nat_eq r.tag tag) 1 0) 0 = ap (λ b. cond b 1 0) is in
         omega (arith, first, same, more, test)
 
@@ -174,35 +174,35 @@ due_most tag n items =
 -- ---- a tape that lacks a row
 
 -- it has fewer takes than its tag has rows
-pub takes_fewer : (tags tag collector : ℕ) (files : List (List RawRow)) (works : List Reached) (tape : List Entry) (d : Reached)
-    → AreOver take_item tags files works → AreFound take_of tag tape works → collector < length files
+pub takes_fewer : (earlier tags tag collector : ℕ) (files : List (List RawRow)) (works : List Reached) (tape : List Entry) (d : Reached)
+    → AreOver (phase_item earlier) tags files works → AreFound take_of tag tape works → collector < length files
     → IsSome (next_due (get_or works collector d) tag) → length (taken tape) < rows_of tag files
-takes_fewer tags tag collector files works tape d over found_so within due_so =
+takes_fewer earlier tags tag collector files works tape d over found_so within due_so =
     let n = length files in
     let shown = taken_total n tape none in
     let so = total_same 0 n (λ w. length (shown_by take_of w tape)) (λ w. length (found_of works w tag))
     (λ v. ap length (found_so.each v)) in
-    let fewer = total_less 0 n collector (λ w. length (found_of works w tag)) (λ w. length (file_due take_item files w tag))
+    let fewer = total_less 0 n collector (λ w. length (found_of works w tag)) (λ w. length (file_due (phase_item earlier) files w tag))
     most (omega arith) (omega (arith, within)) less in
-    let rows = total_files tag files 0 (λ w. length (file_due take_item files w tag)) each in
+    let rows = total_files tag files 0 (λ w. length (file_due (phase_item earlier) files w tag)) each in
     omega (arith, shown, so, fewer, rows)
   where
     none : (w : ℕ) → length files ≤ w → shown_by take_of w tape ≡ []
     none w past = found_so.each w ∙ ap (λ o. option_map_or (λ p. found p tag) o [])
         (slice_get_past works w (omega (arith, past, over.as_many)))
 
-    items : (w : ℕ) → w < length files → (get_or works w d).items ≡ numbered (take_item w) 1 (get_or files w [])
+    items : (w : ℕ) → w < length files → (get_or works w d).items ≡ numbered (phase_item earlier w) 1 (get_or files w [])
     items w below = over.items w [] d below
 
     found_is : (w : ℕ) → w < length files → found_of works w tag ≡ found (get_or works w d) tag
     found_is w below = ap (λ o. option_map_or (λ p. found p tag) o [])
         (slice_get-get_or works w d (omega (arith, below, over.as_many)))
 
-    due_is : (w : ℕ) → w < length files → file_due take_item files w tag ≡ due tag (get_or works w d).items
-    due_is w below = ap (λ o. option_map_or (λ rows. due tag (numbered (take_item w) 1 rows)) o [])
+    due_is : (w : ℕ) → w < length files → file_due (phase_item earlier) files w tag ≡ due tag (get_or works w d).items
+    due_is w below = ap (λ o. option_map_or (λ rows. due tag (numbered (phase_item earlier w) 1 rows)) o [])
         (slice_get-get_or files w [] below) ∙ ap (due tag) (sym (items w below))
 
-    most : (v : ℕ) → v < 0 + length files → length (found_of works v tag) ≤ length (file_due take_item files v tag)
+    most : (v : ℕ) → v < 0 + length files → length (found_of works v tag) ≤ length (file_due (phase_item earlier) files v tag)
     most v below =
         let within_files : v < length files = omega (arith, below) in
         omega (
@@ -212,7 +212,7 @@ takes_fewer tags tag collector files works tape d over found_so within due_so =
           due_most tag (place_at (get_or works v d) tag) (get_or works v d).items,
         )
 
-    less : length (found_of works collector tag) < length (file_due take_item files collector tag)
+    less : length (found_of works collector tag) < length (file_due (phase_item earlier) files collector tag)
     less =
         let p = get_or works collector d in
         let at = place_at p tag in
@@ -225,7 +225,7 @@ takes_fewer tags tag collector files works tape d over found_so within due_so =
         is_within l i (Some s) is some = slice_get_within l i s is
 
     each : (i : ℕ) → i < length files
-        → length (file_due take_item files (0 + i) tag) ≡ count_by (λ r. nat_eq r.tag tag) (get_or files i [])
+        → length (file_due (phase_item earlier) files (0 + i) tag) ≡ count_by (λ r. nat_eq r.tag tag) (get_or files i [])
     each i below =
-        ap (λ w. length (file_due take_item files w tag)) (omega arith)
-        ∙ (ap length (due_is i below ∙ ap (due tag) (items i below)) ∙ due_count tag i 1 (get_or files i []))
+        ap (λ w. length (file_due (phase_item earlier) files w tag)) (omega arith)
+        ∙ (ap length (due_is i below ∙ ap (due tag) (items i below)) ∙ due_count earlier tag i 1 (get_or files i []))

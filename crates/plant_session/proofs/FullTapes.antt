@@ -10,7 +10,7 @@ use Rattle.plant_status.specs.declared.mismatch.Seen.TheVariants as seen
 use Rattle.plant_status.specs.declared.status.Status.{Status}
 use Rattle.plant_status.specs.declared.status.Status.TheVariants as status
 use Rattle.tag_cell.specs.Told.{Told}
-use Rattle.tape_audit.specs.Agendas.{take_item}
+use Rattle.tape_audit.specs.Agendas.{phase_item}
 use Rattle.tape_audit.specs.Found.{AreFound, Reached, next_due}
 use Rattle.tape_audit.specs.Tapes.{take_of}
 use Rattle.plant_session.specs.Cells.{AreAllFound}
@@ -56,40 +56,40 @@ number_of (seen.Number n) = n
 number_of other = 0
 
 -- what is told of a full tape
-pub unlike : {D : Type 0} (tags collector : ℕ) (rooms : List ℕ) (files : List (List RawRow)) (cells : List (Told D))
-    (works : List Reached) (d : Reached) (why : Status) → AreOver take_item tags files works → AreAllFound take_of cells works
+pub unlike : {D : Type 0} (earlier tags collector : ℕ) (rooms : List ℕ) (files : List (List RawRow)) (cells : List (Told D))
+    (works : List Reached) (d : Reached) (why : Status) → AreOver (phase_item earlier) tags files works → AreAllFound take_of cells works
     → collector < length files → length rooms ≡ length cells
     → ((tag : ℕ) → tag < length rooms → slice_index rooms tag ≡ rows_of tag files)
     → IsTakeRefusal rooms cells why → IsDueFor collector works why → AreUnlike why
-unlike tags collector rooms files cells works d (status.Mismatch (place.Takes tag) kept told) over found_so within as_many counted so due_so =
+unlike earlier tags collector rooms files cells works d (status.Mismatch (place.Takes tag) kept told) over found_so within as_many counted so due_so =
     let c = so.cell in
     let below = slice_get_within cells tag c so.there in
     let here : AreFound take_of tag c.tape works = subst (λ x. AreFound take_of tag x.tape works)
     (get_or_from_slice_get cells tag c c so.there) (found_so.each tag c below) in
-    let fewer = takes_fewer tags tag collector files works c.tape d over here within (due_so d) in
+    let fewer = takes_fewer earlier tags tag collector files works c.tape d over here within (due_so d) in
     let count = counted tag (omega (arith, below, as_many)) in
     λ same. (let numbers : c.room ≡ slice_index rooms tag = ap number_of (sym so.so.0 ∙ (same ∙ so.so.2)) in
     omega (arith, numbers, so.so.1, fewer, count))
-unlike tags collector rooms files cells works d (status.Mismatch (place.Take _ _) _ _) over found_so within as_many counted so due_so = absurd so
-unlike tags collector rooms files cells works d (status.Mismatch (place.Ask _ _) _ _) over found_so within as_many counted so due_so = absurd so
-unlike tags collector rooms files cells works d (status.Mismatch (place.RowAsk _ _) _ _) over found_so within as_many counted so due_so = absurd so
-unlike tags collector rooms files cells works d (status.Mismatch (place.Version _ _) _ _) over found_so within as_many counted so due_so = absurd so
-unlike tags collector rooms files cells works d (status.Mismatch (place.Windows _) _ _) over found_so within as_many counted so due_so = absurd so
-unlike tags collector rooms files cells works d (status.Mismatch (place.Opening _) _ _) over found_so within as_many counted so due_so = absurd so
-unlike tags collector rooms files cells works d (status.Mismatch (place.Pull _ _ _) _ _) over found_so within as_many counted so due_so = absurd so
-unlike tags collector rooms files cells works d (status.Mismatch (place.Turns _) _ _) over found_so within as_many counted so due_so = absurd so
-unlike tags collector rooms files cells works d (status.Mismatch (place.Log _) _ _) over found_so within as_many counted so due_so = absurd so
-unlike tags collector rooms files cells works d status.Done over found_so within as_many counted so due_so = tt
-unlike tags collector rooms files cells works d status.BadWords over found_so within as_many counted so due_so = tt
-unlike tags collector rooms files cells works d (status.BadText _ _ _ _) over found_so within as_many counted so due_so = tt
-unlike tags collector rooms files cells works d (status.BadRow _ _ _) over found_so within as_many counted so due_so = tt
-unlike tags collector rooms files cells works d (status.ReadFault _) over found_so within as_many counted so due_so = tt
-unlike tags collector rooms files cells works d status.WriteFault over found_so within as_many counted so due_so = tt
-unlike tags collector rooms files cells works d (status.DeviceFault _) over found_so within as_many counted so due_so = tt
-unlike tags collector rooms files cells works d (status.Damaged _ _ _) over found_so within as_many counted so due_so = tt
-unlike tags collector rooms files cells works d (status.OtherTag _ _ _) over found_so within as_many counted so due_so = tt
-unlike tags collector rooms files cells works d (status.Limit _ _) over found_so within as_many counted so due_so = tt
-unlike tags collector rooms files cells works d (status.Halted _) over found_so within as_many counted so due_so = tt
-unlike tags collector rooms files cells works d status.WantOfMemory over found_so within as_many counted so due_so = tt
-unlike tags collector rooms files cells works d (status.OtherPlant _) over found_so within as_many counted so due_so = tt
-unlike tags collector rooms files cells works d (status.BadName _) over found_so within as_many counted so due_so = tt
+unlike earlier tags collector rooms files cells works d (status.Mismatch (place.Take _ _) _ _) over found_so within as_many counted so due_so = absurd so
+unlike earlier tags collector rooms files cells works d (status.Mismatch (place.Ask _ _) _ _) over found_so within as_many counted so due_so = absurd so
+unlike earlier tags collector rooms files cells works d (status.Mismatch (place.RowAsk _ _) _ _) over found_so within as_many counted so due_so = absurd so
+unlike earlier tags collector rooms files cells works d (status.Mismatch (place.Version _ _) _ _) over found_so within as_many counted so due_so = absurd so
+unlike earlier tags collector rooms files cells works d (status.Mismatch (place.Windows _) _ _) over found_so within as_many counted so due_so = absurd so
+unlike earlier tags collector rooms files cells works d (status.Mismatch (place.Opening _) _ _) over found_so within as_many counted so due_so = absurd so
+unlike earlier tags collector rooms files cells works d (status.Mismatch (place.Pull _ _ _) _ _) over found_so within as_many counted so due_so = absurd so
+unlike earlier tags collector rooms files cells works d (status.Mismatch (place.Turns _) _ _) over found_so within as_many counted so due_so = absurd so
+unlike earlier tags collector rooms files cells works d (status.Mismatch (place.Log _) _ _) over found_so within as_many counted so due_so = absurd so
+unlike earlier tags collector rooms files cells works d status.Done over found_so within as_many counted so due_so = tt
+unlike earlier tags collector rooms files cells works d status.BadWords over found_so within as_many counted so due_so = tt
+unlike earlier tags collector rooms files cells works d (status.BadText _ _ _ _) over found_so within as_many counted so due_so = tt
+unlike earlier tags collector rooms files cells works d (status.BadRow _ _ _) over found_so within as_many counted so due_so = tt
+unlike earlier tags collector rooms files cells works d (status.ReadFault _) over found_so within as_many counted so due_so = tt
+unlike earlier tags collector rooms files cells works d status.WriteFault over found_so within as_many counted so due_so = tt
+unlike earlier tags collector rooms files cells works d (status.DeviceFault _) over found_so within as_many counted so due_so = tt
+unlike earlier tags collector rooms files cells works d (status.Damaged _ _ _) over found_so within as_many counted so due_so = tt
+unlike earlier tags collector rooms files cells works d (status.OtherTag _ _ _) over found_so within as_many counted so due_so = tt
+unlike earlier tags collector rooms files cells works d (status.Limit _ _) over found_so within as_many counted so due_so = tt
+unlike earlier tags collector rooms files cells works d (status.Halted _) over found_so within as_many counted so due_so = tt
+unlike earlier tags collector rooms files cells works d status.WantOfMemory over found_so within as_many counted so due_so = tt
+unlike earlier tags collector rooms files cells works d (status.OtherPlant _) over found_so within as_many counted so due_so = tt
+unlike earlier tags collector rooms files cells works d (status.BadName _) over found_so within as_many counted so due_so = tt

@@ -8,7 +8,7 @@ use Rattle.value_rows.specs.declared.asked.Query.{Query}
 use Rattle.value_rows.specs.declared.asked.Query.TheVariants as query
 use Rattle.value_rows.specs.declared.raw.RawRow.{RawRow}
 use Rattle.tape_audit.specs.declared.agenda.Item.{Item}
-use Rattle.tape_audit.specs.Agendas.{ask_item, numbered, take_item}
+use Rattle.tape_audit.specs.Agendas.{ask_item, numbered, phase_item}
 use Rattle.tape_audit.specs.Found.{IsUnfound, Reached}
 use Rattle.tape_audit.proofs.Numbers.{length-numbered, numbered_at}
 use Rattle.collector_pool.specs.Work.{IsRowOf}
@@ -92,9 +92,9 @@ known_rows item_of many worker (x ∷ rest) each i = elim (cases_lt i (length (x
 ]
 
 -- values of collectors, and questions of readers, that are of so many tags
-pub takes_due : (tags : ℕ) (files : List (Vec RawRow Global)) → All (λ rows. All (IsRowOf tags) rows.items) files
-    → All (λ rows. All (IsDueWithin take_item tags) rows.items) files
-takes_due tags files each = λ k d below. λ i e within worker number. (each k d below i e within).tag
+pub takes_due : (earlier tags : ℕ) (files : List (Vec RawRow Global)) → All (λ rows. All (IsRowOf tags) rows.items) files
+    → All (λ rows. All (IsDueWithin (phase_item earlier) tags) rows.items) files
+takes_due earlier tags files each = λ k d below. λ i e within worker number. (each k d below i e within).tag
 
 pub asks_due : (tags : ℕ) (files : List (Vec Query Global)) → All (λ queries. All (IsKnownAsk tags) queries.items) files
     → All (λ queries. All (IsDueWithin ask_item tags) queries.items) files

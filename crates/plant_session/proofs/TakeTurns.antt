@@ -5,7 +5,7 @@ use Rattle.value_rows.specs.declared.raw.RawRow.{RawRow}
 use Rattle.tag_cell.specs.declared.entry.Entry.{Entry}
 use Rattle.tag_cell.specs.declared.entry.Entry.TheVariants as entry
 use Rattle.plant_status.specs.declared.mismatch.Seen.TheVariants.{Take}
-use Rattle.tape_audit.specs.Agendas.{IsNext, take_item}
+use Rattle.tape_audit.specs.Agendas.{IsNext, number_in, phase_item}
 use Rattle.tape_audit.specs.Found.{Reached, lacks, place_at}
 use Rattle.std.proofs.lemmas.List.{get_or_default}
 use Rattle.std.proofs.lemmas.List.Elements.{All-get_or}
@@ -59,18 +59,18 @@ taken_longer collector number row old new t =
     })) (all_longer IsTaken old))
 
 -- the row at a place of a collector's file, where it lacks
-pub missing_take : (tags collector place : ℕ) (rows : List RawRow) (works : List Reached) (row : RawRow) (d e : Reached)
-    → IsOver take_item tags collector rows works → place < length rows → All (IsRowOf tags) rows
+pub missing_take : (earlier tags collector place : ℕ) (rows : List RawRow) (works : List Reached) (row : RawRow) (d e : Reached)
+    → IsOver (phase_item earlier) tags collector rows works → place < length rows → All (IsRowOf tags) rows
     → lacks (get_or works collector d) place ≡ true
     → IfSome (get_or (get_or works collector d).items place None) (λ item. IsNext item.unit (get_or works collector d).items
     (place_at (get_or works collector d) item.unit) (place_at (get_or works collector d) item.unit))
     → IsCaughtTo place collector works
-    → IsMissing collector place (get_or rows place row).tag (Take collector (place + 1) (get_or rows place row).point) works
+    → IsMissing collector place (get_or rows place row).tag (Take collector (number_in earlier (place + 1)) (get_or rows place row).point) works
     (get_or works collector e)
-missing_take tags collector place rows works row d e over within values lack next caught =
-    subst (IsMissing collector place (get_or rows place row).tag (Take collector (place + 1) (get_or rows place row).point) works)
+missing_take earlier tags collector place rows works row d e over within values lack next caught =
+    subst (IsMissing collector place (get_or rows place row).tag (Take collector (number_in earlier (place + 1)) (get_or rows place row).point) works)
     (get_or_default works collector d e over.there)
-    (missing_row take_item tags collector (get_or rows place row).tag place
-    (Take collector (place + 1) (get_or rows place row).point) row rows works (get_or works collector d) over
+    (missing_row (phase_item earlier) tags collector (get_or rows place row).tag place
+    (Take collector (number_in earlier (place + 1)) (get_or rows place row).point) row rows works (get_or works collector d) over
     (get_or_default works collector d (get_or works collector d) over.there) within refl
     (All-get_or (IsRowOf tags) rows place row within values).tag lack next caught)

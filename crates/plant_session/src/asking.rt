@@ -3,7 +3,7 @@ ghost use Rattle.std.specs.Prelude.{◌≡◌, ◌+◌, ◌^◌, ◌<◌, List, 
 ghost use Rattle.trend_num.specs.Queries.{IsTagQuery};
 ghost use Rattle.value_rows.specs.declared.raw.RawRow.{RawRow};
 ghost use Rattle.calc_refresh.specs.Lists.{lists_of};
-ghost use Rattle.tape_audit.specs.Agendas.{ask_item, take_item};
+ghost use Rattle.tape_audit.specs.Agendas.{ask_item, phase_item};
 ghost use Rattle.tape_audit.specs.Tapes.{ask_of, take_of};
 ghost use Rattle.plant_session.specs.Asking.{IsRowAsked};
 ghost use Rattle.plant_session.specs.Cells.{AreAllFound, AreAllShown, AreLonger, IsAsked, IsKnownAsk};
@@ -26,8 +26,8 @@ pub fn ask_missing<D: Disk>(
     requires queries { All (λ queries. All (IsKnownAsk (length cells.old)) queries.items) files.now }
     requires found { AreAllFound ask_of cells.old works.old }
     ensures shown { OnOk result (AreAllShown ask_of ask_item (lists_of files.now) cells.new) }
-    ensures takes { (taken : List (List RawRow)) → AreAllShown take_of take_item taken cells.old
-        → AreAllShown take_of take_item taken cells.new }
+    ensures takes { (earlier : ℕ) (taken : List (List RawRow)) → AreAllShown take_of (phase_item earlier) taken cells.old
+        → AreAllShown take_of (phase_item earlier) taken cells.new }
     ensures longer { AreLonger IsAsked cells.old cells.new }
 {
     for reader in 0..files.len() {

@@ -2,7 +2,7 @@
 ghost use Rattle.std.specs.Prelude.{◌≡◌, ◌⊎◌, ◌^◌, ◌<◌, List, All, IfErr, OnOk, length, true};
 ghost use Rattle.value_rows.specs.declared.asked.Query.{Query};
 ghost use Rattle.value_rows.specs.declared.raw.RawRow.{RawRow};
-ghost use Rattle.tape_audit.specs.Agendas.{ask_item, take_item};
+ghost use Rattle.tape_audit.specs.Agendas.{ask_item, phase_item};
 ghost use Rattle.tape_audit.specs.Tapes.{ask_of, take_of};
 ghost use Rattle.tag_cell.specs.declared.entry.CommitNo.TheVariants.{WantOfMemory as NoMemory};
 ghost use Rattle.tag_cell.specs.Told.{waits};
@@ -18,8 +18,8 @@ use tag_cell::{Cell, CommitNo};
 pub fn commit_all<D: Disk>(cells: &mut [Cell<D>]) -> Result<(), Status>
     requires few { length cells.old < 2 ^ 32 }
     ensures none_waits { OnOk result (All (λ c. waits c ≡ 0) cells.new) }
-    ensures takes { (taken : List (List RawRow)) → AreAllShown take_of take_item taken cells.old
-        → AreAllShown take_of take_item taken cells.new }
+    ensures takes { (earlier : ℕ) (taken : List (List RawRow)) → AreAllShown take_of (phase_item earlier) taken cells.old
+        → AreAllShown take_of (phase_item earlier) taken cells.new }
     ensures asks { (asked : List (List Query)) → AreAllShown ask_of ask_item asked cells.old
         → AreAllShown ask_of ask_item asked cells.new }
     ensures longer { AreLonger IsCommitted cells.old cells.new }

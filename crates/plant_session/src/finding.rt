@@ -3,7 +3,7 @@ ghost use Rattle.std.specs.Prelude.{◌≡◌, ◌^◌, ◌<◌, ℕ, List, All,
 ghost use Rattle.value_rows.specs.declared.asked.Query.{Query};
 ghost use Rattle.value_rows.specs.declared.raw.RawRow.{RawRow};
 ghost use Rattle.tape_audit.specs.declared.agenda.Item.{Item};
-ghost use Rattle.tape_audit.specs.Agendas.{ask_item, take_item};
+ghost use Rattle.tape_audit.specs.Agendas.{ask_item, phase_item};
 ghost use Rattle.tape_audit.specs.Tapes.{ask_of, take_of};
 ghost use Rattle.plant_session.specs.Cells.{AreAllFound, tape_of};
 ghost use Rattle.plant_session.specs.Workers.{AreOver};
@@ -22,7 +22,8 @@ pub fn find_all_takes<D: Disk>(cells: &[Cell<D>], works: &mut [Progress<'_>]) ->
     requires unfound { AreUnfound (length cells.now) works.old }
     ensures found { OnOk result (AreAllFound take_of cells.now works.new) }
     ensures same_rows { AreSameRows works.old works.new }
-    ensures over { (tags : ℕ) (files : List (List RawRow)) → AreOver take_item tags files works.old → AreOver take_item tags files works.new }
+    ensures over { (earlier tags : ℕ) (files : List (List RawRow)) → AreOver (phase_item earlier) tags files works.old
+        → AreOver (phase_item earlier) tags files works.new }
     ensures differs { IfErr result (IsTakeMismatch cells.now works.old) }
 {
     match find_all::<D, Takes>(cells, works) {

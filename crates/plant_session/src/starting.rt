@@ -2,7 +2,7 @@
 ghost use Rattle.std.specs.Prelude.{◌≡◌, ◌↔◌, ℕ, ◌+◌, ◌^◌, ◌<◌, All, IfOk, IsTrue, OnOk, length, nat_eq, slice_index};
 ghost use Rattle.std.specs.List.{count_by};
 ghost use Rattle.calc_refresh.specs.Lists.{lists_of};
-ghost use Rattle.tape_audit.specs.Agendas.{ask_item, take_item};
+ghost use Rattle.tape_audit.specs.Agendas.{ask_item, phase_item};
 ghost use Rattle.collector_pool.specs.Work.{IsRowOf};
 ghost use Rattle.plant_session.specs.Cells.{IsKnownAsk};
 ghost use Rattle.plant_session.specs.Workers.{AreOver};
@@ -13,19 +13,20 @@ use std::alloc::Global;
 use tape_audit::{Agenda, Asks, Kind, Progress, Takes, WantOfMemory};
 use value_rows::{Query, RawRow};
 
-/// The progress of each collector over the rows of its file, of so many tags. More than 2^32 - 1 files or rows are refused, as
-/// memory that is not there.
+/// The progress of each collector over its rows, of so many tags; the first rows of each, so many, were taken in an earlier phase.
+/// More than 2^32 - 1 files or rows are refused, as memory that is not there.
 #[tactic(auto, using(crate::proofs::Starts::takes_due))]
 pub fn collectors_of<'a>(
     alloc: Global,
     files: &'a [Vec<RawRow>],
+    earlier: u32,
     tags: u32,
 ) -> Result<Vec<Progress<'a>>, WantOfMemory>
     requires { All (λ rows. All (IsRowOf tags) rows.items) files.now }
-    ensures over { IfOk result (λ works. AreOver take_item tags (lists_of files.now) works.items) }
+    ensures over { IfOk result (λ works. AreOver (phase_item earlier) tags (lists_of files.now) works.items) }
     ensures unfound { IfOk result (λ works. AreUnfound tags works.items) }
 {
-    start::<Takes>(alloc, files, tags)
+    start::<Takes>(alloc, files, earlier, tags)
 }
 
 /// The progress of each reader over the questions of its file, of so many tags. More than 2^32 - 1 files or questions are
@@ -40,18 +41,19 @@ pub fn readers_of<'a>(
     ensures over { IfOk result (λ works. AreOver ask_item tags (lists_of files.now) works.items) }
     ensures unfound { IfOk result (λ works. AreUnfound tags works.items) }
 {
-    start::<Asks>(alloc, files, tags)
+    start::<Asks>(alloc, files, 0, tags)
 }
 
-/// The progress of each worker over the rows of its file that are of one kind, at so many units: tags, or groups. More than
-/// 2^32 - 1 files or rows are refused, as memory that is not there.
+/// The progress of each worker over the rows of its file that are of one kind, at so many units: tags, or groups; the first rows of
+/// each, so many, were its work in an earlier phase. More than 2^32 - 1 files or rows are refused, as memory that is not there.
 pub fn start<'a, K: Kind>(
     alloc: Global,
     files: &'a [Vec<K::Row>],
+    earlier: u32,
     units: u32,
 ) -> Result<Vec<Progress<'a>>, WantOfMemory>
-    requires { All (λ rows. All (IsDueWithin K.item_of units) rows.items) files.now }
-    ensures over { IfOk result (λ works. AreOver K.item_of units (lists_of files.now) works.items) }
+    requires { All (λ rows. All (IsDueWithin (K.item_of earlier) units) rows.items) files.now }
+    ensures over { IfOk result (λ works. AreOver (K.item_of earlier) units (lists_of files.now) works.items) }
     ensures unfound { IfOk result (λ works. AreUnfound units works.items) }
 {
     if !is_small(files.len()) {
@@ -64,7 +66,7 @@ pub fn start<'a, K: Kind>(
         }
         let agenda = Agenda {
             worker: worker as u32,
-            rows: K::rows(rows),
+            rows: K::rows(rows, earlier),
         };
         let work = Progress::new(alloc, agenda, units)?;
         works.push_reserved(work);

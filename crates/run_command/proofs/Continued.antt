@@ -1,6 +1,6 @@
 -- Cells and books at the end of a session, beside those that were opened.
 use Rattle.std.proofs.Common.{◌≡◌, ◌∙◌, ◌<◌, ℕ, zero, suc, List, [], ◌∷◌, All, arith, ap, sym, subst, length, map, get_or, refl}
-use Rattle.std.proofs.lemmas.List.{length-map}
+use Rattle.std.proofs.lemmas.List.{get_or-map, length-map}
 use Rattle.std.specs.List.{AllZip}
 use Rattle.tag_base.specs.declared.definition.GroupDef.{GroupDef}
 use Rattle.tag_base.specs.Groups.{IsSound}
@@ -9,9 +9,11 @@ use Rattle.group_book.specs.Told.{Told as Book}
 use Rattle.plant_session.specs.declared.comparing.Kept.{Kept}
 use Rattle.group_session.specs.declared.comparing.KeptGroup.{KeptGroup}
 use Rattle.group_session.specs.Openings.{AreAsKept as AreGroupsAsKept}
+use Rattle.group_session.specs.Inputs.{AreInputs, IsInputsOf}
 use Rattle.run_command.specs.Copies.{IsCopied, IsCopiedGroup}
 use Rattle.run_command.specs.Runs.{AreDefined, IsContinued, IsContinuedGroup}
-use Rattle.run_command.specs.Steps.{AreAsKept, AreInputsFor, IsInputsFor}
+use Rattle.run_command.specs.Steps.{AreAsKept, AreInputsFor}
+use Rattle.run_command.proofs.GroupDevices.{element}
 
 -- lists that are related place by place are as long
 pub zip_length : {A B : Type 0} (R : A → B → Type 0) (xs : List A) (ys : List B) → AllZip R xs ys → length ys ≡ length xs
@@ -19,6 +21,15 @@ zip_length R [] [] zip = refl
 zip_length R [] (y ∷ ys) zip = absurd zip
 zip_length R (x ∷ xs) [] zip = absurd zip
 zip_length R (x ∷ xs) (y ∷ ys) zip = ap suc (zip_length R xs ys zip.1)
+
+-- and what is related at one place
+pub zip_at : {A B : Type 0} (R : A → B → Type 0) (xs : List A) (ys : List B) (i : ℕ) (x : A) (y : B) → AllZip R xs ys → i < length ys
+    → R (get_or xs i x) (get_or ys i y)
+zip_at R [] [] i x y zip below = absurd (omega (arith, below))
+zip_at R [] (b ∷ ys) i x y zip below = absurd zip
+zip_at R (a ∷ xs) [] i x y zip below = absurd zip
+zip_at R (a ∷ xs) (b ∷ ys) zero x y zip below = zip.0
+zip_at R (a ∷ xs) (b ∷ ys) (suc i) x y zip below = zip_at R xs ys i x y zip.1 (omega (arith, below))
 
 module _ {D : Type 0} where
   -- cells that are as was kept of what was opened are continued
@@ -91,33 +102,94 @@ module _ {D : Type 0} where
     groups_still bs,
   )
 
-  -- the tags of a group's inputs are those that it is made for
-  pub inputs_at : (many : ℕ) (groups : List GroupDef) (books : List (Book D)) (known : List KeptGroup) → All (IsSound many) groups
-      → length books ≡ length groups → AreDefined groups books → AllZip IsCopiedGroup books known → (i : ℕ) (k : KeptGroup)
-      → i < length known → IsInputsFor many (get_or (map (λ d. d.inputs.items) groups) i []) (get_or known i k)
-  inputs_at many [] [] [] sound same defined copied i k below = absurd (omega (arith, below))
-  inputs_at many [] [] (x ∷ ks) sound same defined copied i k below = absurd copied
-  inputs_at many [] (b ∷ bs) known sound same defined copied i k below = absurd (omega (arith, same))
-  inputs_at many (g ∷ gs) [] known sound same defined copied i k below = absurd (omega (arith, same))
-  inputs_at many (g ∷ gs) (b ∷ bs) [] sound same defined copied i k below = absurd copied
-  inputs_at many (g ∷ gs) (b ∷ bs) (x ∷ ks) sound same defined copied zero k below =
-      let its = sound 0 g (omega arith) in
-      record {
-        same = sym (ap (λ d. d.inputs) (copied.0.def ∙ defined 0 g b (omega arith)));
-        few = its.few_inputs;
-        known = its.inputs_are_tags;
-      }
-  inputs_at many (g ∷ gs) (b ∷ bs) (x ∷ ks) sound same defined copied (suc i) k below =
-      inputs_at many gs bs ks (λ j d less. sound (suc j) d (omega (arith, less))) (omega (arith, same))
-      (λ j a c less. defined (suc j) a c (omega (arith, less))) copied.1 i k (omega (arith, below))
+  -- what is continued is continued on
+  pub cells_on : (a b c : List (Cell D)) → AllZip IsContinued a b → AllZip IsContinued b c → AllZip IsContinued a c
+  cells_on [] [] [] first second = tt
+  cells_on [] [] (z ∷ zs) first second = absurd second
+  cells_on [] (y ∷ ys) c first second = absurd first
+  cells_on (x ∷ xs) [] c first second = absurd first
+  cells_on (x ∷ xs) (y ∷ ys) [] first second = absurd second
+  cells_on (x ∷ xs) (y ∷ ys) (z ∷ zs) first second = (
+    record {
+      def = second.0.def ∙ first.0.def;
+      summary = second.0.summary ∙ first.0.summary;
+      records = second.0.records ∙ first.0.records;
+      moment = second.0.moment ∙ first.0.moment;
+      faults = second.0.faults ∙ first.0.faults;
+    },
+    cells_on xs ys zs first.1 second.1,
+  )
 
-  -- so it is of the tags of each group
-  pub inputs_for : (many n : ℕ) (groups : List GroupDef) (books : List (Book D)) (known : List KeptGroup) (inputs : List (List ℕ))
-      → n ≡ many → inputs ≡ map (λ d. d.inputs.items) groups → All (IsSound many) groups → length books ≡ length groups
-      → AreDefined groups books → AllZip IsCopiedGroup books known → AreInputsFor n inputs known
-  inputs_for many n groups books known inputs same is sound as_many defined copied = record {
-    as_many = ap length is ∙ length-map groups (λ d. d.inputs.items) ∙ sym as_many ∙ sym (zip_length IsCopiedGroup books known copied);
-    each = λ group k below. subst (λ m. IsInputsFor m (get_or inputs group []) (get_or known group k)) (sym same)
-        (subst (λ l. IsInputsFor many (get_or l group []) (get_or known group k)) (sym is)
-        (inputs_at many groups books known sound as_many defined copied group k below));
+  pub books_on : (a b c : List (Book D)) → AllZip IsContinuedGroup a b → AllZip IsContinuedGroup b c → AllZip IsContinuedGroup a c
+  books_on [] [] [] first second = tt
+  books_on [] [] (z ∷ zs) first second = absurd second
+  books_on [] (y ∷ ys) c first second = absurd first
+  books_on (x ∷ xs) [] c first second = absurd first
+  books_on (x ∷ xs) (y ∷ ys) [] first second = absurd second
+  books_on (x ∷ xs) (y ∷ ys) (z ∷ zs) first second = (
+    record {
+      group = second.0.group ∙ first.0.group;
+      def = second.0.def ∙ first.0.def;
+      text = second.0.text ∙ first.0.text;
+      versions = second.0.versions ∙ first.0.versions;
+      rows = second.0.rows ∙ first.0.rows;
+      moment = second.0.moment ∙ first.0.moment;
+      faults = second.0.faults ∙ first.0.faults;
+    },
+    books_on xs ys zs first.1 second.1,
+  )
+
+  -- ---- the tags of the groups' inputs
+
+  -- those of a base are those of its books
+  pub inputs_of_base : (many n : ℕ) (groups : List GroupDef) (books : List (Book D)) (inputs : List (List ℕ)) → n ≡ many
+      → inputs ≡ map (λ d. d.inputs.items) groups → All (IsSound many) groups → length books ≡ length groups
+      → AreDefined groups books → AreInputs n inputs books
+  inputs_of_base many n groups books inputs same is sound as_many defined = record {
+    as_many = ap length is ∙ length-map groups (λ d. d.inputs.items) ∙ sym as_many;
+    each = λ i b below.
+        let there : i < length groups = omega (arith, below, as_many) in
+        let g = element groups i there in
+        let its = sound i g there in
+        let tags : get_or inputs i [] ≡ (get_or groups i g).inputs.items =
+        ap (λ l. get_or l i []) is ∙ get_or-map (λ (d : GroupDef). d.inputs.items) groups i g [] there in
+        subst (λ m. IsInputsOf m (get_or inputs i []) (get_or books i b)) (sym same)
+        (subst (λ l. IsInputsOf many l (get_or books i b)) (sym tags) (record {
+          same = sym (ap (λ d. d.inputs) (defined i g b below));
+          few = its.few_inputs;
+          known = its.inputs_are_tags;
+        }));
   }
+
+  -- those of books are those of their copies
+  pub inputs_copied : (many : ℕ) (inputs : List (List ℕ)) (books : List (Book D)) (known : List KeptGroup) → AreInputs many inputs books
+      → AllZip IsCopiedGroup books known → AreInputsFor many inputs known
+  inputs_copied many inputs books known are copied = record {
+    as_many = are.as_many ∙ sym (zip_length IsCopiedGroup books known copied);
+    each = λ i k below.
+        let there : i < length books = omega (arith, below, zip_length IsCopiedGroup books known copied) in
+        let b = element books i there in
+        let it = are.each i b there in
+        record {
+          same = it.same ∙ sym (ap (λ d. d.inputs) (zip_at IsCopiedGroup books known i b k copied below).def);
+          few = it.few;
+          known = it.known;
+        };
+  }
+
+  -- and of books that continue them
+  pub inputs_continued : (many n : ℕ) (inputs more : List (List ℕ)) (old new : List (Book D)) → n ≡ many → more ≡ inputs
+      → AreInputs many inputs old → AllZip IsContinuedGroup old new → AreInputs n more new
+  inputs_continued many n inputs more old new same same_inputs are on =
+      subst (λ m. AreInputs m more new) (sym same) (subst (λ l. AreInputs many l new) (sym same_inputs) (record {
+        as_many = are.as_many ∙ sym (zip_length IsContinuedGroup old new on);
+        each = λ i b below.
+            let there : i < length old = omega (arith, below, zip_length IsContinuedGroup old new on) in
+            let a = element old i there in
+            let it = are.each i a there in
+            record {
+              same = it.same ∙ sym (ap (λ d. d.inputs) (zip_at IsContinuedGroup old new i a b on below).def);
+              few = it.few;
+              known = it.known;
+            };
+      }))

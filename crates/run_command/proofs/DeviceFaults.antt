@@ -81,15 +81,16 @@ module _ {D : Type 0} (trace : D → Option Trace) (ticks faults : D → ℕ) (b
     of_rest notes unit (OfMaking so) = of_making unit so
     of_rest notes unit (OfPull so) = absurd so.differs.differs
 
-    of_undone : (opened : List (Cell D)) (opened_books : List (Book D)) (unit : Device)
-        → IsUndone g opened opened_books cells books s (DeviceFault unit) → HasRisen before now
-    of_undone opened opened_books unit (OfSettling known known_groups copied groups_copied (OfTag so)) = absurd so
-    of_undone opened opened_books unit (OfSettling known known_groups copied groups_copied (OfGroup kept so)) = absurd so
-    of_undone opened opened_books unit (OfSettling known known_groups copied groups_copied (OfRest so)) = of_rest s.workers.items unit so
-    of_undone opened opened_books unit (OfNone same) = absurd (cc same)
+    pub of_undone : (opened : List (Cell D)) (opened_books : List (Book D)) (notes : List WorkerNote) (unit : Device)
+        → IsUndone g opened opened_books cells books notes (DeviceFault unit) → HasRisen before now
+    of_undone opened opened_books notes unit (OfSettling known known_groups copied groups_copied (OfTag so)) = absurd so
+    of_undone opened opened_books notes unit (OfSettling known known_groups copied groups_copied (OfGroup kept so)) = absurd so
+    of_undone opened opened_books notes unit (OfSettling known known_groups copied groups_copied (OfRest so)) = of_rest notes unit so
+    of_undone opened opened_books notes unit (OfNone same) = absurd (cc same)
 
-    pub faults_counted : (opened : List (Cell D)) (opened_books : List (Book D)) (answer : Result (String Global) Status)
-        → IfErr answer (IsUndone g opened opened_books cells books s) → IfErr answer (IsFaultCounted before now)
-    faults_counted opened opened_books (Ok text) undone = tt
-    faults_counted opened opened_books (Err why) undone = λ unit same.
-        of_undone opened opened_books unit (subst (IsUndone g opened opened_books cells books s) same undone)
+    pub faults_counted : (opened : List (Cell D)) (opened_books : List (Book D)) (notes : List WorkerNote)
+        (answer : Result (String Global) Status) → IfErr answer (IsUndone g opened opened_books cells books notes)
+        → IfErr answer (IsFaultCounted before now)
+    faults_counted opened opened_books notes (Ok text) undone = tt
+    faults_counted opened opened_books notes (Err why) undone = λ unit same.
+        of_undone opened opened_books notes unit (subst (IsUndone g opened opened_books cells books notes) same undone)

@@ -33,7 +33,7 @@ use Rattle.plant_status.specs.declared.status.Status.{Status}
 use Rattle.plant_files.specs.RowFiles.{ToldFiles}
 use Rattle.tape_audit.specs.declared.agenda.Item.{Item}
 use Rattle.tape_audit.specs.declared.kind.Shown.{Shown as ShownBy}
-use Rattle.tape_audit.specs.Agendas.{ask_item, row_item, take_item}
+use Rattle.tape_audit.specs.Agendas.{ask_item, phase_item, row_item, take_item}
 use Rattle.tape_audit.specs.Found.{shown_by}
 use Rattle.tape_audit.specs.Tapes.{ask_of, take_of}
 use Rattle.plant_session.specs.Workers.{AreTapesWhole, file_due}
@@ -60,22 +60,11 @@ use Rattle.session_report.specs.Report.{report}
 use Rattle.run_command.specs.declared.known.Given.{Given}
 use Rattle.run_command.specs.Headline.{AreGroupsSound, AreOpened, IsDoneSo, IsGroupOpened, IsMixed, IsPromised, IsRefreshed, IsTagOpened, IsTagSound, entries, records_of, turns, turns_in}
 use Rattle.run_command.specs.Refusals.{IsOfOpening}
-use Rattle.run_command.specs.Runs.{IsContinued, IsContinuedGroup, IsDone, IsGivenOf, IsOver, IsSession}
+use Rattle.run_command.specs.Runs.{IsContinued, IsContinuedGroup, IsDone, IsOver, IsSession, IsWorkIn}
 use Rattle.run_command.specs.Steps.{IsMade, planned_turn, turn_of}
-use Rattle.run_command.proofs.Continued.{zip_length}
+use Rattle.run_command.proofs.Continued.{zip_at, zip_length}
 use Rattle.run_command.proofs.DeviceFaults.{faults_counted}
 use Rattle.run_command.proofs.GroupDevices.{element}
-
--- ---- lists that are related place by place
-
--- at one place
-pub zip_at : {A B : Type 0} (R : A → B → Type 0) (xs : List A) (ys : List B) (i : ℕ) (x : A) (y : B) → AllZip R xs ys → i < length ys
-    → R (get_or xs i x) (get_or ys i y)
-zip_at R [] [] i x y zip below = absurd (omega (arith, below))
-zip_at R [] (b ∷ ys) i x y zip below = absurd zip
-zip_at R (a ∷ xs) [] i x y zip below = absurd zip
-zip_at R (a ∷ xs) (b ∷ ys) zero x y zip below = zip.0
-zip_at R (a ∷ xs) (b ∷ ys) (suc i) x y zip below = zip_at R xs ys i x y zip.1 (omega (arith, below))
 
 -- ---- tags
 
@@ -249,12 +238,14 @@ module _ {D : Type 0} (trace : D → Option Trace) (ticks faults : D → ℕ) (b
     history_at i c t below = zip_at (λ (x : Cell D) h. IsHistoryOf (trace x.journal.dev) (ticks x.journal.dev) (faults x.journal.dev) x h)
         cells s.tags.items i c t is.tags below
 
-    mixed : (plan : Plan) (rows : List (List RawRow)) (queries : List (List Query)) → IsGoodBase base → IsGivenOf base plan rows queries g
-        → IsMade g cells books → ArePulled (lists_of g.inputs.items) cells books → IsMixed base rows queries s
-    mixed plan rows queries good given made pulled = record {
-      takes = subst (λ files. AreTapesWhole entries take_of take_item files s.tags.items) given.collectors
-          (whole_tapes (λ (c : Cell D). c.tape) entries take_of take_item (lists_of g.work.collectors.items) cells s.tags.items tags_many
-          (λ i c t below. (history_at i c t below).tape_is) made.takes);
+    mixed : (earlier phases : ℕ) (rows : List (List RawRow)) (queries : List (List Query)) (refreshers : List Refresher)
+        → IsGoodBase base → IsWorkIn base earlier phases rows queries refreshers g → IsMade g cells books
+        → ArePulled (lists_of g.inputs.items) cells books → IsMixed (phase_item earlier) base rows queries s
+    mixed earlier phases rows queries refreshers good given made pulled = record {
+      takes = subst (λ n. AreTapesWhole entries take_of (phase_item n) rows s.tags.items) given.earlier_is
+          (subst (λ files. AreTapesWhole entries take_of (phase_item g.work.earlier) files s.tags.items) given.collectors
+          (whole_tapes (λ (c : Cell D). c.tape) entries take_of (phase_item g.work.earlier) (lists_of g.work.collectors.items) cells
+          s.tags.items tags_many (λ i c t below. (history_at i c t below).tape_is) made.takes));
       asks = subst (λ files. AreTapesWhole entries ask_of ask_item files s.tags.items) given.readers
           (whole_tapes (λ (c : Cell D). c.tape) entries ask_of ask_item (lists_of g.work.readers.items) cells s.tags.items tags_many
           (λ i c t below. (history_at i c t below).tape_is) made.asks);
@@ -323,11 +314,12 @@ module _ {D : Type 0} (trace : D → Option Trace) (ticks faults : D → ℕ) (b
         ∙ take_all (length (get_or book.sheet.copies input [])) (get_or cells tag cell).state.records (omega (arith, long))
         ∙ sym at.0
 
-    refreshed : (plan : Plan) (rows : List (List RawRow)) (queries : List (List Query)) → IsGoodBase base
-        → IsGivenOf base plan rows queries g → IsMade g cells books → ArePulled (lists_of g.inputs.items) cells books
+    refreshed : (earlier phases : ℕ) (rows : List (List RawRow)) (queries : List (List Query)) (refreshers : List Refresher)
+        → IsGoodBase base → IsWorkIn base earlier phases rows queries refreshers g → IsMade g cells books
+        → ArePulled (lists_of g.inputs.items) cells books
         → AreOpened base old s → (i : ℕ) (d : GroupDef) (h : GroupHistory) → i < length s.groups.items
-        → IsRefreshed (get_or base.groups.items i d) (turns_in i plan.refreshers.items) s (get_or s.groups.items i h)
-    refreshed plan rows queries good given made pulled was i d h below =
+        → IsRefreshed (get_or base.groups.items i d) (phases + turns_in i refreshers) s (get_or s.groups.items i h)
+    refreshed earlier phases rows queries refreshers good given made pulled was i d h below =
         let there : i < length books = omega (arith, is.groups.as_many, below) in
         let of_base : i < length base.groups.items = omega (arith, there, is.as_many_groups) in
         let def = get_or base.groups.items i d in
@@ -345,7 +337,9 @@ module _ {D : Type 0} (trace : D → Option Trace) (ticks faults : D → ℕ) (b
         ∙ length-map def.inputs.items (λ tag. length (get_or (durable_lists cells) tag [])) in
         record {
           refreshed = ap (λ l. length (refreshes l)) of.tape ∙ to.refreshed
-              ∙ ap (λ n. n + 1) (given.sized.turns i of_base ∙ turns_same i g.work.refreshers.items plan.refreshers.items given.refreshers);
+              ∙ ap (λ n. n + 1) (given.sized.turns i of_base
+              ∙ ap (λ (p : ℕ). p + turns_for i g.work.refreshers.items) given.phases_are
+              ∙ ap (λ (n : ℕ). phases + n) (turns_same i g.work.refreshers.items refreshers given.turns));
           copies = of.copies ∙ ext_get_or [] book.sheet.copies (map (records_of s) def.inputs.items)
               (copies ∙ sym (length-map def.inputs.items (records_of s)))
               (λ input within.
@@ -356,19 +350,32 @@ module _ {D : Type 0} (trace : D → Option Trace) (ticks faults : D → ℕ) (b
               some_text def.name 44 _ (sym (was.groups i d h below).text ∙ of.text ∙ none))));
         }
 
-    done : (plan : Plan) (rows : List (List RawRow)) (queries : List (List Query)) (text : List ℕ) → IsGoodBase base
-        → IsGivenOf base plan rows queries g → AreOpened base old s → IsDone base g cells books s text
-        → IsDoneSo base plan rows queries s text
-    done plan rows queries text good given was it = record {
-      mixed = mixed plan rows queries good given it.made it.pulled;
-      refreshed = refreshed plan rows queries good given it.made it.pulled was;
+    -- the promise of a session that has done the work of its last phase
+    pub done : (earlier phases : ℕ) (rows : List (List RawRow)) (queries : List (List Query)) (refreshers : List Refresher)
+        (text : List ℕ) → IsGoodBase base → IsWorkIn base earlier phases rows queries refreshers g → AreOpened base old s
+        → IsDone base g cells books s text
+        → IsDoneSo (phase_item earlier) (λ i. phases + turns_in i refreshers) base rows queries s text
+    done earlier phases rows queries refreshers text good given was it = record {
+      mixed = mixed earlier phases rows queries refreshers good given it.made it.pulled;
+      refreshed = refreshed earlier phases rows queries refreshers good given it.made it.pulled was;
       same = it.same ∙ (λ k. report base ((sym (length-map g.work.collectors.items _) ∙ ap length given.collectors) k) (given.readers k) s);
     }
+
+-- in the only phase of a session there are no turns beside those of its refreshers
+only_phase : (base : Base) (rows : List (List RawRow)) (queries : List (List Query)) (refreshers : List Refresher) (s : Session)
+    (text : List ℕ) → IsDoneSo (phase_item 0) (λ i. 0 + turns_in i refreshers) base rows queries s text
+    → IsDoneSo take_item (λ i. turns_in i refreshers) base rows queries s text
+only_phase base rows queries refreshers s text it = record {
+  mixed = it.mixed;
+  refreshed = λ i d g below. subst (λ n. IsRefreshed (get_or base.groups.items i d) n s (get_or s.groups.items i g))
+      (omega arith) (it.refreshed i d g below);
+  same = it.same;
+}
 
 -- ---- all of it
 
 -- what is done was opened as it was kept
-if_done : {P : Type 0} {X Y : String Global → Type 0} (answer : Result (String Global) Status) → ((IsOfOpening answer → ⊥) → P)
+pub if_done : {P : Type 0} {X Y : String Global → Type 0} (answer : Result (String Global) Status) → ((IsOfOpening answer → ⊥) → P)
     → (P → (text : String Global) → X text → Y text) → IfOk answer X → IfOk answer Y
 if_done (Ok text) opened follows x = follows (opened (λ none. none)) text x
 if_done (Err why) opened follows x = tt
@@ -395,12 +402,13 @@ promised trace ticks faults name plan_name told old new before now stops_before 
       groups = sound_groups trace ticks faults is.base old new run.cells run.books s run.over;
       opened_as = opened_as;
       done = if_done answer opened_as
-          (λ was text. done trace ticks faults is.base old new is.given run.cells run.books s run.over is.plan is.rows is.queries
-          (string_bytes text) is.good is.work was) run.done;
+          (λ was text it. only_phase is.base is.rows is.queries is.plan.refreshers.items s (string_bytes text)
+          (done trace ticks faults is.base old new is.given run.cells run.books s run.over 0 0 is.rows is.queries
+          is.plan.refreshers.items (string_bytes text) is.good is.work was it)) run.done;
       counted = λ few.
           let counts = run.counts few in (
             counts.later,
             faults_counted trace ticks faults is.base old new before now run.cells run.books s run.over counts is.given run.opened
-                run.opened_books answer run.undone,
+                run.opened_books s.workers.items answer run.undone,
           );
     }

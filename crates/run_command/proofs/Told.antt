@@ -3,19 +3,16 @@ use Rattle.std.proofs.Common.{◌≡◌, List, Option, None, Some, Result, Ok, E
 use Rattle.std.specs.Prelude.{IfSome}
 use Rattle.std.specs.declared.alloc.Global.{Global}
 use Rattle.plant_status.specs.declared.status.Status.{Status}
-use Rattle.plant_status.specs.declared.status.Status.TheVariants.{WantOfMemory}
 use Rattle.tag_base.specs.declared.definition.Base.{Base}
 use Rattle.calc_refresh.specs.Lists.{lists_of}
 use Rattle.tag_cell.specs.Told.{Told as Cell}
 use Rattle.group_book.specs.Told.{Told as Book}
-use Rattle.plant_session.specs.declared.comparing.Kept.{Kept}
-use Rattle.group_session.specs.declared.comparing.KeptGroup.{KeptGroup}
+use Rattle.collector_pool.specs.declared.note.WorkerNote.{WorkerNote}
 use Rattle.group_session.specs.Pulls.{ArePulled}
 use Rattle.session_report.specs.declared.session.Session.{Session}
 use Rattle.run_command.specs.declared.known.Given.{Given}
-use Rattle.run_command.specs.Copies.{AreCopied, AreCopiedGroups}
-use Rattle.run_command.specs.Refusals.{IsOfOpening, IsSettlingRefusal}
-use Rattle.run_command.specs.Runs.{IsDone, IsTold, IsUndone, OfNone, OfSettling}
+use Rattle.run_command.specs.Refusals.{IsOfOpening}
+use Rattle.run_command.specs.Runs.{IsDone, IsTold, IsUndone, OfNone}
 use Rattle.run_command.specs.Steps.{IsMade}
 
 -- what follows of what is there
@@ -40,31 +37,14 @@ module _ (base : Base) (g : Given) (s : Session) where
     done_told (Err why) (Ok text) is made pulled = absurd (cc (is.refused))
     done_told (Err why) (Err e) is made pulled = tt
 
-    module _ (opened : List (Cell D)) (opened_books : List (Book D)) where
+    module _ (opened : List (Cell D)) (opened_books : List (Book D)) (notes : List WorkerNote) where
       -- and a cause of one that is not
-      pub undone_told : (known : List Kept) (known_groups : List KeptGroup) → AreCopied opened known
-          → AreCopiedGroups opened_books known_groups → (came : Result (Unit {0}) Status) (told : Result (String Global) Status)
-          → IsTold base g s came told → IfErr came (IsSettlingRefusal g s.workers.items known known_groups cells books)
-          → IfErr told (IsUndone g opened opened_books cells books s)
-      undone_told known known_groups copied groups_copied (Ok x) (Ok text) is refused = tt
-      undone_told known known_groups copied groups_copied (Ok x) (Err why) is refused = OfNone is.want
-      undone_told known known_groups copied groups_copied (Err why) (Ok text) is refused = tt
-      undone_told known known_groups copied groups_copied (Err why) (Err e) is refused =
+      pub undone_told : (came : Result (Unit {0}) Status) (told : Result (String Global) Status) → IsTold base g s came told
+          → IfErr came (IsUndone g opened opened_books cells books notes)
+          → IfErr told (IsUndone g opened opened_books cells books notes)
+      undone_told (Ok x) (Ok text) is undone = tt
+      undone_told (Ok x) (Err why) is undone = OfNone is.want
+      undone_told (Err why) (Ok text) is undone = tt
+      undone_told (Err why) (Err e) is undone =
           let same : e ≡ why = cc (is.refused) in
-          subst (IsUndone g opened opened_books cells books s) (sym same)
-          (OfSettling known known_groups copied groups_copied refused)
-
-      -- one without memory has no text, and that cause
-      pub want_told : (came : Result (Unit {0}) Status) (told : Result (String Global) Status) → came ≡ Err WantOfMemory
-          → IsTold base g s came told → IfErr told (IsUndone g opened opened_books cells books s)
-      want_told (Ok x) told none is = absurd (cc (none))
-      want_told (Err why) (Ok text) none is = tt
-      want_told (Err why) (Err e) none is =
-          let same : e ≡ WantOfMemory = cc (is.refused, none) in
-          OfNone same
-
-    pub none_told : (came : Result (Unit {0}) Status) (told : Result (String Global) Status) → came ≡ Err WantOfMemory
-        → IsTold base g s came told → IfOk told (λ text. IsDone base g cells books s (string_bytes text))
-    none_told (Ok x) told none is = absurd (cc (none))
-    none_told (Err why) (Ok text) none is = absurd (cc (is.refused))
-    none_told (Err why) (Err e) none is = tt
+          subst (IsUndone g opened opened_books cells books notes) (sym same) undone

@@ -77,19 +77,19 @@ module _ {D : Type 0} where
     of_rest notes (OfMaking (OfWanting same)) = cc same
     of_rest notes (OfPull is) = is.differs.differs
 
-    of_undone : (opened : List (Cell D)) (opened_books : List (Book D)) (s : Session)
-        → runs.IsUndone g opened opened_books cells books s BadWords → ⊥
-    of_undone opened opened_books s (runs.OfSettling known known_groups copied groups_copied (OfTag is)) = is
-    of_undone opened opened_books s (runs.OfSettling known known_groups copied groups_copied (OfGroup kept is)) = is
-    of_undone opened opened_books s (runs.OfSettling known known_groups copied groups_copied (OfRest is)) = of_rest s.workers.items is
-    of_undone opened opened_books s (runs.OfNone same) = cc same
+    of_undone : (opened : List (Cell D)) (opened_books : List (Book D)) (notes : List WorkerNote)
+        → runs.IsUndone g opened opened_books cells books notes BadWords → ⊥
+    of_undone opened opened_books notes (runs.OfSettling known known_groups copied groups_copied (OfTag is)) = is
+    of_undone opened opened_books notes (runs.OfSettling known known_groups copied groups_copied (OfGroup kept is)) = is
+    of_undone opened opened_books notes (runs.OfSettling known known_groups copied groups_copied (OfRest is)) = of_rest notes is
+    of_undone opened opened_books notes (runs.OfNone same) = cc same
 
-    pub undone_understood : (opened : List (Cell D)) (opened_books : List (Book D)) (s : Session)
-        (answer : Result (String Global) Status) → IfErr answer (runs.IsUndone g opened opened_books cells books s)
+    pub undone_understood : (opened : List (Cell D)) (opened_books : List (Book D)) (notes : List WorkerNote)
+        (answer : Result (String Global) Status) → IfErr answer (runs.IsUndone g opened opened_books cells books notes)
         → IfErr answer (λ why. why ≢ BadWords)
-    undone_understood opened opened_books s (Ok text) is = tt
-    undone_understood opened opened_books s (Err why) is =
-        λ same. of_undone opened opened_books s (subst (runs.IsUndone g opened opened_books cells books s) same is)
+    undone_understood opened opened_books notes (Ok text) is = tt
+    undone_understood opened opened_books notes (Err why) is =
+        λ same. of_undone opened opened_books notes (subst (runs.IsUndone g opened opened_books cells books notes) same is)
 
 pub unheld_understood : (name plan_name : List ℕ) (told : ToldFiles) (old new : Devices) (before now : ℕ)
     (answer : Result (String Global) Status) → IfErr answer (runs.IsUnheld name plan_name told old new before now)
@@ -107,7 +107,7 @@ pub understood : {D : Type 0} (trace : D → Option Trace) (ticks faults : D →
 understood trace ticks faults name plan_name told old new before now stops_before stops_now None answer unheld held =
     unheld_understood name plan_name told old new before now answer (unheld refl)
 understood trace ticks faults name plan_name told old new before now stops_before stops_now (Some s) answer unheld held =
-    undone_understood held.given held.run.cells held.run.books held.run.opened held.run.opened_books s answer held.run.undone
+    undone_understood held.given held.run.cells held.run.books held.run.opened held.run.opened_books s.workers.items answer held.run.undone
 
 pub files_understood : (name plan_name : List ℕ) (told : ToldFiles) (why : Status) → plans.IsPlanningRefusal name plan_name told why
     → why ≢ BadWords

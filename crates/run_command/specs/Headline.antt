@@ -37,6 +37,7 @@ use Rattle.plant_status.specs.declared.status.Status.TheVariants.{DeviceFault}
 use Rattle.plant_status.specs.declared.unit.Unit.{Unit as Device}
 use Rattle.cell_store.specs.Closings.{HasRisen}
 use Rattle.plant_files.specs.RowFiles.{ToldFiles}
+use Rattle.tape_audit.specs.declared.agenda.Item.{Item}
 use Rattle.tape_audit.specs.Agendas.{ask_item, row_item, take_item}
 use Rattle.tape_audit.specs.Tapes.{ask_of, take_of}
 use Rattle.plant_session.specs.Workers.{AreTapesWhole}
@@ -117,11 +118,12 @@ entries t = t.tape.items
 abbrev pub turns : GroupHistory → List Turn
 turns g = g.tape.items
 
--- Each tag has taken of each collector the rows of its file that are its own, in their order, each once, and no others. So it is of
--- the readers' questions, at tags and at groups. Each pull of a group ended at the version of the refresh of its number. All that was
--- taken is acknowledged.
-pub record IsMixed (base : Base) (rows : List (List RawRow)) (queries : List (List Query)) (s : Session) : Type 0 where
-  pub takes : AreTapesWhole entries take_of take_item rows s.tags.items
+-- Each tag has taken of each collector the rows of its file that are its own, in their order, each once, and no others; an item tells
+-- what a row leaves. So it is of the readers' questions, at tags and at groups. Each pull of a group ended at the version of the
+-- refresh of its number. All that was taken is acknowledged.
+pub record IsMixed (item_of : ℕ → ℕ → RawRow → Option Item) (base : Base) (rows : List (List RawRow))
+    (queries : List (List Query)) (s : Session) : Type 0 where
+  pub takes : AreTapesWhole entries take_of item_of rows s.tags.items
   pub asks : AreTapesWhole entries ask_of ask_item queries s.tags.items
   pub row_asks : AreTapesWhole turns row_ask_of row_item queries s.groups.items
   pub pulls : (group input : ℕ) (d : GroupDef) (g : GroupHistory) (t : TagHistory) → group < length s.groups.items
@@ -145,12 +147,13 @@ pub record IsRefreshed (d : GroupDef) (turns : ℕ) (s : Session) (g : GroupHist
   pub copies : lists_of g.copies.items ≡ map (records_of s) d.inputs.items
   pub saved : EndsInSave g.tape.items
 
--- a session that is done: each row and question had its turn, each group is up to date, and this is its report
-pub record IsDoneSo (base : Base) (plan : Plan) (rows : List (List RawRow)) (queries : List (List Query)) (s : Session)
-    (text : List ℕ) : Type 0 where
-  pub mixed : IsMixed base rows queries s
+-- a session that is done, whose groups have so many turns: each row and question had its turn, each group is up to date, and this is
+-- its report
+pub record IsDoneSo (item_of : ℕ → ℕ → RawRow → Option Item) (turns_of : ℕ → ℕ) (base : Base) (rows : List (List RawRow))
+    (queries : List (List Query)) (s : Session) (text : List ℕ) : Type 0 where
+  pub mixed : IsMixed item_of base rows queries s
   pub refreshed : (i : ℕ) (d : GroupDef) (g : GroupHistory) → i < length s.groups.items
-      → IsRefreshed (slice_index_or base.groups.items i d) (turns_in i plan.refreshers.items) s (slice_index_or s.groups.items i g)
+      → IsRefreshed (slice_index_or base.groups.items i d) (turns_of i) s (slice_index_or s.groups.items i g)
   pub same : text ≡ report base (length rows) queries s
 
 -- ---- the promise
@@ -173,5 +176,6 @@ pub record IsPromised (name plan_name : List ℕ) (told : ToldFiles) (before now
   pub tags : AllZip (λ (def : TagDef) t. IsTagSound t (trace_of now def)) base.tags.items s.tags.items
   pub groups : AreGroupsSound base.groups.items now s.groups.items
   pub opened_as : (IsOfOpening answer → ⊥) → AreOpened base before s
-  pub done : IfOk answer (λ text. IsDoneSo base plan rows queries s (string_bytes text))
+  pub done : IfOk answer (λ text. IsDoneSo take_item (λ i. turns_in i plan.refreshers.items) base rows queries s
+      (string_bytes text))
   pub counted : faults_before < 2 ^ 64 → (faults_before ≤ faults_now) × IfErr answer (IsFaultCounted faults_before faults_now)

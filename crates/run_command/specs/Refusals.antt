@@ -5,7 +5,7 @@ use Rattle.trend_num.specs.declared.refusal.WantOfMemory.{WantOfMemory as NoMemo
 use Rattle.plant_status.specs.declared.status.Status.{Status}
 use Rattle.plant_status.specs.declared.mismatch.Place.TheVariants.{Opening}
 use Rattle.plant_status.specs.declared.status.Status.TheVariants.{Mismatch, WantOfMemory}
-use Rattle.tape_audit.specs.Agendas.{ask_item, row_item, take_item}
+use Rattle.tape_audit.specs.Agendas.{ask_item, phase_item, row_item}
 use Rattle.tape_audit.specs.Found.{Reached}
 use Rattle.calc_refresh.specs.Lists.{lists_of}
 use Rattle.tag_cell.specs.Told.{Told as Cell}
@@ -30,7 +30,7 @@ use Rattle.run_command.specs.Steps.{AreAsKept, IsTagMismatch}
 -- what tapes have is not what the workers have to do: a take is not its collector's next row there, a question is not its reader's
 -- next one there, or a group was refreshed more often than it has turns
 pub data IsFindingRefusal {D : Type 0} (g : Given) (cells : List (Cell D)) (books : List (Book D)) (s : Status) : Type 0 where
-  OfTake : (works : List Reached) → AreOver take_item (length cells) (lists_of g.work.collectors.items) works
+  OfTake : (works : List Reached) → AreOver (phase_item g.work.earlier) (length cells) (lists_of g.work.collectors.items) works
       → AreUnfound (length cells) works → IsTakeMismatch cells works s → IsFindingRefusal g cells books s
   OfAsk : (works : List Reached) → AreOver ask_item (length cells) (lists_of g.work.readers.items) works
       → AreUnfound (length cells) works → IsAskMismatch cells works s → IsFindingRefusal g cells books s

@@ -6,6 +6,7 @@ use Rattle.disk_model.specs.Traces.{Trace}
 use Rattle.tag_base.specs.declared.definition.Base.{Base}
 use Rattle.tag_base.specs.declared.definition.GroupDef.{GroupDef}
 use Rattle.tag_base.specs.declared.schedule.Plan.{Plan}
+use Rattle.tag_base.specs.declared.schedule.Refresher.{Refresher}
 use Rattle.value_rows.specs.declared.asked.Query.{Query}
 use Rattle.value_rows.specs.declared.raw.RawRow.{RawRow}
 use Rattle.plant_status.specs.declared.status.Status.{Status}
@@ -17,6 +18,7 @@ use Rattle.calc_refresh.specs.Lists.{lists_of}
 use Rattle.tag_cell.specs.Told.{Told as Cell}
 use Rattle.group_book.specs.declared.history.GroupHistory.{GroupHistory}
 use Rattle.group_book.specs.Told.{IsHistory as IsGroupHistory, Told as Book}
+use Rattle.collector_pool.specs.declared.note.WorkerNote.{WorkerNote}
 use Rattle.plant_session.specs.declared.comparing.Kept.{Kept}
 use Rattle.group_session.specs.declared.comparing.KeptGroup.{KeptGroup}
 use Rattle.group_session.specs.Pulls.{ArePulled}
@@ -69,13 +71,21 @@ pub data IsUnheld (name plan_name : List ℕ) (told : ToldFiles) (old new : Devi
 
 -- ---- a session
 
--- the work of a plan over a base, whose collectors have these rows, and whose readers these queries
-pub record IsGivenOf (base : Base) (plan : Plan) (rows : List (List RawRow)) (queries : List (List Query)) (g : Given) : Type 0 where
+-- The work of a phase over a base, whose collectors have these rows, whose readers these queries, and whose refreshers these turns.
+-- There were so many phases before, in which each collector took so many of its rows.
+pub record IsWorkIn (base : Base) (earlier phases : ℕ) (rows : List (List RawRow)) (queries : List (List Query))
+    (refreshers : List Refresher) (g : Given) : Type 0 where
+  pub earlier_is : g.work.earlier ≡ earlier
+  pub phases_are : g.phases ≡ phases
   pub collectors : lists_of g.work.collectors.items ≡ rows
   pub readers : lists_of g.work.readers.items ≡ queries
-  pub refreshers : map turn_of g.work.refreshers.items ≡ map planned_turn plan.refreshers.items
+  pub turns : map turn_of g.work.refreshers.items ≡ map planned_turn refreshers
   pub inputs : lists_of g.inputs.items ≡ map (λ d. d.inputs.items) base.groups.items
   pub sized : AreGivenFor (length base.tags.items) (length base.groups.items) g
+
+-- the work of a plan: its only phase
+abbrev pub IsGivenOf : Base → Plan → List (List RawRow) → List (List Query) → Given → Type 0
+IsGivenOf base plan rows queries g = IsWorkIn base 0 0 rows queries plan.refreshers.items g
 
 -- the devices of a base's tags and groups were opened as these cells and books
 pub record IsOpen {D : Type 0} (trace : D → Option Trace) (ticks faults : D → ℕ) (base : Base) (old : Devices)
@@ -140,11 +150,11 @@ pub record IsDone {D : Type 0} (base : Base) (g : Given) (cells : List (Cell D))
 
 -- why a session is not done: what its workers left is refused beside copies of what was opened, or memory is wanting
 pub data IsUndone {D : Type 0} (g : Given) (opened : List (Cell D)) (opened_books : List (Book D)) (cells : List (Cell D))
-    (books : List (Book D)) (s : Session) (why : Status) : Type 0 where
+    (books : List (Book D)) (notes : List WorkerNote) (why : Status) : Type 0 where
   OfSettling : (known : List Kept) (known_groups : List KeptGroup) → AreCopied opened known → AreCopiedGroups opened_books known_groups
-      → IsSettlingRefusal g s.workers.items known known_groups cells books why
-      → IsUndone g opened opened_books cells books s why
-  OfNone : why ≡ WantOfMemory → IsUndone g opened opened_books cells books s why
+      → IsSettlingRefusal g notes known known_groups cells books why
+      → IsUndone g opened opened_books cells books notes why
+  OfNone : why ≡ WantOfMemory → IsUndone g opened opened_books cells books notes why
 
 -- what is answered of a session that came to this: its report, if it is done and there is memory for it; and else why there is none
 pub record IsTold (base : Base) (g : Given) (s : Session) (came : Result Unit Status) (told : Result (String Global) Status) : Type 0 where
@@ -169,7 +179,7 @@ pub record IsRun {D : Type 0} (trace : D → Option Trace) (ticks faults : D →
   pub same_groups : (IsOfOpening answer → ⊥) → AllZip IsContinuedGroup opened_books books
   pub notes : AreNotes D g.work stops_before stops_now s.workers.items
   pub done : IfOk answer (λ text. IsDone base g cells books s (string_bytes text))
-  pub undone : IfErr answer (IsUndone g opened opened_books cells books s)
+  pub undone : IfErr answer (IsUndone g opened opened_books cells books s.workers.items)
 
 -- a session of the plan in a file over the base in another, and what came of it
 pub record IsSession {D : Type 0} (trace : D → Option Trace) (ticks faults : D → ℕ) (name plan_name : List ℕ) (told : ToldFiles)

@@ -5,7 +5,7 @@ use Rattle.plant_status.specs.declared.mismatch.Place.TheVariants.{Opening}
 use Rattle.plant_status.specs.declared.mismatch.Seen.{Seen}
 use Rattle.plant_status.specs.declared.status.Status.{Status}
 use Rattle.plant_status.specs.declared.status.Status.TheVariants.{Mismatch}
-use Rattle.tape_audit.specs.Agendas.{ask_item, row_item, take_item}
+use Rattle.tape_audit.specs.Agendas.{ask_item, phase_item, row_item}
 use Rattle.tape_audit.specs.Found.{Reached}
 use Rattle.tape_audit.specs.Tapes.{ask_of, take_of}
 use Rattle.tag_cell.specs.Told.{Told as Cell, waits}
@@ -55,18 +55,19 @@ IsTagMismatch cells known other = ⊥
 
 -- ---- what a session is held against
 
--- work for a plant of so many tags and groups, and of each tag and group how much of it is its own
+-- work for a plant of so many tags and groups, and of each tag how much of it is its own; and of each group how often it is refreshed
+-- before its last refresh, once in each phase before and in the turns of its refreshers
 pub record AreGivenFor (tags groups : ℕ) (g : Given) : Type 0 where
   pub work : IsWorkOf tags groups g.work
   pub rooms_are : length g.rooms.items ≡ tags
   pub rooms : (tag : ℕ) → tag < tags → slice_index g.rooms.items tag ≡ rows_of tag (lists_of g.work.collectors.items)
   pub turns_are : length g.turns.items ≡ groups
-  pub turns : (group : ℕ) → group < groups → slice_index g.turns.items group ≡ turns_for group g.work.refreshers.items
+  pub turns : (group : ℕ) → group < groups → slice_index g.turns.items group ≡ g.phases + turns_for group g.work.refreshers.items
   pub few_turns : (group : ℕ) → group < groups → slice_index g.turns.items group + 1 < 2 ^ 32
 
 -- the progress of workers is over their rows: of collectors, of readers at tags, and of readers at groups
 pub record AreOverAll (tags groups : ℕ) (g : Given) (takes asks row_asks : List Reached) : Type 0 where
-  pub collectors : AreOver take_item tags (lists_of g.work.collectors.items) takes
+  pub collectors : AreOver (phase_item g.work.earlier) tags (lists_of g.work.collectors.items) takes
   pub readers : AreOver ask_item tags (lists_of g.work.readers.items) asks
   pub row_readers : AreOver row_item groups (lists_of g.work.readers.items) row_asks
 
@@ -81,7 +82,7 @@ pub record AreFoundAll {D : Type 0} (g : Given) (cells : List (Cell D)) (books :
 -- Each tape shows of each worker all its rows that are due there, and of no other worker any; all takes are acknowledged; each
 -- group has made its turns and one more, has as many records as no crash takes away, and was saved then.
 pub record IsMade {D : Type 0} (g : Given) (cells : List (Cell D)) (books : List (Book D)) : Type 0 where
-  pub takes : AreAllShown take_of take_item (lists_of g.work.collectors.items) cells
+  pub takes : AreAllShown take_of (phase_item g.work.earlier) (lists_of g.work.collectors.items) cells
   pub asks : AreAllShown ask_of ask_item (lists_of g.work.readers.items) cells
   pub row_asks : AreTapesWhole tape_of row_ask_of row_item (lists_of g.work.readers.items) books
   pub none_waits : All (λ c. waits c ≡ 0) cells

@@ -1,5 +1,5 @@
 // What a session is held against, of the base and the plan of a plant and of the rows of their files.
-ghost use Rattle.std.specs.Prelude.{◌≡◌, ◌↔◌, ℕ, ◌+◌, ◌^◌, ◌<◌, IfOk, IsTrue, length, map, slice_index};
+ghost use Rattle.std.specs.Prelude.{◌≡◌, ◌↔◌, ℕ, ◌+◌, ◌^◌, ◌<◌, IfOk, OnOk, length, map, slice_index};
 ghost use Rattle.calc_refresh.specs.Lists.{lists_of};
 ghost use Rattle.run_command.specs.Steps.{AreGivenFor, planned_turn, turn_of};
 
@@ -8,44 +8,49 @@ use collector_pool::{Refresh, Work};
 use group_session::turns_of;
 use plant_session::rooms_of;
 use std::alloc::Global;
-use tag_base::{Base, GroupDef, Plan, Refresher};
+use tag_base::{Base, GroupDef, Refresher};
 use trend_num::WantOfMemory;
 use value_rows::{Query, RawRow};
 
-// The work of a plan over a base, whose collectors take these rows, and whose readers ask these queries. Work of other tags or
-// groups, which no file that was read gives, or of more than 2^32 - 1 workers, and more than 2^32 - 2 turns of one group are
-// told as memory that is not there.
-pub(crate) fn given_of(
+/// The work of a phase of a session over a base, whose collectors take these rows, whose readers ask these queries, and whose
+/// refreshers make these turns. There were so many phases before, in which each collector took so many of its rows. Work of other
+/// tags or groups, of collectors that have fewer rows, or of more than 2^32 - 1 workers, and more than 2^32 - 2 turns of one group
+/// are told as memory that is not there.
+pub fn given_of(
     alloc: Global,
     base: &Base,
-    plan: &Plan,
+    refreshers: &[Refresher],
     collectors: Vec<Vec<RawRow>>,
     readers: Vec<Vec<Query>>,
+    earlier: u32,
+    phases: u32,
 ) -> Result<Given, WantOfMemory>
     ensures given { IfOk result (AreGivenFor (length base.now.tags.items) (length base.now.groups.items)) }
+    ensures earlier { IfOk result (λ g. g.work.earlier ≡ earlier) }
+    ensures phases { IfOk result (λ g. g.phases ≡ phases) }
     ensures inputs { IfOk result (λ g. lists_of g.inputs.items ≡ map (λ d. d.inputs.items) base.now.groups.items) }
     ensures collectors { IfOk result (λ g. g.work.collectors ≡ collectors) }
     ensures readers { IfOk result (λ g. g.work.readers ≡ readers) }
-    ensures refreshers { IfOk result (λ g. map turn_of g.work.refreshers.items ≡ map planned_turn plan.now.refreshers.items) }
+    ensures refreshers { IfOk result (λ g. map turn_of g.work.refreshers.items ≡ map planned_turn refreshers.now) }
 {
     let (tags, groups) = (base.tags.len(), base.groups.len() as u32);
     let work = Work {
         collectors,
         readers,
-        refreshers: refreshers_of(alloc, &plan.refreshers)?,
+        refreshers: refreshers_of(alloc, refreshers)?,
+        earlier,
     };
     if !work.fits(tags, groups) {
         return Err(WantOfMemory);
     }
     let rooms = rooms_of(alloc, &work.collectors, tags as u32)?;
-    let turns = turns_of(alloc, &work.refreshers, groups)?;
-    if !are_few(&turns) {
-        return Err(WantOfMemory);
-    }
+    let mut turns = turns_of(alloc, &work.refreshers, groups)?;
+    add_phases(&mut turns, phases)?;
     let inputs = inputs_of(alloc, &base.groups)?;
     Ok(Given {
         work,
         rooms,
+        phases,
         turns,
         inputs,
     })
@@ -63,16 +68,20 @@ fn refreshers_of(alloc: Global, refreshers: &[Refresher]) -> Result<Vec<Refresh>
     Ok(list)
 }
 
-// Whether one more than each of these has a number too.
-fn are_few(turns: &[u32]) -> bool
-    ensures { IsTrue result → (i : ℕ) → i < length turns.now → slice_index turns.now i + 1 < 2 ^ 32 }
+// Adds the last refreshes of so many phases to the turns of each group, if one more of each has a number too.
+fn add_phases(turns: &mut [u32], phases: u32) -> Result<(), WantOfMemory>
+    ensures as_many { length turns.new ≡ length turns.old }
+    ensures added { OnOk result ((i : ℕ) → i < length turns.old
+        → slice_index turns.new i ≡ phases + slice_index turns.old i) }
+    ensures few { OnOk result ((i : ℕ) → i < length turns.old → slice_index turns.new i + 1 < 2 ^ 32) }
 {
     for i in 0..turns.len() {
-        if turns[i] == u32::MAX {
-            return false;
+        match turns[i].checked_add(phases) {
+            Some(all) if all < u32::MAX => turns[i] = all,
+            _ => return Err(WantOfMemory),
         }
     }
-    true
+    Ok(())
 }
 
 // The tags of each group's inputs.

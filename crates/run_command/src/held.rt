@@ -1,5 +1,5 @@
 // A session over devices that are open, until they are given back.
-ghost use Rattle.std.specs.Prelude.{◌≡◌, [], Err, ◌<◌, ◌≤◌, ◌+◌, ◌^◌, All, length, map, vec_len};
+ghost use Rattle.std.specs.Prelude.{◌≡◌, ◌<◌, ◌≤◌, ◌+◌, ◌^◌, All, length, map, vec_len};
 ghost use Rattle.calc_refresh.specs.Lists.{lists_of};
 ghost use Rattle.session_files.specs.Plans.{IsGoodBase};
 ghost use Rattle.snapshot_table.specs.Boards.{LooksAt};
@@ -11,10 +11,9 @@ ghost use Rattle.run_command.specs.Runs.{AreDefined, IsOpen, IsOver, IsRun, IsTo
 ghost use Rattle.run_command.specs.Steps.{AreGivenFor};
 
 use crate::known::Given;
-use crate::ready::make_ready;
-use crate::session::{Ended, hold};
-use disk_model::{Disk, Store};
-use group_book::Book;
+use crate::phase::hold_phase;
+use crate::session::Ended;
+use disk_model::Store;
 use plant_status::{Passes, Status};
 use plant_store::{OpenPlant, Shelf, close_plant};
 use session_report::{Session, report};
@@ -23,9 +22,8 @@ use std::alloc::Global;
 use std::sync::Wait;
 use std::thread::Threads;
 use tag_base::Base;
-use tag_cell::Cell;
 
-// Holds the session of a plant that is open, and gives its devices back. Without memory no worker begins.
+// Holds the session of a plant that is open, and gives its devices back.
 pub(crate) fn hold_open<S: Store, P: Passes, R: Threads + Wait + Sync>(
     rt: &R,
     alloc: Global,
@@ -55,37 +53,12 @@ pub(crate) fn hold_open<S: Store, P: Passes, R: Threads + Wait + Sync>(
         (S.fault_count store.old) (S.fault_count store.new) (P.stops passes.old) (P.stops passes.new) result.0 result.1 }
 {
     let OpenPlant { cells, books } = plant;
-    match make_ready(alloc, &cells, &books) {
-        Ok(ready) => {
-            let ended = hold(
-                rt, alloc, cells, books, ready, board, lookers, given, passes,
-            );
-            close(alloc, store, base, given, shelf, ended)
-        }
-        Err(_) => {
-            let ended = unready(alloc, cells, books);
-            close(alloc, store, base, given, shelf, ended)
-        }
-    }
+    let ended = hold_phase(rt, alloc, cells, books, board, lookers, given, passes);
+    close(alloc, store, base, given, shelf, ended)
 }
 
-// A session that no worker began, for want of memory.
-fn unready<D: Disk>(alloc: Global, cells: Vec<Cell<D>>, books: Vec<Book<D>>) -> Ended<D>
-    ensures cells { result.cells ≡ cells }
-    ensures books { result.books ≡ books }
-    ensures notes { result.notes.items ≡ [] }
-    ensures answer { result.answer ≡ Err Status.WantOfMemory }
-{
-    Ended {
-        cells,
-        books,
-        notes: Vec::new(alloc),
-        answer: Err(Status::WantOfMemory),
-    }
-}
-
-// Gives the devices of a session back that has ended, and reports.
-fn close<S: Store>(
+/// Gives the devices of a session back whose last phase has ended, and reports it.
+pub fn close<S: Store>(
     alloc: Global,
     store: &mut S,
     base: &Base,

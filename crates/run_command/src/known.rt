@@ -7,7 +7,9 @@ pub struct Given {
     pub work: Work,
     /// How many rows of the collectors are of each tag.
     pub rooms: Vec<u32>,
-    /// How many turns the refreshers make of each group.
+    /// How many phases of the session were before: at the end of each, every group was refreshed once.
+    pub phases: u32,
+    /// How many refreshes each group has before its last one: those of the phases before, and the turns of its refreshers.
     pub turns: Vec<u32>,
     /// The tags of each group's inputs.
     pub inputs: Vec<Vec<u32>>,

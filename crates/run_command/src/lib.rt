@@ -4,6 +4,9 @@
 //! refreshers work beside each other. Once they have ended no worker's word counts but that its pass stopped it, that it found no
 //! memory, or which snapshot it was told: the cells and books are compared with what they were opened as, their tapes with the rows
 //! of the files, and what the tapes lack is done. Then the devices are given back, and the report is made of the histories.
+//!
+//! That is a session of one phase. [`hold_phase`] is one of several over the same cells and books, whose collectors go on where
+//! those of the phase before ended; [`close`] ends the session.
 #![tactic(auto)]
 
 mod boarding;
@@ -14,6 +17,7 @@ mod held;
 mod known;
 mod locks;
 mod openings;
+mod phase;
 mod plant;
 mod ready;
 mod run;
@@ -23,6 +27,11 @@ mod steps;
 mod turns;
 mod workers;
 
+pub use boarding::{Boarding, boarding_for};
+pub use given::given_of;
+pub use held::close;
 pub use known::Given;
+pub use phase::hold_phase;
 pub use plant::Ran;
 pub use run::run_plan;
+pub use session::Ended;

@@ -79,7 +79,7 @@ fn run_read<S: Store, P: Passes, R: Threads + Wait + Sync>(
         rows,
         queries,
     } = read;
-    match given_of(alloc, &base, &plan, rows, queries) {
+    match given_of(alloc, &base, &plan.refreshers, rows, queries, 0, 0) {
         Ok(given) => run_given(rt, alloc, store, passes, &base, &given),
         Err(_) => Ran::refused(Status::WantOfMemory),
     }

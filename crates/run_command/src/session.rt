@@ -26,12 +26,13 @@ use std::thread::Threads;
 use tag_cell::Cell;
 use trend_num::WantOfMemory;
 
-// A session at its end, and how it went.
-pub(crate) struct Ended<D: Disk> {
-    pub(crate) cells: Vec<Cell<D>>,
-    pub(crate) books: Vec<Book<D>>,
-    pub(crate) notes: Vec<WorkerNote>,
-    pub(crate) answer: Result<(), Status>,
+/// A phase of a session at its end: its cells and books, what its workers noted, and how it went.
+pub struct Ended<D: Disk> {
+    pub cells: Vec<Cell<D>>,
+    pub books: Vec<Book<D>>,
+    /// None of them where no worker began.
+    pub notes: Vec<WorkerNote>,
+    pub answer: Result<(), Status>,
 }
 
 // Runs the session of these cells and books, and brings it to its end.

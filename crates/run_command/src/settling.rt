@@ -83,7 +83,8 @@ fn complete_all<D: Disk, R: Wait>(
     ensures refused { IfErr result (IsRefused given.now notes.now cells.new books.new) }
 {
     let (tags, groups) = (cells.len() as u32, books.len() as u32);
-    let Ok(mut takes) = collectors_of(alloc, &given.work.collectors, tags) else {
+    let Ok(mut takes) = collectors_of(alloc, &given.work.collectors, given.work.earlier, tags)
+    else {
         return Err(Status::WantOfMemory);
     };
     let Ok(mut asks) = readers_of(alloc, &given.work.readers, tags) else {

@@ -125,8 +125,9 @@ fn make_up<D: Disk, R: Wait, L: Ledger>(
         rooms,
         turns,
         inputs,
+        ..
     } = given;
-    if let Err(why) = take_missing(rt, cells, &work.collectors, rooms, takes) {
+    if let Err(why) = take_missing(rt, cells, &work.collectors, work.earlier, rooms, takes) {
         return Err(why);
     }
     let (Ok(()), Ok(())) = (

@@ -1,5 +1,5 @@
 -- What the rows of a worker leave on tapes, and which of them are due where.
-use Rattle.std.specs.Prelude.{◌≡◌, ℕ, ◌+◌, ◌<◌, ◌≤◌, List, [], ◌∷◌, length, filter_map, slice_index_or, Option, None, Some, IsSome, nat_eq, if◌then◌else◌}
+use Rattle.std.specs.Prelude.{◌≡◌, ℕ, zero, suc, ◌+◌, ◌-◌, ◌<◌, ◌≤◌, List, [], ◌∷◌, length, filter_map, slice_index_or, Option, None, Some, IsSome, nat_eq, nat_le, if◌then◌else◌}
 use Rattle.value_rows.specs.declared.asked.Query.{Query}
 use Rattle.value_rows.specs.declared.asked.Query.TheVariants as query
 use Rattle.value_rows.specs.declared.raw.RawRow.{RawRow}
@@ -21,6 +21,16 @@ numbered f n (a ∷ rest) = f n a ∷ numbered f (n + 1) rest
 abbrev pub take_item : ℕ → ℕ → RawRow → Option Item
 take_item collector row value = Some (record { unit = value.tag; seen = Take collector row value.point })
 
+-- the number of a row in its phase, where the first rows, so many, are those of an earlier phase: the rows behind them are numbered
+-- from 1 again
+abbrev pub number_in : ℕ → ℕ → ℕ
+number_in zero row = row
+number_in (suc earlier) row = if nat_le row (suc earlier) then row else row - suc earlier
+
+-- the row of a collector that has taken so many in an earlier phase
+abbrev pub phase_item : ℕ → ℕ → ℕ → RawRow → Option Item
+phase_item earlier collector row value = take_item collector (number_in earlier row) value
+
 -- the row of a reader, if it asks about a tag
 abbrev pub ask_item : ℕ → ℕ → Query → Option Item
 ask_item reader row (query.Tag tag asked) = Some (record { unit = tag; seen = Ask reader row asked })
@@ -31,9 +41,9 @@ abbrev pub row_item : ℕ → ℕ → Query → Option Item
 row_item reader row (query.Row group calc k) = Some (record { unit = group; seen = Row reader row calc k })
 row_item reader row other = None
 
--- the rows of a worker. They are numbered from 1
+-- the rows of a worker. They are numbered from 1, in each phase
 abbrev pub items_in : ℕ → Rows → List (Option Item)
-items_in worker (Takes rows) = numbered (take_item worker) 1 rows.now
+items_in worker (Takes rows earlier) = numbered (phase_item earlier worker) 1 rows.now
 items_in worker (Asks queries) = numbered (ask_item worker) 1 queries.now
 items_in worker (RowAsks queries) = numbered (row_item worker) 1 queries.now
 

@@ -1,6 +1,6 @@
 // The rows of a worker, as what they leave on tapes.
 ghost use Rattle.std.specs.Prelude.{◌≡◌, ◌<◌, ◌^◌, length, None, Some, slice_index_or};
-ghost use Rattle.tape_audit.specs.Agendas.{ask_item, items_of, row_item, take_item};
+ghost use Rattle.tape_audit.specs.Agendas.{ask_item, items_of, number_in, row_item, take_item};
 
 use plant_status::Seen;
 use value_rows::{Query, RawRow};
@@ -8,8 +8,8 @@ use value_rows::{Query, RawRow};
 /// The rows of a file, and which of them count.
 #[derive(Clone, Copy)]
 pub enum Rows<'a> {
-    /// The values of a collector.
-    Takes(&'a [RawRow]),
+    /// The values of a collector, of which the first so many were its work in an earlier phase.
+    Takes(&'a [RawRow], u32),
     /// The questions of a reader about tags.
     Asks(&'a [Query]),
     /// The questions of a reader for values of calculations.
@@ -37,7 +37,7 @@ impl Agenda<'_> {
         ensures { result ≡ length (items_of self.now) }
     {
         match self.rows {
-            Rows::Takes(rows) => rows.len(),
+            Rows::Takes(rows, _) => rows.len(),
             Rows::Asks(queries) | Rows::RowAsks(queries) => queries.len(),
         }
     }
@@ -51,10 +51,24 @@ impl Agenda<'_> {
     {
         let row = place as u64 + 1;
         match self.rows {
-            Rows::Takes(rows) => Some(take_item(self.worker, row, rows[place])),
+            Rows::Takes(rows, earlier) => {
+                Some(take_item(self.worker, number_in(earlier, row), rows[place]))
+            }
             Rows::Asks(queries) => ask_item(self.worker, row, queries[place]),
             Rows::RowAsks(queries) => row_item(self.worker, row, queries[place]),
         }
+    }
+}
+
+/// The number of a row in its phase, where the first rows, so many, are those of an earlier phase.
+#[tactic(auto, using(crate::proofs::Numbers::number_first, crate::proofs::Numbers::number_again))]
+pub fn number_in(earlier: u32, row: u64) -> u64
+    ensures { result ≡ number_in earlier row }
+{
+    if row <= u64::from(earlier) {
+        row
+    } else {
+        row - u64::from(earlier)
     }
 }
 

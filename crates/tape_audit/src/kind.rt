@@ -26,15 +26,16 @@ pub trait Kind {
     /// The entries of a tape.
     type Entry;
 
-    /// What a row leaves on a tape, and on which, if it is of this kind: by its worker, its number from 1, and the row.
-    ghost item_of: { ℕ → ℕ → Self.Row → Option Item };
+    /// What a row leaves on a tape, and on which, if it is of this kind: by how many rows were the worker's in an earlier phase, the
+    /// worker, the number of the row from 1, and the row.
+    ghost item_of: { ℕ → ℕ → ℕ → Self.Row → Option Item };
 
     /// What an entry shows, and of which worker, if it is of this kind.
     ghost shows: { Self.Entry → Option Shown };
 
-    /// The rows of a file, those that are of this kind.
-    fn rows(rows: &[Self::Row]) -> Rows<'_>
-        ensures { (worker : ℕ) → items_in worker result ≡ numbered (item_of worker) 1 rows.now };
+    /// The rows of a file, those that are of this kind. The first so many were the worker's in an earlier phase.
+    fn rows(rows: &[Self::Row], earlier: u32) -> Rows<'_>
+        ensures { (worker : ℕ) → items_in worker result ≡ numbered (item_of earlier worker) 1 rows.now };
 
     /// What an entry shows of a worker, if it is of this kind.
     fn shown(entry: &Self::Entry) -> Option<Shown>
@@ -46,19 +47,19 @@ pub trait Kind {
 pub struct Takes;
 
 impl Kind for Takes {
-    ghost use Rattle.tape_audit.specs.Agendas.{take_item};
+    ghost use Rattle.tape_audit.specs.Agendas.{phase_item};
     ghost use Rattle.tape_audit.specs.Tapes.{take_of};
 
     type Row = RawRow;
 
     type Entry = Entry;
 
-    ghost item_of = { take_item };
+    ghost item_of = { phase_item };
 
     ghost shows = { take_of };
 
-    fn rows(rows: &[RawRow]) -> Rows<'_> {
-        Rows::Takes(rows)
+    fn rows(rows: &[RawRow], earlier: u32) -> Rows<'_> {
+        Rows::Takes(rows, earlier)
     }
 
     fn shown(entry: &Entry) -> Option<Shown> {
@@ -92,11 +93,11 @@ impl Kind for Asks {
 
     type Entry = Entry;
 
-    ghost item_of = { ask_item };
+    ghost item_of = { λ earlier. ask_item };
 
     ghost shows = { ask_of };
 
-    fn rows(rows: &[Query]) -> Rows<'_> {
+    fn rows(rows: &[Query], _earlier: u32) -> Rows<'_> {
         Rows::Asks(rows)
     }
 

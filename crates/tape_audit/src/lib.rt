@@ -13,7 +13,7 @@ mod kind;
 mod progress;
 mod walk;
 
-pub use agenda::{Agenda, Item, Rows};
+pub use agenda::{Agenda, Item, Rows, number_in};
 pub use kind::{Asks, Kind, Shown, Takes};
 pub use plant_status::Seen;
 pub use progress::Progress;

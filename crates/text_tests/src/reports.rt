@@ -6,7 +6,7 @@ use std::test::Fail;
 use trend_num::{Bad, CalcValue, name_from};
 use trend_report::{
     Frac, GroupLine, LastRow, Point, PointList, Reading, Reply, ReplyText, Snap, TagLine,
-    group_text, reply_text, tag_text,
+    drill_rows, group_text, reply_text, tag_text,
 };
 
 #[test]
@@ -172,4 +172,32 @@ fn snapshots_and_rows_are_told(rt: HostRuntime) -> Result<(), Fail> {
         ReplyText::Row(Some(CalcValue::Bad(Bad::Range))),
         "reply 1 5 bad range\n",
     )
+}
+
+// The points of so many events of a tag in a drill, as a reply tells them.
+fn drilled(alloc: Global, number: u32, tag: u32, events: u32) -> Result<String, Fail> {
+    let list = drill_rows(alloc, number, tag, events)?;
+    let points = PointList { list, more: false };
+    Ok(reply_text(alloc, 1, 5, &ReplyText::Tag(Reply::Points(points)))?)
+}
+
+// The number of a drill, the place of a tag, how many events there are, and the points.
+const DRILLS: &str = "\
+1 0 4 => 738,-2 1051,-14 1602,-24 2212,-5
+1 0 17 => 738,-2 1051,-14 1602,-24 2212,-5 2324,2 2473,-2 2657,-16 3482,0 4371,7 5308,10 6274,7 7069,7 7736,-12 8667,-7 8849,2 7925,-8 9443,-15
+2147483647 2 17 => 838,-20 1398,-9 2267,10 3095,18 3313,27 3913,21 4833,27 5156,32 5824,44 6527,58 7129,73 8075,76 8899,57 9478,51 10355,65 9576,81 10498,50
+";
+
+#[test]
+fn drills_are_generated(rt: HostRuntime) -> Result<(), Fail> {
+    let alloc = rt.alloc();
+    for row in DRILLS.lines() {
+        let (words, points) = row.split_once(" => ").ok_or("row")?;
+        let (number, words) = words.split_once(' ').ok_or("number")?;
+        let (tag, events) = words.split_once(' ').ok_or("tag")?;
+        let told = drilled(alloc, number.parse()?, tag.parse()?, events.parse()?)?;
+        let want = format!(in alloc; "reply 1 5 {points} end\n")?;
+        assert_eq!(rt; told.as_str(), want.as_str());
+    }
+    Ok(())
 }

@@ -3,13 +3,17 @@
 //! Each line is one text, and its bytes are those of the definition of the same name: `tag_text`,
 //! `group_text` and `reply_text`. A fraction on a line between two points is rounded to the whole number next to it, the upper
 //! one where two are as near. The one error is want of memory.
+//!
+//! And the points that a drill generates for a tag, those of `drill_points`, in range however many they are.
 #![tactic(auto)]
 
+mod drill;
 mod group_line;
 mod point_text;
 mod reply_line;
 mod tag_line;
 
+pub use drill::drill_rows;
 pub use group_line::{GroupLine, LastRow, group_text};
 pub use interp_read::{PointList, Reading, Reply};
 pub use reply_line::{ReplyText, answer_line, reply_text};

@@ -114,12 +114,12 @@ returns-clause-refreshed g c = record {
 }
 
 pub returns-in-Err-clause-takes : goal.returns-in-Err-clause-takes
-returns-in-Err-clause-takes g c = λ files.
-    takes_stay files c.args.cells.now c.refresh_group.new.cells (each_trans IsPulledMore pulled_trans c.args.cells.now c.loop-group.cells
+returns-in-Err-clause-takes g c = λ earlier files.
+    takes_stay earlier files c.args.cells.now c.refresh_group.new.cells (each_trans IsPulledMore pulled_trans c.args.cells.now c.loop-group.cells
     c.refresh_group.new.cells c.loop-group.invariant.cells c.refresh_group.ensures.pulled)
 
 pub returns-clause-takes : goal.returns-clause-takes
-returns-clause-takes g c = λ files. takes_stay files c.args.cells.now c.loop-group.cells c.loop-group.invariant.cells
+returns-clause-takes g c = λ earlier files. takes_stay earlier files c.args.cells.now c.loop-group.cells c.loop-group.invariant.cells
 
 pub returns-in-Err-clause-asks : goal.returns-in-Err-clause-asks
 returns-in-Err-clause-asks g c = λ files.

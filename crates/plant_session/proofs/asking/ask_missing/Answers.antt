@@ -4,7 +4,7 @@ use Rattle.std.proofs.lemmas.Bool.{cases_eq}
 use Rattle.std.proofs.lemmas.List.{length-map}
 use Rattle.std.proofs.lemmas.List.Elements.{All-get_or}
 use Rattle.calc_refresh.specs.Lists.{lists_of}
-use Rattle.tape_audit.specs.Agendas.{ask_item, take_item}
+use Rattle.tape_audit.specs.Agendas.{ask_item, phase_item}
 use Rattle.tape_audit.specs.Found.{IsCaughtUp}
 use Rattle.tape_audit.specs.Tapes.{ask_of, take_of}
 use Rattle.plant_session.specs.Cells.{IsAsked, IsKnownAsk, tape_of}
@@ -76,11 +76,11 @@ returns-clause-shown g c =
     (omega (arith, below, c.loop-reader-test.false, c.loop-reader.auto, length-map files (λ (v : Vec _ Global). v.items))))
 
 pub returns-in_err-ask_file-clause-takes : goal.returns-in_err-ask_file-clause-takes
-returns-in_err-ask_file-clause-takes g c = λ taken.
-    longer_shown take_of take_item IsAsked taken c.args.cells.now c.ask_file.new.cells asked_takes
+returns-in_err-ask_file-clause-takes g c = λ earlier taken.
+    longer_shown take_of (phase_item earlier) IsAsked taken c.args.cells.now c.ask_file.new.cells asked_takes
     (all_longer_trans IsAsked c.args.cells.now c.loop-reader.cells c.ask_file.new.cells c.loop-reader.invariant.longer
     c.ask_file.ensures.longer)
 
 pub returns-clause-takes : goal.returns-clause-takes
-returns-clause-takes g c = λ taken.
-    longer_shown take_of take_item IsAsked taken c.args.cells.now c.loop-reader.cells asked_takes c.loop-reader.invariant.longer
+returns-clause-takes g c = λ earlier taken.
+    longer_shown take_of (phase_item earlier) IsAsked taken c.args.cells.now c.loop-reader.cells asked_takes c.loop-reader.invariant.longer

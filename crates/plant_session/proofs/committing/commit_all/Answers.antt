@@ -4,7 +4,7 @@ use Rattle.std.proofs.lemmas.List.{get_or-set_same, get_or-set_other}
 use Rattle.tag_cell.specs.Told.{waits}
 use Rattle.plant_session.specs.Cells.{IsCommitted}
 use Rattle.plant_session.specs.Refusals.{IsCommitRefusal}
-use Rattle.tape_audit.specs.Agendas.{ask_item, take_item}
+use Rattle.tape_audit.specs.Agendas.{ask_item, phase_item}
 use Rattle.tape_audit.specs.Tapes.{ask_of, take_of}
 use Rattle.plant_session.proofs.EntryKinds.{committed_asks, committed_takes, longer_shown}
 use Rattle.plant_session.proofs.Longer.{commit_refused, longer_set}
@@ -44,15 +44,15 @@ returns-clause-none_waits g c = λ k d below.
     c.loop-tag.invariant.none_waits k d (omega (arith, below, c.loop-tag-test.false, c.loop-tag.invariant.longer.as_many))
 
 pub returns-in-Err-clause-takes : goal.returns-in-Err-clause-takes
-returns-in-Err-clause-takes g c = λ files.
-    longer_shown take_of take_item IsCommitted files c.args.cells.now _ committed_takes
+returns-in-Err-clause-takes g c = λ earlier files.
+    longer_shown take_of (phase_item earlier) IsCommitted files c.args.cells.now _ committed_takes
     (longer_set IsCommitted c.args.cells.now c.loop-tag.cells c.loop-tag.tag c.commit_cell.new.cell
     c.index-cells-tag.result (omega (arith, c.loop-tag-test.true, c.loop-tag.invariant.longer.as_many))
     c.in-Err.ensures.longer c.loop-tag.invariant.longer)
 
 pub returns-clause-takes : goal.returns-clause-takes
-returns-clause-takes g c = λ files.
-    longer_shown take_of take_item IsCommitted files c.args.cells.now c.loop-tag.cells committed_takes c.loop-tag.invariant.longer
+returns-clause-takes g c = λ earlier files.
+    longer_shown take_of (phase_item earlier) IsCommitted files c.args.cells.now c.loop-tag.cells committed_takes c.loop-tag.invariant.longer
 
 pub returns-in-Err-clause-asks : goal.returns-in-Err-clause-asks
 returns-in-Err-clause-asks g c = λ files.

@@ -11,7 +11,7 @@ pub new-requires-clause-few : goal.new-requires-clause-few
 new-requires-clause-few g c =
     omega (
       arith,
-      length-numbered (g.K.Kind.item_of c.loop-worker.worker) 1 c.deref.result.now,
+      length-numbered (g.K.Kind.item_of c.args.earlier c.loop-worker.worker) 1 c.deref.result.now,
       ap length (c.rows.ensures c.loop-worker.worker),
       c.deref.ensures.len,
       c.len.ensures,
@@ -23,11 +23,11 @@ new-requires-clause-units g c = λ i.
     let files = c.args.files.now in
     let at = c.loop-worker.worker in
     let many = c.args.units in
-    let due = IsDueWithin g.K.Kind.item_of many in
+    let due = IsDueWithin (g.K.Kind.item_of c.args.earlier) many in
     let file : c.deref.result.now ≡ get_or (lists_of files) at [] = c.deref.ensures.value
     ∙ file_at files at c.index-files-worker.result [] c.loop-worker-test.true c.index-files-worker.is in
     subst (λ l. IfSome (get_or l i None) (λ item. item.unit < many)) (sym (c.rows.ensures at))
-    (known_rows g.K.Kind.item_of many at c.deref.result.now (subst (All due) (sym file)
+    (known_rows (g.K.Kind.item_of c.args.earlier) many at c.deref.result.now (subst (All due) (sym file)
     (All-get_or (All due) (lists_of files) at [] (file_within files at c.loop-worker-test.true)
     (each_file (All due) files c.requires))) i)
 
@@ -38,8 +38,8 @@ loop-worker-preserved g c =
     let file : c.deref.result.now ≡ get_or (lists_of files) at [] = c.deref.ensures.value
     ∙ file_at files at c.index-files-worker.result [] c.loop-worker-test.true c.index-files-worker.is in
     record {
-      started = subst (AreStarted g.K.Kind.item_of c.args.units (at + 1) (lists_of files)) (sym c.push_reserved.ensures.items)
-          (started_more g.K.Kind.item_of c.args.units at (lists_of files) c.loop-worker.works.items c.in_ok-work.work
+      started = subst (AreStarted (g.K.Kind.item_of c.args.earlier) c.args.units (at + 1) (lists_of files)) (sym c.push_reserved.ensures.items)
+          (started_more (g.K.Kind.item_of c.args.earlier) c.args.units at (lists_of files) c.loop-worker.works.items c.in_ok-work.work
           c.deref.result.now (file_within files at c.loop-worker-test.true) file
           (c.in_ok-work.ensures.items ∙ c.rows.ensures at) c.in_ok-work.ensures.units c.in_ok-work.ensures.unfound
           c.loop-worker.invariant.started);

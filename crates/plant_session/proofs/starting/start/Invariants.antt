@@ -5,6 +5,6 @@ use Rattle.plant_session.proofs.starting.start.Given as goal
 
 abbrev pub invariant-loop-worker : goal.invariant-loop-worker
 invariant-loop-worker g l = record {
-  started : AreStarted g.K.Kind.item_of l.units l.worker (lists_of l.files) l.works.items;
+  started : AreStarted (g.K.Kind.item_of l.earlier) l.units l.worker (lists_of l.files) l.works.items;
   room : length l.files ≤ vec_capacity l.works;
 }

@@ -4,7 +4,7 @@ use Rattle.std.proofs.lemmas.Bool.{cases_eq}
 use Rattle.std.proofs.lemmas.List.{length-map}
 use Rattle.std.proofs.lemmas.List.Elements.{All-get_or}
 use Rattle.calc_refresh.specs.Lists.{lists_of}
-use Rattle.tape_audit.specs.Agendas.{take_item}
+use Rattle.tape_audit.specs.Agendas.{phase_item}
 use Rattle.tape_audit.specs.Found.{IsCaughtUp}
 use Rattle.tape_audit.specs.Tapes.{ask_of, take_of}
 use Rattle.collector_pool.specs.Work.{IsRowOf}
@@ -28,7 +28,7 @@ pub take_file-requires-clause-over : goal.take_file-requires-clause-over
 take_file-requires-clause-over g c =
     let files = c.args.files.now in
     let at = c.loop-collector.collector in
-    over_file take_item (length c.loop-collector.cells) (lists_of files) c.loop-collector.works at c.deref.result.now []
+    over_file (phase_item c.args.earlier) (length c.loop-collector.cells) (lists_of files) c.loop-collector.works at c.deref.result.now []
     c.loop-collector.invariant.over (file_within files at c.loop-collector-test.true)
     (c.deref.ensures.value ∙ file_at files at c.index-files-collector.result [] c.loop-collector-test.true c.index-files-collector.is)
 
@@ -56,7 +56,7 @@ loop-collector-preserved g c =
     let file : c.deref.result.now ≡ get_or (lists_of files) at [] = c.deref.ensures.value
     ∙ file_at files at c.index-files-collector.result [] c.loop-collector-test.true c.index-files-collector.is in
     record {
-      over = over_again take_item (length c.loop-collector.cells) (length c.take_file.new.cells) (lists_of files)
+      over = over_again (phase_item c.args.earlier) (length c.loop-collector.cells) (length c.take_file.new.cells) (lists_of files)
           c.loop-collector.works c.take_file.new.works at c.deref.result.now [] before.over
           (file_within files at c.loop-collector-test.true) file step.over step.others;
       found = step.found;
@@ -73,7 +73,7 @@ pub returns-clause-shown : goal.returns-clause-shown
 returns-clause-shown g c =
     let files = c.args.files.now in
     let end = c.loop-collector.invariant in
-    shown_all tape_of take_of take_item (length c.loop-collector.cells) (lists_of files) c.loop-collector.cells c.loop-collector.works
+    shown_all tape_of take_of (phase_item c.args.earlier) (length c.loop-collector.cells) (lists_of files) c.loop-collector.cells c.loop-collector.works
     end.over end.found (λ w below. end.caught w
     (omega (arith, below, c.loop-collector-test.false, c.loop-collector.auto, length-map files (λ (v : Vec _ Global). v.items))))
 
@@ -94,9 +94,9 @@ returns-in-Err-clause-unlike g c =
     let step = c.in-Err.ensures in
     let file : c.deref.result.now ≡ get_or (lists_of files) at [] = c.deref.ensures.value
     ∙ file_at files at c.index-files-collector.result [] c.loop-collector-test.true c.index-files-collector.is in
-    unlike (length c.take_file.new.cells) at c.args.rooms.now (lists_of files) c.take_file.new.cells c.take_file.new.works
+    unlike c.args.earlier (length c.take_file.new.cells) at c.args.rooms.now (lists_of files) c.take_file.new.cells c.take_file.new.works
     (record { items = []; at = [] }) c.in-Err.why
-    (over_again take_item (length c.loop-collector.cells) (length c.take_file.new.cells) (lists_of files)
+    (over_again (phase_item c.args.earlier) (length c.loop-collector.cells) (length c.take_file.new.cells) (lists_of files)
     c.loop-collector.works c.take_file.new.works at c.deref.result.now [] c.loop-collector.invariant.over
     (file_within files at c.loop-collector-test.true) file step.over step.others)
     step.found (file_within files at c.loop-collector-test.true)

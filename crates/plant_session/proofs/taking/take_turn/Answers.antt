@@ -1,7 +1,7 @@
 use Rattle.std.proofs.Common.{◌∙◌, ◌+◌, ap, sym, subst, refl, get_or, length, set, is_some}
 use Rattle.std.proofs.lemmas.List.{get_or_default}
 use Rattle.std.proofs.lemmas.List.Elements.{All-get_or}
-use Rattle.tape_audit.specs.Agendas.{take_item}
+use Rattle.tape_audit.specs.Agendas.{phase_item}
 use Rattle.tape_audit.specs.Tapes.{take_of}
 use Rattle.collector_pool.specs.Work.{IsRowOf}
 use Rattle.plant_session.specs.Cells.{AreLonger, IsTaken, tape_of}
@@ -16,7 +16,7 @@ pub lacks-requires : goal.lacks-requires
 lacks-requires g c =
     let works = c.args.works.now in
     let d = c.index-works-collector.result in
-    row_within take_item (length c.args.cells.now) c.args.collector c.args.place c.args.rows.now works
+    row_within (phase_item c.args.earlier) (length c.args.cells.now) c.args.collector c.args.place c.args.rows.now works
     (get_or works c.args.collector d) c.requires.over
     (get_or_default works c.args.collector d (get_or works c.args.collector d) c.requires.over.there) c.requires.within
 
@@ -38,14 +38,14 @@ returns-in-Err-clause-longer g c =
 
 pub advance-requires-clause-known : goal.advance-requires-clause-known
 advance-requires-clause-known g c =
-    (missing_take (length c.args.cells.now) c.args.collector c.args.place c.args.rows.now c.args.works.now _
+    (missing_take c.args.earlier (length c.args.cells.now) c.args.collector c.args.place c.args.rows.now c.args.works.now _
     c.index-works-collector.result c.index-works-collector-2.result c.requires.over c.requires.within c.requires.values
     (sym c.lacks.ensures.lacks ∙ c.if-not-lacks.false) c.lacks.ensures.next c.requires.caught).known
 
 pub advance-requires-clause-due : goal.advance-requires-clause-due
 advance-requires-clause-due g c =
     ap is_some (due_next c.args.collector c.args.place _ _ c.args.works.now _
-    (missing_take (length c.args.cells.now) c.args.collector c.args.place c.args.rows.now c.args.works.now _
+    (missing_take c.args.earlier (length c.args.cells.now) c.args.collector c.args.place c.args.rows.now c.args.works.now _
     c.index-works-collector.result c.index-works-collector-2.result c.requires.over c.requires.within c.requires.values
     (sym c.lacks.ensures.lacks ∙ c.if-not-lacks.false) c.lacks.ensures.next c.requires.caught))
 
@@ -53,38 +53,38 @@ pub returns-clause-over : goal.returns-clause-over
 returns-clause-over g c =
     let works = c.args.works.now in
     let e = c.index-works-collector-2.result in
-    subst (λ n. IsOver take_item n c.args.collector c.args.rows.now (set works c.args.collector c.advance.new.self))
-    (sym (taken_longer c.args.collector (c.args.place + 1) _ c.args.cells.now c.take_row.new.cells c.in_default.ensures.taken).as_many)
-    (over_turn take_item (length c.args.cells.now) c.args.collector _ c.args.rows.now works (get_or works c.args.collector e)
+    subst (λ n. IsOver (phase_item c.args.earlier) n c.args.collector c.args.rows.now (set works c.args.collector c.advance.new.self))
+    (sym (taken_longer c.args.collector _ _ c.args.cells.now c.take_row.new.cells c.in_default.ensures.taken).as_many)
+    (over_turn (phase_item c.args.earlier) (length c.args.cells.now) c.args.collector _ c.args.rows.now works (get_or works c.args.collector e)
     c.advance.new.self (get_or_default works c.args.collector e (get_or works c.args.collector e) c.requires.over.there)
     c.advance.ensures c.requires.over)
 
 pub returns-clause-found : goal.returns-clause-found
 returns-clause-found g c =
-    let m = missing_take (length c.args.cells.now) c.args.collector c.args.place c.args.rows.now c.args.works.now _
+    let m = missing_take c.args.earlier (length c.args.cells.now) c.args.collector c.args.place c.args.rows.now c.args.works.now _
     c.index-works-collector.result c.index-works-collector-2.result c.requires.over c.requires.within c.requires.values
     (sym c.lacks.ensures.lacks ∙ c.if-not-lacks.false) c.lacks.ensures.next c.requires.caught in
     let value = All-get_or (IsRowOf (length c.args.cells.now)) c.args.rows.now c.args.place _ c.requires.within c.requires.values in
     found_turn tape_of take_of c.args.collector c.args.place _ _ _ c.args.cells.now c.take_row.new.cells c.args.works.now _
     c.advance.new.self m c.advance.ensures refl
-    (taken_entry c.args.collector (c.args.place + 1) _ c.args.cells.now c.take_row.new.cells c.in_default.ensures.taken)
-    (all_known take_item (length c.args.cells.now) c.args.collector _ c.args.rows.now c.args.works.now c.requires.over value.tag)
+    (taken_entry c.args.collector _ _ c.args.cells.now c.take_row.new.cells c.in_default.ensures.taken)
+    (all_known (phase_item c.args.earlier) (length c.args.cells.now) c.args.collector _ c.args.rows.now c.args.works.now c.requires.over value.tag)
     c.requires.found
 
 pub returns-clause-caught : goal.returns-clause-caught
 returns-clause-caught g c =
     caught_row c.args.collector c.args.place _ _ c.args.works.now _ c.advance.new.self
-    (missing_take (length c.args.cells.now) c.args.collector c.args.place c.args.rows.now c.args.works.now _
+    (missing_take c.args.earlier (length c.args.cells.now) c.args.collector c.args.place c.args.rows.now c.args.works.now _
     c.index-works-collector.result c.index-works-collector-2.result c.requires.over c.requires.within c.requires.values
     (sym c.lacks.ensures.lacks ∙ c.if-not-lacks.false) c.lacks.ensures.next c.requires.caught) c.advance.ensures
 
 pub returns-clause-longer : goal.returns-clause-longer
 returns-clause-longer g c =
-    taken_longer c.args.collector (c.args.place + 1) _ c.args.cells.now c.take_row.new.cells c.in_default.ensures.taken
+    taken_longer c.args.collector _ _ c.args.cells.now c.take_row.new.cells c.in_default.ensures.taken
 
 pub returns-in-Err-clause-due : goal.returns-in-Err-clause-due
 returns-in-Err-clause-due g c =
     due_for c.args.collector c.args.place _ _ c.args.works.now c.index-works-collector.result c.in-Err.why
-    (missing_take (length c.args.cells.now) c.args.collector c.args.place c.args.rows.now c.args.works.now _
+    (missing_take c.args.earlier (length c.args.cells.now) c.args.collector c.args.place c.args.rows.now c.args.works.now _
     c.index-works-collector.result c.index-works-collector.result c.requires.over c.requires.within c.requires.values
     (sym c.lacks.ensures.lacks ∙ c.if-not-lacks.false) c.lacks.ensures.next c.requires.caught) c.in-Err.ensures.of_tag

@@ -18,9 +18,11 @@ returns-in-Ok-clause-session g c = λ name plan_name told planned. some_weaker c
   good = c.requires.base;
   planned = planned;
   work = record {
+    earlier_is = c.in-Ok.ensures.earlier;
+    phases_are = c.in-Ok.ensures.phases;
     collectors = ap (λ (v : Vec (Vec RawRow Global) Global). lists_of v.items) c.in-Ok.ensures.collectors;
     readers = ap (λ (v : Vec (Vec Query Global) Global). lists_of v.items) c.in-Ok.ensures.readers;
-    refreshers = c.in-Ok.ensures.refreshers;
+    turns = c.in-Ok.ensures.refreshers;
     inputs = c.in-Ok.ensures.inputs;
     sized = c.in-Ok.ensures.given;
   };

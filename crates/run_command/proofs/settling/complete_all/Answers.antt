@@ -2,7 +2,7 @@ use Rattle.std.proofs.Common.{List, Vec, refl, sym, subst, length}
 use Rattle.std.specs.Prelude.{All}
 use Rattle.std.specs.declared.alloc.Global.{Global}
 use Rattle.value_rows.specs.declared.raw.RawRow.{RawRow}
-use Rattle.tape_audit.specs.Agendas.{ask_item, row_item, take_item}
+use Rattle.tape_audit.specs.Agendas.{ask_item, row_item, phase_item}
 use Rattle.collector_pool.specs.Work.{IsRowOf}
 use Rattle.run_command.proofs.Making.{known_asks, known_row_asks, over_again}
 use Rattle.run_command.proofs.settling.complete_all.Goals as goal
@@ -22,7 +22,7 @@ row_askers_of-requires g c =
 
 pub complete_on-requires-clause-over : goal.complete_on-requires-clause-over
 complete_on-requires-clause-over g c = record {
-  collectors = over_again take_item (length c.args.cells.now) _ _ _ _ c.deref.ensures.value c.deref_mut.ensures.value c.in-Ok.ensures.over;
+  collectors = over_again (phase_item c.args.given.now.work.earlier) (length c.args.cells.now) _ _ _ _ c.deref.ensures.value c.deref_mut.ensures.value c.in-Ok.ensures.over;
   readers = over_again ask_item (length c.args.cells.now) _ _ _ _ c.deref-2.ensures.value c.deref_mut-2.ensures.value
       c.in-Ok-readers_of.ensures.over;
   row_readers = over_again row_item (length c.args.books.now) _ _ _ _ c.deref-3.ensures.value c.deref_mut-3.ensures.value

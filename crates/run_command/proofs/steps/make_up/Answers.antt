@@ -4,7 +4,7 @@ use Rattle.std.specs.declared.alloc.Global.{Global}
 use Rattle.calc_refresh.specs.Lists.{lists_of}
 use Rattle.value_rows.specs.declared.asked.Query.{Query}
 use Rattle.value_rows.specs.declared.raw.RawRow.{RawRow}
-use Rattle.tape_audit.specs.Agendas.{ask_item, row_item, take_item}
+use Rattle.tape_audit.specs.Agendas.{ask_item, row_item, phase_item}
 use Rattle.tape_audit.specs.Tapes.{ask_of, take_of}
 use Rattle.collector_pool.specs.Work.{IsRowOf}
 use Rattle.plant_session.specs.Cells.{AreAllShown, IsAsked, IsCommitted, IsTaken}
@@ -76,9 +76,9 @@ refresh_missing-requires-clause-within g c =
 
 pub returns-clause-made : goal.returns-clause-made
 returns-clause-made g c = ok_weaker c.refresh_missing.result (λ refreshed. record {
-  takes = subst (λ (l : List (Vec RawRow Global)). AreAllShown take_of take_item (lists_of l) c.refresh_missing.new.cells)
+  takes = subst (λ (l : List (Vec RawRow Global)). AreAllShown take_of (phase_item c.args.given.now.work.earlier) (lists_of l) c.refresh_missing.new.cells)
       c.deref.ensures.value
-      (c.refresh_missing.ensures.takes _ (c.commit_all.ensures.takes _ (c.ask_missing.ensures.takes _ c.in_default.ensures.shown)));
+      (c.refresh_missing.ensures.takes _ _ (c.commit_all.ensures.takes _ _ (c.ask_missing.ensures.takes _ _ c.in_default.ensures.shown)));
   asks = subst (λ (l : List (Vec Query Global)). AreAllShown ask_of ask_item (lists_of l) c.refresh_missing.new.cells)
       c.deref-3.ensures.value (c.refresh_missing.ensures.asks _ (c.commit_all.ensures.asks _ c.in-Ok-Ok.ensures.shown));
   row_asks = subst (λ (l : List (Vec Query Global)). AreTapesWhole tape_of row_ask_of row_item (lists_of l) c.refresh_missing.new.books)

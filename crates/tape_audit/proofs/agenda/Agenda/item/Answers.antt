@@ -1,4 +1,5 @@
-use Rattle.std.proofs.Common.{◌∙◌, arith}
+use Rattle.std.proofs.Common.{◌∙◌, ap, arith, get_or}
+use Rattle.tape_audit.specs.Agendas.{take_item}
 use Rattle.tape_audit.proofs.Numbers.{ask_there, asks_length, row_ask_there, row_asks_length, take_there, takes_length}
 use Rattle.tape_audit.proofs.agenda.Agenda.item.Goals as goal
 
@@ -6,8 +7,10 @@ pub returns-in-Takes : goal.returns-in-Takes
 returns-in-Takes c =
     let a = c.args.self.now in
     let rows = c.in-Takes.rows in
-    c.take_item.ensures ∙ take_there a rows c.args.place _ c.in-Takes.is
-    (omega (arith, c.requires.within, takes_length a rows c.in-Takes.is))
+    let earlier = c.in-Takes.earlier in
+    c.take_item.ensures
+    ∙ ap (λ n. take_item a.worker n (get_or rows.now c.args.place _)) c.number_in.ensures ∙ take_there a rows earlier c.args.place _ c.in-Takes.is
+    (omega (arith, c.requires.within, takes_length a rows earlier c.in-Takes.is))
 
 pub returns-in-Asks : goal.returns-in-Asks
 returns-in-Asks c =

@@ -1,0 +1,3 @@
+pub mod Drills
+pub mod Phases
+pub mod Words

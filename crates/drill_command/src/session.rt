@@ -1,0 +1,140 @@
+// The session of a drill in a store.
+ghost use Rattle.std.specs.Prelude.{◌≡◌, [], Err, ◌≤◌, IfErr, IfSome, None, OnOk, length, map, vec_len};
+ghost use Rattle.std.specs.Option.{IsSome};
+ghost use Rattle.calc_refresh.specs.Lists.{lists_of};
+ghost use Rattle.book_store.specs.Groups.{Devices};
+ghost use Rattle.plant_store.specs.Openings.{AreRestSame};
+ghost use Rattle.plant_store.specs.Shelves.{HasPlacesOf, IsShelfFor};
+ghost use Rattle.session_files.specs.Plans.{IsGoodBase};
+ghost use Rattle.run_command.specs.Runs.{AreDefined, IsOpen};
+ghost use Rattle.run_command.specs.Steps.{AreGivenFor};
+ghost use Rattle.drill_command.specs.Drills.{IsRunInPhases, IsUnopened, drill_status};
+
+use crate::phases::hold_both;
+use disk_model::Store;
+use plant_status::{Passes, Status};
+use plant_store::{OpenPlant, Shelf, open_plant, shelf_for};
+use run_command::{Boarding, Given, Ran, boarding_for, close};
+use session_report::Session;
+use snapshot_table::Board;
+use std::alloc::Global;
+use std::sync::Wait;
+use std::thread::Threads;
+use tag_base::Base;
+
+// Opens the devices of a base in a store, and holds the session of two phases over them.
+pub(crate) fn hold_in<S: Store, P: Passes, R: Threads + Wait + Sync>(
+    rt: &R,
+    alloc: Global,
+    store: &mut S,
+    passes: &mut P,
+    base: &Base,
+    first: &Given,
+    second: &Given,
+) -> Ran
+    requires good { IsGoodBase base.now }
+    requires first { AreGivenFor (length base.now.tags.items) (length base.now.groups.items) first.now }
+    requires second { AreGivenFor (length base.now.tags.items) (length base.now.groups.items) second.now }
+    requires inputs { lists_of first.now.inputs.items ≡ map (λ d. d.inputs.items) base.now.groups.items }
+    requires same_inputs { lists_of second.now.inputs.items ≡ lists_of first.now.inputs.items }
+    requires no_readers { first.now.work.readers.items ≡ [] }
+    requires no_more_readers { second.now.work.readers.items ≡ [] }
+    ensures held { OnOk result.answer (IsSome result.session) }
+    ensures session { IfSome result.session (IsRunInPhases S.Dev.trace S.Dev.ticks S.Dev.fault_count base.now first.now second.now
+        (S.device_at store.old) (S.device_at store.new) (S.fault_count store.old) (S.fault_count store.new)
+        (P.stops passes.old) (P.stops passes.new) result.answer) }
+    ensures unheld { result.session ≡ None → IfErr result.answer (IsUnopened base.now (S.device_at store.old) (S.device_at store.new)
+        (S.fault_count store.old) (S.fault_count store.new)) }
+    ensures unstopped { result.session ≡ None → P.stops passes.new ≡ P.stops passes.old }
+{
+    let Ok(shelf) = shelf_for(alloc, base) else {
+        return refused(Status::WantOfMemory);
+    };
+    let Ok(boarding) = boarding_for(rt, alloc, base.tags.len() as u32, 0) else {
+        return refused(Status::WantOfMemory);
+    };
+    let Boarding {
+        board, posters, ..
+    } = boarding;
+    match open_plant(
+        rt,
+        alloc,
+        store,
+        base,
+        &shelf,
+        &second.rooms,
+        &board,
+        posters,
+    ) {
+        Ok(open) => {
+            let (answer, session) =
+                hold_open(rt, alloc, store, passes, base, first, second, shelf, open, &board);
+            Ran {
+                answer,
+                session: Some(session),
+            }
+        }
+        Err(why) => refused(drill_status(why)),
+    }
+}
+
+// No session is held.
+pub(crate) fn refused(why: Status) -> Ran
+    ensures answer { result.answer ≡ Err why }
+    ensures none { result.session ≡ None }
+{
+    Ran {
+        answer: Err(why),
+        session: None,
+    }
+}
+
+// Holds the session of a plant that is open, and gives its devices back.
+fn hold_open<S: Store, P: Passes, R: Threads + Wait + Sync>(
+    rt: &R,
+    alloc: Global,
+    store: &mut S,
+    passes: &mut P,
+    base: &Base,
+    first: &Given,
+    second: &Given,
+    shelf: Shelf,
+    plant: OpenPlant<S::Dev>,
+    board: &Board,
+) -> (Result<String, Status>, Session)
+    requires good { IsGoodBase base.now }
+    requires first { AreGivenFor (length base.now.tags.items) (length base.now.groups.items) first.now }
+    requires second { AreGivenFor (length base.now.tags.items) (length base.now.groups.items) second.now }
+    requires inputs { lists_of first.now.inputs.items ≡ map (λ d. d.inputs.items) base.now.groups.items }
+    requires same_inputs { lists_of second.now.inputs.items ≡ lists_of first.now.inputs.items }
+    requires no_readers { first.now.work.readers.items ≡ [] }
+    requires no_more_readers { second.now.work.readers.items ≡ [] }
+    requires shelf { IsShelfFor base.now shelf }
+    requires places { HasPlacesOf shelf (S.has_place store.old) }
+    requires cells { vec_len plant.cells ≡ length base.now.tags.items }
+    requires books { vec_len plant.books ≡ length base.now.groups.items }
+    requires defined { AreDefined base.now.groups.items plant.books.items }
+    requires board { vec_len plant.cells ≤ length board.now }
+    ensures { (old : Devices) → IsOpen S.Dev.trace S.Dev.ticks S.Dev.fault_count base.now old plant.cells.items plant.books.items
+        → AreRestSame base.now old (S.device_at store.old)
+        → IsRunInPhases S.Dev.trace S.Dev.ticks S.Dev.fault_count base.now first.now second.now old (S.device_at store.new)
+        (S.fault_count store.old) (S.fault_count store.new) (P.stops passes.old) (P.stops passes.new) result.0 result.1 }
+{
+    let OpenPlant { cells, books } = plant;
+    let ended = hold_both(rt, alloc, cells, books, board, first, second, passes);
+    let (answer, session) = close(alloc, store, base, second, shelf, ended);
+    match answer {
+        Ok(text) => (Ok(text), session),
+        Err(why) => (Err(drill_status(why)), session),
+    }
+}
+
+// What is told of a refusal of a drill.
+fn drill_status(why: Status) -> Status
+    ensures { result ≡ drill_status why }
+{
+    match why {
+        Status::DeviceFault { .. } => Status::WantOfMemory,
+        why => why,
+    }
+}

@@ -1,0 +1,78 @@
+use Rattle.std.proofs.Common.{◌≡◌, [], List, Result, Vec, ap, arith, length, refl, subst, sym}
+use Rattle.std.specs.Prelude.{IfErr}
+use Rattle.std.specs.List.{AllZip}
+use Rattle.std.specs.declared.alloc.Global.{Global}
+use Rattle.tag_cell.specs.Told.{Told as Cell}
+use Rattle.group_book.specs.Told.{Told as Book}
+use Rattle.plant_status.specs.declared.status.Status.{Status}
+use Rattle.run_command.specs.Copies.{AreCopied, AreCopiedGroups}
+use Rattle.run_command.specs.Runs.{IsContinued, IsContinuedGroup, OfSettling}
+use Rattle.run_command.specs.Sessions.{OfNone}
+use Rattle.run_command.specs.Runs as runs
+use Rattle.run_command.proofs.Continued.{continued, groups_continued, groups_still, inputs_copied, still}
+use Rattle.run_command.proofs.Results.{err_weaker}
+use Rattle.run_command.proofs.phase.hold_phase.Goals as goal
+
+pub hold-requires-clause-inputs : goal.hold-requires-clause-inputs
+hold-requires-clause-inputs g c =
+    inputs_copied _ _ c.args.books.items c.in-Ok.ready.groups.items c.requires.inputs
+    (subst (λ (l : List (Book g.row.D.Denot)). AreCopiedGroups l c.in-Ok.ready.groups.items) c.deref-2.ensures.value c.in-Ok.ensures.groups)
+
+pub returns-in-Ok-clause-same_cells : goal.returns-in-Ok-clause-same_cells
+returns-in-Ok-clause-same_cells g c = λ none.
+    continued c.args.cells.items c.hold.result.cells.items c.in-Ok.ready.tags.items
+    (omega (
+      arith,
+      c.in-Ok.ensures.tags_are,
+      ap length c.deref.ensures.value,
+      c.hold.ensures.cells,
+      c.in-Ok.ready.tags.ok,
+      c.hold.result.cells.ok,
+      c.args.cells.ok,
+      c.deref.ensures.len,
+    ))
+    (subst (λ (l : List (Cell g.row.D.Denot)). AreCopied l c.in-Ok.ready.tags.items) c.deref.ensures.value c.in-Ok.ensures.tags)
+    (c.hold.ensures.known none)
+
+pub returns-in-Ok-clause-same_books : goal.returns-in-Ok-clause-same_books
+returns-in-Ok-clause-same_books g c = λ none.
+    groups_continued c.args.books.items c.hold.result.books.items c.in-Ok.ready.groups.items
+    (omega (
+      arith,
+      c.in-Ok.ensures.groups_are,
+      ap length c.deref-2.ensures.value,
+      c.hold.ensures.books,
+      c.in-Ok.ready.groups.ok,
+      c.hold.result.books.ok,
+      c.args.books.ok,
+      c.deref-2.ensures.len,
+    ))
+    (subst (λ (l : List (Book g.row.D.Denot)). AreCopiedGroups l c.in-Ok.ready.groups.items) c.deref-2.ensures.value c.in-Ok.ensures.groups)
+    (c.hold.ensures.known_groups none)
+
+pub returns-in-Ok-clause-undone : goal.returns-in-Ok-clause-undone
+returns-in-Ok-clause-undone g c = err_weaker c.hold.result.answer
+    (λ why is. OfSettling c.in-Ok.ready.tags.items c.in-Ok.ready.groups.items
+    (subst (λ (l : List (Cell g.row.D.Denot)). AreCopied l c.in-Ok.ready.tags.items) c.deref.ensures.value c.in-Ok.ensures.tags)
+    (subst (λ (l : List (Book g.row.D.Denot)). AreCopiedGroups l c.in-Ok.ready.groups.items) c.deref-2.ensures.value c.in-Ok.ensures.groups)
+    is)
+    c.hold.ensures.refused
+
+pub returns-in-Err-clause-notes : goal.returns-in-Err-clause-notes
+returns-in-Err-clause-notes g c = OfNone c.unready.ensures.notes refl
+
+pub returns-in-Err-clause-same_cells : goal.returns-in-Err-clause-same_cells
+returns-in-Err-clause-same_cells g c = λ none.
+    subst (λ (v : Vec (Cell g.row.D.Denot) Global). AllZip IsContinued c.args.cells.items v.items) (sym c.unready.ensures.cells)
+    (still c.args.cells.items)
+
+pub returns-in-Err-clause-same_books : goal.returns-in-Err-clause-same_books
+returns-in-Err-clause-same_books g c = λ none.
+    subst (λ (v : Vec (Book g.row.D.Denot) Global). AllZip IsContinuedGroup c.args.books.items v.items) (sym c.unready.ensures.books)
+    (groups_still c.args.books.items)
+
+pub returns-in-Err-clause-undone : goal.returns-in-Err-clause-undone
+returns-in-Err-clause-undone g c =
+    subst (λ (r : Result (Unit {0}) Status). IfErr r (runs.IsUndone c.args.given.now c.args.cells.items c.args.books.items
+    c.unready.result.cells.items c.unready.result.books.items c.unready.result.notes.items)) (sym c.unready.ensures.answer)
+    (runs.OfNone refl)
