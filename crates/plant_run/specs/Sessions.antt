@@ -27,12 +27,12 @@ pub record IsRunSo {D : Type 0} (trace : D → Option Trace) (ticks faults : D �
     (stops_before stops_now : ℕ) (o : Outcome) : Type 0 where
   pub answer : Result (String Global) Status
   pub held : OnOk answer (IsSome o.session)
-  pub session : IfSome o.session (IsSession trace ticks faults base plan before.scene.files before.scene.devices now.scene.devices before.scene.device_faults
-      now.scene.device_faults stops_before stops_now answer)
-  pub promised : IfSome o.session (IsPromised base plan before.scene.files before.scene.devices now.scene.devices before.scene.device_faults now.scene.device_faults
-      answer)
-  pub unheld : o.session ≡ None → IfErr answer (IsUnheld base plan before.scene.files before.scene.devices now.scene.devices before.scene.device_faults
-      now.scene.device_faults)
+  pub session : IfSome o.session (IsSession trace ticks faults base plan before.scene.files before.scene.devices now.scene.devices
+      before.scene.device_faults now.scene.device_faults stops_before stops_now answer)
+  pub promised : IfSome o.session (IsPromised base plan before.scene.files before.scene.devices now.scene.devices
+      before.scene.device_faults now.scene.device_faults answer)
+  pub unheld : o.session ≡ None → IfErr answer (IsUnheld base plan before.scene.files before.scene.devices now.scene.devices
+      before.scene.device_faults now.scene.device_faults)
   pub file_faults : o.session ≡ None → now.scene.file_faults ≡ faults_after answer before.scene.file_faults
   pub no_file_fault : IsSome o.session → now.scene.file_faults ≡ before.scene.file_faults
   pub whose : o.session ≡ None → IfErr answer (IsFaultOfPlanned base plan before.scene.files now.scene.failed_name)

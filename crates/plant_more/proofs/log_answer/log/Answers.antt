@@ -3,7 +3,7 @@ use Rattle.std.specs.Prelude.{option_map}
 use Rattle.plant_more.specs.Endings.{scene}
 use Rattle.plant_more.specs.Logs.{IsLogSo}
 use Rattle.plant_more.specs.Words.{named}
-use Rattle.plant_more.proofs.Words.{no_words, some_same}
+use Rattle.plant_more.proofs.Understood.{no_words, some_same}
 use Rattle.plant_more.proofs.log_answer.log.Goals as goal
 
 pub returns-in-Some-clause-log : goal.returns-in-Some-clause-log
