@@ -5,6 +5,7 @@ use crate::plants::{NO_FAULT, text, told, words};
 use byte_io::{MemFiles, MemSink, MemSource};
 use disk_model::{Disk, Failed, MemDisk, MemStore, Pick, Store};
 use plant_run::{OpenPasses, Outcome, run};
+use plant_status::Status;
 use std::alloc::Global;
 use std::sync::Wait;
 use std::sync::atomic::{AtomicU64, Ordering};
@@ -19,6 +20,7 @@ base.toml: [[tag]]|name = \"T1\"|exc_dev = 0|exc_max = 1000000|comp_dev = 0|comp
 first.toml: [[collector]]|file = \"first.csv\"|
 second.toml: [[collector]]|file = \"second.csv\"|
 asks.toml: [[reader]]|file = \"asks.csv\"|
+none.toml: |
 first.csv: T1,0,0|S1,0,10|T1,3000,0|S1,10,11|
 second.csv: T1,4000,9|S1,20,15|T1,1500,60|S1,30,14|
 asks.csv: row,g,m,0|row,g,m,1|row,g,m,2|snap,T1|snap,S1|";
@@ -193,6 +195,22 @@ fn is_told(rows: &str, least: u64, printed: &str, alloc: Global) -> Result<bool,
     Ok(false)
 }
 
+// Whether this is the version of the first session's save, or, and it is that where all was done, of the second's.
+fn is_a_save(version: &str, done: bool) -> bool {
+    version == "true [3]" || (!done && version == "true [1]")
+}
+
+// Whether a session is done, and how many records its group had of its tag when it was last saved before.
+fn saved(alloc: Global, opened: &Outcome) -> Result<String, Fail> {
+    match &opened.session {
+        Some(session) if session.groups.len() == 1 => {
+            let versions = &session.groups[0].opening.versions;
+            Ok(format!(in alloc; "{} {:?}", opened.status == Status::Done, versions)?)
+        }
+        _ => Err("no group".into()),
+    }
+}
+
 // How many values of the tags are acknowledged; two are where no session was held.
 fn acknowledged(ended: &Outcome) -> (u64, u64) {
     match &ended.session {
@@ -202,7 +220,8 @@ fn acknowledged(ended: &Outcome) -> (u64, u64) {
 }
 
 // The second session, whose devices stop after so many calls: whether no call was stopped. Whatever the crash leaves is opened again, and
-// tells a first part of the values with all that were acknowledged, and the group's rows from scratch.
+// tells a first part of the values with all that were acknowledged, the group's rows from scratch, and, of
+// the group, the version that was saved last or the one that was being saved.
 fn stopped_at<R: Threads + Wait + Sync>(rt: &R, alloc: Global, most: u64) -> Result<bool, Fail> {
     let calls = AtomicU64::new(0);
     let mut store = StopStore {
@@ -223,6 +242,10 @@ fn stopped_at<R: Threads + Wait + Sync>(rt: &R, alloc: Global, most: u64) -> Res
         let printed = told.as_str();
         if !is_told(LINES, lines, printed, alloc)? || !is_told(STEPS, steps, printed, alloc)? {
             return Err("what is left is not told".into());
+        }
+        let opened = ended(rt, alloc, "run base.toml none.toml", &mut left)?;
+        if !is_a_save(saved(alloc, &opened)?.as_str(), outcome.status == Status::Done) {
+            return Err("another version was saved".into());
         }
     }
     Ok(calls.load(Ordering::SeqCst) <= most)

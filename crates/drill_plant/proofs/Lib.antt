@@ -1,0 +1,3 @@
+pub mod Naming
+pub mod Growing
+pub mod Sound

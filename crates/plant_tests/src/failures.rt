@@ -1,0 +1,94 @@
+// Sessions of a small plant in which one call after another fails.
+use crate::plants::{NO_FAULT, only, text, told};
+use byte_io::MemFiles;
+use disk_model::MemStore;
+use std::alloc::Global;
+use std::sync::Wait;
+use std::test::Fail;
+use std::thread::Threads;
+
+// Names and texts of files; a bar stands for a line feed.
+const FILES: &str = "\
+base.toml: [[tag]]|name = \"T1\"|exc_dev = 0|exc_max = 1000000|comp_dev = 0|comp_min = 0|comp_max = 1000000|\
+[[group]]|name = \"g\"|tags = [\"T1\"]|start = 0|period = 1000|[[group.calc]]|name = \"m\"|formula = \"avg('T1')\"|
+plan.toml: [[collector]]|file = \"1.csv\"|[[reader]]|file = \"2.csv\"|
+1.csv: T1,0,0|T1,3000,0|T1,4000,9|T1,1500,60|
+2.csv: row,g,m,3|";
+
+// What is told in turn, as one read after another fails, until none does.
+const READS: &str = "\
+5 fault: read base|
+5 fault: read plan|
+5 fault: read collector 1|
+5 fault: read reader 1|
+0 tag T1 taken=4 records=3 kept=2 late=1 held=4000,9|reply 1 1 none|group g windows=3 refreshes=1 evals=3|calc g m 2 20|";
+
+// What is told in turn, as one write after another fails, until none does.
+const WRITES: &str = "\
+6|
+0 tag T1 taken=4 records=3 kept=2 late=1 held=4000,9|reply 1 1 none|group g windows=3 refreshes=1 evals=3|calc g m 2 20|";
+
+// More calls than there are.
+const MOST: u64 = 64;
+
+// What a session tells over new devices, of whose reads and writes those with these numbers fail.
+fn ended<R: Threads + Wait + Sync>(
+    rt: &R,
+    alloc: Global,
+    read: u64,
+    write: u64,
+) -> Result<String, Fail> {
+    let mut files = Vec::new(alloc);
+    for row in FILES.lines() {
+        let (name, field) = row.split_once(": ").ok_or("a file")?;
+        files.push((String::from_str(alloc, name)?, text(alloc, field)?.into_bytes()))?;
+    }
+    let mut files = MemFiles::new(files, only(alloc, read)?);
+    let mut store = MemStore::new(Vec::new(alloc));
+    let line = "historian run base.toml plan.toml";
+    let fail = (NO_FAULT.0, write);
+    told(rt, alloc, line, b"", &mut files, &mut store, fail)
+}
+
+// Whether what is told of each number from 0 on is the row that it was before or the next one, up to the last.
+fn are_told_in_turn<R: Threads + Wait + Sync>(
+    rt: &R,
+    alloc: Global,
+    rows: &str,
+    reads: bool,
+) -> Result<bool, Fail> {
+    let mut rest = rows.lines();
+    let mut want = text(alloc, rest.next().ok_or("a row")?)?;
+    for call in 0..MOST {
+        let (read, write) = if reads {
+            (call, NO_FAULT.1)
+        } else {
+            (NO_FAULT.0, call)
+        };
+        let told = ended(rt, alloc, read, write)?;
+        while told.as_str().trim_end() != want.as_str().trim_end() {
+            match rest.next() {
+                Some(row) => want = text(alloc, row)?,
+                None => return Ok(false),
+            }
+        }
+        if told.as_str().starts_with("0 ") {
+            return Ok(rest.next().is_none());
+        }
+    }
+    Ok(false)
+}
+
+#[test]
+fn a_read_that_fails_is_told_of_its_file(rt: HostRuntime) -> Result<(), Fail> {
+    let told = are_told_in_turn(&rt, rt.alloc(), READS, true)?;
+    assert!(rt; told);
+    Ok(())
+}
+
+#[test]
+fn a_write_that_fails_is_told_by_the_status(rt: HostRuntime) -> Result<(), Fail> {
+    let told = are_told_in_turn(&rt, rt.alloc(), WRITES, false)?;
+    assert!(rt; told);
+    Ok(())
+}
