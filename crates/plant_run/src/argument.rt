@@ -5,13 +5,15 @@ ghost use Rattle.std.specs.Process.{exit_status};
 ghost use Rattle.std.specs.Vec.Iter.{into_iter_items};
 ghost use Rattle.plant_status.specs.Status.{code_of};
 ghost use Rattle.plant_run.specs.Argument.{status_of_args};
-ghost use Rattle.plant_run.specs.Run.{EndsWithCode, IsTold, KeepsFor, MeansNothing, world};
-ghost use Rattle.plant_run.specs.CommandLine.{form_of, log_words, plan_words};
+ghost use Rattle.command_text.specs.Printing.{IsTold};
+ghost use Rattle.plant_more.specs.Words.{log_words};
+ghost use Rattle.plant_run.specs.Run.{EndsWithCode, KeepsFor, MeansNothing, world};
+ghost use Rattle.plant_run.specs.CommandLine.{form_of, plan_words};
 ghost use Rattle.plant_run.specs.Sessions.{HoldsNone, LogsWithCode, RunsWithCode};
 
 use crate::program::run;
-use crate::top_call::refuse;
 use byte_io::{Files, Sink, Source};
+use command_text::refuse;
 use disk_model::Store;
 use plant_status::{Passes, Status, code};
 use std::alloc::{AllocError, Global};

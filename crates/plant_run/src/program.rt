@@ -1,16 +1,17 @@
 // The top call.
-ghost use Rattle.std.specs.Prelude.{◌≡◌, ◌↔◌, ℕ, IfNone, IfSome, List, None, OnSome, Some, map, string_bytes};
-ghost use Rattle.std.specs.Option.{IsSome};
-ghost use Rattle.plant_run.specs.CommandLine.{form_of, log_words, plan_words};
+ghost use Rattle.std.specs.Prelude.{◌≡◌, ◌↔◌, ℕ, List, None, Some, map, string_bytes};
+ghost use Rattle.plant_more.specs.Words.{log_words};
+ghost use Rattle.plant_run.specs.CommandLine.{form_of, plan_words};
 ghost use Rattle.plant_run.specs.Run.{EndsIn, KeepsFor, MeansNothing, world};
-ghost use Rattle.plant_run.specs.Sessions.{HoldsNone, IsLogSo, IsOfLog, IsRunSo};
+ghost use Rattle.plant_run.specs.Sessions.{HoldsNone, IsHandedOn, IsLogHandedOn, IsRunSo};
 
-use crate::command_line::{Planned, log_words, plan_words};
-use crate::top_call::{answer, finish};
+use crate::command_line::plan_words;
+use crate::top_call::answer;
 use byte_io::{Files, Sink, Source};
+use command_text::finish;
 use commit_log::LogHistory;
 use disk_model::Store;
-use log_command::{Logged, log_plan};
+use plant_more::{LogOutcome, Planned, log, log_words};
 use plant_status::{Passes, Status};
 use run_command::{Ran, run_plan};
 use session_report::Session;
@@ -51,7 +52,7 @@ pub fn run<R: Threads + Wait + Sync, I: Source, F: Files, O: Sink, S: Store, P: 
 
     // The logging of a plan: its session, and what is printed of it.
     ensures log { (base plan : List ℕ) → log_words (map string_bytes words.now) ≡ Some (base, plan)
-        → IsLogSo S.Dev.trace S.Dev.ticks S.Dev.fault_count base plan
+        → IsLogHandedOn S.Dev.trace S.Dev.ticks S.Dev.fault_count base plan
         (world (I.meaning input.old) (O.meaning out.old) (F.told files.old) (F.fault_count files.old) (F.failed_name files.old)
         (S.device_at store.old) (S.fault_count store.old))
         (world (I.meaning input.new) (O.meaning out.new) (F.told files.new) (F.fault_count files.new) (F.failed_name files.new)
@@ -100,7 +101,7 @@ fn run_other<R: Threads + Wait + Sync, I: Source, F: Files, O: Sink, S: Store, P
 ) -> Outcome
     requires { plan_words (map string_bytes words.now) ≡ None }
     ensures log { (base plan : List ℕ) → log_words (map string_bytes words.now) ≡ Some (base, plan)
-        → IsLogSo S.Dev.trace S.Dev.ticks S.Dev.fault_count base plan
+        → IsLogHandedOn S.Dev.trace S.Dev.ticks S.Dev.fault_count base plan
         (world (I.meaning input.old) (O.meaning out.old) (F.told files.old) (F.fault_count files.old) (F.failed_name files.old)
         (S.device_at store.old) (S.fault_count store.old))
         (world (I.meaning input.new) (O.meaning out.new) (F.told files.new) (F.fault_count files.new) (F.failed_name files.new)
@@ -119,10 +120,10 @@ fn run_other<R: Threads + Wait + Sync, I: Source, F: Files, O: Sink, S: Store, P
     ensures untouched { result.status ≡ Status.BadWords → input.new ≡ input.old }
 {
     match log_words(words) {
-        Some(Planned { base, plan }) => {
-            let Logged { answer, log } = log_plan(rt, alloc, files, store, passes, base, plan);
+        Some(_) => {
+            let LogOutcome { status, log } = log(rt, alloc, words, files, out, store, passes);
             Outcome {
-                status: finish(answer, out),
+                status,
                 session: session_of(alloc, log),
             }
         }
@@ -135,10 +136,7 @@ fn run_other<R: Threads + Wait + Sync, I: Source, F: Files, O: Sink, S: Store, P
 
 /// The session of a log, if one was written.
 fn session_of(alloc: Global, log: Option<LogHistory>) -> Option<Session>
-    ensures none { IfNone log (result ≡ None) }
-    ensures some { OnSome log (IsSome result) }
-    ensures log { IfSome result (λ s. IfSome log (IsOfLog s)) }
-    ensures alone { OnSome result (IsSome log) }
+    ensures { IsHandedOn log result }
 {
     let log = log?;
     Some(Session {
