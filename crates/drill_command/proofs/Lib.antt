@@ -1,3 +1,5 @@
 pub mod New
 pub mod Promises
 pub mod Understood
+pub mod Lengths
+pub mod Undone

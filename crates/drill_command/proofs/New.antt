@@ -21,7 +21,7 @@ use Rattle.run_command.specs.Headline.{AreOpened, IsGroupOpened, IsTagOpened}
 use Rattle.drill_command.specs.Drills.{AreNew, IsGroupNew, IsTagNew, fresh}
 
 -- the origin of a tag that was made so
-origin_of : TagDef → Origin
+abbrev origin_of : TagDef → Origin
 origin_of def = record { tuning = def.tuning; step = def.step }
 
 -- an empty image stands for a history without a value

@@ -31,15 +31,15 @@ promised number tags events stops_before stops_now answer s is =
       groups = sound_groups memory_trace memory_ticks memory_faults is.base fresh is.new run.cells run.books s run.over;
       new = λ none. all_new is.base s (opened_as none);
       done = if_done answer opened_as
-          (λ was text it. once (done memory_trace memory_ticks memory_faults is.base fresh is.new is.second run.cells run.books s run.over
+          (λ was text it. once _ is.base _ (string_bytes text) (done memory_trace memory_ticks memory_faults is.base fresh is.new is.second run.cells run.books s run.over
           _ 1 _ [] [] (string_bytes text) work.good work.second_is was it)) run.done;
     }
   where
     -- no refresher has a turn, so each group has the turn of the phase before
-    once : {rows : List (List RawRow)} {text : List ℕ} {base : Base} {earlier : ℕ}
+    once : (earlier : ℕ) (base : Base) (rows : List (List RawRow)) (text : List ℕ)
         → IsDoneSo (phase_item earlier) (λ i. 1 + turns_in i []) base rows [] s text
         → IsDoneSo (phase_item earlier) (λ i. 1) base rows [] s text
-    once it = record {
+    once earlier base rows text it = record {
       mixed = it.mixed;
       refreshed = λ i d g below. it.refreshed i d g below;
       same = it.same;

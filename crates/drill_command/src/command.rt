@@ -61,5 +61,13 @@ fn run_drill<P: Passes, R: Threads + Wait + Sync>(
     ensures unstopped { result.session ≡ None → P.stops passes.new ≡ P.stops passes.old }
 {
     let mut store = MemStore::new(Vec::new(alloc));
-    hold_in(rt, alloc, &mut store, passes, &drill.base, &drill.first, &drill.second)
+    hold_in(
+        rt,
+        alloc,
+        &mut store,
+        passes,
+        &drill.base,
+        &drill.first,
+        &drill.second,
+    )
 }

@@ -57,10 +57,29 @@ pub fn hold_both<D: Disk + Send, P: Passes, R: Threads + Wait + Sync>(
     ensures undone { IfErr result.answer (IsUndoneOfBoth first.now second.now cells.items books.items result.cells.items
         result.books.items result.notes.items) }
 {
-    let ended = hold_phase(rt, alloc, cells, books, board, Vec::new(alloc), first, passes);
-    match ended.answer {
-        Ok(()) => go_on(rt, alloc, ended, board, second, passes),
-        Err(_) => ended,
+    let Ended {
+        cells,
+        books,
+        notes,
+        answer,
+    } = hold_phase(
+        rt,
+        alloc,
+        cells,
+        books,
+        board,
+        Vec::new(alloc),
+        first,
+        passes,
+    );
+    match answer {
+        Ok(()) => go_on(rt, alloc, cells, books, notes, board, second, passes),
+        Err(why) => Ended {
+            cells,
+            books,
+            notes,
+            answer: Err(why),
+        },
     }
 }
 
@@ -69,33 +88,29 @@ pub fn hold_both<D: Disk + Send, P: Passes, R: Threads + Wait + Sync>(
 fn go_on<D: Disk + Send, P: Passes, R: Threads + Wait + Sync>(
     rt: &R,
     alloc: Global,
-    ended: Ended<D>,
+    cells: Vec<Cell<D>>,
+    books: Vec<Book<D>>,
+    mut notes: Vec<WorkerNote>,
     board: &Board,
     second: &Given,
     passes: &mut P,
 ) -> Ended<D>
-    requires few_cells { vec_len ended.cells < 2 ^ 32 }
-    requires few_books { vec_len ended.books < 2 ^ 32 }
-    requires second { AreGivenFor (vec_len ended.cells) (vec_len ended.books) second.now }
-    requires inputs { AreInputs (vec_len ended.cells) (lists_of second.now.inputs.items) ended.books.items }
-    requires board { vec_len ended.cells ≤ length board.now }
+    requires few_cells { vec_len cells < 2 ^ 32 }
+    requires few_books { vec_len books < 2 ^ 32 }
+    requires second { AreGivenFor (vec_len cells) (vec_len books) second.now }
+    requires inputs { AreInputs (vec_len cells) (lists_of second.now.inputs.items) books.items }
+    requires board { vec_len cells ≤ length board.now }
     requires no_readers { second.now.work.readers.items ≡ [] }
-    ensures cells { vec_len result.cells ≡ vec_len ended.cells }
-    ensures books { vec_len result.books ≡ vec_len ended.books }
-    ensures notes { AreNotesBehind D second.now.work (P.stops passes.old) (P.stops passes.new) ended.notes.items result.notes.items }
+    ensures cells { vec_len result.cells ≡ vec_len cells }
+    ensures books { vec_len result.books ≡ vec_len books }
+    ensures notes { AreNotesBehind D second.now.work (P.stops passes.old) (P.stops passes.new) notes.items result.notes.items }
     ensures made { OnOk result.answer (IsMade second.now result.cells.items result.books.items) }
     ensures pulled { OnOk result.answer (ArePulled (lists_of second.now.inputs.items) result.cells.items result.books.items) }
-    ensures same_cells { (IsOfOpening result.answer → ⊥) → AllZip IsContinued ended.cells.items result.cells.items }
-    ensures same_books { (IsOfOpening result.answer → ⊥) → AllZip IsContinuedGroup ended.books.items result.books.items }
-    ensures undone { IfErr result.answer (IsUndoneBehind second.now ended.cells.items ended.books.items ended.notes.items
+    ensures same_cells { (IsOfOpening result.answer → ⊥) → AllZip IsContinued cells.items result.cells.items }
+    ensures same_books { (IsOfOpening result.answer → ⊥) → AllZip IsContinuedGroup books.items result.books.items }
+    ensures undone { IfErr result.answer (IsUndoneBehind second.now cells.items books.items notes.items
         result.cells.items result.books.items result.notes.items) }
 {
-    let Ended {
-        cells,
-        books,
-        mut notes,
-        ..
-    } = ended;
     let Work {
         collectors,
         refreshers,
@@ -109,13 +124,27 @@ fn go_on<D: Disk + Send, P: Passes, R: Threads + Wait + Sync>(
             answer: Err(Status::WantOfMemory),
         };
     }
-    let last = hold_phase(rt, alloc, cells, books, board, Vec::new(alloc), second, passes);
-    join(&mut notes, last.notes);
+    let Ended {
+        cells,
+        books,
+        notes: more,
+        answer,
+    } = hold_phase(
+        rt,
+        alloc,
+        cells,
+        books,
+        board,
+        Vec::new(alloc),
+        second,
+        passes,
+    );
+    join(&mut notes, more);
     Ended {
-        cells: last.cells,
-        books: last.books,
+        cells,
+        books,
         notes,
-        answer: last.answer,
+        answer,
     }
 }
 

@@ -53,9 +53,7 @@ pub(crate) fn hold_in<S: Store, P: Passes, R: Threads + Wait + Sync>(
     let Ok(boarding) = boarding_for(rt, alloc, base.tags.len() as u32, 0) else {
         return refused(Status::WantOfMemory);
     };
-    let Boarding {
-        board, posters, ..
-    } = boarding;
+    let Boarding { board, posters, .. } = boarding;
     match open_plant(
         rt,
         alloc,
@@ -67,8 +65,9 @@ pub(crate) fn hold_in<S: Store, P: Passes, R: Threads + Wait + Sync>(
         posters,
     ) {
         Ok(open) => {
-            let (answer, session) =
-                hold_open(rt, alloc, store, passes, base, first, second, shelf, open, &board);
+            let (answer, session) = hold_open(
+                rt, alloc, store, passes, base, first, second, shelf, open, &board,
+            );
             Ran {
                 answer,
                 session: Some(session),

@@ -1,0 +1,61 @@
+-- What the phases of a drill come to, and what is told of it.
+use Rattle.std.proofs.Common.{◌≡◌, ◌≤◌, ◌+◌, ℕ, List, [], Bool, false, Result, Ok, Err, OnOk, IfErr, String, Global, arith, ap, length, sym, subst}
+use Rattle.std.specs.Result.{is_err}
+use Rattle.plant_status.specs.declared.status.Status.{Status}
+use Rattle.plant_status.specs.declared.status.Status.TheVariants.{Done, BadWords, BadText, BadRow, ReadFault, WriteFault, DeviceFault, Damaged, OtherTag, Limit, Mismatch, Halted, WantOfMemory, OtherPlant, BadName}
+use Rattle.tag_base.specs.declared.definition.Base.{Base}
+use Rattle.tag_cell.specs.Told.{Told as Cell}
+use Rattle.group_book.specs.Told.{Told as Book}
+use Rattle.collector_pool.specs.declared.note.WorkerNote.{WorkerNote}
+use Rattle.collector_pool.specs.declared.work.Work.{Work}
+use Rattle.collector_pool.specs.Work.{worker_count}
+use Rattle.session_report.specs.declared.session.Session.{Session}
+use Rattle.run_command.specs.declared.known.Given.{Given}
+use Rattle.run_command.specs.Refusals.{IsOpening}
+use Rattle.run_command.specs.Runs.{IsTold}
+use Rattle.run_command.specs.Runs as runs
+use Rattle.run_command.specs.Sessions.{AreNotes, OfAll, OfNone}
+use Rattle.drill_command.specs.Drills.{drill_status}
+use Rattle.drill_command.specs.Phases.{IsUndoneOfBoth, OfFirst}
+
+-- what is so where a call succeeds
+pub where_ok : {T E P : Type 0} (r : Result T E) → is_err r ≡ false → OnOk r P → P
+where_ok (Ok x) no p = p
+where_ok (Err e) no p = absurd (cc no)
+
+-- no more workers have notes than there are
+pub few_notes : (D : Type 0) (w : Work) (before now : ℕ) (notes : List WorkerNote) → AreNotes D w before now notes
+    → length notes ≤ worker_count w
+few_notes D w before now notes (OfAll are stops) = omega (arith, are.count)
+few_notes D w before now notes (OfNone none stops) = omega (arith, ap length none)
+
+-- a refused opening is told as one
+pub opening_kept : (why : Status) → IsOpening why → IsOpening (drill_status why)
+opening_kept Done is = is
+opening_kept BadWords is = is
+opening_kept (BadText file rule place at) is = is
+opening_kept (BadRow file row reason) is = is
+opening_kept (ReadFault file) is = is
+opening_kept WriteFault is = is
+opening_kept (DeviceFault unit) is = absurd is
+opening_kept (Damaged unit at byte) is = is
+opening_kept (OtherTag tag found wanted) is = is
+opening_kept (Limit what number) is = is
+opening_kept (Mismatch place kept told) is = is
+opening_kept (Halted worker) is = is
+opening_kept WantOfMemory is = is
+opening_kept (OtherPlant at) is = is
+opening_kept (BadName word) is = is
+
+-- a cause is told of phases that are not done, or that no memory was found for the report
+pub both_told : {D : Type 0} (base : Base) (first second : Given) (s : Session) (opened : List (Cell D)) (opened_books : List (Book D))
+    (cells : List (Cell D)) (books : List (Book D)) (notes : List WorkerNote) (came : Result (Unit {0}) Status)
+    (told : Result (String Global) Status) → IsTold base second s came told
+    → IfErr came (IsUndoneOfBoth first second opened opened_books cells books notes)
+    → IfErr told (IsUndoneOfBoth first second opened opened_books cells books notes)
+both_told base first second s opened opened_books cells books notes (Ok x) (Ok text) is undone = tt
+both_told base first second s opened opened_books cells books notes (Ok x) (Err why) is undone = OfFirst (runs.OfNone is.want)
+both_told base first second s opened opened_books cells books notes (Err why) (Ok text) is undone = tt
+both_told base first second s opened opened_books cells books notes (Err why) (Err e) is undone =
+    let same : e ≡ why = cc (is.refused) in
+    subst (IsUndoneOfBoth first second opened opened_books cells books notes) (sym same) undone
