@@ -15,9 +15,9 @@ fits day first = let low = first.0 in let high = first.1 in grind (arith, ints)
 
 pub returns-in-Some-clause-ends : goal.returns-in-Some-clause-ends
 returns-in-Some-clause-ends g c =
-    let base = c.args.wanted.base.now in
-    let calendar = c.args.wanted.calendar.now in
-    let days = c.args.wanted.days in
+    let base = c.args.wanted.now.base.now in
+    let calendar = c.args.wanted.now.calendar.now in
+    let days = c.args.wanted.now.days in
     let day = to_z w32 (of_z w32 c.in-Some.first) in
     let same : day ≡ c.in-Some.first = to_z-of_z w32 c.in-Some.first (fits c.in-Some.first c.in-Some.ensures.in_range) in
     let told = g.F.Files.told c.args.files.now in
@@ -38,7 +38,7 @@ returns-in-Some-clause-ends g c =
       day,
       record {
         first = subst IsFirstDay (sym same) c.in-Some.ensures.in_range;
-        named = subst (IsDayWord c.args.wanted.day.now) (sym same) c.in-Some.ensures.day;
+        named = subst (IsDayWord c.args.wanted.now.day.now) (sym same) c.in-Some.ensures.day;
         printed = answered_so (IsShifts base calendar day days told old) IsRefused before now c.shifts.result c.finish.result
             c.shifts.ensures.text c.shifts.ensures.refused no_done no_fault text line;
         over = record {
