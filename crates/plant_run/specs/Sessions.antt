@@ -8,6 +8,9 @@ use Rattle.plant_status.specs.declared.status.Status.{Status}
 use Rattle.plant_status.specs.declared.status.Status.TheVariants.{BadWords, WantOfMemory}
 use Rattle.plant_files.specs.Reading.{faults_after}
 use Rattle.session_files.specs.Plans.{IsFaultOfPlanned}
+use Rattle.drill_command.specs.declared.words.DrillWords.{DrillWords}
+use Rattle.drill_command.specs.Drills.{IsDrill, IsDrilled, IsUnheld as IsUnheldDrill}
+use Rattle.drill_command.specs.Words.{drill_words}
 use Rattle.run_command.specs.Headline.{IsPromised}
 use Rattle.run_command.specs.Runs.{IsSession, IsUnheld}
 use Rattle.commit_log.specs.declared.history.LogHistory.{LogHistory}
@@ -41,10 +44,11 @@ pub record IsRunSo {D : Type 0} (trace : D → Option Trace) (ticks faults : D �
   pub understood : o.status ≢ BadWords
   pub input : now.input ≡ before.input
 
--- these words hold no session: they neither run a plan nor log one
+-- these words hold no session: they neither run a plan nor log one, nor ask for a drill
 pub record HoldsNone (words : List (List ℕ)) : Type 0 where
   pub no_run : plan_words words ≡ None
   pub no_log : log_words words ≡ None
+  pub no_drill : drill_words words ≡ None
 
 -- a session that wrote this log, and no archive of a tag or a group
 pub record IsOfLog (s : Session) (log : LogHistory) : Type 0 where
@@ -68,6 +72,27 @@ pub record IsLogHandedOn {D : Type 0} (trace : D → Option Trace) (ticks faults
   pub status : o.status ≡ came.status
   pub session : IsHandedOn came.log o.session
   pub input : now.input ≡ before.input
+
+-- A drill: its report is printed, or the line that tells why there is none; nothing else outside has changed. Where its devices were
+-- opened there is a session, whatever came of it, and what is promised of one; else there is a cause, which is never the words.
+pub record IsDrillSo (wanted : DrillWords) (before now : World) (stops_before stops_now : ℕ) (o : Outcome) : Type 0 where
+  pub answer : Result (String Global) Status
+  pub held : OnOk answer (IsSome o.session)
+  pub session : IfSome o.session (IsDrill wanted.number wanted.tags wanted.events stops_before stops_now answer)
+  pub drilled : IfSome o.session (IsDrilled wanted.number wanted.tags wanted.events answer)
+  pub unheld : o.session ≡ None → IfErr answer (IsUnheldDrill wanted.tags)
+  pub unstopped : o.session ≡ None → stops_now ≡ stops_before
+  pub printed : IfOk answer (λ text. IsPrintedSo (string_bytes text) before.scene.output now.scene.output o.status)
+  pub refused : IfErr answer (λ why. (o.status ≡ why) × IsTold before.scene.output now.scene.output why)
+  pub understood : o.status ≢ BadWords
+  pub input : now.input ≡ before.input
+  pub rest : now.scene ≡ record before.scene { output = now.scene.output }
+
+-- it ends so with this exit code; or there was no memory for the words
+abbrev pub DrillsWithCode : DrillWords → World → World → ℕ → ℕ → ℕ → Type 0
+DrillsWithCode wanted before now stops_before stops_now code =
+    ((o : Outcome) × (code ≡ code_of o.status) × IsDrillSo wanted before now stops_before stops_now o)
+    ⊎ ((code ≡ code_of WantOfMemory) × IsTold before.scene.output now.scene.output WantOfMemory)
 
 -- it ends so with this exit code; or there was no memory for the words
 abbrev pub LogsWithCode : {D : Type 0} → (D → Option Trace) → (D → ℕ) → (D → ℕ) → List ℕ → List ℕ → World → World → ℕ → ℕ → ℕ

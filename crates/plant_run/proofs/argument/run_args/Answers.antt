@@ -3,6 +3,7 @@ use Rattle.std.specs.Vec.Iter.{into_iter_items}
 use Rattle.plant_status.specs.Status.{code_of}
 use Rattle.plant_status.specs.declared.status.Status.TheVariants.{BadWords, WantOfMemory}
 use Rattle.plant_more.specs.Words.{log_words}
+use Rattle.drill_command.specs.Words.{drill_words}
 use Rattle.plant_run.specs.CommandLine.{form_of, plan_words}
 use Rattle.plant_run.specs.Run.{MeansNothing}
 use Rattle.plant_run.specs.Sessions.{HoldsNone}
@@ -70,6 +71,27 @@ returns-clause-log g c =
           ))
       | in-Ok+in-Err-words_of w ↦
           rw w.in-Ok.is (λ base plan is. inr (
+            code ∙ ap code_of (w.status-is ∙ w.refuse.ensures.same),
+            rw (w.out-is) w.refuse.ensures.line,
+          ))
+      | in-Err w ↦ rw w.in-Err.is tt
+    ]
+
+pub returns-clause-drill : goal.returns-clause-drill
+returns-clause-drill g c =
+    let code = c.from.ensures ∙ c.code.ensures in
+    elim c.match-args.branch [
+      | in-Ok+in-Ok-words_of w ↦
+          let words : w.as_slice.result.now ≡ drop 1 (into_iter_items w.in-Ok.given) =
+          w.as_slice.ensures.value ∙ w.in-Ok-words_of.ensures in
+          rw w.in-Ok.is (λ wanted is. inl (
+            w.run.result,
+            code ∙ ap code_of w.status-is,
+            rw (w.input-is, w.files-is, w.out-is, w.store-is, w.passes-is)
+                (w.run.ensures.drill wanted (subst (λ l. drill_words (map string_bytes l) ≡ Some wanted) (sym words) is)),
+          ))
+      | in-Ok+in-Err-words_of w ↦
+          rw w.in-Ok.is (λ wanted is. inr (
             code ∙ ap code_of (w.status-is ∙ w.refuse.ensures.same),
             rw (w.out-is) w.refuse.ensures.line,
           ))
