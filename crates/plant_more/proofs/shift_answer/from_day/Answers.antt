@@ -1,9 +1,8 @@
-use Rattle.std.proofs.Common.{arith, ◌≡◌, inl, ℕ, ℤ, subst, sym}
+use Rattle.std.proofs.Common.{arith, ◌≡◌, inl, ℤ, subst, sym}
 use Rattle.std.proofs.lemmas.Int.{ints, to_z-of_z}
 use Rattle.std.specs.Int.{w32}
 use Rattle.shift_calendar.specs.Days.{IsDayWord, IsFirstDay}
 use mir.Val.{SFits, of_z, to_z}
-use Rattle.plant_status.specs.declared.status.Status.TheVariants.{Done, WriteFault}
 use Rattle.shift_command.specs.Shifts.{IsFaultOfRead, IsShifts, IsShiftsRefusal}
 use Rattle.command_text.proofs.Printing.{answered_so, done_so, ended_so}
 use Rattle.plant_more.proofs.Told.{counts_so, faults_so, shifts_no_fault, shifts_not_done, shifts_rose}
