@@ -38,7 +38,7 @@ pub fn shifts<F: Files, O: Sink, S: Store>(
     ensures kept { result ≡ Status.BadWords → store.new ≡ store.old }
 {
     match shift_words(words) {
-        Some(wanted) => from_day(alloc, wanted, files, out, store),
+        Some(wanted) => from_day(alloc, &wanted, files, out, store),
         None => refuse(Status::BadWords, out),
     }
 }
@@ -46,20 +46,20 @@ pub fn shifts<F: Files, O: Sink, S: Store>(
 // Tells the shifts that were asked for, from the day of their word on. Where it is no day nothing is read.
 fn from_day<F: Files, O: Sink, S: Store>(
     alloc: Global,
-    wanted: ShiftWords<'_>,
+    wanted: &ShiftWords<'_>,
     files: &mut F,
     out: &mut O,
     store: &mut S,
 ) -> Status
-    requires { (1 ≤ wanted.days) × (wanted.days ≤ most_days) }
-    ensures ends { EndsOfShifts (Some (asked wanted))
+    requires { (1 ≤ wanted.now.days) × (wanted.now.days ≤ most_days) }
+    ensures ends { EndsOfShifts (Some (asked wanted.now))
         (scene (O.meaning out.old) (F.told files.old) (F.fault_count files.old) (F.failed_name files.old)
         (S.device_at store.old) (S.fault_count store.old))
         (scene (O.meaning out.new) (F.told files.new) (F.fault_count files.new) (F.failed_name files.new)
         (S.device_at store.new) (S.fault_count store.new)) result }
-    ensures devices { KeepsForShifts (Some (asked wanted)) (F.told files.old) (S.device_at store.old) (S.device_at store.new) }
+    ensures devices { KeepsForShifts (Some (asked wanted.now)) (F.told files.old) (S.device_at store.old) (S.device_at store.new) }
     ensures files { F.told files.new ≡ F.told files.old }
-    ensures bad_words { (result ≡ Status.BadWords) ↔ IsNoDay wanted.day.now }
+    ensures bad_words { (result ≡ Status.BadWords) ↔ IsNoDay wanted.now.day.now }
     ensures untouched { result ≡ Status.BadWords → files.new ≡ files.old }
     ensures kept { result ≡ Status.BadWords → store.new ≡ store.old }
 {
@@ -68,7 +68,7 @@ fn from_day<F: Files, O: Sink, S: Store>(
         calendar,
         day,
         days,
-    } = wanted;
+    } = *wanted;
     match day_of_word(day) {
         Some(first) => finish(
             shift_command::shifts(alloc, files, store, base, calendar, first, days),

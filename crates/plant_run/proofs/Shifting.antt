@@ -1,5 +1,5 @@
 -- Words that ask for shifts, and words that ask for none.
-use Rattle.std.proofs.Common.{◌≡◌, inl, inr, Option, None, Some, refl}
+use Rattle.std.proofs.Common.{◌≡◌, inl, inr, Option, None, Some, refl, subst}
 use Rattle.std.specs.Prelude.{◌↔◌}
 use Rattle.byte_io.specs.Outside.{Outside}
 use Rattle.plant_status.specs.declared.status.Status.{Status}
@@ -9,7 +9,7 @@ use Rattle.store_commands.specs.Commands.{Devices}
 use Rattle.plant_more.specs.Endings.{AsksForNone, EndsOfShifts, KeepsForShifts, Scene}
 use Rattle.plant_more.specs.Words.{AskedShifts}
 use Rattle.plant_run.specs.CommandLine.{Form, shifting}
-use Rattle.plant_run.specs.Run.{EndsFor, KeepsFor, MeansNothing}
+use Rattle.plant_run.specs.Run.{EndsFor, KeepsFor, MeansNothing, World}
 
 module _ (words : Option AskedShifts) (asked : AskedShifts) (other : Form) where
   -- what they end in
@@ -41,3 +41,15 @@ module _ (words : Option AskedShifts) (asked : AskedShifts) (other : Form) where
           → (status ≡ BadWords) ↔ MeansNothing (shifting w other)
       by_words None is same = absurd (cc (is))
       by_words (Some a) is same = same
+
+-- words that ask for no shifts end in what they ask for beside
+module _ (words : Option AskedShifts) (other : Form) (none : None ≡ words) where
+  pub others_end : (before now : World) (status : Status) → EndsFor other before now status → EndsFor (shifting words other) before now status
+  others_end before now status is = subst (λ (o : Option AskedShifts). EndsFor (shifting o other) before now status) none is
+
+  pub others_keep : (told : ToldFiles) (old new : Devices) → KeepsFor other told old new → KeepsFor (shifting words other) told old new
+  others_keep told old new is = subst (λ (o : Option AskedShifts). KeepsFor (shifting o other) told old new) none is
+
+  pub others_mean : (status : Status) → (status ≡ BadWords) ↔ MeansNothing other
+      → (status ≡ BadWords) ↔ MeansNothing (shifting words other)
+  others_mean status is = subst (λ (o : Option AskedShifts). (status ≡ BadWords) ↔ MeansNothing (shifting o other)) none is

@@ -181,11 +181,13 @@ fn run_rest<R: Threads + Wait + Sync, I: Source, F: Files, O: Sink, S: Store, P:
     ensures untouched { result.status ≡ Status.BadWords → input.new ≡ input.old }
 {
     match drill_words(words) {
-        Some(DrillWords {
-            number,
-            tags,
-            events,
-        }) => {
+        Some(
+            DrillWords {
+                number,
+                tags,
+                events,
+            },
+        ) => {
             let Ran { answer, session } = drill(rt, alloc, passes, number, tags, events);
             Outcome {
                 status: finish(answer, out),

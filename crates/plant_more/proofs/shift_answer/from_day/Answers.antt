@@ -1,9 +1,8 @@
-use Rattle.std.proofs.Common.{arith, ◌≡◌, inl, ℕ, ℤ, subst, sym}
+use Rattle.std.proofs.Common.{arith, ◌≡◌, inl, ℤ, subst, sym}
 use Rattle.std.proofs.lemmas.Int.{ints, to_z-of_z}
 use Rattle.std.specs.Int.{w32}
 use Rattle.shift_calendar.specs.Days.{IsDayWord, IsFirstDay}
 use mir.Val.{SFits, of_z, to_z}
-use Rattle.plant_status.specs.declared.status.Status.TheVariants.{Done, WriteFault}
 use Rattle.shift_command.specs.Shifts.{IsFaultOfRead, IsShifts, IsShiftsRefusal}
 use Rattle.command_text.proofs.Printing.{answered_so, done_so, ended_so}
 use Rattle.plant_more.proofs.Told.{counts_so, faults_so, shifts_no_fault, shifts_not_done, shifts_rose}
@@ -15,9 +14,9 @@ fits day first = let low = first.0 in let high = first.1 in grind (arith, ints)
 
 pub returns-in-Some-clause-ends : goal.returns-in-Some-clause-ends
 returns-in-Some-clause-ends g c =
-    let base = c.args.wanted.base.now in
-    let calendar = c.args.wanted.calendar.now in
-    let days = c.args.wanted.days in
+    let base = c.args.wanted.now.base.now in
+    let calendar = c.args.wanted.now.calendar.now in
+    let days = c.args.wanted.now.days in
     let day = to_z w32 (of_z w32 c.in-Some.first) in
     let same : day ≡ c.in-Some.first = to_z-of_z w32 c.in-Some.first (fits c.in-Some.first c.in-Some.ensures.in_range) in
     let told = g.F.Files.told c.args.files.now in
@@ -38,7 +37,7 @@ returns-in-Some-clause-ends g c =
       day,
       record {
         first = subst IsFirstDay (sym same) c.in-Some.ensures.in_range;
-        named = subst (IsDayWord c.args.wanted.day.now) (sym same) c.in-Some.ensures.day;
+        named = subst (IsDayWord c.args.wanted.now.day.now) (sym same) c.in-Some.ensures.day;
         printed = answered_so (IsShifts base calendar day days told old) IsRefused before now c.shifts.result c.finish.result
             c.shifts.ensures.text c.shifts.ensures.refused no_done no_fault text line;
         over = record {
