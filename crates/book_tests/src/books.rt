@@ -9,20 +9,20 @@ use disk_model::MemDisk;
 use group_book::{Book, RefreshNo, Turn, new_book};
 use snapshot_table::{Board, Poster, new_board};
 use std::alloc::Global;
+use std::fmt::Write;
 use std::marker::Brand;
-use std::process::Abort;
 use std::sync::ledger::{Blank, Ledger};
 use std::sync::{Arc, Mutex, Wait};
 use std::test::Fail;
 use tag_cell::{Cell, Receipt, open_cell};
 use trend_num::{Point, Steps, TagDef, Tuning, WantOfMemory, in_range, name_from, tuning_ok};
 
-/// Steps parted by `/`: values that the tag takes, each a time and a value, whether they are acknowledged, and behind `=>` what a
-/// refresh makes of the rows and, after `e`, how many values were evaluated so far.
+/// Steps parted by `/`: values that the tag takes, each a time and a value, and whether they are acknowledged. Behind `=>` the rows
+/// that a refresh leaves after each step, and, after `e`, how many values were evaluated.
 const ROWS: &str = "\
-0,0 3000,0 4000,9 commit => 0 0 0 e3 / 1500,60 commit => 20 50 20 e6
-0,0 3000,0 4000,9 wait => e0 / 1500,60 commit => 20 50 20 e3
-0,0 3000,0 4000,9 commit => 0 0 0 e3 / 2500,8 commit => 2 5 6 e6 / 2500,8 commit => 2 5 6 e9";
+0,0 3000,0 4000,9 commit / 1500,60 commit => 0 0 0 / 20 50 20 / e6
+0,0 3000,0 4000,9 wait / 1500,60 commit => / 20 50 20 / e3
+0,0 3000,0 4000,9 commit / 2500,8 commit / 2500,8 commit => 0 0 0 / 2 5 6 / 2 5 6 / e9";
 
 // A board of one tag and its poster, who has posted nothing.
 fn alone(rt: &impl Wait, alloc: Global) -> Result<(Board, Poster), WantOfMemory>
@@ -58,29 +58,47 @@ pub fn cell_of(rt: &impl Wait, alloc: Global) -> Option<Cell<MemDisk>> {
     open_cell(rt, alloc, dev, &def, 64, 100, board, poster).ok()
 }
 
-// Takes the values of a text, as rows of collector 0.
+// The point that a text `T,V` spells.
+fn point_of(text: &str) -> Option<Point> {
+    let (t, v) = text.split_once(',')?;
+    Some(Point {
+        t: t.parse().ok()?,
+        v: v.parse().ok()?,
+    })
+}
+
+// Takes a point, as a row of collector 0.
+fn take(rt: &impl Wait, cell: &mut Cell<MemDisk>, p: Point) -> Option<()> {
+    if !in_range(p) {
+        return None;
+    }
+    cell.take(rt, 0, 1, p).ok()?;
+    Some(())
+}
+
+// Acknowledges what a cell has taken.
+fn commit(cell: &mut Cell<MemDisk>) -> Option<()> {
+    cell.commit().ok()?;
+    Some(())
+}
+
+// Takes the values of a text, up to a word that says whether they are acknowledged.
 pub fn take_all(rt: &impl Wait, cell: &mut Cell<MemDisk>, values: &str) -> Option<()> {
     for value in values.split(' ') {
-        if value == "wait" {
-            return Some(());
+        match value {
+            "wait" => return Some(()),
+            "commit" => return commit(cell),
+            _ => take(rt, cell, point_of(value)?)?,
         }
-        if value == "commit" {
-            return match cell.commit() {
-                Ok(_) => Some(()),
-                Err(_) => None,
-            };
-        }
-        let (t, v) = value.split_once(',')?;
-        let p = Point {
-            t: t.parse().ok()?,
-            v: v.parse().ok()?,
-        };
-        if !in_range(p) {
-            return None;
-        }
-        cell.take(rt, 0, 1, p).ok()?;
     }
     Some(())
+}
+
+// A cell that has taken the values of a text.
+pub fn cell_with(rt: &impl Wait, alloc: Global, values: &str) -> Option<Mutex<Cell<MemDisk>>> {
+    let cell = Mutex::new(cell_of(rt, alloc)?);
+    take_all(rt, &mut cell.lock(rt), values)?;
+    Some(cell)
 }
 
 // Refreshes a book, on the ledger of a blank.
@@ -107,87 +125,116 @@ pub fn refresh<R: Wait>(
     refresh_on::<Brand, R>(rt, book, cells, Blank::new(1))
 }
 
+// The value of calculation 0 in a window.
+fn answer(book: &mut Book<MemDisk>, k: u64) -> Option<CalcValue> {
+    match book.ask(0, 1, 0, k) {
+        Ok((_, told)) => told,
+        Err(_) => None,
+    }
+}
+
 // The answers for calculation 0 in the windows from 0 on.
-pub fn answers(alloc: Global, book: &mut Book<MemDisk>) -> Result<String, Fail> {
+pub fn answers(alloc: Global, book: &mut Book<MemDisk>) -> Option<String> {
     let mut text = String::new(alloc);
     for k in 0..100 {
-        match book.ask(0, 1, 0, k)? {
-            (_, Some(CalcValue::Num(n))) => text.push_str(&format!(in alloc; "{n} ")?)?,
-            (_, Some(CalcValue::Bad(_))) => text.push_str("bad ")?,
-            (_, None) => return Ok(text),
+        match answer(book, k) {
+            Some(CalcValue::Num(n)) => write!(text, "{n} ").ok()?,
+            Some(CalcValue::Bad(_)) => text.push_str("bad ").ok()?,
+            None => return Some(text),
         }
     }
-    Ok(text)
+    Some(text)
 }
 
 // A book of one tag and one calculation.
-fn book_of(alloc: Global) -> Result<Book<MemDisk>, Fail> {
+fn book_of(alloc: Global) -> Option<Book<MemDisk>> {
     let def = means(alloc)?;
-    let tags = vec![in alloc; 0; 1]?;
-    let book = new_book(alloc, 0, &def, tags)?;
-    Ok(book)
+    let tags = vec![in alloc; 0; 1].ok()?;
+    new_book(alloc, 0, &def, tags).ok()
 }
 
-// Follows the steps of a line.
-fn follow<R: Abort + Wait>(rt: &R, alloc: Global, line: &str) -> Result<(), Fail> {
-    let mut book = book_of(alloc)?;
-    let mut cells = Vec::new(alloc);
-    let cell = cell_of(rt, alloc).ok_or("a cell")?;
-    cells.push(Mutex::new(cell))?;
-    for step in line.split(" / ") {
-        let (values, want) = step.split_once(" => ").ok_or("an arrow")?;
-        assert!(rt; !cells.is_empty());
-        take_all(rt, &mut cells[0].lock(rt), values).ok_or("values")?;
-        assert!(rt; refresh(rt, &mut book, &cells).is_ok());
-        let got = answers(alloc, &mut book)?;
-        let rows = want.split_once('e').ok_or("a count")?;
-        assert_eq!(rt; got.as_str(), rows.0, "{line}");
-    }
+// How many values a book has evaluated.
+fn evals_of(book: Book<MemDisk>) -> u64 {
     let (_, history) = book.into_history();
-    let count = line.rsplit('e').next().ok_or("a count")?;
-    assert_eq!(rt;
-        format!(in alloc; "{}", history.evals)?.as_str(),
-        count,
-        "{line}"
-    );
-    Ok(())
+    history.evals
+}
+
+// Takes values and refreshes a book. Tells its answers.
+fn refreshed(
+    rt: &impl Wait,
+    alloc: Global,
+    book: &mut Book<MemDisk>,
+    cells: &[Mutex<Cell<MemDisk>>],
+    values: &str,
+) -> Option<String> {
+    let cell = cells.first()?;
+    take_all(rt, &mut cell.lock(rt), values)?;
+    refresh(rt, book, cells).ok()?;
+    answers(alloc, book)
+}
+
+// Follows the steps of a line. Tells the answers after each, and how many values were evaluated.
+fn followed(rt: &impl Wait, alloc: Global, line: &str) -> Option<String> {
+    let mut book = book_of(alloc)?;
+    let cells = [Mutex::new(cell_of(rt, alloc)?)];
+    let mut told = String::new(alloc);
+    for values in line.split(" / ") {
+        let rows = refreshed(rt, alloc, &mut book, &cells, values)?;
+        write!(told, "{rows}/ ").ok()?;
+    }
+    write!(told, "e{}", evals_of(book)).ok()?;
+    Some(told)
 }
 
 #[test]
 fn a_refresh_takes_what_is_acknowledged(rt: HostRuntime) -> Result<(), Fail> {
-    for line in ROWS.lines() {
-        follow(&rt, rt.alloc(), line)?;
+    for row in ROWS.lines() {
+        let (steps, want) = row.split_once(" => ").ok_or("a row")?;
+        let told = followed(&rt, rt.alloc(), steps).ok_or("not followed")?;
+        assert_eq!(rt; told.as_str(), want, "{steps}");
     }
     Ok(())
 }
 
-#[test]
-fn an_input_without_its_tag_gives_nothing(rt: HostRuntime) -> Result<(), Fail> {
-    let mut book = book_of(rt.alloc())?;
-    assert!(&rt; refresh(&rt, &mut book, &[]).is_ok());
-    assert_eq!(&rt; book.tape().len(), 1);
-    assert!(&rt; matches!(book.tape().first(), Some(Turn::Refresh { .. })));
-    assert_eq!(&rt; answers(rt.alloc(), &mut book)?.as_str(), "");
-    Ok(())
+// Whether one refresh is all that a book's calls have left.
+fn is_one_refresh(book: &Book<MemDisk>) -> bool {
+    matches!(book.tape(), [Turn::Refresh { .. }])
+}
+
+// The answers of a book that is refreshed without a cell.
+fn without_a_cell(rt: &impl Wait, alloc: Global) -> Option<String> {
+    let mut book = book_of(alloc)?;
+    refresh(rt, &mut book, &[]).ok()?;
+    if !is_one_refresh(&book) {
+        return None;
+    }
+    answers(alloc, &mut book)
 }
 
 #[test]
-fn a_version_above_the_records_is_ahead(rt: HostRuntime) -> Result<(), Fail> {
-    let mut book = book_of(rt.alloc())?;
-    let mut cells = Vec::new(rt.alloc());
-    let mut cell = cell_of(&rt, rt.alloc()).ok_or("a cell")?;
-    take_all(&rt, &mut cell, "0,0 3000,0 4000,9 commit").ok_or("values")?;
-    cells.push(Mutex::new(cell))?;
-    assert!(&rt; refresh(&rt, &mut book, &cells).is_ok());
-    let other = cell_of(&rt, rt.alloc()).ok_or("a cell")?;
-    let mut others = Vec::new(rt.alloc());
-    others.push(Mutex::new(other))?;
-    let ahead = RefreshNo::Ahead {
+fn an_input_without_its_tag_gives_nothing(rt: HostRuntime) -> Result<(), Fail> {
+    let told = without_a_cell(&rt, rt.alloc()).ok_or("not refreshed")?;
+    assert_eq!(&rt; told.as_str(), "");
+    Ok(())
+}
+
+// Refreshes a book from a cell, and then from one that has taken nothing. Tells why the second is refused, and how long the
+// tape is.
+fn ahead(rt: &impl Wait, alloc: Global) -> Option<(Option<RefreshNo>, usize)> {
+    let mut book = book_of(alloc)?;
+    let cell = cell_with(rt, alloc, "0,0 3000,0 4000,9 commit")?;
+    refresh(rt, &mut book, &[cell]).ok()?;
+    let other = cell_of(rt, alloc)?;
+    let why = refresh(rt, &mut book, &[Mutex::new(other)]).err();
+    Some((why, book.tape().len()))
+}
+
+#[test]
+fn a_version_above_the_records_is_ahead(rt: HostRuntime) {
+    let why = RefreshNo::Ahead {
         input: 0,
         version: 2,
         records: 0,
     };
-    assert!(&rt; refresh(&rt, &mut book, &others) == Err(ahead));
-    assert_eq!(&rt; book.tape().len(), 1);
-    Ok(())
+    assert!(&rt; ahead(&rt, rt.alloc()) == Some((Some(why), 1)));
 }

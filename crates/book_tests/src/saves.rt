@@ -2,12 +2,12 @@
 ghost use Rattle.std.specs.Prelude.{IfOk};
 ghost use Rattle.calc_refresh.specs.Sheet.{IsCopy};
 
-use crate::books::{answers, cell_of, refresh, take_all};
+use crate::books::{answers, cell_of, cell_with, refresh, take_all};
 use crate::groups::means;
 use disk_model::{MemDisk, Pick};
 use group_book::{Book, LoadFail, Turn, load};
 use group_layout::definition_text;
-use std::alloc::Global;
+use std::alloc::{AllocError, Global};
 use std::fmt::Write;
 use std::process::Abort;
 use std::sync::{Mutex, Wait};
@@ -49,87 +49,94 @@ a50000000000000001000000030000000300000003\
 00";
 
 /// A device with another byte at a place, where a text tells one.
-fn changed(alloc: Global, dev: MemDisk, change: &str) -> Result<MemDisk, Fail> {
+fn changed(alloc: Global, dev: MemDisk, change: &str) -> Option<MemDisk> {
     let Some((at, byte)) = change.split_once('=') else {
-        return Ok(dev);
+        return Some(dev);
     };
-    let at = at.parse::<usize>().map_err(|_| "a place")?;
-    let mut bytes = Vec::from_slice(alloc, dev.bytes())?;
-    if at < bytes.len() {
-        bytes[at] = byte.parse::<u8>().map_err(|_| "a value")?;
-    }
-    Ok(MemDisk::new(bytes, Vec::new(alloc)))
+    let at = at.parse::<usize>().ok()?;
+    let mut bytes = Vec::from_slice(alloc, dev.bytes()).ok()?;
+    *bytes.get_mut(at)? = byte.parse::<u8>().ok()?;
+    Some(MemDisk::new(bytes, Vec::new(alloc)))
 }
 
 /// The records of a cell.
-fn copy_of(alloc: Global, cell: &Cell<MemDisk>) -> Result<Vec<Rec>, Fail>
+fn copy_of(alloc: Global, cell: &Cell<MemDisk>) -> Result<Vec<Rec>, AllocError>
     ensures { IfOk result (λ copy. IsCopy copy.items) }
 {
-    let mut copy = Vec::new(alloc);
-    copy.extend_from_slice(cell.recs())?;
-    Ok(copy)
+    Vec::from_slice(alloc, cell.recs())
 }
 
-/// The book of a group over a device, whose tag recovered the records of a cell.
+/// The book of a group over a device, whose tag recovered the records of a cell; or the device, and why it is not opened.
 fn loaded(
     alloc: Global,
     dev: MemDisk,
     text: &[u8],
     cell: &Cell<MemDisk>,
-) -> Result<Result<Book<MemDisk>, LoadFail<MemDisk>>, Fail> {
+) -> Option<Result<Book<MemDisk>, LoadFail<MemDisk>>> {
     let def = means(alloc)?;
-    let tags = vec![in alloc; 0; 1]?;
-    let recovered = [copy_of(alloc, cell)?];
-    Ok(load(alloc, dev, 0, &def, text, tags, &recovered))
+    let tags = vec![in alloc; 0; 1].ok()?;
+    let recovered = [copy_of(alloc, cell).ok()?];
+    Some(load(alloc, dev, 0, &def, text, tags, &recovered))
 }
 
 /// The version that a book was opened with.
-fn version_of(book: &Book<MemDisk>) -> Result<u32, Fail> {
-    Ok(*book.opening().versions.first().ok_or("a version")?)
+fn version_of(book: &Book<MemDisk>) -> Option<u32> {
+    book.opening().versions.first().copied()
 }
 
 /// The device of a book and how many values it evaluated.
-fn device_of(book: Book<MemDisk>) -> Result<(MemDisk, u64), Fail> {
+fn device_of(book: Book<MemDisk>) -> Option<(MemDisk, u64)> {
     let (dev, history) = book.into_history();
-    Ok((dev.ok_or("a device")?, history.evals))
+    Some((dev?, history.evals))
 }
 
-/// Refreshes and saves a book; tells what was there before and is now.
-fn renewed<R: Abort + Wait>(
+/// Whether a book is saved.
+fn is_saved(book: &mut Book<MemDisk>) -> bool {
+    book.save().is_ok()
+}
+
+/// Refreshes and saves a book. Tells what was there before and is now.
+fn renew<R: Wait>(
+    rt: &R,
+    alloc: Global,
+    book: &mut Book<MemDisk>,
+    cell: Mutex<Cell<MemDisk>>,
+) -> Option<String> {
+    let version = version_of(book)?;
+    let before = answers(alloc, book)?;
+    refresh(rt, book, &[cell]).ok()?;
+    let after = answers(alloc, book)?;
+    if !is_saved(book) {
+        return None;
+    }
+    format!(in alloc; "{version} {before}: {after}").ok()
+}
+
+/// Does so, and tells how many values were evaluated and how long the device is.
+fn renewed<R: Wait>(
     rt: &R,
     alloc: Global,
     mut book: Book<MemDisk>,
-    cell: Cell<MemDisk>,
-) -> Result<(MemDisk, String), Fail> {
-    let version = version_of(&book)?;
-    let before = answers(alloc, &mut book)?;
-    let mut cells = Vec::new(alloc);
-    cells.push(Mutex::new(cell))?;
-    assert!(rt; refresh(rt, &mut book, &cells).is_ok());
-    let after = answers(alloc, &mut book)?;
-    assert!(rt; book.save().is_ok());
+    cell: Mutex<Cell<MemDisk>>,
+) -> Option<(MemDisk, String)> {
+    let told = renew(rt, alloc, &mut book, cell)?;
     let (dev, evals) = device_of(book)?;
     let len = dev.bytes().len();
-    let told = format!(in alloc; "{version} {before}: {after}e{evals} {len}")?;
-    Ok((dev, told))
+    let told = format!(in alloc; "{told}e{evals} {len}").ok()?;
+    Some((dev, told))
 }
 
 /// A session on a device.
-fn session<R: Abort + Wait>(
-    rt: &R,
-    alloc: Global,
-    dev: MemDisk,
-    words: &str,
-) -> Result<(MemDisk, String), Fail> {
-    let (group, rest) = words.split_once(' ').ok_or("a group")?;
-    let (change, values) = rest.split_once(' ').ok_or("a change")?;
-    let mut cell = cell_of(rt, alloc).ok_or("a cell")?;
-    take_all(rt, &mut cell, values).ok_or("values")?;
+fn session<R: Wait>(rt: &R, alloc: Global, dev: MemDisk, words: &str) -> Option<(MemDisk, String)> {
+    let (group, rest) = words.split_once(' ')?;
+    let (change, values) = rest.split_once(' ')?;
+    let cell = cell_with(rt, alloc, values)?;
     let dev = changed(alloc, dev, change)?;
     let text = if group == "g" { TEXT } else { OTHER };
-    match loaded(alloc, dev, text, &cell)? {
+    let opened = loaded(alloc, dev, text, &cell.lock(rt))?;
+    match opened {
         Ok(book) => renewed(rt, alloc, book, cell),
-        Err(LoadFail { dev, why }) => Ok((dev, format!(in alloc; "{why:?}")?)),
+        Err(LoadFail { dev, why }) => Some((dev, format!(in alloc; "{why:?}").ok()?)),
     }
 }
 
@@ -139,7 +146,7 @@ fn what_was_saved_is_there_again(rt: HostRuntime) -> Result<(), Fail> {
         let mut dev = MemDisk::new(Vec::new(rt.alloc()), Vec::new(rt.alloc()));
         for step in line.split(" / ") {
             let (words, want) = step.split_once(" => ").ok_or("an arrow")?;
-            let (next, told) = session(&rt, rt.alloc(), dev, words)?;
+            let (next, told) = session(&rt, rt.alloc(), dev, words).ok_or("no session")?;
             assert_eq!(&rt; told.as_str(), want, "{step}");
             dev = next;
         }
@@ -148,73 +155,77 @@ fn what_was_saved_is_there_again(rt: HostRuntime) -> Result<(), Fail> {
 }
 
 /// Takes values, refreshes a book and saves it. Tells whether it was saved.
-fn saves<R: Abort + Wait>(
-    rt: &R,
+fn saves(
+    rt: &impl Wait,
     book: &mut Book<MemDisk>,
     cells: &[Mutex<Cell<MemDisk>>],
     values: &str,
-) -> Result<bool, Fail> {
-    assert!(rt; !cells.is_empty());
-    take_all(rt, &mut cells[0].lock(rt), values).ok_or("values")?;
-    assert!(rt; refresh(rt, book, cells).is_ok());
-    Ok(book.save().is_ok())
+) -> Option<bool> {
+    let cell = cells.first()?;
+    take_all(rt, &mut cell.lock(rt), values)?;
+    refresh(rt, book, cells).ok()?;
+    Some(is_saved(book))
 }
 
-/// A device once two saves were tried on it, up to the first that failed: the last version that was saved, and the one that
-/// was being saved.
-fn after_saves<R: Abort + Wait>(
-    rt: &R,
-    alloc: Global,
-    dev: MemDisk,
-) -> Result<(MemDisk, u32, u32), Fail> {
-    let cell = cell_of(rt, alloc).ok_or("a cell")?;
-    let mut book = match loaded(alloc, dev, TEXT, &cell)? {
-        Ok(book) => book,
-        Err(LoadFail { dev, .. }) => return Ok((dev, 0, 0)),
-    };
-    let mut cells = Vec::new(alloc);
-    cells.push(Mutex::new(cell))?;
-    let mut versions = (0, 2);
-    if saves(rt, &mut book, &cells, "0,0 3000,0 4000,9 commit")? {
-        let saved = saves(rt, &mut book, &cells, "1500,60 commit")?;
-        versions = if saved { (3, 3) } else { (2, 3) };
+/// Tries two saves of a book, up to the first that fails. Tells the last version that was saved, and the one that was being
+/// saved.
+fn two_saves(rt: &impl Wait, book: &mut Book<MemDisk>, cell: Cell<MemDisk>) -> Option<(u32, u32)> {
+    let cells = [Mutex::new(cell)];
+    if !saves(rt, book, &cells, "0,0 3000,0 4000,9 commit")? {
+        return Some((0, 2));
     }
-    let (dev, _) = device_of(book)?;
-    Ok((dev, versions.0, versions.1))
+    if !saves(rt, book, &cells, "1500,60 commit")? {
+        return Some((2, 3));
+    }
+    Some((3, 3))
+}
+
+/// A device once two saves were tried on it: the last version that was saved, and the one that was being saved.
+fn after_saves(rt: &impl Wait, alloc: Global, dev: MemDisk) -> Option<(MemDisk, u32, u32)> {
+    let cell = cell_of(rt, alloc)?;
+    match loaded(alloc, dev, TEXT, &cell)? {
+        Ok(mut book) => {
+            let (saved, saving) = two_saves(rt, &mut book, cell)?;
+            let (dev, _) = device_of(book)?;
+            Some((dev, saved, saving))
+        }
+        Err(LoadFail { dev, .. }) => Some((dev, 0, 0)),
+    }
 }
 
 /// The version that a crash leaves.
-fn left<R: Abort + Wait>(rt: &R, alloc: Global, dev: &MemDisk, pick: Pick) -> Result<u32, Fail> {
-    let mut cell = cell_of(rt, alloc).ok_or("a cell")?;
-    take_all(rt, &mut cell, "0,0 3000,0 4000,9 1500,60 commit").ok_or("values")?;
-    let image = dev.crash(pick).map_err(|_| "memory")?;
-    match loaded(alloc, image, TEXT, &cell)? {
-        Ok(book) => version_of(&book),
-        Err(_) => Err("not opened".into()),
-    }
+fn left(rt: &impl Wait, alloc: Global, dev: &MemDisk, pick: Pick) -> Option<u32> {
+    let cell = cell_with(rt, alloc, "0,0 3000,0 4000,9 1500,60 commit")?;
+    let image = dev.crash(pick).ok()?;
+    let book = loaded(alloc, image, TEXT, &cell.lock(rt))?.ok()?;
+    version_of(&book)
 }
 
 /// Tries two saves on a device and crashes it. Tells whether both were saved.
-fn crashes<R: Abort + Wait>(rt: &R, alloc: Global, dev: MemDisk) -> Result<bool, Fail> {
+fn crashes<R: Abort + Wait>(rt: &R, alloc: Global, dev: MemDisk) -> Option<bool> {
     let (dev, saved, saving) = after_saves(rt, alloc, dev)?;
     for pick in [Pick::Old, Pick::New, Pick::Fill(0), Pick::Fill(0xa5)] {
         let version = left(rt, alloc, &dev, pick)?;
         assert!(rt; version == saved || version == saving);
     }
-    Ok(saved == 3)
+    Some(saved == 3)
+}
+
+/// Does so on a device that stops for good after so many calls, and on one of which that call alone fails. Tells whether both
+/// were saved, where that is the same on each.
+fn both_crash<R: Abort + Wait>(rt: &R, alloc: Global, calls: u64) -> Option<bool> {
+    let mut stops = MemDisk::new(Vec::new(alloc), Vec::new(alloc));
+    stops.stop_after(calls);
+    let fails = MemDisk::new(Vec::new(alloc), vec![in alloc; calls].ok()?);
+    let done = crashes(rt, alloc, stops)?;
+    assert!(rt; crashes(rt, alloc, fails)? == done);
+    Some(done)
 }
 
 #[test]
 fn a_crash_leaves_the_last_save_or_the_next(rt: HostRuntime) -> Result<(), Fail> {
     for calls in 0..100 {
-        let mut stops = MemDisk::new(Vec::new(rt.alloc()), Vec::new(rt.alloc()));
-        stops.stop_after(calls);
-        let mut failing = Vec::new(rt.alloc());
-        failing.push(calls)?;
-        let fails = MemDisk::new(Vec::new(rt.alloc()), failing);
-        let done = crashes(&rt, rt.alloc(), stops)?;
-        assert!(&rt; crashes(&rt, rt.alloc(), fails)? == done);
-        if done {
+        if both_crash(&rt, rt.alloc(), calls).ok_or("not opened")? {
             assert!(&rt; calls > 10);
             return Ok(());
         }
@@ -222,39 +233,55 @@ fn a_crash_leaves_the_last_save_or_the_next(rt: HostRuntime) -> Result<(), Fail>
     Err("two saves took more than 100 calls".into())
 }
 
-#[test]
-fn a_first_save_has_these_bytes(rt: HostRuntime) -> Result<(), Fail> {
-    let alloc = rt.alloc();
-    let name = name_from(b"g").ok_or("a name")?;
+/// The definition text of the first group.
+fn text_of(alloc: Global) -> Option<Vec<u8>> {
+    let name = name_from(b"g")?;
     let def = means(alloc)?;
-    let text = definition_text(alloc, &name, 0, 1000, &def.calcs)?;
-    assert!(&rt; text.as_slice() == TEXT.as_slice());
+    definition_text(alloc, &name, 0, 1000, &def.calcs).ok()
+}
+
+/// The bytes that a first save leaves, in digits of base sixteen.
+fn first(rt: &impl Wait, alloc: Global) -> Option<String> {
     let dev = MemDisk::new(Vec::new(alloc), Vec::new(alloc));
-    let values = "g - 0,0 3000,0 4000,9 1500,60 commit";
-    let (dev, _) = session(&rt, alloc, dev, values)?;
+    let (dev, _) = session(rt, alloc, dev, "g - 0,0 3000,0 4000,9 1500,60 commit")?;
     let mut told = String::new(alloc);
     for b in dev.bytes() {
-        write!(told, "{b:02x}")?;
+        write!(told, "{b:02x}").ok()?;
     }
+    Some(told)
+}
+
+#[test]
+fn a_first_save_has_these_bytes(rt: HostRuntime) -> Result<(), Fail> {
+    let text = text_of(rt.alloc()).ok_or("no text")?;
+    assert!(&rt; text.as_slice() == TEXT.as_slice());
+    let told = first(&rt, rt.alloc()).ok_or("no session")?;
     assert_eq!(rt; told.as_str(), FIRST);
     Ok(())
 }
 
-#[test]
-fn a_save_leaves_its_number_and_moment(rt: HostRuntime) -> Result<(), Fail> {
-    let alloc = rt.alloc();
-    let mut cell = cell_of(&rt, alloc).ok_or("a cell")?;
-    take_all(&rt, &mut cell, "0,0 3000,0 4000,9 1500,60 commit").ok_or("values")?;
+/// The number of the one save of a book, and how many writes and syncs there were from its opening to that.
+fn save_of(book: &Book<MemDisk>) -> Option<(u64, u64)> {
+    match book.tape() {
+        [Turn::Save { number, moment }] => {
+            Some((*number, moment.saturating_sub(book.opening().moment)))
+        }
+        _ => None,
+    }
+}
+
+/// Saves the book of a new device, and tells of that.
+fn first_save(rt: &impl Wait, alloc: Global) -> Option<(u64, u64)> {
+    let cell = cell_with(rt, alloc, "0,0 3000,0 4000,9 1500,60 commit")?;
     let dev = MemDisk::new(Vec::new(alloc), Vec::new(alloc));
-    let Ok(mut book) = loaded(alloc, dev, TEXT, &cell)? else {
-        return Err("not opened".into());
-    };
-    let opened = book.opening().moment;
-    assert!(&rt; book.save().is_ok());
-    let told = match book.tape() {
-        [Turn::Save { number, moment }] => (*number, moment.saturating_sub(opened)),
-        _ => (0, 0),
-    };
-    assert_eq!(&rt; told, (1, 4));
-    Ok(())
+    let mut book = loaded(alloc, dev, TEXT, &cell.lock(rt))?.ok()?;
+    if !is_saved(&mut book) {
+        return None;
+    }
+    save_of(&book)
+}
+
+#[test]
+fn a_save_leaves_its_number_and_moment(rt: HostRuntime) {
+    assert_eq!(&rt; first_save(&rt, rt.alloc()), Some((1, 4)));
 }
