@@ -1,5 +1,5 @@
 // The refreshes that groups lack are made, and then one more and a save.
-ghost use Rattle.std.specs.Prelude.{◌≡◌, ◌^◌, ◌<◌, ◌≤◌, List, [], IfErr, IfOk, OnErr, OnOk, length, slice_index_or};
+ghost use Rattle.std.specs.Prelude.{ℕ, ◌≡◌, ◌^◌, ◌<◌, ◌≤◌, List, [], IfErr, IfOk, OnErr, OnOk, length, slice_index_or};
 ghost use Rattle.value_rows.specs.declared.asked.Query.{Query};
 ghost use Rattle.value_rows.specs.declared.raw.RawRow.{RawRow};
 ghost use Rattle.calc_refresh.specs.Lists.{lists_of};

@@ -11,7 +11,7 @@ use Rattle.tag_base.specs.declared.definition.Base.{Base}
 use Rattle.plant_status.specs.declared.status.Status.TheVariants.{WantOfMemory}
 use Rattle.commit_log.specs.Told.{Told}
 use Rattle.log_command.specs.Headline.{IsUnopened}
-use Rattle.log_command.specs.Openings.{AreOthersSame, Devices, IsLogKept, IsLogOpened}
+use Rattle.log_command.specs.Openings.{AreOthersSame, Devices, IsGivenBack, IsLogKept, IsLogOpened}
 use Rattle.log_command.specs.Texts.{log_name, plant_text}
 
 -- nothing was called
@@ -38,13 +38,13 @@ stands_same text tags rows (Some t) new stood is = record { later = is.later; ea
     by_image c (inr stands) = inr (record { rows = rows; stood = stood; stands = stands })
 
 -- the device of a log to which no collector put a row
-pub kept_ready : {D : Type 0} (trace : D → Option Trace) (ticks faults : D → ℕ) (text : List ℕ) (tags : ℕ) (old mid new : Devices) (l : Told D)
-    → IsLogOpened trace ticks faults text tags (old log_name) l → new log_name ≡ trace l.dev → AreOthersSame old mid → AreOthersSame mid new
-    → IsLogKept text tags old new
-kept_ready trace ticks faults text tags old mid new l opened back others others' = record {
-  any_moment = subst (λ (o : Option Trace). During (old log_name) o (IsLeftOrSame text tags (old log_name))) (sym back)
+pub kept_ready : {D : Type 0} (trace : D → Option Trace) (ticks faults : D → ℕ) (text : List ℕ) (tags : ℕ) (old mid new : Devices)
+    (before now : ℕ) (l : Told D) → IsLogOpened trace ticks faults text tags (old log_name) l → AreOthersSame old mid
+    → IsGivenBack trace faults l mid new before now → IsLogKept text tags old new
+kept_ready trace ticks faults text tags old mid new before now l opened others back = record {
+  any_moment = subst (λ (o : Option Trace). During (old log_name) o (IsLeftOrSame text tags (old log_name))) (sym back.device)
       (stands_same text tags l.opening (old log_name) (trace l.dev) opened.rows opened.any_moment);
-  others = λ n differs. others' n differs ∙ others n differs;
+  others = λ n differs. back.others n differs ∙ others n differs;
 }
 
 -- a log that is opened for a text is opened for the plant that has it

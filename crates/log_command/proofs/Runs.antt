@@ -1,6 +1,6 @@
 -- A log that was held, and what is answered of it.
 use Rattle.std.proofs.Common.{◌≡◌, ℕ, ◌-◌, ◌^◌, ◌<◌, List, length, Option, Result, Ok, Err, String, refl, sym, ap, ◌∙◌, subst, inl, inr, arith}
-use Rattle.std.specs.Prelude.{◌⊎◌, All, IfErr, IfOk, OnErr, OnOk, Vec, string_bytes}
+use Rattle.std.specs.Prelude.{◌⊎◌, All, IfErr, IfOk, OnOk, string_bytes}
 use Rattle.std.specs.declared.alloc.Global.{Global}
 use Rattle.std.proofs.lemmas.List.Elements.{All-append}
 use Rattle.std.proofs.lemmas.Bool.{cases_lt}
@@ -20,8 +20,6 @@ use Rattle.commit_log.specs.Images.{StandsFor}
 use Rattle.commit_log.specs.Tapes.{puts, start}
 use Rattle.commit_log.specs.Told.{IsHandedOut, Told}
 use Rattle.commit_log.proofs.Tapes.{fit_rows}
-use Rattle.trend_num.specs.declared.refusal.WantOfMemory.{WantOfMemory}
-use Rattle.log_pool.specs.Notes.{AreNotesOf, stops_with}
 use Rattle.log_pool.specs.declared.note.LogNote.{LogNote}
 use Rattle.log_command.specs.declared.known.Known.{Known}
 use Rattle.log_command.specs.declared.session.Ended.{Ended}
@@ -29,7 +27,7 @@ use Rattle.log_command.specs.Finding.{AreWhole}
 use Rattle.log_command.specs.Headline.{HasRisen, IsDone, IsEnded, IsHistoryOf, IsOpenedAs, IsRun, IsTold, IsUndone, OfReport, OfSettling}
 use Rattle.log_command.specs.Known.{IsAsKnown}
 use Rattle.log_command.specs.Openings.{AreOthersSame, Devices, IsLogOpened}
-use Rattle.log_command.specs.Refusals.{AreNotes, IsMade, IsOfOpening, IsSettlingRefusal, OfAll, OfCommit, OfFinding, OfMemory, OfNone, OfOpening, OfPut, OfRest, OfStop, notes_of}
+use Rattle.log_command.specs.Refusals.{IsMade, IsOfOpening, IsSettlingRefusal, OfCommit, OfFinding, OfMemory, OfOpening, OfPut, OfRest, OfStop}
 use Rattle.log_command.specs.Reports.{all_rows}
 use Rattle.log_command.specs.Texts.{log_name, plant_text}
 
@@ -189,10 +187,3 @@ is_run {D} trace ticks faults base rows known first e old mid new before now sto
         let none : e.history.faults ≡ 0 = is.faults ∙ (found.faults ∙ (sym kept.faults ∙ opened.faults_are)) in
         subst (λ (n : ℕ). (n ≡ 0) ⊎ Rose 0 n) (ap faults ended.device)
         (subst (λ (n : ℕ). (faults e.dev ≡ n) ⊎ Rose n (faults e.dev)) none ended.history.faults_since)
-
--- the notes of workers that began, or none
-pub notes_are : (D : Type 0) (files : List (List RawRow)) (before now : ℕ) (r : Result (Vec LogNote Global) WantOfMemory)
-    → IfOk r (λ notes. AreNotesOf D files notes.items) → IfOk r (λ notes. now ≡ stops_with before notes.items) → OnErr r (now ≡ before)
-    → AreNotes D files before now (notes_of r)
-notes_are D files before now (Ok notes) are stops none = OfAll are stops
-notes_are D files before now (Err why) are stops none = OfNone refl none

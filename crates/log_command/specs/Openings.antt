@@ -1,6 +1,6 @@
 -- The device of a plant's log is opened, or it is not.
 use Rattle.std.specs.Prelude.{◌≡◌, ◌≢◌, ◌⊎◌, ℕ, ◌^◌, ◌<◌, List, [], false, Option, Result, Ok, Err}
-use Rattle.disk_model.specs.Calls.{Rose, Shows}
+use Rattle.disk_model.specs.Calls.{Rose, Shows, sum_of_counts}
 use Rattle.disk_model.specs.Moments.{During}
 use Rattle.disk_model.specs.Traces.{Trace}
 use Rattle.trend_num.specs.declared.refusal.What.TheVariants.{Rows}
@@ -41,6 +41,13 @@ pub record IsLogOpened {D : Type 0} (trace : D → Option Trace) (ticks faults :
 pub record IsLogKept (text : List ℕ) (tags : ℕ) (old new : Devices) : Type 0 where
   pub any_moment : During (old log_name) (new log_name) (IsLeftOrSame text tags (old log_name))
   pub others : AreOthersSame old new
+
+-- a store that had so many faults has the device of a log back under its name, and has counted its faults too; no other has changed
+pub record IsGivenBack {D : Type 0} (trace : D → Option Trace) (faults : D → ℕ) (l : Told D) (old new : Devices) (before now : ℕ)
+    : Type 0 where
+  pub device : new log_name ≡ trace l.dev
+  pub others : AreOthersSame old new
+  pub counted : now ≡ sum_of_counts before (faults l.dev)
 
 -- what a log that is not opened is answered with
 abbrev pub status_of : LogNo → Status

@@ -1,7 +1,5 @@
 -- What a log comes to once its workers have ended, and why it is refused.
-use Rattle.std.specs.Prelude.{◌≡◌, ◌≢◌, ℕ, List, [], All, Any, slice_get, Some, take, Vec, Result, Ok, Err, ⊤}
-use Rattle.std.specs.declared.alloc.Global.{Global}
-use Rattle.trend_num.specs.declared.refusal.WantOfMemory.{WantOfMemory as NoMemory}
+use Rattle.std.specs.Prelude.{◌≡◌, ◌≢◌, ℕ, List, All, Any, slice_get, Some, take, Result, Ok, Err, ⊤}
 use Rattle.plant_status.specs.declared.mismatch.Place.TheVariants.{Opening}
 use Rattle.plant_status.specs.declared.status.Status.{Status}
 use Rattle.plant_status.specs.declared.status.Status.TheVariants as status
@@ -17,16 +15,10 @@ use Rattle.log_command.specs.Making.{IsCommitRefusal, IsPutRefusal, total_rows}
 
 -- ---- the notes of workers
 
--- these are the notes of all workers, of whom as many were stopped as the passes have counted more; or no worker began, and none
--- was counted
-pub data AreNotes (D : Type 0) (files : List (List RawRow)) (before now : ℕ) (notes : List LogNote) : Type 0 where
-  OfAll : AreNotesOf D files notes → now ≡ stops_with before notes → AreNotes D files before now notes
-  OfNone : notes ≡ [] → now ≡ before → AreNotes D files before now notes
-
--- the notes of workers that began
-abbrev pub notes_of : Result (Vec LogNote Global) NoMemory → List LogNote
-notes_of (Ok notes) = notes.items
-notes_of (Err why) = []
+-- these are the notes of all workers, of whom as many were stopped as the passes have counted more
+pub record AreNotes (D : Type 0) (files : List (List RawRow)) (before now : ℕ) (notes : List LogNote) : Type 0 where
+  pub of_all : AreNotesOf D files notes
+  pub stopped : now ≡ stops_with before notes
 
 -- this worker is the first that its pass stopped
 pub record IsFirstHalted (notes : List LogNote) (worker : ℕ) : Type 0 where

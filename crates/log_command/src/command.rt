@@ -2,7 +2,6 @@
 ghost use Rattle.std.specs.Prelude.{◌≡◌, ◌^◌, ◌<◌, ◌≤◌, All, Err, IfErr, IfOk, IfSome, IsTrue, None, OnOk, length};
 ghost use Rattle.std.specs.Option.{IsSome};
 ghost use Rattle.trend_num.specs.Ranges.{TuningInRange};
-ghost use Rattle.disk_model.specs.Calls.{sum_of_counts};
 ghost use Rattle.commit_log.specs.Blocks.{IsRow};
 ghost use Rattle.plant_files.specs.Collected.{most_rows};
 ghost use Rattle.plant_files.specs.Reading.{faults_after};
@@ -10,7 +9,7 @@ ghost use Rattle.log_pool.specs.Notes.{lists_of};
 ghost use Rattle.log_command.specs.Headline.{IsLogged, IsOfOthers, IsRun, IsTold, IsUnlogged, IsUnopened};
 ghost use Rattle.log_command.specs.Known.{IsAsKnown};
 ghost use Rattle.log_command.specs.Making.{AreRowsFor, total_rows};
-ghost use Rattle.log_command.specs.Openings.{AreOthersSame, CountsOpening, Devices, IsLogOpened};
+ghost use Rattle.log_command.specs.Openings.{AreOthersSame, CountsOpening, Devices, IsGivenBack, IsLogOpened};
 ghost use Rattle.log_command.specs.Plans.{AreGood, IsFaultOfPlanned};
 ghost use Rattle.log_command.specs.Reports.{all_rows};
 ghost use Rattle.log_command.specs.Texts.{log_name, plant_text};
@@ -157,16 +156,15 @@ fn unready<S: Store>(store: &mut S, log: Log<S::Dev>) -> Logged
     requires place { IsTrue (S.has_place store.old log_name) }
     ensures answer { result.answer ≡ Err Status.WantOfMemory }
     ensures none { result.log ≡ None }
-    ensures device { S.device_at store.new log_name ≡ S.Dev.trace log.dev }
-    ensures others { AreOthersSame (S.device_at store.old) (S.device_at store.new) }
-    ensures counts { S.fault_count store.new ≡ sum_of_counts (S.fault_count store.old) (S.Dev.fault_count log.dev) }
+    ensures back { IsGivenBack S.Dev.trace S.Dev.fault_count log (S.device_at store.old) (S.device_at store.new)
+        (S.fault_count store.old) (S.fault_count store.new) }
 {
     let (dev, _) = log.into_history();
     store.give_back(LOG_NAME, dev);
     Logged::refused(Status::WantOfMemory)
 }
 
-// Lets the collectors put their rows into a log that is open, and gives its device back.
+// Lets the collectors put their rows into a log that is open, and gives its device back. Where there is no memory for them none begins.
 fn log_open<S: Store, P: Passes, R: Threads + Wait + Sync>(
     rt: &R,
     alloc: Global,
@@ -185,22 +183,33 @@ fn log_open<S: Store, P: Passes, R: Threads + Wait + Sync>(
     requires plant { known.now.plant.items ≡ plant_text base.now.tags.items }
     requires tags { known.now.tags ≡ length base.now.tags.items }
     requires place { IsTrue (S.has_place store.old log_name) }
-    ensures some { IsSome result.log }
     ensures run { (old : Devices) → AreOthersSame old (S.device_at store.old)
         → IsLogOpened S.Dev.trace S.Dev.ticks S.Dev.fault_count (plant_text base.now.tags.items) (length base.now.tags.items) (old log_name) log
         → IfSome result.log (IsRun S.Dev.trace S.Dev.ticks S.Dev.fault_count base.now (lists_of rows.now)
         old (S.device_at store.new) (S.fault_count store.old) (S.fault_count store.new)
         (P.stops passes.old) (P.stops passes.new) result.answer) }
+
+    // No collector was started.
+    ensures answer { result.log ≡ None → result.answer ≡ Err Status.WantOfMemory }
+    ensures back { result.log ≡ None → IsGivenBack S.Dev.trace S.Dev.fault_count log (S.device_at store.old) (S.device_at store.new)
+        (S.fault_count store.old) (S.fault_count store.new) }
+    ensures unstopped { result.log ≡ None → P.stops passes.new ≡ P.stops passes.old }
 {
-    let Ended {
-        dev,
-        history,
-        answer,
-    } = hold(rt, alloc, log, known, rows, passes);
-    store.give_back(LOG_NAME, dev);
-    Logged {
-        answer: told(alloc, base, answer, &history),
-        log: Some(history),
+    match hold(rt, alloc, log, known, rows, passes) {
+        Ok(
+            Ended {
+                dev,
+                history,
+                answer,
+            },
+        ) => {
+            store.give_back(LOG_NAME, dev);
+            Logged {
+                answer: told(alloc, base, answer, &history),
+                log: Some(history),
+            }
+        }
+        Err(log) => unready(store, log),
     }
 }
 

@@ -1,5 +1,5 @@
 // The collectors of a plan at an open log, and what is done once they have ended.
-ghost use Rattle.std.specs.Prelude.{◌≡◌, ◌^◌, ◌<◌, IfErr, OnOk, length};
+ghost use Rattle.std.specs.Prelude.{◌≡◌, ◌^◌, ◌<◌, IfErr, IfOk, OnErr, length};
 ghost use Rattle.log_pool.specs.Notes.{lists_of};
 ghost use Rattle.log_command.specs.Making.{AreRowsFor, total_rows};
 ghost use Rattle.log_command.specs.Headline.{IsEnded};
@@ -8,10 +8,10 @@ use crate::known::Known;
 use crate::settling::settle;
 use commit_log::{Log, LogHistory};
 use disk_model::Disk;
-use log_pool::run_collectors;
+use log_pool::{Worked, run_collectors};
 use plant_status::{Passes, Status};
 use std::alloc::Global;
-use std::sync::{Mutex, Wait};
+use std::sync::Wait;
 use std::thread::Threads;
 use value_rows::RawRow;
 
@@ -22,7 +22,8 @@ pub(crate) struct Ended<D: Disk> {
     pub(crate) answer: Result<(), Status>,
 }
 
-// Lets the collectors put their rows into a log, and brings it to its end.
+// Lets the collectors put their rows into a log, and brings it to its end. Where there is no memory for their workers none begins, and
+// the log is given back as it was.
 pub(crate) fn hold<D: Disk + Send, P: Passes, R: Threads + Wait + Sync>(
     rt: &R,
     alloc: Global,
@@ -30,20 +31,25 @@ pub(crate) fn hold<D: Disk + Send, P: Passes, R: Threads + Wait + Sync>(
     known: &Known,
     files: &[Vec<RawRow>],
     passes: &mut P,
-) -> Ended<D>
+) -> Result<Ended<D>, Log<D>>
     requires few { length files.now < 2 ^ 32 }
     requires rows { AreRowsFor known.now.tags (lists_of files.now) }
     requires small { total_rows (lists_of files.now) < 2 ^ 64 }
-    ensures { IsEnded D.trace D.ticks D.fault_count (lists_of files.now) known.now (P.stops passes.old) (P.stops passes.new) result }
+    ensures ended { IfOk result (IsEnded D.trace D.ticks D.fault_count (lists_of files.now) known.now
+        (P.stops passes.old) (P.stops passes.new)) }
+    ensures unbegun { OnErr result (P.stops passes.new ≡ P.stops passes.old) }
+    ensures unchanged { IfErr result (λ back. back ≡ log) }
 {
-    let lock = Mutex::new(log);
-    let notes = run_collectors(rt, alloc, &lock, files, passes);
-    let mut log = lock.into_inner();
-    let answer = settle(alloc, &mut log, known, files, &notes);
-    let (dev, history) = log.into_history();
-    Ended {
-        dev,
-        history,
-        answer,
+    match run_collectors(rt, alloc, log, files, passes) {
+        Ok(Worked { mut log, notes }) => {
+            let answer = settle(alloc, &mut log, known, files, &notes);
+            let (dev, history) = log.into_history();
+            Ok(Ended {
+                dev,
+                history,
+                answer,
+            })
+        }
+        Err(log) => Err(log),
     }
 }

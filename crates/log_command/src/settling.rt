@@ -5,7 +5,7 @@ ghost use Rattle.log_pool.specs.Turns.{IsSameLog};
 ghost use Rattle.log_command.specs.Finding.{AreFound};
 ghost use Rattle.log_command.specs.Known.{IsAsKnown};
 ghost use Rattle.log_command.specs.Making.{AreRowsFor, total_rows};
-ghost use Rattle.log_command.specs.Refusals.{IsMade, IsOfOpening, IsRestRefusal, IsSettlingRefusal, notes_of};
+ghost use Rattle.log_command.specs.Refusals.{IsMade, IsOfOpening, IsRestRefusal, IsSettlingRefusal};
 
 use crate::endings::check_endings;
 use crate::finding::{find_puts, none_found};
@@ -16,7 +16,6 @@ use disk_model::Disk;
 use log_pool::LogNote;
 use plant_status::Status;
 use std::alloc::Global;
-use trend_num::WantOfMemory;
 use value_rows::RawRow;
 
 // Compares a log with what was kept of it, and its tape with the rows of the collectors' files, and does what the tape lacks. It
@@ -26,14 +25,14 @@ pub(crate) fn settle<D: Disk>(
     log: &mut Log<D>,
     known: &Known,
     files: &[Vec<RawRow>],
-    notes: &Result<Vec<LogNote>, WantOfMemory>,
+    notes: &[LogNote],
 ) -> Result<(), Status>
     requires few { length files.now < 2 ^ 32 }
     requires rows { AreRowsFor known.now.tags (lists_of files.now) }
     requires small { total_rows (lists_of files.now) < 2 ^ 64 }
     ensures made { OnOk result (IsMade (lists_of files.now) log.new) }
     ensures known { (IsOfOpening result → ⊥) → IsAsKnown log.new known.now }
-    ensures refused { IfErr result (IsSettlingRefusal D.fault_count (lists_of files.now) (notes_of notes.now) known.now log.new) }
+    ensures refused { IfErr result (IsSettlingRefusal D.fault_count (lists_of files.now) notes.now known.now log.new) }
 {
     if let Err(why) = compare_log(log, known) {
         return Err(why);
@@ -44,10 +43,7 @@ pub(crate) fn settle<D: Disk>(
     if let Err(why) = find_puts(log.tape(), files, &mut next) {
         return Err(why);
     }
-    match notes {
-        Ok(notes) => complete(log, files, &mut next, notes),
-        Err(_) => Err(Status::WantOfMemory),
-    }
+    complete(log, files, &mut next, notes)
 }
 
 // Does what the tape of a log lacks, where no worker was stopped and each found memory.

@@ -1,5 +1,5 @@
 // All workers beside each other.
-ghost use Rattle.std.specs.Prelude.{◌≡◌, ℕ, ◌^◌, ◌<◌, ◌≤◌, [], All, IfOk, OnErr, length, map, slice_index_or, vec_capacity, vec_len};
+ghost use Rattle.std.specs.Prelude.{◌≡◌, ℕ, ◌^◌, ◌<◌, ◌≤◌, [], All, IfErr, IfOk, OnErr, length, map, slice_index_or, vec_capacity, vec_len};
 ghost use Rattle.trend_num.specs.Ranges.{InRange};
 ghost use Rattle.log_pool.specs.Notes.{AreNotesOf, halts, lists_of, stops_with};
 ghost use Rattle.log_pool.specs.Slots.{AreDone, AreSeated, IsDone, IsReady};
@@ -17,35 +17,45 @@ use std::thread::Threads;
 use trend_num::WantOfMemory;
 use value_rows::RawRow;
 
-/// Runs a worker for each collector beside each other, at the log of a plant, and answers their notes in order. Every worker has
-/// ended, and every pass is given back. After want of memory no worker began and no pass was handed out. The points of the rows
-/// are in range.
+/// A log at which all workers have ended, and their notes in order.
+pub struct Worked<D: Disk> {
+    pub log: Log<D>,
+    pub notes: Vec<LogNote>,
+}
+
+/// Runs a worker for each collector beside each other, at the log of a plant, and answers the log and their notes. Every worker has
+/// ended, and every pass is given back. Where there is no memory for them no worker began and no pass was handed out, and the log
+/// is given back as it was. The points of the rows are in range.
 pub fn run_collectors<D: Disk + Send, P: Passes, R: Threads + Wait + Sync>(
     rt: &R,
     alloc: Global,
-    log: &Mutex<Log<D>>,
+    log: Log<D>,
     collectors: &[Vec<RawRow>],
     passes: &mut P,
-) -> Result<Vec<LogNote>, WantOfMemory>
+) -> Result<Worked<D>, Log<D>>
     requires few { length collectors.now < 2 ^ 32 }
     requires rows { All (λ rows. All (λ row. InRange row.point) rows.items) collectors.now }
-    ensures notes { IfOk result (λ notes. AreNotesOf D (lists_of collectors.now) notes.items) }
-    ensures stops { IfOk result (λ notes. P.stops passes.new ≡ stops_with (P.stops passes.old) notes.items) }
+    ensures notes { IfOk result (λ done. AreNotesOf D (lists_of collectors.now) done.notes.items) }
+    ensures stops { IfOk result (λ done. P.stops passes.new ≡ stops_with (P.stops passes.old) done.notes.items) }
     ensures unbegun { OnErr result (P.stops passes.new ≡ P.stops passes.old) }
+    ensures unchanged { IfErr result (λ back. back ≡ log) }
 {
     let workers = collectors.len();
-    let mut slots = with_room(alloc, workers)?;
-    let mut notes = match with_room(alloc, workers) {
-        Ok(notes) => notes,
-        Err(WantOfMemory) => {
-            slots.destroy_empty();
-            return Err(WantOfMemory);
-        }
+    let Ok(mut slots) = with_room(alloc, workers) else {
+        return Err(log);
+    };
+    let Ok(mut notes) = with_room(alloc, workers) else {
+        slots.destroy_empty();
+        return Err(log);
     };
     seat_all(workers, passes, &mut slots);
-    work_all(rt, log, collectors, &mut slots);
+    let lock = Mutex::new(log);
+    work_all(rt, &lock, collectors, &mut slots);
     gather(slots, passes, &mut notes);
-    Ok(notes)
+    Ok(Worked {
+        log: lock.into_inner(),
+        notes,
+    })
 }
 
 // An empty list with room for so many items.

@@ -36,6 +36,11 @@ taken_entry collector number row old new t = record {
   changed = t.changed;
 }
 
+-- a row is taken with its number, whatever that is called
+pub taken_as : {D : Type 0} (collector n number : ℕ) (row : RawRow) (old new : List (Told D)) → n ≡ number
+    → IsRowTaken collector n row old new → IsRowTaken collector number row old new
+taken_as collector n number row old new same t = subst (λ m. IsRowTaken collector m row old new) same t
+
 -- one entry of a kind
 pub one_entry : (IsOf : Entry → Type 0) (e : Entry) → IsOf e → All IsOf (e ∷ [])
 one_entry IsOf e is = λ k d below. at k d below

@@ -1,5 +1,5 @@
 // The questions of readers that tapes lack are answered.
-ghost use Rattle.std.specs.Prelude.{◌≡◌, ◌+◌, ◌^◌, ◌<◌, List, All, OnErr, OnOk, length};
+ghost use Rattle.std.specs.Prelude.{ℕ, ◌≡◌, ◌+◌, ◌^◌, ◌<◌, List, All, OnErr, OnOk, length};
 ghost use Rattle.trend_num.specs.Queries.{IsTagQuery};
 ghost use Rattle.value_rows.specs.declared.raw.RawRow.{RawRow};
 ghost use Rattle.calc_refresh.specs.Lists.{lists_of};

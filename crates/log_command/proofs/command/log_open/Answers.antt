@@ -5,11 +5,11 @@ use Rattle.log_command.proofs.command.log_open.Goals as goal
 
 pub told-requires-clause-rows : goal.told-requires-clause-rows
 told-requires-clause-rows g c =
-    rows_known _ _ _ _ c.hold-dev.result c.args.known.now (length c.args.base.now.tags.items) _ _ c.hold-dev.ensures c.requires.tags
+    rows_known _ _ _ _ c.in-Ok.field-0 c.args.known.now (length c.args.base.now.tags.items) _ _ c.in-Ok.ensures.ended c.requires.tags
 
-pub returns-clause-run : goal.returns-clause-run
-returns-clause-run g c old others was =
-    is_run _ _ _ c.args.base.now (lists_of c.args.rows.now) c.args.known.now c.args.log c.hold-dev.result old
+pub returns-in-Ok-clause-run : goal.returns-in-Ok-clause-run
+returns-in-Ok-clause-run g c old others was =
+    is_run _ _ _ c.args.base.now (lists_of c.args.rows.now) c.args.known.now c.args.log c.in-Ok.field-0 old
     (g.S.Store.device_at c.args.store.now) (g.S.Store.device_at c.give_back.new.self) (g.S.Store.fault_count c.args.store.now)
-    (g.S.Store.fault_count c.give_back.new.self) _ _ _ c.hold-dev.ensures was c.requires.kept c.requires.plant c.requires.tags others
+    (g.S.Store.fault_count c.give_back.new.self) _ _ _ c.in-Ok.ensures.ended was c.requires.kept c.requires.plant c.requires.tags others
     c.give_back.ensures.others c.give_back.ensures.told c.give_back.ensures.counted c.told.ensures

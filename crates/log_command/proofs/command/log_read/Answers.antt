@@ -31,10 +31,27 @@ returns-in-Err-known_of-clause-unopened g c = λ none.
     subst (λ (r : Result (String Global) Status). IfErr r (IsUnopened base total old new before now)) (sym c.unready.ensures.answer)
     (unready_for base total old new before now
     (kept_ready g.S.Dev.Disk.trace g.S.Dev.Disk.ticks g.S.Dev.Disk.fault_count (plant_text base.tags.items) (length base.tags.items) old mid new
-    c.in-Ok-take_log.log
+    (g.S.Store.fault_count c.take_log.new.store) now c.in-Ok-take_log.log
     (opened_for g.S.Dev.Disk.trace g.S.Dev.Disk.ticks g.S.Dev.Disk.fault_count _ _ _ _ (old log_name) c.in-Ok-take_log.log
     (c.deref-2.ensures.value ∙ c.in-Ok.ensures.text) c.in-Ok.ensures.tags c.in-Ok-take_log.ensures.opened)
-    c.unready.ensures.device c.in-Ok-take_log.ensures.others c.unready.ensures.others))
+    c.in-Ok-take_log.ensures.others c.unready.ensures.back))
+
+pub returns-in-Ok-known_of-clause-unopened : goal.returns-in-Ok-known_of-clause-unopened
+returns-in-Ok-known_of-clause-unopened g c = λ none.
+    let old = g.S.Store.device_at c.args.store.now in
+    let mid = g.S.Store.device_at c.take_log.new.store in
+    let new = g.S.Store.device_at c.log_open.new.store in
+    let before = g.S.Store.fault_count c.args.store.now in
+    let now = g.S.Store.fault_count c.log_open.new.store in
+    let base = c.args.read.now.base in
+    let total = total_rows (lists_of c.args.read.now.rows.items) in
+    subst (λ (r : Result (String Global) Status). IfErr r (IsUnopened base total old new before now)) (sym (c.log_open.ensures.answer none))
+    (unready_for base total old new before now
+    (kept_ready g.S.Dev.Disk.trace g.S.Dev.Disk.ticks g.S.Dev.Disk.fault_count (plant_text base.tags.items) (length base.tags.items) old mid new
+    (g.S.Store.fault_count c.take_log.new.store) now c.in-Ok-take_log.log
+    (opened_for g.S.Dev.Disk.trace g.S.Dev.Disk.ticks g.S.Dev.Disk.fault_count _ _ _ _ (old log_name) c.in-Ok-take_log.log
+    (c.deref-2.ensures.value ∙ c.in-Ok.ensures.text) c.in-Ok.ensures.tags c.in-Ok-take_log.ensures.opened)
+    c.in-Ok-take_log.ensures.others (c.log_open.ensures.back none)))
 
 pub returns-in-Ok-known_of-clause-run : goal.returns-in-Ok-known_of-clause-run
 returns-in-Ok-known_of-clause-run g c =

@@ -1,14 +1,14 @@
 use Rattle.std.proofs.Common.{◌∙◌, ◌+◌, ap, sym, subst, refl, get_or, length, set, is_some}
 use Rattle.std.proofs.lemmas.List.{get_or_default}
 use Rattle.std.proofs.lemmas.List.Elements.{All-get_or}
-use Rattle.tape_audit.specs.Agendas.{phase_item}
+use Rattle.tape_audit.specs.Agendas.{number_in, phase_item}
 use Rattle.tape_audit.specs.Tapes.{take_of}
 use Rattle.collector_pool.specs.Work.{IsRowOf}
 use Rattle.plant_session.specs.Cells.{AreLonger, IsTaken, tape_of}
 use Rattle.plant_session.specs.Workers.{IsOver}
 use Rattle.plant_session.proofs.FullTapes.{due_for}
 use Rattle.plant_session.proofs.Longer.{all_longer}
-use Rattle.plant_session.proofs.TakeTurns.{missing_take, taken_entry, taken_longer}
+use Rattle.plant_session.proofs.TakeTurns.{missing_take, taken_as, taken_entry, taken_longer}
 use Rattle.plant_session.proofs.Turns.{all_known, caught_past_row, caught_row, due_next, found_turn, over_turn, row_within}
 use Rattle.plant_session.proofs.taking.take_turn.Goals as goal
 
@@ -65,9 +65,11 @@ returns-clause-found g c =
     c.index-works-collector.result c.index-works-collector-2.result c.requires.over c.requires.within c.requires.values
     (sym c.lacks.ensures.lacks ∙ c.if-not-lacks.false) c.lacks.ensures.next c.requires.caught in
     let value = All-get_or (IsRowOf (length c.args.cells.now)) c.args.rows.now c.args.place _ c.requires.within c.requires.values in
+    let taken = taken_as c.args.collector _ _ _ c.args.cells.now c.take_row.new.cells c.number_in-number.ensures
+    c.in_default.ensures.taken in
     found_turn tape_of take_of c.args.collector c.args.place _ _ _ c.args.cells.now c.take_row.new.cells c.args.works.now _
     c.advance.new.self m c.advance.ensures refl
-    (taken_entry c.args.collector _ _ c.args.cells.now c.take_row.new.cells c.in_default.ensures.taken)
+    (taken_entry c.args.collector (number_in c.args.earlier (c.args.place + 1)) _ c.args.cells.now c.take_row.new.cells taken)
     (all_known (phase_item c.args.earlier) (length c.args.cells.now) c.args.collector _ c.args.rows.now c.args.works.now c.requires.over value.tag)
     c.requires.found
 
