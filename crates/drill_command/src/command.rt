@@ -1,5 +1,5 @@
 // The command `drill`.
-ghost use Rattle.std.specs.Prelude.{◌≡◌, ◌≤◌, ℕ, List, [], IfErr, IfSome, None, OnOk};
+ghost use Rattle.std.specs.Prelude.{◌≡◌, ◌≢◌, ◌≤◌, ℕ, List, [], IfErr, IfSome, None, OnOk};
 ghost use Rattle.std.specs.Option.{IsSome};
 ghost use Rattle.value_rows.specs.declared.raw.RawRow.{RawRow};
 ghost use Rattle.book_store.specs.Groups.{Devices};
@@ -34,6 +34,7 @@ pub fn drill<P: Passes, R: Threads + Wait + Sync>(
     ensures drilled { IfSome result.session (IsDrilled number tags events result.answer) }
     ensures unheld { result.session ≡ None → IfErr result.answer (IsUnheld tags) }
     ensures unstopped { result.session ≡ None → P.stops passes.new ≡ P.stops passes.old }
+    ensures understood { IfErr result.answer (λ why. why ≢ Status.BadWords) }
 {
     match drill_of(alloc, number, tags, events) {
         Ok(drill) => run_drill(rt, alloc, passes, tags, &drill),

@@ -1,3 +1,4 @@
 pub mod Naming
 pub mod Growing
 pub mod Sound
+pub mod Formulas

@@ -32,7 +32,8 @@ pub of_tag : (tag : ℕ) (points : List Point) → All (λ row. row.tag ≡ tag)
 of_tag tag points = All-map (λ row. row.tag ≡ tag) (row_of tag) points (λ i d within. refl)
 
 -- and in range where its points are
-pub rows_in_range : (tag : ℕ) (points : List Point) → All InRange points → All (λ row. InRange row.point) (map (row_of tag) points)
+pub rows_in_range : (tag : ℕ) (points : List Point) → All InRange points
+    → All (λ row. InRange row.point) (map (row_of tag) points)
 rows_in_range tag points in_range = All-map (λ row. InRange row.point) (row_of tag) points in_range
 
 -- a tag has so many rows

@@ -1,3 +1,3 @@
-pub mod Printing
+pub mod Refusals
+pub mod Shifting
 pub mod Words
-pub mod Logging

@@ -1,20 +1,12 @@
 -- What the words of a command line mean.
-use Rattle.std.specs.Prelude.{ℕ, ◌≤◌, List, [], ◌∷◌, Option, None, Some, codes, nat_eq, option_and_then, if◌then◌else◌}
+use Rattle.std.specs.Prelude.{ℕ, ◌≤◌, List, [], ◌∷◌, Option, None, Some, codes, option_and_then, if◌then◌else◌}
 use Rattle.std.specs.Str.{bytes_eq}
 use Rattle.trend_num.specs.declared.tuning.Tuning.{Tuning}
-use Rattle.trend_num.specs.Numerals.{numeral, natural_upto}
 use Rattle.trend_num.specs.Ranges.{TuningInRange, last_time, largest_value}
+use Rattle.command_text.specs.Numbers.{count_upto, number_upto}
+use Rattle.plant_more.specs.Words.{AskedShifts, shift_words}
 use Rattle.plant_run.specs.declared.command_line.Form.{Form as FormOfWords}
 use Rattle.plant_run.specs.declared.command_line.Form.TheVariants as form
-use Rattle.plant_run.specs.declared.command_line.Planned.{Planned}
-
--- a numeral's number, from 0 up to `most`
-abbrev pub number_upto : ℕ → List ℕ → Option ℕ
-number_upto most word = option_and_then (natural_upto most) (numeral word)
-
--- the same, from 1 up
-abbrev pub count_upto : ℕ → List ℕ → Option ℕ
-count_upto most word = option_and_then (λ n. if nat_eq n 0 then None else Some n) (number_upto most word)
 
 -- what f makes of the value, where there is one
 infixl 10 ◌>>=◌
@@ -31,14 +23,13 @@ tuning_of exc_dev exc_max comp_dev comp_min comp_max = do
   comp_max' ← number_upto last_time comp_max
   Some (record { exc_dev = exc_dev'; exc_max = exc_max'; comp_dev = comp_dev'; comp_min = comp_min'; comp_max = comp_max' })
 
--- what a command line asks for: to pack with a tuning; to check the tags of a base; to answer the readers of a plan; to tell the
--- shifts of a base's tags by a calendar, from the day of a word on, for so many days; to tell the frames of a group's calculation
--- that have at least so many windows; or nothing that there is
+-- what a command line asks for: to pack with a tuning; to check the tags of a base; to answer the readers of a plan; to tell
+-- shifts; to tell the frames of a group's calculation that have at least so many windows; or nothing that there is
 pub data Form : Type 0 where
   Pack : Tuning → Form
   Check : List ℕ → Form
   Trend : List ℕ → List ℕ → Form
-  Shifts : List ℕ → List ℕ → List ℕ → ℕ → Form
+  Shifts : AskedShifts → Form
   Frames : List ℕ → List ℕ → List ℕ → ℕ → Form
   Unknown : Form
 
@@ -47,7 +38,6 @@ abbrev pub asked : FormOfWords → Form
 asked (form.Pack tuning) = Pack tuning
 asked (form.Check base) = Check base.now
 asked (form.Trend base plan) = Trend base.now plan.now
-asked (form.Shifts base calendar day days) = Shifts base.now calendar.now day.now days
 asked (form.Frames base group calc least) = Frames base.now group.now calc.now least
 asked form.Unknown = Unknown
 
@@ -56,18 +46,11 @@ abbrev pub packing : Option Tuning → Form
 packing None = Unknown
 packing (Some tuning) = Pack tuning
 
--- for how many days shifts are told at most, and how many windows frames may be asked to have
-abbrev pub most_days : ℕ
-most_days = 366
-
+-- how many windows frames may be asked to have
 abbrev pub most_least : ℕ
 most_least = 1_000_000
 
--- to tell the shifts of so many days, and the frames of at least so many windows, where they are numbers
-abbrev pub over_days : List ℕ → List ℕ → List ℕ → Option ℕ → Form
-over_days base calendar day None = Unknown
-over_days base calendar day (Some days) = Shifts base calendar day days
-
+-- to tell the frames of at least so many windows, where they are a number
 abbrev pub framing : List ℕ → List ℕ → List ℕ → Option ℕ → Form
 framing base group calc None = Unknown
 framing base group calc (Some least) = Frames base group calc least
@@ -77,32 +60,31 @@ abbrev pub plan_words : List (List ℕ) → Option (List ℕ × List ℕ)
 plan_words (verb ∷ base ∷ plan ∷ []) = if bytes_eq verb (codes "run") then Some (base, plan) else None
 plan_words words = None
 
--- those whose collectors it asks to log: `log BASE PLAN`
-abbrev pub log_words : List (List ℕ) → Option (List ℕ × List ℕ)
-log_words (verb ∷ base ∷ plan ∷ []) = if bytes_eq verb (codes "log") then Some (base, plan) else None
-log_words words = None
-
--- those that the code has of it
-abbrev pub named : Planned → List ℕ × List ℕ
-named p = (p.base.now, p.plan.now)
-
--- what any other command line asks for: `check BASE`, `trend BASE PLAN`, `shifts BASE CALENDAR DAY DAYS`,
--- `frames BASE GROUP CALC LEAST`, or `pack EXCDEV EXCMAX COMPDEV COMPMIN COMPMAX`
-abbrev pub form_of : List (List ℕ) → Form
-form_of (verb ∷ base ∷ []) = if bytes_eq verb (codes "check") then Check base else Unknown
-form_of (verb ∷ base ∷ plan ∷ []) = if bytes_eq verb (codes "trend") then Trend base plan else Unknown
-form_of (verb ∷ base ∷ second ∷ third ∷ number ∷ []) =
-    if bytes_eq verb (codes "shifts") then over_days base second third (count_upto most_days number)
-    else if bytes_eq verb (codes "frames") then framing base second third (count_upto most_least number) else Unknown
-form_of (verb ∷ exc_dev ∷ exc_max ∷ comp_dev ∷ comp_min ∷ comp_max ∷ []) =
+-- what any other command line asks for, unless it asks for shifts: `check BASE`, `trend BASE PLAN`, `frames BASE GROUP CALC LEAST`, or
+-- `pack EXCDEV EXCMAX COMPDEV COMPMIN COMPMAX`
+abbrev pub other_form : List (List ℕ) → Form
+other_form (verb ∷ base ∷ []) = if bytes_eq verb (codes "check") then Check base else Unknown
+other_form (verb ∷ base ∷ plan ∷ []) = if bytes_eq verb (codes "trend") then Trend base plan else Unknown
+other_form (verb ∷ base ∷ group ∷ calc ∷ number ∷ []) =
+    if bytes_eq verb (codes "frames") then framing base group calc (count_upto most_least number) else Unknown
+other_form (verb ∷ exc_dev ∷ exc_max ∷ comp_dev ∷ comp_min ∷ comp_max ∷ []) =
     if bytes_eq verb (codes "pack") then packing (tuning_of exc_dev exc_max comp_dev comp_min comp_max) else Unknown
-form_of words = Unknown
+other_form words = Unknown
 
--- a form whose tuning, days or windows, if it has them, are in range
+-- to tell shifts, where words ask for them, or else what they ask for beside
+abbrev pub shifting : Option AskedShifts → Form → Form
+shifting None other = other
+shifting (Some asked) other = Shifts asked
+
+-- what a command line asks for that neither runs a plan nor logs one
+abbrev pub form_of : List (List ℕ) → Form
+form_of words = shifting (shift_words words) (other_form words)
+
+-- a form whose tuning or windows, if it has them, are in range
 abbrev pub FormInRange : Form → Type 0
 FormInRange (Pack tuning) = TuningInRange tuning
 FormInRange (Check base) = Unit {0}
 FormInRange (Trend base plan) = Unit {0}
-FormInRange (Shifts base calendar day days) = (1 ≤ days) × (days ≤ most_days)
+FormInRange (Shifts asked) = Unit {0}
 FormInRange (Frames base group calc least) = (1 ≤ least) × (least ≤ most_least)
 FormInRange Unknown = Unit {0}

@@ -5,13 +5,17 @@ ghost use Rattle.std.specs.Process.{exit_status};
 ghost use Rattle.std.specs.Vec.Iter.{into_iter_items};
 ghost use Rattle.plant_status.specs.Status.{code_of};
 ghost use Rattle.plant_run.specs.Argument.{status_of_args};
-ghost use Rattle.plant_run.specs.Run.{EndsWithCode, IsTold, KeepsFor, MeansNothing, world};
-ghost use Rattle.plant_run.specs.CommandLine.{form_of, log_words, plan_words};
-ghost use Rattle.plant_run.specs.Sessions.{HoldsNone, LogsWithCode, RunsWithCode};
+ghost use Rattle.command_text.specs.Printing.{IsTold};
+ghost use Rattle.plant_more.specs.Words.{log_words};
+ghost use Rattle.plant_run.specs.Run.{EndsWithCode, KeepsFor, MeansNothing, world};
+ghost use Rattle.plant_run.specs.CommandLine.{form_of, plan_words};
+ghost use Rattle.drill_command.specs.declared.words.DrillWords.{DrillWords};
+ghost use Rattle.drill_command.specs.Words.{drill_words};
+ghost use Rattle.plant_run.specs.Sessions.{DrillsWithCode, HoldsNone, LogsWithCode, RunsWithCode};
 
 use crate::program::run;
-use crate::top_call::refuse;
 use byte_io::{Files, Sink, Source};
+use command_text::refuse;
 use disk_model::Store;
 use plant_status::{Passes, Status, code};
 use std::alloc::{AllocError, Global};
@@ -51,6 +55,12 @@ pub fn run_args<R: Threads + Wait + Sync, I: Source, F: Files, O: Sink, S: Store
     ensures log { IfOk args (λ given. (base plan : List ℕ)
         → log_words (map string_bytes (drop 1 (into_iter_items given))) ≡ Some (base, plan)
         → LogsWithCode S.Dev.trace S.Dev.ticks S.Dev.fault_count base plan
+        (world (I.meaning input.old) (O.meaning out.old) (F.told files.old) (F.fault_count files.old) (F.failed_name files.old)
+        (S.device_at store.old) (S.fault_count store.old))
+        (world (I.meaning input.new) (O.meaning out.new) (F.told files.new) (F.fault_count files.new) (F.failed_name files.new)
+        (S.device_at store.new) (S.fault_count store.new)) (P.stops passes.old) (P.stops passes.new) (exit_status result)) }
+    ensures drill { IfOk args (λ given. (wanted : DrillWords)
+        → drill_words (map string_bytes (drop 1 (into_iter_items given))) ≡ Some wanted → DrillsWithCode wanted
         (world (I.meaning input.old) (O.meaning out.old) (F.told files.old) (F.fault_count files.old) (F.failed_name files.old)
         (S.device_at store.old) (S.fault_count store.old))
         (world (I.meaning input.new) (O.meaning out.new) (F.told files.new) (F.fault_count files.new) (F.failed_name files.new)

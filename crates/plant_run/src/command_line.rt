@@ -1,11 +1,14 @@
 // The words of a command line.
 ghost use Rattle.std.specs.Prelude.{◌≡◌, ◌≤◌, map, string_bytes, IfSome, option_map};
 ghost use Rattle.trend_num.specs.Ranges.{TuningInRange};
-ghost use Rattle.plant_run.specs.CommandLine.{FormInRange, asked, count_upto, form_of, framing, log_words, most_days, most_least, named, number_upto, over_days, packing, plan_words, tuning_of};
+ghost use Rattle.plant_more.specs.Words.{named};
+ghost use Rattle.plant_run.specs.CommandLine.{FormInRange, asked, framing, most_least, other_form, packing, plan_words, tuning_of};
 
-use trend_num::{MAX_DEV, MAX_T, Tuning, numeral};
+use command_text::{count_upto, number_upto};
+use plant_more::Planned;
+use trend_num::{MAX_DEV, MAX_T, Tuning};
 
-/// What a command line asks for.
+/// What a command line asks for that is neither of a plan nor for shifts.
 #[derive(Clone, Copy)]
 pub(crate) enum Form<'w> {
     /// To pack the input with this tuning.
@@ -19,13 +22,6 @@ pub(crate) enum Form<'w> {
         base: &'w str,
         plan: &'w str,
     },
-    /// To tell the shifts of a calendar over the tags of a base, from the day of a word on, for so many days.
-    Shifts {
-        base: &'w str,
-        calendar: &'w str,
-        day: &'w str,
-        days: u32,
-    },
     /// To tell the frames of a calculation of a group of the base that have at least so many windows.
     Frames {
         base: &'w str,
@@ -37,18 +33,8 @@ pub(crate) enum Form<'w> {
     Unknown,
 }
 
-/// For how many days shifts are told at most.
-const MOST_DAYS: u32 = 366;
-
 /// How many windows frames may be asked to have at least.
 const MOST_LEAST: u32 = 1_000_000;
-
-/// The files of a base and of a plan over it.
-#[derive(Clone, Copy)]
-pub(crate) struct Planned<'w> {
-    pub(crate) base: &'w str,
-    pub(crate) plan: &'w str,
-}
 
 /// The files that these words ask to run, if they are `run BASE PLAN`.
 pub(crate) fn plan_words(words: &[String]) -> Option<Planned<'_>>
@@ -63,22 +49,9 @@ pub(crate) fn plan_words(words: &[String]) -> Option<Planned<'_>>
     }
 }
 
-/// The files whose collectors these words ask to log, if they are `log BASE PLAN`.
-pub(crate) fn log_words(words: &[String]) -> Option<Planned<'_>>
-    ensures { option_map named result ≡ log_words (map string_bytes words.now) }
-{
-    match words {
-        [verb, base, plan] if verb.as_str() == "log" => Some(Planned {
-            base: base.as_str(),
-            plan: plan.as_str(),
-        }),
-        _ => None,
-    }
-}
-
-/// What these words ask for, unless that is to run a plan.
-pub(crate) fn form_of(words: &[String]) -> Form<'_>
-    ensures form { asked result ≡ form_of (map string_bytes words.now) }
+/// What these words ask for, unless that is to run or to log a plan, or to tell shifts.
+pub(crate) fn other_form(words: &[String]) -> Form<'_>
+    ensures form { asked result ≡ other_form (map string_bytes words.now) }
     ensures tuned { FormInRange (asked result) }
 {
     match words {
@@ -89,12 +62,6 @@ pub(crate) fn form_of(words: &[String]) -> Form<'_>
             base: base.as_str(),
             plan: plan.as_str(),
         },
-        [verb, base, calendar, day, days] if verb.as_str() == "shifts" => over_days(
-            base.as_str(),
-            calendar.as_str(),
-            day.as_str(),
-            count_upto(MOST_DAYS, days.as_bytes()),
-        ),
         [verb, base, group, calc, least] if verb.as_str() == "frames" => framing(
             base.as_str(),
             group.as_str(),
@@ -121,23 +88,6 @@ fn packing<'w>(tuning: Option<Tuning>) -> Form<'w>
 {
     match tuning {
         Some(tuning) => Form::Pack(tuning),
-        None => Form::Unknown,
-    }
-}
-
-/// To tell the shifts of so many days, where they are a number.
-fn over_days<'w>(base: &'w str, calendar: &'w str, day: &'w str, days: Option<u32>) -> Form<'w>
-    requires { IfSome days (λ n. (1 ≤ n) × (n ≤ most_days)) }
-    ensures form { asked result ≡ over_days base.now calendar.now day.now days }
-    ensures tuned { FormInRange (asked result) }
-{
-    match days {
-        Some(days) => Form::Shifts {
-            base,
-            calendar,
-            day,
-            days,
-        },
         None => Form::Unknown,
     }
 }
@@ -178,28 +128,4 @@ fn tuning_of(
         comp_min: number_upto(MAX_T, comp_min)?,
         comp_max: number_upto(MAX_T, comp_max)?,
     })
-}
-
-/// The number of a numeral, from 0 up to `most`.
-fn number_upto(most: u64, word: &[u8]) -> Option<u64>
-    ensures value { result ≡ number_upto most word.now }
-    ensures small { IfSome result (λ n. n ≤ most) }
-{
-    let n = numeral(word)?;
-    if 0 <= n && n <= i128::from(most) {
-        Some(n as u64)
-    } else {
-        None
-    }
-}
-
-/// The number of a numeral, from 1 up to `most`.
-fn count_upto(most: u32, word: &[u8]) -> Option<u32>
-    ensures value { result ≡ count_upto most word.now }
-    ensures range { IfSome result (λ n. (1 ≤ n) × (n ≤ most)) }
-{
-    match number_upto(u64::from(most), word)? {
-        0 => None,
-        n => Some(n as u32),
-    }
 }

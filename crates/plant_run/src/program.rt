@@ -1,16 +1,20 @@
 // The top call.
-ghost use Rattle.std.specs.Prelude.{◌≡◌, ◌↔◌, ℕ, IfNone, IfSome, List, None, OnSome, Some, map, string_bytes};
-ghost use Rattle.std.specs.Option.{IsSome};
-ghost use Rattle.plant_run.specs.CommandLine.{form_of, log_words, plan_words};
+ghost use Rattle.std.specs.Prelude.{◌≡◌, ◌↔◌, ℕ, List, None, Some, map, string_bytes};
+ghost use Rattle.plant_more.specs.Words.{log_words};
+ghost use Rattle.plant_run.specs.CommandLine.{form_of, plan_words};
 ghost use Rattle.plant_run.specs.Run.{EndsIn, KeepsFor, MeansNothing, world};
-ghost use Rattle.plant_run.specs.Sessions.{HoldsNone, IsLogSo, IsOfLog, IsRunSo};
+ghost use Rattle.drill_command.specs.declared.words.DrillWords.{DrillWords};
+ghost use Rattle.drill_command.specs.Words.{drill_words};
+ghost use Rattle.plant_run.specs.Sessions.{IsDrillSo, HoldsNone, IsHandedOn, IsLogHandedOn, IsRunSo};
 
-use crate::command_line::{Planned, log_words, plan_words};
-use crate::top_call::{answer, finish};
+use crate::command_line::plan_words;
+use crate::top_call::answer;
 use byte_io::{Files, Sink, Source};
+use command_text::finish;
 use commit_log::LogHistory;
 use disk_model::Store;
-use log_command::{Logged, log_plan};
+use drill_command::{DrillWords, drill, drill_words};
+use plant_more::{LogOutcome, Planned, log, log_words};
 use plant_status::{Passes, Status};
 use run_command::{Ran, run_plan};
 use session_report::Session;
@@ -28,9 +32,9 @@ pub struct Outcome {
 
 /// Does what the words of a command line ask for, and tells how it went. `run BASE PLAN` holds the session of a plan: its
 /// collectors feed the tags of the base, its readers ask, its refreshers bring the groups up to date; the report is printed once
-/// every device is given back. `log BASE PLAN` puts the rows of these collectors into one log of the whole plant instead. All other
-/// commands hold none. Each refusal but that of a write prints its one line instead.
-#[tactic(auto, using(crate::proofs::Words::run_no_log))]
+/// every device is given back. `log BASE PLAN` puts the rows of these collectors into one log of the whole plant instead. `drill NUMBER
+/// TAGS EVENTS` holds the session of a plant that is made up, in memory. All other commands hold none. Each refusal but that of a write prints its one line instead.
+#[tactic(auto, using(crate::proofs::Words::run_no_log, crate::proofs::Words::run_no_drill))]
 pub fn run<R: Threads + Wait + Sync, I: Source, F: Files, O: Sink, S: Store, P: Passes>(
     rt: &R,
     alloc: Global,
@@ -51,7 +55,14 @@ pub fn run<R: Threads + Wait + Sync, I: Source, F: Files, O: Sink, S: Store, P: 
 
     // The logging of a plan: its session, and what is printed of it.
     ensures log { (base plan : List ℕ) → log_words (map string_bytes words.now) ≡ Some (base, plan)
-        → IsLogSo S.Dev.trace S.Dev.ticks S.Dev.fault_count base plan
+        → IsLogHandedOn S.Dev.trace S.Dev.ticks S.Dev.fault_count base plan
+        (world (I.meaning input.old) (O.meaning out.old) (F.told files.old) (F.fault_count files.old) (F.failed_name files.old)
+        (S.device_at store.old) (S.fault_count store.old))
+        (world (I.meaning input.new) (O.meaning out.new) (F.told files.new) (F.fault_count files.new) (F.failed_name files.new)
+        (S.device_at store.new) (S.fault_count store.new)) (P.stops passes.old) (P.stops passes.new) result }
+
+    // A drill: its session, and what is printed of it.
+    ensures drill { (wanted : DrillWords) → drill_words (map string_bytes words.now) ≡ Some wanted → IsDrillSo wanted
         (world (I.meaning input.old) (O.meaning out.old) (F.told files.old) (F.fault_count files.old) (F.failed_name files.old)
         (S.device_at store.old) (S.fault_count store.old))
         (world (I.meaning input.new) (O.meaning out.new) (F.told files.new) (F.fault_count files.new) (F.failed_name files.new)
@@ -88,6 +99,7 @@ pub fn run<R: Threads + Wait + Sync, I: Source, F: Files, O: Sink, S: Store, P: 
 }
 
 /// Does what words ask for that run no plan.
+#[tactic(auto, using(crate::proofs::Words::log_no_drill))]
 fn run_other<R: Threads + Wait + Sync, I: Source, F: Files, O: Sink, S: Store, P: Passes>(
     rt: &R,
     alloc: Global,
@@ -100,30 +112,84 @@ fn run_other<R: Threads + Wait + Sync, I: Source, F: Files, O: Sink, S: Store, P
 ) -> Outcome
     requires { plan_words (map string_bytes words.now) ≡ None }
     ensures log { (base plan : List ℕ) → log_words (map string_bytes words.now) ≡ Some (base, plan)
-        → IsLogSo S.Dev.trace S.Dev.ticks S.Dev.fault_count base plan
+        → IsLogHandedOn S.Dev.trace S.Dev.ticks S.Dev.fault_count base plan
         (world (I.meaning input.old) (O.meaning out.old) (F.told files.old) (F.fault_count files.old) (F.failed_name files.old)
         (S.device_at store.old) (S.fault_count store.old))
         (world (I.meaning input.new) (O.meaning out.new) (F.told files.new) (F.fault_count files.new) (F.failed_name files.new)
         (S.device_at store.new) (S.fault_count store.new)) (P.stops passes.old) (P.stops passes.new) result }
-    ensures ends { log_words (map string_bytes words.now) ≡ None → EndsIn (map string_bytes words.now)
+    ensures drill { (wanted : DrillWords) → drill_words (map string_bytes words.now) ≡ Some wanted → IsDrillSo wanted
+        (world (I.meaning input.old) (O.meaning out.old) (F.told files.old) (F.fault_count files.old) (F.failed_name files.old)
+        (S.device_at store.old) (S.fault_count store.old))
+        (world (I.meaning input.new) (O.meaning out.new) (F.told files.new) (F.fault_count files.new) (F.failed_name files.new)
+        (S.device_at store.new) (S.fault_count store.new)) (P.stops passes.old) (P.stops passes.new) result }
+    ensures ends { log_words (map string_bytes words.now) ≡ None → drill_words (map string_bytes words.now) ≡ None
+        → EndsIn (map string_bytes words.now)
         (world (I.meaning input.old) (O.meaning out.old) (F.told files.old) (F.fault_count files.old) (F.failed_name files.old)
         (S.device_at store.old) (S.fault_count store.old))
         (world (I.meaning input.new) (O.meaning out.new) (F.told files.new) (F.fault_count files.new) (F.failed_name files.new)
         (S.device_at store.new) (S.fault_count store.new)) result.status }
-    ensures alone { log_words (map string_bytes words.now) ≡ None → result.session ≡ None }
-    ensures devices { log_words (map string_bytes words.now) ≡ None
+    ensures alone { log_words (map string_bytes words.now) ≡ None → drill_words (map string_bytes words.now) ≡ None
+        → result.session ≡ None }
+    ensures devices { log_words (map string_bytes words.now) ≡ None → drill_words (map string_bytes words.now) ≡ None
         → KeepsFor (form_of (map string_bytes words.now)) (F.told files.old) (S.device_at store.old) (S.device_at store.new) }
     ensures files { F.told files.new ≡ F.told files.old }
-    ensures bad_words { log_words (map string_bytes words.now) ≡ None
+    ensures bad_words { log_words (map string_bytes words.now) ≡ None → drill_words (map string_bytes words.now) ≡ None
         → (result.status ≡ Status.BadWords) ↔ MeansNothing (form_of (map string_bytes words.now)) }
     ensures untouched { result.status ≡ Status.BadWords → input.new ≡ input.old }
 {
     match log_words(words) {
-        Some(Planned { base, plan }) => {
-            let Logged { answer, log } = log_plan(rt, alloc, files, store, passes, base, plan);
+        Some(_) => {
+            let LogOutcome { status, log } = log(rt, alloc, words, files, out, store, passes);
+            Outcome {
+                status,
+                session: session_of(alloc, log),
+            }
+        }
+        None => run_rest(rt, alloc, words, input, files, out, store, passes),
+    }
+}
+
+/// Does what words ask for that neither run nor log a plan.
+fn run_rest<R: Threads + Wait + Sync, I: Source, F: Files, O: Sink, S: Store, P: Passes>(
+    rt: &R,
+    alloc: Global,
+    words: &[String],
+    input: &mut I,
+    files: &mut F,
+    out: &mut O,
+    store: &mut S,
+    passes: &mut P,
+) -> Outcome
+    requires no_run { plan_words (map string_bytes words.now) ≡ None }
+    requires no_log { log_words (map string_bytes words.now) ≡ None }
+    ensures drill { (wanted : DrillWords) → drill_words (map string_bytes words.now) ≡ Some wanted → IsDrillSo wanted
+        (world (I.meaning input.old) (O.meaning out.old) (F.told files.old) (F.fault_count files.old) (F.failed_name files.old)
+        (S.device_at store.old) (S.fault_count store.old))
+        (world (I.meaning input.new) (O.meaning out.new) (F.told files.new) (F.fault_count files.new) (F.failed_name files.new)
+        (S.device_at store.new) (S.fault_count store.new)) (P.stops passes.old) (P.stops passes.new) result }
+    ensures ends { drill_words (map string_bytes words.now) ≡ None → EndsIn (map string_bytes words.now)
+        (world (I.meaning input.old) (O.meaning out.old) (F.told files.old) (F.fault_count files.old) (F.failed_name files.old)
+        (S.device_at store.old) (S.fault_count store.old))
+        (world (I.meaning input.new) (O.meaning out.new) (F.told files.new) (F.fault_count files.new) (F.failed_name files.new)
+        (S.device_at store.new) (S.fault_count store.new)) result.status }
+    ensures alone { drill_words (map string_bytes words.now) ≡ None → result.session ≡ None }
+    ensures devices { drill_words (map string_bytes words.now) ≡ None
+        → KeepsFor (form_of (map string_bytes words.now)) (F.told files.old) (S.device_at store.old) (S.device_at store.new) }
+    ensures files { F.told files.new ≡ F.told files.old }
+    ensures bad_words { drill_words (map string_bytes words.now) ≡ None
+        → (result.status ≡ Status.BadWords) ↔ MeansNothing (form_of (map string_bytes words.now)) }
+    ensures untouched { result.status ≡ Status.BadWords → input.new ≡ input.old }
+{
+    match drill_words(words) {
+        Some(DrillWords {
+            number,
+            tags,
+            events,
+        }) => {
+            let Ran { answer, session } = drill(rt, alloc, passes, number, tags, events);
             Outcome {
                 status: finish(answer, out),
-                session: session_of(alloc, log),
+                session,
             }
         }
         None => Outcome {
@@ -135,10 +201,7 @@ fn run_other<R: Threads + Wait + Sync, I: Source, F: Files, O: Sink, S: Store, P
 
 /// The session of a log, if one was written.
 fn session_of(alloc: Global, log: Option<LogHistory>) -> Option<Session>
-    ensures none { IfNone log (result ≡ None) }
-    ensures some { OnSome log (IsSome result) }
-    ensures log { IfSome result (λ s. IfSome log (IsOfLog s)) }
-    ensures alone { OnSome result (IsSome log) }
+    ensures { IsHandedOn log result }
 {
     let log = log?;
     Some(Session {

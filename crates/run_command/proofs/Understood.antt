@@ -17,7 +17,7 @@ use Rattle.group_session.specs.Refusals.{IsBookRefusal, OfRefresh, OfSave, save_
 use Rattle.collector_pool.specs.declared.note.WorkerNote.{WorkerNote}
 use Rattle.book_store.specs.Groups.{Devices}
 use Rattle.book_store.specs.Refusals.{OfDamage, OfFault, OfMemory, OfVersion, OfWindows}
-use Rattle.plant_store.specs.Openings.{OfGroups, OfTags}
+use Rattle.plant_store.specs.Openings.{IsPlantRefusal, OfGroups, OfTags}
 use Rattle.session_files.specs.Plans as plans
 use Rattle.session_report.specs.declared.session.Session.{Session}
 use Rattle.run_command.specs.declared.known.Given.{Given}
@@ -34,13 +34,16 @@ of_files name plan_name told (plans.OfRows base plan rows read planned fed is) =
 of_files name plan_name told (plans.OfMemory same) = cc same
 
 -- no device either
+pub of_plant : (base : Base) (old new : Devices) (before now : ℕ) → IsPlantRefusal base old new before now BadWords → ⊥
+of_plant base old new before now (OfTags is) = is
+of_plant base old new before now (OfGroups cores opened (OfFault i same at)) = cc same
+of_plant base old new before now (OfGroups cores opened (OfDamage i a byte same at)) = cc same
+of_plant base old new before now (OfGroups cores opened (OfVersion i input found version same at)) = cc same
+of_plant base old new before now (OfGroups cores opened (OfWindows i windows rows same at)) = cc same
+of_plant base old new before now (OfGroups cores opened (OfMemory same)) = cc same
+
 of_devices : (base : Base) (old new : Devices) (before now : ℕ) → runs.IsUnopened base old new before now BadWords → ⊥
-of_devices base old new before now (runs.OfPlant (OfTags is) kept) = is
-of_devices base old new before now (runs.OfPlant (OfGroups cores opened (OfFault i same at)) kept) = cc same
-of_devices base old new before now (runs.OfPlant (OfGroups cores opened (OfDamage i a byte same at)) kept) = cc same
-of_devices base old new before now (runs.OfPlant (OfGroups cores opened (OfVersion i input found version same at)) kept) = cc same
-of_devices base old new before now (runs.OfPlant (OfGroups cores opened (OfWindows i windows rows same at)) kept) = cc same
-of_devices base old new before now (runs.OfPlant (OfGroups cores opened (OfMemory same)) kept) = cc same
+of_devices base old new before now (runs.OfPlant is kept) = of_plant base old new before now is
 of_devices base old new before now (runs.OfWant same untouched) = cc same
 
 of_unheld : (name plan_name : List ℕ) (told : ToldFiles) (old new : Devices) (before now : ℕ)
@@ -77,7 +80,7 @@ module _ {D : Type 0} where
     of_rest notes (OfMaking (OfWanting same)) = cc same
     of_rest notes (OfPull is) = is.differs.differs
 
-    of_undone : (opened : List (Cell D)) (opened_books : List (Book D)) (notes : List WorkerNote)
+    pub of_undone : (opened : List (Cell D)) (opened_books : List (Book D)) (notes : List WorkerNote)
         → runs.IsUndone g opened opened_books cells books notes BadWords → ⊥
     of_undone opened opened_books notes (runs.OfSettling known known_groups copied groups_copied (OfTag is)) = is
     of_undone opened opened_books notes (runs.OfSettling known known_groups copied groups_copied (OfGroup kept is)) = is

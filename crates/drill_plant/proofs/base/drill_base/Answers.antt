@@ -1,6 +1,7 @@
 use Rattle.std.proofs.Common.{◌≡◌, ◌≢◌, All, AllPairs, length, sym, subst, ◌∙◌, ap, arith}
 use Rattle.std.proofs.lemmas.List.Elements.{All-nil, All-push, All-same}
 use Rattle.trend_num.specs.Ranges.{TuningInRange}
+use Rattle.tag_base.specs.declared.definition.GroupDef.{GroupDef}
 use Rattle.tag_base.specs.Groups.{IsSound}
 use Rattle.drill_plant.proofs.Naming.{as_many_tags, distinct_tags}
 use Rattle.drill_plant.proofs.Sound.{sound_group, tuned_tags}
@@ -20,10 +21,12 @@ returns-clause-tuned c = All-same (λ def. TuningInRange def.tuning) _ _ c.in_ok
 pub returns-clause-sound : goal.returns-clause-sound
 returns-clause-sound c =
     let tags = c.args.tags in
+    let Sound : GroupDef → Type 0 = λ g. IsSound tags g in
     let many = ap length c.in_ok-defs.ensures ∙ as_many_tags tags in
-    let sound = sound_group tags c.in_ok-group.group c.requires.some c.requires.few c.in_ok-group.ensures in
-    subst (λ n. All (IsSound n) c.push.new.self.items) (sym many)
-    (All-same (IsSound tags) _ _ c.in_ok-push.ensures.items (All-push (IsSound tags) _ _ (All-same (IsSound tags) _ _ c.new-groups.ensures.items (All-nil (IsSound tags))) sound))
+    let group = sound_group tags c.in_ok-group.group c.requires.some c.requires.few c.in_ok-group.ensures in
+    let none = All-same Sound _ _ c.new-groups.ensures.items (All-nil Sound) in
+    let all = All-same Sound _ _ c.in_ok-push.ensures.items (All-push Sound _ _ none group) in
+    subst (λ n. All (IsSound n) c.push.new.self.items) (sym many) all
 
 pub returns-clause-distinct : goal.returns-clause-distinct
 returns-clause-distinct c =

@@ -4,7 +4,8 @@ use Rattle.drill_plant.proofs.Growing.{one_place_more}
 use Rattle.drill_plant.proofs.tag.drill_tags.Goals as goal
 
 pub loop-place-preserved : goal.loop-place-preserved
-loop-place-preserved c = one_place_more drill_tag c.loop-place.place _ _ _ c.loop-place.invariant c.in_ok-def.ensures c.in_ok-push.ensures.items
+loop-place-preserved c =
+    one_place_more drill_tag c.loop-place.place _ _ _ c.loop-place.invariant c.in_ok-def.ensures c.in_ok-push.ensures.items
 
 pub returns : goal.returns
 returns c =

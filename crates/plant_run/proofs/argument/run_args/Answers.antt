@@ -2,10 +2,12 @@ use Rattle.std.proofs.Common.{◌≡◌, None, Some, drop, inl, inr, map, string
 use Rattle.std.specs.Vec.Iter.{into_iter_items}
 use Rattle.plant_status.specs.Status.{code_of}
 use Rattle.plant_status.specs.declared.status.Status.TheVariants.{BadWords, WantOfMemory}
-use Rattle.plant_run.specs.CommandLine.{form_of, log_words, plan_words}
+use Rattle.plant_more.specs.Words.{log_words}
+use Rattle.drill_command.specs.Words.{drill_words}
+use Rattle.plant_run.specs.CommandLine.{form_of, plan_words}
 use Rattle.plant_run.specs.Run.{MeansNothing}
 use Rattle.plant_run.specs.Sessions.{HoldsNone}
-use Rattle.plant_run.proofs.Printing.{memory_ends, same_kept}
+use Rattle.plant_run.proofs.Refusals.{memory_ends, same_kept}
 use Rattle.plant_run.proofs.argument.run_args.Goals as goal
 use Rattle.plant_run.proofs.argument.run_args.Goals.{in-Ok+in-Ok-words_of, in-Ok+in-Err-words_of, in-Err}
 
@@ -27,7 +29,8 @@ returns-clause-ends g c =
             WantOfMemory,
             code ∙ ap code_of (w.status-is ∙ w.refuse.ensures.same),
             rw (w.input-is, w.files-is, w.out-is, w.store-is)
-                (memory_ends (form_of (map string_bytes (drop 1 (into_iter_items w.in-Ok.given)))) _ _ refl w.refuse.ensures.line refl refl refl),
+                (memory_ends (form_of (map string_bytes (drop 1 (into_iter_items w.in-Ok.given)))) _ _ refl
+                (record { told = w.refuse.ensures.line; file_faults = refl; device_faults = refl }) refl),
           ))
       | in-Err w ↦ rw w.in-Err.is tt
     ]
@@ -68,6 +71,27 @@ returns-clause-log g c =
           ))
       | in-Ok+in-Err-words_of w ↦
           rw w.in-Ok.is (λ base plan is. inr (
+            code ∙ ap code_of (w.status-is ∙ w.refuse.ensures.same),
+            rw (w.out-is) w.refuse.ensures.line,
+          ))
+      | in-Err w ↦ rw w.in-Err.is tt
+    ]
+
+pub returns-clause-drill : goal.returns-clause-drill
+returns-clause-drill g c =
+    let code = c.from.ensures ∙ c.code.ensures in
+    elim c.match-args.branch [
+      | in-Ok+in-Ok-words_of w ↦
+          let words : w.as_slice.result.now ≡ drop 1 (into_iter_items w.in-Ok.given) =
+          w.as_slice.ensures.value ∙ w.in-Ok-words_of.ensures in
+          rw w.in-Ok.is (λ wanted is. inl (
+            w.run.result,
+            code ∙ ap code_of w.status-is,
+            rw (w.input-is, w.files-is, w.out-is, w.store-is, w.passes-is)
+                (w.run.ensures.drill wanted (subst (λ l. drill_words (map string_bytes l) ≡ Some wanted) (sym words) is)),
+          ))
+      | in-Ok+in-Err-words_of w ↦
+          rw w.in-Ok.is (λ wanted is. inr (
             code ∙ ap code_of (w.status-is ∙ w.refuse.ensures.same),
             rw (w.out-is) w.refuse.ensures.line,
           ))

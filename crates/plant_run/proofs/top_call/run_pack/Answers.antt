@@ -1,7 +1,7 @@
 use Rattle.trend_model.proofs.BoundLaw.{bounded}
 use Rattle.pack_command.specs.Pack.{history_of, origin_of}
 use Rattle.plant_run.specs.Run.{IsNotPacked, IsPacked}
-use Rattle.plant_run.proofs.Printing.{printed_so, written_so}
+use Rattle.command_text.proofs.Printing.{printed_so, written_so}
 use Rattle.plant_run.proofs.top_call.run_pack.Goals as goal
 
 pub returns-in-Ok-clause-ends : goal.returns-in-Ok-clause-ends

@@ -14,7 +14,7 @@ use Rattle.run_command.proofs.Results.{err_weaker}
 use Rattle.run_command.proofs.phase.hold_phase.Goals as goal
 
 pub hold-requires-clause-inputs : goal.hold-requires-clause-inputs
-hold-requires-clause-inputs g c =
+hold-requires-clause-inputs g c κs within =
     inputs_copied _ _ c.args.books.items c.in-Ok.ready.groups.items c.requires.inputs
     (subst (λ (l : List (Book g.row.D.Denot)). AreCopiedGroups l c.in-Ok.ready.groups.items) c.deref-2.ensures.value c.in-Ok.ensures.groups)
 

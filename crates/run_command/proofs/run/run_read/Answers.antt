@@ -1,9 +1,10 @@
-use Rattle.std.proofs.Common.{Vec, ap, map}
+use Rattle.std.proofs.Common.{Vec, ap, map, ◌∙◌}
 use Rattle.std.specs.declared.alloc.Global.{Global}
 use Rattle.value_rows.specs.declared.asked.Query.{Query}
 use Rattle.value_rows.specs.declared.raw.RawRow.{RawRow}
 use Rattle.calc_refresh.specs.Lists.{lists_of}
 use Rattle.run_command.specs.Runs.{OfOpening}
+use Rattle.run_command.specs.Steps.{planned_turn}
 use Rattle.run_command.proofs.Results.{err_weaker}
 use Rattle.run_command.proofs.Told.{some_weaker}
 use Rattle.run_command.proofs.run.run_read.Goals as goal
@@ -22,7 +23,7 @@ returns-in-Ok-clause-session g c = λ name plan_name told planned. some_weaker c
     phases_are = c.in-Ok.ensures.phases;
     collectors = ap (λ (v : Vec (Vec RawRow Global) Global). lists_of v.items) c.in-Ok.ensures.collectors;
     readers = ap (λ (v : Vec (Vec Query Global) Global). lists_of v.items) c.in-Ok.ensures.readers;
-    turns = c.in-Ok.ensures.refreshers;
+    turns = c.in-Ok.ensures.refreshers ∙ ap (map planned_turn) c.deref.ensures.value;
     inputs = c.in-Ok.ensures.inputs;
     sized = c.in-Ok.ensures.given;
   };

@@ -17,7 +17,7 @@ returns-in-Err-find_all_row_asks-clause-differs g c =
 
 pub returns-clause-over : goal.returns-clause-over
 returns-clause-over g c = at_ok c.compare_turns.result (record {
-  collectors = c.find_all_takes.ensures.over _ _ c.requires.over.collectors;
+  collectors = c.find_all_takes.ensures.over _ _ _ c.requires.over.collectors;
   readers = c.find_all_asks.ensures.over _ _ c.requires.over.readers;
   row_readers = c.find_all_row_asks.ensures.over _ _ c.requires.over.row_readers;
 })

@@ -1,0 +1,83 @@
+-- How a command ends: what it has read and printed, and what became of the devices, in each status.
+use Rattle.std.specs.Prelude.{◌≡◌, ◌⊎◌, ℕ, ℤ, ◌^◌, ◌<◌, List, Option, None, Some}
+use Rattle.byte_io.specs.Outside.{Outside}
+use Rattle.disk_model.specs.Calls.{Rose}
+use Rattle.plant_status.specs.declared.status.Status.{Status}
+use Rattle.plant_status.specs.declared.status.Status.TheVariants.{BadWords, DeviceFault}
+use Rattle.plant_files.specs.Asked.{ToldFiles}
+use Rattle.plant_files.specs.Reading.{faults_told}
+use Rattle.command_text.specs.Printing.{IsTold, PrintsSo, WhereDone}
+use Rattle.store_commands.specs.Commands.{AreKept, Devices, IsDurable}
+use Rattle.shift_calendar.specs.Days.{IsDayWord, IsFirstDay}
+use Rattle.shift_command.specs.Shifts.{IsFaultOfRead, IsShifts, IsShiftsRefusal}
+use Rattle.plant_more.specs.Words.{AskedShifts}
+
+-- what a command finds outside: the meaning of the output, what is told of files by name and how often a read of them has failed, and
+-- whose failed last where that is told, and the traces of devices by name and how often a call of the store has failed
+pub record Scene : Type 0 where
+  pub output : Outside
+  pub files : ToldFiles
+  pub file_faults : ℕ
+  pub failed_name : Option (List ℕ)
+  pub devices : Devices
+  pub device_faults : ℕ
+
+abbrev pub scene : Outside → ToldFiles → ℕ → Option (List ℕ) → Devices → ℕ → Scene
+scene output files file_faults failed_name devices device_faults = record {
+  output = output;
+  files = files;
+  file_faults = file_faults;
+  failed_name = failed_name;
+  devices = devices;
+  device_faults = device_faults;
+}
+
+-- one fault of the store is counted where a device fault is told, and else none
+abbrev pub CountsFor : Status → ℕ → ℕ → Type 0
+CountsFor (DeviceFault unit) before now = Rose before now
+CountsFor status before now = now ≡ before
+
+-- a command over the stored archives of a base ends in this status: so many reads of files have failed as it tells, so many calls of
+-- the store, where they can be counted, and what it leaves of the devices is durable
+pub record EndsOver (base : List ℕ) (before now : Scene) (status : Status) : Type 0 where
+  pub durable : WhereDone status (IsDurable base before.files before.devices now.devices)
+  pub file_faults : now.file_faults ≡ faults_told status before.file_faults
+  pub device_faults : before.device_faults < 2 ^ 64 → CountsFor status before.device_faults now.device_faults
+
+-- nothing was read, and the line of this status printed
+pub record IsUnread (before now : Scene) (status : Status) : Type 0 where
+  pub told : IsTold before.output now.output status
+  pub file_faults : now.file_faults ≡ before.file_faults
+  pub device_faults : now.device_faults ≡ before.device_faults
+
+-- ---- shifts
+
+-- no day from 1971-01-01 to 9990-12-31 has this word
+abbrev pub IsNoDay : List ℕ → Type 0
+IsNoDay word = (day : ℤ) → IsFirstDay day → IsDayWord word day → ⊥
+
+-- words ask for no shifts that there are
+abbrev pub AsksForNone : Option AskedShifts → Type 0
+AsksForNone None = Unit {0}
+AsksForNone (Some asked) = IsNoDay asked.day
+
+-- the shifts that were asked for are told from this day on, and it ends in this status
+pub record EndsFrom (asked : AskedShifts) (day : ℤ) (before now : Scene) (status : Status) : Type 0 where
+  pub first : IsFirstDay day
+  pub named : IsDayWord asked.day day
+  pub printed : PrintsSo (IsShifts asked.base asked.calendar day asked.days before.files before.devices)
+      (IsShiftsRefusal asked.base asked.calendar before.files before.devices now.devices before.device_faults now.device_faults)
+      before.output now.output status
+  pub over : EndsOver asked.base before now status
+  pub whose : IsFaultOfRead asked.base asked.calendar now.failed_name status
+
+-- `shifts` ends in this status, of words that ask for these
+abbrev pub EndsOfShifts : Option AskedShifts → Scene → Scene → Status → Type 0
+EndsOfShifts None before now status = (status ≡ BadWords) × IsUnread before now status
+EndsOfShifts (Some asked) before now status = ((day : ℤ) × EndsFrom asked day before now status)
+    ⊎ (IsNoDay asked.day × (status ≡ BadWords) × IsUnread before now status)
+
+-- the devices after it: those of the base are kept, or all are as they were
+abbrev pub KeepsForShifts : Option AskedShifts → ToldFiles → Devices → Devices → Type 0
+KeepsForShifts None files old new = new ≡ old
+KeepsForShifts (Some asked) files old new = AreKept asked.base files old new

@@ -1,0 +1,34 @@
+-- What `log` comes to: what is printed, and the log.
+use Rattle.std.specs.Prelude.{◌≡◌, ◌≢◌, ℕ, ◌^◌, ◌<◌, List, None, Option, Result, String, IfErr, IfOk, IfSome, OnOk, string_bytes}
+use Rattle.std.specs.Option.{IsSome}
+use Rattle.std.specs.declared.alloc.Global.{Global}
+use Rattle.disk_model.specs.Traces.{Trace}
+use Rattle.plant_status.specs.declared.status.Status.{Status}
+use Rattle.plant_status.specs.declared.status.Status.TheVariants.{BadWords}
+use Rattle.plant_files.specs.Reading.{faults_after}
+use Rattle.command_text.specs.Printing.{IsPrintedSo, IsTold}
+use Rattle.log_command.specs.Headline.{IsLogged, IsUnlogged}
+use Rattle.log_command.specs.Openings.{CountsOpening}
+use Rattle.log_command.specs.Plans.{IsFaultOfPlanned}
+use Rattle.plant_more.specs.declared.log_answer.LogOutcome.{LogOutcome}
+use Rattle.plant_more.specs.Endings.{Scene}
+
+-- The logging of the plan in a file over the base in another: a line of each tag is printed, or the line that tells why there is none.
+-- Where collectors were started there is a log, whatever came of it; else none was stopped, and there is a cause, which is never the
+-- words. So many reads of files have failed as are told, and it is told whose; and so many calls of the log's device.
+pub record IsLogSo {D : Type 0} (trace : D → Option Trace) (ticks faults : D → ℕ) (base plan : List ℕ) (before now : Scene)
+    (stops_before stops_now : ℕ) (o : LogOutcome) : Type 0 where
+  pub answer : Result (String Global) Status
+  pub held : OnOk answer (IsSome o.log)
+  pub log : IfSome o.log (IsLogged trace ticks faults base plan before.files before.devices now.devices before.device_faults
+      now.device_faults stops_before stops_now answer)
+  pub unlogged : o.log ≡ None → IfErr answer (IsUnlogged base plan before.files before.devices now.devices before.device_faults
+      now.device_faults)
+  pub counts : o.log ≡ None → before.device_faults < 2 ^ 64 → CountsOpening answer before.device_faults now.device_faults
+  pub unstopped : o.log ≡ None → stops_now ≡ stops_before
+  pub file_faults : o.log ≡ None → now.file_faults ≡ faults_after answer before.file_faults
+  pub no_file_fault : IsSome o.log → now.file_faults ≡ before.file_faults
+  pub whose : o.log ≡ None → IfErr answer (IsFaultOfPlanned base plan before.files now.failed_name)
+  pub printed : IfOk answer (λ text. IsPrintedSo (string_bytes text) before.output now.output o.status)
+  pub refused : IfErr answer (λ why. (o.status ≡ why) × IsTold before.output now.output why)
+  pub understood : o.status ≢ BadWords

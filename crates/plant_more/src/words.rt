@@ -1,0 +1,75 @@
+// The words of `log` and of `shifts`.
+ghost use Rattle.std.specs.Prelude.{◌≡◌, ◌≤◌, map, string_bytes, IfSome, option_map};
+ghost use Rattle.plant_more.specs.Words.{asked, log_words, most_days, named, over_days, shift_words};
+
+use command_text::count_upto;
+
+/// The files of a base and of a plan over it.
+#[derive(Clone, Copy)]
+pub struct Planned<'w> {
+    pub base: &'w str,
+    pub plan: &'w str,
+}
+
+/// The files of a base and of a calendar over its tags, the word of the first day, and of how many days shifts are told.
+#[derive(Clone, Copy)]
+pub struct ShiftWords<'w> {
+    pub base: &'w str,
+    pub calendar: &'w str,
+    pub day: &'w str,
+    pub days: u32,
+}
+
+// Of how many days shifts are told at most.
+const MOST_DAYS: u32 = 366;
+
+/// The files whose collectors these words ask to log, if they are `log BASE PLAN`.
+pub fn log_words(words: &[String]) -> Option<Planned<'_>>
+    ensures { option_map named result ≡ log_words (map string_bytes words.now) }
+{
+    match words {
+        [verb, base, plan] if verb.as_str() == "log" => Some(Planned {
+            base: base.as_str(),
+            plan: plan.as_str(),
+        }),
+        _ => None,
+    }
+}
+
+/// What shifts these words ask to tell, if they are `shifts BASE CALENDAR DAY DAYS`, DAYS being a number from 1 to 366. DAY is any word.
+pub fn shift_words(words: &[String]) -> Option<ShiftWords<'_>>
+    ensures words { option_map asked result ≡ shift_words (map string_bytes words.now) }
+    ensures days { IfSome result (λ w. (1 ≤ w.days) × (w.days ≤ most_days)) }
+{
+    match words {
+        [verb, base, calendar, day, days] if verb.as_str() == "shifts" => over_days(
+            base.as_str(),
+            calendar.as_str(),
+            day.as_str(),
+            count_upto(MOST_DAYS, days.as_bytes()),
+        ),
+        _ => None,
+    }
+}
+
+// The shifts of so many days, where they are a number.
+fn over_days<'w>(
+    base: &'w str,
+    calendar: &'w str,
+    day: &'w str,
+    days: Option<u32>,
+) -> Option<ShiftWords<'w>>
+    requires { IfSome days (λ n. (1 ≤ n) × (n ≤ most_days)) }
+    ensures words { option_map asked result ≡ over_days base.now calendar.now day.now days }
+    ensures days { IfSome result (λ w. (1 ≤ w.days) × (w.days ≤ most_days)) }
+{
+    match days {
+        Some(days) => Some(ShiftWords {
+            base,
+            calendar,
+            day,
+            days,
+        }),
+        None => None,
+    }
+}
