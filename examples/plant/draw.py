@@ -13,7 +13,8 @@ import sys
 import tempfile
 import tomllib
 
-import live_two_days as days
+sys.dont_write_bytecode = True
+import live_two_days as days  # noqa: E402
 
 HERE = os.path.dirname(os.path.abspath(__file__))
 DOCS = os.path.join(HERE, "..", "..", "docs")

@@ -30,4 +30,5 @@ def main():
             out.write(device(name, tuning, step, values))
 
 
-main()
+if __name__ == "__main__":
+    main()
