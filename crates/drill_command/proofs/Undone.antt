@@ -20,8 +20,8 @@ use Rattle.drill_command.specs.Phases.{IsUndoneOfBoth, OfFirst}
 
 -- what is so where a call succeeds
 pub where_ok : {T E P : Type 0} (r : Result T E) → is_err r ≡ false → OnOk r P → P
-where_ok (Ok x) no p = p
-where_ok (Err e) no p = absurd (cc no)
+where_ok (Ok x) fine p = p
+where_ok (Err e) fine p = absurd (cc fine)
 
 -- no more workers have notes than there are
 pub few_notes : (D : Type 0) (w : Work) (before now : ℕ) (notes : List WorkerNote) → AreNotes D w before now notes

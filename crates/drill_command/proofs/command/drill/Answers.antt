@@ -8,14 +8,14 @@ returns-in-Ok-clause-session g c = some_weaker c.run_drill.result.session (λ s 
   first = c.in-Ok.drill.first;
   second = c.in-Ok.drill.second;
   new = is.0;
-  now = is.1.0;
+  now = is.1;
   work = record {
     base_is = c.in-Ok.ensures.base;
     good = c.in-Ok.ensures.good;
     first_is = c.in-Ok.ensures.first;
     second_is = c.in-Ok.ensures.second;
   };
-  run = is.1.1;
+  run = is.2;
 }) c.run_drill.ensures.session
 
 pub returns-in-Ok-clause-drilled : goal.returns-in-Ok-clause-drilled

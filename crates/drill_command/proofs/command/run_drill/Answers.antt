@@ -1,6 +1,7 @@
 use Rattle.std.proofs.Common.{◌≡◌, ◌∙◌, ℕ, [], ap, subst, sym}
 use Rattle.disk_model.specs.Stores.{Devices, named, trace_at}
-use Rattle.std.proofs.Common.{Some}
+use Rattle.std.proofs.Common.{List, Option, Some}
+use Rattle.disk_model.specs.Traces.{Trace}
 use Rattle.run_command.proofs.Results.{err_weaker}
 use Rattle.run_command.proofs.Told.{some_weaker}
 use Rattle.drill_command.specs.Drills.{IsRunInPhases, IsUnopened, OfOpening, memory_faults, memory_ticks, memory_trace}
@@ -10,7 +11,7 @@ pub returns-clause-session : goal.returns-clause-session
 returns-clause-session g c =
     let drill = c.args.drill.now in
     let none : c.new-store.result.devices ≡ [] = c.new-store.ensures.devices ∙ ap named c.new.ensures.items in
-    let new = λ n. Some (trace_at c.hold_in.new.store.devices n) in
+    let new : List ℕ → Option Trace = λ n. Some (trace_at c.hold_in.new.store.devices n) in
     some_weaker c.hold_in.result.session (λ s is. (
       new,
       c.hold_in.new.store.faults,
@@ -25,7 +26,7 @@ returns-clause-session g c =
 pub returns-clause-unheld : goal.returns-clause-unheld
 returns-clause-unheld g c = λ no.
     let none : c.new-store.result.devices ≡ [] = c.new-store.ensures.devices ∙ ap named c.new.ensures.items in
-    let new = λ n. Some (trace_at c.hold_in.new.store.devices n) in
+    let new : List ℕ → Option Trace = λ n. Some (trace_at c.hold_in.new.store.devices n) in
     err_weaker c.hold_in.result.answer (λ why is.
     OfOpening c.args.drill.now.base new c.hold_in.new.store.faults c.requires.base
     (subst (λ (ds : Devices). IsUnopened c.args.drill.now.base (λ n. Some (trace_at ds n)) new 0 c.hold_in.new.store.faults why) none
