@@ -38,7 +38,15 @@ fn drilled<R: Threads + Wait + Sync>(rt: &R, alloc: Global, line: &str) -> Resul
     let mut files = MemFiles::new(Vec::new(alloc), Vec::new(alloc));
     let mut store = MemStore::new(Vec::new(alloc));
     let line = format!(in alloc; "historian {line}")?;
-    told(rt, alloc, line.as_str(), b"", &mut files, &mut store, NO_FAULT)
+    told(
+        rt,
+        alloc,
+        line.as_str(),
+        b"",
+        &mut files,
+        &mut store,
+        NO_FAULT,
+    )
 }
 
 #[test]

@@ -41,7 +41,10 @@ fn ended<R: Threads + Wait + Sync>(
     let mut files = Vec::new(alloc);
     for row in FILES.lines() {
         let (name, field) = row.split_once(": ").ok_or("a file")?;
-        files.push((String::from_str(alloc, name)?, text(alloc, field)?.into_bytes()))?;
+        files.push((
+            String::from_str(alloc, name)?,
+            text(alloc, field)?.into_bytes(),
+        ))?;
     }
     let mut files = MemFiles::new(files, only(alloc, read)?);
     let mut store = MemStore::new(Vec::new(alloc));

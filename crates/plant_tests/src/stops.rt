@@ -244,7 +244,10 @@ fn stopped_at<R: Threads + Wait + Sync>(rt: &R, alloc: Global, most: u64) -> Res
             return Err("what is left is not told".into());
         }
         let opened = ended(rt, alloc, "run base.toml none.toml", &mut left)?;
-        if !is_a_save(saved(alloc, &opened)?.as_str(), outcome.status == Status::Done) {
+        if !is_a_save(
+            saved(alloc, &opened)?.as_str(),
+            outcome.status == Status::Done,
+        ) {
             return Err("another version was saved".into());
         }
     }
