@@ -1,19 +1,21 @@
 -- What a device in memory is seen as, and which image of it is picked.
-use Rattle.std.specs.Prelude.{◌≡◌, ◌⊎◌, ℕ, ◌≤◌, List, [], ◌∷◌, length, replicate, Contains, Option, IsSomeAnd, Result, IsErr, is_ok, if◌then◌else◌}
+use Rattle.std.specs.Prelude.{◌≡◌, ◌⊎◌, ℕ, ◌≤◌, Bool, List, [], ◌∷◌, length, replicate, Contains, Option, IsSomeAnd, Result, IsErr, is_ok, if◌then◌else◌}
 use Rattle.disk_model.specs.declared.memory_disk.Pick.{Pick}
 use Rattle.disk_model.specs.declared.memory_disk.Pick.TheVariants.{Old, New, Fill}
 use Rattle.disk_model.specs.Traces.{DeviceCall, Wrote, WroteInPart, Resized, ResizedInPart, Synced, Idle, Trace, written, resized, content}
 use Rattle.disk_model.specs.Calls.{next_count}
 
--- a device in memory: its trace, the numbers of the calls that are to fail, the number from which all are to fail, and its counts
+-- a device in memory: its trace, the numbers of the calls that are to fail, the number from which all are to fail, whether it
+-- stops together with others, and its counts
 pub record DiskState : Type 0 where
   pub trace : Trace
   pub failing_calls : List ℕ
   pub stop : Option ℕ
+  pub shares : Bool
   pub calls : ℕ
   pub faults : ℕ
 
--- the next call is to fail
+-- the next call is to fail, whatever other devices did
 abbrev pub IsToFail : DiskState → Type 0
 IsToFail s = Contains s.failing_calls s.calls ⊎ IsSomeAnd s.stop (λ stop. stop ≤ s.calls)
 
@@ -22,6 +24,7 @@ pub record IsCalled {T E : Type 0} (old new : DiskState) (result : Result T E) :
   pub calls : new.calls ≡ next_count old.calls
   pub failing_calls : new.failing_calls ≡ old.failing_calls
   pub stop : new.stop ≡ old.stop
+  pub shares : new.shares ≡ old.shares
   pub faults : new.faults ≡ (if is_ok result then old.faults else next_count old.faults)
   pub fails : IsToFail old → IsErr result
 

@@ -8,10 +8,11 @@ use Rattle.disk_model.specs.Memory.{DiskState}
 abbrev pub Devices : Type 0
 Devices = List (List ℕ × DiskState)
 
--- a store in memory: the devices by name, and the count of faults
+-- a store in memory: the devices by name, the count of faults, and whether the devices that it hands out stop together
 pub record StoreState : Type 0 where
   pub devices : Devices
   pub faults : ℕ
+  pub stops : Bool
 
 -- the device of a name
 abbrev pub device_of : Devices → List ℕ → Option DiskState

@@ -24,6 +24,7 @@ mod memory_disk;
 mod memory_log;
 mod memory_store;
 mod reading;
+mod share;
 
 pub use device::Disk;
 pub use device_store::Store;

@@ -1,11 +1,12 @@
 // A device in memory, which fails at the calls that it is told to, and gives the images that a crash may leave.
-ghost use Rattle.std.specs.Prelude.{◌≡◌, ◌⊎◌, ◌↔◌, ◌+◌, ◌-◌, ◌^◌, ◌<◌, ◌≤◌, [], ◌∷◌, length, take, drop, Option, None, Some, IfOk, IsErr, OnOk, OnErr, IsTrue, Contains, MatchResult, IsSomeAnd, IsOk, is_ok, if◌then◌else◌};
+ghost use Rattle.std.specs.Prelude.{◌≡◌, ◌⊎◌, ◌↔◌, ◌+◌, ◌-◌, ◌^◌, ◌<◌, ◌≤◌, [], ◌∷◌, length, take, drop, Option, None, Some, IfOk, IsErr, OnOk, OnErr, IsTrue, Contains, MatchResult, IsSomeAnd, IsSome, is_some, IsOk, is_ok, false, true, if◌then◌else◌};
 ghost use Rattle.disk_model.specs.Logs.{log_first, log_calls};
 ghost use Rattle.disk_model.specs.Traces.{Trace, Wrote, WroteInPart, Resized, ResizedInPart, Synced, Idle, seen, noted};
 ghost use Rattle.disk_model.specs.Images.{MayLeave};
 ghost use Rattle.disk_model.specs.Calls.{next_count, Rose, HasCause, IsTimed, Reaches, Reads, IsNoted};
 
 use crate::memory_log::Log;
+use crate::share::Share;
 use crate::{Disk, Failed, WantOfMemory};
 use std::alloc::AllocError;
 use std::marker::Model;
@@ -21,12 +22,13 @@ pub enum Pick {
     Fill(u8),
 }
 
-// The calls of a device: the numbers of those that are to fail, from which number on all are to fail, how many calls and
-// faults there were, and the clock. A count stays at the end of its type.
+// The calls of a device: the numbers of those that are to fail, from which number on all are to fail, the count that it
+// shares with others, how many calls and faults there were, and the clock. A count stays at the end of its type.
 #[derive(Drop)]
 struct Calls {
     failing: Vec<u64>,
     stop: Option<u64>,
+    share: Option<Share>,
     count: u64,
     faults: u64,
     clock: u64,
@@ -35,14 +37,20 @@ struct Calls {
 impl Calls {
     // Counts a call, and says whether it is to fail.
     fn begin(&mut self) -> bool
-        ensures told { IsTrue result ↔ (Contains self.old.failing.items self.old.count
-            ⊎ IsSomeAnd self.old.stop (λ stop. stop ≤ self.old.count)) }
+        ensures to_fail { Contains self.old.failing.items self.old.count
+            ⊎ IsSomeAnd self.old.stop (λ stop. stop ≤ self.old.count) → IsTrue result }
+        ensures only { IsTrue result → (Contains self.old.failing.items self.old.count
+            ⊎ IsSomeAnd self.old.stop (λ stop. stop ≤ self.old.count)) ⊎ IsSome self.old.share }
         ensures counted { self.new ≡ record self.old { count = next_count self.old.count } }
     {
         let fails = self.failing.contains(&self.count)
             || self.stop.is_some_and(|stop| stop <= self.count);
+        let stopped = match &self.share {
+            Some(share) => share.begin(),
+            None => false,
+        };
         self.count = self.count.saturating_add(1);
-        fails
+        fails || stopped
     }
 
     // Lets the clock go on, and says whether it did.
@@ -67,7 +75,8 @@ impl Calls {
 }
 
 /// A device in memory. A clause sees it as its trace, the numbers of the calls that are to fail, counted from 0, the number
-/// from which on all fail, and how many calls and faults there were. Calls of `len` and `read` count among them.
+/// from which on all fail, whether it stops together with others, and how many calls and faults there were. Calls of `len`
+/// and `read` count among them.
 #[derive(Drop)]
 pub struct MemDisk {
     log: Log,
@@ -79,6 +88,7 @@ impl Model for MemDisk {
 
     ghost Value = { DiskState };
 
+    ghost use Rattle.std.specs.Prelude.{is_some};
     ghost use Rattle.disk_model.specs.Logs.{log_first, log_calls};
     ghost use Rattle.disk_model.specs.Disks.{IsKept};
 
@@ -86,6 +96,7 @@ impl Model for MemDisk {
       trace = record { first = log_first d.log; calls = log_calls d.log };
       failing_calls = d.calls.failing.items;
       stop = d.calls.stop;
+      shares = is_some d.calls.share;
       calls = d.calls.count;
       faults = d.calls.faults;
     } };
@@ -101,6 +112,7 @@ impl MemDisk {
         ensures trace { result.trace ≡ record { first = bytes.items; calls = [] } }
         ensures failing { result.failing_calls ≡ fail.items }
         ensures stop { result.stop ≡ None }
+        ensures shares { result.shares ≡ false }
         ensures calls { result.calls ≡ 0 }
         ensures faults { result.faults ≡ 0 }
     {
@@ -109,6 +121,7 @@ impl MemDisk {
             calls: Calls {
                 failing: fail,
                 stop: None,
+                share: None,
                 count: 0,
                 faults: 0,
                 clock: 0,
@@ -130,6 +143,7 @@ impl MemDisk {
         ensures image { IfOk result (λ d. MayLeave (Some self.now.trace) d.trace.first) }
         ensures failing { IfOk result (λ d. d.failing_calls ≡ []) }
         ensures stop { IfOk result (λ d. d.stop ≡ None) }
+        ensures shares { IfOk result (λ d. d.shares ≡ false) }
         ensures calls { IfOk result (λ d. d.calls ≡ 0) }
         ensures faults { IfOk result (λ d. d.faults ≡ 0) }
     {
@@ -152,6 +166,13 @@ impl MemDisk {
         ensures { result.now ≡ seen (Some self.now.trace) }
     {
         &self.log.content
+    }
+
+    // Its calls are counted with those of the others that share the count, and fail once there were too many.
+    pub(crate) fn stop_with(&mut self, share: Option<Share>)
+        ensures { self.new ≡ record self.old { shares = is_some share } }
+    {
+        self.calls.share = share;
     }
 
     // The faults so far, of which it forgets.
@@ -207,7 +228,7 @@ impl Disk for MemDisk {
         ensures untimed { length self.new.trace.calls ≡ length self.old.trace.calls }
         ensures cause { HasCause self.old.faults self.new.faults result }
         ensures called { IsCalled self.old self.new result }
-        ensures failed_only { IsErr result → IsToFail self.old }
+        ensures failed_only { IsErr result → IsToFail self.old ⊎ (self.old.shares ≡ true) }
     {
         if self.calls.begin() {
             return Err(self.calls.fault());
@@ -222,7 +243,7 @@ impl Disk for MemDisk {
         ensures untimed { length self.new.trace.calls ≡ length self.old.trace.calls }
         ensures cause { HasCause self.old.faults self.new.faults result }
         ensures called { IsCalled self.old self.new result }
-        ensures failed_only { IsErr result → IsToFail self.old }
+        ensures failed_only { IsErr result → IsToFail self.old ⊎ (self.old.shares ≡ true) }
     {
         if self.calls.begin() {
             return Err(self.calls.fault());

@@ -1,26 +1,30 @@
 // A store of devices in memory.
-ghost use Rattle.std.specs.Prelude.{◌≡◌, ◌<◌, length, take, slice_index_or, None, Some, OnOk, OnErr, IfNone, IfSome, OnSome, bytes_eq, true, string_bytes};
+ghost use Rattle.std.specs.Prelude.{◌≡◌, ◌<◌, ◌≤◌, length, take, slice_index_or, None, Some, OnOk, OnErr, IfNone, IfSome, OnSome, bytes_eq, is_some, false, true, string_bytes};
+ghost use Rattle.disk_model.specs.Calls.{next_count, Rose};
 ghost use Rattle.disk_model.specs.Stores.{device_of, named, Puts};
 
-use crate::{Failed, MemDisk, Store};
+use crate::share::Share;
+use crate::{Failed, MemDisk, Store, WantOfMemory};
 use std::alloc::AllocError;
 use std::marker::Model;
 use std::mem;
 
-/// A store of devices in memory. A clause sees it as the devices by name, of which the first of a name counts, and the count
-/// of faults. While a device is out, an empty one stands in its place.
+/// A store of devices in memory. A clause sees it as the devices by name, of which the first of a name counts, the count of
+/// faults, and whether the devices that it hands out stop together. While a device is out, an empty one stands in its place.
 #[derive(Drop)]
 pub struct MemStore {
     devices: Vec<(String, MemDisk)>,
     faults: u64,
+    share: Option<Share>,
 }
 
 impl Model for MemStore {
+    ghost use Rattle.std.specs.Prelude.{is_some};
     ghost use Rattle.disk_model.specs.Stores.{StoreState, named};
 
     ghost Value = { StoreState };
 
-    ghost view = { λ s. record { devices = named s.devices.items; faults = s.faults } };
+    ghost view = { λ s. record { devices = named s.devices.items; faults = s.faults; stops = is_some s.share } };
 }
 
 impl MemStore {
@@ -28,8 +32,44 @@ impl MemStore {
     pub fn new(devices: Vec<(String, MemDisk)>) -> MemStore
         ensures devices { result.devices ≡ named devices.items }
         ensures faults { result.faults ≡ 0 }
+        ensures stops { result.stops ≡ false }
     {
-        MemStore { devices, faults: 0 }
+        MemStore {
+            devices,
+            faults: 0,
+            share: None,
+        }
+    }
+
+    /// Lets the devices that it hands out from now on share one count of their calls, from 0. Each call after that many
+    /// fails, on whichever device it comes, and counts a fault there. Nothing changes where there is no memory for it.
+    pub fn stop_after(&mut self, calls: u64) -> Result<(), WantOfMemory>
+        ensures ok { OnOk result (self.new ≡ record self.old { stops = true }) }
+        ensures err { OnErr result (self.new ≡ self.old) }
+    {
+        let Ok(share) = Share::new(*self.devices.allocator(), calls) else {
+            return Err(WantOfMemory);
+        };
+        self.share = Some(share);
+        Ok(())
+    }
+
+    // The count for one more device, if the devices are to share one; nothing where there is no room for it.
+    fn shared(&self) -> Option<Option<Share>> {
+        match &self.share {
+            Some(share) => Some(Some(share.another()?)),
+            None => Some(None),
+        }
+    }
+
+    // Counts a fault, and tells it.
+    fn fault(&mut self) -> Failed
+        ensures counted { self.new ≡ record self.old { faults = next_count self.old.faults } }
+        ensures later { self.old.faults ≤ self.new.faults }
+        ensures rose { Rose self.old.faults self.new.faults }
+    {
+        self.faults = self.faults.saturating_add(1);
+        Failed
     }
 }
 
@@ -83,18 +123,23 @@ impl Store for MemStore {
 
     /// It fails only where there is no memory to make the device.
     fn device(&mut self, name: &str) -> Result<MemDisk, Failed> {
+        let Some(share) = self.shared() else {
+            return Err(self.fault());
+        };
         let alloc = *self.devices.allocator();
         let empty = MemDisk::new(Vec::new(alloc), Vec::new(alloc));
         if let Some(mut dev) = exchange(&mut self.devices, name, empty) {
             dev.take_faults();
+            dev.stop_with(share);
             return Ok(dev);
         }
         let empty = MemDisk::new(Vec::new(alloc), Vec::new(alloc));
         if let Ok(()) = add(&mut self.devices, name, empty) {
-            return Ok(MemDisk::new(Vec::new(alloc), Vec::new(alloc)));
+            let mut dev = MemDisk::new(Vec::new(alloc), Vec::new(alloc));
+            dev.stop_with(share);
+            return Ok(dev);
         }
-        self.faults = self.faults.saturating_add(1);
-        Err(Failed)
+        Err(self.fault())
     }
 
     fn give_back(&mut self, name: &str, mut dev: MemDisk) {
