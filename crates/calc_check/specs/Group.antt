@@ -1,5 +1,5 @@
 -- The calculations of a group, and the first of their names that stands for nothing.
-use Rattle.std.specs.Prelude.{ℕ, Bool, cond, not, List, [], ◌∷◌, ◌++◌, length, map, find, Option, None, Some, ◌≡◌}
+use Rattle.std.specs.Prelude.{ℕ, Bool, not, List, [], ◌∷◌, ◌++◌, length, map, find, Option, None, Some, ◌≡◌, if◌then◌else◌}
 use Rattle.std.specs.List.{list_any}
 use Rattle.std.specs.Option.{option_map, option_or}
 use Rattle.std.specs.Str.{bytes_eq}
@@ -66,7 +66,7 @@ first_unknown inputs before tree =
 -- what is told of such a name in the calculation at a place: it comes too early, where it is that of this or a
 -- later one
 abbrev pub told : ℕ → List (List ℕ) → List ℕ → CheckNo
-told place coming name = cond (is_among name coming) (Forward place name) (UnknownName place name)
+told place coming name = if is_among name coming then Forward place name else UnknownName place name
 
 -- what is told of the first name that stands for nothing, in the first of the calculations that has one
 abbrev pub first_fault : List (List ℕ) → List (List ℕ) → List Calculation → Option CheckNo

@@ -1,5 +1,5 @@
 -- Values of the calculation language: whole numbers within a range, or Bad.
-use Rattle.std.specs.Prelude.{◌≤◌, ◌≡◌, ℤ, pos, neg_ℤ, ◌+ℤ◌, ◌-ℤ◌, ◌*ℤ◌, ◌≤ℤ◌, ◌<ℤ◌, Bool, cond, not, Option, None, Some, int_le, int_lt, nat_le, unsigned_abs}
+use Rattle.std.specs.Prelude.{◌≤◌, ◌≡◌, ℤ, pos, neg_ℤ, ◌+ℤ◌, ◌-ℤ◌, ◌*ℤ◌, ◌≤ℤ◌, ◌<ℤ◌, Bool, not, Option, None, Some, int_le, int_lt, nat_le, unsigned_abs, if◌then◌else◌}
 use Rattle.std.specs.Int.{int_div_euclid}
 use Rattle.std.specs.Ordering.{int_eq}
 use Rattle.calc_parser.specs.declared.tree.Op.{Op}
@@ -14,7 +14,7 @@ use Rattle.trend_num.specs.declared.value.CalcValue.TheVariants.{Num, Bad}
 
 -- a number as a value: one outside the range is Bad
 abbrev pub bounded : ℤ → CalcValue
-bounded n = cond (nat_le (unsigned_abs n) largest_number) (Num n) (Bad Range)
+bounded n = if nat_le (unsigned_abs n) largest_number then Num n else Bad Range
 
 -- a number in the range, or Bad
 abbrev pub IsInRange : CalcValue → Type 0
@@ -33,7 +33,7 @@ after (Bad why) f = Bad why
 
 -- the floor of the quotient of a by b
 abbrev pub floor_div : ℤ → ℤ → ℤ
-floor_div a b = cond (int_lt (pos 0) b) (int_div_euclid a b) (int_div_euclid (neg_ℤ a) (neg_ℤ b))
+floor_div a b = if int_lt (pos 0) b then int_div_euclid a b else int_div_euclid (neg_ℤ a) (neg_ℤ b)
 
 -- what the floor of the quotient leaves
 abbrev pub floor_rem : ℤ → ℤ → ℤ
@@ -41,7 +41,7 @@ floor_rem a b = a -ℤ (b *ℤ floor_div a b)
 
 -- a division by 0 is Bad
 abbrev pub divided : ℤ → ℤ → CalcValue
-divided b n = cond (int_eq b (pos 0)) (Bad DivZero) (bounded n)
+divided b n = if int_eq b (pos 0) then Bad DivZero else bounded n
 
 -- the value of an operation
 abbrev pub operated : Op → ℤ → ℤ → CalcValue
@@ -64,7 +64,7 @@ holds Eq a b = int_eq a b
 
 -- the value of a comparison: 1 where it holds, else 0
 abbrev pub compared : Cmp → ℤ → ℤ → CalcValue
-compared cmp a b = cond (holds cmp a b) (Num (pos 1)) (Num (pos 0))
+compared cmp a b = if holds cmp a b then Num (pos 1) else Num (pos 0)
 
 -- q and r are the quotient and the remainder of a by b: the remainder is 0 or has the divisor's sign, and is
 -- nearer to 0

@@ -1,5 +1,5 @@
 -- The value of a formula in a window, and the values of a group's calculations.
-use Rattle.std.specs.Prelude.{ℕ, ℤ, pos, neg_ℤ, false, cond, List, [], ◌∷◌, ◌++◌, map, fold, position, slice_get, Option, unwrap_or, option_and_then, unsigned_abs}
+use Rattle.std.specs.Prelude.{ℕ, ℤ, pos, neg_ℤ, false, List, [], ◌∷◌, ◌++◌, map, fold, position, slice_get, Option, unwrap_or, option_and_then, unsigned_abs, if◌then◌else◌}
 use Rattle.std.specs.Ordering.{int_eq}
 use Rattle.std.specs.Str.{bytes_eq}
 use Rattle.trend_num.specs.declared.measure.Measure.{Measure}
@@ -30,7 +30,7 @@ value s from to (two op a b) = after (value s from to a) (λ m. after (value s f
 value s from to (compare cmp a b) =
     after (value s from to a) (λ m. after (value s from to b) (compared cmp m))
 value s from to (choose c a b) =
-    after (value s from to c) (λ n. cond (int_eq n (pos 0)) (value s from to b) (value s from to a))
+    after (value s from to c) (λ n. if int_eq n (pos 0) then value s from to b else value s from to a)
 
 -- what stands in a list at the place of a name among names
 abbrev pub at_name : {A : Type 0} → List (List ℕ) → List A → List ℕ → Option A

@@ -1,5 +1,5 @@
 -- The canonical text of a tree: no spaces, and brackets only where the reading needs them.
-use Rattle.std.specs.Prelude.{ℕ, ◌+◌, Bool, true, false, cond, nat_lt, List, [], ◌∷◌, ◌++◌, codes}
+use Rattle.std.specs.Prelude.{ℕ, ◌+◌, Bool, true, false, nat_lt, List, [], ◌∷◌, ◌++◌, codes, if◌then◌else◌}
 use Rattle.std.specs.Fmt.{signed_decimal}
 use Rattle.std.specs.List.{flat_map}
 use Rattle.trend_num.specs.declared.measure.Measure.{Measure}
@@ -48,12 +48,12 @@ op_token Max = Picking Greatest
 
 -- a tree's tokens, in brackets where the tree holds together less tightly than is needed
 abbrev pub fit : ℕ → Tree → List Token → List Token
-fit need t tokens = cond (nat_lt (binds t) need) (Open ∷ tokens ++ Close ∷ []) tokens
+fit need t tokens = if nat_lt (binds t) need then Open ∷ tokens ++ Close ∷ [] else tokens
 
 -- two operands with their operation between them, or before them
 abbrev pub joined : Op → Tree → List Token → Tree → List Token → List Token
-joined op a xs b ys = cond (is_call op) (op_token op ∷ Open ∷ xs ++ Comma ∷ (ys ++ Close ∷ []))
-    (fit (op_binds op) a xs ++ op_token op ∷ fit (op_binds op + 1) b ys)
+joined op a xs b ys = if is_call op then op_token op ∷ Open ∷ xs ++ Comma ∷ (ys ++ Close ∷ [])
+    else fit (op_binds op) a xs ++ op_token op ∷ fit (op_binds op + 1) b ys
 
 -- the tokens of a tree's canonical text
 abbrev pub canonical : Tree → List Token

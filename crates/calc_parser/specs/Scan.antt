@@ -1,6 +1,6 @@
 -- What only the reader's own functions cite: what may still come after the tokens so far, as a stack, and where tokens leave
 -- it. It is a means of their proofs, and says of no tree how its parts group.
-use Rattle.std.specs.Prelude.{◌≡◌, ℕ, ◌+◌, ◌≤◌, Bool, true, false, cond, nat_le, List, [], ◌∷◌, ◌++◌, Option, None, Some, Result, Ok, Err}
+use Rattle.std.specs.Prelude.{◌≡◌, ℕ, ◌+◌, ◌≤◌, Bool, true, false, nat_le, List, [], ◌∷◌, ◌++◌, Option, None, Some, Result, Ok, Err, if◌then◌else◌}
 use Rattle.calc_parser.specs.declared.token.Sum.TheVariants.{Minus}
 use Rattle.calc_parser.specs.declared.token.Token.{Token}
 use Rattle.calc_parser.specs.declared.token.Token.TheVariants.{Number, Quoted, Measuring, Calculation, Absolute, Picking, Choice, Open, Close, Comma, Summing, Multiplying, Comparing, End}
@@ -95,10 +95,10 @@ pub data Verdict : Type 0 where
 
 abbrev pub judged : Next → List Token → (Stack → Verdict) → Verdict
 judged None tokens go = refused tokens
-judged (Some next) tokens go = cond (nat_le next.0 deepest) (go next.1) (deep tokens)
+judged (Some next) tokens go = if nat_le next.0 deepest then go next.1 else deep tokens
 
 abbrev pub scan : Stack → List Token → Verdict
-scan k [] = cond (may_end k) fine (refused [])
+scan k [] = if may_end k then fine else refused []
 scan k (token ∷ tokens) = judged (step k token) (token ∷ tokens) (λ next. scan next tokens)
 
 -- a derivation's tokens stand before the rest, and this is its tree

@@ -1,5 +1,5 @@
 -- The tokens of a text, and where each begins.
-use Rattle.std.specs.Prelude.{ℕ, zero, suc, ◌+◌, ◌-◌, ◌^◌, ◌&&◌, Bool, cond, pos, List, [], ◌∷◌, length, take, drop, map, position, slice_index, nat_eq, nat_le, Option, None, Some, codes}
+use Rattle.std.specs.Prelude.{ℕ, zero, suc, ◌+◌, ◌-◌, ◌^◌, ◌&&◌, Bool, pos, List, [], ◌∷◌, length, take, drop, map, position, slice_index, nat_eq, nat_le, Option, None, Some, codes, if◌then◌else◌}
 use Rattle.std.specs.Char.{is_ascii_digit}
 use Rattle.std.specs.List.{list_all, prefix_len}
 use Rattle.std.specs.Str.{bytes_eq}
@@ -30,24 +30,31 @@ largest_number = 10 ^ 18
 
 -- the numeral of so many digits
 abbrev pub numeral_of : ℕ → List ℕ → Piece
-numeral_of n bytes = cond (nat_le (digits_value (take n bytes)) largest_number)
-    (Number (pos (digits_value (take n bytes))), n) (ill kind.Number bytes)
+numeral_of n bytes = if nat_le (digits_value (take n bytes)) largest_number then (Number (pos (digits_value (take n bytes))), n)
+    else ill kind.Number bytes
 
 abbrev pub is_letter : ℕ → Bool
 is_letter b = nat_le 97 b && nat_le b 122
 
 -- the words of measures
 abbrev pub measure_of : List ℕ → Option Measure
-measure_of w = cond (bytes_eq w (codes "avg")) (Some Avg) (cond (bytes_eq w (codes "total")) (Some Total)
-    (cond (bytes_eq w (codes "low")) (Some Low) (cond (bytes_eq w (codes "high")) (Some High)
-    (cond (bytes_eq w (codes "count")) (Some Count) (cond (bytes_eq w (codes "first")) (Some First)
-    (cond (bytes_eq w (codes "last")) (Some Last) None))))))
+measure_of w =
+    if bytes_eq w (codes "avg") then Some Avg
+    else if bytes_eq w (codes "total") then Some Total
+    else if bytes_eq w (codes "low") then Some Low
+    else if bytes_eq w (codes "high") then Some High
+    else if bytes_eq w (codes "count") then Some Count
+    else if bytes_eq w (codes "first") then Some First
+    else if bytes_eq w (codes "last") then Some Last else None
 
 -- the other words of the language
 abbrev pub other_word : List ℕ → Option Token
-other_word w = cond (bytes_eq w (codes "calc")) (Some Calculation) (cond (bytes_eq w (codes "abs")) (Some Absolute)
-    (cond (bytes_eq w (codes "min")) (Some (Picking Least)) (cond (bytes_eq w (codes "max")) (Some (Picking Greatest))
-    (cond (bytes_eq w (codes "if")) (Some Choice) None))))
+other_word w =
+    if bytes_eq w (codes "calc") then Some Calculation
+    else if bytes_eq w (codes "abs") then Some Absolute
+    else if bytes_eq w (codes "min") then Some (Picking Least)
+    else if bytes_eq w (codes "max") then Some (Picking Greatest)
+    else if bytes_eq w (codes "if") then Some Choice else None
 
 abbrev pub measured_or : Option Measure → Option Token → Option Token
 measured_or None other = other
@@ -69,7 +76,7 @@ abbrev pub is_name : List ℕ → Bool
 is_name bytes = nat_le 1 (length bytes) && nat_le (length bytes) 64 && list_all is_name_byte bytes
 
 abbrev pub name_of : List ℕ → Option Token
-name_of bytes = cond (is_name bytes) (Some (Quoted bytes)) None
+name_of bytes = if is_name bytes then Some (Quoted bytes) else None
 
 -- the name up to the closing quote, where there is one
 abbrev pub quoted_of : Option ℕ → List ℕ → Piece
@@ -78,27 +85,33 @@ quoted_of (Some n) bytes = or_ill (name_of (take n (drop 1 bytes))) (n + 2) kind
 
 -- the comparison that `<` or `>` begins, by the byte after it: the longer one where both can be
 abbrev pub less_of : ℕ → Piece
-less_of next = cond (nat_eq next 61) (Comparing Le, 2) (cond (nat_eq next 62) (Comparing Ne, 2) (Comparing Lt, 1))
+less_of next = if nat_eq next 61 then (Comparing Le, 2) else if nat_eq next 62 then (Comparing Ne, 2) else (Comparing Lt, 1)
 
 abbrev pub greater_of : ℕ → Piece
-greater_of next = cond (nat_eq next 61) (Comparing Ge, 2) (Comparing Gt, 1)
+greater_of next = if nat_eq next 61 then (Comparing Ge, 2) else (Comparing Gt, 1)
 
 -- any other sign
 abbrev pub sign_of : ℕ → Option Token
-sign_of b = cond (nat_eq b 40) (Some Open) (cond (nat_eq b 41) (Some Close) (cond (nat_eq b 44) (Some Comma)
-    (cond (nat_eq b 43) (Some (Summing Plus)) (cond (nat_eq b 45) (Some (Summing Minus))
-    (cond (nat_eq b 42) (Some (Multiplying Times)) (cond (nat_eq b 47) (Some (Multiplying Over))
-    (cond (nat_eq b 37) (Some (Multiplying Modulo)) (cond (nat_eq b 61) (Some (Comparing Eq)) None))))))))
+sign_of b =
+    if nat_eq b 40 then Some Open
+    else if nat_eq b 41 then Some Close
+    else if nat_eq b 44 then Some Comma
+    else if nat_eq b 43 then Some (Summing Plus)
+    else if nat_eq b 45 then Some (Summing Minus)
+    else if nat_eq b 42 then Some (Multiplying Times)
+    else if nat_eq b 47 then Some (Multiplying Over)
+    else if nat_eq b 37 then Some (Multiplying Modulo)
+    else if nat_eq b 61 then Some (Comparing Eq) else None
 
 -- the token that bytes begin with, the first of which is no space
 abbrev pub token_at : List ℕ → Piece
 token_at bytes = let b = slice_index bytes 0 in
-    cond (is_ascii_digit b) (numeral_of (prefix_len is_ascii_digit bytes) bytes)
-    (cond (is_letter b) (word_at (prefix_len is_letter bytes) bytes)
-    (cond (nat_eq b 39) (quoted_of (position (λ c. nat_eq c 39) (drop 1 bytes)) bytes)
-    (cond (nat_eq b 60) (less_of (slice_index bytes 1))
-    (cond (nat_eq b 62) (greater_of (slice_index bytes 1))
-    (or_ill (sign_of b) 1 kind.Char bytes)))))
+    if is_ascii_digit b then numeral_of (prefix_len is_ascii_digit bytes) bytes
+    else if is_letter b then word_at (prefix_len is_letter bytes) bytes
+    else if nat_eq b 39 then quoted_of (position (λ c. nat_eq c 39) (drop 1 bytes)) bytes
+    else if nat_eq b 60 then less_of (slice_index bytes 1)
+    else if nat_eq b 62 then greater_of (slice_index bytes 1)
+    else or_ill (sign_of b) 1 kind.Char bytes
 
 -- a token and the byte at which it begins
 pub record Lexeme : Type 0 where
@@ -110,8 +123,8 @@ pub record Lexeme : Type 0 where
 abbrev pub lexemes : ℕ → ℕ → List ℕ → List Lexeme
 lexemes place skip [] = []
 lexemes place (suc skip) (b ∷ bytes) = lexemes (place + 1) skip bytes
-lexemes place zero (b ∷ bytes) = cond (nat_eq b 32) (lexemes (place + 1) 0 bytes)
-    (record { token = (token_at (b ∷ bytes)).0; place = place } ∷ lexemes (place + 1) ((token_at (b ∷ bytes)).1 - 1) bytes)
+lexemes place zero (b ∷ bytes) = if nat_eq b 32 then lexemes (place + 1) 0 bytes
+    else record { token = (token_at (b ∷ bytes)).0; place = place } ∷ lexemes (place + 1) ((token_at (b ∷ bytes)).1 - 1) bytes
 
 abbrev pub tokens_of : List ℕ → List Token
 tokens_of text = map (λ l. l.token) (lexemes 0 0 text)

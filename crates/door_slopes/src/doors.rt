@@ -1,5 +1,5 @@
 // The two doors that hang at a hinge.
-ghost use Rattle.std.specs.Prelude.{◌≡◌, ◌↔◌, IsTrue, ◌+◌, ◌<◌, ◌≤◌, List, [], ◌∷◌, cond, pos, unsigned_abs};
+ghost use Rattle.std.specs.Prelude.{◌≡◌, ◌↔◌, IsTrue, ◌+◌, ◌<◌, ◌≤◌, List, [], ◌∷◌, pos, unsigned_abs, if◌then◌else◌};
 ghost use Rattle.std.specs.List.{list_all};
 ghost use Rattle.trend_num.specs.declared.point.Point.{Point};
 ghost use Rattle.trend_model.specs.Doors.{AreAfter, AreDoors, down, is_admitted, is_not_steeper, lower_after, upper_after};
@@ -116,7 +116,7 @@ impl Doors {
 
         // One step where the upper door refuses, else two.
         ensures cost { steps.new ≡ steps.old
-            + cond (is_not_steeper self.now.hinge p (pos 0) self.now.upper (pos self.now.deviation)) 2 1 }
+            + (if is_not_steeper self.now.hinge p (pos 0) self.now.upper (pos self.now.deviation) then 2 else 1) }
     {
         self.is_under_upper(p, steps) && self.is_over_lower(p, steps)
     }

@@ -1,5 +1,5 @@
 -- Frames near changed windows, and lists of frames in turn.
-use Rattle.std.specs.Prelude.{◌≡◌, ℕ, pos, ◌+◌, ◌<◌, ◌≤◌, Bool, false, cond, List, ◌++◌, length, map, slice_index_or, Contains}
+use Rattle.std.specs.Prelude.{◌≡◌, ℕ, pos, ◌+◌, ◌<◌, ◌≤◌, Bool, false, List, ◌++◌, length, map, slice_index_or, Contains, if◌then◌else◌}
 use Rattle.trend_num.specs.declared.value.CalcValue.TheVariants.{Num}
 use Rattle.event_frames.specs.declared.frame.Frame.{Frame}
 use Rattle.event_frames.specs.declared.frame.Change.{Change}
@@ -36,7 +36,7 @@ IsEarly fs n f = (i : ℕ) × (i < n) × (slice_index_or fs i f ≡ f)
 
 -- a frame that came, or went
 abbrev pub edit_of : Bool → Frame → Edit
-edit_of came f = cond came (New f) (Gone f)
+edit_of came f = if came then New f else Gone f
 
 -- the first so many frames that are not among others, as edits behind the edits before
 pub record AddsMissing (before after : List Edit) (came : Bool) (frames others : List Frame) (n : ℕ) : Type 0 where

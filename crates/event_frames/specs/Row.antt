@@ -1,5 +1,5 @@
 -- A row by the windows in which its calculation is true, and a row with changes.
-use Rattle.std.specs.Prelude.{ℕ, pos, ◌+◌, ◌<◌, ◌≤◌, Bool, true, false, cond, List, [], ◌∷◌, ◌++◌, length, map, max}
+use Rattle.std.specs.Prelude.{ℕ, pos, ◌+◌, ◌<◌, ◌≤◌, Bool, true, false, List, [], ◌∷◌, ◌++◌, length, map, max, if◌then◌else◌}
 use Rattle.std.specs.Prelude.{fold, nat_lt, slice_index_or, slice_set}
 use Rattle.std.specs.Ordering.{int_eq}
 use Rattle.trend_num.specs.declared.value.CalcValue.{CalcValue}
@@ -8,7 +8,7 @@ use Rattle.event_frames.specs.declared.frame.Change.{Change}
 
 -- whether a calculation with this value is true: it is a number other than 0
 abbrev pub is_true : CalcValue → Bool
-is_true (Num n) = cond (int_eq n (pos 0)) false true
+is_true (Num n) = if int_eq n (pos 0) then false else true
 is_true (Bad b) = false
 
 -- of each window of a row, whether the calculation is true in it
@@ -21,7 +21,7 @@ is_true_in truths k = slice_index_or truths k false
 
 -- a list with this at a place: in place of what stands there, or behind the last
 abbrev pub put_at : {X : Type 0} → List X → ℕ → X → List X
-put_at xs k x = cond (nat_lt k (length xs)) (slice_set xs k x) (xs ++ x ∷ [])
+put_at xs k x = if nat_lt k (length xs) then slice_set xs k x else xs ++ x ∷ []
 
 -- a row with changes
 abbrev pub row_with : List CalcValue → List Change → List CalcValue

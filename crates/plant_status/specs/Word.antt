@@ -1,5 +1,5 @@
 -- The words that a line calls files, units, reasons, quantities and bytes by.
-use Rattle.std.specs.Prelude.{ℕ, ◌+◌, ◌/◌, ◌%◌, cond, List, [], ◌∷◌, ◌++◌, codes, nat_lt, Option, None, Some}
+use Rattle.std.specs.Prelude.{ℕ, ◌+◌, ◌/◌, ◌%◌, List, [], ◌∷◌, ◌++◌, codes, nat_lt, Option, None, Some, if◌then◌else◌}
 use Rattle.std.specs.Fmt.{decimal}
 use Rattle.trend_num.specs.declared.refusal.Reason.{Reason}
 use Rattle.trend_num.specs.declared.refusal.Reason.TheVariants.{Fields, Verb, Name, Number, Range}
@@ -27,7 +27,7 @@ unit_text Log = codes "log"
 
 -- the digit of a number below 16: `0` to `9`, `a` to `f`
 abbrev pub hex_digit : ℕ → ℕ
-hex_digit d = cond (nat_lt d 10) (48 + d) (87 + d)
+hex_digit d = if nat_lt d 10 then 48 + d else 87 + d
 
 -- a byte as two digits, or the end where there is none
 abbrev pub byte_word : Option ℕ → List ℕ

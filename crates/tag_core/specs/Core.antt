@@ -1,5 +1,5 @@
 -- What a tag's core shows.
-use Rattle.std.specs.Prelude.{◌≡◌, ℕ, ◌+◌, ◌≤◌, pos, Bool, true, false, cond, List, [], ◌∷◌, Option, None, Some, length}
+use Rattle.std.specs.Prelude.{◌≡◌, ℕ, ◌+◌, ◌≤◌, pos, Bool, true, false, List, [], ◌∷◌, Option, None, Some, length, if◌then◌else◌}
 use Rattle.trend_num.specs.Limits.{most_records}
 use Rattle.trend_num.specs.declared.point.Point.{Point}
 use Rattle.trend_num.specs.declared.tuning.Tuning.{Tuning}
@@ -28,8 +28,8 @@ pub record IsCore (u : Tuning) (step : Bool) (s : State) : Type 0 where
 -- for a value p of a tag of lines: where the line to it is not too long, its slope with the upper door and, where it passes
 -- under that, with the lower one; and where p joins, one for each door that may swing
 abbrev pub line_compared : Tuning → Point → Option Point → Option Point → Option Point → Option Point → ℕ
-line_compared t p (Some a) (Some q) (Some u) (Some l) = cond (is_short t a p)
-    (cond (is_not_steeper a p (pos 0) u (pos t.comp_dev)) 2 1 + cond (is_admitted a t.comp_dev u l p) 2 0) 0
+line_compared t p (Some a) (Some q) (Some u) (Some l) = if is_short t a p
+    then (if is_not_steeper a p (pos 0) u (pos t.comp_dev) then 2 else 1) + (if is_admitted a t.comp_dev u l p then 2 else 0) else 0
 line_compared t p hinge held upper lower = 0
 
 -- for one thing that is sent; a step tag compares none

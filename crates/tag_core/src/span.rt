@@ -1,5 +1,5 @@
 // Whether a value goes on in the span since the hinge.
-ghost use Rattle.std.specs.Prelude.{◌≡◌, ◌+◌, ◌<◌, ◌&&◌, ◌||◌, cond, pos};
+ghost use Rattle.std.specs.Prelude.{◌≡◌, ◌+◌, ◌<◌, ◌&&◌, ◌||◌, pos, if◌then◌else◌};
 ghost use Rattle.trend_num.specs.Ranges.{InRange, TuningInRange};
 ghost use Rattle.trend_model.specs.Doors.{is_not_steeper};
 ghost use Rattle.trend_model.specs.State.{joins};
@@ -22,8 +22,8 @@ pub(crate) fn joins<L: Ledger>(
     requires range { InRange p }
     requires after { doors.now.hinge.t < p.t }
     ensures value { result ≡ joins tuning.now doors.now.hinge doors.now.upper doors.now.lower p }
-    ensures cost { steps.new ≡ steps.old + cond (is_short tuning.now doors.now.hinge p)
-        (cond (is_not_steeper doors.now.hinge p (pos 0) doors.now.upper (pos tuning.now.comp_dev)) 2 1) 0 }
+    ensures cost { steps.new ≡ steps.old + (if is_short tuning.now doors.now.hinge p
+        then (if is_not_steeper doors.now.hinge p (pos 0) doors.now.upper (pos tuning.now.comp_dev) then 2 else 1) else 0) }
 {
     is_short(tuning, doors.hinge(), p) && doors.admits(p, steps)
 }
