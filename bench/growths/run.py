@@ -55,6 +55,7 @@ COMMANDS = [
     ["log", "base.toml", "plan.toml"],
     ["shifts", "base.toml", "calendar.toml", "1971-01-01", "3"],
     ["frames", "base.toml", "g", "m", "2"],
+    ["drill", "1", "1", "4"],
 ]
 
 

@@ -1,14 +1,11 @@
 // Sessions whose devices all stop at one call, and what a crash then leaves.
-ghost use Rattle.std.specs.Prelude.{◌≡◌, length, Some, refl};
-
 use crate::plants::{NO_FAULT, text, told, words};
 use byte_io::{MemFiles, MemSink, MemSource};
-use disk_model::{Disk, Failed, MemDisk, MemStore, Pick, Store};
+use disk_model::{MemStore, Pick, Store};
 use plant_run::{OpenPasses, Outcome, run};
 use plant_status::Status;
 use std::alloc::Global;
 use std::sync::Wait;
-use std::sync::atomic::{AtomicU64, Ordering};
 use std::test::Fail;
 use std::thread::Threads;
 
@@ -37,106 +34,6 @@ const STEPS: &str = "\
 // More calls than the devices of the second session have.
 const MOST: u64 = 96;
 
-// A device in memory that stops once so many calls were made of all devices of its store.
-struct StopDisk<'a> {
-    disk: MemDisk,
-    calls: &'a AtomicU64,
-    most: u64,
-}
-
-impl<'a> StopDisk<'a> {
-    // Counts a call, and stops the device where there were enough.
-    fn count(&mut self)
-        ensures trace { self.new.disk.trace ≡ self.old.disk.trace }
-        ensures faults { self.new.disk.faults ≡ self.old.disk.faults }
-    {
-        if self.calls.fetch_add(1, Ordering::SeqCst) >= self.most {
-            self.disk.stop_after(0);
-        }
-    }
-}
-
-impl<'a> Disk for StopDisk<'a> {
-    ghost trace = { λ d. Some d.disk.trace };
-
-    ghost ticks = { λ d. length d.disk.trace.calls };
-
-    ghost fault_count = { λ d. d.disk.faults };
-
-    ghost told = { λ d. refl };
-
-    fn len(&mut self) -> Result<u64, Failed> {
-        self.count();
-        self.disk.len()
-    }
-
-    fn read(&mut self, at: u64, buf: &mut [u8]) -> Result<(), Failed> {
-        self.count();
-        self.disk.read(at, buf)
-    }
-
-    fn write_at(&mut self, at: u64, bytes: &[u8]) -> Result<(), Failed> {
-        self.count();
-        self.disk.write_at(at, bytes)
-    }
-
-    fn cut(&mut self, len: u64) -> Result<(), Failed> {
-        self.count();
-        self.disk.cut(len)
-    }
-
-    fn sync(&mut self) -> Result<(), Failed> {
-        self.count();
-        self.disk.sync()
-    }
-
-    fn clock(&self) -> u64 {
-        self.disk.clock()
-    }
-
-    fn faults(&self) -> u64 {
-        self.disk.faults()
-    }
-}
-
-// A store whose devices stop together.
-#[derive(Drop)]
-struct StopStore<'a> {
-    store: MemStore,
-    calls: &'a AtomicU64,
-    most: u64,
-}
-
-impl<'a> Store for StopStore<'a> {
-    ghost use Rattle.disk_model.specs.Stores.{trace_at, is_among};
-
-    type Dev = StopDisk<'a>;
-
-    ghost device_at = { λ s name. Some (trace_at s.store.devices name) };
-
-    ghost has_place = { λ s name. is_among s.store.devices name };
-
-    ghost fault_count = { λ s. s.store.faults };
-
-    fn device(&mut self, name: &str) -> Result<StopDisk<'a>, Failed> {
-        let disk = self.store.device(name)?;
-        Ok(StopDisk {
-            disk,
-            calls: self.calls,
-            most: self.most,
-        })
-    }
-
-    fn give_back(&mut self, name: &str, dev: StopDisk<'a>) {
-        let StopDisk {
-            disk,
-            calls: _,
-            most: _,
-        } = dev;
-        self.store.give_back(name, disk);
-    }
-}
-
 // The files.
 fn files(alloc: Global) -> Result<MemFiles, Fail> {
     let mut files = Vec::new(alloc);
@@ -149,11 +46,11 @@ fn files(alloc: Global) -> Result<MemFiles, Fail> {
 }
 
 // Runs a line of words over a store.
-fn ended<R: Threads + Wait + Sync, S: Store>(
+fn ended<R: Threads + Wait + Sync>(
     rt: &R,
     alloc: Global,
     line: &str,
-    store: &mut S,
+    store: &mut MemStore,
 ) -> Result<Outcome, Fail> {
     let words = words(alloc, line)?;
     let mut input = MemSource::new(Vec::new(alloc), Vec::new(alloc));
@@ -219,23 +116,18 @@ fn acknowledged(ended: &Outcome) -> (u64, u64) {
     }
 }
 
-// The second session, whose devices stop after so many calls: whether no call was stopped. Whatever the crash leaves is opened again, and
-// tells a first part of the values with all that were acknowledged, the group's rows from scratch, and, of
-// the group, the version that was saved last or the one that was being saved.
+// The second session, whose devices stop after so many calls: whether it is done, as no call was stopped. Whatever the crash
+// leaves is opened again, and tells a first part of the values with all that were acknowledged, the group's rows from
+// scratch, and, of the group, the version that was saved last or the one that was being saved.
 fn stopped_at<R: Threads + Wait + Sync>(rt: &R, alloc: Global, most: u64) -> Result<bool, Fail> {
-    let calls = AtomicU64::new(0);
-    let mut store = StopStore {
-        store: MemStore::new(Vec::new(alloc)),
-        calls: &calls,
-        most: u64::MAX,
-    };
+    let mut store = MemStore::new(Vec::new(alloc));
     ended(rt, alloc, "run base.toml first.toml", &mut store)?;
-    calls.store(0, Ordering::SeqCst);
-    store.most = most;
+    store.stop_after(most).map_err(|_| "memory")?;
     let outcome = ended(rt, alloc, "run base.toml second.toml", &mut store)?;
+    let done = outcome.status == Status::Done;
     let (lines, steps) = acknowledged(&outcome);
     for pick in [Pick::Old, Pick::New, Pick::Fill(0xa5), Pick::Fill(0)] {
-        let mut left = crashed(alloc, &mut store.store, pick)?;
+        let mut left = crashed(alloc, &mut store, pick)?;
         let mut files = files(alloc)?;
         let line = "historian trend base.toml asks.toml";
         let told = told(rt, alloc, line, b"", &mut files, &mut left, NO_FAULT)?;
@@ -244,14 +136,11 @@ fn stopped_at<R: Threads + Wait + Sync>(rt: &R, alloc: Global, most: u64) -> Res
             return Err("what is left is not told".into());
         }
         let opened = ended(rt, alloc, "run base.toml none.toml", &mut left)?;
-        if !is_a_save(
-            saved(alloc, &opened)?.as_str(),
-            outcome.status == Status::Done,
-        ) {
+        if !is_a_save(saved(alloc, &opened)?.as_str(), done) {
             return Err("another version was saved".into());
         }
     }
-    Ok(calls.load(Ordering::SeqCst) <= most)
+    Ok(done)
 }
 
 #[test]
