@@ -10,4 +10,3 @@ pub mod Understood
 pub mod Kept
 pub mod Settled
 pub mod Putting
-pub mod Lines

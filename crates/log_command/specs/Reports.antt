@@ -1,13 +1,12 @@
 -- What is told of the rows of a log: a line of each tag.
 use Rattle.std.specs.Prelude.{◌≡◌, ℕ, ◌+◌, ◌<◌, ◌≤◌, List, [], ◌++◌, length, map, take, slice_index_or, ⊤}
-use Rattle.std.specs.List.{flat_map, zip}
 use Rattle.trend_num.specs.Limits.{most_records}
 use Rattle.trend_num.specs.declared.refusal.What.TheVariants.{Records}
 use Rattle.trend_num.specs.declared.tag_def.TagDef.{TagDef}
 use Rattle.trend_model.specs.History.{Event, Origin, Raw}
 use Rattle.trend_model.specs.State.{State, Stands, followed}
 use Rattle.tag_core.specs.Core.{Core}
-use Rattle.trend_report.specs.Lines.{line_of, tag_text}
+use Rattle.store_commands.specs.Lines.{check_text}
 use Rattle.plant_status.specs.declared.status.Status.{Status}
 use Rattle.plant_status.specs.declared.status.Status.TheVariants.{Limit, WantOfMemory}
 use Rattle.commit_log.specs.declared.history.LogHistory.{LogHistory}
@@ -35,19 +34,11 @@ pub record AreStanding (tags : List TagDef) (rows : List LogRow) (cores : List C
   pub stand : (tag : ℕ) (def : TagDef) (core : Core) → tag < length tags
       → Stands (origin_of (slice_index_or tags tag def)) (history_of tag rows) (slice_index_or cores tag core).state
 
--- the line of a tag
-abbrev pub tag_line : TagDef → Core → List ℕ
-tag_line def core = tag_text (line_of def.name core.state.records core.state.summary)
-
--- a line of each tag
-abbrev pub tag_lines : List TagDef → List Core → List ℕ
-tag_lines tags cores = flat_map (λ p. tag_line p.0 p.1) (zip tags cores)
-
 -- this is a line of each tag, of an archive that stands for its points of these rows
 pub record IsToldOf (tags : List TagDef) (rows : List LogRow) (text : List ℕ) : Type 0 where
   pub cores : List Core
   pub standing : AreStanding tags rows cores
-  pub same : text ≡ tag_lines tags cores
+  pub same : text ≡ check_text tags cores
 
 -- an archive that stands for a tag's points of the first of these rows has so many records, and one point more could bring too many
 pub record IsFull (tags : List TagDef) (rows : List LogRow) (number : ℕ) : Type 0 where

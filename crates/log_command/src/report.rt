@@ -3,16 +3,16 @@ ghost use Rattle.std.specs.Prelude.{◌≡◌, ◌+◌, ◌^◌, ◌<◌, [], Al
 ghost use Rattle.trend_num.specs.Ranges.{TuningInRange};
 ghost use Rattle.trend_model.specs.State.{Stands};
 ghost use Rattle.commit_log.specs.Blocks.{IsRow};
-ghost use Rattle.log_command.specs.Reports.{AreStanding, IsReportRefusal, IsToldOf, all_rows, origin_of, tag_lines};
+ghost use Rattle.log_command.specs.Reports.{AreStanding, IsReportRefusal, IsToldOf, all_rows, origin_of};
 
 use commit_log::{LogHistory, LogRow, LogTurn};
 use plant_status::{Status, What};
 use std::alloc::{AllocError, Global};
 use std::marker::Brand;
 use std::sync::ledger::{Blank, Ledger};
+use store_commands::check_text;
 use tag_core::TagCore;
 use trend_num::{Steps, TagDef, WantOfMemory};
-use trend_report::{line_of, tag_text};
 
 // The line of each tag, of its values in the log in their order: those of the opening, and those that were put.
 pub(crate) fn report(alloc: Global, tags: &[TagDef], log: &LogHistory) -> Result<String, Status>
@@ -30,7 +30,7 @@ pub(crate) fn report(alloc: Global, tags: &[TagDef], log: &LogHistory) -> Result
     if let Err(why) = take_all(&mut cores, tags, &rows) {
         return Err(why);
     }
-    match tag_lines(alloc, tags, &cores) {
+    match check_text(alloc, tags, &cores) {
         Ok(text) => Ok(text),
         Err(_) => Err(Status::WantOfMemory),
     }
@@ -148,21 +148,4 @@ fn take_row<L: Ledger>(
             number: u64::from(full.records),
         }),
     }
-}
-
-// A line for each tag.
-fn tag_lines(alloc: Global, tags: &[TagDef], cores: &[TagCore]) -> Result<String, WantOfMemory>
-    requires { length cores.now ≡ length tags.now }
-    ensures { IfOk result (λ text. string_bytes text ≡ tag_lines tags.now cores.now) }
-{
-    let mut text = String::new(alloc);
-    for (def, core) in tags.iter().zip(cores) {
-        let summary = core.summary();
-        let line = line_of(def.name, core.recs(), &summary)?;
-        let line = tag_text(alloc, &line)?;
-        let Ok(()) = text.push_str(line.as_str()) else {
-            return Err(WantOfMemory);
-        };
-    }
-    Ok(text)
 }

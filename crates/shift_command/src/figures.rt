@@ -11,13 +11,13 @@ ghost use Rattle.shift_command.specs.Shifts.{IsCommandRefusal, IsFaultOfRead, Is
 use crate::calendar_file::calendar_of;
 use crate::contents::shift_tags;
 use crate::line::lines_of;
-use crate::opened::open_base;
 use byte_io::Files;
 use disk_model::Store;
 use plant_files::base_of;
 use plant_status::Status;
 use shift_calendar::{Calendar, WantOfMemory, shift_windows};
 use std::alloc::Global;
+use store_commands::open_base;
 use tag_core::TagCore;
 use trend_num::TagDef;
 

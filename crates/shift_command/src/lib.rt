@@ -13,7 +13,6 @@ mod calendar_file;
 mod contents;
 mod figures;
 mod line;
-mod opened;
 mod shift_tag;
 mod value;
 

@@ -15,6 +15,7 @@ mod replies;
 mod tag_lines;
 
 pub use line::check_text;
+pub use opened::open_base;
 pub use plant_status::Status;
 pub use replies::trend;
 pub use tag_lines::check;

@@ -13,8 +13,10 @@ use tag_base::Base;
 use tag_core::TagCore;
 use tag_store::open_tags;
 
-/// Opens the tags of a base that was read. No two of them have one name, so each device is opened once.
-pub(crate) fn open_base<S: Store>(
+/// Opens the tags of a base that was read, each over the device of its name, which is made where there is none. No two of them
+/// have one name, so each device is opened once. A refusal is that of the first tag that does not open: a device that fails, is
+/// damaged or is of another tag, too many records, or want of memory.
+pub fn open_base<S: Store>(
     alloc: Global,
     store: &mut S,
     base: &Base,
