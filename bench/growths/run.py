@@ -4,7 +4,7 @@
 PROGRAM is a built historian (crates/historian/out/historian, after `rt run` there). Each command runs over a small plant again and
 again: refuse.c refuses its first growth, then its second, until a run meets no refusal. A run that was refused one has to tell
 `fault: memory` with its exit code, or to end as it does without a refusal, where the growth was not needed. After each refused
-session the tags are checked: their devices have to open, and what was acknowledged can only be more than before. It runs by hand,
+session of `run` the tags are checked: their devices have to open. It runs by hand,
 never as a test; a program that answers otherwise is told, and the exit code is 1."""
 import os
 import shutil

@@ -1,7 +1,8 @@
 #!/usr/bin/env python3
 """make_days.py: writes the collectors' files of the plant into the working folder, from a fixed seed.
 
-Two days, 2024-03-30 and 2024-03-31, in the zone of the calendar: the second one has 23 hours. `flow1.csv` and `unit1.csv` are the
+Two times 24 hours from 2024-03-30 00:00 on, in the zone of the calendar, where 2024-03-31 has 23. `flow1.csv` and
+`unit1.csv` are the
 first day, `flow2.csv` and `unit2.csv` the second; `buffer.csv` is what a logger had buffered of the first and hands over late."""
 
 DAY = 86_400_000
