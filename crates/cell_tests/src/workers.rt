@@ -538,7 +538,7 @@ fn a_tape_without_room_ends_its_collector(rt: HostRuntime) -> Result<(), Fail> {
     Ok(())
 }
 
-// Whether a reader was told a snapshot and an empty row of the group, at place 0 of its tape.
+// Whether a reader was told the snapshot of the one value that was taken, and an empty row of the group, at place 0 of its tape.
 fn told_a_snap_and_a_row(note: &WorkerNote) -> bool {
     match note.told.as_slice() {
         [
@@ -550,8 +550,8 @@ fn told_a_snap_and_a_row(note: &WorkerNote) -> bool {
             },
         ] => *snap
             == Snap {
-                taken: 0,
-                held: None,
+                taken: 1,
+                held: Some(Point { t: 0, v: 0 }),
             },
         _ => false,
     }
@@ -569,7 +569,7 @@ fn a_snapshot_is_told_from_the_board_and_a_row_by_the_group(rt: HostRuntime) -> 
     ];
     let mut work = one_of_each(rt.alloc(), &queries).ok_or("memory")?;
     work.collectors.clear();
-    let ran = session_over(&rt, rt.alloc(), 2, 0, &work, &mut OpenPasses).ok_or("refused")?;
+    let ran = session_over(&rt, rt.alloc(), 2, 1, &work, &mut OpenPasses).ok_or("refused")?;
     assert!(rt; ended_by(&ran, &[Ending::Ended, Ending::Ended]));
     assert!(rt; ran.notes.first().is_some_and(told_a_snap_and_a_row));
     assert!(rt; ran.notes.last().is_some_and(|note| note.turns == 2));

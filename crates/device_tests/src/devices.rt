@@ -128,6 +128,20 @@ fn a_store_in_memory_keeps_devices_by_name(rt: HostRuntime) -> Result<(), Fail> 
     Ok(())
 }
 
+#[test]
+fn devices_of_a_store_stop_together(rt: HostRuntime) -> Result<(), Fail> {
+    let mut store = MemStore::new(Vec::new(rt.alloc()));
+    let mut before = store.device("before.tag").map_err(|_| "failed")?;
+    store.stop_after(3).map_err(|_| "memory")?;
+    let mut a = store.device("a.tag").map_err(|_| "failed")?;
+    let mut b = store.device("b.tag").map_err(|_| "failed")?;
+    assert_eq!(rt; (a.sync(), b.sync(), a.len()), (Ok(()), Ok(()), Ok(0)));
+    assert_eq!(rt; (b.sync(), a.sync()), (Err(Failed), Err(Failed)));
+    assert_eq!(rt; (a.faults(), b.faults()), (1, 1));
+    assert_eq!(rt; before.sync(), Ok(()));
+    Ok(())
+}
+
 // A file of which each call fails.
 #[derive(Drop)]
 struct Broken;

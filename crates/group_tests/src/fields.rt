@@ -1,6 +1,7 @@
 // The fields of a layout in memory.
 use archive_file::ScanNo;
 use layout_fields::{Field, byte_at, check, long_at, short_at};
+use std::alloc::Global;
 use std::process::Abort;
 use std::test::Fail;
 
@@ -15,22 +16,20 @@ const ROWS: &str = "\
 13 2 => 12 end";
 
 /// What is told of fields at these places.
-fn told(places: &str) -> Result<Option<ScanNo>, Fail> {
+fn told(alloc: Global, places: &str) -> Result<Option<ScanNo>, Fail> {
+    let mut fields = Vec::new(alloc);
     for place in places.split(' ') {
         let place = place.parse::<usize>().map_err(|_| "a place")?;
-        let field = Field::new(place, 4, byte_at(&IMAGE, place) == 0);
-        if let Err(why) = check(&IMAGE, &[field]) {
-            return Ok(Some(why));
-        }
+        fields.push(Field::new(place, 4, byte_at(&IMAGE, place) == 0))?;
     }
-    Ok(None)
+    Ok(check(&IMAGE, &fields).err())
 }
 
 #[test]
 fn the_first_field_that_is_not_kept_is_told(rt: HostRuntime) -> Result<(), Fail> {
     for line in ROWS.lines() {
         let (places, want) = line.split_once(" => ").ok_or("an arrow")?;
-        let told = match told(places)? {
+        let told = match told(rt.alloc(), places)? {
             None => format!(in rt.alloc(); "kept")?,
             Some(ScanNo::Damaged { at, byte: Some(b) }) => format!(in rt.alloc(); "{at} byte {b}")?,
             Some(ScanNo::Damaged { at, byte: None }) => format!(in rt.alloc(); "{at} end")?,
@@ -44,7 +43,7 @@ fn the_first_field_that_is_not_kept_is_told(rt: HostRuntime) -> Result<(), Fail>
 #[test]
 fn numbers_have_their_highest_byte_first(rt: HostRuntime) -> Result<(), Fail> {
     assert_eq!(&rt; short_at(&IMAGE, 0), 258);
-    assert_eq!(&rt; short_at(&IMAGE, 10), 65_536 * 256);
+    assert_eq!(&rt; short_at(&IMAGE, 10), 16_777_216);
     assert_eq!(&rt; long_at(&IMAGE, 4), 256);
     assert_eq!(&rt; byte_at(&IMAGE, 12), 0);
     Ok(())

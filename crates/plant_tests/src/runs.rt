@@ -103,10 +103,9 @@ fn values_are_packed(rt: HostRuntime) -> Result<(), Fail> {
         let (line, input) = given.split_once(" <").ok_or("input")?;
         let input = text(alloc, input.trim_start())?;
         let told = alone(&rt, alloc, line, input.as_bytes(), NO_FAULT)?;
-        let want = text(alloc, want)?;
         assert_eq!(rt;
-            told.as_str().trim_end(),
-            want.as_str().trim_end(),
+            told.as_str().trim_end_matches(' '),
+            text(alloc, want)?.as_str(),
             "{given}"
         );
     }
@@ -122,10 +121,9 @@ fn a_call_that_fails_is_a_fault(rt: HostRuntime) -> Result<(), Fail> {
         let (write, line) = rest.split_once(' ').ok_or("write")?;
         let fail = (number(&rt, read), number(&rt, write));
         let told = alone(&rt, alloc, line, b"0,0\n1,0\n2,3\n3,0\n", fail)?;
-        let want = text(alloc, want)?;
         assert_eq!(rt;
-            told.as_str().trim_end(),
-            want.as_str().trim_end(),
+            told.as_str().trim_end_matches(' '),
+            text(alloc, want)?.as_str(),
             "{given}"
         );
     }

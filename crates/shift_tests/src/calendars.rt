@@ -67,13 +67,13 @@ fn name(rt: &impl Abort, text: &str) -> Name {
 }
 
 // A text in which each first text of a pair was replaced, where it comes first, by the second.
-fn edited(alloc: Global, edits: &str) -> Result<String, AllocError> {
+fn edited(alloc: Global, edits: &str) -> Result<String, Fail> {
     let mut whole = String::from_str(alloc, CALENDAR)?;
     for edit in edits.split(" & ") {
         let (old, new) = edit.split_once(" -> ").unwrap_or(("", ""));
-        if let Some((front, rest)) = whole.as_str().split_once(old) {
-            whole = format!(in alloc; "{front}{new}{rest}")?;
-        }
+        let parts = whole.as_str().split_once(old);
+        let (front, rest) = parts.ok_or("nothing to replace")?;
+        whole = format!(in alloc; "{front}{new}{rest}")?;
     }
     Ok(whole)
 }

@@ -157,14 +157,14 @@ fn base_counts(alloc: Global, bytes: &[u8]) -> Result<String, AllocError> {
 }
 
 // A text in which each first text of a pair was replaced, where it comes first, by the second.
-fn edited(alloc: Global, whole: &str, edits: &str) -> Result<String, AllocError> {
+fn edited(alloc: Global, whole: &str, edits: &str) -> Result<String, Fail> {
     let mut whole = String::from_str(alloc, whole)?;
     for edit in edits.split(" & ") {
         let (old, new) = edit.split_once(" -> ").unwrap_or(("", ""));
         let (old, new) = (text(alloc, old)?, text(alloc, new)?);
-        if let Some((front, rest)) = whole.as_str().split_once(old.as_str()) {
-            whole = format!(in alloc; "{front}{new}{rest}")?;
-        }
+        let parts = whole.as_str().split_once(old.as_str());
+        let (front, rest) = parts.ok_or("nothing to replace")?;
+        whole = format!(in alloc; "{front}{new}{rest}")?;
     }
     Ok(whole)
 }

@@ -71,6 +71,8 @@ fn files_have_their_names(rt: HostRuntime) {
     );
     let file = FileId::Plan;
     tells(&rt, Status::ReadFault { file }, 5, "fault: read plan");
+    let file = FileId::Calendar;
+    tells(&rt, Status::ReadFault { file }, 5, "fault: read calendar");
     let file = FileId::Input;
     tells(&rt, Status::ReadFault { file }, 5, "fault: read input");
 }
@@ -84,6 +86,8 @@ fn devices_have_their_units(rt: HostRuntime) {
         7,
         "fault: device group 4294967296",
     );
+    let unit = Unit::Log;
+    tells(&rt, Status::DeviceFault { unit }, 7, "fault: device log");
     let (unit, at, byte) = (Unit::Tag(3), 66_639, None);
     tells(
         &rt,
@@ -136,6 +140,14 @@ fn a_run_ends_in_these(rt: HostRuntime) {
     tells(&rt, mismatch, 11, "fault: mismatch");
     tells(&rt, Status::Halted { worker: 0 }, 12, "fault: halted 0");
     tells(&rt, Status::WantOfMemory, 13, "fault: memory");
+    tells(
+        &rt,
+        Status::OtherPlant { at: 7 },
+        15,
+        "fault: other plant 7",
+    );
+    tells(&rt, Status::BadName { word: 4 }, 16, "fault: name 4");
+    assert_eq!(&rt; WHATS.len(), LIMITS.lines().count());
     for (what, want) in WHATS.into_iter().zip(LIMITS.lines()) {
         tells(&rt, Status::Limit { what, number: 7 }, 10, want);
     }
