@@ -88,22 +88,30 @@ pub record IsDrillSo (wanted : DrillWords) (before now : World) (stops_before st
   pub input : now.input ≡ before.input
   pub rest : now.scene ≡ record before.scene { output = now.scene.output }
 
+-- this status is told with its exit code, and nothing else has changed
+pub record IsUnrun (status : Status) (before now : World) (stops_before stops_now code : ℕ) : Type 0 where
+  pub exit : code ≡ code_of status
+  pub told : IsTold before.scene.output now.scene.output status
+  pub input : now.input ≡ before.input
+  pub rest : now.scene ≡ record before.scene { output = now.scene.output }
+  pub unstopped : stops_now ≡ stops_before
+
 -- it ends so with this exit code; or there was no memory for the words
 abbrev pub DrillsWithCode : DrillWords → World → World → ℕ → ℕ → ℕ → Type 0
 DrillsWithCode wanted before now stops_before stops_now code =
     ((o : Outcome) × (code ≡ code_of o.status) × IsDrillSo wanted before now stops_before stops_now o)
-    ⊎ ((code ≡ code_of WantOfMemory) × IsTold before.scene.output now.scene.output WantOfMemory)
+    ⊎ IsUnrun WantOfMemory before now stops_before stops_now code
 
 -- it ends so with this exit code; or there was no memory for the words
 abbrev pub LogsWithCode : {D : Type 0} → (D → Option Trace) → (D → ℕ) → (D → ℕ) → List ℕ → List ℕ → World → World → ℕ → ℕ → ℕ
     → Type 0
 LogsWithCode trace ticks faults base plan before now stops_before stops_now code =
     ((o : Outcome) × (code ≡ code_of o.status) × IsLogHandedOn trace ticks faults base plan before now stops_before stops_now o)
-    ⊎ ((code ≡ code_of WantOfMemory) × IsTold before.scene.output now.scene.output WantOfMemory)
+    ⊎ IsUnrun WantOfMemory before now stops_before stops_now code
 
 -- it ends so with this exit code; or there was no memory for the words
 abbrev pub RunsWithCode : {D : Type 0} → (D → Option Trace) → (D → ℕ) → (D → ℕ) → List ℕ → List ℕ → World → World → ℕ → ℕ → ℕ
     → Type 0
 RunsWithCode trace ticks faults base plan before now stops_before stops_now code =
     ((o : Outcome) × (code ≡ code_of o.status) × IsRunSo trace ticks faults base plan before now stops_before stops_now o)
-    ⊎ ((code ≡ code_of WantOfMemory) × IsTold before.scene.output now.scene.output WantOfMemory)
+    ⊎ IsUnrun WantOfMemory before now stops_before stops_now code

@@ -79,7 +79,9 @@ pub fn run_args<R: Threads + Wait + Sync, I: Source, F: Files, O: Sink, S: Store
     ensures no_args_line { IfErr args (λ why.
         IsTold (O.meaning out.old) (O.meaning out.new) (status_of_args (error_kind why))) }
     ensures untouched { IfErr args (λ why. input.new ≡ input.old) }
+    ensures unread { IfErr args (λ why. files.new ≡ files.old) }
     ensures kept { IfErr args (λ why. store.new ≡ store.old) }
+    ensures unstopped { IfErr args (λ why. passes.new ≡ passes.old) }
 {
     let status = match args {
         Ok(given) => match words_of(alloc, given) {

@@ -85,6 +85,9 @@ pub fn run<R: Threads + Wait + Sync, I: Source, F: Files, O: Sink, S: Store, P: 
     ensures bad_words { HoldsNone (map string_bytes words.now)
         → (result.status ≡ Status.BadWords) ↔ MeansNothing (form_of (map string_bytes words.now)) }
     ensures untouched { result.status ≡ Status.BadWords → input.new ≡ input.old }
+    ensures unread { result.status ≡ Status.BadWords → files.new ≡ files.old }
+    ensures kept { result.status ≡ Status.BadWords → store.new ≡ store.old }
+    ensures unstopped { result.status ≡ Status.BadWords → passes.new ≡ passes.old }
 {
     match plan_words(words) {
         Some(Planned { base, plan }) => {
@@ -136,6 +139,9 @@ fn run_other<R: Threads + Wait + Sync, I: Source, F: Files, O: Sink, S: Store, P
     ensures bad_words { log_words (map string_bytes words.now) ≡ None → drill_words (map string_bytes words.now) ≡ None
         → (result.status ≡ Status.BadWords) ↔ MeansNothing (form_of (map string_bytes words.now)) }
     ensures untouched { result.status ≡ Status.BadWords → input.new ≡ input.old }
+    ensures unread { result.status ≡ Status.BadWords → files.new ≡ files.old }
+    ensures kept { result.status ≡ Status.BadWords → store.new ≡ store.old }
+    ensures unstopped { result.status ≡ Status.BadWords → passes.new ≡ passes.old }
 {
     match log_words(words) {
         Some(_) => {
@@ -179,6 +185,9 @@ fn run_rest<R: Threads + Wait + Sync, I: Source, F: Files, O: Sink, S: Store, P:
     ensures bad_words { drill_words (map string_bytes words.now) ≡ None
         → (result.status ≡ Status.BadWords) ↔ MeansNothing (form_of (map string_bytes words.now)) }
     ensures untouched { result.status ≡ Status.BadWords → input.new ≡ input.old }
+    ensures unread { result.status ≡ Status.BadWords → files.new ≡ files.old }
+    ensures kept { result.status ≡ Status.BadWords → store.new ≡ store.old }
+    ensures unstopped { result.status ≡ Status.BadWords → passes.new ≡ passes.old }
 {
     match drill_words(words) {
         Some(

@@ -46,6 +46,8 @@ pub(crate) fn answer<I: Source, F: Files, O: Sink, S: Store>(
     // Words that are no form are refused as such, and nothing is read then.
     ensures bad_words { (result ≡ Status.BadWords) ↔ MeansNothing (form_of (map string_bytes words.now)) }
     ensures untouched { result ≡ Status.BadWords → input.new ≡ input.old }
+    ensures unread { result ≡ Status.BadWords → files.new ≡ files.old }
+    ensures kept { result ≡ Status.BadWords → store.new ≡ store.old }
 {
     match shift_words(words) {
         Some(_) => shifts(alloc, words, files, out, store),
@@ -72,6 +74,8 @@ fn answer_other<I: Source, F: Files, O: Sink, S: Store>(
     ensures files { F.told files.new ≡ F.told files.old }
     ensures bad_words { (result ≡ Status.BadWords) ↔ MeansNothing (other_form (map string_bytes words.now)) }
     ensures untouched { result ≡ Status.BadWords → input.new ≡ input.old }
+    ensures unread { result ≡ Status.BadWords → files.new ≡ files.old }
+    ensures kept { result ≡ Status.BadWords → store.new ≡ store.old }
 {
     match other_form(words) {
         Form::Pack(tuning) => run_pack(alloc, tuning, input, out),

@@ -49,10 +49,13 @@ returns-clause-session g c =
                 (w.run.ensures.session base plan (subst (λ l. plan_words (map string_bytes l) ≡ Some (base, plan)) (sym words) is)),
           ))
       | in-Ok+in-Err-words_of w ↦
-          rw w.in-Ok.is (λ base plan is. inr (
-            code ∙ ap code_of (w.status-is ∙ w.refuse.ensures.same),
-            rw (w.out-is) w.refuse.ensures.line,
-          ))
+          rw w.in-Ok.is (λ base plan is. inr (record {
+              exit = code ∙ ap code_of (w.status-is ∙ w.refuse.ensures.same);
+              told = rw (w.out-is) w.refuse.ensures.line;
+              input = rw (w.input-is) refl;
+              rest = rw (w.files-is, w.store-is) refl;
+              unstopped = rw (w.passes-is) refl;
+          }))
       | in-Err w ↦ rw w.in-Err.is tt
     ]
 
@@ -70,10 +73,13 @@ returns-clause-log g c =
                 (w.run.ensures.log base plan (subst (λ l. log_words (map string_bytes l) ≡ Some (base, plan)) (sym words) is)),
           ))
       | in-Ok+in-Err-words_of w ↦
-          rw w.in-Ok.is (λ base plan is. inr (
-            code ∙ ap code_of (w.status-is ∙ w.refuse.ensures.same),
-            rw (w.out-is) w.refuse.ensures.line,
-          ))
+          rw w.in-Ok.is (λ base plan is. inr (record {
+              exit = code ∙ ap code_of (w.status-is ∙ w.refuse.ensures.same);
+              told = rw (w.out-is) w.refuse.ensures.line;
+              input = rw (w.input-is) refl;
+              rest = rw (w.files-is, w.store-is) refl;
+              unstopped = rw (w.passes-is) refl;
+          }))
       | in-Err w ↦ rw w.in-Err.is tt
     ]
 
@@ -91,10 +97,13 @@ returns-clause-drill g c =
                 (w.run.ensures.drill wanted (subst (λ l. drill_words (map string_bytes l) ≡ Some wanted) (sym words) is)),
           ))
       | in-Ok+in-Err-words_of w ↦
-          rw w.in-Ok.is (λ wanted is. inr (
-            code ∙ ap code_of (w.status-is ∙ w.refuse.ensures.same),
-            rw (w.out-is) w.refuse.ensures.line,
-          ))
+          rw w.in-Ok.is (λ wanted is. inr (record {
+              exit = code ∙ ap code_of (w.status-is ∙ w.refuse.ensures.same);
+              told = rw (w.out-is) w.refuse.ensures.line;
+              input = rw (w.input-is) refl;
+              rest = rw (w.files-is, w.store-is) refl;
+              unstopped = rw (w.passes-is) refl;
+          }))
       | in-Err w ↦ rw w.in-Err.is tt
     ]
 
