@@ -22,7 +22,8 @@ fn small(rt: &impl Wait, alloc: Global) -> Result<(Board, Poster, Looker), WantO
     }
 }
 
-// Snapshots, in the order in which they are posted: how many events were taken, and the time and the value of the held point.
+// What a new board shows, and behind it snapshots in the order in which they are posted: how many events were taken, and the
+// time and the value of the held point.
 const ROWS: &str = "\
 0 none
 1 0 5
@@ -35,6 +36,7 @@ const ROWS: &str = "\
 6 9 -9223372036854775808
 18446744073709551615 none";
 
+// The snapshot that a row spells.
 fn snap_of(row: &str) -> Option<Snap> {
     let (taken, held) = row.split_once(' ')?;
     let taken = taken.parse().ok()?;

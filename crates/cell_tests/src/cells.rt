@@ -15,7 +15,7 @@ use trend_num::{
     Kind, Measure, Point, Reading, Rec, TagDef, TagQuery, Tuning, WantOfMemory, in_range, name_from,
 };
 
-// A tag of lines that sends each value and keeps each bend, and one of steps.
+// A tag with this CompDev, of steps or of lines, that sends each value which differs from the one sent before.
 pub(crate) fn tag(step: bool, comp_dev: u64) -> Option<TagDef> {
     let tuning = Tuning {
         exc_dev: 0,
@@ -167,6 +167,7 @@ fn device_of(cell: Cell<MemDisk>) -> MemDisk {
     dev
 }
 
+// A kept record.
 fn kept(t: u64, v: i64) -> Rec {
     Rec {
         kind: Kind::Kept,
@@ -174,8 +175,8 @@ fn kept(t: u64, v: i64) -> Rec {
     }
 }
 
-// Whether the lane begins with an open gate and, in its slot, the number of the first value, in eight bytes, and the count
-// of the values, in two.
+// Whether the lane begins with an open gate and, in its first lane slot, the number 0 of the first value, in eight bytes,
+// and the count of three values, in two.
 fn holds_three(dev: &MemDisk) -> bool {
     dev.bytes().get(400).copied() == Some(0xa5)
         && dev.bytes().get(464..474) == Some([0, 0, 0, 0, 0, 0, 0, 0, 0, 3].as_slice())

@@ -324,8 +324,7 @@ fn one_collector(alloc: Global, rows: Vec<RawRow>) -> Option<Work> {
     Some(collecting(alloc, collectors))
 }
 
-// A collector of two rows, a reader that asks twice what stands at 0, then for the snapshot and for a row of a group, as far
-// as `queries` goes, and a refresher of two turns.
+// A collector of two rows, a reader that asks these queries, and a refresher of two turns.
 fn one_of_each(alloc: Global, queries: &[Query]) -> Option<Work> {
     let mut work = one_collector(alloc, rows_of(alloc, "0,0 1,5")?)?;
     work.readers

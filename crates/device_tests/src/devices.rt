@@ -84,7 +84,7 @@ fn a_device_in_memory_counts(rt: HostRuntime) -> Result<(), Fail> {
     Ok(())
 }
 
-// Closes the gates of a device of these four.
+// The device of these four gates, once they are closed.
 fn closed(bytes: Vec<u8>) -> Option<MemDisk> {
     if bytes.len() != 4 {
         return None;

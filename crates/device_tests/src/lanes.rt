@@ -6,14 +6,14 @@ use std::alloc::{AllocError, Global};
 use std::process::Abort;
 use std::test::Fail;
 
-// A device of four slots, of which the first two are open: (0,0) and (10,10), and then (20,20).
+// A device of four lane slots, of which the first two are open: (0,0) and (10,10), and then (20,20).
 const TWO_BATCHES: &str = "400=165 401=165 413=2 437=10 445=10 1445=2 1447=1 1455=20 1463=20";
 
-// How many raw values the summary counts, and which bytes are changed. Then how many slots are used, the next number, how
-// many points there are beyond the summary, and whether they are stale; or the first byte of the first broken field.
+// How many raw values the summary counts, and which bytes are changed. Then how many lane slots are used, the next number,
+// how many points there are beyond the summary, and whether they are stale; or the first byte of the first broken field.
 //
-// Bytes that no slot has; counts, and first numbers; a closed gate; times and values; bytes behind a closed gate. Then
-// summaries that count all, or all of the slots that are open; and some that end within a batch, or before a gap.
+// Bytes that no lane slot has; counts, and first numbers; a closed gate; times and values; bytes behind a closed gate. Then
+// summaries that count all, or all of the lane slots that are open; and some that end within a batch, or before a gap.
 const SCANS: &str = "\
 0 0=0 386=165 => 2 3 3 false
 0 412=1 => Damaged { at: 412, byte: Some(1) }

@@ -17,8 +17,8 @@ late 1500,60 => 4c00000000000005dc000000000000003c
 kept 253402300799999,-2 => 4b0000e677d21fdbfffffffffffffffffe
 late 1,-1000000000000000 => 4c0000000000000001fffc72815b398000";
 
-// What is changed of a device of "abc", (0,5) kept and (1500,60) late, the call that fails, and what is read of it: an
-// unknown kind, a time past the year 9999, a value too large, and too few bytes.
+// The call that fails, what is changed of a device of "abc", (0,5) kept and (1500,60) late, and what is read of it: both;
+// a fault; an unknown kind, a time past the year 9999, a value too large.
 const READS: &str = "\
 9  => Ok(2)
 0  => Err(DeviceFault)

@@ -13,12 +13,12 @@ use std::sync::ledger::{Blank, Ledger};
 use std::test::Fail;
 use trend_num::{Kind, Point, Steps, TagDef, Tuning, in_range, name_from, tuning_ok};
 
-// How many slots the lane has, and what happens: a tuning's name, with which the device is opened; a value, which is put
+// How many lane slots there are, and what happens: a tuning's name, with which the device is opened; a value, which is put
 // into the lane or, where that is full, by a checkpoint; and a checkpoint. Then the records, the held point, the raw values
-// that are acknowledged, the free slots, and the writes and syncs since the device was opened last.
+// that are acknowledged, the free lane slots, and the writes and syncs since the device was opened last.
 //
 // A batch takes four of them. A checkpoint takes two for new records, two for the summary, two for its gate, one for each
-// gate of the lane that it closes, and one behind these; and two where the gate of its slot was open.
+// gate of the lane that it closes, and one behind these; and two where the gate of its summary slot was open.
 const STORIES: &str = "\
 64 plain => none 0 64 0
 1 plain 0,0 10,10 20,0 30,5 => 0,0 10,10 20,0 held 30,5 4 1 24
@@ -29,7 +29,7 @@ const STORIES: &str = "\
 4 plain 0,0 dull 10,1 5,3 => 0,0 5,3* held 10,1 4 2 8";
 
 // Bytes of a device of the tag T1 that are changed, and what is told when it is opened. Of the header: letters, the name
-// and its zeros, the tuning, the number of slots, the kind, zeros. Of the summary: flags, zeros, absent parts that are
+// and its zeros, the tuning, the number of lane slots, the kind, zeros. Of the summary: flags, zeros, absent parts that are
 // there, points and tunings out of range. The kind of a record. Of the lane: a count, a number.
 const DAMAGED: &str = "\
 386=165 => opened

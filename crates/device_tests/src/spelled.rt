@@ -2,12 +2,12 @@
 use std::process::Abort;
 use trend_num::Point;
 
-// The number that a field spells.
+/// The number that a field spells.
 pub fn number(rt: &impl Abort, field: &str) -> u64 {
     field.parse::<u64>().expect(rt, "a number")
 }
 
-// The point `T,V`.
+/// The point `T,V`.
 pub fn point(rt: &impl Abort, field: &str) -> Point {
     let (t, v) = field.split_once(',').expect(rt, "a point");
     let t = number(rt, t);
@@ -15,7 +15,7 @@ pub fn point(rt: &impl Abort, field: &str) -> Point {
     Point { t, v }
 }
 
-// Changes bytes; a field `PLACE=BYTE` names a place and the byte that it gets.
+/// Changes bytes; a field `PLACE=BYTE` names a place and the byte that it gets.
 pub fn change(rt: &impl Abort, bytes: &mut [u8], fields: &str) {
     for field in fields.split_whitespace() {
         let (place, byte) = field.split_once('=').expect(rt, "a change");

@@ -9,14 +9,14 @@ use std::process::Abort;
 use std::test::Fail;
 use trend_num::in_range;
 
-/// Numbers that look random, the same ones from the same start.
+// Numbers that look random, the same ones from the same start.
 #[derive(Drop)]
 struct Draws {
     state: u64,
 }
 
 impl Draws {
-    /// The next one below a bound.
+    // The next one below a bound.
     fn below(&mut self, bound: u32) -> u32
         requires { 0 < bound }
         ensures { result < bound }
@@ -28,7 +28,7 @@ impl Draws {
         (self.state >> 33) as u32 % bound
     }
 
-    /// Some ten seconds of records: two in three are Kept, and few of those out of order.
+    // Some ten seconds of records: two in three are Kept, and few of those out of order.
     fn records(&mut self, alloc: Global) -> Result<Vec<Rec>, AllocError> {
         let mut recs = Vec::new(alloc);
         for i in 0..40 {
@@ -60,7 +60,7 @@ pub fn copy_of(rt: &impl Abort, alloc: Global, recs: &[Rec]) -> Result<Vec<Rec>,
     Ok(copy)
 }
 
-/// The rows of a new sheet that is told the records of two inputs in parts of one size.
+// The rows of a new sheet that is told the records of two inputs in parts of one size.
 fn rows_in_parts(
     rt: &impl Abort,
     alloc: Global,

@@ -13,17 +13,17 @@ pub const PLANT: &[u8; 2] = b"T1";
 /// Rows to put, each its tag, its collector, its row in the file, its time and its value.
 pub const ROWS: &str = "0 0 1 0 5\n0 1 1 1500 -2\n0 0 2 3000 60";
 
-/// A new device for that plant: the gate, the letters, the length of the text, the text, and the gate of the first block.
+// A new device for that plant: the gate, the letters, the length of the text, the text, and the gate of the first block.
 const NEW: &str = "a55048433100000002543100";
 
-/// The device after a commit of these rows: the number of the first, how many there are, the rows, and the next gate.
+// The device after a commit of these rows: the number of the first, how many there are, the rows, and the next gate.
 const SAVED: &str = "a550484331000000025431a5000000000000000000000003\
 0000000000000000000000000000000100000000000000000000000000000005\
 0000000000000001000000000000000100000000000005dcfffffffffffffffe\
 000000000000000000000000000000020000000000000bb8000000000000003c00";
 
-/// A place of that device and the value of its byte, the text of the plant, and what opening answers: how many rows there are;
-/// or why it is refused.
+// A place of that device and the value of its byte, the text of the plant, and what opening answers: how many rows there are;
+// or why it is refused.
 const DEVICES: &str = "\
 0 165 T1 => 3 rows
 0 0 T1 => 0 rows
@@ -43,7 +43,7 @@ const DEVICES: &str = "\
 48 1 T1 => damaged 48 1
 120 165 T1 => damaged 121 none";
 
-/// The row of a line.
+// The row of a line.
 fn row_of(line: &str) -> Option<LogRow> {
     let mut fields = line.split(' ');
     Some(LogRow {
@@ -69,7 +69,7 @@ pub fn put_all(log: &mut Log<MemDisk>, rows: &str) -> Result<(), Fail> {
     Ok(())
 }
 
-/// These bytes, as a text.
+// These bytes, as a text.
 fn hex(alloc: Global, bytes: &[u8]) -> Result<String, Fail> {
     let mut text = String::new(alloc);
     for byte in bytes {
@@ -78,7 +78,7 @@ fn hex(alloc: Global, bytes: &[u8]) -> Result<String, Fail> {
     Ok(text)
 }
 
-/// A log on a new device.
+// A log on a new device.
 fn new_log(alloc: Global) -> Result<Log<MemDisk>, Fail> {
     let dev = MemDisk::new(Vec::new(alloc), Vec::new(alloc));
     match open_log(alloc, dev, PLANT, 1, 10) {
@@ -123,7 +123,7 @@ fn a_commit_writes_its_rows_as_one_block(rt: HostRuntime) -> Result<(), Fail> {
     Ok(())
 }
 
-/// The bytes of a device after a commit of these rows.
+// The bytes of a device after a commit of these rows.
 fn saved(alloc: Global) -> Result<Vec<u8>, Fail> {
     let mut log = new_log(alloc)?;
     put_all(&mut log, ROWS)?;
@@ -132,7 +132,7 @@ fn saved(alloc: Global) -> Result<Vec<u8>, Fail> {
     Ok(Vec::from_slice(alloc, dev.bytes())?)
 }
 
-/// What opening answers, as a text.
+// What opening answers, as a text.
 fn opened(alloc: Global, dev: MemDisk, plant: &str) -> Result<String, Fail> {
     let text = match open_log(alloc, dev, plant.as_bytes(), 1, 10) {
         Ok(log) => format!(in alloc; "{} rows", log.opening().len())?,
@@ -150,7 +150,7 @@ fn opened(alloc: Global, dev: MemDisk, plant: &str) -> Result<String, Fail> {
     Ok(text)
 }
 
-/// Opens the device of a line.
+// Opens the device of a line.
 fn follow(rt: &impl Abort, alloc: Global, line: &str) -> Result<(), Fail> {
     let (given, want) = line.split_once(" => ").ok_or("an arrow")?;
     let (at, rest) = given.split_once(' ').ok_or("a byte")?;

@@ -6,19 +6,19 @@ use std::alloc::Global;
 use std::process::Abort;
 use std::test::Fail;
 
-/// The row of a first commit, and the rows of a second one.
+// The row of a first commit, and the rows of a second one.
 const FIRST: &str = "0 0 1 0 5";
 
 const SECOND: &str = "0 1 1 1500 -2\n0 0 2 3000 60";
 
-/// Puts these rows and commits them. Tells whether they are acknowledged.
+// Puts these rows and commits them. Tells whether they are acknowledged.
 fn is_committed(log: &mut Log<MemDisk>, rows: &str) -> Result<bool, Fail> {
     put_all(log, rows)?;
     Ok(log.commit().is_ok())
 }
 
-/// Opens a device, and makes two commits, the second one where the first is done. Hands the device back, how many rows are
-/// acknowledged, and whether all was done.
+// Opens a device, and makes two commits, the second one where the first is done. Hands the device back, how many rows are
+// acknowledged, and whether all was done.
 fn session(alloc: Global, dev: MemDisk) -> Result<(MemDisk, u64, bool), Fail> {
     match open_log(alloc, dev, PLANT, 1, 10) {
         Err(fail) => Ok((fail.dev, 0, false)),
@@ -31,7 +31,7 @@ fn session(alloc: Global, dev: MemDisk) -> Result<(MemDisk, u64, bool), Fail> {
     }
 }
 
-/// How many rows an image has.
+// How many rows an image has.
 fn left(alloc: Global, dev: &MemDisk, pick: Pick) -> Result<u64, Fail> {
     let image = dev.crash(pick).map_err(|_| "no memory")?;
     match open_log(alloc, image, PLANT, 1, 10) {
@@ -40,7 +40,7 @@ fn left(alloc: Global, dev: &MemDisk, pick: Pick) -> Result<u64, Fail> {
     }
 }
 
-/// Uses a device and crashes it. Tells whether all was done.
+// Uses a device and crashes it. Tells whether all was done.
 fn crashes(rt: &impl Abort, alloc: Global, dev: MemDisk) -> Result<bool, Fail> {
     let (dev, acked, done) = session(alloc, dev)?;
     for pick in [Pick::Old, Pick::New, Pick::Fill(0), Pick::Fill(0xa5)] {

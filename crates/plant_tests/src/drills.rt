@@ -21,7 +21,8 @@ drill -1 1 1 => 2 fault: words|
 drill 1 1 => 2 fault: words|
 drill 1 1 1 1 => 2 fault: words|";
 
-// What eight collectors of 20,000 events leave.
+// What eight collectors of 20,000 events leave, as plain code has it that was written from docs/FORMATS.md and
+// docs/DEFINITIONS.md and is not kept here.
 const LARGE: &str = "\
 0 tag D0 taken=20000 records=11444 kept=10194 late=1250 held=10265411,-1014|\
 tag D1 taken=20000 records=11409 kept=10159 late=1250 held=10227445,2692|\

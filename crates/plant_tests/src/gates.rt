@@ -6,7 +6,7 @@ use plant_run::{Pass, Passes};
 use std::sync::atomic::{AtomicU64, Ordering};
 use std::thread;
 
-// How often one looks whether another has come before it gives up.
+/// How often one looks whether another has come before it gives up.
 pub const PATIENT: u64 = 50_000_000;
 
 // Whether a word comes to be so much while one looks.
@@ -20,7 +20,7 @@ fn comes(word: &AtomicU64, least: u64) -> bool {
     false
 }
 
-// Passes that hold each worker, at each step but its first, until so many workers have asked for their step of that number.
+/// Passes that hold each worker, at each step but its first, until so many workers have asked for their step of that number.
 #[derive(Drop)]
 pub struct InTurn<'a> {
     pub asked: &'a AtomicU64,
@@ -73,7 +73,7 @@ impl<'a> Passes for InTurn<'a> {
     }
 }
 
-// Passes that stop worker 0 at its first step.
+/// Passes that stop worker 0 at its first step.
 #[derive(Drop)]
 pub struct Shut {
     pub stops: u64,
@@ -113,7 +113,7 @@ impl Passes for Shut {
     }
 }
 
-// What a device and the pass of a reader tell each other: how far the device's sync is, and how far the reader.
+/// What a device and the pass of a reader tell each other: how far the device's sync is, and how far the reader.
 #[derive(Drop)]
 pub struct Signs {
     pub device: AtomicU64,
@@ -125,8 +125,8 @@ const OPENED: u64 = 1;
 
 const IN_SYNC: u64 = 2;
 
-// Passes of a collector, and of a reader that waits at its first step until the device is in a sync, and says at its second one that
-// it has come there.
+/// Passes of a collector, and of a reader that waits at its first step until the device is in a sync, and says at its second one that
+/// it has come there.
 #[derive(Drop)]
 pub struct AtSync<'a> {
     pub signs: &'a Signs,
@@ -179,8 +179,8 @@ impl<'a> Passes for AtSync<'a> {
     }
 }
 
-// A device in memory whose first sync after its opening lasts until the reader has come to its second step. Where it does not come the
-// sync fails.
+/// A device in memory whose first sync after its opening lasts until the reader has come to its second step. Where it does not come the
+/// sync fails.
 pub struct GateDisk<'a> {
     disk: MemDisk,
     signs: &'a Signs,
@@ -230,7 +230,7 @@ impl<'a> Disk for GateDisk<'a> {
     }
 }
 
-// A store that hands out such devices.
+/// A store that hands out such devices.
 #[derive(Drop)]
 pub struct GateStore<'a> {
     pub store: MemStore,

@@ -92,7 +92,7 @@ fn is_told(rows: &str, least: u64, printed: &str, alloc: Global) -> Result<bool,
     Ok(false)
 }
 
-// Whether this is the version of the first session's save, or, and it is that where all was done, of the second's.
+// Whether this is what one of the two sessions saved: the second one where all was done, and else either of them.
 fn is_a_save(version: &str, done: bool) -> bool {
     version == "true [3]" || (!done && version == "true [1]")
 }

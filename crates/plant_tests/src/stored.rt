@@ -1,4 +1,4 @@
-// Runs of `check`, `trend` and `run` over stored archives.
+// Runs of `check`, `trend`, `run`, `frames`, `shifts` and `log` over stored archives and over new devices.
 ghost use Rattle.std.specs.Prelude.{◌≡◌, ◌<◌};
 
 use crate::plants::{NO_FAULT, number, only, text, told};

@@ -226,7 +226,7 @@ fn a_base_has_so_many_tables_at_most(rt: HostRuntime) -> Result<(), Fail> {
     Ok(())
 }
 
-// A letter so many times.
+// The digit 1 so many times.
 fn letters(alloc: Global, count: usize) -> Result<String, Fail> {
     Ok(String::from_utf8(vec![in alloc; b'1'; count]?).map_err(|_| "bytes")?)
 }

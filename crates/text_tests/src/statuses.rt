@@ -21,7 +21,7 @@ const WHATS: [What; 13] = [
     What::Cells,
 ];
 
-// The line of a limit of each, 7.
+// The line of each quantity that is over its limit with 7.
 const LIMITS: &str = "\
 fault: limit file_bytes 7
 fault: limit text_bytes 7
