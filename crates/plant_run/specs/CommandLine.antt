@@ -46,7 +46,7 @@ abbrev pub packing : Option Tuning → Form
 packing None = Unknown
 packing (Some tuning) = Pack tuning
 
--- how many windows frames may be asked to have
+-- the most windows that frames may be asked to have at least
 abbrev pub most_least : ℕ
 most_least = 1_000_000
 
@@ -76,7 +76,7 @@ abbrev pub shifting : Option AskedShifts → Form → Form
 shifting None other = other
 shifting (Some asked) other = Shifts asked
 
--- what a command line asks for that neither runs a plan nor logs one
+-- what a command line asks for that neither runs a plan nor logs one, and asks for no drill
 abbrev pub form_of : List (List ℕ) → Form
 form_of words = shifting (shift_words words) (other_form words)
 

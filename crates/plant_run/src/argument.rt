@@ -103,14 +103,14 @@ pub fn run_args<R: Threads + Wait + Sync, I: Source, F: Files, O: Sink, S: Store
     ExitCode::from(code(&status))
 }
 
-/// The arguments after the program's name.
+// The arguments after the program's name.
 fn words_of(alloc: Global, given: Args) -> Result<Vec<String>, AllocError>
     ensures { IfOk result (λ words. words.items ≡ drop 1 (into_iter_items given)) }
 {
     given.skip(1).collect(alloc)
 }
 
-/// The status of arguments that are not to be had.
+// The status of arguments that are not to be had.
 fn status_of_args(kind: io::ErrorKind) -> Status
     ensures { result ≡ status_of_args kind }
 {

@@ -8,7 +8,7 @@ use command_text::{count_upto, number_upto};
 use plant_more::Planned;
 use trend_num::{MAX_DEV, MAX_T, Tuning};
 
-/// What a command line asks for that is neither of a plan nor for shifts.
+// What a command line asks for, unless that is to run or to log a plan, to run a drill, or to tell shifts.
 #[derive(Clone, Copy)]
 pub(crate) enum Form<'w> {
     /// To pack the input with this tuning.
@@ -33,10 +33,10 @@ pub(crate) enum Form<'w> {
     Unknown,
 }
 
-/// How many windows frames may be asked to have at least.
+// The most windows that frames may be asked to have at least.
 const MOST_LEAST: u32 = 1_000_000;
 
-/// The files that these words ask to run, if they are `run BASE PLAN`.
+// The files that these words ask to run, if they are `run BASE PLAN`.
 pub(crate) fn plan_words(words: &[String]) -> Option<Planned<'_>>
     ensures { option_map named result ≡ plan_words (map string_bytes words.now) }
 {
@@ -49,7 +49,7 @@ pub(crate) fn plan_words(words: &[String]) -> Option<Planned<'_>>
     }
 }
 
-/// What these words ask for, unless that is to run or to log a plan, or to tell shifts.
+// What these words ask for, unless that is to run or to log a plan, to run a drill, or to tell shifts.
 pub(crate) fn other_form(words: &[String]) -> Form<'_>
     ensures form { asked result ≡ other_form (map string_bytes words.now) }
     ensures tuned { FormInRange (asked result) }
@@ -80,7 +80,7 @@ pub(crate) fn other_form(words: &[String]) -> Form<'_>
     }
 }
 
-/// To pack with a tuning, where there is one.
+// To pack with a tuning, where there is one.
 fn packing<'w>(tuning: Option<Tuning>) -> Form<'w>
     requires { IfSome tuning TuningInRange }
     ensures form { asked result ≡ packing tuning }
@@ -92,7 +92,7 @@ fn packing<'w>(tuning: Option<Tuning>) -> Form<'w>
     }
 }
 
-/// To tell the frames of at least so many windows, where they are a number.
+// To tell the frames of at least so many windows, where they are a number.
 fn framing<'w>(base: &'w str, group: &'w str, calc: &'w str, least: Option<u32>) -> Form<'w>
     requires { IfSome least (λ n. (1 ≤ n) × (n ≤ most_least)) }
     ensures form { asked result ≡ framing base.now group.now calc.now least }
@@ -109,7 +109,7 @@ fn framing<'w>(base: &'w str, group: &'w str, calc: &'w str, least: Option<u32>)
     }
 }
 
-/// The tuning of five numerals, or none where one is no numeral or out of its range.
+// The tuning of five numerals, or none where one is no numeral or out of its range.
 #[tactic(auto, unfolding(crate::specs::CommandLine::tuning_of))]
 fn tuning_of(
     exc_dev: &[u8],

@@ -26,14 +26,16 @@ use std::thread::Threads;
 #[derive(Drop)]
 pub struct Outcome {
     pub status: Status,
-    /// What the run of a plan has done, where its devices were opened.
+    /// What happened in the session: of `run` and `drill` where the devices were opened, of `log` where collectors were
+    /// started.
     pub session: Option<Session>,
 }
 
 /// Does what the words of a command line ask for, and tells how it went. `run BASE PLAN` holds the session of a plan: its
-/// collectors feed the tags of the base, its readers ask, its refreshers bring the groups up to date; the report is printed once
-/// every device is given back. `log BASE PLAN` puts the rows of these collectors into one log of the whole plant instead. `drill NUMBER
-/// TAGS EVENTS` holds the session of a plant that is made up, in memory. All other commands hold none. Each refusal but that of a write prints its one line instead.
+/// collectors feed the tags of the base, its readers ask, its refreshers bring the groups up to date; the report is printed
+/// once every device is given back. `log BASE PLAN` puts the rows of these collectors into one log of the whole plant
+/// instead. `drill NUMBER TAGS EVENTS` holds the session of a plant that is made up, in memory. All other commands hold
+/// none. Each refusal but that of a write prints its one line instead.
 #[tactic(auto, using(crate::proofs::Words::run_no_log, crate::proofs::Words::run_no_drill))]
 pub fn run<R: Threads + Wait + Sync, I: Source, F: Files, O: Sink, S: Store, P: Passes>(
     rt: &R,
@@ -68,7 +70,7 @@ pub fn run<R: Threads + Wait + Sync, I: Source, F: Files, O: Sink, S: Store, P: 
         (world (I.meaning input.new) (O.meaning out.new) (F.told files.new) (F.fault_count files.new) (F.failed_name files.new)
         (S.device_at store.new) (S.fault_count store.new)) (P.stops passes.old) (P.stops passes.new) result }
 
-    // Any other words: what was read and printed where it ends so. Want of memory alone has no other cause.
+    // Any other words: what was read and printed in this status. Want of memory is the one refusal that has no cause here.
     ensures ends { HoldsNone (map string_bytes words.now) → EndsIn (map string_bytes words.now)
         (world (I.meaning input.old) (O.meaning out.old) (F.told files.old) (F.fault_count files.old) (F.failed_name files.old)
         (S.device_at store.old) (S.fault_count store.old))
@@ -81,7 +83,7 @@ pub fn run<R: Threads + Wait + Sync, I: Source, F: Files, O: Sink, S: Store, P: 
         → KeepsFor (form_of (map string_bytes words.now)) (F.told files.old) (S.device_at store.old) (S.device_at store.new) }
     ensures files { F.told files.new ≡ F.told files.old }
 
-    // Words that are no form are refused as such, and nothing is read then.
+    // Words that ask for nothing are refused as such, and nothing but the output changes then.
     ensures bad_words { HoldsNone (map string_bytes words.now)
         → (result.status ≡ Status.BadWords) ↔ MeansNothing (form_of (map string_bytes words.now)) }
     ensures untouched { result.status ≡ Status.BadWords → input.new ≡ input.old }
@@ -101,7 +103,7 @@ pub fn run<R: Threads + Wait + Sync, I: Source, F: Files, O: Sink, S: Store, P: 
     }
 }
 
-/// Does what words ask for that run no plan.
+// Does what words ask for that run no plan.
 #[tactic(auto, using(crate::proofs::Words::log_no_drill))]
 fn run_other<R: Threads + Wait + Sync, I: Source, F: Files, O: Sink, S: Store, P: Passes>(
     rt: &R,
@@ -155,7 +157,7 @@ fn run_other<R: Threads + Wait + Sync, I: Source, F: Files, O: Sink, S: Store, P
     }
 }
 
-/// Does what words ask for that neither run nor log a plan.
+// Does what words ask for that neither run nor log a plan.
 fn run_rest<R: Threads + Wait + Sync, I: Source, F: Files, O: Sink, S: Store, P: Passes>(
     rt: &R,
     alloc: Global,
@@ -210,7 +212,7 @@ fn run_rest<R: Threads + Wait + Sync, I: Source, F: Files, O: Sink, S: Store, P:
     }
 }
 
-/// The session of a log, if one was written.
+// The session of a log, if one was written.
 fn session_of(alloc: Global, log: Option<LogHistory>) -> Option<Session>
     ensures { IsHandedOn log result }
 {

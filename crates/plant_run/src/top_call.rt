@@ -17,12 +17,13 @@ use std::alloc::Global;
 use store_commands::{check, trend};
 use trend_num::Tuning;
 
-/// Does what the words of a command line ask for, unless that is to run or to log a plan, and tells how it went. `pack EXCDEV EXCMAX COMPDEV
-/// COMPMIN COMPMAX` reads lines `TIME,VALUE` from `input` to its end, and prints the records that the archive of one tag keeps of
-/// them, and the point that it holds. `check BASE` opens the tags of a base, and prints a line for each. `trend BASE PLAN` opens
-/// them too, and answers the queries of the plan's readers. `shifts BASE CALENDAR DAY DAYS` tells the figures of the calendar's shifts
-/// on these days; `frames BASE GROUP CALC LEAST` when a calculation stayed true, as it was saved and as it is by now. Each refusal but
-/// that of a write prints its one line instead.
+// Does what the words of a command line ask for, unless that is to run or to log a plan or to run a drill, and tells how
+// it went. `pack EXCDEV EXCMAX COMPDEV COMPMIN COMPMAX` reads lines `TIME,VALUE` from `input` to its end, and prints the
+// records that the archive of one tag keeps of them, and the point that it holds. `check BASE` opens the tags of a base,
+// and prints a line for each. `trend BASE PLAN` opens them too, and answers the queries of the plan's readers.
+// `shifts BASE CALENDAR DAY DAYS` tells the figures of the calendar's shifts on these days; `frames BASE GROUP CALC LEAST`
+// when a calculation stayed true, as it was saved and as it is by now. Each refusal but that of a write prints its one
+// line instead.
 pub(crate) fn answer<I: Source, F: Files, O: Sink, S: Store>(
     alloc: Global,
     words: &[String],
@@ -31,7 +32,7 @@ pub(crate) fn answer<I: Source, F: Files, O: Sink, S: Store>(
     out: &mut O,
     store: &mut S,
 ) -> Status
-    // What was read and printed where it ends so. Want of memory alone has no other cause.
+    // What was read and printed in this status. Want of memory is the one refusal that has no cause here.
     ensures ends { EndsIn (map string_bytes words.now)
         (world (I.meaning input.old) (O.meaning out.old) (F.told files.old) (F.fault_count files.old) (F.failed_name files.old)
         (S.device_at store.old) (S.fault_count store.old))
@@ -43,7 +44,7 @@ pub(crate) fn answer<I: Source, F: Files, O: Sink, S: Store>(
         (S.device_at store.new) }
     ensures files { F.told files.new ≡ F.told files.old }
 
-    // Words that are no form are refused as such, and nothing is read then.
+    // Words that ask for nothing are refused as such, and the input is left alone then.
     ensures bad_words { (result ≡ Status.BadWords) ↔ MeansNothing (form_of (map string_bytes words.now)) }
     ensures untouched { result ≡ Status.BadWords → input.new ≡ input.old }
     ensures unread { result ≡ Status.BadWords → files.new ≡ files.old }
@@ -55,7 +56,7 @@ pub(crate) fn answer<I: Source, F: Files, O: Sink, S: Store>(
     }
 }
 
-/// Does what words ask for that ask for no shifts.
+// Does what words ask for that ask for no shifts.
 fn answer_other<I: Source, F: Files, O: Sink, S: Store>(
     alloc: Global,
     words: &[String],
@@ -91,7 +92,7 @@ fn answer_other<I: Source, F: Files, O: Sink, S: Store>(
     }
 }
 
-/// Packs the input, and prints what it keeps.
+// Packs the input, and prints what it keeps.
 fn run_pack<I: Source, O: Sink>(alloc: Global, tuning: Tuning, input: &mut I, out: &mut O) -> Status
     requires { TuningInRange tuning }
     ensures ends { PrintsSo (IsPacked tuning (I.meaning input.old) (I.meaning input.new))

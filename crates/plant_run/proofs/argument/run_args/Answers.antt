@@ -50,11 +50,11 @@ returns-clause-session g c =
           ))
       | in-Ok+in-Err-words_of w ↦
           rw w.in-Ok.is (λ base plan is. inr (record {
-              exit = code ∙ ap code_of (w.status-is ∙ w.refuse.ensures.same);
-              told = rw (w.out-is) w.refuse.ensures.line;
-              input = rw (w.input-is) refl;
-              rest = rw (w.files-is, w.store-is) refl;
-              unstopped = rw (w.passes-is) refl;
+            exit = code ∙ ap code_of (w.status-is ∙ w.refuse.ensures.same);
+            told = rw (w.out-is) w.refuse.ensures.line;
+            input = rw (w.input-is) refl;
+            rest = rw (w.files-is, w.store-is) refl;
+            unstopped = rw (w.passes-is) refl;
           }))
       | in-Err w ↦ rw w.in-Err.is tt
     ]
@@ -74,11 +74,11 @@ returns-clause-log g c =
           ))
       | in-Ok+in-Err-words_of w ↦
           rw w.in-Ok.is (λ base plan is. inr (record {
-              exit = code ∙ ap code_of (w.status-is ∙ w.refuse.ensures.same);
-              told = rw (w.out-is) w.refuse.ensures.line;
-              input = rw (w.input-is) refl;
-              rest = rw (w.files-is, w.store-is) refl;
-              unstopped = rw (w.passes-is) refl;
+            exit = code ∙ ap code_of (w.status-is ∙ w.refuse.ensures.same);
+            told = rw (w.out-is) w.refuse.ensures.line;
+            input = rw (w.input-is) refl;
+            rest = rw (w.files-is, w.store-is) refl;
+            unstopped = rw (w.passes-is) refl;
           }))
       | in-Err w ↦ rw w.in-Err.is tt
     ]
@@ -98,11 +98,11 @@ returns-clause-drill g c =
           ))
       | in-Ok+in-Err-words_of w ↦
           rw w.in-Ok.is (λ wanted is. inr (record {
-              exit = code ∙ ap code_of (w.status-is ∙ w.refuse.ensures.same);
-              told = rw (w.out-is) w.refuse.ensures.line;
-              input = rw (w.input-is) refl;
-              rest = rw (w.files-is, w.store-is) refl;
-              unstopped = rw (w.passes-is) refl;
+            exit = code ∙ ap code_of (w.status-is ∙ w.refuse.ensures.same);
+            told = rw (w.out-is) w.refuse.ensures.line;
+            input = rw (w.input-is) refl;
+            rest = rw (w.files-is, w.store-is) refl;
+            unstopped = rw (w.passes-is) refl;
           }))
       | in-Err w ↦ rw w.in-Err.is tt
     ]
