@@ -1,5 +1,5 @@
 #!/usr/bin/env python3
-"""run.py [PROGRAM]: refuses each growth of memory in turn, and says what the program did.
+"""run.py [PROGRAM [COMMAND..]]: refuses each growth of memory in turn, and says what the program did.
 
 PROGRAM is a built historian (crates/historian/out/historian, after `rt run` there). Each command runs over a small plant again and
 again: refuse.c refuses its first growth, then its second, until a run meets no refusal. A run that was refused one has to tell
@@ -109,6 +109,7 @@ def try_all(program, words, folder, library):
 
 def main():
     program = os.path.abspath(sys.argv[1]) if len(sys.argv) > 1 else os.path.join(ROOT, "crates", "historian", "out", "historian")
+    named = sys.argv[2:]
     failed = False
     with tempfile.TemporaryDirectory() as folder:
         library = os.path.join(folder, "refuse.so")
@@ -118,9 +119,11 @@ def main():
             with open(os.path.join(folder, name), "w") as out:
                 out.write(text)
         for words in COMMANDS:
+            if named and words[0] not in named and words[0] != "run":
+                continue
             told, others, whole = try_all(program, words, folder, library)
             print("%-8s %3d growths refused and told, %d answered otherwise; without a refusal it ends with %d"
-                  % (words[0], told, len(others), whole[0]))
+                  % (words[0], told, len(others), whole[0]), flush=True)
             for refused, said in others[:5]:
                 print("    growth %d: %s" % (refused, said))
             failed = failed or bool(others)
