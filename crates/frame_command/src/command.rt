@@ -18,9 +18,10 @@ use plant_status::Status;
 use std::alloc::Global;
 use tag_store::open_tags;
 
-/// What `frames` prints of the calculation of this name in the group of that name, over the base in the file of this name: what
-/// became of the frames of its saved row by one refresh from all records of the tags, and then the frames there are; those of at
-/// least so many windows. The device of each tag and of that group is opened, and made where there is none. Nothing is saved.
+/// What `frames` prints of the calculation `calc` of the group `group`, over the base in the file `name`: what became of
+/// the frames of its saved row by one refresh from all records of the tags, and then the frames there are; those of at
+/// least `least` windows. The device of each tag and of that group is opened, and made where there is none. Nothing is
+/// saved.
 pub fn frames<F: Files, S: Store>(
     alloc: Global,
     files: &mut F,
@@ -31,7 +32,6 @@ pub fn frames<F: Files, S: Store>(
     least: u32,
 ) -> Result<String, Status>
     requires some { 1 ≤ least }
-    requires most { least ≤ 1000000 }
     ensures text { IfOk result (λ text. IsFrames name.now group.now calc.now least (F.told files.old) (S.device_at store.old)
         (string_bytes text)) }
     ensures refused { IfErr result (IsFramesRefusal name.now group.now calc.now (F.told files.old) (S.device_at store.old)

@@ -11,7 +11,7 @@ use std::alloc::{AllocError, Global};
 use tag_core::TagCore;
 use trend_num::Rec;
 
-/// Of each input the records of its tag.
+// Of each input the records of its tag.
 pub(crate) fn records_of<'a>(
     alloc: Global,
     inputs: &[u32],
@@ -30,8 +30,8 @@ pub(crate) fn records_of<'a>(
     Ok(records)
 }
 
-/// The first records of each input, as many as its version says. A version above the records of its input is told with the place
-/// of the group.
+// The first records of each input, as many as its version says. A version above the records of its input is told with the place
+// of the group.
 pub(crate) fn first_records(
     alloc: Global,
     group: u32,
@@ -66,7 +66,7 @@ pub(crate) fn first_records(
     Ok(first)
 }
 
-/// The records of each input behind the first ones.
+// The records of each input behind the first ones.
 pub(crate) fn new_records(
     alloc: Global,
     versions: &[u32],

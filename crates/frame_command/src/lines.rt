@@ -9,7 +9,7 @@ use std::alloc::{AllocError, Global};
 use tag_base::GroupDef;
 use trend_num::WantOfMemory;
 
-/// A line for each edit, and then one for each frame, of a calculation of this group.
+// A line for each edit, and then one for each frame, of a calculation of this group.
 pub(crate) fn frames_text(
     alloc: Global,
     group: &GroupDef,
@@ -60,7 +60,7 @@ fn put_frames(text: &mut String, group: &GroupDef, frames: &[Frame]) -> Result<(
     Ok(())
 }
 
-// Adds the line of a frame: when it begins and when it ends, and whether it is open.
+// Adds the line of a frame: when it begins and when it ends, in milliseconds from 1970, and whether it is open.
 fn put_frame(
     text: &mut String,
     word: &str,

@@ -8,7 +8,7 @@ use calc_check::CalcDef;
 use plant_status::Status;
 use tag_base::GroupDef;
 
-/// Where a calculation is.
+// Where a calculation is.
 #[derive(Clone, Copy)]
 pub(crate) struct CalcPlace {
     /// The place of its group in the base.
@@ -17,7 +17,8 @@ pub(crate) struct CalcPlace {
     pub calc: usize,
 }
 
-/// Where the calculation of this name is in the group of this name. The names are the words 3 and 4 of the command.
+// Where the calculation of this name is in the group of this name. Of a name that stands for nothing the word of the
+// command is told, counted from 1: the group's is word 3, the calculation's word 4.
 pub(crate) fn place_of(groups: &[GroupDef], group: &str, calc: &str) -> Result<CalcPlace, Status>
     ensures placed { IfOk result (λ place. IsPlaced groups.now group.now calc.now place.group place.calc) }
     ensures refused { IfErr result (IsNameRefusal groups.now group.now calc.now) }

@@ -18,7 +18,7 @@ use plant_status::{Status, Unit};
 use std::alloc::Global;
 use tag_base::GroupDef;
 
-/// What is saved on the device of the group at this place, which has this name.
+// What is saved on the device of the group at this place, which has this name.
 pub(crate) fn saved_of<S: Store>(
     alloc: Global,
     store: &mut S,

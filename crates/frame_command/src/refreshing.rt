@@ -30,15 +30,15 @@ use tag_base::GroupDef;
 use tag_core::TagCore;
 use trend_num::Rec;
 
-/// The row of a calculation as it was saved, and after one refresh.
+// The row of a calculation as it was saved, and after one refresh.
 #[derive(Drop)]
 pub(crate) struct CalcRows {
     pub saved: Vec<CalcValue>,
     pub refreshed: Vec<CalcValue>,
 }
 
-/// Both rows of the calculation at this place. The device of its group alone is opened, which has this name, and nothing is saved
-/// there. `cores` are the tags of the base.
+// Both rows of the calculation at this place. The device of its group alone is opened, which has this name, and nothing is saved
+// there. `cores` are the tags of the base.
 pub(crate) fn rows_of<S: Store>(
     alloc: Global,
     store: &mut S,

@@ -7,7 +7,7 @@ use calc_refresh::{CalcValue, Sheet};
 use event_frames::Change;
 use std::alloc::{AllocError, Global};
 
-/// The values of a calculation of a sheet, one for each complete window.
+// The values of a calculation of a sheet, one for each complete window.
 pub(crate) fn row_of(alloc: Global, sheet: &Sheet, calc: u32) -> Result<Vec<CalcValue>, AllocError>
     requires { calc < length sheet.now.group.calcs }
     ensures row { IfOk result (λ row. slice_get sheet.now.rows calc ≡ Some row.items) }
@@ -22,7 +22,7 @@ pub(crate) fn row_of(alloc: Global, sheet: &Sheet, calc: u32) -> Result<Vec<Calc
     Ok(row)
 }
 
-/// What makes one row another that is no shorter: each window with another value, and each that is new.
+// What makes one row another that is no shorter: each window with another value, and each that is new.
 pub(crate) fn changes(
     alloc: Global,
     old: &[CalcValue],

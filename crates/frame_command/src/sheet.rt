@@ -14,7 +14,7 @@ use std::marker::Brand;
 use std::sync::ledger::{Blank, Ledger};
 use trend_num::{Rec, Steps};
 
-/// Takes the records behind these versions into account.
+// Takes the records behind these versions into account.
 pub(crate) fn refresh(
     alloc: Global,
     sheet: &mut Sheet,

@@ -10,7 +10,7 @@ use std::alloc::Global;
 use tag_base::GroupDef;
 use trend_num::WantOfMemory;
 
-/// What is told of the frames of a calculation of this group.
+// What is told of the frames of a calculation of this group.
 pub(crate) fn tell_frames(
     alloc: Global,
     group: &GroupDef,

@@ -1,14 +1,13 @@
 -- What `log` comes to: the history of the log, or why none was opened.
-use Rattle.std.specs.Prelude.{◌≡◌, ◌≢◌, ◌⊎◌, ℕ, ◌+◌, ◌-◌, ◌^◌, ◌<◌, ◌≤◌, List, length, Option, Result, Err, IfErr, IfOk, OnOk, String, string_bytes}
+use Rattle.std.specs.Prelude.{◌≡◌, ◌⊎◌, ℕ, ◌+◌, ◌-◌, ◌^◌, ◌<◌, ◌≤◌, List, length, Option, Result, Err, IfErr, IfOk, OnOk, String, string_bytes}
 use Rattle.std.specs.declared.alloc.Global.{Global}
 use Rattle.disk_model.specs.Calls.{Rose, Shows}
 use Rattle.disk_model.specs.Traces.{Trace}
 use Rattle.tag_base.specs.declared.definition.Base.{Base}
 use Rattle.tag_base.specs.declared.schedule.Plan.{Plan}
 use Rattle.value_rows.specs.declared.raw.RawRow.{RawRow}
-use Rattle.plant_status.specs.declared.file.FileId.{FileId}
 use Rattle.plant_status.specs.declared.status.Status.{Status}
-use Rattle.plant_status.specs.declared.status.Status.TheVariants.{BadWords, DeviceFault, Done, ReadFault, WantOfMemory, WriteFault}
+use Rattle.plant_status.specs.declared.status.Status.TheVariants.{BadWords, DeviceFault, Done, WantOfMemory, WriteFault}
 use Rattle.plant_status.specs.declared.unit.Unit.{Unit as Device}
 use Rattle.plant_files.specs.RowFiles.{ToldFiles}
 use Rattle.commit_log.specs.declared.history.LogHistory.{LogHistory}
@@ -54,10 +53,6 @@ pub record IsEnded {D : Type 0} (trace : D → Option Trace) (ticks faults : D �
   pub refused : IfErr e.answer (IsSettlingRefusal faults files notes known log)
 
 -- ---- no log
-
--- this is told of no file whose read has failed
-abbrev pub IsNoReadFault : Status → Type 0
-IsNoReadFault why = (which : FileId) → why ≢ ReadFault which
 
 -- Why the log of a base is not opened for so many rows: its device is not, or memory is wanting. No device but that of the log has
 -- changed, and a crash at any moment since leaves of it what one before might have left, or what stands for the same rows.

@@ -125,7 +125,7 @@ fn log_read<S: Store, P: Passes, R: Threads + Wait + Sync>(
     }
 }
 
-// What a log is opened with: the plant's text, and how many tags and rows there are.
+/// What a log is opened with: the plant's text, and how many tags and rows there are.
 #[derive(Drop)]
 pub struct Prepared {
     pub text: Vec<u8>,

@@ -10,7 +10,7 @@ use std::alloc::Global;
 use tag_base::{Base, Plan};
 use value_rows::RawRow;
 
-// A base and a plan over it, and the rows of its collectors, in plan order.
+/// A base and a plan over it, and the rows of its collectors, in plan order.
 #[derive(Drop)]
 pub struct LogFiles {
     pub base: Base,

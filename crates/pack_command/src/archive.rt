@@ -24,7 +24,7 @@ impl Model for ArchiveText {
 }
 
 impl ArchiveText {
-    /// The text of the records of a core, and of the point that it holds.
+    // The text of the records of a core, and of the point that it holds.
     pub(crate) fn of(core: TagCore) -> ArchiveText
         ensures { result ≡ archive_text core.state.records core.state.summary.held }
     {

@@ -12,13 +12,13 @@ use std::sync::ledger::Ledger;
 use tag_core::TagCore;
 use trend_num::{MAX_RECORDS, Point, Reason, Steps, Tuning, WantOfMemory};
 
-/// The most lines of standard input.
+// The most lines of standard input.
 const MAX_ROWS: u64 = 4_000_000;
 
-/// For how many values a core has memory that is never full before its tag is.
+// For how many values a core has memory that is never full before its tag is.
 const ROOM: u32 = MAX_RECORDS / 2 + 1;
 
-/// What has become of the rows that were read.
+// What has become of the rows that were read.
 #[derive(Clone, Copy, Debug, PartialEq, Eq)]
 pub(crate) enum Standing {
     /// Each value was taken.
@@ -29,7 +29,7 @@ pub(crate) enum Standing {
     Refused { why: RowNo },
 }
 
-/// The core that takes the values of the rows, how many rows were read, and what has become of them.
+// The core that takes the values of the rows, how many rows were read, and what has become of them.
 #[derive(Drop)]
 pub(crate) struct Intake {
     pub(crate) core: TagCore,
@@ -38,7 +38,7 @@ pub(crate) struct Intake {
 }
 
 impl Intake {
-    /// Before the first row.
+    // Before the first row.
     pub(crate) fn new(alloc: Global, tuning: Tuning) -> Result<Intake, WantOfMemory>
         requires { TuningInRange tuning }
         ensures ready { IfOk result (λ i. IsReady i.core i.rows) }
@@ -52,7 +52,7 @@ impl Intake {
         })
     }
 
-    /// Takes the rows of a text but the last that has no line feed, and says how long that is.
+    // Takes the rows of a text but the last that has no line feed, and says how long that is.
     pub(crate) fn take_lines<L: Ledger>(&mut self, text: &[u8], steps: &mut Steps<L>) -> usize
         requires { IsReady self.old.core self.old.rows }
         ensures ready { IsReady self.new.core self.new.rows }
@@ -73,7 +73,7 @@ impl Intake {
         }
     }
 
-    /// Takes the rows of the plain lines that a text begins with, as long as each value is taken. Says what is left.
+    // Takes the rows of the plain lines that a text begins with, as long as each value is taken. Says what is left.
     #[inline(never)]
     fn take_plain_lines<'t, L: Ledger>(&mut self, text: &'t [u8], steps: &mut Steps<L>) -> &'t [u8]
         requires { IsReady self.old.core self.old.rows }
@@ -105,7 +105,7 @@ impl Intake {
         rest
     }
 
-    /// Takes the last row, which has no line feed, where there is one: the input is at its end.
+    // Takes the last row, which has no line feed, where there is one: the input is at its end.
     pub(crate) fn take_last<L: Ledger>(&mut self, line: &[u8], steps: &mut Steps<L>)
         requires ready { IsReady self.old.core self.old.rows }
         requires begun { HasNoFeed line.now }
@@ -120,7 +120,7 @@ impl Intake {
         self.take_row(point_of_line(line), steps);
     }
 
-    /// Takes the next row.
+    // Takes the next row.
     #[inline(always)]
     fn take_row<L: Ledger>(&mut self, read: Result<Point, Reason>, steps: &mut Steps<L>)
         requires ready { IsReady self.old.core self.old.rows }
@@ -135,7 +135,7 @@ impl Intake {
     }
 }
 
-/// What becomes of the rows with the next one, which comes after this many.
+// What becomes of the rows with the next one, which comes after this many.
 #[inline(always)]
 fn after_row<L: Ledger>(
     core: &mut TagCore,
@@ -169,7 +169,7 @@ fn after_row<L: Ledger>(
     }
 }
 
-/// The point of the row after this many, or why the rows are refused, whatever follows.
+// The point of the row after this many, or why the rows are refused, whatever follows.
 #[inline(always)]
 fn point_of_row(rows: u64, read: Result<Point, Reason>) -> Result<Point, RowNo>
     requires { rows ≤ most_rows }

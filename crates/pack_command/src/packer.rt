@@ -35,7 +35,7 @@ pub fn pack<I: Source>(alloc: Global, tuning: Tuning, input: &mut I) -> Result<A
     }
 }
 
-/// The status of an input whose rows are refused.
+// The status of an input whose rows are refused.
 fn status_of_rows(why: RowNo) -> Status
     ensures { result ≡ status_of_rows why }
 {

@@ -42,6 +42,6 @@ abbrev pub faults_after : {A : Type 0} → Result A Status → ℕ → ℕ
 faults_after (Ok a) faults = faults
 faults_after (Err why) faults = faults_told why faults
 
--- where it is told whose read failed last, it is that of the file at a place, by the names of all files of its kind
+-- where it is told whose read failed last, that is the file at this place, of the files of these names
 abbrev pub IsFaultAt : List (List ℕ) → ℕ → Option (List ℕ) → Type 0
 IsFaultAt names place failed = IfSome failed (λ name. slice_get names place ≡ Some name)

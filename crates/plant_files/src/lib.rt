@@ -1,9 +1,11 @@
-//! The files of a plant: its base, its plan, what its collectors take and what its readers ask, each read from a file by its name.
+//! The files of a plant: its base, its plan, what its collectors take and what its readers ask, each read by its name.
 //!
-//! A file is read whole, within its limit, and what its bytes say is what `tag_base` and `value_rows` read in
-//! them. Each refusal is a [`Status`] that names the cause, and the file where the cause is its own: the file
-//! could not be read, it is too long, or its text breaks a rule first at this place. Want of memory may come at any time, and no other
-//! status comes. The files stay as they are, and a fault is counted where a read failed and nowhere else.
+//! A file is read whole, within its limit, and what its bytes say is what `tag_base` and `value_rows` read in them. Each
+//! refusal is a [`Status`] that tells its cause. `ReadFault`, `BadText` and `BadRow` name the file too, the last two with
+//! the place or the row at which it breaks a rule first. `Limit` names no file, but the quantity that is over its limit:
+//! bytes of a text or of a file of rows, rows, queries, or a count within a base or a plan. Want of memory may come at any
+//! time, and no other status comes. The files stay as they are, and a fault is counted where a read failed and nowhere
+//! else.
 #![tactic(auto)]
 
 mod base_file;

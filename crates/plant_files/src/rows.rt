@@ -71,7 +71,8 @@ pub fn rows_of<F: Files>(
     rows_over(alloc, files, &plan.collectors, &tags)
 }
 
-/// Looks whether the collectors have at most 4,000,000 rows together.
+/// Looks whether the collectors have at most 4,000,000 rows together. Where they have more, `Limit` tells 4,000,001,
+/// however many there are.
 pub fn check_row_count(collectors: &[Vec<RawRow>]) -> Result<(), Status>
     ensures few { OnOk result (row_count (map (λ rows. rows.items) collectors.now) ≤ most_rows) }
     ensures refused { IfErr result (AreRowsTooMany (row_count (map (λ rows. rows.items) collectors.now))) }

@@ -1,4 +1,4 @@
-// A session over cells and books that are open: its workers beside each other, and then what is done once they have ended.
+// A phase over cells and books that are open: its workers beside each other, and then what is done once they have ended.
 ghost use Rattle.std.specs.Prelude.{◌≡◌, ◌^◌, ◌<◌, ◌≤◌, All, IfErr, OnOk, length, vec_len};
 ghost use Rattle.calc_refresh.specs.Lists.{lists_of};
 ghost use Rattle.snapshot_table.specs.Boards.{LooksAt};
@@ -35,7 +35,7 @@ pub struct Ended<D: Disk> {
     pub answer: Result<(), Status>,
 }
 
-// Runs the session of these cells and books, and brings it to its end.
+// Holds a phase over these cells and books, and brings it to its end.
 pub(crate) fn hold<D: Disk + Send, P: Passes, R: Threads + Wait + Sync>(
     rt: &R,
     alloc: Global,

@@ -39,7 +39,8 @@ pub record IsPlanned (name plan_name : List ℕ) (told : ToldFiles) (base : Base
   pub asked : AreQueries base told plan.readers.items queries
   pub few : row_count rows ≤ most_rows
 
--- the refusals, in their order: of the base, of the plan, of a collector's file, of a reader's, of the number of rows
+-- the refusals, in their order: of the base, of the plan, of a collector's file, of a reader's; or the rows are too many,
+-- whatever the readers' files are. No memory may be found at any time
 pub data IsPlanningRefusal (name plan_name : List ℕ) (told : ToldFiles) (why : Status) : Type 0 where
   OfBase : IsBaseRefusal (told name) why → IsPlanningRefusal name plan_name told why
   OfPlan : (base : Base) → IsBaseFile (told name) base → IsPlanRefusal base.groups.items (told plan_name) why

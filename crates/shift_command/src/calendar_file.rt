@@ -17,7 +17,7 @@ use trend_num::{TagDef, WantOfMemory};
 // The most bytes of a calendar.
 const MAX_TEXT_BYTES: u64 = 1_048_576;
 
-/// The calendar over the tags of a base, read from the file of this name, which has at most 1,048,576 bytes.
+// The calendar over the tags of a base, read from the file of this name, which has at most 1,048,576 bytes.
 pub(crate) fn calendar_of<F: Files>(
     alloc: Global,
     files: &mut F,

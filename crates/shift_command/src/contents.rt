@@ -9,7 +9,7 @@ use std::alloc::Global;
 use tag_core::TagCore;
 use trend_num::{TagDef, WantOfMemory};
 
-/// The tags at these places, each with the content of its records.
+// The tags at these places, each with the content of its records.
 pub(crate) fn shift_tags(
     alloc: Global,
     defs: &[TagDef],

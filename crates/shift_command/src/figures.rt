@@ -21,11 +21,11 @@ use store_commands::open_base;
 use tag_core::TagCore;
 use trend_num::TagDef;
 
-/// What `shifts` prints: for each shift of so many days from a day on, by its number from 1970-01-01, and then for each tag of the
-/// calendar in the file of that name, over the base in the file of this name, the line `shift DAY I FROM TO TAG VALUE`. DAY is
-/// the word `YYYY-MM-DD`, and I counts the shifts of a day from 1. VALUE is the calendar's measure of the window from FROM to
-/// TO, or `none` where the window has none or does not end after its start. The device of each tag of the base is opened, and
-/// made where there is none.
+/// What `shifts` prints: for each shift of `days` days from `day` on, which is counted from 1970-01-01, and then for each
+/// tag of the calendar in the file `calendar_name`, over the base in the file `name`, the line
+/// `shift DAY I FROM TO TAG VALUE`. DAY is the word `YYYY-MM-DD`, I counts the shifts of a day from 1, FROM and TO are
+/// milliseconds from 1970. VALUE is the calendar's measure of the window from FROM to TO, or `none` where the window has
+/// none or does not end after its start. The device of each tag of the base is opened, and made where there is none.
 pub fn shifts<F: Files, S: Store>(
     alloc: Global,
     files: &mut F,

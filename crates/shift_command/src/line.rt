@@ -11,7 +11,7 @@ use crate::value::value_of;
 use shift_calendar::{Measure, Name, ShiftWindow, WantOfMemory, word_of_day};
 use std::alloc::{AllocError, Global};
 
-/// The lines of the shifts of these windows: of each window one for each of these tags.
+// The lines of the shifts of these windows: of each window one for each of these tags.
 pub(crate) fn lines_of(
     alloc: Global,
     tags: &[ShiftTag],

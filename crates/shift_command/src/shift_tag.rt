@@ -6,7 +6,7 @@ ghost use Rattle.std.specs.Option.{ForSome};
 use late_insert::Content;
 use trend_num::{Name, Point};
 
-/// A tag of a calendar, and all that the measure of a window is taken of.
+// A tag of a calendar, and all that the measure of a window is taken of.
 #[derive(Drop)]
 pub(crate) struct ShiftTag {
     pub(crate) name: Name,

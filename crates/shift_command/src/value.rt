@@ -7,8 +7,8 @@ use crate::shift_tag::ShiftTag;
 use shift_calendar::{Measure, ShiftWindow};
 use weighted_total::{window, window_step};
 
-/// The measure of a window: by the line of a tag, or by its stair. None where the window does not end after its start, or has no
-/// value.
+// The measure of a window: by the line of a tag, or by its stair. None where the window does not end after its start, or has no
+// value.
 pub(crate) fn value_of(tag: &ShiftTag, measure: Measure, shift: &ShiftWindow) -> Option<i128>
     requires { shift.now.to ≤ last_time }
     ensures { result ≡ value_of measure shift.now tag.now }

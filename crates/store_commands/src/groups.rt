@@ -26,8 +26,8 @@ use tag_cell::Pulled;
 use tag_core::TagCore;
 use trend_num::{Rec, Steps, WantOfMemory};
 
-/// What becomes of the groups of a base: each is opened over its device, refreshed once from all records of its tags, and its
-/// device is given back. `cores` are the tags of the base.
+// What becomes of the groups of a base: each is opened over its device, refreshed once from all records of its tags, and its
+// device is given back. `cores` are the tags of the base.
 pub(crate) fn histories_of<S: Store>(
     alloc: Global,
     store: &mut S,
@@ -107,7 +107,8 @@ fn refresh_all<D: Disk>(
     Ok(())
 }
 
-// What a refresh that is refused is answered with. It never answers Ahead.
+// The status of a refresh that is refused. `Ahead` never comes here, since a book's versions count records of these lists;
+// it is told as want of memory.
 fn refusal_of(no: RefreshNo) -> Status
     ensures { result ≡ refresh_status no }
 {

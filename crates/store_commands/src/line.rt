@@ -7,7 +7,7 @@ use tag_core::TagCore;
 use trend_num::{TagDef, WantOfMemory};
 use trend_report::{line_of, tag_text};
 
-/// The lines of `check`: one for each tag.
+/// A line for each tag, in order, as `check` and `log` print them. The one error is want of memory.
 pub fn check_text(alloc: Global, tags: &[TagDef], cores: &[TagCore]) -> Result<String, WantOfMemory>
     requires { length cores.now ≡ length tags.now }
     ensures { IfOk result (λ text. string_bytes text ≡ check_text tags.now cores.now) }

@@ -17,9 +17,9 @@ use trend_command::trend_text;
 use trend_num::WantOfMemory;
 use value_rows::Query;
 
-/// What `trend` prints: the answers to the queries of the readers of the plan in the file of that name, over the base in the
-/// file of this name. The device of each tag and of each group is opened, and made where there is none. A group is answered
-/// after one refresh from all records of its tags, which is not saved.
+/// What `trend` prints: the answers to the queries of the readers of the plan in the file `plan_name`, over the base in the
+/// file `name`. The device of each tag and of each group is opened, and made where there is none. A group is answered after
+/// one refresh from all records of its tags, which is not saved.
 pub fn trend<F: Files, S: Store>(
     alloc: Global,
     files: &mut F,
@@ -65,7 +65,7 @@ pub fn trend<F: Files, S: Store>(
     }
 }
 
-/// The answers to the queries of these readers.
+// The answers to the queries of these readers.
 fn replies(
     alloc: Global,
     cores: &[TagCore],
@@ -82,7 +82,7 @@ fn replies(
     trend_text(alloc, cores, groups, &lists)
 }
 
-/// The queries of each reader.
+// The queries of each reader.
 fn lists_of(alloc: Global, readers: &[ReaderQueries]) -> Result<Vec<Vec<Query>>, AllocError>
     ensures lists { IfOk result (λ lists. map (λ list. list.items) lists.items ≡ readers.now) }
 {

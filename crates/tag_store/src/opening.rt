@@ -83,7 +83,7 @@ pub fn status_of(tag: u32, why: OpenNo) -> Status
     }
 }
 
-/// What the tags of a store are answered with that have too many records.
+/// The status of a store whose tags have so many records together, which are too many.
 pub fn too_many(records: u64) -> Status
     ensures { result ≡ Status.Limit What.StoreRecords records }
 {

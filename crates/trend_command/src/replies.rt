@@ -43,7 +43,7 @@ pub fn trend_text(
     Ok(text)
 }
 
-/// Adds the replies to the queries of a reader.
+// Adds the replies to the queries of a reader.
 fn put_replies(
     alloc: Global,
     text: &mut String,
@@ -66,7 +66,7 @@ fn put_replies(
     Ok(())
 }
 
-/// Adds a text.
+// Adds a text.
 fn put_text(text: &mut String, more: &str) -> Result<(), WantOfMemory>
     ensures { OnOk result (string_bytes text.new ≡ string_bytes text.old ++ more.now) }
 {
