@@ -1,4 +1,4 @@
-// Why a group is not opened becomes a status.
+// What a group that is not opened is answered with.
 ghost use Rattle.std.specs.Prelude.{◌≡◌};
 ghost use Rattle.book_store.specs.Refusals.{status_of};
 

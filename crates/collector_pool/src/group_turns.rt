@@ -9,17 +9,17 @@ use trend_num::CalcValue;
 /// Why a group made no turn, or gave no answer.
 #[derive(Clone, Copy, Debug, PartialEq, Eq)]
 pub enum TurnNo {
-    /// The version of an input is above the records that its tag has acknowledged.
+    /// The group has taken more records of an input into account than the tag hands out.
     Ahead {
         input: u32,
         version: u32,
         records: u32,
     },
-    /// There would be more cells, complete windows times calculations, than a sheet may have.
+    /// The sheet would have too many cells.
     CellLimit {
         cells: u64,
     },
-    /// There would be more records in all copies together than a sheet may have.
+    /// The group would have too many copied records.
     CopyLimit {
         records: u64,
     },
@@ -27,7 +27,6 @@ pub enum TurnNo {
     Broken,
     /// A call of the group's device failed.
     DeviceFault,
-    /// No memory was found.
     WantOfMemory,
 }
 

@@ -170,10 +170,7 @@ fn open_or_make<R: Files + AllocGlobal>(rt: &R, name: &str) -> io::Result<R::Fil
     let mut options = OpenOptions::new();
     options.read(true).write(true);
     if let Ok(file) = options.open(rt, path.as_str()) {
-        // A file that has bytes was handed out before, so its name is on the disk.
-        if file.metadata()?.len() > 0 {
-            return Ok(file);
-        }
+        return Ok(file);
     }
     make_folder(rt)?;
     let file = options.create(true).open(rt, path.as_str())?;
@@ -182,11 +179,12 @@ fn open_or_make<R: Files + AllocGlobal>(rt: &R, name: &str) -> io::Result<R::Fil
     Ok(file)
 }
 
-// Makes the folder where it is missing, and writes its name to the disk.
+// Makes the folder where it is missing.
 fn make_folder<R: Files>(rt: &R) -> io::Result<()> {
-    if !fs::exists(rt, FOLDER)? {
-        fs::create_dir(rt, FOLDER)?;
+    if fs::exists(rt, FOLDER)? {
+        return Ok(());
     }
+    fs::create_dir(rt, FOLDER)?;
     sync_folder(rt, ".")
 }
 

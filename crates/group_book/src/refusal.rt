@@ -17,7 +17,6 @@ pub enum RefreshNo {
     CopyLimit {
         records: u64,
     },
-    /// No memory was found.
     WantOfMemory,
 }
 
@@ -28,7 +27,6 @@ pub enum SaveNo {
     Broken,
     /// A call of the device failed. The device is opened again before it is used.
     DeviceFault,
-    /// No memory was found, or the save's number or place is past the end of its type; nothing was called.
     WantOfMemory,
 }
 
@@ -54,7 +52,6 @@ pub enum LoadNo {
         windows: u64,
         rows: u64,
     },
-    /// No memory was found.
     WantOfMemory,
 }
 

@@ -1,5 +1,5 @@
--- what whole texts read as, and what is printed
+-- what the public calls mean
 pub mod Row
 pub mod Text
--- what the calls on one line mean
+-- what private functions alone cite
 pub mod FirstPoint

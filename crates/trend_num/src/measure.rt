@@ -5,15 +5,15 @@
 pub enum Measure {
     /// Twice the area under the line, in value units times milliseconds.
     Area,
-    /// The time-weighted mean, in value units, rounded.
+    /// The time-weighted mean, in value units.
     Avg,
-    /// The area, in value units times seconds, rounded.
+    /// The area, in value units times seconds.
     Total,
-    /// The least value; of a step tag without the value at the window's end.
+    /// The least value.
     Low,
-    /// The greatest value; of a step tag without the value at the window's end.
+    /// The greatest value.
     High,
-    /// The number of points from the window's start on, before its end.
+    /// The number of points.
     Count,
     /// The value at the window's start.
     First,
