@@ -40,8 +40,8 @@ fn left(alloc: Global, dev: &MemDisk, pick: Pick) -> Result<u64, Fail> {
     }
 }
 
-// Uses a device and crashes it. Tells whether all was done.
-fn crashes(rt: &impl Abort, alloc: Global, dev: MemDisk) -> Result<bool, Fail> {
+// Uses a device and crashes it. Tells how many rows were acknowledged, and whether all was done.
+fn crashes(rt: &impl Abort, alloc: Global, dev: MemDisk) -> Result<(u64, bool), Fail> {
     let (dev, acked, done) = session(alloc, dev)?;
     for pick in [Pick::Old, Pick::New, Pick::Fill(0), Pick::Fill(0xa5)] {
         let rows = left(alloc, &dev, pick)?;
@@ -50,20 +50,23 @@ fn crashes(rt: &impl Abort, alloc: Global, dev: MemDisk) -> Result<bool, Fail> {
             "{acked} {rows}"
         );
     }
-    Ok(done)
+    Ok((acked, done))
 }
 
 #[test]
 fn a_stop_leaves_whole_commits_with_the_acknowledged_ones(rt: HostRuntime) -> Result<(), Fail> {
+    let mut between = false;
     for calls in 0..100 {
         let mut stops = MemDisk::new(Vec::new(rt.alloc()), Vec::new(rt.alloc()));
         stops.stop_after(calls);
         let mut failing = Vec::new(rt.alloc());
         failing.push(calls)?;
         let fails = MemDisk::new(Vec::new(rt.alloc()), failing);
-        let done = crashes(&rt, rt.alloc(), stops)?;
-        assert!(&rt; crashes(&rt, rt.alloc(), fails)? == done);
+        let (acked, done) = crashes(&rt, rt.alloc(), stops)?;
+        assert!(&rt; crashes(&rt, rt.alloc(), fails)?.1 == done);
+        between = between || acked == 1;
         if done {
+            assert!(&rt; between, "no stop came between the commits");
             return Ok(());
         }
     }
