@@ -33,9 +33,8 @@ summary_image s =
     number_bytes 8 s.taken ++ (number_bytes 4 s.records
     ++ ((flags s ∷ 0 ∷ 0 ∷ 0 ∷ []) ++ (places_image s ++ tuning_bytes s.tuning)))
 
--- a summary that has a spelling: held and hinge are there together, both doors are, these and a pending value
--- only beside held,
--- and all is in range
+-- a summary that has a spelling: held and hinge are there together, both doors are, these and a pending value only beside
+-- held, and all is in range
 pub record IsSummary (s : Summary) : Type 0 where
   pub taken : s.taken < 2 ^ 64
   pub records : s.records < 2 ^ 32

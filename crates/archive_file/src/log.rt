@@ -144,7 +144,8 @@ fn read_piece<D: Disk>(
     parse(at, count, buf, recs)
 }
 
-/// So many bytes of a device, from `at` on.
+/// So many bytes of a device, from `at` on. They all lie within the device, so nothing is told as damaged. Want of memory
+/// comes before the read. `at` and `size` count bytes.
 pub fn read_bytes<D: Disk>(
     alloc: Global,
     dev: &mut D,

@@ -17,7 +17,7 @@ use trend_num::{Point, Summary, Tuning, in_range, tuning_ok};
 /// How many bytes a summary has.
 pub const SUMMARY_LEN: usize = 128;
 
-/// The bytes of a summary: how many values it counts, how many records, which parts are there, the five points, and the
+/// The bytes of a summary: how many events it counts, how many records, which parts are there, the five points, and the
 /// tuning.
 pub fn summary_bytes(s: &Summary) -> [u8; SUMMARY_LEN]
     ensures { result ≡ summary_image s.now }

@@ -1,4 +1,4 @@
-// What a group that is not opened is answered with.
+// Why a group is not opened becomes a status.
 ghost use Rattle.std.specs.Prelude.{◌≡◌};
 ghost use Rattle.book_store.specs.Refusals.{status_of};
 

@@ -17,8 +17,8 @@ use std::test::Fail;
 use tag_cell::{Cell, Receipt, open_cell};
 use trend_num::{Point, Steps, TagDef, Tuning, WantOfMemory, in_range, name_from, tuning_ok};
 
-/// Steps parted by `/`: values that the tag takes, each a time and a value, and whether they are acknowledged. Behind `=>` the rows
-/// that a refresh leaves after each step, and, after `e`, how many values were evaluated.
+// Steps parted by `/`: values that the tag takes, each a time and a value, and whether they are acknowledged. Behind `=>` the rows
+// that a refresh leaves after each step, and, after `e`, how many values were evaluated.
 const ROWS: &str = "\
 0,0 3000,0 4000,9 commit / 1500,60 commit => 0 0 0 / 20 50 20 / e6
 0,0 3000,0 4000,9 wait / 1500,60 commit => / 20 50 20 / e3
@@ -36,7 +36,7 @@ fn alone(rt: &impl Wait, alloc: Global) -> Result<(Board, Poster), WantOfMemory>
     }
 }
 
-// A cell of a tag that keeps each bend, on a new device.
+/// A cell of a tag that keeps each bend, on a new device.
 pub fn cell_of(rt: &impl Wait, alloc: Global) -> Option<Cell<MemDisk>> {
     let def = TagDef {
         name: name_from(b"T1")?,
@@ -82,7 +82,7 @@ fn commit(cell: &mut Cell<MemDisk>) -> Option<()> {
     Some(())
 }
 
-// Takes the values of a text, up to a word that says whether they are acknowledged.
+/// Takes the values of a text, up to a word that says whether they are acknowledged.
 pub fn take_all(rt: &impl Wait, cell: &mut Cell<MemDisk>, values: &str) -> Option<()> {
     for value in values.split(' ') {
         match value {
@@ -94,7 +94,7 @@ pub fn take_all(rt: &impl Wait, cell: &mut Cell<MemDisk>, values: &str) -> Optio
     Some(())
 }
 
-// A cell that has taken the values of a text.
+/// A cell that has taken the values of a text.
 pub fn cell_with(rt: &impl Wait, alloc: Global, values: &str) -> Option<Mutex<Cell<MemDisk>>> {
     let cell = Mutex::new(cell_of(rt, alloc)?);
     take_all(rt, &mut cell.lock(rt), values)?;
@@ -116,7 +116,7 @@ fn refresh_on<L: Ledger, R: Wait>(
     book.refresh(rt, cells, &mut steps)
 }
 
-// Refreshes a book.
+/// Refreshes a book.
 pub fn refresh<R: Wait>(
     rt: &R,
     book: &mut Book<MemDisk>,
@@ -133,7 +133,7 @@ fn answer(book: &mut Book<MemDisk>, k: u64) -> Option<CalcValue> {
     }
 }
 
-// The answers for calculation 0 in the windows from 0 on.
+/// The answers for calculation 0 in the windows from 0 on.
 pub fn answers(alloc: Global, book: &mut Book<MemDisk>) -> Option<String> {
     let mut text = String::new(alloc);
     for k in 0..100 {

@@ -7,7 +7,7 @@ use calc_refresh::{CalcDef, GroupDefParts, check};
 use std::alloc::Global;
 use trend_num::name_from;
 
-// Its definition.
+/// Its definition.
 pub fn means(alloc: Global) -> Option<GroupDefParts>
     ensures group { IfSome result (λ def. IsGroup def.inputs def.calcs) }
     ensures grid { IfSome result (λ def. IsGrid (grid_of def.start def.period)) }

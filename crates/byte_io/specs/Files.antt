@@ -51,6 +51,7 @@ abbrev pub bytes_of : NamedFiles → List ℕ → Option (List ℕ)
 bytes_of [] name = None
 bytes_of (f ∷ fs) name = if bytes_eq f.0 name then Some f.1 else bytes_of fs name
 
+-- what is told of a file with these bytes, or of none
 abbrev pub told_by : Option (List ℕ) → FileTold
 told_by None = Missing
 told_by (Some bytes) = Holds bytes
@@ -71,8 +72,8 @@ most_remembered = 255
 abbrev pub remembered : List ℕ → Option (List ℕ)
 remembered name = if nat_le (length name) most_remembered then Some name else None
 
--- files in memory: their names and bytes, the numbers of the calls that are to fail, the counts, and what they remember of the
--- name whose read failed last
+-- files in memory: their names and bytes, the numbers of the calls that are to fail, the counts, and what they remember of
+-- the name whose read failed last
 pub record FilesState : Type 0 where
   pub files : NamedFiles
   pub failing_calls : List ℕ

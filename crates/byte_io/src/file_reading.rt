@@ -10,8 +10,8 @@ use std::alloc::Global;
 // How many bytes are asked of a file at once.
 const PIECE: usize = 65536;
 
-/// Reads a file to its end, and returns all its bytes. At most `limit + 1` bytes are asked for in all, and
-/// the file stays as it is. `limit` counts bytes.
+/// Reads a file to its end, and returns all its bytes. At most `limit + 1` bytes are read in all, and the
+/// file stays as it is. `limit` counts bytes.
 pub fn read_file<F: Files>(
     alloc: Global,
     files: &mut F,

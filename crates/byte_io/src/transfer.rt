@@ -9,8 +9,8 @@ use std::alloc::Global;
 // How many bytes are asked of a source at once.
 const PIECE: usize = 65536;
 
-/// Reads a source to its end, and returns all its bytes. At most `limit + 1` bytes are asked for
-/// in all, and after an error those that were taken are gone. `limit` counts bytes.
+/// Reads a source to its end, and returns all its bytes. At most `limit + 1` bytes are taken in all,
+/// and after an error those are gone. `limit` counts bytes.
 pub fn read_all<S: Source>(alloc: Global, src: &mut S, limit: u64) -> Result<Vec<u8>, ReadNo>
     // All that the source had left, and no more than the limit.
     ensures whole { IfOk result (λ v. TakesAll (S.meaning src.old) (S.meaning src.new) v.items) }

@@ -10,7 +10,7 @@ use crate::refusal::CheckNo;
 use calc_parser::Expr;
 use trend_num::Name;
 
-/// Whether two names are one.
+// Whether two names are one.
 pub(crate) fn is_same_name(a: &Name, b: &Name) -> bool
     ensures { result ≡ bytes_eq a.now b.now }
 {
@@ -24,7 +24,7 @@ pub fn input_place(inputs: &[Name], name: &Name) -> Option<usize>
     inputs.iter().position(|input| is_same_name(name, input))
 }
 
-/// The place of the definition of a name.
+// The place of the definition of a name.
 fn def_place(defs: &[CalcDef], name: &Name) -> Option<usize>
     ensures { result ≡ position (λ d. bytes_eq name.now d.name) defs.now }
 {
@@ -38,28 +38,28 @@ pub fn calc_place(calcs: &[CalcDef], name: &Name) -> Option<usize>
     def_place(calcs, name)
 }
 
-/// Whether a name is that of an input.
+// Whether a name is that of an input.
 fn is_input(inputs: &[Name], name: &Name) -> bool
     ensures { result ≡ is_among name.now inputs.now }
 {
     inputs.iter().any(|input| is_same_name(name, input))
 }
 
-/// Whether a definition has a name.
+// Whether a definition has a name.
 fn is_defined(defs: &[CalcDef], name: &Name) -> bool
     ensures { result ≡ list_any (λ d. bytes_eq name.now d.name) defs.now }
 {
     defs.iter().any(|def| is_same_name(name, &def.name))
 }
 
-/// Whether a name is that of a calculation.
+// Whether a name is that of a calculation.
 fn is_calc(calcs: &[CalcDef], name: &Name) -> bool
     ensures { result ≡ is_among name.now (names_of (map calculation calcs.now)) }
 {
     is_defined(calcs, name)
 }
 
-/// The first name of a formula that stands for nothing.
+// The first name of a formula that stands for nothing.
 #[tactic(auto, using(crate::proofs::Mentions::first_in_front, crate::proofs::Mentions::first_behind))]
 fn first_unknown(inputs: &[Name], before: &[CalcDef], e: &Expr) -> Option<Name>
     ensures { result ≡ first_unknown inputs.now (names_of (map calculation before.now)) (tree_of e.now) }
@@ -100,7 +100,7 @@ fn first_unknown(inputs: &[Name], before: &[CalcDef], e: &Expr) -> Option<Name>
     }
 }
 
-/// What is told of a name that stands for nothing in the first of these calculations, which is at this place.
+// What is told of a name that stands for nothing in the first of these calculations, which is at this place.
 fn told(place: u32, coming: &[CalcDef], name: Name) -> CheckNo
     ensures { result ≡ told place (names_of (map calculation coming.now)) name }
 {
@@ -111,7 +111,7 @@ fn told(place: u32, coming: &[CalcDef], name: Name) -> CheckNo
     }
 }
 
-/// What is told of the first name that stands for nothing.
+// What is told of the first name that stands for nothing.
 #[tactic(auto, using(crate::proofs::Mentions::fault_after))]
 pub(crate) fn first_fault(inputs: &[Name], calcs: &[CalcDef]) -> Option<CheckNo>
     requires { length calcs.now < 2 ^ 32 }

@@ -18,7 +18,7 @@ pub record Scope : Type 0 where
   pub points : List ℕ → Option (List Point)
   pub earlier : List ℕ → Option CalcValue
 
--- the value of a tree in the window from one time to another
+-- the value of a tree in the window from one time to another. Inputs are tags of lines: their measures are those of lines
 abbrev pub value : Scope → ℕ → ℕ → Tree → CalcValue
 value s from to (num n) = bounded n
 value s from to (window m name) =

@@ -5,10 +5,10 @@ ghost use Rattle.calc_eval.specs.Number.{bounded, measured_value, floor_div, flo
 use calc_parser::{Cmp, Op};
 use trend_num::{Bad, CalcValue};
 
-/// The greatest amount of a value.
+// The greatest amount of a value.
 const LARGEST: u128 = 1_000_000_000_000_000_000;
 
-/// A number as a value.
+// A number as a value.
 pub(crate) fn bounded(n: i128) -> CalcValue
     ensures { result ≡ bounded n }
 {
@@ -19,7 +19,7 @@ pub(crate) fn bounded(n: i128) -> CalcValue
     }
 }
 
-/// The value of a measure.
+// The value of a measure.
 pub(crate) fn measured_value(measure: Option<i128>) -> CalcValue
     ensures { result ≡ measured_value measure }
 {
@@ -29,7 +29,7 @@ pub(crate) fn measured_value(measure: Option<i128>) -> CalcValue
     }
 }
 
-/// The floor of a quotient.
+// The floor of a quotient.
 fn floor_div(a: i64, b: i64) -> i128
     requires { b ≢ pos 0 }
     ensures { result ≡ floor_div a b }
@@ -43,7 +43,7 @@ fn floor_div(a: i64, b: i64) -> i128
     }
 }
 
-/// What the floor of a quotient leaves.
+// What the floor of a quotient leaves.
 fn floor_rem(a: i64, b: i64) -> i128
     requires { b ≢ pos 0 }
     ensures { result ≡ floor_rem a b }
@@ -51,7 +51,7 @@ fn floor_rem(a: i64, b: i64) -> i128
     i128::from(a) - i128::from(b) * floor_div(a, b)
 }
 
-/// The floor of a quotient as a value.
+// The floor of a quotient as a value.
 fn quotient(a: i64, b: i64) -> CalcValue
     ensures { result ≡ divided b (floor_div a b) }
 {
@@ -62,7 +62,7 @@ fn quotient(a: i64, b: i64) -> CalcValue
     }
 }
 
-/// What the floor of a quotient leaves, as a value.
+// What the floor of a quotient leaves, as a value.
 fn remainder(a: i64, b: i64) -> CalcValue
     ensures { result ≡ divided b (floor_rem a b) }
 {
@@ -73,7 +73,7 @@ fn remainder(a: i64, b: i64) -> CalcValue
     }
 }
 
-/// An operation on two numbers.
+// An operation on two numbers.
 pub(crate) fn operated(op: Op, a: i64, b: i64) -> CalcValue
     ensures { result ≡ operated op a b }
 {
@@ -88,7 +88,7 @@ pub(crate) fn operated(op: Op, a: i64, b: i64) -> CalcValue
     }
 }
 
-/// Whether a comparison holds.
+// Whether a comparison holds.
 fn holds(cmp: Cmp, a: i64, b: i64) -> bool
     ensures { result ≡ holds cmp a b }
 {
@@ -102,7 +102,7 @@ fn holds(cmp: Cmp, a: i64, b: i64) -> bool
     }
 }
 
-/// A comparison of two numbers.
+// A comparison of two numbers.
 pub(crate) fn compared(cmp: Cmp, a: i64, b: i64) -> CalcValue
     ensures { result ≡ compared cmp a b }
 {

@@ -25,7 +25,7 @@ pub record IsTree (text : List ℕ) (t : Tree) : Type 0 where
   pub spelled : words reading ≡ tokens_of text
   pub tree_is : tree reading ≡ t
 
--- that derivation is no deeper than a formula may be, and the text no longer
+-- the text is no longer than a formula may be, and has the tokens of a derivation with this tree that is no deeper than one
 pub record IsFormula (text : List ℕ) (t : Tree) : Type 0 where
   pub reading : Reading formula
   pub spelled : words reading ≡ tokens_of text

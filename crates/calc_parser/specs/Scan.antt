@@ -1,4 +1,4 @@
--- What only the reader's own functions cite: what may still come after the tokens so far, as a stack, and where tokens leave
+-- What private functions alone cite: what may still come after the tokens so far, as a stack, and where tokens leave
 -- it. It is a means of their proofs, and says of no tree how its parts group.
 use Rattle.std.specs.Prelude.{◌≡◌, ℕ, ◌+◌, ◌≤◌, Bool, true, false, nat_le, List, [], ◌∷◌, ◌++◌, Option, None, Some, Result, Ok, Err, if◌then◌else◌}
 use Rattle.calc_parser.specs.declared.token.Sum.TheVariants.{Minus}
@@ -34,7 +34,7 @@ Stack = List Part
 abbrev pub whole : ℕ → Stack → Stack
 whole n k = operand n ∷ more n true ∷ k
 
--- the level that a token opens, or 0, and what may come after it
+-- the level that a token opens, or 0, and what may come after it; none where the token may not stand there
 abbrev pub Next : Type 0
 Next = Option (ℕ × Stack)
 

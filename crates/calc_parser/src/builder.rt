@@ -11,7 +11,7 @@ use crate::{Cmp, Expr, Op};
 use std::alloc::Global;
 use trend_num::WantOfMemory;
 
-/// A tree in a box.
+// A tree in a box.
 fn boxed(alloc: Global, e: Expr) -> Result<Box<Expr>, WantOfMemory>
     ensures { IfOk result (λ b. b.value ≡ e) }
 {

@@ -12,10 +12,10 @@ use crate::token::{Lexed, Token};
 use crate::{Expr, ParseNo, SyntaxKind};
 use std::alloc::Global;
 
-/// The most bytes of a formula.
+// The most bytes of a formula.
 const MAX_BYTES: usize = 1024;
 
-/// The tree of a formula, or why the text is none. Levels and places are those of the first token that is refused.
+/// The tree of a formula, or why the text is none. A place that is told is that of the first token that is refused.
 pub fn parse(alloc: Global, text: &str) -> Result<Expr, ParseNo>
     // A tree is the text's, which is short and shallow enough.
     ensures tree { IfOk result (λ e. IsFormula text.now (tree_of e)) }
@@ -40,7 +40,7 @@ pub fn parse(alloc: Global, text: &str) -> Result<Expr, ParseNo>
     }
 }
 
-/// The refusal at the token before which so many are left, of a text of `end` bytes.
+// The refusal at the token before which so many are left, of a text of `end` bytes.
 fn refusal(stop: Stop, lexed: &Lexed, left: usize, end: usize) -> ParseNo
     requires { end ≤ 1024 }
     ensures { let tokens = lexed.now.tokens.items in let i = length tokens - left in
@@ -58,7 +58,7 @@ fn refusal(stop: Stop, lexed: &Lexed, left: usize, end: usize) -> ParseNo
     }
 }
 
-/// What is wrong with the token at an index.
+// What is wrong with the token at an index.
 fn kind_at(tokens: &[Token], i: usize) -> SyntaxKind
     ensures { result ≡ kind_of (drop i tokens.now) }
 {

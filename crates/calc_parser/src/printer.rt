@@ -22,7 +22,7 @@ pub fn print(alloc: Global, e: &Expr) -> Result<String, WantOfMemory>
     Ok(text)
 }
 
-/// The tree's text at the end.
+// Puts a tree's text behind a text.
 #[cycle(printer)]
 fn put(text: &mut String, e: &Expr) -> Result<(), AllocError>
     ensures { OnOk result (string_bytes text.new ≡ string_bytes text.old ++ text_of (tree_of e.now)) }
@@ -65,7 +65,7 @@ fn put(text: &mut String, e: &Expr) -> Result<(), AllocError>
     }
 }
 
-/// The same, in brackets where the tree holds together less tightly than is needed.
+// The same, in brackets where the tree holds together less tightly than is needed.
 #[cycle(printer)]
 fn put_fit(text: &mut String, need: u8, e: &Expr) -> Result<(), AllocError>
     ensures { OnOk result (string_bytes text.new
@@ -80,7 +80,7 @@ fn put_fit(text: &mut String, need: u8, e: &Expr) -> Result<(), AllocError>
     }
 }
 
-/// The tree's text, with another before it.
+// Puts `before`, and then the tree's text, behind a text.
 #[cycle(printer)]
 fn put_after(text: &mut String, before: &str, e: &Expr) -> Result<(), AllocError>
     ensures { OnOk result (string_bytes text.new ≡ string_bytes text.old ++ (before.now ++ text_of (tree_of e.now))) }
@@ -89,7 +89,7 @@ fn put_after(text: &mut String, before: &str, e: &Expr) -> Result<(), AllocError
     put(text, e)
 }
 
-/// A word, and a quoted name in brackets.
+// A word, and a quoted name in brackets.
 fn put_name(text: &mut String, word: &str, name: &Name) -> Result<(), AllocError>
     ensures { OnOk result (string_bytes text.new
         ≡ string_bytes text.old ++ (word.now ++ (codes "('" ++ (name.now ++ codes "')")))) }
@@ -100,7 +100,7 @@ fn put_name(text: &mut String, word: &str, name: &Name) -> Result<(), AllocError
     text.push_str("')")
 }
 
-/// The bytes of a name.
+// The bytes of a name.
 fn put_bytes(text: &mut String, name: &[u8]) -> Result<(), AllocError>
     requires { IsName name.now }
     ensures { OnOk result (string_bytes text.new ≡ string_bytes text.old ++ name.now) }
@@ -111,8 +111,8 @@ fn put_bytes(text: &mut String, name: &[u8]) -> Result<(), AllocError>
     Ok(())
 }
 
-/// How tightly a tree's outermost part holds together: a comparison 1, a sum 2, a term 3, a sign before an operand 4, and
-/// all else 5.
+// How tightly a tree's outermost part holds together: a comparison 1, a sum 2, a term 3, a sign before an operand 4, and
+// all else 5.
 fn binds(e: &Expr) -> u8
     ensures { result ≡ binds (tree_of e.now) }
 {
@@ -124,7 +124,7 @@ fn binds(e: &Expr) -> u8
     }
 }
 
-/// How tightly an operation holds its operands together.
+// How tightly an operation holds its operands together.
 fn op_binds(op: Op) -> u8
     ensures { result ≡ op_binds op }
 {
@@ -135,7 +135,7 @@ fn op_binds(op: Op) -> u8
     }
 }
 
-/// Whether an operation is written as a word before its operands.
+// Whether an operation is written as a word before its operands.
 fn is_call(op: Op) -> bool
     ensures { result ≡ is_call op }
 {

@@ -6,14 +6,14 @@ use crate::{Cmp, SyntaxKind};
 use std::alloc::Global;
 use trend_num::{Measure, Name, WantOfMemory};
 
-/// A sign between terms. `-` also stands before an operand.
+// A sign between terms. `-` also stands before an operand.
 #[derive(Clone, Copy, Debug, PartialEq, Eq)]
 pub(crate) enum Sum {
     Plus,
     Minus,
 }
 
-/// A sign between factors.
+// A sign between factors.
 #[derive(Clone, Copy, Debug, PartialEq, Eq)]
 pub(crate) enum Product {
     Times,
@@ -21,14 +21,14 @@ pub(crate) enum Product {
     Modulo,
 }
 
-/// A word that picks one of two values.
+// A word that picks one of two values.
 #[derive(Clone, Copy, Debug, PartialEq, Eq)]
 pub(crate) enum Pick {
     Least,
     Greatest,
 }
 
-/// A token of a formula.
+// A token of a formula.
 #[derive(Clone, Copy, Debug, PartialEq, Eq)]
 pub(crate) enum Token {
     /// A numeral, from 0 to 10^18.
@@ -57,7 +57,7 @@ pub(crate) enum Token {
     End,
 }
 
-/// The tokens of a text in order, and the byte at which each begins.
+// The tokens of a text in order, and the byte at which each begins.
 #[derive(Drop)]
 pub(crate) struct Lexed {
     pub(crate) tokens: Vec<Token>,
@@ -75,7 +75,7 @@ impl Lexed {
         }
     }
 
-    /// One more token, and the byte at which it begins.
+    // One more token, and the byte at which it begins.
     pub(crate) fn push(&mut self, token: Token, place: u32) -> Result<(), WantOfMemory>
         ensures tokens { OnOk result (self.new.tokens.items ≡ self.old.tokens.items ++ token ∷ []) }
         ensures places { OnOk result (self.new.places.items ≡ self.old.places.items ++ place ∷ []) }

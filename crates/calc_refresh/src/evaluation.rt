@@ -16,7 +16,7 @@ use sheet_law::Grid;
 use std::sync::ledger::Ledger;
 use trend_num::Steps;
 
-/// Puts places for more windows into the rows.
+// Puts places for more windows into the rows.
 pub(crate) fn lengthen(rows: &mut [Vec<CalcValue>], windows: usize)
     requires { All (λ row. windows ≤ vec_capacity row) rows.old }
     ensures windows { All (λ row. vec_len row ≡ windows) rows.new }
@@ -28,8 +28,8 @@ pub(crate) fn lengthen(rows: &mut [Vec<CalcValue>], windows: usize)
     }
 }
 
-/// Evaluates all calculations in the window from one time to another, each by the ones before it, and writes their
-/// values into the rows at its place.
+// Evaluates all calculations in the window from one time to another, each by the ones before it, and writes their
+// values into the rows at its place.
 fn evaluate_window<L: Ledger>(
     calcs: &Checked,
     contents: &[Content],
@@ -59,7 +59,7 @@ fn evaluate_window<L: Ledger>(
     }
 }
 
-/// Evaluates the windows that are marked. Returns how many they were.
+// Evaluates the windows that are marked. Returns how many they were.
 pub(crate) fn evaluate<L: Ledger>(
     calcs: &Checked,
     grid: Grid,

@@ -1,11 +1,15 @@
 //! A group's sheet: its calculated rows, kept up to date.
 //!
-//! Its model is the group, its grid, the records of the inputs that were taken into account, and the rows. `sheet_law`
-//! defines what rows are from scratch, and which windows records touch. `apply` takes more records of each input. Where
-//! the rows were from scratch before, they are so afterwards, and only the windows that are newly complete or touched
-//! are evaluated: the content of each input is kept beside its records, and tells the stretch of a late record before
-//! it is put in. The time is linear in the new records and the windows, whatever comes. All memory is taken before
-//! anything changes, so a sheet that is refused stands as it was.
+//! Its model is the group, its grid, the records of the inputs that were taken into account, the rows, and how many values
+//! were evaluated. `sheet_law` defines what rows are from scratch, and which windows records touch. `apply` takes more
+//! records of each input. Where the rows were from scratch before, they are so afterwards, and only the windows that are
+//! newly complete or touched are evaluated: the content of each input is kept beside its records, and tells the stretch of
+//! a late record before it is put in. All memory is taken before anything changes, so a sheet that is refused stands as it
+//! was.
+//!
+//! How long that takes, which no clause says: it goes once over the new records and once over the complete windows, and
+//! evaluates those that are due. A content without room for the new records is made anew from all records of its input,
+//! with room for a quarter more.
 #![tactic(auto)]
 
 mod definition;

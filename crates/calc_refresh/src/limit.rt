@@ -14,13 +14,13 @@ use crate::window::windows_before;
 use sheet_law::Grid;
 use trend_num::Rec;
 
-/// How many cells a sheet may have: complete windows times calculations.
+// How many cells a sheet may have: complete windows times calculations.
 const MOST_CELLS: u64 = 1_048_576;
 
-/// How many records all copies of a sheet may have together.
+// How many records all copies of a sheet may have together.
 const MOST_COPIES: u64 = 2_097_152;
 
-/// The time behind the last Kept record, with more records.
+// The time behind the last Kept record, with more records.
 pub(crate) fn kept_end_after(end: u64, recs: &[Rec]) -> u64
     requires { All (λ r. InRange r.point) recs.now }
     ensures { (rs : List Rec) → end ≡ kept_end rs → result ≡ kept_end (rs ++ recs.now) }
@@ -32,7 +32,7 @@ pub(crate) fn kept_end_after(end: u64, recs: &[Rec]) -> u64
     end
 }
 
-/// How many windows are complete with more records, where those before end so.
+// How many windows are complete with more records. `ends` has the time behind the last Kept record before of each input.
 pub(crate) fn windows_after(grid: Grid, ends: &[u64], deltas: &[Vec<Rec>]) -> u64
     requires grid { IsGrid grid }
     requires some { 1 ≤ length ends.now }
@@ -48,7 +48,7 @@ pub(crate) fn windows_after(grid: Grid, ends: &[u64], deltas: &[Vec<Rec>]) -> u6
     least
 }
 
-/// How many records all copies have together, with more records.
+// How many records all copies have together, with more records.
 pub(crate) fn records_after(copies: &[Vec<Rec>], deltas: &[Vec<Rec>]) -> u64
     requires inputs { length deltas.now ≡ length copies.now }
     requires few { length copies.now ≤ 64 }
@@ -63,7 +63,7 @@ pub(crate) fn records_after(copies: &[Vec<Rec>], deltas: &[Vec<Rec>]) -> u64
     records
 }
 
-/// Refuses too many cells or records.
+// Refuses too many cells or records.
 pub(crate) fn within_limits(cells: u64, records: u64) -> Result<(), SheetNo>
     ensures { MatchResult result (λ _. limit_fault cells records ≡ None) (λ why. limit_fault cells records ≡ Some why) }
 {

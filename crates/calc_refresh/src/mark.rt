@@ -4,7 +4,7 @@ ghost use Rattle.calc_refresh.specs.Marks.{is_marked};
 
 use crate::window::Span;
 
-/// Marks the windows of a span. So it costs one write, however many they are.
+// Marks the windows of a span, by one write however many they are.
 pub(crate) fn mark(marks: &mut [u64], span: Span)
     ensures { (k : ℕ) → k < length marks.old
         → is_marked marks.new k ≡ (is_marked marks.old k || (nat_le span.first k && nat_lt k span.behind)) }

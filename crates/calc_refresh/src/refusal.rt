@@ -10,9 +10,9 @@ pub enum SheetNo {
     /// The first calculation whose saved row has not one value for each complete window: how many windows are complete,
     /// and how many values it has.
     Shape { windows: u64, rows: u64 },
-    /// There would be more cells, complete windows times calculations, than a sheet may have.
+    /// There would be more cells, complete windows times calculations, than a sheet may have: so many.
     CellLimit { cells: u64 },
-    /// There would be more records in all copies together than a sheet may have.
+    /// There would be more records in all copies together than a sheet may have: so many.
     CopyLimit { records: u64 },
     /// No memory was found.
     WantOfMemory,

@@ -14,7 +14,7 @@ use late_insert::Content;
 use std::alloc::{AllocError, Global};
 use trend_num::Rec;
 
-/// Makes room for more records in the copies.
+// Makes room for more records in the copies.
 pub(crate) fn room_in_copies(copies: &mut [Vec<Rec>], deltas: &[Vec<Rec>]) -> Result<(), AllocError>
     requires { length deltas.now ≡ length copies.old }
     ensures copies { lists_of copies.new ≡ lists_of copies.old }
@@ -28,8 +28,8 @@ pub(crate) fn room_in_copies(copies: &mut [Vec<Rec>], deltas: &[Vec<Rec>]) -> Re
     Ok(())
 }
 
-/// A content of these records, with room for so many more, and for a quarter of all beside: so a content that grows is
-/// seldom made anew.
+// A content of these records, with room for so many more, and for a quarter of all beside: so a content that grows is
+// seldom made anew.
 fn roomy(alloc: Global, copy: &[Rec], more: usize) -> Result<Content, AllocError>
     requires copy { IsCopy copy.now }
     requires more { more < 2 ^ 32 }
@@ -46,7 +46,7 @@ fn roomy(alloc: Global, copy: &[Rec], more: usize) -> Result<Content, AllocError
     }
 }
 
-/// Makes room for more records in the content of a copy.
+// Makes room for more records in the content of a copy.
 fn room_in_content(
     alloc: Global,
     copy: &[Rec],
@@ -65,7 +65,7 @@ fn room_in_content(
     Ok(())
 }
 
-/// Makes room for more records in the contents.
+// Makes room for more records in the contents.
 pub(crate) fn room_in_contents(
     alloc: Global,
     copies: &[Vec<Rec>],
@@ -86,7 +86,7 @@ pub(crate) fn room_in_contents(
     Ok(())
 }
 
-/// Makes room for so many windows in the rows.
+// Makes room for so many windows in the rows.
 pub(crate) fn room_in_rows(rows: &mut [Vec<CalcValue>], windows: usize) -> Result<(), AllocError>
     ensures rows { lists_of rows.new ≡ lists_of rows.old }
     ensures room { OnOk result (All (λ row. windows ≤ vec_capacity row) rows.new) }
@@ -98,7 +98,7 @@ pub(crate) fn room_in_rows(rows: &mut [Vec<CalcValue>], windows: usize) -> Resul
     Ok(())
 }
 
-/// Makes room for more records of each input, and for so many windows. Nothing else changes, whatever comes.
+// Makes room for more records of each input, and for so many windows. Nothing else changes, whatever comes.
 pub(crate) fn make_room(
     alloc: Global,
     copies: &mut [Vec<Rec>],

@@ -20,7 +20,7 @@ use std::alloc::{AllocError, Global};
 use trend_num::Rec;
 
 /// The sheet of a group with copies and rows as they were saved. It fails at the first row that has not one value for
-/// each complete window of the copies. The values themselves are taken as they are.
+/// each complete window of the copies, else where memory is wanting. The values themselves are taken as they are.
 pub fn from_saved(
     alloc: Global,
     def: &GroupDefParts,
@@ -51,7 +51,7 @@ pub fn from_saved(
     }
 }
 
-/// The sheet of copies and rows that fit together.
+// The sheet of copies and rows that fit together.
 pub(crate) fn restored(
     alloc: Global,
     def: &GroupDefParts,
@@ -86,7 +86,7 @@ pub(crate) fn restored(
     }
 }
 
-/// How many windows of these records are complete.
+// How many windows of these records are complete.
 fn windows_of(grid: Grid, copies: &[Vec<Rec>]) -> u64
     requires grid { IsGrid grid }
     requires some { 1 ≤ length copies.now }
@@ -100,7 +100,7 @@ fn windows_of(grid: Grid, copies: &[Vec<Rec>]) -> u64
     least
 }
 
-/// What is told of the first row that has not so many values.
+// What is told of the first row that has not so many values.
 fn shape_fault(windows: u64, rows: &[Vec<CalcValue>]) -> Option<SheetNo>
     ensures { result ≡ shape_fault windows (lists_of rows.now) }
 {
@@ -115,7 +115,7 @@ fn shape_fault(windows: u64, rows: &[Vec<CalcValue>]) -> Option<SheetNo>
     None
 }
 
-/// What the copies read as.
+// What the copies read as.
 fn contents_of(alloc: Global, copies: &[Vec<Rec>]) -> Result<Vec<Content>, AllocError>
     requires { All IsCopy (lists_of copies.now) }
     ensures { IfOk result (λ v. map (λ c. c.records) v.items ≡ map listed (lists_of copies.now)) }
@@ -130,7 +130,7 @@ fn contents_of(alloc: Global, copies: &[Vec<Rec>]) -> Result<Vec<Content>, Alloc
     Ok(contents)
 }
 
-/// The times behind the last Kept records of the copies.
+// The times behind the last Kept records of the copies.
 fn ends_of(alloc: Global, copies: &[Vec<Rec>]) -> Result<Vec<u64>, AllocError>
     requires { All IsCopy (lists_of copies.now) }
     ensures { IfOk result (λ v. v.items ≡ map kept_end (lists_of copies.now)) }

@@ -84,7 +84,7 @@ pub fn new_sheet(alloc: Global, def: &GroupDefParts) -> Result<Sheet, WantOfMemo
     }
 }
 
-/// So many copies without records.
+// So many copies without records.
 fn empty_copies(alloc: Global, inputs: usize) -> Result<Vec<Vec<Rec>>, WantOfMemory>
     ensures { IfOk result (λ copies. lists_of copies.items ≡ replicate inputs []) }
 {
@@ -96,7 +96,7 @@ fn empty_copies(alloc: Global, inputs: usize) -> Result<Vec<Vec<Rec>>, WantOfMem
     Ok(copies)
 }
 
-/// So many rows without values.
+// So many rows without values.
 fn empty_rows(alloc: Global, calcs: usize) -> Result<Vec<Vec<CalcValue>>, WantOfMemory>
     ensures { IfOk result (λ rows. lists_of rows.items ≡ replicate calcs []) }
 {
@@ -108,7 +108,7 @@ fn empty_rows(alloc: Global, calcs: usize) -> Result<Vec<Vec<CalcValue>>, WantOf
     Ok(rows)
 }
 
-/// The value at a place of a row, if there are such a row and such a place.
+// The value at a place of a row, if there are such a row and such a place.
 fn value_at(rows: &[Vec<CalcValue>], calc: usize, k: usize) -> Option<CalcValue>
     ensures { result ≡ option_and_then (λ row. slice_get row k) (slice_get (lists_of rows.now) calc) }
 {

@@ -18,7 +18,7 @@ use late_insert::Content;
 use sheet_law::Grid;
 use trend_num::{Kind, Rec};
 
-/// The time behind the last Kept record, with one record more.
+// The time behind the last Kept record, with one record more.
 pub(crate) fn kept_end_on(end: u64, rec: Rec) -> u64
     requires { rec.point.t ≤ last_time }
     ensures { (rs : List Rec) → end ≡ kept_end rs → result ≡ kept_end (rs ++ rec ∷ []) }
@@ -29,7 +29,8 @@ pub(crate) fn kept_end_on(end: u64, rec: Rec) -> u64
     }
 }
 
-/// The windows that a record touches as it comes, behind records with this content, the Kept ones of which end so.
+// The windows that a record touches as it comes, behind records with this content. `end` is the time behind the last Kept
+// one of these.
 fn touched(grid: Grid, content: &Content, end: u64, rec: Rec) -> Span
     requires grid { IsGrid grid }
     requires rising { IsRising content.now.records }
@@ -55,8 +56,8 @@ fn touched(grid: Grid, content: &Content, end: u64, rec: Rec) -> Span
     }
 }
 
-/// Takes records of an input: marks the windows that they touch in turn, and puts them into its copy and its content.
-/// Returns where its Kept records end then.
+// Takes records of an input: marks the windows that they touch in turn, and puts them into its copy and its content.
+// Returns where its Kept records end then.
 fn take_records(
     grid: Grid,
     copy: &mut Vec<Rec>,
@@ -90,7 +91,7 @@ fn take_records(
     end
 }
 
-/// Takes the records of all inputs, one input after another.
+// Takes the records of all inputs, one input after another.
 pub(crate) fn take_all(
     grid: Grid,
     copies: &mut [Vec<Rec>],

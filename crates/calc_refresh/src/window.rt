@@ -9,7 +9,7 @@ ghost use Rattle.calc_refresh.specs.Sheet.{IsGrid};
 use late_insert::Content;
 use sheet_law::Grid;
 
-/// How many windows end before a time.
+// How many windows end before a time.
 pub(crate) fn windows_before(grid: Grid, end: u64) -> u64
     requires { IsGrid grid }
     ensures { result ≡ windows_before grid end }
@@ -17,14 +17,14 @@ pub(crate) fn windows_before(grid: Grid, end: u64) -> u64
     end.saturating_sub(1).saturating_sub(grid.start) / grid.period
 }
 
-/// Windows one after another: the first of them, and the one behind the last.
+// Windows one after another: the first of them, and the one behind the last.
 #[derive(Clone, Copy)]
 pub(crate) struct Span {
     pub first: u64,
     pub behind: u64,
 }
 
-/// The windows that meet the closed stretch from one time to another.
+// The windows that meet the closed stretch from one time to another.
 pub(crate) fn met(grid: Grid, from: u64, to: u64) -> Span
     requires grid { IsGrid grid }
     requires from { from ≤ last_time }
@@ -38,7 +38,7 @@ pub(crate) fn met(grid: Grid, from: u64, to: u64) -> Span
     }
 }
 
-/// Where the stretch of a time starts in a content: at the last point before it, else there.
+// Where the stretch of a time starts in a content: at the last point before it, else there.
 pub(crate) fn stretch_from(content: &Content, t: u64) -> u64
     requires rising { IsRising content.now.records }
     ensures value { result ≡ stretch_from content.now.records t }
@@ -53,7 +53,7 @@ pub(crate) fn stretch_from(content: &Content, t: u64) -> u64
     }
 }
 
-/// Where it ends: at the first point after it, else there.
+// Where the stretch of a time ends in a content: at the first point after it, else there.
 pub(crate) fn stretch_to(content: &Content, t: u64) -> u64
     requires time { t ≤ last_time }
     requires times { All (λ r. r.point.t ≤ last_time) content.now.records }

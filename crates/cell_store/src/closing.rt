@@ -46,6 +46,7 @@ pub(crate) fn close_cell<S: Store>(store: &mut S, name: &str, cell: Cell<S::Dev>
     ensures counted { S.fault_count store.new ≡ sum_of_counts (S.fault_count store.old) (S.Dev.fault_count cell.journal.dev) }
     ensures faulty { cell.journal.failed ≡ true → 1 ≤ S.Dev.fault_count cell.journal.dev }
 {
+    // The device of a broken cell has counted a fault.
     let _broken = cell.broken();
     let (dev, history) = cell.into_history();
     store.give_back(name, dev);

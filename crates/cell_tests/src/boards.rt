@@ -37,6 +37,7 @@ const ROWS: &str = "\
 18446744073709551615 none";
 
 // The snapshot that a row spells.
+// The snapshot that a row spells.
 fn snap_of(row: &str) -> Option<Snap> {
     let (taken, held) = row.split_once(' ')?;
     let taken = taken.parse().ok()?;

@@ -168,6 +168,7 @@ fn device_of(cell: Cell<MemDisk>) -> MemDisk {
 }
 
 // A kept record.
+// A kept record.
 fn kept(t: u64, v: i64) -> Rec {
     Rec {
         kind: Kind::Kept,

@@ -29,8 +29,8 @@ use Rattle.collector_pool.specs.Refusals.{refusal_of_take, ending_of_commit}
 use Rattle.collector_pool.specs.RowAsk.{RowAsk}
 use Rattle.collector_pool.specs.Work.{worker_count}
 
--- these are of the first of the items, in order, as P says of the number of an item, the item, and what is of it. The items
--- are numbered from here on
+-- of the first items, in order, there is one of these each, and P holds of the item's number, the item and it; the first
+-- item has this number
 abbrev pub AreOfFirst : {A B : Type 0} → (ℕ → A → B → Type 0) → ℕ → List A → List B → Type 0
 AreOfFirst P n items [] = Unit {0}
 AreOfFirst P n [] (x ∷ xs) = ⊥
@@ -156,7 +156,7 @@ pub record IsRefresherNote (refuses : ℕ → TurnNo → Type 0) (refresh : Refr
 
 -- ---- a session
 
--- the note of the worker at a place. A collector's work are its rows behind those that it took in an earlier phase
+-- the note of the worker at a place. A collector's work is its rows behind those that it took in an earlier phase
 pub record IsNoteAt (D : Type 0) (tells : RowAsk → ℕ → Option CalcValue → Type 0) (refuses : ℕ → TurnNo → Type 0) (w : Work)
     (place : ℕ) (n : WorkerNote) : Type 0 where
   pub numbered : n.worker ≡ place

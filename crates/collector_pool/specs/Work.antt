@@ -22,7 +22,8 @@ IsQueryOf tags groups (Tag tag query) = (tag < tags) × IsTagQuery query
 IsQueryOf tags groups (Snap tag) = tag < tags
 IsQueryOf tags groups (Row group calc k) = group < groups
 
--- work for a plant of so many tags and groups, whose workers have numbers
+-- work for a plant of so many tags and groups, whose workers have numbers, and whose collectors have the rows that they took
+-- in an earlier phase
 pub record IsWorkOf (tags groups : ℕ) (w : Work) : Type 0 where
   pub few : worker_count w < 2 ^ 32
   pub rows : All (λ rows. All (IsRowOf tags) rows.items) w.collectors.items

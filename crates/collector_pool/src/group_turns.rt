@@ -9,17 +9,17 @@ use trend_num::CalcValue;
 /// Why a group made no turn, or gave no answer.
 #[derive(Clone, Copy, Debug, PartialEq, Eq)]
 pub enum TurnNo {
-    /// The group has taken more records of an input into account than the tag hands out.
+    /// The version of an input is above the records that its tag has acknowledged.
     Ahead {
         input: u32,
         version: u32,
         records: u32,
     },
-    /// The sheet would have too many cells.
+    /// There would be more cells, complete windows times calculations, than a sheet may have.
     CellLimit {
         cells: u64,
     },
-    /// The group would have too many copied records.
+    /// There would be more records in all copies together than a sheet may have.
     CopyLimit {
         records: u64,
     },
@@ -27,6 +27,7 @@ pub enum TurnNo {
     Broken,
     /// A call of the group's device failed.
     DeviceFault,
+    /// No memory was found.
     WantOfMemory,
 }
 

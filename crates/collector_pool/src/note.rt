@@ -13,7 +13,7 @@ use trend_num::{CalcValue, Point, Snap, WantOfMemory};
 pub struct TakeNote {
     /// The tag, counted from 0.
     pub tag: u32,
-    /// The row of the collector, counted from 1.
+    /// The row of the collector's work, counted from 1 in each phase of a session.
     pub row: u64,
     pub point: Point,
     /// Where the entry of the take stands on the tag's tape, counted from 0.
@@ -66,6 +66,7 @@ pub enum Ending {
     Tag { tag: u32, why: CellNo },
     /// A group refused a turn or an answer, and not for want of memory.
     Group { group: u32, why: TurnNo },
+    /// No memory was found for its note, or for the call of its next step.
     WantOfMemory,
 }
 

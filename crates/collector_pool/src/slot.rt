@@ -2,7 +2,7 @@
 use crate::note::WorkerNote;
 use snapshot_table::Looker;
 
-// What a worker is, with its number among its kind.
+/// What a worker is, with its number among its kind.
 #[derive(Drop)]
 pub enum Role {
     Collector(u32),
@@ -10,6 +10,7 @@ pub enum Role {
     Refresher(u32),
 }
 
+/// What a worker has, from before it begins until its pass is given back.
 pub struct Slot<O> {
     pub role: Role,
     pub pass: O,

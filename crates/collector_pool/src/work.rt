@@ -22,13 +22,13 @@ pub struct Work {
     pub collectors: Vec<Vec<RawRow>>,
     pub readers: Vec<Vec<Query>>,
     pub refreshers: Vec<Refresh>,
-    /// How many rows of each collector it took in an earlier phase of the session: those behind them are its work.
+    /// How many of its rows each collector took in an earlier phase of the session; those behind them are its work.
     pub earlier: u32,
 }
 
 impl Work {
     /// Whether it is work for a plant of so many tags and groups: no row, query or turn is of another one, points and times
-    /// are in range, and the workers can be numbered.
+    /// are in range, each collector has the rows that it took earlier, and the workers can be numbered.
     pub fn fits(&self, tags: usize, groups: u32) -> bool
         ensures { IsTrue result ↔ IsWorkOf tags groups self.now }
     {

@@ -5,8 +5,8 @@ ghost use Rattle.command_text.specs.Printing.{IsPrintedSo, IsTold};
 use byte_io::{Sink, WriteFault, write_all};
 use plant_status::{Status, line};
 
-/// Prints the text of an answer, or the line of its refusal, and gives the status of that: a text that is not printed whole is a
-/// fault of the output, and a refusal stays what it is.
+/// Prints the text of an answer, or the line of its refusal, and gives the status of that: a text that is not printed
+/// whole is a fault of the output, and a refusal stays what it is.
 pub fn finish<O: Sink>(answer: Result<String, Status>, out: &mut O) -> Status
     ensures text { IfOk answer (λ text. IsPrintedSo (string_bytes text) (O.meaning out.old) (O.meaning out.new) result) }
     ensures refused { IfErr answer (λ why. (result ≡ why) × IsTold (O.meaning out.old) (O.meaning out.new) why) }

@@ -76,7 +76,7 @@ IsLeftOrSame plant tags o c = MayLeave o c ⊎ StandsSame plant tags (seen o) c
 
 -- ---- why a device is not opened
 
--- with the room there are more rows than a log holds: so many together
+-- the rows for which these bytes stand are so many together with the room
 pub record IsTooMany (plant : List ℕ) (tags room n : ℕ) (c : List ℕ) : Type 0 where
   pub rows : List LogRow
   pub stands : StandsFor plant tags c rows
@@ -94,7 +94,7 @@ IsCause plant tags room o WantOfMemory = Unit {0}
 abbrev pub CountsRefusal : LogNo → ℕ → ℕ → Type 0
 CountsRefusal why before now = CountsFault {T = Unit {0}} (Err why) DeviceFault before now
 
--- what a device is answered with that was not read
+-- the refusal to open what was not read
 abbrev pub refusal_of : ScanNo → LogNo
 refusal_of scan.DeviceFault = DeviceFault
 refusal_of (scan.Damaged a byte) = Damaged a byte

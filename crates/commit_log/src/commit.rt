@@ -24,8 +24,8 @@ impl From<AllocError> for LogCommitNo {
 
 impl<D: Disk> Log<D> {
     /// Acknowledges the rows that have waited longest, 4,096 at most, as one block. Where nothing waits, nothing is called and nothing
-    /// changes. It is Broken where an earlier commit answered DeviceFault; that comes where a call of the device fails. Want of
-    /// memory comes before any call, also where the device would pass 2^64 bytes; the log is then as it was.
+    /// changes. Broken is answered where an earlier commit answered DeviceFault, and DeviceFault where a call of the device
+    /// fails. Want of memory comes before any call, also where the device would pass 2^64 bytes; the log is then as it was.
     pub fn commit(&mut self) -> Result<LogAcked, LogCommitNo>
         ensures broken { IsErrOf result Broken ↔ (self.old.failed ≡ true) }
         ensures idle { self.old.failed ≡ false → waits self.old ≡ 0

@@ -8,7 +8,7 @@ use disk_model::Disk;
 use std::alloc::Global;
 use std::marker::Model;
 
-/// The log of a plant that runs.
+/// The log of a plant, opened on its device.
 #[derive(Drop)]
 pub struct Log<D: Disk> {
     pub(crate) alloc: Global,

@@ -63,8 +63,8 @@ pub fn open_log<D: Disk>(
     }
 }
 
-// What a log needs beside its device: its own copy of the plant's text, the rows on the device and where the next block goes, and
-// a tape with room.
+/// What a log needs beside its device: its own copy of the plant's text, the rows on the device and where the next block goes, and
+/// a tape with room.
 #[derive(Drop)]
 pub struct Parts {
     pub plant: Vec<u8>,

@@ -13,24 +13,27 @@ pub enum LogNo {
     OtherPlant { at: u32 },
     /// The rows on the device and those that there should be room for are more than 4,000,000: how many they are together.
     TooMany { rows: u64 },
+    /// There was no memory, or the text of the plant of a new device has 2^32 bytes or more.
     WantOfMemory,
 }
 
 /// A device that was not opened, and why.
 #[derive(Drop)]
 pub struct LogFail<D> {
+    /// The device, given back.
     pub dev: D,
+    /// Why it was not opened.
     pub why: LogNo,
 }
 
 /// Why a row is not appended.
 #[derive(Clone, Copy, Debug, PartialEq, Eq)]
 pub enum PutRowNo {
-    /// The tag is not below the number of tags, which is carried.
+    /// The tag is none of the plant, which has `tags` tags.
     NoTag { tags: u32 },
-    /// A commit answered DeviceFault.
+    /// An earlier commit answered DeviceFault.
     Broken,
-    /// As many rows were put as there is room for, which is carried.
+    /// As many rows were put as there is room for: `room`.
     RoomFull { room: u32 },
 }
 
@@ -41,6 +44,7 @@ pub enum LogCommitNo {
     Broken,
     /// A call of the device failed. The device is opened again before it is used.
     DeviceFault,
+    /// There was no memory, or the block would end past 2^64 bytes. Nothing was called, and the log is as it was.
     WantOfMemory,
 }
 

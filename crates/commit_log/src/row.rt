@@ -10,5 +10,6 @@ pub struct LogRow {
     pub collector: u32,
     /// The row of the collector's file, counted from 1.
     pub row: u64,
+    /// The raw value.
     pub point: Point,
 }

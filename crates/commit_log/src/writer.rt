@@ -17,13 +17,13 @@ const CLOSED: u8 = 0;
 // The letters behind the gate of the layout.
 const LETTERS: [u8; 4] = *b"PHC1";
 
-/// How many bytes a block has before its rows: its gate, the number of its first row, and how many rows there are.
+// How many bytes a block has before its rows: its gate, the number of its first row, and how many rows there are.
 pub(crate) const HEAD_LEN: usize = 13;
 
-/// How many bytes a row has.
+// How many bytes a row has.
 pub(crate) const ROW_LEN: usize = 32;
 
-/// How many rows a block has at most.
+// How many rows a block has at most.
 pub(crate) const MOST_IN_BLOCK: u32 = 4_096;
 
 // The bytes behind the gate of the layout, of a text of so many bytes.
@@ -39,7 +39,7 @@ pub(crate) fn head_bytes(alloc: Global, plant: &[u8], size: u32) -> Result<Vec<u
     Ok(bytes)
 }
 
-// The bytes of a block behind its gate, up to the next gate, which is closed, and how many turns were gone over for its rows.
+/// The bytes of a block behind its gate, up to the next gate, which is closed, and how many turns were gone over for its rows.
 #[derive(Drop)]
 pub struct BlockBytes {
     pub bytes: Vec<u8>,

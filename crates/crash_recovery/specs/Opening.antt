@@ -36,7 +36,7 @@ abbrev pub IsOpenedAs : TagDef → State → State → Type 0
 IsOpenedAs def s r = ((s.summary.tuning ≡ Some def.tuning) × (r ≡ s))
     ⊎ IsRetuned def s r
 
--- what is recovered is not to be retuned, or it has not taken 10^18 events with that
+-- what is recovered is not to be retuned, or has taken fewer than 10^18 events with the retuning
 abbrev pub IsCountable : TagDef → List ℕ → Type 0
 IsCountable def c = (s : State) → Recovers def c s
     → (s.summary.tuning ≡ Some def.tuning) ⊎ (s.summary.taken + 1 < 10 ^ 18)

@@ -1,5 +1,4 @@
--- What the steps of a journal keep true of its place, between one and the next, and what they make of the
--- device.
+-- What the steps of a journal keep true of its place, between one and the next, and what they make of the device.
 use Rattle.std.specs.Prelude.{◌≡◌, ◌≢◌, ◌⊎◌, ℕ, ◌<◌, ◌≤◌, false, List, length, drop}
 use Rattle.std.specs.Prelude.{slice_index, Option, None, Some, IfSome}
 use Rattle.trend_num.specs.declared.archive.Rec.{Rec}
@@ -18,7 +17,7 @@ spare_slot None = First
 spare_slot (Some First) = Second
 spare_slot (Some Second) = First
 
--- a device on which that is a place, and of which a crash leaves what a read gives
+-- a device on which that is a place, whatever an overtaken lane holds, and of which a crash leaves what a read gives
 pub record IsLaidOut (p : Seat) (t : Trace) : Type 0 where
   pub settled : IsSettled (Some t)
   pub laid : IsLaid p (seen (Some t))
@@ -28,7 +27,7 @@ abbrev pub LaidOn : Seat → Option Trace → Type 0
 LaidOn p None = Unit {0}
 LaidOn p (Some t) = IsLaidOut p t
 
--- the same where the device tells its calls
+-- where the device tells its calls, the summary has overtaken each open lane slot of it
 abbrev pub OverrunOn : Seat → Option Trace → Type 0
 OverrunOn p o = IfSome o (λ t. IsOverrun p (seen (Some t)))
 
@@ -42,8 +41,7 @@ pub record IsLogged (at gate : ℕ) (old new : List ℕ) : Type 0 where
   pub same : (i : ℕ) → i < at → i ≢ gate → slice_index new i ≡ slice_index old i
   pub gate_same : (slice_index new gate ≢ open_byte) ⊎ (slice_index new gate ≡ slice_index old gate)
 
--- all is there for a summary of these records: its gate is closed, and behind the log stand those that were
--- not counted
+-- all is there for a summary of these records: its gate is closed, and behind the log stand those that were not counted
 pub record IsReady (p : Seat) (gate : ℕ) (recs : List Rec) (c : List ℕ) : Type 0 where
   pub shut : IsShut gate c
   pub logged : Holds (log_end p) (recs_image (drop p.records recs)) c

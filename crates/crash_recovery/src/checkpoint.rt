@@ -25,13 +25,13 @@ use std::alloc::Global;
 use tag_core::TagCore;
 use trend_num::Rec;
 
-// How many events a tag takes at most.
+// A summary counts fewer events than this.
 const MOST_TAKEN: u64 = 1_000_000_000_000_000_000;
 
 impl Seat {
-    /// Makes a checkpoint of a core that goes on from what the device recovers. Nothing is called where the
-    /// summary counts all of its events and each lane slot is free. A core that has taken no more events than
-    /// the summary counts, or too many, is none of these, and is refused as memory that is not there.
+    // Makes a checkpoint of a core that goes on from what the device recovers. Nothing is called where the
+    // summary counts all of its events and each lane slot is free. A core that has taken no more events than
+    // the summary counts, or too many, is none of these, and is refused as memory that is not there.
     pub(crate) fn checkpoint<D: Disk>(
         &mut self,
         alloc: Global,
@@ -106,8 +106,8 @@ impl Seat {
             && self.free_slots() == self.lane.slots
     }
 
-    // Puts those records behind the log that the summary does not count, closes the gate of the slot that
-    // does not count, and syncs.
+    // Puts those records behind the log that the summary does not count, closes the gate of the summary slot that does not
+    // count, and syncs.
     fn log_records<D: Disk>(&self, alloc: Global, dev: &mut D, recs: &[Rec]) -> Result<(), PutNo>
         requires within { self.now.lane.used ≤ self.now.lane.slots }
         requires laid { LaidOn self.now (D.trace dev.old) }
@@ -156,8 +156,8 @@ impl Seat {
         put_records(alloc, dev, self.log_end(), recs)
     }
 
-    // Puts the summary of a core into the slot that does not count, behind the records that are new. The
-    // place that it answers is that of the journal from then on.
+    // Puts the summary of a core into the summary slot that does not count; the records that are new stand on the device
+    // already. The seat that it answers is that of the journal from then on.
     fn put_summary<D: Disk>(&self, dev: &mut D, core: &TagCore) -> Result<Seat, DeviceFault>
         requires fresh { self.now.stale ≡ false }
         requires within { self.now.lane.used ≤ self.now.lane.slots }
@@ -188,6 +188,7 @@ impl Seat {
         ensures cause { HasCause (D.fault_count dev.old) (D.fault_count dev.new) result }
     {
         let slot = self.spare_slot();
+        // Asked for what their contracts say: the tuning and the records are in range.
         let _tuning = core.tuning();
         let _recs = core.recs();
         let summary = core.summary();
@@ -213,7 +214,7 @@ impl Seat {
         records_end(self.lane.slots, self.records)
     }
 
-    // The slot into which the next summary goes: one that does not count.
+    // The summary slot into which the next summary goes: one that does not count.
     fn spare_slot(&self) -> Slot
         ensures { result ≡ spare_slot self.now.counts }
     {
@@ -224,7 +225,7 @@ impl Seat {
     }
 }
 
-// Where so many records end, behind a lane of so many slots.
+// Where so many records end, behind so many lane slots.
 fn records_end(slots: u32, records: u32) -> u64
     ensures { result ≡ lane_end slots + 17 * records }
 {

@@ -47,7 +47,7 @@ impl<D: Disk> Journal<D> {
     ghost use Rattle.crash_recovery.specs.Journals.{StaysAs, SeatedOn, IsNumbered, free_in};
     ghost use Rattle.device_layout.specs.Recovery.{AllFit};
 
-    /// The journal of a device that was opened.
+    // The journal of a device that was opened.
     pub(crate) fn new(dev: D, seat: Seat) -> Journal<D>
         requires within { seat.lane.used ≤ seat.lane.slots }
         requires some { 1 ≤ seat.lane.slots }
@@ -107,7 +107,9 @@ impl<D: Disk> Journal<D> {
 
     /// Makes a checkpoint of a core that goes on from what the device recovers: puts the new records behind those that the
     /// summary counts, then the summary, and then begins the lane anew. At Ok all of the core's events are acknowledged.
-    /// Nothing is called where they are already. After DeviceFault the device is opened again before it is used.
+    /// Nothing is called where they are already. WantOfMemory also answers, before any call, a core that has taken 10^18
+    /// events or more, or, where something is left to do, no more than the last summary counts. After DeviceFault the device
+    /// is opened again before it is used.
     pub fn checkpoint(&mut self, alloc: Global, core: &TagCore) -> Result<(), PutNo>
         requires usable { self.old.failed ≡ false }
 

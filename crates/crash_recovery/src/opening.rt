@@ -104,7 +104,7 @@ pub fn open_tag<D: Disk>(
 }
 
 impl<D: Disk> Opened<D> {
-    /// The same once a checkpoint is made of the core.
+    // The same once a checkpoint is made of the core.
     fn with_checkpoint(self, alloc: Global) -> Result<Opened<D>, OpenFail<D>>
         requires usable { self.journal.failed ≡ false }
         ensures any_moment { IfOk result (λ o. self.core.state.summary.taken < 10 ^ 18
@@ -141,7 +141,7 @@ impl<D: Disk> Opened<D> {
     }
 }
 
-/// What was read of a tag's device: the place on it, the tag in memory, and whether it had to be retuned.
+// What was read of a tag's device: the place on it, the tag in memory, and whether it had to be retuned.
 #[derive(Drop)]
 struct Read {
     seat: Seat,
@@ -149,7 +149,7 @@ struct Read {
     retuned: bool,
 }
 
-/// Makes a new device's layout, or reads what another device recovers, and retunes it in memory where that is wanted.
+// Makes a new device's layout, or reads what another device recovers, and retunes it in memory where that is wanted.
 fn read_tag<L: Ledger, D: Disk>(
     alloc: Global,
     dev: &mut D,
@@ -197,7 +197,7 @@ fn read_tag<L: Ledger, D: Disk>(
     }
 }
 
-/// A new device with its layout, and a tag before its first event.
+// A new device with its layout, and a tag before its first event.
 fn made<D: Disk>(
     alloc: Global,
     dev: &mut D,
@@ -249,7 +249,7 @@ fn made<D: Disk>(
     })
 }
 
-/// What a device recovers whose layout was finished, retuned where another tuning than the wanted one is in force.
+// What a device recovers whose layout was finished, retuned where another tuning than the wanted one is in force.
 fn read_back<L: Ledger, D: Disk>(
     alloc: Global,
     dev: &mut D,
@@ -290,7 +290,7 @@ fn read_back<L: Ledger, D: Disk>(
     }
 }
 
-/// The tag, retuned where another tuning than the wanted one is in force.
+// The tag, retuned where another tuning than the wanted one is in force.
 fn tuned<L: Ledger>(
     seat: Seat,
     core: TagCore,
@@ -331,7 +331,7 @@ fn tuned<L: Ledger>(
     }
 }
 
-/// The refusal to open where a checkpoint or a layout was not written.
+// The refusal to open where a checkpoint or a layout was not written.
 fn refusal_of_put(why: PutNo) -> OpenNo
     ensures { result ≡ refusal_of_put why }
 {

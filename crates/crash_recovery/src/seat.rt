@@ -17,14 +17,14 @@ use disk_model::Disk;
 use event_queue::{DeviceFault, Lane, LaneNo};
 use trend_num::Point;
 
-/// Where a journal stands on its device.
+// Where a journal stands on its device.
 #[derive(Clone, Copy, Debug, PartialEq, Eq)]
 pub(crate) struct Seat {
     /// The place in the lane.
     pub(crate) lane: Lane,
-    /// The summary counts all values of the lane's open slots, and their gates are still to be closed.
+    /// Whether the summary counts all values of the open lane slots, whose gates are still to be closed.
     pub(crate) stale: bool,
-    /// The slot whose summary counts, if there is one.
+    /// The summary slot that counts, if one does.
     pub(crate) counts: Option<Slot>,
     /// How many events that summary counts.
     pub(crate) taken: u64,
@@ -33,7 +33,7 @@ pub(crate) struct Seat {
 }
 
 impl Seat {
-    /// Whether no lane slot is free.
+    // Whether no lane slot is free.
     pub(crate) fn is_full(&self) -> bool
         requires { self.now.lane.used ≤ self.now.lane.slots }
         ensures { IsTrue result ↔ (free_in self.now ≡ 0) }
@@ -41,7 +41,7 @@ impl Seat {
         self.free_slots() == 0
     }
 
-    /// How many lane slots are free.
+    // How many lane slots are free.
     pub(crate) fn free_slots(&self) -> u32
         requires { self.now.lane.used ≤ self.now.lane.slots }
         ensures { result ≡ free_in self.now }
@@ -53,8 +53,8 @@ impl Seat {
         }
     }
 
-    /// Puts 1 to 64 values into a free lane slot as one batch. The gates that are still to be closed are
-    /// closed first.
+    // Puts 1 to 64 values into a free lane slot as one batch. The gates that are still to be closed are
+    // closed first.
     pub(crate) fn append<D: Disk>(
         &mut self,
         dev: &mut D,
@@ -98,7 +98,7 @@ impl Seat {
         }
     }
 
-    /// Closes the gates of an overtaken lane. Nothing is called where it is not overtaken.
+    // Closes the gates of an overtaken lane. Nothing is called where it is not overtaken.
     pub(crate) fn close_stale<D: Disk>(&mut self, dev: &mut D) -> Result<(), DeviceFault>
         requires within { self.old.lane.used ≤ self.old.lane.slots }
         requires laid { LaidOn self.old (D.trace dev.old) }

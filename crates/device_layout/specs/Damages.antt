@@ -1,4 +1,4 @@
--- Where a tag's device first breaks the layout: eleven rules, each tested where all before it hold.
+-- Where a tag's device first breaks the layout: eight kinds of damage, each looked for where there is none of those before.
 use Rattle.std.specs.Prelude.{◌≡◌, ℕ, ◌+◌, ◌*◌, ◌<◌, ◌≤◌, List, length, take, map, slice_index}
 use Rattle.std.specs.Prelude.{Option, None, Some}
 use Rattle.trend_num.specs.Limits.{most_records}
@@ -58,7 +58,7 @@ pub record IsLogDamage (def : TagDef) (c : List ℕ) (a : ℕ) (byte : Option �
   pub summary : HasSummary c (counting c) s
   pub broken : IsDamage c (log_place c) s.records a byte
 
--- the records and the summary can't be those of a tag, which is told at the summary's beginning
+-- the records and the summary cannot be those of a tag, which is told at the summary's beginning
 pub record ArePartsDamaged (def : TagDef) (c : List ℕ) (a : ℕ) (byte : Option ℕ) (rs : List Rec) (s : Summary)
     (i : Slot) : Type 0 where
   pub tag : IsOfTag def c

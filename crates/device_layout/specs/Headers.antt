@@ -1,8 +1,6 @@
--- The header of a tag's device, its first 128 bytes: the layout's gate, and behind it four letters, the name of
--- the tag and
--- its length, the five numbers of the tuning with which the tag was made, how many lane slots there are, and
--- whether it is a
--- step tag. The rest is zeros.
+-- The header of a tag's device, its first 128 bytes: the layout's gate, and behind it four letters, the length of the tag's
+-- name and the name, the five numbers of the tuning with which the tag was made, how many lane slots there are, and whether
+-- it is a step tag. The rest is zeros.
 use Rattle.std.specs.Prelude.{◌≡◌, ℕ, ◌+◌, ◌-◌, ◌&&◌, Bool, true, List, ◌++◌, ◌∷◌, length, take}
 use Rattle.std.specs.Prelude.{drop, replicate}
 use Rattle.std.specs.Prelude.{slice_index, codes, nat_le, nat_eq, if◌then◌else◌}

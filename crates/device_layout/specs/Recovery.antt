@@ -1,5 +1,4 @@
--- What an image of a tag's device recovers: the records of its log, the summary that counts, and what the lane
--- holds beyond
+-- What an image of a tag's device recovers: the records of its log, the summary that counts, and what the lane holds beyond
 -- that summary. All of it is read of bytes at places, so it is said of each image that a crash may leave.
 use Rattle.std.specs.Prelude.{◌≡◌, ◌⊎◌, ℕ, ◌+◌, ◌≤◌, Bool, true, false, List, [], ◌∷◌}
 use Rattle.std.specs.Prelude.{length, take, drop, map}
@@ -56,7 +55,7 @@ taken_in c i = from_be_bytes w64 (take 8 (slot_bytes c i))
 abbrev pub records_in : List ℕ → Slot → ℕ
 records_in c i = from_be_bytes w32 (take 4 (drop 8 (slot_bytes c i)))
 
--- of the open slots that which counts more events, the first where they are equal
+-- of the open summary slots that which counts more events, the first where they are equal
 abbrev pub chosen : Bool → Bool → Bool → Option Slot
 chosen true true true = Some First
 chosen true true false = Some Second
@@ -64,11 +63,11 @@ chosen true false first = Some First
 chosen false true first = Some Second
 chosen false false first = None
 
--- the slot whose summary counts
+-- the summary slot that counts
 abbrev pub counting : List ℕ → Option Slot
 counting c = chosen (is_open c First) (is_open c Second) (nat_le (taken_in c Second) (taken_in c First))
 
--- before the first checkpoint
+-- the summary before the first checkpoint, which counts nothing
 abbrev pub no_summary : Summary
 no_summary = record {
   taken = 0;

@@ -27,14 +27,17 @@ use trend_num::{Rec, Summary, TagDef, Tuning, same_name};
 /// What a device stores: the summary that counts, the records that it counts, and the tuning in force.
 #[derive(Drop)]
 pub struct Stored {
-    /// The slot of the summary; none before the first checkpoint, where the summary is empty.
+    /// The summary slot that counts; None before the first checkpoint, where the summary is empty.
     pub slot: Option<Slot>,
+    /// The summary in that summary slot.
     pub summary: Summary,
+    /// The records that it counts, the oldest first.
     pub recs: Vec<Rec>,
+    /// The tuning in force: the summary's, or the header's where the summary has none.
     pub tuning: Tuning,
 }
 
-/// Before the first checkpoint nothing was taken.
+// The summary before the first checkpoint: it counts no event, whatever the lane holds.
 const NO_SUMMARY: Summary = Summary {
     taken: 0,
     records: 0,
@@ -76,7 +79,7 @@ pub fn read_layout<D: Disk>(dev: &mut D, def: &TagDef) -> Result<Header, OpenNo>
     Ok(header)
 }
 
-/// The header of a device of this length.
+// The header of a device of this length.
 fn header_of<D: Disk>(dev: &mut D, len: u64) -> Result<Header, OpenNo>
     requires { HasLength (D.trace dev.old) len }
     ensures header { IfOk result (λ h. Shows (D.trace dev.old) (HasHeader h)) }
@@ -98,7 +101,7 @@ fn header_of<D: Disk>(dev: &mut D, len: u64) -> Result<Header, OpenNo>
     }
 }
 
-/// Refuses a tag of another name or of another kind.
+// Refuses a tag of another name or of another kind.
 fn check_tag(found: &TagDef, wanted: &TagDef) -> Result<(), OpenNo>
     ensures name { OnOk result (found.now.name ≡ wanted.now.name) }
     ensures step { OnOk result (found.now.step ≡ wanted.now.step) }
@@ -121,7 +124,7 @@ pub fn log_start(slots: u32) -> u64
     LANE + (SLOT_LEN as u64 + 1) * u64::from(slots)
 }
 
-/// A device ends too early.
+// A device ends too early.
 fn ends_at(len: u64) -> OpenNo
     ensures { result ≡ Damaged len None }
 {
@@ -131,7 +134,7 @@ fn ends_at(len: u64) -> OpenNo
     }
 }
 
-/// The slot whose summary counts, if there is one.
+// The summary slot that counts, if one does.
 fn counting_slot<D: Disk>(dev: &mut D) -> Result<Option<Slot>, OpenNo>
     requires { Reaches (D.trace dev.old) 400 }
     ensures slot { IfOk result (λ x. Shows (D.trace dev.old) (λ c. counting c ≡ x)) }
@@ -146,7 +149,7 @@ fn counting_slot<D: Disk>(dev: &mut D) -> Result<Option<Slot>, OpenNo>
     Ok(chosen(gates[0] == OPEN, gates[1] == OPEN, second <= first))
 }
 
-/// The slot whose summary counts, by which gates are open, and whether the second counts no more events than the first.
+// The summary slot that counts, by which gates are open, and whether the second counts no more events than the first.
 fn chosen(first_open: bool, second_open: bool, first_counts: bool) -> Option<Slot>
     ensures { result ≡ chosen first_open second_open first_counts }
 {
@@ -159,7 +162,7 @@ fn chosen(first_open: bool, second_open: bool, first_counts: bool) -> Option<Slo
     }
 }
 
-/// The summary in the slot that counts.
+// The summary in the summary slot that counts.
 fn counted<D: Disk>(dev: &mut D, slot: Slot) -> Result<Summary, OpenNo>
     requires long { Reaches (D.trace dev.old) 400 }
     ensures bytes { IfOk result (λ s. Shows (D.trace dev.old) (λ c. slot_bytes c slot ≡ summary_image s)) }
@@ -178,7 +181,7 @@ fn counted<D: Disk>(dev: &mut D, slot: Slot) -> Result<Summary, OpenNo>
     }
 }
 
-/// The records that this summary counts.
+// The records that this summary counts.
 fn records_of<D: Disk>(
     alloc: Global,
     dev: &mut D,
@@ -210,7 +213,7 @@ pub fn damaged(at: u64, byte: u8) -> OpenNo
     }
 }
 
-/// The tuning in force, of a tag that was made with the given one.
+// The tuning in force, of a tag that was made with the given one.
 fn in_force(made: Tuning, tuning: Option<Tuning>) -> Tuning
     ensures { result ≡ in_force made tuning }
 {

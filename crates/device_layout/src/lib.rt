@@ -4,12 +4,12 @@
 //! and the log of records. What an image of it recovers is defined over its bytes (`specs/Recovery.antt`): the records that
 //! the summary counts, that summary, and the values of the lane that it does not count, taken one after the other. A device
 //! on which no layout was finished recovers a tag before its first event. Where a device breaks the layout is defined by
-//! eleven rules, each tested where all before it hold (`specs/Damages.antt`).
+//! eight kinds of damage, each looked for where there is none of those before it (`specs/Damages.antt`).
 //!
 //! [`make_layout`] makes the layout of a new device: a crash at any moment leaves a new device or the whole layout.
 //! [`read_layout`] and [`read_stored`] read the header, the summary that counts and the records, or name the first byte of
-//! the first field that breaks the layout. Whether records and summary can be those of a tag, and the lane, test the crates
-//! above.
+//! the first field that breaks the layout. Whether records and summary can be those of a tag, and whether the lane keeps its
+//! layout, is tested by the crates above.
 #![tactic(auto)]
 
 mod failure;

@@ -26,8 +26,8 @@ const DOORS: u8 = 8;
 
 const TUNING: u8 = 16;
 
-/// The summary that the bytes of a slot spell, or the place of the first byte of the first field that breaks
-/// the layout.
+// The summary that the bytes of a slot spell, or the place of the first byte of the first field that breaks
+// the layout.
 pub(crate) fn read_summary(b: &[u8; SUMMARY_LEN]) -> Result<Summary, usize>
     ensures summary { IfOk result (λ s. IsSummary s × (b.now ≡ summary_image s)) }
     ensures broken { IfErr result (IsSlotBroken b.now) }
@@ -154,7 +154,7 @@ fn is_zero(b: &[u8; SUMMARY_LEN], at: usize, len: usize) -> bool
     b[at..at + len].iter().all(|x| *x == 0)
 }
 
-// Whether they are, unless the part with this flag is there.
+// Whether the part with this flag is there, or else so many bytes from a place on are zeros.
 fn is_there_or_zero(b: &[u8; SUMMARY_LEN], bit: u8, at: usize, len: usize) -> bool
     requires flag { 0 < bit }
     requires within { at + len ≤ 128 }

@@ -14,15 +14,15 @@ sum_of_counts m n = min (m + n) (2 ^ 64 - 1)
 abbrev pub Rose : ℕ → ℕ → Type 0
 Rose before now = now ≡ next_count before
 
--- over one call, or over some of which none follows one that failed, no fault is counted where the answer is Ok, and one where
--- it is an error
+-- over one call, or over some of which none follows one that failed, no fault is counted where the answer is Ok, and one
+-- where it is an error
 pub record HasCause {T E : Type 0} (before now : ℕ) (result : Result T E) : Type 0 where
   pub later : before ≤ now
   pub passed : OnOk result (now ≡ before)
   pub failed : OnErr result (Rose before now)
 
--- over some calls of which none follows one that failed, one fault is counted where the answer is the error of a failed call,
--- and none where it is Ok or another error
+-- over some calls of which none follows one that failed, one fault is counted where the answer is the error of a failed
+-- call, and none where it is Ok or another error
 pub record CountsFault {T E : Type 0} (result : Result T E) (fault : E) (before now : ℕ) : Type 0 where
   pub later : before ≤ now
   pub passed : OnOk result (now ≡ before)
@@ -55,7 +55,7 @@ Reaches o n = IfSome o (λ t. n ≤ length (seen (Option.Some t)))
 abbrev pub Reads : Option Trace → ℕ → List ℕ → Type 0
 Reads o at bytes = IfSome o (λ t. bytes ≡ take (length bytes) (drop at (seen (Option.Some t))))
 
--- the calls that a device tells after one more: that call, or where it failed the same in part, or an idle one, or, at the end
--- of the clock, none
+-- the calls that a device tells after one more: that call, or where it failed the same in part, or an idle one, or, at the
+-- end of the clock, none
 abbrev pub IsNoted : {T E : Type 0} → DeviceCall → DeviceCall → Result T E → Option Trace → Option Trace → Type 0
 IsNoted whole part result old new = MatchResult result (λ _. new ≡ noted whole old) (λ _. (new ≡ noted part old) ⊎ (new ≡ noted Idle old) ⊎ (new ≡ old))

@@ -6,6 +6,7 @@ use Rattle.disk_model.specs.Images.{IsOutside}
 abbrev pub open_byte : ℕ
 open_byte = 165
 
+-- the gate at this place is open
 abbrev pub IsOpen : ℕ → List ℕ → Type 0
 IsOpen gate c = slice_index c gate ≡ open_byte
 
@@ -13,7 +14,7 @@ IsOpen gate c = slice_index c gate ≡ open_byte
 abbrev pub IsNew : List ℕ → Type 0
 IsNew c = (length c ≤ 1) ⊎ (slice_index c 0 ≢ open_byte)
 
--- a layout was
+-- a layout was finished: there are two bytes or more, and its gate is open
 pub record IsBegun (c : List ℕ) : Type 0 where
   pub long : 1 < length c
   pub opened : IsOpen 0 c

@@ -1,5 +1,5 @@
--- What a crash may leave of a device: between two syncs each written range, and all past the old end, may hold any bytes, and
--- the length is any between the least and the greatest; other bytes stay; after a sync there is what a read gives.
+-- What a crash may leave of a device: between two syncs each written range, and all past the old end, may hold any bytes,
+-- and the length is any between the least and the greatest; other bytes stay; after a sync there is what a read gives.
 use Rattle.std.specs.Prelude.{◌≡◌, ◌⊎◌, ℕ, ◌+◌, ◌<◌, ◌≤◌, min, max, List, [], ◌∷◌, length, slice_index, Option, IsSomeAnd}
 use Rattle.disk_model.specs.Traces.{DeviceCall, Wrote, WroteInPart, Resized, ResizedInPart, Synced, Idle, Trace, content, seen}
 

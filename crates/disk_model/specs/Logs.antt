@@ -37,6 +37,7 @@ abbrev pub first_of : Option (Vec ℕ Global) → List ℕ → List ℕ
 first_of None content = content
 first_of (Some v) content = v.items
 
+-- what the device held at first
 abbrev pub log_first : Log → List ℕ
 log_first log = first_of log.base log.content.items
 

@@ -5,8 +5,8 @@ use Rattle.disk_model.specs.declared.memory_disk.Pick.TheVariants.{Old, New, Fil
 use Rattle.disk_model.specs.Traces.{DeviceCall, Wrote, WroteInPart, Resized, ResizedInPart, Synced, Idle, Trace, written, resized, content}
 use Rattle.disk_model.specs.Calls.{next_count}
 
--- a device in memory: its trace, the numbers of the calls that are to fail, the number from which all are to fail, whether it
--- stops together with others, and its counts
+-- a device in memory: its trace, the numbers of the calls that are to fail, the number from which on all are to fail,
+-- whether it stops together with others, and its counts
 pub record DiskState : Type 0 where
   pub trace : Trace
   pub failing_calls : List ℕ
@@ -40,8 +40,8 @@ picked_length Old image len = image
 picked_length New image len = resized image len
 picked_length (Fill b) image len = resized image len
 
--- The image that is picked: none of what was done since the last sync, all of it, or all of it with one byte in place of each
--- that was written. Of calls that failed, a write counts as done and a change of the length does not.
+-- the image that is picked: none of what was done since the last sync, all of it, or all of it with one byte in place of
+-- each that was written; of calls that failed, a write counts as done and a change of the length does not
 abbrev pub picked : Pick → List ℕ → List DeviceCall → List ℕ
 picked pick first [] = first
 picked pick first (Wrote at bytes ∷ es) = picked_bytes pick bytes (picked pick first es) at

@@ -23,6 +23,7 @@ device_of (d ∷ ds) name = if bytes_eq d.0 name then Some d.1 else device_of ds
 abbrev pub empty_trace : Trace
 empty_trace = record { first = []; calls = [] }
 
+-- the trace of a device, or that of one that holds nothing
 abbrev pub trace_or_empty : Option DiskState → Trace
 trace_or_empty None = empty_trace
 trace_or_empty (Some d) = d.trace

@@ -7,6 +7,7 @@ use crate::{Disk, Failed};
 
 /// Something that keeps devices by name, and may fail at any call.
 pub trait Store {
+    /// A device that it hands out, which may go to another thread.
     type Dev: Disk + Send;
 
     /// The trace of the device of a name, or `None` where the store does not tell.

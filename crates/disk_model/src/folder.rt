@@ -170,7 +170,10 @@ fn open_or_make<R: Files + AllocGlobal>(rt: &R, name: &str) -> io::Result<R::Fil
     let mut options = OpenOptions::new();
     options.read(true).write(true);
     if let Ok(file) = options.open(rt, path.as_str()) {
-        return Ok(file);
+        // A file that has bytes was handed out before, so its name is on the disk.
+        if file.metadata()?.len() > 0 {
+            return Ok(file);
+        }
     }
     make_folder(rt)?;
     let file = options.create(true).open(rt, path.as_str())?;
@@ -179,12 +182,11 @@ fn open_or_make<R: Files + AllocGlobal>(rt: &R, name: &str) -> io::Result<R::Fil
     Ok(file)
 }
 
-// Makes the folder where it is missing.
+// Makes the folder where it is missing, and writes its name to the disk.
 fn make_folder<R: Files>(rt: &R) -> io::Result<()> {
-    if fs::exists(rt, FOLDER)? {
-        return Ok(());
+    if !fs::exists(rt, FOLDER)? {
+        fs::create_dir(rt, FOLDER)?;
     }
-    fs::create_dir(rt, FOLDER)?;
     sync_folder(rt, ".")
 }
 

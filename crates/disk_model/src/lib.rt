@@ -8,7 +8,8 @@
 //!
 //! [`write_guarded`] writes bytes behind a closed gate and then opens it: at every moment, within its calls too, a
 //! crash leaves the bytes whole behind an open gate, or the gate closed. [`close_gates`] closes gates, and never
-//! touches one that reads closed.
+//! touches one that reads closed. [`is_new`] tells whether no layout was finished on a device, and [`read_part`] reads
+//! so many bytes of it.
 //!
 //! [`MemDisk`] and [`MemStore`] are in memory, fail at the calls that they are told to, and give the images that a
 //! crash may leave. [`DirStore`] keeps its devices as files of a folder, and tells no calls.

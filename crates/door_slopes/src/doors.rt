@@ -73,7 +73,7 @@ impl Doors {
         self.hinge
     }
 
-    /// How far a line may pass from a value, in value units (CompDev).
+    /// How far a line may be from a value, in value units (CompDev).
     pub fn deviation(&self) -> u64
         ensures value { result ≡ self.now.deviation }
         ensures range { result ≤ largest_value }
@@ -99,8 +99,8 @@ impl Doors {
         self.lower
     }
 
-    /// Whether the line from the hinge to p passes between the doors, so that each value since the hinge is within the
-    /// deviation of it. A line that just touches a door passes. At most two steps.
+    /// Whether the line from the hinge to p lies between the doors, so that each value since the hinge is within the
+    /// deviation of it. A line that just touches a door is admitted. At most two steps.
     pub fn admits<L: Ledger>(&self, p: Point, steps: &mut Steps<L>) -> bool
         requires point { InRange p }
         requires after { self.now.hinge.t < p.t }
@@ -144,7 +144,7 @@ impl Doors {
         self.lower = lower;
     }
 
-    /// Whether the line to p passes under the raised upper door. One step.
+    // Whether the line to p is under the raised upper door or touches it. One step.
     fn is_under_upper<L: Ledger>(&self, p: Point, steps: &mut Steps<L>) -> bool
         requires point { InRange p }
         requires after { self.now.hinge.t < p.t }
@@ -154,7 +154,7 @@ impl Doors {
         is_not_steeper(self.hinge, p, 0, self.upper, raised(self.dev), steps)
     }
 
-    /// Whether the line to p passes over the lowered lower door. One step.
+    // Whether the line to p is over the lowered lower door or touches it. One step.
     fn is_over_lower<L: Ledger>(&self, p: Point, steps: &mut Steps<L>) -> bool
         requires point { InRange p }
         requires after { self.now.hinge.t < p.t }
@@ -164,7 +164,7 @@ impl Doors {
         is_not_steeper(self.hinge, self.lower, lowered(self.dev), p, 0, steps)
     }
 
-    /// The upper door of the values so far and p. One step.
+    // The upper door of the values so far and p. One step.
     fn upper_with<L: Ledger>(&self, p: Point, steps: &mut Steps<L>) -> Point
         requires point { InRange p }
         requires after { self.now.hinge.t < p.t }
@@ -181,7 +181,7 @@ impl Doors {
         }
     }
 
-    /// The lower door of the values so far and p. One step.
+    // The lower door of the values so far and p. One step.
     fn lower_with<L: Ledger>(&self, p: Point, steps: &mut Steps<L>) -> Point
         requires point { InRange p }
         requires after { self.now.hinge.t < p.t }
@@ -206,7 +206,7 @@ pub fn same_doors(a: &Doors, b: &Doors) -> bool
     a == b
 }
 
-/// A deviation upwards.
+// A deviation upwards.
 fn raised(dev: u64) -> i64
     requires { dev ≤ largest_value }
     ensures value { result ≡ pos dev }
@@ -215,7 +215,7 @@ fn raised(dev: u64) -> i64
     dev as i64
 }
 
-/// A deviation downwards.
+// A deviation downwards.
 fn lowered(dev: u64) -> i64
     requires { dev ≤ largest_value }
     ensures value { result ≡ down dev }
@@ -224,7 +224,7 @@ fn lowered(dev: u64) -> i64
     -(dev as i64)
 }
 
-/// Whether the slope from `a` to x raised by `raise` is at most that to y raised by `lift`. One step.
+// Whether the slope from `a` to x raised by `raise` is at most that to y raised by `lift`. One step.
 fn is_not_steeper<L: Ledger>(
     a: Point,
     x: Point,

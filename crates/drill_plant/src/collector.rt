@@ -31,7 +31,7 @@ pub fn drill_files(
     Ok(files)
 }
 
-/// The rows of one tag.
+// The rows of one tag.
 fn drill_file(
     alloc: Global,
     number: u32,
@@ -49,7 +49,7 @@ fn drill_file(
     Ok(file)
 }
 
-/// The points behind so many, as rows of a tag.
+// The points behind so many, as rows of a tag.
 fn rows_behind(
     alloc: Global,
     tag: u32,

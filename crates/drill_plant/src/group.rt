@@ -15,10 +15,10 @@ use std::alloc::Global;
 use tag_base::GroupDef;
 use trend_num::{Name, TagDef, WantOfMemory};
 
-/// The length of a window, in milliseconds.
+// The length of a window, in milliseconds.
 const PERIOD: u64 = 500;
 
-/// The group of so many tags, which are these.
+// The group of so many tags, which are these.
 pub(crate) fn drill_group(
     alloc: Global,
     tags: u32,
@@ -39,14 +39,14 @@ pub(crate) fn drill_group(
     })
 }
 
-/// The places of so many inputs.
+// The places of so many inputs.
 fn places(alloc: Global, inputs: u32) -> Result<Vec<u32>, WantOfMemory>
     ensures { IfOk result (λ places. places.items ≡ range_with_len 0 inputs) }
 {
     Ok((0..inputs).collect(alloc)?)
 }
 
-/// The calculation of a formula.
+// The calculation of a formula.
 fn calc(alloc: Global, name: &[u8], formula: &str) -> Result<CalcDef, WantOfMemory>
     requires name { IsName name.now }
     requires formula { (t : Tree) × IsFormula formula.now t }
@@ -64,7 +64,7 @@ fn calc(alloc: Global, name: &[u8], formula: &str) -> Result<CalcDef, WantOfMemo
     }
 }
 
-/// The calculations. Over names with that of the first tag each name in them stands for something.
+// The calculations. Over names with that of the first tag each name in them stands for something.
 fn calcs(alloc: Global) -> Result<Vec<CalcDef>, WantOfMemory>
     ensures defined { IfOk result (λ defs. Define drill_calcs (map calculation defs.items)) }
     ensures known { IfOk result (λ defs. (names : List (List ℕ)) → is_among (codes "D0") names ≡ true
@@ -79,7 +79,7 @@ fn calcs(alloc: Global) -> Result<Vec<CalcDef>, WantOfMemory>
     Ok(defs)
 }
 
-/// The calculations over the tags, checked. The first tag is among these.
+// The calculations over the tags, checked. The first tag is among these.
 fn checked(alloc: Global, tags: &[TagDef]) -> Result<Checked, WantOfMemory>
     requires { is_among (codes "D0") (map (λ tag. tag.name) tags.now) ≡ true }
     ensures { IfOk result (AreCalcs (map (λ tag. tag.name) tags.now) drill_calcs) }
@@ -94,7 +94,7 @@ fn checked(alloc: Global, tags: &[TagDef]) -> Result<Checked, WantOfMemory>
     }
 }
 
-/// The names of tags.
+// The names of tags.
 fn names(alloc: Global, tags: &[TagDef]) -> Result<Vec<Name>, WantOfMemory>
     ensures { IfOk result (λ names. names.items ≡ map (λ tag. tag.name) tags.now) }
 {

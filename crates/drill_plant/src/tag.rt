@@ -7,7 +7,7 @@ ghost use Rattle.drill_plant.specs.Plant.{drill_tag, drill_tags};
 use std::alloc::Global;
 use trend_num::{Name, TagDef, Tuning, WantOfMemory, name_from};
 
-/// The tuning of each tag.
+// The tuning of each tag.
 const TUNING: Tuning = Tuning {
     exc_dev: 3,
     exc_max: 60_000,
@@ -16,7 +16,7 @@ const TUNING: Tuning = Tuning {
     comp_max: 600_000,
 };
 
-/// The name that bytes spell.
+// The name that bytes spell.
 pub(crate) fn spelled(bytes: &[u8]) -> Name
     requires { IsName bytes.now }
     ensures { result ≡ bytes.now }
@@ -27,7 +27,7 @@ pub(crate) fn spelled(bytes: &[u8]) -> Name
     }
 }
 
-/// The name of the tag at a place.
+// The name of the tag at a place.
 fn tag_name(alloc: Global, place: u32) -> Result<Name, WantOfMemory>
     ensures { IfOk result (λ name. name ≡ codes "D" ++ decimal place) }
 {
@@ -35,7 +35,7 @@ fn tag_name(alloc: Global, place: u32) -> Result<Name, WantOfMemory>
     Ok(spelled(text.as_bytes()))
 }
 
-/// The tag at a place.
+// The tag at a place.
 fn drill_tag(alloc: Global, place: u32) -> Result<TagDef, WantOfMemory>
     ensures { IfOk result (λ tag. tag ≡ drill_tag place) }
 {
@@ -47,7 +47,7 @@ fn drill_tag(alloc: Global, place: u32) -> Result<TagDef, WantOfMemory>
     })
 }
 
-/// So many tags.
+// So many tags.
 pub(crate) fn drill_tags(alloc: Global, tags: u32) -> Result<Vec<TagDef>, WantOfMemory>
     ensures { IfOk result (λ defs. defs.items ≡ drill_tags tags) }
 {

@@ -48,7 +48,7 @@ pub record IsBehind (truths : List Bool) (at behind : ℕ) : Type 0 where
   pub inside : (k : ℕ) → at ≤ k → k < behind → is_true_in truths k ≡ true
   pub gap : is_true_in truths behind ≡ false
 
--- the first of the windows before one that are all true
+-- the first of the windows right before one that are all true, where one that is not there counts as true
 pub record IsStart (truths : List Bool) (k start : ℕ) : Type 0 where
   pub order : start ≤ k
   pub inside : AreSet truths start k

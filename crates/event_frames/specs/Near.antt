@@ -7,7 +7,7 @@ use Rattle.event_frames.specs.declared.frame.Edit.{Edit}
 use Rattle.event_frames.specs.declared.frame.Edit.TheVariants.{Gone, New}
 use Rattle.event_frames.specs.Frames.{IsListOf}
 
--- a frame holds a window, or begins behind it, or ends before it
+-- a frame holds a window, or begins right behind it, or ends right before it
 pub record IsNear (k : ℕ) (f : Frame) : Type 0 where
   pub begins : f.from ≤ k + 1
   pub ends : k ≤ f.upto + 1

@@ -51,7 +51,7 @@ pub fn new_frames(alloc: Global, least: u32, row: &[CalcValue]) -> Result<Frames
     })
 }
 
-/// Whether a calculation with this value is true.
+// Whether a calculation with this value is true.
 fn is_true(value: CalcValue) -> bool
     ensures { result ≡ is_true value }
 {
@@ -61,7 +61,7 @@ fn is_true(value: CalcValue) -> bool
     }
 }
 
-/// Puts the windows of a row down, one behind another.
+// Puts the windows of a row down, one behind another.
 fn put_all(levels: &mut Levels, row: &[CalcValue])
     requires empty { length levels.old.truths ≡ 0 }
     requires room { length row.now ≤ levels.old.room }
@@ -72,7 +72,7 @@ fn put_all(levels: &mut Levels, row: &[CalcValue])
     }
 }
 
-/// Puts changes down.
+// Puts changes down.
 fn put_changes(levels: &mut Levels, changes: &[Change])
     requires changes { IsChangeList (length levels.old.truths) changes.now }
     requires room { length levels.old.truths + length changes.now ≤ levels.old.room }

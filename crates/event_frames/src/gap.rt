@@ -2,10 +2,10 @@
 ghost use Rattle.std.specs.Prelude.{◌≡◌, ℕ, ◌+◌, ◌*◌, ◌/◌, ◌<◌, ◌≤◌, true, IsTrue, IfNone, IfSome, ◌↔◌, length};
 ghost use Rattle.event_frames.specs.Levels.{AreSet, IsGapBefore, IsGapFrom, is_set};
 
-/// How many flags a block has.
+// How many flags a block has.
 pub(crate) const BLOCK: usize = 128;
 
-/// The first gap from a place on, before another.
+// The first gap from a place on, before another.
 pub(crate) fn first_gap(flags: &[bool], start: usize, end: usize) -> Option<usize>
     ensures gap { IfSome result (IsGapFrom flags.now start) }
     ensures within { IfSome result (λ gap. gap < length flags.now) }
@@ -20,7 +20,7 @@ pub(crate) fn first_gap(flags: &[bool], start: usize, end: usize) -> Option<usiz
     None
 }
 
-/// The last gap before a place, from another on.
+// The last gap before a place, from another on.
 pub(crate) fn last_gap(flags: &[bool], start: usize, end: usize) -> Option<usize>
     ensures gap { IfSome result (IsGapBefore flags.now end) }
     ensures within { IfSome result (λ gap. gap < length flags.now) }
@@ -35,7 +35,7 @@ pub(crate) fn last_gap(flags: &[bool], start: usize, end: usize) -> Option<usize
     None
 }
 
-/// Whether all flags of a block are set.
+// Whether all flags of a block are set.
 pub(crate) fn is_whole(flags: &[bool], block: usize) -> bool
     requires { block * 128 ≤ length flags.now }
     ensures { IsTrue result ↔ ((k : ℕ) → k / 128 ≡ block → is_set flags.now k ≡ true) }

@@ -8,7 +8,7 @@ use crate::gap::{BLOCK, first_gap, is_whole, last_gap};
 use std::alloc::{AllocError, Global};
 use std::marker::Model;
 
-/// Of each window of a row, whether its calculation is true in it.
+// Of each window of a row, whether its calculation is true in it.
 #[derive(Drop)]
 pub(crate) struct Levels {
     truths: Vec<bool>,
@@ -32,7 +32,7 @@ impl Model for Levels {
 }
 
 impl Levels {
-    /// A row without windows.
+    // A row without windows.
     pub(crate) fn new(alloc: Global) -> Levels
         ensures { result.truths ≡ [] }
     {
@@ -44,7 +44,7 @@ impl Levels {
         }
     }
 
-    /// How many windows there are.
+    // How many windows there are.
     pub(crate) fn len(&self) -> usize
         ensures value { result ≡ length self.now.truths }
         ensures bound { result < 2 ^ 63 }
@@ -52,7 +52,7 @@ impl Levels {
         self.truths.len()
     }
 
-    /// Takes memory for so many windows more.
+    // Takes memory for so many windows more.
     pub(crate) fn reserve(&mut self, more: usize) -> Result<(), AllocError>
         requires { more < 2 ^ 63 }
         ensures same { self.new.truths ≡ self.old.truths }
@@ -68,7 +68,7 @@ impl Levels {
         Ok(())
     }
 
-    /// Puts down whether the calculation is true in a window: in one that there is, or in one more.
+    // Puts down whether the calculation is true in a window: in one that there is, or in one more.
     pub(crate) fn put(&mut self, k: usize, holds: bool)
         requires window { k ≤ length self.old.truths }
         requires room { length self.old.truths < self.old.room }
@@ -95,7 +95,7 @@ impl Levels {
         raise(&mut self.blocks, &mut self.groups, k / BLOCK, whole);
     }
 
-    /// The first window from one on in which the calculation is not true, or the one behind the last.
+    // The first window from one on in which the calculation is not true, or the one behind the last.
     pub(crate) fn behind(&self, at: usize) -> usize
         requires { at ≤ length self.now.truths }
         ensures { IsBehind self.now.truths at result }
@@ -106,7 +106,7 @@ impl Levels {
         }
     }
 
-    /// Where the windows begin that end before one, and in all of which the calculation is true.
+    // The first of the windows right before k in all of which the calculation is true, or k where there is none.
     pub(crate) fn start(&self, k: usize) -> usize
         ensures { IsStart self.now.truths k result }
     {
@@ -116,7 +116,7 @@ impl Levels {
         }
     }
 
-    /// Whether there is a window, and the calculation is not true in the one before it.
+    // Whether there is a window, and the calculation is not true in the one before it.
     pub(crate) fn is_first(&self, at: usize) -> bool
         ensures { IsTrue result ↔ ((at < length self.now.truths) × ((j : ℕ) → j + 1 ≡ at → is_true_in self.now.truths j ≡ false)) }
     {
@@ -153,7 +153,7 @@ impl Levels {
     }
 }
 
-/// Puts flags that are set behind the others, until there are so many.
+// Puts flags that are set behind the others, until there are so many.
 fn widen(flags: &mut Vec<bool>, count: usize) -> Result<(), AllocError>
     ensures same { (k : ℕ) → is_set flags.new.items k ≡ is_set flags.old.items k }
     ensures longer { vec_len flags.old ≤ vec_len flags.new }
@@ -166,7 +166,7 @@ fn widen(flags: &mut Vec<bool>, count: usize) -> Result<(), AllocError>
     Ok(())
 }
 
-/// Writes a flag, and the one over its block.
+// Writes a flag, and the one over its block.
 fn raise(below: &mut [bool], above: &mut [bool], k: usize, set: bool)
     requires over { IsOver below.old above.old }
     requires within { k < length below.old }
@@ -178,7 +178,7 @@ fn raise(below: &mut [bool], above: &mut [bool], k: usize, set: bool)
     above[k / BLOCK] = is_whole(below, k / BLOCK);
 }
 
-/// The first block from one on that is not whole.
+// The first block from one on that is not whole.
 fn next_block(blocks: &[bool], groups: &[bool], k: usize) -> Option<usize>
     requires over { IsOver blocks.now groups.now }
     requires bound { k < 2 ^ 60 }
@@ -195,7 +195,7 @@ fn next_block(blocks: &[bool], groups: &[bool], k: usize) -> Option<usize>
     first_gap(blocks, group * BLOCK, group * BLOCK + BLOCK)
 }
 
-/// The last block before one that is not whole.
+// The last block before one that is not whole.
 fn previous_block(blocks: &[bool], groups: &[bool], k: usize) -> Option<usize>
     requires over { IsOver blocks.now groups.now }
     ensures gap { IfSome result (IsGapBefore blocks.now k) }

@@ -11,8 +11,8 @@ use crate::frame::{Change, Frame};
 use crate::levels::Levels;
 use std::alloc::AllocError;
 
-/// The frame of the true windows from one on that is a first one, before another, if they are as many as it has at
-/// least.
+// The frame of the windows from `at` on, before `behind`, if they are `least` or more. The calculation is true in all of
+// them, and neither in the window before them nor in the one behind.
 fn frame_between(levels: &Levels, least: u32, at: usize, behind: usize) -> Option<Frame>
     requires some { 1 ≤ least }
     requires first { (j : ℕ) → j + 1 ≡ at → is_true_in levels.now.truths j ≡ false }
@@ -32,7 +32,7 @@ fn frame_between(levels: &Levels, least: u32, at: usize, behind: usize) -> Optio
     })
 }
 
-/// The frame that begins in a window and is near another, if there is one.
+// The frame that begins in a window and is near another, if there is one.
 fn frame_at(levels: &Levels, least: u32, at: usize, k: u64) -> Option<Frame>
     requires some { 1 ≤ least }
     ensures frame { IfSome result (IsFrame levels.now.truths least) }
@@ -51,7 +51,7 @@ fn frame_at(levels: &Levels, least: u32, at: usize, k: u64) -> Option<Frame>
     }
 }
 
-/// The frame that is near a window and begins there or before it, but not before another one.
+// The frame that is near a window and begins there or before it, but not before another one.
 fn frame_before(levels: &Levels, least: u32, k: u64, seen: u64) -> Option<Frame>
     requires some { 1 ≤ least }
     ensures frame { IfSome result (IsFrame levels.now.truths least) }
@@ -68,7 +68,7 @@ fn frame_before(levels: &Levels, least: u32, k: u64, seen: u64) -> Option<Frame>
     }
 }
 
-/// Puts a frame behind others, if it is there.
+// Puts a frame behind others, if it is there.
 fn push_some(frames: &mut Vec<Frame>, frame: Option<Frame>)
     requires { vec_len frames.old < vec_capacity frames.old }
     ensures items { frames.new.items ≡ frames.old.items ++ option_to_list frame }
@@ -80,7 +80,7 @@ fn push_some(frames: &mut Vec<Frame>, frame: Option<Frame>)
     }
 }
 
-/// Lists the frames that are near a change.
+// Lists the frames that are near a change.
 pub(crate) fn push_near(levels: &Levels, least: u32, changes: &[Change], frames: &mut Vec<Frame>)
     requires some { 1 ≤ least }
     requires rising { AreRising changes.now }
@@ -99,7 +99,7 @@ pub(crate) fn push_near(levels: &Levels, least: u32, changes: &[Change], frames:
     }
 }
 
-/// Lists all frames.
+// Lists all frames.
 pub(crate) fn push_all(
     levels: &Levels,
     least: u32,

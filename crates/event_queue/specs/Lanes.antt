@@ -1,8 +1,6 @@
--- What a lane holds for a summary that counts the first `taken` raw values: the points of its open slots that
--- are not
--- stale. And when it keeps the layout: either all open slots are stale, or the open ones are the first, and
--- number on
--- from `taken`.
+-- What a lane holds for a summary that counts the first `taken` events: the points of its open lane slots that are not
+-- stale. And when it keeps the layout: either all open lane slots are stale, or the open ones are the first, and number
+-- on from `taken`.
 use Rattle.std.specs.Prelude.{◌≡◌, ◌⊎◌, ◌==◌, ℕ, zero, suc, ◌+◌, ◌<◌, ◌≤◌, nat_le, List, [], ◌++◌, length}
 use Rattle.std.specs.Prelude.{slice_index, if◌then◌else◌}
 use Rattle.std.specs.List.{All}

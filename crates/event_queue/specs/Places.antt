@@ -10,8 +10,7 @@ pub record HasRoom (slots used : ℕ) (c : List ℕ) : Type 0 where
   pub long : lane_end slots ≤ length c
   pub shut : (k : ℕ) → used ≤ k → k < slots → slice_index c (gate_of k) ≢ open_byte
 
--- a lane in use: its first `used` slots are open, and number on from `taken` to `next`, and hold these
--- points
+-- a lane in use: its first `used` slots are open, number on from `taken` to `next`, and hold these points
 pub record IsFilled (slots taken used next : ℕ) (c : List ℕ) (held : List Point) : Type 0 where
   pub room : HasRoom slots used c
   pub lane : IsLane slots c taken slots

@@ -17,8 +17,7 @@ pub record IsWithin (slots taken n : ℕ) (s : Scanned) : Type 0 where
   pub in_range : All InRange s.points.items
   pub none_stale : s.stale ≡ true → s.points.items ≡ []
 
--- this was read of the first n slots: each open one keeps the layout, these are the points, and `used` is one
--- above the
+-- this was read of the first n slots: each open one keeps the layout, these are the points, and `used` is one above the
 -- last open one, or 0
 pub record IsRead (slots taken : ℕ) (bytes : List ℕ) (n : ℕ) (s : Scanned) : Type 0 where
   pub lane : IsLane slots bytes taken n

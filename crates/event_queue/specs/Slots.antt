@@ -1,8 +1,6 @@
--- The bytes of a lane. Behind the first 400 bytes of a device stand the gates, one for each slot, and behind
--- them the
--- slots, 1,034 bytes each. A slot holds one batch: the number of its first raw value in 8 bytes, how many
--- there are in
--- 2, and their points.
+-- The bytes of a lane. Behind the first 400 bytes of a device stand the gates, one for each lane slot, and behind them the
+-- lane slots, 1,034 bytes each. A lane slot holds one batch: the number of its first raw value in 8 bytes, how many there
+-- are in 2, and their points.
 use Rattle.std.specs.Prelude.{ℕ, zero, suc, ◌+◌, ◌*◌, min, List, [], ◌∷◌, ◌++◌, length, take, drop, flat_map}
 use Rattle.std.specs.Int.{w16, w64, from_be_bytes}
 use Rattle.trend_num.specs.declared.point.Point.{Point}
@@ -20,8 +18,7 @@ place_of slots k = 400 + slots + 1034 * k
 abbrev pub lane_end : ℕ → ℕ
 lane_end slots = 400 + 1035 * slots
 
--- raw values that were put into the lane together: the number of the first, counted from 0 since the tag
--- began, how
+-- raw values that were put into the lane together: the number of the first among the tag's events, counted from 0, how
 -- many there are, and their points
 pub record Batch : Type 0 where
   pub first : ℕ

@@ -4,7 +4,7 @@ use thiserror::Error;
 /// Why a batch is not put into a lane.
 #[derive(Debug, Clone, Copy, PartialEq, Eq, Error)]
 pub enum LaneNo {
-    /// No slot is free.
+    /// No lane slot is free.
     #[error("the lane is full")]
     LaneFull,
     /// A call of the device failed.

@@ -19,11 +19,11 @@ use trend_num::Point;
 /// A place in the lane of a tag's device.
 #[derive(Debug, Clone, Copy, PartialEq, Eq)]
 pub struct Lane {
-    /// How many slots there are.
+    /// How many lane slots there are.
     pub slots: u32,
     /// How many of them, from the first on, are used.
     pub used: u32,
-    /// The number of the next raw value, counted from 0 since the tag began.
+    /// The number of the next raw value among the tag's events, counted from 0.
     pub next: u64,
 }
 

@@ -30,7 +30,7 @@ const COUNT: usize = 8;
 
 const POINTS: usize = 10;
 
-/// What a lane holds beyond the raw values that a summary counts.
+/// What a lane holds beyond the events that a summary counts.
 #[derive(Drop)]
 pub struct Scanned {
     /// The place behind the last open slot.
@@ -41,7 +41,7 @@ pub struct Scanned {
     pub stale: bool,
 }
 
-/// Reads a lane of so many slots for a summary that counts the first `taken` raw values, or names the first byte of the
+/// Reads a lane of so many lane slots for a summary that counts the first `taken` events, or names the first byte of the
 /// first field that breaks the layout, slot by slot. The device is not written.
 pub fn scan<D: Disk>(alloc: Global, dev: &mut D, slots: u32, taken: u64) -> Result<Scanned, ScanNo>
     requires room { Reaches (D.trace dev.old) (lane_end slots) }

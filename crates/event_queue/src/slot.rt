@@ -11,7 +11,7 @@ use arrayvec::ArrayVec;
 use std::alloc::AllocError;
 use trend_num::{Point, in_range};
 
-/// How many bytes a slot has.
+/// How many bytes a lane slot has.
 pub const SLOT_LEN: usize = 1034;
 
 /// How many raw values a batch has at most.

@@ -83,7 +83,7 @@ impl Gate {
         first
     }
 
-    /// Goes on to the gate after one more value, in place, and hands on what is sent.
+    // Goes on to the gate after one more value, in place, and hands on what is sent.
     #[inline(always)]
     fn advance(&mut self, tuning: &Tuning, p: Point) -> Sent
         ensures last { self.new.last ≡ (offered tuning.now self.old.last self.old.pending p).last }
@@ -105,7 +105,7 @@ impl Gate {
         }
     }
 
-    /// The same, with a value in order.
+    // The same, with a value in order.
     #[inline(always)]
     fn advance_in_order(&mut self, tuning: &Tuning, last: Point, p: Point) -> Sent
         requires { self.old.last ≡ Some last }
@@ -141,7 +141,7 @@ pub fn same_sent(a: &Sent, b: &Sent) -> bool
     a == b
 }
 
-/// A gate whose last value is this one, with nothing pending.
+// A gate whose last value is this one, with nothing pending.
 #[inline(always)]
 fn sent_last(p: Point) -> Gate
     ensures { result ≡ record { last = Some p; pending = None } }
@@ -152,7 +152,7 @@ fn sent_last(p: Point) -> Gate
     }
 }
 
-/// The value is sent in order, after the one that was pending.
+// The value is sent in order, after the one that was pending.
 #[inline(always)]
 fn in_order(first: Option<Point>, p: Point) -> Sent
     ensures { result ≡ record { first = first; second = Some (Sending.InOrder p) } }
@@ -163,7 +163,7 @@ fn in_order(first: Option<Point>, p: Point) -> Sent
     }
 }
 
-/// The value is sent late, after the one that was pending.
+// The value is sent late, after the one that was pending.
 #[inline(always)]
 fn late(first: Option<Point>, p: Point) -> Sent
     ensures { result ≡ record { first = first; second = Some (Sending.Late p) } }
@@ -174,7 +174,7 @@ fn late(first: Option<Point>, p: Point) -> Sent
     }
 }
 
-/// Whether the value differs from the last one sent by more than ExcDev, or comes ExcMax after it or later.
+// Whether the value differs from the last one sent by more than ExcDev, or comes ExcMax after it or later.
 #[inline(always)]
 fn is_far(tuning: &Tuning, last: Point, p: Point) -> bool
     ensures { result ≡ is_far tuning.now last p }

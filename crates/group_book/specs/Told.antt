@@ -32,7 +32,8 @@ pub record Saved : Type 0 where
   pub rows : List (List CalcValue)
   pub end : ℕ
 
--- a book on a device of this type, or without one
+-- a book on a device of this type, or without one: the group's number from 0, its definition and the text of it, the tags of
+-- its inputs, its opening, its tape, its sheet, its device, what the last save left, and whether a call of the device failed
 pub record Told (D : Type 0) : Type 0 where
   pub group : ℕ
   pub def : GroupDefParts

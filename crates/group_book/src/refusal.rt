@@ -17,6 +17,7 @@ pub enum RefreshNo {
     CopyLimit {
         records: u64,
     },
+    /// No memory was found.
     WantOfMemory,
 }
 
@@ -27,6 +28,7 @@ pub enum SaveNo {
     Broken,
     /// A call of the device failed. The device is opened again before it is used.
     DeviceFault,
+    /// No memory was found, or the save's number or place is past the end of its type; nothing was called.
     WantOfMemory,
 }
 
@@ -52,6 +54,7 @@ pub enum LoadNo {
         windows: u64,
         rows: u64,
     },
+    /// No memory was found.
     WantOfMemory,
 }
 

@@ -33,9 +33,9 @@ impl From<WantOfMemory> for SaveNo {
 
 impl<D: Disk> Book<D> {
     /// Saves the rows that changed since the last save, as one block behind the others, and leaves one Save. An equal value is
-    /// no change. A book without a device does nothing. It is Broken where an earlier save answered DeviceFault; that comes
-    /// where a call of the device fails. Want of memory comes before any call, also where the number of the save would pass
-    /// 2^64 - 1 or the device 2^64 bytes; the book is then as it was.
+    /// no change. A book without a device does nothing. The answer is Broken where an earlier save answered DeviceFault, and
+    /// DeviceFault where a call of the device fails now. Want of memory comes before any call, also where the number of the
+    /// save would pass 2^64 - 1 or the device 2^64 bytes; the book is then as it was.
     pub fn save(&mut self) -> Result<(), SaveNo>
         ensures none { self.old.dev ≡ None → IsOk result × (self.new ≡ self.old) }
         ensures broken { IsErrOf result Broken ↔ (self.old.failed ≡ true) }

@@ -6,7 +6,7 @@ use trend_num::CalcValue;
 pub enum Turn {
     /// Records were taken into account.
     Refresh {
-        /// Of each input how many records are taken into account since.
+        /// Of each input how many records are taken into account from then on.
         versions: Vec<u32>,
     },
     /// A question was answered.

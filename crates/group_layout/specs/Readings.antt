@@ -39,7 +39,7 @@ IsShaped inputs calcs New = Unit {0}
 IsShaped inputs calcs Other = Unit {0}
 IsShaped inputs calcs (Saved g) = HasShape inputs calcs g
 
--- and fewer than 2^32 windows
+-- what was found has fewer than 2^32 windows
 abbrev pub HasFewWindows : Found → Type 0
 HasFewWindows New = Unit {0}
 HasFewWindows Other = Unit {0}

@@ -46,7 +46,7 @@ pub record AreRowsOf (calcs windows : ℕ) (bs : List Parts) (rows : List (List 
   pub windows_are : All (λ row. length row ≡ windows) rows
   pub values : (calc k : ℕ) → calc < calcs → k < windows → cell_of rows calc k ≡ saved_value bs calc k
 
--- a calculation has no row in a window, which is told at the last open gate
+-- a calculation has no value in a window, which is told at the last open gate
 pub record IsIncomplete (calcs inputs at : ℕ) (bs : List Parts) (a : ℕ) (byte : Option ℕ) : Type 0 where
   pub calc : ℕ
   pub window : ℕ

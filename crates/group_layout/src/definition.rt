@@ -49,7 +49,7 @@ fn put_names(text: &mut Vec<u8>, names: &[Name]) -> Result<(), WantOfMemory>
     Ok(())
 }
 
-// Adds one.
+// Adds a comma and a name.
 fn put_name(text: &mut Vec<u8>, name: &Name) -> Result<(), WantOfMemory>
     ensures { OnOk result (text.new.items ≡ text.old.items ++ name_text name.now) }
 {
@@ -68,7 +68,7 @@ fn put_calcs(alloc: Global, text: &mut Vec<u8>, calcs: &[CalcDef]) -> Result<(),
     Ok(())
 }
 
-// Adds one.
+// Adds the line of a calculation.
 fn put_calc(alloc: Global, text: &mut Vec<u8>, calc: &CalcDef) -> Result<(), WantOfMemory>
     ensures { OnOk result (text.new.items ≡ text.old.items ++ calc_text (calculation calc.now)) }
 {

@@ -18,7 +18,8 @@ use std::alloc::Global;
 
 /// Opens the device of a group with this definition text, and so many inputs and calculations: syncs it, reads it, and begins
 /// it anew where it has no finished layout or that of another text. A crash at any moment leaves what it might have left
-/// before, or what stands for the same versions and rows. It names the first byte of the first field that breaks the layout.
+/// before, or what stands for the same versions and rows. A device that breaks the layout is refused with the first byte of
+/// the first field that does.
 pub fn open_group<D: Disk>(
     alloc: Global,
     dev: &mut D,

@@ -14,7 +14,7 @@ use std::alloc::Global;
 // The largest kind of a row.
 const LAST_KIND: u8 = 3;
 
-// The largest number that a row may have, or its negative.
+// How far from 0 the number of a row may be.
 const MOST_NUMBER: u64 = 1_000_000_000_000_000_000;
 
 // So many rows from a place on, each of one of so many calculations and in one of so many windows.
@@ -147,7 +147,7 @@ fn is_calc_in_order(last: Option<BlockRow>, row: BlockRow) -> bool
     }
 }
 
-// Whether it may by its calculation and its window.
+// Whether a row may come behind the last one, by its calculation and its window.
 fn is_in_order(last: Option<BlockRow>, row: BlockRow) -> bool
     ensures { result ≡ is_in_order last row }
 {

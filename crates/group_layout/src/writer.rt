@@ -12,7 +12,7 @@ use trend_num::WantOfMemory;
 // The byte of a gate that is not opened yet.
 const CLOSED: u8 = 0;
 
-/// How many bytes a row has.
+// How many bytes a row has.
 pub(crate) const ROW_LEN: usize = 17;
 
 /// The bytes of a block behind its gate, up to the next gate, which is closed. Want of memory also comes where more rows changed

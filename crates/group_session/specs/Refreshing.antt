@@ -43,6 +43,7 @@ pub record ArePullsOf (durables : List (List Rec)) (tags : List ℕ) (copies : L
 
 -- ---- what a refresh leaves
 
+-- an entry that is a pull
 abbrev pub IsPull : Entry → Type 0
 IsPull (Pull group from upto) = ⊤
 IsPull other = ⊥

@@ -141,7 +141,7 @@ pub(crate) fn seen_of(number: Option<u64>) -> Seen
     }
 }
 
-// As many rows are the same as are told.
+// Compares rows. A difference has how many are the same (kept), and how many there are (told).
 fn compare_rows(found: &[Vec<CalcValue>], known: &[Vec<CalcValue>]) -> Result<(), Difference>
     requires as_many { length found.now ≡ length known.now }
     ensures same { OnOk result (lists_of found.now ≡ lists_of known.now) }

@@ -1,4 +1,4 @@
-// The questions of readers for values of calculations, on the tapes of groups.
+// The kind of work that readers leave on the tapes of groups.
 use group_book::Turn;
 use tape_audit::{Kind, Rows, Seen, Shown};
 use value_rows::Query;

@@ -14,7 +14,7 @@ pub fn all_records_are_durable()
         → s.summary.taken ≤ acked → durable_in def o tape ≡ s.records }
 {}
 
-/// Wherever a pull of a group ended, the tag had as many records for good: as it was opened, or by an earlier commit.
+/// Wherever a pull of a group ended, the tag had as many records for good: as it was opened, or by a commit on its tape.
 pub fn what_was_pulled_is_durable()
     ensures { (def : TagDef) (o : TagOpening) (tape : List Entry) (s : State) (acked group n upto : ℕ)
         → IsReplayed def o tape s acked → slice_get (pulled group tape) n ≡ Some upto → HadForGood def o tape upto }

@@ -117,7 +117,7 @@ fn save_refusal(group: u32, no: SaveNo) -> Status
     }
 }
 
-// Makes one turn of a group.
+// Refreshes a group once: pulls from the cells of its inputs, and takes what was pulled into account.
 fn refresh_once<C: Disk, D: Disk, L: Ledger>(
     alloc: Global,
     cells: &mut [Cell<C>],

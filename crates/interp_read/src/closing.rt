@@ -12,7 +12,7 @@ ghost use Rattle.interp_read.specs.Closing.{IsAfterAll, points_closed_by};
 use late_insert::Content;
 use trend_num::Point;
 
-/// The last of the first n points of a content.
+// The last of the first n points of a content.
 fn last_of(content: &Content, n: u32) -> Option<Point>
     requires { n ≤ length content.now.records }
     ensures value { result ≡ last_point (take n (points_of content.now.records)) }
@@ -25,7 +25,7 @@ fn last_of(content: &Content, n: u32) -> Option<Point>
     }
 }
 
-/// The held point, where nothing stands at its time.
+// The held point, where nothing stands at its time.
 pub(crate) fn added(content: &Content, held: Option<Point>) -> Option<Point>
     requires range { IfThere InRange held }
     requires last { IfThere (IsNotBefore content.now.records) held }
@@ -64,6 +64,7 @@ pub fn neighbours_at(content: &Content, held: Option<Point>, t: u64) -> Neighbou
     ensures before_range { IfSome result.before InRange }
     ensures after_range { IfSome result.after InRange }
 {
+    // Called for its clauses: the points rise, and are in range.
     let _len = content.len();
     let around = content.around(t);
     let next = Neighbours {

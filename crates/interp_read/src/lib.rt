@@ -2,7 +2,8 @@
 //!
 //! A content is closed by the tag's held point, where the caller gives one: the point counts as one more,
 //! unless something stands at its time. `Reads` of the model says what a list of points reads as, for lines
-//! and for the stairs of a step tag; each call here says that of the closed content. Reads take no memory.
+//! and for the stairs of a step tag; each call here says that of the closed content. A list of points and the copy
+//! of an answer take memory, and nothing else does.
 #![tactic(auto)]
 
 mod closing;

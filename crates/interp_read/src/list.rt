@@ -19,9 +19,10 @@ use trend_num::{Point, WantOfMemory};
 /// How many points a list has at most.
 pub const MOST_LISTED: u32 = 256;
 
-/// The first points of a question for points.
+/// The answer to a question for points.
 #[derive(Drop)]
 pub struct PointList {
+    /// The points from the one time to the other, the first 256 of them where they are more.
     pub list: Vec<Point>,
     /// Whether there are others.
     pub more: bool,
@@ -53,19 +54,20 @@ pub fn points(
     )
 }
 
-/// Places of a content, one after another: from the first on, before the other.
+// Places of a content, one after another: from the first on, before the other.
 #[derive(Clone, Copy)]
 struct Places {
     start: u32,
     end: u32,
 }
 
-/// The places of the points of a content from one time to another.
+// The places of the points of a content from one time to another.
 fn places_from_to(content: &Content, from: u64, to: u64) -> Places
     ensures points { points_from_to (points_of content.now.records) from to
         ≡ slice_range (points_of content.now.records) result.start result.end }
     ensures within { result.end ≤ length content.now.records }
 {
+    // Called for its clauses: the points rise, and are in range.
     let _len = content.len();
     Places {
         start: content.below(from),
@@ -73,7 +75,7 @@ fn places_from_to(content: &Content, from: u64, to: u64) -> Places
     }
 }
 
-/// The points at places one after another.
+// The points at places one after another.
 fn copied(
     alloc: Global,
     content: &Content,
@@ -90,7 +92,7 @@ fn copied(
     Ok(list)
 }
 
-/// The held point, where it is added to the content and stands from one time to another.
+// The held point, where it is added to the content and stands from one time to another.
 fn held_from_to(content: &Content, held: Option<Point>, from: u64, to: u64) -> Option<Point>
     requires range { IfThere InRange held }
     requires last { IfThere (IsNotBefore content.now.records) held }
@@ -103,7 +105,8 @@ fn held_from_to(content: &Content, held: Option<Point>, from: u64, to: u64) -> O
     }
 }
 
-/// The first of some points and of a last one, from the first of those points.
+// The list of some points with a last one behind them. `first` has the first of those points, as many as a list has at
+// most, and `more` tells whether there are others.
 fn completed(first: Vec<Point>, more: bool, last: Option<Point>) -> Result<PointList, WantOfMemory>
     ensures list { (all : List Point) → first.items ≡ take most_listed all → (IsTrue more ↔ (most_listed < length all))
         → IfOk result (λ p. p.list.items ≡ take most_listed (all ++ option_to_list last)) }
@@ -121,7 +124,7 @@ fn completed(first: Vec<Point>, more: bool, last: Option<Point>) -> Result<Point
     }
 }
 
-/// Adds a point to a list.
+// Adds a point to a list.
 fn push_point(list: &mut Vec<Point>, p: Point) -> Result<(), WantOfMemory>
     ensures { OnOk result (list.new.items ≡ list.old.items ++ p ∷ []) }
 {

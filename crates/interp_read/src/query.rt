@@ -6,7 +6,7 @@ use crate::list::PointList;
 use std::alloc::Global;
 use trend_num::{Reading, WantOfMemory};
 
-/// The answer to a question of the same name.
+/// What is answered to a question about a tag: each variant to the question of its name.
 #[derive(Drop)]
 pub enum Reply {
     At(Reading),

@@ -36,14 +36,14 @@ pub fn at_step(content: &Content, held: Option<Point>, t: u64) -> Reading
     read(content, held, true, t)
 }
 
-/// What a line or a stair reads at t.
+// What a line or a stair reads at t.
 fn read(content: &Content, held: Option<Point>, step: bool, t: u64) -> Reading
     requires range { IfThere InRange held }
     requires last { IfThere (IsNotBefore content.now.records) held }
     ensures value { result ≡ read_at step (points_closed_by held content.now.records) t }
     ensures readable { IsReadable result }
 {
-    // The points rise, and are in range.
+    // Called for its clauses: the points rise, and are in range.
     let _len = content.len();
     reading_of(neighbours_at(content, held, t), step, t)
 }
@@ -63,7 +63,7 @@ pub fn reading_of(next: Neighbours, step: bool, t: u64) -> Reading
     }
 }
 
-/// What stands between two points.
+// What stands between two points.
 fn reading_between(p: Point, q: Point, step: bool, t: u64) -> Reading
     requires first { InRange p }
     requires second { InRange q }

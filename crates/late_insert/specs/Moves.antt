@@ -15,10 +15,11 @@ pub record Listed : Type 0 where
 abbrev pub leaf_of : Page → Leaf
 leaf_of p = record { id = p.id; start = p.start; stair = p.stair }
 
+-- what stands for a leaf where a number has none
 abbrev pub no_leaf : Leaf
 no_leaf = record { id = 0; start = 0; stair = pos 0 }
 
--- those at these numbers
+-- the leaves at these numbers, in this order
 abbrev pub picked : List Leaf → List ℕ → List Leaf
 picked leaves order = map (λ i. slice_index_or leaves i no_leaf) order
 

@@ -87,6 +87,7 @@ abbrev pub AreApart : List ℕ → Type 0
 AreApart [] = Unit {0}
 AreApart (x ∷ xs) = All (λ y. y ≢ x) xs × AreApart xs
 
+-- the ids of the pages' frames
 abbrev pub ids_of : List Page → List ℕ
 ids_of pages = map (λ p. p.id) pages
 
@@ -105,8 +106,7 @@ pub record ArePages (pool : List (Option Frame)) (pages : List Page) : Type 0 wh
   -- and none of several is empty
   pub filled : 1 < length pages → All (λ p. 0 < length (page_in pool p)) pages
 
--- the page k is the one for the time t: no page before it has a record from t on, and none after it one up to
--- t
+-- the page k is the one for the time t: no page before it has a record from t on, and none after it one up to t
 pub record IsFor (pool : List (Option Frame)) (pages : List Page) (k t : ℕ) : Type 0 where
   pub within : k < length pages
   pub before : All (λ r. r.point.t < t) (records_of pool (take k pages))
@@ -125,7 +125,7 @@ pub record IsOn (pool : List (Option Frame)) (pages : List Page) (k place : ℕ)
   pub from : length (records_of pool (take k pages)) ≤ place
   pub upto : place < length (records_of pool (take (k + 1) pages))
 
--- a walk over the records of pages that has come to a place, and ends before another
+-- runs over the records of pages that have come to a place, and end before another
 pub record IsWalk (pool : List (Option Frame)) (pages : List Page) (k place end : ℕ) : Type 0 where
   pub paged : ArePages pool pages
   pub ordered : place ≤ end

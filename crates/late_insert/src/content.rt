@@ -230,7 +230,7 @@ impl Content {
         around_in(&self.pool, &self.pages, self.len, t)
     }
 
-    /// A walk over the points at the places from one on, before another.
+    /// The points at the places from one on, before another, in runs.
     pub fn runs(&self, first: u32, behind: u32) -> Runs<'_>
         requires order { first ≤ behind }
         requires within { behind ≤ length self.now.records }
@@ -299,6 +299,7 @@ impl Content {
     }
 }
 
+// Whether a record of this kind is late.
 fn is_late(kind: Kind) -> bool
     ensures { result ≡ is_late_record kind }
 {

@@ -9,8 +9,8 @@ use page_pool::FrameId;
 use std::alloc::{AllocError, Global};
 use std::marker::Model;
 
-/// A page of a content: its frame, the place of its first record, and that record's time. The frame has the
-/// totals of the line through its points; twice the area under their stair stands here.
+// A page of a content: its frame, the place of its first record, and that record's time. The frame has the
+// totals of the line through its points; twice the area under their stair stands here.
 #[derive(Drop)]
 pub(crate) struct Page {
     pub(crate) id: FrameId,
@@ -19,7 +19,7 @@ pub(crate) struct Page {
     pub(crate) stair: i128,
 }
 
-/// A page without its place.
+// A page without its place.
 #[derive(Drop)]
 struct Leaf {
     id: FrameId,
@@ -27,8 +27,8 @@ struct Leaf {
     stair: i128,
 }
 
-/// The list of a content's pages. A page stays where it was put first, and its number stands in a list in order of time.
-/// The places are a list of their own. So a page that is put among the others moves eight bytes a page, and a record four.
+// The list of a content's pages. A page stays where it was put first, and its number stands in a list in order of time.
+// The places are a list of their own. So a page that is put among the others moves eight bytes a page, and a record four.
 #[derive(Drop)]
 pub(crate) struct Directory {
     leaves: Vec<Leaf>,
@@ -52,7 +52,7 @@ impl Model for Directory {
         × (vec_capacity d.leaves < 2 ^ 32) };
 }
 
-/// By what of its first record a page is searched.
+// By what of its first record a page is searched.
 #[derive(Clone, Copy)]
 enum Key {
     Time,
@@ -60,7 +60,7 @@ enum Key {
 }
 
 impl Directory {
-    /// An empty list, with room for so many pages.
+    // An empty list, with room for so many pages.
     pub(crate) fn with_capacity(alloc: Global, places: u32) -> Result<Directory, AllocError>
         ensures { IfOk result (λ d. d ≡ record { items = []; places = places }) }
     {
@@ -74,14 +74,14 @@ impl Directory {
         })
     }
 
-    /// How many pages there are.
+    // How many pages there are.
     pub(crate) fn len(&self) -> usize
         ensures { result ≡ length self.now.items }
     {
         self.leaves.len()
     }
 
-    /// A page without its place.
+    // A page without its place.
     fn leaf(&self, k: usize) -> &Leaf
         requires { k < length self.now.items }
         ensures value { (d : Page) → leaf_of (slice_index_or self.now.items k d) ≡ result.now }
@@ -90,7 +90,7 @@ impl Directory {
         &self.leaves[self.order[k] as usize]
     }
 
-    /// The frame of a page.
+    // The frame of a page.
     pub(crate) fn id(&self, k: usize) -> &FrameId
         requires { k < length self.now.items }
         ensures value { (d : Page) → (slice_index_or self.now.items k d).id ≡ result.now }
@@ -99,7 +99,7 @@ impl Directory {
         &self.leaf(k).id
     }
 
-    /// The place of a page's first record.
+    // The place of a page's first record.
     pub(crate) fn first(&self, k: usize) -> u32
         requires { k < length self.now.items }
         ensures { (d : Page) → (slice_index_or self.now.items k d).first ≡ result }
@@ -107,7 +107,7 @@ impl Directory {
         self.firsts[k]
     }
 
-    /// The time of a page's first record.
+    // The time of a page's first record.
     pub(crate) fn start(&self, k: usize) -> u64
         requires { k < length self.now.items }
         ensures { (d : Page) → (slice_index_or self.now.items k d).start ≡ result }
@@ -115,7 +115,7 @@ impl Directory {
         self.leaf(k).start
     }
 
-    /// Twice the area under a page's stair.
+    // Twice the area under a page's stair.
     pub(crate) fn stair(&self, k: usize) -> i128
         requires { k < length self.now.items }
         ensures { (d : Page) → (slice_index_or self.now.items k d).stair ≡ result }
@@ -123,7 +123,7 @@ impl Directory {
         self.leaf(k).stair
     }
 
-    /// Where a page begins.
+    // Where a page begins.
     fn begin(&self, k: usize, key: Key) -> u64
         requires { k < length self.now.items }
         ensures { (d : Page) → begin_of key (slice_index_or self.now.items k d) ≡ result }
@@ -134,8 +134,8 @@ impl Directory {
         }
     }
 
-    /// The last page that begins at x or before it, or the first page. The last one is tried first, since records
-    /// mostly come in order.
+    // The last page that begins at x or before it, or the first page. The last one is tried first, since records
+    // mostly come in order.
     fn page_by(&self, key: Key, x: u64) -> usize
         requires some { 0 < length self.now.items }
         requires rising { AllPairs (λ p q. begin_of key p ≤ begin_of key q) self.now.items }
@@ -159,7 +159,7 @@ impl Directory {
         low
     }
 
-    /// The last page that starts at the time t or before it, or the first page.
+    // The last page that starts at the time t or before it, or the first page.
     pub(crate) fn page_for(&self, t: u64) -> usize
         requires some { 0 < length self.now.items }
         requires rising { AllPairs (λ p q. p.start ≤ q.start) self.now.items }
@@ -169,7 +169,7 @@ impl Directory {
         self.page_by(Key::Time, t)
     }
 
-    /// The last page whose first record stands at the place i or before it.
+    // The last page whose first record stands at the place i or before it.
     pub(crate) fn page_of(&self, i: u32) -> usize
         requires some { 0 < length self.now.items }
         requires rising { AllPairs (λ p q. p.first ≤ q.first) self.now.items }
@@ -179,7 +179,7 @@ impl Directory {
         self.page_by(Key::Place, u64::from(i))
     }
 
-    /// Puts a page behind the others.
+    // Puts a page behind the others.
     pub(crate) fn push(&mut self, page: Page)
         requires { length self.old.items < self.old.places }
         ensures { self.new ≡ record self.old { items = self.old.items ++ page ∷ [] } }
@@ -188,7 +188,7 @@ impl Directory {
         self.insert(behind, page);
     }
 
-    /// Puts a page before the one at a place.
+    // Puts a page before the one at a place.
     pub(crate) fn insert(&mut self, at: usize, page: Page)
         requires within { at ≤ length self.old.items }
         requires room { length self.old.items < self.old.places }
@@ -205,7 +205,7 @@ impl Directory {
         self.leaves.push_reserved(Leaf { id, start, stair });
     }
 
-    /// Writes the start and the stair of a page.
+    // Writes the start and the stair of a page.
     pub(crate) fn write(&mut self, k: usize, start: u64, stair: i128)
         requires { k < length self.old.items }
         ensures { (d : Page) → self.new ≡ record self.old {
@@ -217,7 +217,7 @@ impl Directory {
         leaf.stair = stair;
     }
 
-    /// Moves the first places of the pages behind the page k on.
+    // Moves the first places of the pages behind the page k on.
     pub(crate) fn move_on(&mut self, k: usize, by: u32)
         requires within { k < length self.old.items }
         requires small { All (λ p. p.first + by < 2 ^ 32) self.old.items }
@@ -229,7 +229,7 @@ impl Directory {
     }
 }
 
-/// Moves all but the last number up by one, and puts another one in front.
+// Moves all but the last number up by one, and puts another one in front.
 fn shift_in(numbers: &mut [u32], x: u32)
     requires { 0 < length numbers.old }
     ensures { numbers.new ≡ x ∷ take (length numbers.old - 1) numbers.old }
@@ -242,7 +242,7 @@ fn shift_in(numbers: &mut [u32], x: u32)
     numbers[0] = x;
 }
 
-/// Puts a number into a list that has room.
+// Puts a number into a list that has room.
 fn put_in(list: &mut Vec<u32>, at: usize, x: u32)
     requires within { at ≤ vec_len list.old }
     requires room { vec_len list.old < vec_capacity list.old }
@@ -254,7 +254,7 @@ fn put_in(list: &mut Vec<u32>, at: usize, x: u32)
     shift_in(&mut list[at..], x);
 }
 
-/// Moves the places behind the place k on.
+// Moves the places behind the place k on.
 fn move_places(places: &mut [u32], k: usize, by: u32)
     requires within { k < length places.old }
     requires small { All (λ n. n + by < 2 ^ 32) places.old }

@@ -12,7 +12,7 @@ use crate::page::{below_in, rec_at};
 use page_pool::Pool;
 use trend_num::{Point, Rec};
 
-/// Where a time stands among the records of pages.
+// Where a time stands among the records of pages.
 #[derive(Clone, Copy)]
 pub(crate) struct Gap {
     /// The page for the time.
@@ -21,7 +21,7 @@ pub(crate) struct Gap {
     pub place: u32,
 }
 
-/// The gap up to which all records are before the time t, and from which on none is.
+// The gap up to which all records are before the time t, and from which on none is.
 pub(crate) fn gap_in(pool: &Pool, pages: &Directory, t: u64) -> Gap
     requires pages { ArePages pool.now pages.now.items }
     requires few { length (records_of pool.now pages.now.items) < 2 ^ 32 }
@@ -37,7 +37,7 @@ pub(crate) fn gap_in(pool: &Pool, pages: &Directory, t: u64) -> Gap
     }
 }
 
-/// The record at a place.
+// The record at a place.
 pub(crate) fn rec_in(pool: &Pool, pages: &Directory, i: u32) -> Rec
     requires pages { ArePages pool.now pages.now.items }
     requires within { i < length (records_of pool.now pages.now.items) }
@@ -48,7 +48,7 @@ pub(crate) fn rec_in(pool: &Pool, pages: &Directory, i: u32) -> Rec
     rec_at(pool.frame(pages.id(k)), (i - pages.first(k)) as usize)
 }
 
-/// The record at a place. It is mostly on the page k, which is tried before any search.
+// The record at a place. It is mostly on the page k, which is tried before any search.
 pub(crate) fn rec_near(pool: &Pool, pages: &Directory, k: usize, i: u32) -> Rec
     requires pages { ArePages pool.now pages.now.items }
     requires page { k < length pages.now.items }
@@ -64,7 +64,7 @@ pub(crate) fn rec_near(pool: &Pool, pages: &Directory, k: usize, i: u32) -> Rec
     rec_in(pool, pages, i)
 }
 
-/// The last point before a gap.
+// The last point before a gap.
 fn last_before(pool: &Pool, pages: &Directory, gap: Gap) -> Option<Point>
     requires pages { ArePages pool.now pages.now.items }
     requires page { gap.page < length pages.now.items }
@@ -78,7 +78,7 @@ fn last_before(pool: &Pool, pages: &Directory, gap: Gap) -> Option<Point>
     Some(rec_near(pool, pages, gap.page, gap.place - 1).point)
 }
 
-/// The first point behind a gap, among so many.
+// The first point behind a gap, among so many.
 fn first_from(pool: &Pool, pages: &Directory, len: u32, gap: Gap) -> Option<Point>
     requires pages { ArePages pool.now pages.now.items }
     requires counted { len ≡ length (records_of pool.now pages.now.items) }
@@ -106,7 +106,7 @@ pub struct Around {
     pub after: Option<Point>,
 }
 
-/// What stands next to a time among so many records of pages.
+// What stands next to a time among so many records of pages.
 pub(crate) fn around_in(pool: &Pool, pages: &Directory, len: u32, t: u64) -> Around
     requires pages { ArePages pool.now pages.now.items }
     requires counted { len ≡ length (records_of pool.now pages.now.items) }

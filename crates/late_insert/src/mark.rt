@@ -5,7 +5,7 @@ ghost use Rattle.late_insert.specs.Pages.{kind_of};
 
 use trend_num::Kind;
 
-/// The kind of the record at a place.
+// The kind of the record at a place.
 pub(crate) fn kind_at(marks: u128, i: usize) -> Kind
     requires { i < 128 }
     ensures { result ≡ kind_of (bit_at marks i) }
@@ -17,7 +17,7 @@ pub(crate) fn kind_at(marks: u128, i: usize) -> Kind
     }
 }
 
-/// The bit of a kind.
+// The bit of a kind.
 fn bit_of(kind: Kind) -> u128
     ensures bit { kind_of result ≡ kind }
     ensures small { result < 2 }
@@ -28,7 +28,7 @@ fn bit_of(kind: Kind) -> u128
     }
 }
 
-/// The marks of `n` records, with one for a record that is inserted at a place among them.
+// The marks of `n` records, with one for a record that is inserted at a place among them.
 pub(crate) fn mark_inserted(marks: u128, n: usize, i: usize, kind: Kind) -> u128
     requires few { n < 128 }
     requires within { i ≤ n }
@@ -43,7 +43,7 @@ pub(crate) fn mark_inserted(marks: u128, n: usize, i: usize, kind: Kind) -> u128
     (high * 2 + bit_of(kind)) * (1 << i) + low
 }
 
-/// The marks of `n` records, where the one at a place is now of this kind. A Late one stays Late.
+// The marks of `n` records, where the one at a place is now of this kind. A Late one stays Late.
 pub(crate) fn mark_put(marks: u128, n: usize, i: usize, kind: Kind) -> u128
     requires few { n ≤ 128 }
     requires within { i < n }

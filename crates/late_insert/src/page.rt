@@ -12,7 +12,7 @@ use crate::total::{piece, point_at, refresh};
 use page_pool::Frame;
 use trend_num::{Kind, Rec};
 
-/// How many of these records, the first ones, make a run that rises in time and fits a page.
+// How many of these records, the first ones, make a run that rises in time and fits a page.
 pub(crate) fn run_len(recs: &[Rec]) -> usize
     requires some { 0 < length recs.now }
     ensures some { 0 < result }
@@ -29,7 +29,7 @@ pub(crate) fn run_len(recs: &[Rec]) -> usize
     most
 }
 
-/// How many records of a page are before t.
+// How many records of a page are before t.
 pub(crate) fn below_in(frame: &Frame, t: u64) -> usize
     requires recorded { IsRecorded frame.now }
     requires rising { IsRising (records_in frame.now) }
@@ -44,7 +44,7 @@ pub(crate) fn below_in(frame: &Frame, t: u64) -> usize
     count_below(&frame.times[..n], t)
 }
 
-/// The record at a place of a page.
+// The record at a place of a page.
 pub(crate) fn rec_at(frame: &Frame, i: usize) -> Rec
     requires recorded { IsRecorded frame.now }
     requires within { i < frame.now.len }
@@ -57,8 +57,8 @@ pub(crate) fn rec_at(frame: &Frame, i: usize) -> Rec
     }
 }
 
-/// Puts a record behind the others of a page, and adds it to the totals. Takes and returns twice the area
-/// under the stair.
+// Puts a record behind the others of a page, and adds it to the totals. Takes and returns twice the area
+// under the stair.
 fn append(frame: &mut Frame, stair: i128, rec: Rec) -> i128
     requires page { IsPage frame.old }
     requires some { 0 < frame.old.len }
@@ -78,7 +78,7 @@ fn append(frame: &mut Frame, stair: i128, rec: Rec) -> i128
     stair + piece(true, last, rec.point)
 }
 
-/// Stores a record at the place i among the others of a page, and leaves the totals.
+// Stores a record at the place i among the others of a page, and leaves the totals.
 fn store(frame: &mut Frame, i: usize, rec: Rec)
     requires recorded { IsRecorded frame.old }
     requires room { frame.old.len < 128 }
@@ -97,7 +97,7 @@ fn store(frame: &mut Frame, i: usize, rec: Rec)
     frame.len += 1;
 }
 
-/// Stores records of their own in a page, in place of what is there, and leaves the totals.
+// Stores records of their own in a page, in place of what is there, and leaves the totals.
 pub(crate) fn store_run(frame: &mut Frame, run: &[Rec])
     requires recorded { IsRecorded frame.old }
     requires few { length run.now ≤ 128 }
@@ -119,7 +119,7 @@ pub(crate) fn store_run(frame: &mut Frame, run: &[Rec])
     frame.len = run.len() as u32;
 }
 
-/// Which of two records at one time stands there: the newer one, but no Kept one in place of a Late one.
+// Which of two records at one time stands there: the newer one, but no Kept one in place of a Late one.
 fn over(rec: Rec, old: Rec) -> Rec
     requires same { rec.point.t ≡ old.point.t }
     requires new_range { InRange rec.point }
@@ -134,7 +134,7 @@ fn over(rec: Rec, old: Rec) -> Rec
     }
 }
 
-/// Puts a record over the one that is at its time. Returns twice the area under the stair.
+// Puts a record over the one that is at its time. Returns twice the area under the stair.
 fn replace(frame: &mut Frame, i: usize, rec: Rec) -> i128
     requires page { IsPage frame.old }
     requires within { i < frame.old.len }
@@ -150,8 +150,8 @@ fn replace(frame: &mut Frame, i: usize, rec: Rec) -> i128
     refresh(frame)
 }
 
-/// Puts a record behind the others of a page, if it has others. Takes and returns twice the area under the
-/// stair.
+// Puts a record behind the others of a page, if it has others. Takes and returns twice the area under the
+// stair.
 pub(crate) fn push(frame: &mut Frame, stair: i128, rec: Rec) -> i128
     requires page { IsPage frame.old }
     requires room { frame.old.len < 128 }
@@ -168,7 +168,7 @@ pub(crate) fn push(frame: &mut Frame, stair: i128, rec: Rec) -> i128
     refresh(frame)
 }
 
-/// What a put makes of a page.
+// What a put makes of a page.
 #[derive(Clone, Copy)]
 pub(crate) struct Grown {
     /// By how many records it grew.
@@ -177,7 +177,7 @@ pub(crate) struct Grown {
     pub stair: i128,
 }
 
-/// Puts a record into a page that is not full.
+// Puts a record into a page that is not full.
 pub(crate) fn put_rec(frame: &mut Frame, stair: i128, rec: Rec) -> Grown
     requires page { IsPage frame.old }
     requires rising { IsRising (records_in frame.old) }
@@ -204,7 +204,7 @@ pub(crate) fn put_rec(frame: &mut Frame, stair: i128, rec: Rec) -> Grown
     Grown { by: 1, stair }
 }
 
-/// The upper half of a page that was cut, with twice the areas under the stairs of both halves.
+// The upper half of a page that was cut, with twice the areas under the stairs of both halves.
 #[derive(Drop)]
 pub(crate) struct Halves {
     pub upper: Frame,
@@ -212,7 +212,7 @@ pub(crate) struct Halves {
     pub lower_stair: i128,
 }
 
-/// Takes the upper half of a full page out of it.
+// Takes the upper half of a full page out of it.
 pub(crate) fn cut(frame: &mut Frame) -> Halves
     requires page { IsPage frame.old }
     requires full { frame.old.len ≡ 128 }

@@ -15,7 +15,7 @@ use crate::total::refresh;
 use page_pool::Pool;
 use trend_num::Rec;
 
-/// Takes the first page, which is empty.
+// Takes the first page, which is empty.
 pub(crate) fn first_page(pool: &mut Pool, pages: &mut Directory)
     requires none { pages.old.items ≡ [] }
     requires spare { 0 < spare_of pool.old }
@@ -36,7 +36,7 @@ pub(crate) fn first_page(pool: &mut Pool, pages: &mut Directory)
     });
 }
 
-/// Whether the last page is full, and all records are before the time t.
+// Whether the last page is full, and all records are before the time t.
 pub(crate) fn is_full_before(pool: &Pool, pages: &Directory, t: u64) -> bool
     requires pages { ArePages pool.now pages.now.items }
     ensures before { IsTrue result → All (λ r. r.point.t < t) (records_of pool.now pages.now.items) }
@@ -49,7 +49,7 @@ pub(crate) fn is_full_before(pool: &Pool, pages: &Directory, t: u64) -> bool
     frame.len == 128 && frame.times[127] < t
 }
 
-/// Puts a run of records behind all others, in a page of its own. So pages that are filled in order are full.
+// Puts a run of records behind all others, in a page of its own. So pages that are filled in order are full.
 pub(crate) fn open_page(pool: &mut Pool, pages: &mut Directory, len: u32, run: &[Rec])
     requires pages { ArePages pool.old pages.old.items }
     requires counted { len ≡ length (records_of pool.old pages.old.items) }
@@ -80,7 +80,7 @@ pub(crate) fn open_page(pool: &mut Pool, pages: &mut Directory, len: u32, run: &
     });
 }
 
-/// The page for a time, which is split before where it is full.
+// The page for a time, which is split before where it is full.
 pub(crate) fn make_room(pool: &mut Pool, pages: &mut Directory, t: u64) -> usize
     requires pages { ArePages pool.old pages.old.items }
     requires spare { 0 < spare_of pool.old }
@@ -104,7 +104,7 @@ pub(crate) fn make_room(pool: &mut Pool, pages: &mut Directory, t: u64) -> usize
     if pages.start(k + 1) <= t { k + 1 } else { k }
 }
 
-/// Splits a full page into two halves.
+// Splits a full page into two halves.
 fn split(pool: &mut Pool, pages: &mut Directory, k: usize)
     requires pages { ArePages pool.old pages.old.items }
     requires spare { 0 < spare_of pool.old }
@@ -137,7 +137,7 @@ fn split(pool: &mut Pool, pages: &mut Directory, k: usize)
     pages.insert(k + 1, page);
 }
 
-/// Puts a record into the page for its time. Returns by how many records the pages grew.
+// Puts a record into the page for its time. Returns by how many records the pages grew.
 pub(crate) fn put_at(pool: &mut Pool, pages: &mut Directory, k: usize, rec: Rec) -> u32
     requires pages { ArePages pool.old pages.old.items }
     requires page { IsFor pool.old pages.old.items k rec.point.t }

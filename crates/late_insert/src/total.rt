@@ -10,7 +10,7 @@ ghost use Rattle.late_insert.specs.Totals.{greatest_of, least_of};
 use page_pool::Frame;
 use trend_num::Point;
 
-/// The point at a place of a page.
+// The point at a place of a page.
 pub(crate) fn point_at(frame: &Frame, i: usize) -> Point
     requires recorded { IsRecorded frame.now }
     requires within { i < frame.now.len }
@@ -23,7 +23,7 @@ pub(crate) fn point_at(frame: &Frame, i: usize) -> Point
     }
 }
 
-/// A length of time times a sum of two values.
+// A length of time times a sum of two values.
 fn product(length: u64, sum: i64) -> i128
     requires length { length ≤ last_time }
     requires sum { unsigned_abs sum ≤ 2 * largest_value }
@@ -47,7 +47,7 @@ pub fn piece(step: bool, p: Point, q: Point) -> i128
     product(length, p.v + q.v)
 }
 
-/// Twice the area under the line or the stair through the points from a place on, before another.
+// Twice the area under the line or the stair through the points from a place on, before another.
 pub(crate) fn area_between(frame: &Frame, step: bool, start: usize, end: usize) -> i128
     requires recorded { IsRecorded frame.now }
     requires some { start < end }
@@ -64,7 +64,7 @@ pub(crate) fn area_between(frame: &Frame, step: bool, start: usize, end: usize) 
     area
 }
 
-/// The least value of the points from a place on, before another.
+// The least value of the points from a place on, before another.
 pub(crate) fn low_between(frame: &Frame, start: usize, end: usize) -> i64
     requires recorded { IsRecorded frame.now }
     requires some { start < end }
@@ -78,7 +78,7 @@ pub(crate) fn low_between(frame: &Frame, start: usize, end: usize) -> i64
     low
 }
 
-/// The greatest value of the points from a place on, before another.
+// The greatest value of the points from a place on, before another.
 pub(crate) fn high_between(frame: &Frame, start: usize, end: usize) -> i64
     requires recorded { IsRecorded frame.now }
     requires some { start < end }
@@ -92,7 +92,7 @@ pub(crate) fn high_between(frame: &Frame, start: usize, end: usize) -> i64
     high
 }
 
-/// Totals of all points of a page.
+// Totals of all points of a page.
 #[derive(Clone, Copy)]
 struct Totals {
     line: i128,
@@ -101,7 +101,7 @@ struct Totals {
     high: i64,
 }
 
-/// The totals of all points of a page, by one pass over them.
+// The totals of all points of a page, by one pass over them.
 fn totals_of(frame: &Frame) -> Totals
     requires recorded { IsRecorded frame.now }
     requires some { 0 < frame.now.len }
@@ -128,7 +128,7 @@ fn totals_of(frame: &Frame) -> Totals
     all
 }
 
-/// Counts the totals of a page again. Returns twice the area under its stair.
+// Counts the totals of a page again. Returns twice the area under its stair.
 pub(crate) fn refresh(frame: &mut Frame) -> i128
     requires recorded { IsRecorded frame.old }
     requires some { 0 < frame.old.len }

@@ -1,4 +1,4 @@
-// A walk over the points of a content, in runs of points that stand in one page.
+// The points of a content in order, in runs of points that stand in one page.
 ghost use Rattle.std.specs.Prelude.{◌≡◌, ◌^◌, ◌<◌, ◌≤◌, [], ◌++◌, IfNone, IfSome, Some, length, slice_get};
 ghost use Rattle.std.specs.Prelude.{slice_range};
 ghost use Rattle.trend_num.specs.Ranges.{InRange};
@@ -87,7 +87,7 @@ impl<'a> Run<'a> {
     }
 }
 
-/// A walk over points of a content. It is seen as the list of the points that are still to come.
+/// Points of a content, a run at a time. It is seen as the list of the points that are still to come.
 #[derive(Drop)]
 pub struct Runs<'a> {
     pool: &'a Pool,
@@ -111,7 +111,7 @@ impl<'a> Model for Runs<'a> {
     ghost invariant = { λ w. IsWalk w.pool.now w.pages.now.items w.page w.place w.end };
 }
 
-/// A walk over the points of pages from a place on, before another.
+// The points of pages from a place on, before another, in runs.
 pub(crate) fn runs_in<'a>(pool: &'a Pool, pages: &'a Directory, first: u32, behind: u32) -> Runs<'a>
     requires pages { ArePages pool.now pages.now.items }
     requires order { first ≤ behind }

@@ -8,8 +8,11 @@ use archive_file::ScanNo;
 /// So many bytes at a place, and whether they keep the rule of their field.
 #[derive(Clone, Copy)]
 pub struct Field {
+    /// Where it begins, in bytes from the start of the image.
     pub place: usize,
+    /// How many bytes it has.
     pub size: usize,
+    /// Whether these bytes keep its rule; of no meaning where they are not there.
     pub is_kept: bool,
 }
 

@@ -28,7 +28,7 @@ pub record RefusesCommit (D : Type 0) (why : LogCommitNo) : Type 0 where
   pub log : Told D
   pub broken : log.failed ≡ true
 
--- how a worker is refused at its next row, of which one stands at this place: its put, or the commit that was due behind it
+-- how a worker is refused that has done so many rows: at the put of its next one, or at the commit that was due behind it
 abbrev pub EndsAt : Type 0 → ℕ → List RawRow → ℕ → Ending → Type 0
 EndsAt D collector rows done (Put why) =
     IsSomeAnd (slice_get rows done) (λ row. RefusesPut D why (row_of collector (done + 1) row))

@@ -14,6 +14,7 @@ pub enum Ending {
     Put(PutRowNo),
     /// The log acknowledged nothing after its next row, and not for want of memory.
     Commit(LogCommitNo),
+    /// No memory was found for the commit after its next row.
     WantOfMemory,
 }
 

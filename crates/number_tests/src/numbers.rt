@@ -1,4 +1,4 @@
-// Numbers, names and comparisons at their edges.
+// Numbers and names at their edges, and comparisons where both sides are equal, or nearly so.
 ghost use Rattle.std.specs.Prelude.{◌≡◌, ◌<◌};
 
 use std::cmp::Ordering;
@@ -9,7 +9,7 @@ use std::sync::ledger::{Blank, Ledger};
 use std::test::Fail;
 use trend_num::{Point, Steps, deviates, in_range, line_at, name_from, numeral, slope_cmp};
 
-// A sign and 1 to 20 digits are a numeral.
+// 1 to 20 digits are a numeral; a `-` may stand before them.
 const NUMERALS: &str = "\
 0 => Some(0)
 -0 => Some(0)

@@ -18,7 +18,7 @@ empty_frame = record {
 abbrev pub frame_at : List (Option Frame) → ℕ → Option Frame
 frame_at pool id = slice_index_or pool id None
 
--- the id is of this pool: its frame was taken
+-- a frame is taken at the place of this id
 abbrev pub IsHeld : List (Option Frame) → ℕ → Type 0
 IsHeld pool id = IsSome (frame_at pool id)
 

@@ -8,13 +8,13 @@ ghost use Rattle.page_pool.specs.Pool.{empty_frame};
 pub struct Frame {
     /// How many points there are.
     pub len: u32,
-    /// The time of each point.
+    /// The time of each point, in milliseconds from 1970.
     pub times: [u64; 128],
-    /// The value of each point.
+    /// The value of each point, in value units.
     pub values: [i64; 128],
-    /// A bit for each point, the first one the lowest.
+    /// A bit for each point, the first one the lowest: set where the point came late.
     pub late: u128,
-    /// Twice the area under the points.
+    /// Twice the area under the line through the points, in value units times milliseconds.
     pub area: i128,
     /// The least value.
     pub low: i64,
@@ -22,7 +22,7 @@ pub struct Frame {
     pub high: i64,
 }
 
-/// A frame of no points.
+// A frame of no points.
 pub(crate) fn empty() -> Frame
     ensures { result ≡ empty_frame }
 {

@@ -89,8 +89,8 @@ fn same_def(a: &TagDef, b: &TagDef) -> bool
     same_name(&a.name, &b.name) && same_tuning(&a.tuning, &b.tuning) && a.step == b.step
 }
 
-/// Whether records that are known are the first of those that were found. Where they are not, so many of them are as are kept,
-/// of as many as are told.
+/// Compares records that are known with the first of those that were found. A difference has how many of the known ones are
+/// the same before it (kept), and how many are known (told).
 pub fn compare_records(found: &[Rec], known: &[Rec]) -> Result<(), Difference>
     ensures same { OnOk result (known.now ≡ take (length known.now) found.now) }
     ensures differs { IfErr result (λ d. RecordsDiffer found.now known.now d.kept d.told) }

@@ -47,7 +47,7 @@ line_of WantOfMemory = codes "fault: memory\n"
 line_of (OtherPlant at) = codes "fault: other plant " ++ decimal at ++ codes "\n"
 line_of (BadName word) = codes "fault: name " ++ decimal word ++ codes "\n"
 
--- a run that ended well prints nothing, and neither does one that could not write
+-- a run that ended well prints no line, and neither does one that could not write
 abbrev pub IsSilent : Status → Type 0
 IsSilent Done = Unit {0}
 IsSilent WriteFault = Unit {0}

@@ -10,7 +10,7 @@ use Rattle.plant_status.specs.declared.unit.Unit.TheVariants.{Tag, Group, Log}
 use Rattle.plant_status.specs.declared.file.FileId.{FileId}
 use Rattle.plant_status.specs.declared.file.FileId.TheVariants.{Input, Base, Plan, Calendar, Collector, Reader}
 
--- files are numbered from 0 in a run, and from 1 in a line
+-- collectors and readers are numbered from 0 in a status, and from 1 in a line
 abbrev pub file_text : FileId → List ℕ
 file_text Input = codes "input"
 file_text Base = codes "base"

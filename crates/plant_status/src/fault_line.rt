@@ -37,7 +37,7 @@ impl Line {
         self.text.as_str().as_bytes()
     }
 
-    /// The empty line.
+    // The empty line.
     pub(crate) fn empty() -> Self
         ensures { result ≡ [] }
     {
@@ -46,7 +46,7 @@ impl Line {
         }
     }
 
-    /// The start of a line that tells of a fault.
+    // The start of a line that tells of a fault.
     pub(crate) fn fault(kind: &str) -> Self
         requires { length kind.now ≤ 20 }
         ensures text { result ≡ codes "fault: " ++ kind.now }
@@ -59,7 +59,7 @@ impl Line {
         line
     }
 
-    /// The line with a space and a word after it.
+    // The line with a space and a word after it.
     pub(crate) fn word(mut self, word: &str) -> Self
         requires { length self + length word.now < 120 }
         ensures text { result ≡ self ++ codes " " ++ word.now }
@@ -71,7 +71,7 @@ impl Line {
         self
     }
 
-    /// The line with a space and a number after it.
+    // The line with a space and a number after it.
     pub(crate) fn number(self, number: u64) -> Self
         requires { length self + 20 < 120 }
         ensures text { result ≡ self ++ codes " " ++ decimal number }
@@ -82,7 +82,7 @@ impl Line {
         self.word(digits.format(number))
     }
 
-    /// The same of a number of ten digits at most.
+    // The same of a number of ten digits at most.
     pub(crate) fn small(self, number: u32) -> Self
         requires { length self + 10 < 120 }
         ensures text { result ≡ self ++ codes " " ++ decimal number }
@@ -93,7 +93,7 @@ impl Line {
         self.word(digits.format(number))
     }
 
-    /// The line with a space, a word, a space and a number of ten digits at most after it.
+    // The line with a space, a word, a space and a number of ten digits at most after it.
     pub(crate) fn named(self, word: &str, number: u32) -> Self
         requires { length self + length word.now + 11 < 120 }
         ensures text { result ≡ self ++ codes " " ++ word.now ++ codes " " ++ decimal number }
@@ -103,7 +103,7 @@ impl Line {
         self.word(word).small(number)
     }
 
-    /// The line with a space and a tag, a group or the log after it.
+    // The line with a space and a tag, a group or the log after it.
     pub(crate) fn unit(self, unit: Unit) -> Self
         requires { length self + 27 < 120 }
         ensures text { result ≡ self ++ codes " " ++ unit_text unit }
@@ -117,7 +117,7 @@ impl Line {
         }
     }
 
-    /// The line with a space and a byte after it, or `end` where there is none.
+    // The line with a space and a byte after it, or `end` where there is none.
     pub(crate) fn byte(self, byte: Option<u8>) -> Self
         requires { length self + 3 < 120 }
         ensures text { result ≡ self ++ codes " " ++ byte_word byte }
@@ -134,7 +134,7 @@ impl Line {
         }
     }
 
-    /// The line with a space and the name of a file after it.
+    // The line with a space and the name of a file after it.
     pub(crate) fn file(self, file: FileId) -> Self
         requires { length self + 31 < 120 }
         ensures text { result ≡ self ++ codes " " ++ file_text file }
@@ -151,7 +151,7 @@ impl Line {
         }
     }
 
-    /// The line, ended by its line feed.
+    // The line, ended by its line feed.
     pub(crate) fn end(mut self) -> Self
         requires { length self < 120 }
         ensures text { result ≡ self ++ codes "\n" }
@@ -161,7 +161,7 @@ impl Line {
         self
     }
 
-    /// Appends a text.
+    // Appends a text.
     fn push(&mut self, text: &str)
         requires { length self.old + length text.now ≤ 120 }
         ensures { self.new ≡ self.old ++ text.now }

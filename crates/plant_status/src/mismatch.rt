@@ -20,7 +20,7 @@ pub enum Place {
     Windows { group: u32 },
     /// What a tag or a group was when it was opened.
     Opening { unit: Unit },
-    /// The records that a group pulled of an input in a refresh of this number.
+    /// The records that a group pulled of an input in the refresh of this number, counted from 0.
     Pull { group: u32, input: u32, turn: u32 },
     /// How often a group was refreshed.
     Turns { group: u32 },
@@ -47,7 +47,8 @@ pub enum Seen {
         row: u64,
         query: TagQuery,
     },
-    /// A question of a reader for the value of a calculation in a window.
+    /// A question of a reader for the value of a calculation in a window. Rows are counted from 1; readers, the
+    /// calculations of a group and windows from 0.
     Row {
         reader: u32,
         row: u64,

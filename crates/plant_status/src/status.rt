@@ -17,7 +17,7 @@ pub enum Status {
     Done,
     /// The words of the command line are not understood.
     BadWords,
-    /// The base or the plan breaks a rule first at this place: the number of a table from 0, and a place in a
+    /// A base, a plan or a calendar breaks this rule first: in the table of this number, from 0, and at this byte of a
     /// formula's text. Both are 0 where the rule is of the whole text. The line prints all three as they are.
     BadText {
         file: FileId,
@@ -25,7 +25,7 @@ pub enum Status {
         place: u32,
         at: u32,
     },
-    /// A row of a file is refused. The line prints `row` as it is.
+    /// A row of a file, counted from 1, is refused for its first reason. The line prints `row` as it is.
     BadRow {
         file: FileId,
         row: u64,
@@ -54,7 +54,8 @@ pub enum Status {
         found: TagDef,
         wanted: TagDef,
     },
-    /// A quantity is over its limit. The line names both `what` and `number`.
+    /// A quantity is, or would be, over its limit. `number` is how many there are or would be, or the first number that
+    /// is too many. The line names both.
     Limit {
         what: What,
         number: u64,
@@ -71,7 +72,7 @@ pub enum Status {
     },
     /// No memory was found.
     WantOfMemory,
-    /// The log is that of another plant: the names of its tags differ first at this place, or end there.
+    /// The log is that of another plant: its tags' names, a line each, differ first at this byte, from 0, or end there.
     OtherPlant {
         at: u32,
     },
@@ -104,7 +105,7 @@ pub fn code(status: &Status) -> u8
     }
 }
 
-/// The line that a status prints. `Done` and `WriteFault` print nothing.
+/// The line that a status prints. `Done` and `WriteFault` have none.
 pub fn line(status: &Status) -> Line
     ensures text { result ≡ line_of status.now }
     ensures silent { IsSilent status.now → result ≡ [] }
@@ -148,7 +149,7 @@ pub fn line(status: &Status) -> Line
     }
 }
 
-/// The line of a text that breaks a rule.
+// The line of a text that breaks a rule.
 fn bad_text(file: FileId, rule: u8, place: u32, at: u32) -> Line
     ensures text { result ≡ line_of (Status.BadText file rule place at) }
     ensures one_line { IsLine result }

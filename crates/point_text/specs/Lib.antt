@@ -1,5 +1,5 @@
--- what the public calls mean
+-- what whole texts read as, and what is printed
 pub mod Row
 pub mod Text
--- what private functions alone cite
+-- what the calls on one line mean
 pub mod FirstPoint

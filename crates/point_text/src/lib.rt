@@ -4,7 +4,7 @@
 //! its first reason, or more lines than there may be. `first_point` reads one line of a text of which more may come.
 //! Most lines are plain: `plain_point` reads them in one pass, eight digits at a time (`plain_line`). Any other is found
 //! first, split at its comma, and its numerals read and tested (`line_reader`). Both are proved to read the same.
-//! `short_line` stands for the begin of a line that is too long to have a point. `write_archive` prints records and the
+//! `short_line` stands for the front of a line that is too long to have a point. `write_archive` prints records and the
 //! held point, a piece of fixed size at a time (`printer`); it takes no memory.
 #![tactic(auto)]
 

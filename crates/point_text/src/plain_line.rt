@@ -14,10 +14,10 @@ ghost use Rattle.point_text.specs.FirstPoint.{EndsAt, IsField, IsFirstPoint};
 
 use trend_num::{MAX_T, MAX_V, Point};
 
-/// The most digits of a number in a plain line.
+// The most digits of a number in a plain line.
 const PLAIN_DIGITS: usize = 16;
 
-/// The most bytes of a plain line: two numbers, a comma, a sign, a carriage return and a line feed.
+// The most bytes of a plain line: two numbers, a comma, a sign, a carriage return and a line feed.
 const PLAIN_BYTES: usize = 2 * PLAIN_DIGITS + 4;
 
 /// Eight digits that lines began with, as a word, and their number: lines that follow one another mostly begin alike.
@@ -38,7 +38,7 @@ impl Front {
         }
     }
 
-    /// The number of a word of eight digits, which is kept in place of the last one.
+    // The number of a word of eight digits, which is kept in place of the last one.
     #[inline(always)]
     fn number_of(&mut self, word: u64) -> Option<u64>
         ensures { IfSome result (λ n. (bytes : List ℕ) → IsEightBytes bytes → word ≡ number_l 256 bytes
@@ -75,7 +75,7 @@ pub fn plain_point<'t>(text: &'t [u8], front: &mut Front) -> Option<(Point, &'t 
     point_after(text, t, comma)
 }
 
-/// The time that a text begins with, and the index after its digits.
+// The time that a text begins with, and the index after its digits.
 #[inline(always)]
 fn time(text: &[u8], front: &mut Front) -> Option<(u64, usize)>
     requires { PLAIN_DIGITS < length text.now }
@@ -92,7 +92,7 @@ fn time(text: &[u8], front: &mut Front) -> Option<(u64, usize)>
     Some((t, end))
 }
 
-/// The time of thirteen digits, from 2001 to 2286, that a text begins with.
+// The time of thirteen digits that a text begins with: so are those from 2001 to 2286 spelled.
 #[inline(always)]
 fn usual_time(text: &[u8], front: &mut Front) -> Option<u64>
     requires { PLAIN_DIGITS < length text.now }
@@ -107,7 +107,7 @@ fn usual_time(text: &[u8], front: &mut Front) -> Option<u64>
     Some(high.wrapping_mul(100_000).wrapping_add(low))
 }
 
-/// The point of a plain line with this time and this place of its comma, and what follows the line.
+// The point of a plain line with this time and this place of its comma, and what follows the line.
 #[inline(always)]
 fn point_after(text: &[u8], t: u64, comma: usize) -> Option<(Point, &[u8])>
     requires time { IsField text.now 0 comma 44 t }
@@ -127,7 +127,7 @@ fn point_after(text: &[u8], t: u64, comma: usize) -> Option<(Point, &[u8])>
     Some((Point { t, v }, &text[feed + 1..]))
 }
 
-/// The amount of a value that the digits from an index on spell, and the index after them.
+// The amount of a value that the digits from an index on spell, and the index after them.
 #[inline(always)]
 fn amount(text: &[u8], from: usize) -> Option<(u64, usize)>
     requires { from + PLAIN_DIGITS < length text.now }
@@ -148,7 +148,7 @@ fn amount(text: &[u8], from: usize) -> Option<(u64, usize)>
     Some((size, end))
 }
 
-/// The index of the line feed that ends a line whose digits end here, after `\r` or not.
+// The index of the line feed that ends a line whose digits end here, after `\r` or not.
 #[inline(always)]
 fn feed_at(text: &[u8], end: usize) -> Option<usize>
     requires { end + 1 < length text.now }
@@ -164,7 +164,7 @@ fn feed_at(text: &[u8], end: usize) -> Option<usize>
     None
 }
 
-/// The number that the digits from an index on spell, and the index after them. Digits past the sixteenth are left.
+// The number that the digits from an index on spell, and the index after them. Digits past the sixteenth are left.
 #[inline(always)]
 fn digits(bytes: &[u8], at: usize) -> (u64, usize)
     requires { at + PLAIN_DIGITS ≤ length bytes.now }
@@ -184,7 +184,7 @@ fn digits(bytes: &[u8], at: usize) -> (u64, usize)
     )
 }
 
-/// The powers of ten that shift a number by up to eight digits.
+// The powers of ten that shift a number by up to eight digits.
 const TENS: [u64; 9] = [
     1,
     10,
@@ -197,7 +197,7 @@ const TENS: [u64; 9] = [
     100_000_000,
 ];
 
-/// A power of ten.
+// A power of ten.
 #[inline(always)]
 fn ten_to(n: usize) -> u64
     requires { n ≤ 8 }
@@ -206,7 +206,7 @@ fn ten_to(n: usize) -> u64
     TENS[n]
 }
 
-/// How many digits a word's bytes begin with, and the number that they spell.
+// How many digits a word's bytes begin with, and the number that they spell.
 #[inline(always)]
 fn digits_of_word(word: u64) -> (usize, u64)
     ensures most { result.0 ≤ 8 }
@@ -222,7 +222,7 @@ fn digits_of_word(word: u64) -> (usize, u64)
     (count as usize, value_of_eight(keep_first(lanes, count)))
 }
 
-/// The same of a word that follows eight digits: most times have five more.
+// The same of a word behind eight digits. Mostly five of its bytes are digits, since a time mostly has thirteen.
 #[inline(always)]
 fn more_digits(word: u64) -> (usize, u64)
     ensures most { result.0 ≤ 8 }
@@ -237,7 +237,7 @@ fn more_digits(word: u64) -> (usize, u64)
     digits_of_word(word)
 }
 
-/// The eight bytes from an index on, the first of them the lowest.
+// The eight bytes from an index on, the first of them the lowest.
 #[inline(always)]
 fn word_at(bytes: &[u8], at: usize) -> u64
     requires { at + 8 ≤ length bytes.now }
@@ -255,7 +255,7 @@ fn word_at(bytes: &[u8], at: usize) -> u64
     ])
 }
 
-/// The high bit of each byte that is 10 or more.
+// The high bit of each byte that is 10 or more.
 #[inline(always)]
 fn flags_from_ten(word: u64) -> u64
     ensures { (byte : ℕ → ℕ) → ((k : ℕ) → byte k < 256) → word ≡ digits_from byte 0 8
@@ -265,7 +265,7 @@ fn flags_from_ten(word: u64) -> u64
     ((word & 0x7f7f_7f7f_7f7f_7f7f) + 0x7676_7676_7676_7676 | word) & 0x8080_8080_8080_8080
 }
 
-/// The word with its first `count` bytes moved up to the end, and zeros below them.
+// The word with its first `count` bytes moved up to the end, and zeros below them.
 #[inline(always)]
 fn keep_first(word: u64, count: u32) -> u64
     requires { count < 8 }
@@ -275,7 +275,7 @@ fn keep_first(word: u64, count: u32) -> u64
     word << (56 - 8 * count) << 8
 }
 
-/// The number that eight digits spell, the first of them in the lowest byte: first each two as one number, then all four.
+// The number that eight digits spell, the first of them in the lowest byte: first each two as one number, then all four.
 #[inline(always)]
 fn value_of_eight(word: u64) -> u64
     ensures { (ds : List ℕ) → IsEightDigits ds → word ≡ number_l 256 ds

@@ -1,4 +1,5 @@
--- What is looked up for the queries of readers: where answers stand on tapes, and which points closed the lines of tags. For private functions: no public call cites it.
+-- What is looked up for the queries of readers: where answers stand on tapes, and which points closed the lines of tags. For
+-- private functions: no public call cites it.
 use Rattle.std.specs.Prelude.{◌≡◌, ℕ, ◌+◌, ◌<◌, Bool, true, false, List, [], length, nat_eq, position, slice_get, slice_index_or, if◌then◌else◌}
 use Rattle.std.specs.Prelude.{Option, None, Some}
 use Rattle.std.specs.List.{list_any}

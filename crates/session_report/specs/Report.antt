@@ -61,7 +61,7 @@ abbrev pub answer_of_group : Option Turn → ReplyText
 answer_of_group (Some (turn.Ask reader row calc k reply)) = Row reply
 answer_of_group other = Row None
 
--- what a reader is told, both by their places, to a query: `notes` is the place of the first reader's note
+-- what the reader at a place is told to its query at a place; `notes` is the place of the first reader's note
 abbrev pub reply_to : Session → ℕ → ℕ → ℕ → Query → ReplyText
 reply_to s notes reader place (query.Tag tag asked) =
     answer_of_tag (first_by tag_asker reader (place + 1) (tag_tape s.tags.items tag))

@@ -20,7 +20,7 @@ reaches t rs = list_any (λ r. not (is_late_record r.kind) && nat_le t r.point.t
 abbrev pub is_complete : Grid → List (List Rec) → ℕ → Bool
 is_complete w rss k = list_all (reaches (window_to w k)) rss
 
--- the time behind the greatest one of the Kept records, and 0 where there is none
+-- one more than the greatest time of the Kept records, and 0 where there is none
 abbrev pub kept_end : List Rec → ℕ
 kept_end [] = 0
 kept_end (r ∷ rs) = if is_late_record r.kind then kept_end rs else max (r.point.t + 1) (kept_end rs)

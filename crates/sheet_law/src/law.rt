@@ -26,7 +26,7 @@ pub fn late_records_touch_their_stretch()
         ≡ window_value step m (points_of (listed rs)) from to }
 {}
 
-/// A record that is after every kept one changes no window that these had reached.
+/// A record that is after every Kept one changes no window that these had reached.
 pub fn kept_records_touch_no_complete_window()
     ensures { (step : Bool) (m : Measure) (rs : List Rec) (r : Rec) (from to : ℕ) → from < to
         → is_newest r rs ≡ true → reaches to rs ≡ true

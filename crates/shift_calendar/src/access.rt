@@ -7,14 +7,14 @@ ghost use Rattle.shift_calendar.specs.Tables.{is_among, has_key, all_keys, has_k
 
 use toml::{Table, Value};
 
-/// The value at a key.
+// The value at a key.
 fn value_at<'t>(table: &'t Table, key: &str) -> Option<&'t Value>
     ensures { option_map (λ v. view v.now) result ≡ get_member key.now (table_view table.now) }
 {
     table.get(key)
 }
 
-/// Whether a key is one of these.
+// Whether a key is one of these.
 fn is_among(keys: &[&str], key: &str) -> bool
     ensures { result ≡ is_among (map (λ k. k.now) keys.now) key.now }
 {
@@ -26,14 +26,14 @@ fn is_among(keys: &[&str], key: &str) -> bool
     false
 }
 
-/// Whether a table has each of these keys, and no other.
+// Whether a table has each of these keys, and no other.
 pub(crate) fn has_keys(table: &Table, keys: &[&str]) -> bool
     ensures { result ≡ has_keys (map (λ k. k.now) keys.now) (table_view table.now) }
 {
     has_each(table, keys) && has_only(table, keys)
 }
 
-/// Whether a table has each of these keys.
+// Whether a table has each of these keys.
 fn has_each(table: &Table, keys: &[&str]) -> bool
     ensures { result ≡ list_all (has_key (table_view table.now)) (map (λ k. k.now) keys.now) }
 {
@@ -45,7 +45,7 @@ fn has_each(table: &Table, keys: &[&str]) -> bool
     true
 }
 
-/// Whether each key of a table is one of these.
+// Whether each key of a table is one of these.
 fn has_only(table: &Table, keys: &[&str]) -> bool
     ensures { result ≡ all_keys (is_among (map (λ k. k.now) keys.now)) (table_view table.now) }
 {
@@ -57,7 +57,7 @@ fn has_only(table: &Table, keys: &[&str]) -> bool
     true
 }
 
-/// The text at a key, where it is one.
+// The text at a key, where it is one.
 pub(crate) fn string_at<'t>(table: &'t Table, key: &str) -> Option<&'t str>
     ensures { option_map (λ s. s.now) result ≡ string_at key.now (table_view table.now) }
 {
@@ -67,7 +67,7 @@ pub(crate) fn string_at<'t>(table: &'t Table, key: &str) -> Option<&'t str>
     }
 }
 
-/// The items of the array at a key, where it is one.
+// The items of the array at a key, where it is one.
 pub(crate) fn items_at<'t>(table: &'t Table, key: &str) -> Option<&'t [Value]>
     ensures { option_map (λ items. items_view items.now) result ≡ array_at key.now (table_view table.now) }
 {
@@ -80,7 +80,7 @@ pub(crate) fn items_at<'t>(table: &'t Table, key: &str) -> Option<&'t [Value]>
     }
 }
 
-/// Whether there is an item, and no more than so many.
+// Whether there is an item, and no more than so many.
 #[tactic(auto, using(crate::proofs::Items::count_of_items))]
 pub(crate) fn has_count(items: &[Value], most: usize) -> bool
     ensures told { result ≡ is_count most (items_view items.now) }

@@ -58,14 +58,14 @@ impl Calendar {
         &self.tags
     }
 
-    /// What is told of each shift.
+    /// The measure that is the figure of each shift.
     pub fn measure(&self) -> Measure
         ensures { result ≡ self.now.measure }
     {
         self.measure
     }
 
-    /// How many shifts a day has.
+    // How many shifts a day has.
     pub(crate) fn shift_count(&self) -> usize
         ensures count { result ≡ length self.now.starts }
         ensures some { 1 ≤ result }
@@ -74,7 +74,7 @@ impl Calendar {
         self.starts.len()
     }
 
-    /// The instant, in milliseconds from 1970, at which the shift at a place of a day begins.
+    // The instant, in milliseconds from 1970, at which the shift at a place of a day begins.
     pub(crate) fn start_instant(&self, day: i32, place: usize) -> u64
         requires there { place < length self.now.starts }
         requires day { IsShiftDay day }
@@ -86,7 +86,7 @@ impl Calendar {
     }
 }
 
-/// The zone of a table, where its text is a POSIX time zone.
+// The zone of a table, where its text is a POSIX time zone.
 fn zone_at(table: &Table) -> Option<TimeZone<'static>>
     ensures { option_map (λ z. zone_rule (plain_zone z)) result ≡ option_map Some (zone_at (table_view table.now)) }
 {

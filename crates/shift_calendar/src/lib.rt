@@ -4,8 +4,9 @@
 //! of each shift, and the measure that is told. The model is the list of shifts of a range of days, each from
 //! its start to the next one's on the local clock, stated in `specs/`; `read_calendar` answers what a text
 //! says, or the first rule that it breaks, and `shift_windows` gives that list with the instants that `jiff`'s
-//! conversion to the zone names, where the clock skips a time or shows it twice, too. A day of 23 or 25 hours
-//! is a window of 23 or 25 hours. Days are read from words `YYYY-MM-DD`, and spelled as such.
+//! conversion to the zone names, also where the clock skips a time or shows it twice. A day of one shift is a
+//! window of 23 or 25 hours where the clock is set forward or back in it. Days are read from words
+//! `YYYY-MM-DD`, and spelled as such.
 #![tactic(auto)]
 
 mod access;

@@ -7,7 +7,7 @@ use crate::access::string_at;
 use toml::Table;
 use trend_num::Measure;
 
-/// The measure of a word.
+// The measure of a word.
 fn measure_of(word: &str) -> Option<Measure>
     ensures { result ≡ measure_of word.now }
 {
@@ -24,7 +24,7 @@ fn measure_of(word: &str) -> Option<Measure>
     }
 }
 
-/// The measure of a table, where its word is one.
+// The measure of a table, where its word is one.
 pub(crate) fn measure_at(table: &Table) -> Option<Measure>
     ensures { result ≡ measure_at (table_view table.now) }
 {

@@ -8,10 +8,10 @@ use std::alloc::Global;
 use toml::{Table, Value};
 use trend_num::{Name, WantOfMemory};
 
-/// The most tags of a calendar.
+// The most tags of a calendar.
 const MAX_TAGS: usize = 64;
 
-/// The place of the first tag of a name.
+// The place of the first tag of a name.
 fn place_of(names: &[Name], name: &[u8]) -> Option<usize>
     ensures place { result ≡ place_of names.now name.now }
     ensures there { IfSome result (λ place. place < length names.now) }
@@ -19,14 +19,14 @@ fn place_of(names: &[Name], name: &[u8]) -> Option<usize>
     names.iter().position(|n| n.bytes() == name)
 }
 
-/// Whether a place is among earlier ones.
+// Whether a place is among earlier ones.
 fn is_taken(earlier: &[u32], place: u32) -> bool
     ensures { result ≡ is_taken earlier.now place }
 {
     earlier.iter().any(|p| *p == place)
 }
 
-/// A place, where it is among no earlier ones.
+// A place, where it is among no earlier ones.
 fn untaken(earlier: &[u32], place: usize) -> Option<u32>
     requires { place < 2 ^ 32 }
     ensures place { result ≡ untaken earlier.now place }
@@ -39,7 +39,7 @@ fn untaken(earlier: &[u32], place: usize) -> Option<u32>
     Some(place)
 }
 
-/// The place of the tag of a name, where it is among no earlier places.
+// The place of the tag of a name, where it is among no earlier places.
 fn new_place(names: &[Name], earlier: &[u32], name: &str) -> Option<u32>
     requires { length names.now ≤ 2 ^ 32 }
     ensures place { result ≡ new_place names.now earlier.now name.now }
@@ -51,7 +51,7 @@ fn new_place(names: &[Name], earlier: &[u32], name: &str) -> Option<u32>
     }
 }
 
-/// The places of the tags that items name, each a text, none twice.
+// The places of the tags that items name, each a text, none twice.
 fn places_of(
     alloc: Global,
     names: &[Name],
@@ -77,7 +77,7 @@ fn places_of(
     Ok(Some(places))
 }
 
-/// The places of the tags that the table of a calendar names: 1 to 64, none twice.
+// The places of the tags that the table of a calendar names: 1 to 64, none twice.
 pub(crate) fn places_at(
     alloc: Global,
     names: &[Name],

@@ -9,7 +9,7 @@ pub enum CalNo {
     /// The first rule that the text breaks, from 1 to 6.
     #[error("rule {rule} is broken")]
     BadText { rule: u8 },
-    /// There was no memory.
+    /// No memory was found.
     #[error("out of memory")]
     WantOfMemory,
 }

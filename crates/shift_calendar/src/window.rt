@@ -22,7 +22,7 @@ pub struct ShiftWindow {
     pub to: u64,
 }
 
-/// The instant, in milliseconds from 1970, at which the shift at a place of a day ends.
+// The instant, in milliseconds from 1970, at which the shift at a place of a day ends.
 fn end_instant(calendar: &Calendar, day: i32, place: usize) -> u64
     requires there { place < length calendar.now.starts }
     requires few { length calendar.now.starts ≤ 24 }
@@ -39,7 +39,7 @@ fn end_instant(calendar: &Calendar, day: i32, place: usize) -> u64
     }
 }
 
-/// The window of the shift at a place of a day.
+// The window of the shift at a place of a day.
 fn window_of(calendar: &Calendar, day: i32, place: usize) -> ShiftWindow
     requires there { place < length calendar.now.starts }
     requires few { length calendar.now.starts ≤ 24 }
@@ -57,7 +57,7 @@ fn window_of(calendar: &Calendar, day: i32, place: usize) -> ShiftWindow
     }
 }
 
-/// Adds the windows of the shifts of a day.
+// Adds the windows of the shifts of a day.
 fn push_day(
     windows: &mut Vec<ShiftWindow>,
     calendar: &Calendar,
@@ -74,7 +74,7 @@ fn push_day(
     Ok(())
 }
 
-/// The windows of the shifts of so many days from a day on, by its number from 1970-01-01: the days in order,
+/// The windows of the shifts of so many days, 1 to 366, from a day on, by its number from 1970-01-01: the days in order,
 /// and the shifts of a day in order. Each is from the instant of its start to that of the next shift's, as the
 /// calendar's zone names them. Where the clock skips the start of a shift, a window may end before it begins.
 pub fn shift_windows(

@@ -9,10 +9,10 @@ use jiff::civil::Date;
 use jiff::fmt::temporal::DateTimePrinter;
 use std::marker::Model;
 
-/// The number of the first day that is read, 1971-01-01.
+// The number of the first day that is read, 1971-01-01.
 const FIRST_DAY: i32 = 365;
 
-/// The number of the last day that is read, 9990-12-31.
+// The number of the last day that is read, 9990-12-31.
 const LAST_DAY: i32 = 2_929_609;
 
 /// A day as a word, `YYYY-MM-DD`. A clause sees its bytes.
@@ -38,7 +38,7 @@ impl DayWord {
     }
 }
 
-/// The word of a date.
+// The word of a date.
 fn word_of(date: Date) -> DayWord
     ensures { result ≡ date_text date }
 {
@@ -47,14 +47,14 @@ fn word_of(date: Date) -> DayWord
     }
 }
 
-/// Whether a day is one from 1971-01-01 to 9990-12-31.
+// Whether a day is one from 1971-01-01 to 9990-12-31.
 fn is_first_day(day: i32) -> bool
     ensures { IsTrue result ↔ IsFirstDay day }
 {
     FIRST_DAY <= day && day <= LAST_DAY
 }
 
-/// The number of the day of a date, where the date is in range and this is its word.
+// The number of the day of a date, where the date is in range and this is its word.
 fn day_if_word(date: Date, word: &str) -> Option<i32>
     ensures { SomeIff result (IsFirstDay (epoch_day date) × (date_text date ≡ word.now)) (epoch_day date) }
 {

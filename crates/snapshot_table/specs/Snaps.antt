@@ -5,7 +5,7 @@ use Rattle.trend_num.specs.declared.point.Point.{Point}
 use Rattle.snapshot_table.specs.declared.words.Shown.{Shown}
 use Rattle.snapshot_table.specs.declared.words.TheConstants.{NO_POINT, NOT_NEGATIVE}
 
--- the value whose kind is no negative one, and else that which is as far below -1
+-- the value of a held point: its size where the kind is not negative, and else as far below -1 as the size tells
 abbrev pub value_of : ℕ → ℕ → ℤ
 value_of kind size = if nat_eq kind NOT_NEGATIVE then pos size else negsuc size
 

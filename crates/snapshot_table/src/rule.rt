@@ -8,7 +8,7 @@ use crossbeam_utils::atomic::seq_cell::RuledSeqCell;
 use crossbeam_utils::rule::{Outcome, Protocol};
 use trend_num::Snap;
 
-// What the holder of a pass knows. No value of it is made.
+/// What the holder of a pass knows. No value of it is made.
 pub struct View {
     // Whether it is the one who posts.
     pub posts: bool,
@@ -16,7 +16,7 @@ pub struct View {
     pub snap: Snap,
 }
 
-// The words are the last snapshot of the one who posts.
+/// The words are the last snapshot of the one who posts.
 pub struct LastPosted;
 
 impl Protocol<Shown, View> for LastPosted {
@@ -25,19 +25,21 @@ impl Protocol<Shown, View> for LastPosted {
     ghost first = { posting nothing };
 }
 
+/// The step of the one who posts: the words become its next snapshot.
 pub struct Post;
 
 impl Outcome<Shown, View> for Post {
     ghost then = { Posts };
 }
 
+/// The step of one who looks: the words are read.
 pub struct Look;
 
 impl Outcome<Shown, View> for Look {
     ghost then = { Looks };
 }
 
-// A pass that looks is split off the one that posts.
+/// A pass that looks is split off the one that posts.
 pub struct Onlooker;
 
 impl Split<View> for Onlooker {
@@ -46,5 +48,5 @@ impl Split<View> for Onlooker {
     ghost right = { λ v. looking v.snap };
 }
 
-// The cell of a tag.
+/// The cell of a tag.
 pub type Shelf = RuledSeqCell<Shown, View, LastPosted, 4>;

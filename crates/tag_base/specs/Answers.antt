@@ -1,39 +1,39 @@
--- What a text of a plant is answered: steps one after another, of which the first that fails decides.
+-- What is answered to a text of a plant: steps one after another, of which the first that fails decides.
 use Rattle.std.specs.Prelude.{◌≡◌, ◌≢◌, ℕ, ◌-◌, ◌^◌, min, nat_le, Bool, true, false, Option, None, Some, Result, Ok, Err}
 use Rattle.tag_base.specs.declared.refusal.TextNo.{TextNo}
 use Rattle.tag_base.specs.declared.refusal.TextNo.TheVariants.{BadText, Limit, WantOfMemory}
 use Rattle.trend_num.specs.declared.refusal.What.{What}
 
--- the table at a place breaks a rule. The place stays at the end of its type
+-- the refusal of the table at a place, which breaks a rule; a place past the end of its type is told as the last one
 abbrev pub broken : ℕ → ℕ → TextNo
 broken rule place = BadText rule (min place (2 ^ 32 - 1)) 0
 
--- on where a test holds
+-- goes on where a test holds, and else refuses
 abbrev pub when : {A : Type 0} → Bool → TextNo → Result A TextNo → Result A TextNo
 when false why answer = Err why
 when true why answer = answer
 
--- on where a count is not above its limit
+-- goes on where a count is not above its limit, and else tells the count
 abbrev pub limited : {A : Type 0} → What → ℕ → ℕ → Result A TextNo → Result A TextNo
 limited what most count answer = when (nat_le count most) (Limit what count) answer
 
--- on with a value, where there is one
+-- goes on with a value where there is one, and else refuses
 abbrev pub given : {A B : Type 0} → Option A → TextNo → (A → Result B TextNo) → Result B TextNo
 given None why answer = Err why
 given (Some a) why answer = answer a
 
--- on with what came before
+-- goes on with the value of the step before, or hands on its refusal
 abbrev pub after : {A B : Type 0} → Result A TextNo → (A → Result B TextNo) → Result B TextNo
 after (Err why) answer = Err why
 after (Ok a) answer = answer a
 
--- the value that is answered, seen so, is the one that is due, or the refusal is; no memory may be found at
--- any time
+-- what is answered, with a value seen so, is what is due; but want of memory may be answered in its place at any time
 abbrev pub Answers : {A B : Type 0} → (A → B) → Result A TextNo → Result B TextNo → Type 0
 Answers see (Ok a) due = due ≡ Ok (see a)
 Answers see (Err why) due = why ≢ WantOfMemory → due ≡ Err why
 
--- what is answered, with a value seen so, is an answer that is due; no memory may be found at any time
+-- what is answered, with a value seen so, is an answer that is due; but want of memory may be answered in its place at any
+-- time
 abbrev pub Reads : {A B : Type 0} → (A → B) → Result A TextNo → (Result B TextNo → Type 0) → Type 0
 Reads see (Ok a) IsDue = IsDue (Ok (see a))
 Reads see (Err why) IsDue = why ≢ WantOfMemory → IsDue (Err why)

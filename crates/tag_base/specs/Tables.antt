@@ -34,7 +34,7 @@ has_keys needed others ms =
 abbrev pub string_at : List ℕ → Members → Option (List ℕ)
 string_at key ms = option_and_then as_str (get_member key ms)
 
--- 1 to 64 bytes of a name
+-- whether bytes are a name: 1 to 64 bytes that a name may have
 abbrev pub is_name : List ℕ → Bool
 is_name bytes = nat_le 1 (length bytes) && nat_le (length bytes) 64 && list_all is_name_byte bytes
 
@@ -47,7 +47,7 @@ abbrev pub within : ℕ → ℕ → ℤ → Option ℕ
 within least most (pos n) = if nat_le least n && nat_le n most then Some n else None
 within least most (negsuc n) = None
 
--- the number at a key, where it is a whole number between these
+-- the number at a key, where it is a whole number from the least to the most, both included
 abbrev pub number_at : List ℕ → ℕ → ℕ → Members → Option ℕ
 number_at key least most ms =
     option_and_then (within least most) (option_and_then as_integer (get_member key ms))
@@ -56,7 +56,7 @@ number_at key least most ms =
 abbrev pub array_at : List ℕ → Members → Option Items
 array_at key ms = option_and_then as_array (get_member key ms)
 
--- the tables that items are, each, after some tables
+-- the tables that items are, behind some tables; each item has to be one
 abbrev pub tables_after : List Members → Items → Option (List Members)
 tables_after earlier no_items = Some earlier
 tables_after earlier (item d ds) = option_and_then (λ ms. tables_after (earlier ++ ms ∷ []) ds) (as_table d)
@@ -65,6 +65,6 @@ tables_after earlier (item d ds) = option_and_then (λ ms. tables_after (earlier
 abbrev pub tables_at : List ℕ → Members → Option (List Members)
 tables_at key ms = option_and_then (tables_after []) (array_at key ms)
 
--- the same, and none where the key is not there
+-- the same, and an empty list where the key is not there
 abbrev pub tables_if_there : List ℕ → Members → Option (List Members)
 tables_if_there key ms = if has_key ms key then tables_at key ms else Some []

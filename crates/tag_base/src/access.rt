@@ -9,14 +9,14 @@ use std::alloc::Global;
 use toml::{Table, Value};
 use trend_num::{Name, WantOfMemory, name_from};
 
-/// The value at a key.
+// The value at a key.
 pub(crate) fn value_at<'t>(table: &'t Table, key: &str) -> Option<&'t Value>
     ensures { option_map (λ v. view v.now) result ≡ get_member key.now (table_view table.now) }
 {
     table.get(key)
 }
 
-/// Whether a key is one of these.
+// Whether a key is one of these.
 fn is_among(keys: &[&str], key: &str) -> bool
     ensures { result ≡ is_among (map (λ k. k.now) keys.now) key.now }
 {
@@ -28,7 +28,7 @@ fn is_among(keys: &[&str], key: &str) -> bool
     false
 }
 
-/// Whether a table has each of the first keys, and no key but these and the others.
+// Whether a table has each of the first keys, and no key but these and the others.
 pub(crate) fn has_keys(table: &Table, needed: &[&str], others: &[&str]) -> bool
     ensures { result ≡ has_keys (map (λ k. k.now) needed.now) (map (λ k. k.now) others.now)
         (table_view table.now) }
@@ -36,7 +36,7 @@ pub(crate) fn has_keys(table: &Table, needed: &[&str], others: &[&str]) -> bool
     has_each(table, needed) && has_only(table, needed, others)
 }
 
-/// Whether a table has each of these keys.
+// Whether a table has each of these keys.
 fn has_each(table: &Table, keys: &[&str]) -> bool
     ensures { result ≡ list_all (has_key (table_view table.now)) (map (λ k. k.now) keys.now) }
 {
@@ -48,7 +48,7 @@ fn has_each(table: &Table, keys: &[&str]) -> bool
     true
 }
 
-/// Whether each key of a table is one of these.
+// Whether each key of a table is one of these.
 fn has_only(table: &Table, needed: &[&str], others: &[&str]) -> bool
     ensures { result ≡ all_keys
         (λ key. is_among (map (λ k. k.now) needed.now) key || is_among (map (λ k. k.now) others.now) key)
@@ -62,7 +62,7 @@ fn has_only(table: &Table, needed: &[&str], others: &[&str]) -> bool
     true
 }
 
-/// The text at a key, where it is one.
+// The text at a key, where it is one.
 pub(crate) fn string_at<'t>(table: &'t Table, key: &str) -> Option<&'t str>
     ensures { option_map (λ s. s.now) result ≡ string_at key.now (table_view table.now) }
 {
@@ -72,7 +72,7 @@ pub(crate) fn string_at<'t>(table: &'t Table, key: &str) -> Option<&'t str>
     }
 }
 
-/// The name at a key, where it is a text that is a name.
+// The name at a key, where it is a text that is a name.
 pub(crate) fn name_at(table: &Table, key: &str) -> Option<Name>
     ensures { result ≡ name_at key.now (table_view table.now) }
 {
@@ -82,7 +82,7 @@ pub(crate) fn name_at(table: &Table, key: &str) -> Option<Name>
     }
 }
 
-/// The number at a key, where it is a whole number from the least to the most.
+// The number at a key, where it is a whole number from the least to the most.
 pub(crate) fn number_at(table: &Table, key: &str, least: u64, most: u64) -> Option<u64>
     ensures number { result ≡ number_at key.now least most (table_view table.now) }
     ensures not_below { IfSome result (λ n. least ≤ n) }
@@ -97,7 +97,7 @@ pub(crate) fn number_at(table: &Table, key: &str, least: u64, most: u64) -> Opti
     }
 }
 
-/// The number, where it is not below the least nor above the most.
+// The number, where it is not below the least nor above the most.
 fn within(number: i64, least: u64, most: u64) -> Option<u64>
     ensures number { result ≡ within least most number }
     ensures not_below { IfSome result (λ n. least ≤ n) }
@@ -112,7 +112,7 @@ fn within(number: i64, least: u64, most: u64) -> Option<u64>
     Some(number)
 }
 
-/// The tables of the array at a key, where each of its items is a table.
+// The tables of the array at a key, where each of its items is a table.
 pub(crate) fn tables_at<'t>(
     alloc: Global,
     table: &'t Table,
@@ -131,7 +131,7 @@ pub(crate) fn tables_at<'t>(
     tables_of(alloc, items.as_slice())
 }
 
-/// The same, and none where the key is not there.
+// The same, and an empty list where the key is not there.
 pub(crate) fn tables_if_there<'t>(
     alloc: Global,
     table: &'t Table,
@@ -147,7 +147,7 @@ pub(crate) fn tables_if_there<'t>(
     tables_at(alloc, table, key)
 }
 
-/// The tables among items, where each of the items is one.
+// The tables among items, where each of the items is one.
 fn tables_of<'t>(alloc: Global, items: &'t [Value]) -> Result<Option<Vec<&'t Table>>, WantOfMemory>
     ensures { IfOk result (λ found.
         option_map (λ ts. map (λ t. table_view t.now) ts.items) found

@@ -17,21 +17,21 @@ use std::alloc::Global;
 use toml::Table;
 use trend_num::{WantOfMemory, What};
 
-/// The most tags of a base.
+// The most tags of a base.
 const MAX_TAGS: usize = 1024;
 
-/// The most groups of a base.
+// The most groups of a base.
 const MAX_GROUPS: usize = 16;
 
-/// The tables of the tags and of the groups of a base.
+// The tables of the tags and of the groups of a base.
 #[derive(Drop)]
 struct BaseTables<'t> {
     tags: Vec<&'t Table>,
     groups: Vec<&'t Table>,
 }
 
-/// The tables of a document with the keys `tag` and, at will, `group`, each an array of tables, the first
-/// not empty.
+// The tables of a document with the keys `tag` and, at will, `group`, each an array of tables, the first
+// not empty.
 fn base_arrays<'t>(alloc: Global, table: &'t Table) -> Result<Option<BaseTables<'t>>, WantOfMemory>
     ensures { IfOk result (λ found. option_map tables_of found ≡ base_arrays (table_view table.now)) }
 {
@@ -50,7 +50,7 @@ fn base_arrays<'t>(alloc: Global, table: &'t Table) -> Result<Option<BaseTables<
     Ok(Some(BaseTables { tags, groups }))
 }
 
-/// The tables of the tags and of the groups, of which there are not too many.
+// The tables of the tags and of the groups, of which there are not too many.
 fn base_tables<'t>(alloc: Global, document: &'t Option<Table>) -> Result<BaseTables<'t>, TextNo>
     ensures none { document.now ≡ None → result ≡ Err (broken 1 0) }
     ensures tables { Answers tables_of result (base_tables (option_map table_view document.now)) }

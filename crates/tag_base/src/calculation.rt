@@ -14,17 +14,17 @@ use std::alloc::Global;
 use toml::Table;
 use trend_num::{Name, WantOfMemory, same_name};
 
-/// The most bytes of a formula.
+// The most bytes of a formula.
 const MAX_FORMULA: u32 = 1024;
 
-/// A calculation of a group: its name, and the text of its formula.
+// A calculation of a group: its name, and the text of its formula.
 #[derive(Debug, Drop)]
 pub(crate) struct CalcText {
     pub(crate) name: Name,
     pub(crate) formula: String,
 }
 
-/// The calculation of a table, where it is two texts of which the first is a name that no earlier one has.
+// The calculation of a table, where it is two texts of which the first is a name that no earlier one has.
 fn calc_text(
     alloc: Global,
     earlier: &[CalcText],
@@ -49,7 +49,7 @@ fn calc_text(
     Ok(Some(CalcText { name, formula }))
 }
 
-/// Whether a calculation has a name.
+// Whether a calculation has a name.
 fn is_taken(calcs: &[CalcText], name: &Name) -> bool
     ensures { result ≡ list_any (λ c. bytes_eq c.name name.now) (map text_of calcs.now) }
 {
@@ -61,7 +61,7 @@ fn is_taken(calcs: &[CalcText], name: &Name) -> bool
     false
 }
 
-/// The calculations of tables.
+// The calculations of tables.
 fn calcs_of(alloc: Global, tables: &[&Table]) -> Result<Option<Vec<CalcText>>, WantOfMemory>
     ensures calcs { IfOk result (λ found.
         option_map (λ calcs. map text_of calcs.items) found
@@ -78,7 +78,7 @@ fn calcs_of(alloc: Global, tables: &[&Table]) -> Result<Option<Vec<CalcText>>, W
     Ok(Some(calcs))
 }
 
-/// The calculations of the table of a group, where there is one or more.
+// The calculations of the table of a group, where there is one or more.
 pub(crate) fn calcs_at(alloc: Global, table: &Table) -> Result<Option<Vec<CalcText>>, WantOfMemory>
     ensures calcs { IfOk result (λ found.
         option_map (λ calcs. map text_of calcs.items) found ≡ calcs_at (table_view table.now)) }
@@ -93,7 +93,7 @@ pub(crate) fn calcs_at(alloc: Global, table: &Table) -> Result<Option<Vec<CalcTe
     calcs_of(alloc, &tables)
 }
 
-/// The calculations that texts define, or where the first text that is no formula is refused.
+// The calculations that texts define, or where the first text that is no formula is refused.
 fn defs_of(alloc: Global, place: u32, texts: &[CalcText]) -> Result<Vec<CalcDef>, TextNo>
     ensures defined { IfOk result (λ defs. Define (map text_of texts.now) (map calculation defs.items)) }
     ensures as_many { IfOk result (λ defs. vec_len defs ≡ length texts.now) }
@@ -112,7 +112,7 @@ fn defs_of(alloc: Global, place: u32, texts: &[CalcText]) -> Result<Vec<CalcDef>
     Ok(defs)
 }
 
-/// What is told of a formula that is refused.
+// What is told of a formula that is refused.
 fn refusal(place: u32, why: ParseNo) -> TextNo
     ensures { result ≡ told_of place why }
 {
@@ -131,7 +131,7 @@ fn refusal(place: u32, why: ParseNo) -> TextNo
     }
 }
 
-/// The checked calculations of the group at a place, or why they are refused.
+// The checked calculations of the group at a place, or why they are refused.
 pub(crate) fn checked(
     alloc: Global,
     place: u32,

@@ -8,8 +8,8 @@ use std::alloc::Global;
 use toml::Table;
 use trend_num::WantOfMemory;
 
-/// The document that bytes are, where they are one: UTF-8, and TOML as `toml` reads it, with its limit on
-/// nesting.
+// The document that bytes are, where they are one: UTF-8, and TOML as `toml` reads it, with its limit on
+// nesting.
 #[tactic(auto, using(crate::proofs::Documents::no_document, crate::proofs::Documents::document_of))]
 pub(crate) fn document(alloc: Global, bytes: &[u8]) -> Result<Option<Table>, WantOfMemory>
     ensures value { IfOk result (λ found. option_map table_view found ≡ document bytes.now) }

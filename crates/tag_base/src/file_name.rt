@@ -20,7 +20,7 @@ impl Model for FileName {
 }
 
 impl FileName {
-    /// The text as a name.
+    // The text as a name.
     pub(crate) fn new(text: String) -> FileName
         requires some { 0 < length (string_bytes text) }
         requires short { length (string_bytes text) ≤ 255 }

@@ -13,13 +13,13 @@ use std::alloc::Global;
 use toml::Table;
 use trend_num::{MAX_T, Name, TagDef, WantOfMemory, What};
 
-/// The most calculations of a group.
+// The most calculations of a group.
 const MAX_CALCS: usize = 64;
 
-/// The longest period, in milliseconds.
+// The longest period, in milliseconds.
 const MAX_PERIOD: u64 = 1_000_000_000_000;
 
-/// A group, of whose formulas only the texts are known.
+// A group, of whose formulas only the texts are known.
 #[derive(Debug, Drop)]
 struct GroupText {
     name: Name,
@@ -29,7 +29,7 @@ struct GroupText {
     calcs: Vec<CalcText>,
 }
 
-/// The place of the first group of a name.
+// The place of the first group of a name.
 pub(crate) fn group_place(groups: &[GroupDef], name: &[u8]) -> Option<usize>
     ensures place { result ≡ group_place groups.now name.now }
     ensures there { IfSome result (λ i. i < length groups.now) }
@@ -37,7 +37,7 @@ pub(crate) fn group_place(groups: &[GroupDef], name: &[u8]) -> Option<usize>
     groups.iter().position(|group| group.name.bytes() == name)
 }
 
-/// The name of a table, where it is one and no earlier group has it.
+// The name of a table, where it is one and no earlier group has it.
 fn new_group_name(earlier: &[GroupDef], table: &Table) -> Option<Name>
     ensures { result ≡ new_group_name earlier.now (table_view table.now) }
 {
@@ -48,8 +48,8 @@ fn new_group_name(earlier: &[GroupDef], table: &Table) -> Option<Name>
     Some(name)
 }
 
-/// The text of a group after some groups, or the first rule that its table breaks before its formulas are
-/// read.
+// The text of a group after some groups, or the first rule that its table breaks before its formulas are
+// read.
 fn group_text(
     alloc: Global,
     tags: &[TagDef],
@@ -88,14 +88,14 @@ fn group_text(
     })
 }
 
-/// The places of inputs.
+// The places of inputs.
 fn places_of(alloc: Global, inputs: &[Input]) -> Result<Vec<u32>, WantOfMemory>
     ensures { IfOk result (λ places. places.items ≡ map (λ i. i.place) inputs.now) }
 {
     Ok(inputs.iter().map(|input| input.place).collect(alloc)?)
 }
 
-/// The names of inputs.
+// The names of inputs.
 fn names_of(alloc: Global, inputs: &[Input]) -> Result<Vec<Name>, WantOfMemory>
     ensures { IfOk result (λ names. names.items ≡ map (λ i. i.name) inputs.now) }
 {
@@ -106,7 +106,7 @@ fn names_of(alloc: Global, inputs: &[Input]) -> Result<Vec<Name>, WantOfMemory>
     Ok(names)
 }
 
-/// The group of a table after some groups, or the first rule that the table breaks.
+// The group of a table after some groups, or the first rule that the table breaks.
 fn group_of(
     alloc: Global,
     tags: &[TagDef],
@@ -133,7 +133,7 @@ fn group_of(
     }
 }
 
-/// The groups of tables, or the first rule that one breaks.
+// The groups of tables, or the first rule that one breaks.
 pub(crate) fn groups_of(
     alloc: Global,
     tags: &[TagDef],

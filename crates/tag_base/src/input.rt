@@ -9,24 +9,24 @@ use std::alloc::Global;
 use toml::{Table, Value};
 use trend_num::{Name, TagDef, WantOfMemory};
 
-/// The most inputs of a group.
+// The most inputs of a group.
 const MAX_INPUTS: usize = 64;
 
-/// An input of a group: the place of its tag, and the tag's name.
+// An input of a group: the place of its tag, and the tag's name.
 #[derive(Clone, Copy, Debug, PartialEq, Eq)]
 pub(crate) struct Input {
     pub(crate) place: u32,
     pub(crate) name: Name,
 }
 
-/// Whether the tag at a place is among inputs.
+// Whether the tag at a place is among inputs.
 fn is_input(inputs: &[Input], place: u32) -> bool
     ensures { result ≡ is_input inputs.now place }
 {
     inputs.iter().any(|input| input.place == place)
 }
 
-/// The tag at a place as an input, where it is no step tag and no earlier input.
+// The tag at a place as an input, where it is no step tag and no earlier input.
 fn new_input(tags: &[TagDef], earlier: &[Input], place: usize) -> Option<Input>
     requires there { place < length tags.now }
     requires few_tags { length tags.now ≤ 1024 }
@@ -44,7 +44,7 @@ fn new_input(tags: &[TagDef], earlier: &[Input], place: usize) -> Option<Input>
     })
 }
 
-/// The input that a text names.
+// The input that a text names.
 fn named_input(tags: &[TagDef], earlier: &[Input], name: &str) -> Option<Input>
     requires { length tags.now ≤ 1024 }
     ensures input { result ≡ named_input tags.now earlier.now name.now }
@@ -56,7 +56,7 @@ fn named_input(tags: &[TagDef], earlier: &[Input], name: &str) -> Option<Input>
     }
 }
 
-/// The inputs that items name.
+// The inputs that items name.
 fn inputs_of(
     alloc: Global,
     tags: &[TagDef],
@@ -82,7 +82,7 @@ fn inputs_of(
     Ok(Some(inputs))
 }
 
-/// Whether there are as many items as a group may have inputs.
+// Whether there are as many items as a group may have inputs.
 #[tactic(auto, using(crate::proofs::Items::count_of_items))]
 fn is_input_count(items: &[Value]) -> bool
     ensures told { result ≡ is_input_count (items_view items.now) }
@@ -92,7 +92,7 @@ fn is_input_count(items: &[Value]) -> bool
     1 <= count && count <= MAX_INPUTS
 }
 
-/// The inputs of the table of a group, where they are 1 to 64 tags that are no step tags, none twice.
+// The inputs of the table of a group, where they are 1 to 64 tags that are no step tags, none twice.
 pub(crate) fn inputs_at(
     alloc: Global,
     tags: &[TagDef],

@@ -16,16 +16,16 @@ use std::alloc::Global;
 use toml::Table;
 use trend_num::{WantOfMemory, What};
 
-/// The most collectors of a plan, and the most readers.
+// The most collectors of a plan, and the most readers.
 const MAX_FILES: usize = 16;
 
-/// The most bytes of the name of a file.
+// The most bytes of the name of a file.
 const MAX_NAME: usize = 255;
 
-/// The most turns of a refresher.
+// The most turns of a refresher.
 const MAX_TURNS: u64 = 1000;
 
-/// The tables of the collectors, the readers and the refreshers of a plan.
+// The tables of the collectors, the readers and the refreshers of a plan.
 #[derive(Drop)]
 struct PlanTables<'t> {
     collectors: Vec<&'t Table>,
@@ -33,7 +33,7 @@ struct PlanTables<'t> {
     refreshers: Vec<&'t Table>,
 }
 
-/// The tables of a document whose keys are among these three, each an array of tables.
+// The tables of a document whose keys are among these three, each an array of tables.
 fn plan_arrays<'t>(alloc: Global, table: &'t Table) -> Result<Option<PlanTables<'t>>, WantOfMemory>
     ensures { IfOk result (λ found. option_map tables_of found ≡ plan_arrays (table_view table.now)) }
 {
@@ -56,7 +56,7 @@ fn plan_arrays<'t>(alloc: Global, table: &'t Table) -> Result<Option<PlanTables<
     }))
 }
 
-/// The tables of the collectors, the readers and the refreshers, of which the first two are not too many.
+// The tables of the collectors, the readers and the refreshers, of which the first two are not too many.
 fn plan_tables<'t>(alloc: Global, document: &'t Option<Table>) -> Result<PlanTables<'t>, TextNo>
     ensures none { document.now ≡ None → result ≡ Err (broken 1 0) }
     ensures tables { Answers tables_of result (plan_tables (option_map table_view document.now)) }
@@ -74,7 +74,7 @@ fn plan_tables<'t>(alloc: Global, document: &'t Option<Table>) -> Result<PlanTab
     Ok(tables)
 }
 
-/// The file of a table that names one and has nothing else.
+// The file of a table that names one and has nothing else.
 fn file_of(alloc: Global, table: &Table) -> Result<Option<FileName>, WantOfMemory>
     ensures { IfOk result (λ found. found ≡ file_of (table_view table.now)) }
 {
@@ -91,7 +91,7 @@ fn file_of(alloc: Global, table: &Table) -> Result<Option<FileName>, WantOfMemor
     Ok(Some(FileName::new(text)))
 }
 
-/// The files of tables, or the first table that breaks the rule.
+// The files of tables, or the first table that breaks the rule.
 fn files_of(alloc: Global, rule: u8, tables: &[&Table]) -> Result<Vec<FileName>, TextNo>
     ensures files { Answers (λ files. files.items) result
         (files_after rule [] (map (λ t. table_view t.now) tables.now)) }
@@ -107,14 +107,14 @@ fn files_of(alloc: Global, rule: u8, tables: &[&Table]) -> Result<Vec<FileName>,
     Ok(files)
 }
 
-/// Whether a refresher has the group at a place.
+// Whether a refresher has the group at a place.
 fn is_refreshed(refreshers: &[Refresher], group: u32) -> bool
     ensures { result ≡ is_refreshed refreshers.now group }
 {
     refreshers.iter().any(|refresher| refresher.group == group)
 }
 
-/// The place of the group that a table names, where no earlier refresher has it.
+// The place of the group that a table names, where no earlier refresher has it.
 fn new_group(groups: &[GroupDef], earlier: &[Refresher], table: &Table) -> Option<u32>
     requires { length groups.now ≤ 16 }
     ensures group { result ≡ new_group groups.now earlier.now (table_view table.now) }
@@ -133,8 +133,8 @@ fn new_group(groups: &[GroupDef], earlier: &[Refresher], table: &Table) -> Optio
     Some(place)
 }
 
-/// The refresher of a table, where the table names a group that no earlier refresher has, and 0 to 1,000
-/// turns.
+// The refresher of a table, where the table names a group that no earlier refresher has, and 0 to 1,000
+// turns.
 fn refresher_of(groups: &[GroupDef], earlier: &[Refresher], table: &Table) -> Option<Refresher>
     requires { length groups.now ≤ 16 }
     ensures refresher { result ≡ refresher_of groups.now earlier.now (table_view table.now) }
@@ -148,7 +148,7 @@ fn refresher_of(groups: &[GroupDef], earlier: &[Refresher], table: &Table) -> Op
     Some(Refresher { group, turns })
 }
 
-/// The refreshers of tables, or the first table that breaks the rule.
+// The refreshers of tables, or the first table that breaks the rule.
 fn refreshers_of(
     alloc: Global,
     groups: &[GroupDef],

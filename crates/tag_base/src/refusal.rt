@@ -14,7 +14,7 @@ pub enum TextNo {
     /// of a formula at which it is refused, else 0.
     #[error("rule {rule} is broken at table {place}, byte {at}")]
     BadText { rule: u8, place: u32, at: u32 },
-    /// There are more of these than there may be: so many.
+    /// There are `number` of `what`, more than there may be.
     #[error("too many of {what:?}: {number}")]
     Limit { what: What, number: u64 },
     /// There was no memory.
@@ -44,7 +44,7 @@ impl<T: Drop> From<AllocFailed<T>> for TextNo {
     }
 }
 
-/// Refuses a count that is above its limit.
+// Refuses a count that is above its limit.
 pub(crate) fn limited(what: What, most: usize, count: usize) -> Result<(), TextNo>
     ensures answer { result ≡ limited what most count (Ok tt) }
     ensures within { OnOk result (count ≤ most) }
@@ -58,7 +58,7 @@ pub(crate) fn limited(what: What, most: usize, count: usize) -> Result<(), TextN
     Ok(())
 }
 
-/// The refusal of the table at a place, which breaks a rule.
+// The refusal of the table at a place, which breaks a rule.
 pub(crate) fn broken(rule: u8, place: usize) -> TextNo
     ensures { result ≡ broken rule place }
 {

@@ -3,7 +3,7 @@ ghost use Rattle.std.specs.Prelude.{◌≤◌, vec_len};
 
 use crate::file_name::FileName;
 
-/// How often the calculations of a group are brought up to date.
+/// A refresher: the group whose calculations it brings up to date, and in how many turns.
 #[derive(Clone, Copy, Debug, PartialEq, Eq)]
 pub struct Refresher {
     /// The place of the group in the base.

@@ -12,7 +12,7 @@ use std::alloc::Global;
 use toml::{Table, Value};
 use trend_num::{MAX_DEV, MAX_T, Name, TagDef, Tuning};
 
-/// Whether a value is not there, or is a text.
+// Whether a value is not there, or is a text.
 fn is_text_if_there(value: Option<&Value>) -> bool
     ensures { result ≡ is_text_if_there (option_map (λ v. view v.now) value.entry) }
 {
@@ -22,7 +22,7 @@ fn is_text_if_there(value: Option<&Value>) -> bool
     }
 }
 
-/// Whether a table has the keys of a tag, and texts for its description and its units.
+// Whether a table has the keys of a tag, and texts for its description and its units.
 fn has_tag_form(table: &Table) -> bool
     ensures { result ≡ has_tag_form (table_view table.now) }
 {
@@ -36,7 +36,7 @@ fn has_tag_form(table: &Table) -> bool
         && is_text_if_there(value_at(table, "engunits"))
 }
 
-/// The tuning of a table, where its five numbers are whole numbers in their ranges.
+// The tuning of a table, where its five numbers are whole numbers in their ranges.
 fn tuning_at(table: &Table) -> Option<Tuning>
     ensures tuning { result ≡ tuning_at (table_view table.now) }
     ensures tuned { IfSome result TuningInRange }
@@ -50,7 +50,7 @@ fn tuning_at(table: &Table) -> Option<Tuning>
     })
 }
 
-/// Whether a value says step tag: it is not there, which says no, or it is a boolean.
+// Whether a value says step tag: it is not there, which says no, or it is a boolean.
 fn step_of(value: Option<&Value>) -> Option<bool>
     ensures { result ≡ step_of (option_map (λ v. view v.now) value.entry) }
 {
@@ -60,7 +60,7 @@ fn step_of(value: Option<&Value>) -> Option<bool>
     }
 }
 
-/// The place of the first tag of a name.
+// The place of the first tag of a name.
 pub(crate) fn tag_place(tags: &[TagDef], name: &[u8]) -> Option<usize>
     ensures place { result ≡ tag_place tags.now name.now }
     ensures there { IfSome result (λ i. i < length tags.now) }
@@ -68,7 +68,7 @@ pub(crate) fn tag_place(tags: &[TagDef], name: &[u8]) -> Option<usize>
     tags.iter().position(|tag| tag.name.bytes() == name)
 }
 
-/// The name of a table, where it is one and no earlier tag has it.
+// The name of a table, where it is one and no earlier tag has it.
 fn new_tag_name(earlier: &[TagDef], table: &Table) -> Option<Name>
     ensures { result ≡ new_tag_name earlier.now (table_view table.now) }
 {
@@ -79,7 +79,7 @@ fn new_tag_name(earlier: &[TagDef], table: &Table) -> Option<Name>
     Some(name)
 }
 
-/// The tag of a table after some tags, or the first rule that it breaks.
+// The tag of a table after some tags, or the first rule that it breaks.
 fn tag_of(earlier: &[TagDef], table: &Table) -> Result<TagDef, TextNo>
     ensures tag { result ≡ tag_of earlier.now (table_view table.now) }
     ensures tuned { IfOk result (λ tag. TuningInRange tag.tuning) }
@@ -99,7 +99,7 @@ fn tag_of(earlier: &[TagDef], table: &Table) -> Result<TagDef, TextNo>
     Ok(TagDef { name, tuning, step })
 }
 
-/// The tags of tables, or the first rule that one breaks.
+// The tags of tables, or the first rule that one breaks.
 pub(crate) fn tags_of(alloc: Global, tables: &[&Table]) -> Result<Vec<TagDef>, TextNo>
     ensures tags { Answers (λ tags. tags.items) result
         (tags_after [] (map (λ t. table_view t.now) tables.now)) }

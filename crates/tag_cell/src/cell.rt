@@ -74,6 +74,7 @@ impl<D: Disk> Cell<D> {
         ensures short { length result.now < 2 ^ 32 }
         ensures range { All (λ r. InRange r.point) result.now }
     {
+        // A tag has fewer than 2^32 records.
         let _count = self.core.record_count();
         self.core.recs()
     }

@@ -9,7 +9,7 @@ pub enum Entry {
     Take {
         /// The collector, counted from 0.
         collector: u32,
-        /// The row of the collector's file, counted from 1.
+        /// The row of the collector's work, counted from 1 in each phase of a session.
         row: u64,
         point: Point,
         /// The point that closes the line after it.
@@ -39,7 +39,7 @@ pub enum Entry {
     Commit {
         /// The device's clock after the last call of this commit.
         moment: u64,
-        /// How many of the tag's events are acknowledged since.
+        /// How many of the tag's events are acknowledged from then on.
         acked: u64,
     },
 }
@@ -75,15 +75,16 @@ pub enum TakeNo {
     Broken,
     /// The tape has as many takes as it has room for.
     RoomFull { room: u32 },
-    /// One more event could bring too many records.
+    /// One more event could bring too many records; so many there are now.
     Full { records: u32 },
 }
 
 /// Why no records are handed out.
 #[derive(Clone, Copy, Debug, PartialEq, Eq)]
 pub enum PullNo {
-    /// The place is beyond the records of the values that are acknowledged.
+    /// The place is behind all records of the opening and of the acknowledged takes, of which there are `acked`.
     Ahead { from: u32, acked: u32 },
+    /// No memory was found.
     WantOfMemory,
 }
 
@@ -94,5 +95,6 @@ pub enum CommitNo {
     Broken,
     /// A call of the device failed. The device is opened again before it is used.
     DeviceFault,
+    /// No memory was found; nothing was called.
     WantOfMemory,
 }

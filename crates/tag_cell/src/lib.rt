@@ -8,7 +8,7 @@
 //! each moment since the opening a crash leaves the opening followed by the oldest takes, with all that a commit had
 //! acknowledged by then (`specs/Crashes.antt`). A replayed history is legal for every history for which its opening stands;
 //! that is a law. A take needs no memory and, where the cell is not broken and has room, succeeds. A refused call changes
-//! nothing; after a device fault takes and commits are refused, and questions and pulls go on.
+//! nothing, but that a device fault breaks the cell: takes and commits are refused then, and questions and pulls go on.
 #![tactic(auto)]
 
 mod batch;

@@ -121,6 +121,7 @@ fn content_of(alloc: Global, core: &TagCore, room: u32) -> Result<Content, WantO
     ensures room { IfOk result (λ content. 2 * room ≤ content.spare) }
 {
     let recs = core.recs();
+    // The spare places are fewer than 2^32, so twice the room is.
     let _spare = core.spare();
     Content::from_records(alloc, recs, 2 * room)
 }

@@ -25,8 +25,8 @@ pub record IsCore (u : Tuning) (step : Bool) (s : State) : Type 0 where
 
 -- ---- how many slopes are compared
 
--- for a value p of a tag of lines: where the line to it is not too long, its slope with the upper door and, where it passes
--- under that, with the lower one; and where p joins, one for each door that may swing
+-- for a value p of a tag of lines: where the line to it is not too long, its slope with that of the upper door and, where it
+-- is not steeper, with that of the lower one; and where p joins, one for each door that may swing
 abbrev pub line_compared : Tuning → Point → Option Point → Option Point → Option Point → Option Point → ℕ
 line_compared t p (Some a) (Some q) (Some u) (Some l) = if is_short t a p
     then (if is_not_steeper a p (pos 0) u (pos t.comp_dev) then 2 else 1) + (if is_admitted a t.comp_dev u l p then 2 else 0) else 0
@@ -49,5 +49,6 @@ abbrev pub compared_under : Bool → State → Event → Option Tuning → ℕ
 compared_under step s e None = 0
 compared_under step s e (Some u) = compared step (archive_in u s) (turned u s.summary.held s.summary.pending e).sends
 
+-- for an event
 abbrev pub comparisons : Bool → State → Event → ℕ
 comparisons step s e = compared_under step s e s.summary.tuning

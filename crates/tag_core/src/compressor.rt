@@ -17,7 +17,7 @@ use std::marker::Model;
 use std::sync::ledger::Ledger;
 use trend_num::{Kind, Point, Rec, Sending, Steps, Tuning};
 
-/// What compression keeps of a tag (swinging doors, after Bristol), in memory that is reserved.
+// What compression keeps of a tag (swinging doors, after Bristol), in memory that is reserved.
 #[derive(Drop)]
 pub(crate) struct Compressor {
     tuning: Tuning,
@@ -51,7 +51,7 @@ impl Model for Compressor {
 }
 
 impl Compressor {
-    /// An empty one, of this many places for records.
+    // An empty one, of this many places for records.
     pub(crate) fn new(
         alloc: Global,
         tuning: Tuning,
@@ -79,7 +79,7 @@ impl Compressor {
         })
     }
 
-    /// One that takes over these records, in the places that they have, of this hinge and these doors.
+    // One that takes over these records, in the places that they have, of this hinge and these doors.
     pub(crate) fn from_records(
         tuning: Tuning,
         step: bool,
@@ -109,14 +109,14 @@ impl Compressor {
         }
     }
 
-    /// How many places for records are free.
+    // How many places for records are free.
     pub(crate) fn spare(&self) -> u32
         ensures { result ≡ spare_of self.now }
     {
         (self.recs.capacity() - self.recs.len()) as u32
     }
 
-    /// The tuning in force.
+    // The tuning in force.
     #[inline]
     pub(crate) fn tuning(&self) -> &Tuning
         ensures value { result.now ≡ self.now.tuning }
@@ -125,14 +125,14 @@ impl Compressor {
         &self.tuning
     }
 
-    /// Whether it is that of a step tag.
+    // Whether it is that of a step tag.
     pub(crate) fn step(&self) -> bool
         ensures { result ≡ self.now.step }
     {
         self.step
     }
 
-    /// The records, the oldest first.
+    // The records, the oldest first.
     #[inline]
     pub(crate) fn recs(&self) -> &[Rec]
         ensures { result.now ≡ self.now.records }
@@ -140,35 +140,35 @@ impl Compressor {
         self.recs.as_slice()
     }
 
-    /// The last kept point.
+    // The last kept point.
     pub(crate) fn hinge(&self) -> Option<Point>
         ensures { result ≡ self.now.hinge }
     {
         self.hinge
     }
 
-    /// The upper door.
+    // The upper door.
     pub(crate) fn upper(&self) -> Option<Point>
         ensures { result ≡ self.now.upper }
     {
         self.doors.map(|doors| doors.upper())
     }
 
-    /// The lower door.
+    // The lower door.
     pub(crate) fn lower(&self) -> Option<Point>
         ensures { result ≡ self.now.lower }
     {
         self.doors.map(|doors| doors.lower())
     }
 
-    /// The records alone.
+    // The records alone.
     pub(crate) fn into_recs(self) -> Vec<Rec>
         ensures { result.items ≡ self.records }
     {
         self.recs
     }
 
-    /// Takes what an exception test hands on, at this held point.
+    // Takes what an exception test hands on, at this held point.
     #[inline(always)]
     pub(crate) fn take_sent<L: Ledger>(
         &mut self,
@@ -193,7 +193,7 @@ impl Compressor {
         }
     }
 
-    /// Takes a new tuning, at this held point. What waits is taken first, and then the span since the hinge is ended.
+    // Takes a new tuning, at this held point. The pending value is taken first, then the span since the hinge is ended.
     pub(crate) fn retune<L: Ledger>(
         &mut self,
         held: Option<Point>,
@@ -214,7 +214,7 @@ impl Compressor {
         self.end_span(waiting.or(held), tuning);
     }
 
-    /// Keeps the held point, where values are since the hinge, and goes on by this tuning.
+    // Keeps the held point, where values are since the hinge, and goes on by this tuning.
     fn end_span(&mut self, held: Option<Point>, tuning: Tuning)
         requires placed { ArePlaced self.old.hinge held }
         requires tuned { TuningInRange tuning }
@@ -227,7 +227,7 @@ impl Compressor {
         self.tuning = tuning;
     }
 
-    /// Takes a value that was pending, where there is one.
+    // Takes a value that was pending, where there is one.
     #[inline(always)]
     fn take_pushed_out<L: Ledger>(
         &mut self,
@@ -248,7 +248,7 @@ impl Compressor {
         }
     }
 
-    /// Takes a value that is sent late.
+    // Takes a value that is sent late.
     #[inline]
     fn take_late(&mut self, p: Point)
         requires { 0 < spare_of self.old }
@@ -260,7 +260,7 @@ impl Compressor {
         });
     }
 
-    /// Takes a value that is sent in order.
+    // Takes a value that is sent in order.
     #[inline(always)]
     fn take_in_order<L: Ledger>(&mut self, held: Option<Point>, p: Point, steps: &mut Steps<L>)
         requires placed { ArePlaced self.old.hinge held }
@@ -278,7 +278,7 @@ impl Compressor {
         }
     }
 
-    /// Takes a value of a tag of lines that is sent in order.
+    // Takes a value of a tag of lines that is sent in order.
     #[inline(always)]
     fn take_line<L: Ledger>(&mut self, held: Option<Point>, p: Point, steps: &mut Steps<L>)
         requires placed { ArePlaced self.old.hinge held }
@@ -309,7 +309,7 @@ impl Compressor {
         }
     }
 
-    /// Takes a value of a step tag that is sent in order.
+    // Takes a value of a step tag that is sent in order.
     fn take_stair(&mut self, held: Option<Point>, p: Point)
         requires placed { ArePlaced self.old.hinge held }
         requires next { IsNext held p }
@@ -325,7 +325,7 @@ impl Compressor {
         }
     }
 
-    /// Hangs both doors at p, the last value since the hinge.
+    // Hangs both doors at p, the last value since the hinge.
     #[inline]
     fn hang(&mut self, hinge: Point, p: Point)
         requires hinge { self.old.hinge ≡ Some hinge }
@@ -337,7 +337,7 @@ impl Compressor {
         self.doors = Some(Doors::hang(hinge, self.tuning.comp_dev, p));
     }
 
-    /// Keeps p, from which the next values go on.
+    // Keeps p, from which the next values go on.
     #[inline]
     fn keep(&mut self, p: Point)
         requires { 0 < spare_of self.old }

@@ -27,10 +27,10 @@ pub fn parts_ok(tuning: &Tuning, step: bool, recs: &[Rec], summary: &Summary) ->
         && pending_fits(tuning, summary.held, summary.pending)
 }
 
-/// A tag has taken fewer events than this.
+// A tag has taken fewer events than this.
 const TAKEN_END: u64 = 1_000_000_000_000_000_000;
 
-/// Whether the records are as many as the summary says, few, and at most two for each event.
+// Whether the records are as many as the summary says, few, and at most two for each event.
 fn counts_ok(recs: &[Rec], summary: &Summary) -> bool
     ensures { IsTrue result ↔ ((summary.now.records ≡ length recs.now)
         × (length recs.now ≤ 2 * summary.now.taken)
@@ -43,7 +43,7 @@ fn counts_ok(recs: &[Rec], summary: &Summary) -> bool
         && u64::from(summary.records) <= 2 * summary.taken
 }
 
-/// Whether a tuning that may be there is this one.
+// Whether a tuning that may be there is this one.
 fn is_of_tuning(tuning: &Tuning, other: Option<Tuning>) -> bool
     ensures { IsTrue result ↔ IfThere (λ (t : Tuning). t ≡ tuning.now) other }
 {
@@ -53,7 +53,7 @@ fn is_of_tuning(tuning: &Tuning, other: Option<Tuning>) -> bool
     }
 }
 
-/// Whether each point of the summary is in range.
+// Whether each point of the summary is in range.
 fn places_in_range(summary: &Summary) -> bool
     ensures { IsTrue result ↔ (IfThere InRange summary.now.held
         × IfThere InRange summary.now.pending
@@ -68,7 +68,7 @@ fn places_in_range(summary: &Summary) -> bool
         && place_in_range(summary.lower)
 }
 
-/// Whether a point that may be there is in range.
+// Whether a point that may be there is in range.
 fn place_in_range(place: Option<Point>) -> bool
     ensures { IsTrue result ↔ IfThere InRange place }
 {
@@ -78,7 +78,7 @@ fn place_in_range(place: Option<Point>) -> bool
     }
 }
 
-/// Whether a tag that has begun is so throughout, and one that has not begun is blank, each record in range.
+// Whether a tag that has begun is so throughout, and one that has not begun is blank, each record in range.
 fn whole_ok(dev: u64, step: bool, recs: &[Rec], summary: &Summary) -> bool
     requires deviation { dev ≤ largest_value }
     requires held { IfThere InRange summary.now.held }
@@ -96,14 +96,14 @@ fn whole_ok(dev: u64, step: bool, recs: &[Rec], summary: &Summary) -> bool
     }
 }
 
-/// Whether there are no records and no doors.
+// Whether there are no records and no doors.
 fn is_blank(recs: &[Rec], summary: &Summary) -> bool
     ensures { IsTrue result ↔ IsBlank recs.now summary.now.upper summary.now.lower }
 {
     recs.is_empty() && summary.upper.is_none() && summary.lower.is_none()
 }
 
-/// Whether a tag with this held point and this hinge is so throughout, each record in range.
+// Whether a tag with this held point and this hinge is so throughout, each record in range.
 fn is_begun(
     dev: u64,
     step: bool,
@@ -124,8 +124,8 @@ fn is_begun(
         && doors_fit(dev, step, hinge, held, summary.upper, summary.lower)
 }
 
-/// Whether the first record is a kept one, the kept ones rise to the hinge, no late one is after the held point, and each
-/// is in range.
+// Whether the first record is a kept one, the kept ones rise to the hinge, no late one is after the held point, and each
+// is in range.
 fn records_fit(recs: &[Rec], hinge: Point, held: Point) -> bool
     ensures { IsTrue result ↔ (BeginsKept recs.now
         × PointsRise (kept_points recs.now)
@@ -143,8 +143,8 @@ fn records_fit(recs: &[Rec], hinge: Point, held: Point) -> bool
     }
 }
 
-/// Whether the records after this kept point do so: the kept ones rise from it to the hinge, no late one is after the held
-/// point, and each is in range. It stands apart from its caller, so that all that its loop reads stays in registers.
+// Whether the records after this kept point do so: the kept ones rise from it to the hinge, no late one is after the held
+// point, and each is in range. It stands apart from its caller, so that all that its loop reads stays in registers.
 #[inline(never)]
 fn rest_fits(from: Point, recs: &[Rec], hinge: Point, held: Point) -> bool
     ensures { IsTrue result ↔ (PointsRise (from ∷ kept_points recs.now)
@@ -164,7 +164,7 @@ fn rest_fits(from: Point, recs: &[Rec], hinge: Point, held: Point) -> bool
     last == hinge
 }
 
-/// Whether a record is in range, and, a kept one, after the last kept point or, a late one, not after the held point.
+// Whether a record is in range, and, a kept one, after the last kept point or, a late one, not after the held point.
 #[inline]
 fn may_follow(last: Point, rec: &Rec, held: Point) -> bool
     ensures { IsTrue result ↔ (InRange rec.now.point
@@ -178,7 +178,7 @@ fn may_follow(last: Point, rec: &Rec, held: Point) -> bool
         }
 }
 
-/// Whether a pending value is one that the exception test would not have sent.
+// Whether a pending value is one that the exception test would not have sent.
 fn pending_fits(tuning: &Tuning, held: Option<Point>, pending: Option<Point>) -> bool
     ensures { IsTrue result ↔ PendingFits tuning.now held pending }
 {
@@ -191,7 +191,7 @@ fn pending_fits(tuning: &Tuning, held: Option<Point>, pending: Option<Point>) ->
     }
 }
 
-/// Whether there are no doors where the hinge is held, and else two that fit the held point.
+// Whether there are no doors where the hinge is held, and else two that fit the held point.
 fn doors_fit(
     dev: u64,
     step: bool,
@@ -219,15 +219,15 @@ fn doors_fit(
     }
 }
 
-/// Whether x is later than the hinge, and not later than the held point.
+// Whether x is later than the hinge, and not later than the held point.
 fn is_between(hinge: Point, x: Point, held: Point) -> bool
     ensures { IsTrue result ↔ ((hinge.t < x.t) × (x.t ≤ held.t)) }
 {
     hinge.t < x.t && x.t <= held.t
 }
 
-/// Whether the line to the held point passes between these doors, and neither of them is further open than there. Counts
-/// on the ledger of the blank.
+// Whether these doors admit the line to the held point, and neither of them is further open than there. Counts on the
+// ledger of the blank.
 fn slopes_fit<L: Ledger>(
     dev: u64,
     hinge: Point,
@@ -255,7 +255,7 @@ fn slopes_fit<L: Ledger>(
     doors.admits(held, &mut steps) && are_left(doors, held, &mut steps)
 }
 
-/// Whether p leaves both doors where they are: neither of them is further open than at p.
+// Whether p leaves both doors where they are: neither of them is further open than at p.
 fn are_left<L: Ledger>(doors: Doors, p: Point, steps: &mut Steps<L>) -> bool
     requires range { InRange p }
     requires after { doors.hinge.t < p.t }

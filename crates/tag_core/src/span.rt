@@ -9,7 +9,7 @@ use door_slopes::Doors;
 use std::sync::ledger::Ledger;
 use trend_num::{Point, Steps, Tuning};
 
-/// Whether p joins the values since the hinge: the line to it is not too long, and passes between the doors.
+// Whether p joins the values since the hinge: the line to it is not too long, and the doors admit it.
 #[inline]
 pub(crate) fn joins<L: Ledger>(
     tuning: &Tuning,
@@ -28,8 +28,8 @@ pub(crate) fn joins<L: Ledger>(
     is_short(tuning, doors.hinge(), p) && doors.admits(p, steps)
 }
 
-/// Whether p, a value of a step tag, is covered by the hinge: it comes within CompMax, near to the hinge in value or too
-/// near in time to be kept.
+// Whether p, a value of a step tag, is not kept: it comes within CompMax, near to the hinge in value or too near to it in
+// time.
 #[inline]
 pub(crate) fn stays(tuning: &Tuning, hinge: Point, p: Point) -> bool
     requires tuned { TuningInRange tuning.now }
@@ -39,7 +39,7 @@ pub(crate) fn stays(tuning: &Tuning, hinge: Point, p: Point) -> bool
     is_short(tuning, hinge, p) && (is_near(tuning, hinge, p) || is_early(tuning, hinge, p))
 }
 
-/// Whether p is not too long after the hinge.
+// Whether p is not too long after the hinge.
 #[inline]
 pub(crate) fn is_short(tuning: &Tuning, hinge: Point, p: Point) -> bool
     requires tuned { TuningInRange tuning.now }
@@ -49,7 +49,7 @@ pub(crate) fn is_short(tuning: &Tuning, hinge: Point, p: Point) -> bool
     p.t <= hinge.t + tuning.comp_max
 }
 
-/// Whether p is too near in time to the hinge to be kept.
+// Whether p is too near in time to the hinge to be kept.
 #[inline]
 pub(crate) fn is_early(tuning: &Tuning, hinge: Point, p: Point) -> bool
     requires tuned { TuningInRange tuning.now }
@@ -59,7 +59,7 @@ pub(crate) fn is_early(tuning: &Tuning, hinge: Point, p: Point) -> bool
     p.t < hinge.t + tuning.comp_min
 }
 
-/// Whether the value of p is within CompDev of that of the hinge.
+// Whether the value of p is within CompDev of that of the hinge.
 fn is_near(tuning: &Tuning, hinge: Point, p: Point) -> bool
     ensures { result ≡ is_near tuning.now hinge p }
 {

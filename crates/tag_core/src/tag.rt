@@ -85,8 +85,8 @@ impl TagCore {
     }
 
     /// A tag of these records and this summary, with memory for `room` more events: two records for each. Its doors are
-    /// as they are in the summary; a summary without a tuning gets the given one. A room for which there are too many
-    /// places is refused as memory that is not there.
+    /// as they are in the summary; a summary without a tuning gets the given one. Where 2^32 places for records or more
+    /// would be needed it is refused as memory that is not there.
     pub fn from_parts(
         alloc: Global,
         tuning: Tuning,
@@ -126,8 +126,8 @@ impl TagCore {
         Self::resumed(tuning, step, recs, summary)
     }
 
-    /// A tag that goes on from these records, in the places that they have, and this summary; unless the places are too
-    /// many.
+    // A tag that goes on from these records, in the places that they have, and this summary; unless the places are too
+    // many.
     fn resumed(
         tuning: Tuning,
         step: bool,
@@ -197,8 +197,8 @@ impl TagCore {
         Ok(counted(&mut self.taken, before, self.compressor.recs()))
     }
 
-    /// Takes a new tuning: a value that waits is sent under the old one, the held point is kept, and then the new one is
-    /// in force. It takes no memory.
+    /// Takes a new tuning: the pending value is sent under the old one, the held point is kept where values are since the
+    /// hinge, and then the new one is in force. It takes no memory.
     pub fn retune<L: Ledger>(&mut self, tuning: Tuning, steps: &mut Steps<L>) -> Result<Took, Full>
         requires tuned { TuningInRange tuning }
         requires room { 2 ≤ self.old.spare }
@@ -223,7 +223,7 @@ impl TagCore {
         ensures unchanged { OnErr result (self.new ≡ self.old) }
         ensures uncounted { OnErr result (steps.new ≡ steps.old) }
 
-        // A value that waits is compared as one that is sent in order; nothing else is compared.
+        // A pending value is compared as one that is sent in order; nothing else is compared.
         ensures exact { OnOk result (steps.new ≡ steps.old + comparisons self.old.step self.old.state (Tune tuning)) }
         ensures counts { steps.old ≤ steps.new }
         ensures most { steps.new ≤ steps.old + 4 }
@@ -237,7 +237,7 @@ impl TagCore {
         Ok(counted(&mut self.taken, records, self.compressor.recs()))
     }
 
-    /// How many records there are, or that two more would be too many.
+    // How many records there are, or that two more would be too many.
     #[inline(always)]
     fn records_unless_full(&self) -> Result<u32, Full>
         ensures value { IfOk result (λ n. n ≡ length self.now.state.records) }
@@ -347,7 +347,7 @@ impl TagCore {
     }
 }
 
-/// Counts one event, of a tag that had this many records before it and has these now.
+// Counts one event, of a tag that had this many records before it and has these now.
 #[inline]
 fn counted(taken: &mut u64, before: u32, recs: &[Rec]) -> Took
     requires countable { taken.old < 2 ^ 64 - 1 }
@@ -362,7 +362,7 @@ fn counted(taken: &mut u64, before: u32, recs: &[Rec]) -> Took
     }
 }
 
-/// A copy of these records, in this many places.
+// A copy of these records, in this many places.
 fn copied(alloc: Global, recs: &[Rec], places: usize) -> Result<Vec<Rec>, WantOfMemory>
     requires room { length recs.now ≤ places }
     ensures records { IfOk result (λ v. v.items ≡ recs.now) }
@@ -375,7 +375,7 @@ fn copied(alloc: Global, recs: &[Rec], places: usize) -> Result<Vec<Rec>, WantOf
     Ok(copied)
 }
 
-/// The doors of a summary, where it has them.
+// The doors of a summary, where it has them.
 fn doors_of(tuning: &Tuning, step: bool, recs: &[Rec], summary: &Summary) -> Option<Doors>
     requires tuned { TuningInRange tuning.now }
     requires parts { ArePartsOk tuning.now step recs.now summary.now }

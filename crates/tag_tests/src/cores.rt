@@ -54,7 +54,7 @@ fn tuning_of(name: &str) -> Option<Tuning> {
     })
 }
 
-// What a core keeps of a row's history, and what the core that is made of its parts holds.
+// What is kept of a row's history, as a core tells it that is made again of the parts of the one that took it.
 fn compressed<L: Ledger>(
     rt: &impl Abort,
     alloc: Global,

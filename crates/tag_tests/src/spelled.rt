@@ -7,12 +7,12 @@ use std::process::Abort;
 use std::test::Fail;
 use trend_num::in_range;
 
-// The number that a field spells.
+/// The number that a field spells.
 pub fn number(rt: &impl Abort, field: &str) -> u64 {
     field.parse::<u64>().expect(rt, "a number")
 }
 
-// The point `T,V`, which is in range.
+/// The point `T,V`, which is in range.
 pub fn point(rt: &impl Abort, field: &str) -> Point
     ensures { InRange result }
 {
@@ -40,7 +40,7 @@ fn record(rt: &impl Abort, field: &str) -> Rec
     }
 }
 
-// The content of at most eight records.
+/// The content of at most eight records.
 pub fn content(rt: &impl Abort, alloc: Global, fields: &str) -> Result<Content, Fail> {
     let mut content = Content::new(alloc, 8)?;
     for field in fields.split_whitespace() {

@@ -34,7 +34,8 @@ line 0,1000000000000000 253402300799999,1000000000000000 @ 0 253402300799999 => 
 506804601599998000000000000000 1000000000000000 253402300799999000000000000 1000000000000000 1000000000000000 1 \
 1000000000000000 1000000000000000";
 
-// Windows over three pages, of points at the times 0 to 299, each of which has its time modulo 7 as its value.
+// Windows over four pages (of 108, 64, 64 and 64), of points at the times 0 to 299 that are put in falling order, each of
+// which has its time modulo 7 as its value.
 const LARGE: &str = "\
 line 0 299 => 1789 3 1 0 6 299 0 5
 stair 0 299 => 1784 3 1 0 6 299 0 5

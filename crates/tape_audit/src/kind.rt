@@ -20,10 +20,10 @@ pub trait Kind {
     ghost use Rattle.tape_audit.specs.declared.agenda.Item.{Item};
     ghost use Rattle.tape_audit.specs.declared.kind.Shown.{Shown};
 
-    /// The rows of a worker's file.
+    /// A row of a worker's file.
     type Row;
 
-    /// The entries of a tape.
+    /// An entry of a tape.
     type Entry;
 
     /// What a row leaves on a tape, and on which, if it is of this kind: by how many rows were the worker's in an earlier phase, the

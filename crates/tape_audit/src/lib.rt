@@ -5,7 +5,7 @@
 //! tape, and which is due next; [`find`] goes over a tape once, with a progress for each worker, and stops at the first entry
 //! of one [`Kind`] that is not its worker's next row there. What it finds is `AreFound`: the entries of each worker on the
 //! tape are the first of its rows there, in the file's order, and no other worker has one. No device, no lock, and no memory
-//! but one table a worker, made beforehand.
+//! but two tables a worker, made beforehand: one of units, and one of rows.
 #![tactic(auto)]
 
 mod agenda;

@@ -13,6 +13,7 @@ use Rattle.trend_model.specs.Walk.{records, held}
 abbrev pub value_at : Point → ℕ → Option ℤ
 value_at p t = if nat_eq p.t t then Some p.v else None
 
+-- whether a record of this kind is late
 abbrev pub is_late_record : Kind → Bool
 is_late_record Late = true
 is_late_record Kept = false

@@ -31,7 +31,7 @@ pub record AreDoors (a : Point) (d : ℕ) (values : List Point) (u l : Point) : 
   pub upper_least : (x : Point) → IsAmong x values → IsNotSteeper a u (pos d) x (pos d)
   pub lower_greatest : (x : Point) → IsAmong x values → IsNotSteeper a x (down d) l (down d)
 
--- the line from the hinge to p passes between the doors
+-- the line from the hinge to p is admitted: it lies between the doors
 abbrev pub is_admitted : Point → ℕ → Point → Point → Point → Bool
 is_admitted a d u l p = is_not_steeper a p (pos 0) u (pos d) && is_not_steeper a l (down d) p (pos 0)
 

@@ -6,6 +6,7 @@ use Rattle.trend_num.specs.declared.tuning.Tuning.{Tuning}
 use Rattle.trend_model.specs.History.{Event, Raw, Tune, Origin}
 use Rattle.trend_model.specs.Walk.{kept, late}
 
+-- a point by its time and its value
 abbrev pub at : ℕ → ℤ → Point
 at t v = record { t = t; v = v }
 
@@ -50,7 +51,7 @@ abbrev pub loosened : List Event
 loosened = Raw (at 40 (pos 40)) ∷ Raw (at 30 (pos 33)) ∷ Tune (tuned 0 5 0 1000000)
     ∷ Raw (at 20 (pos 20)) ∷ Raw (at 10 (pos 10)) ∷ Raw (at 0 (pos 0)) ∷ []
 
--- ExcDev 5: (0,0) (10,1), then ExcDev 0, which sends the value that waited
+-- ExcDev 5: (0,0) (10,1), then ExcDev 0, which sends the pending value
 abbrev pub tightened : List Event
 tightened = Tune (tuned 0 0 0 1000000) ∷ Raw (at 10 (pos 1)) ∷ Raw (at 0 (pos 0)) ∷ []
 
@@ -75,7 +76,7 @@ hasty = map Raw (at 20 (pos 21) ∷ at 10 (pos 20) ∷ at 0 (pos 10) ∷ [])
 abbrev pub doubled : List Rec
 doubled = kept (at 0 (pos 0)) ∷ late (at 0 (pos 4)) ∷ late (at 5 (pos 1)) ∷ late (at 5 (pos 2)) ∷ kept (at 10 (pos 8)) ∷ []
 
--- what a compressor keeps of the steep history that ends a segment only once its doors have opened past parallel, and
+-- what is kept of the steep history by a compressor that ends a span only once its doors have opened past parallel, and
 -- then keeps the value before without a test
 abbrev pub untested : List Rec
 untested = kept (at 0 (pos 0)) ∷ kept (at 2 (pos 3)) ∷ []

@@ -9,7 +9,8 @@ pub data Event : Type 0 where
   Raw : Point → Event
   Tune : Tuning → Event
 
--- the tuning and the kind with which a tag was made: a step tag keeps its value from point to point, any other goes along lines
+-- the tuning and the kind with which a tag was made: a step tag keeps its value from point to point, any other goes along
+-- lines
 pub record Origin : Type 0 where
   pub tuning : Tuning
   pub step : Bool

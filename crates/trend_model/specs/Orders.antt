@@ -1,4 +1,4 @@
--- The order of what was sent and of what was kept.
+-- What the laws say of a history and of what it sent: order in time, its tunings, and a fact of each value.
 use Rattle.std.specs.Prelude.{◌≡◌, ◌<◌, false, List, [], ◌∷◌}
 use Rattle.trend_num.specs.declared.point.Point.{Point}
 use Rattle.trend_num.specs.declared.tuning.Tuning.{Tuning}

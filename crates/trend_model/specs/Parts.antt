@@ -20,6 +20,7 @@ abbrev pub RisesAfter : Point → List Point → Type 0
 RisesAfter p [] = Unit {0}
 RisesAfter p (x ∷ xs) = (p.t < x.t) × RisesAfter x xs
 
+-- the points rise in time
 abbrev pub PointsRise : List Point → Type 0
 PointsRise [] = Unit {0}
 PointsRise (x ∷ xs) = RisesAfter x xs
@@ -39,8 +40,8 @@ BeginsKept (r ∷ rs) = is_late_record r.kind ≡ false
 abbrev pub IsLateBefore : Point → Rec → Type 0
 IsLateBefore q r = is_late_record r.kind ≡ true → r.point.t ≤ q.t
 
--- two doors on a hinge a that q has passed: they are after the hinge and not after q, and the slope to q lies between that
--- to the upper one raised by d and that to the lower one lowered by d, and neither door is further open than at q
+-- two doors, on a hinge a, that admit q: they are after the hinge and not after q, the slope to q lies between that to the
+-- upper one raised by d and that to the lower one lowered by d, and neither door is further open than at q
 pub record AreDoorsAt (d : ℕ) (a q u l : Point) : Type 0 where
   pub upper_after : a.t < u.t
   pub upper_before : u.t ≤ q.t

@@ -20,12 +20,13 @@ read_from step p (q ∷ ps) t =
     else if nat_lt t q.t then between step p q t
     else read_from step q ps t
 
--- the read at t: exact at a point, between two points by the line or the stair, flat after the last, nothing before the first
+-- the read at t: exact at a point, between two points by the line or the stair, flat after the last, nothing before the
+-- first
 abbrev pub read_at : Bool → List Point → ℕ → Reading
 read_at step [] t = Nothing
 read_at step (p ∷ ps) t = if nat_lt t p.t then Nothing else read_from step p ps t
 
--- the whole number next to a fraction, the upper one where two are as near
+-- the whole number nearest to a fraction, the upper one where two are as near
 abbrev pub rounded : ℤ → ℕ → ℤ
 rounded num den = int_div_euclid ((pos 2 *ℤ num) +ℤ pos den) (pos (2 * den))
 

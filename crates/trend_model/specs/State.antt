@@ -59,6 +59,7 @@ pub record Turn : Type 0 where
   pub pending : Option Point
   pub sends : List Sent
 
+-- the same of an offer
 abbrev pub turn_of : Offer → Turn
 turn_of o = record { last = o.last; pending = o.pending; sends = gained o.first o.second }
 
@@ -69,8 +70,8 @@ turned u last waiting (Tune w) = record { last = option_or waiting last; pending
 
 -- ---- the compression
 
--- what compression keeps: the tuning in force, the records, the hinge, the last value sent in order, and the two doors, which
--- are there where there are values since the hinge
+-- what compression keeps: the tuning in force, the records, the hinge, the last value sent in order, and the two doors,
+-- which are there where there are values since the hinge
 pub record Archive : Type 0 where
   pub tuning : Tuning
   pub records : List Rec
@@ -87,7 +88,7 @@ keeps c q = record c { records = c.records ++ (kept q ∷ []); hinge = Some q; h
 abbrev pub holds : Archive → Point → Point → Point → Archive
 holds c p u l = record c { held = Some p; upper = Some u; lower = Some l }
 
--- the line from the hinge to p is not too long, and passes between the doors
+-- the line from the hinge to p is not too long, and is admitted by the doors
 abbrev pub joins : Tuning → Point → Point → Point → Point → Bool
 joins t a u l p = is_short t a p && is_admitted a t.comp_dev u l p
 
@@ -222,7 +223,7 @@ IsNeverRetuned (Tune u ∷ h) = ⊥
 abbrev pub with_made : Origin → State → State
 with_made o s = record s { summary = record s.summary { tuning = Some o.tuning } }
 
--- a state that was written before tags could be retuned: it has no tuning, and stands where nothing was retuned
+-- a state of the older form: it has no tuning, and stands where nothing was retuned
 pub record StandsUntuned (o : Origin) (h : List Event) (s : State) : Type 0 where
   pub untuned : s.summary.tuning ≡ None
   pub never : IsNeverRetuned h

@@ -9,10 +9,11 @@ use Rattle.trend_num.specs.declared.tuning.Tuning.{Tuning}
 use Rattle.trend_num.specs.Lines.{is_within}
 use Rattle.trend_model.specs.History.{Event, Origin, Sent, InOrder, Late, Tuned, sent}
 
--- a point as a record
+-- a point as a Kept record
 abbrev pub kept : Point → Rec
 kept p = record { kind = kind.Kept; point = p }
 
+-- a point as a Late record
 abbrev pub late : Point → Rec
 late p = record { kind = kind.Late; point = p }
 
@@ -22,13 +23,14 @@ pub record Walk : Type 0 where
   pub records : List Rec
   -- the last kept point
   pub hinge : Option Point
-  -- the values sent in order since the hinge that the line or stair to come still covers, the newest first
+  -- the values sent in order since the hinge, less those that another one replaced, the newest first
   pub since : List Point
   -- the values that were passed over, the newest first
   pub passed : List Point
   -- the tuning in force
   pub tuning : Tuning
 
+-- where it is before anything was sent
 abbrev pub at_start : Tuning → Walk
 at_start u = record { records = []; hinge = None; since = []; passed = []; tuning = u }
 

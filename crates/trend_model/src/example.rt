@@ -21,7 +21,7 @@ pub fn worked_histories()
     ensures overtaken_held { held (lines (tuned 5 0 0 1000000)) overtaken ≡ Some (at 20 (pos 1)) }
 {}
 
-/// The same of histories with a retuning, which sends the value that waits and keeps the held point.
+/// The same of histories with a retuning, which sends the pending value and keeps the held point.
 pub fn worked_retunings()
     ensures loosened { records (lines (tuned 0 0 0 1000000)) loosened ≡ kept (at 0 (pos 0)) ∷ kept (at 20 (pos 20)) ∷ [] }
     ensures loosened_held { held (lines (tuned 0 0 0 1000000)) loosened ≡ Some (at 40 (pos 40)) }
@@ -61,8 +61,8 @@ pub fn spans_exist()
         (passed (lines (tuned 0 0 5 1000000)) spiked) (at 0 (pos 0)) (at 2 (pos 0)) }
 {}
 
-/// The promise refuses the records of a compressor that ends a segment only once its doors have opened past parallel, and
-/// then keeps the value before without a test.
+/// The promise refuses the records of a compressor that ends a span only once its doors have opened past parallel, and then
+/// keeps the value before without a test.
 pub fn untested_value_is_refused()
     ensures { ¬ IsBoundedBy untested (Some (at 3 (pos 0))) [] (sent (lines (tuned 0 1 0 1000000)) steep)
         (lines (tuned 0 1 0 1000000)) steep }

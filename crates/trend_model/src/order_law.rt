@@ -41,7 +41,7 @@ pub fn held_is_last()
         → IfThere (IsNotBefore (listed rs)) s.held }
 {}
 
-/// The records of a prefix of a history are a prefix of its records.
+/// Events that come later only add records, behind those that were there.
 pub fn records_only_grow()
     ensures { (o : Origin) (later h : List Event) →
         (more : List Rec) × (records o (later ++ h) ≡ records o h ++ more) }

@@ -11,7 +11,7 @@ ghost use Rattle.trend_model.specs.Parts.{PointsRise};
 ghost use Rattle.trend_model.specs.ReadFacts.{IsBetween, IsFracBetween};
 ghost use Rattle.trend_model.specs.Reads.{read_at, rounded, value_read};
 
-/// A fraction is rounded to the whole number next to it, the upper one where two are as near, and to no other.
+/// A fraction is rounded to the whole number nearest to it, the upper one where two are as near, and to no other.
 pub fn rounded_is_next()
     ensures next { (num : ℤ) (den : ℕ) → 0 < den → IsRounded num den (rounded num den) }
     ensures only { (num n : ℤ) (den : ℕ) → 0 < den → IsRounded num den n → n ≡ rounded num den }

@@ -24,7 +24,7 @@ line_value a b t = record {
   den = b.t - a.t;
 }
 
--- n is the whole number next to num / den, the upper one where two are as near: n ≤ num / den + 1/2 < n + 1
+-- n is the whole number nearest to num / den, the upper one where two are as near: n ≤ num / den + 1/2 < n + 1
 pub record IsRounded (num : ℤ) (den : ℕ) (n : ℤ) : Type 0 where
   pub not_above : (n *ℤ pos (2 * den)) ≤ℤ ((pos 2 *ℤ num) +ℤ pos den)
   pub not_below : ((pos 2 *ℤ num) +ℤ pos den) <ℤ ((n +ℤ pos 1) *ℤ pos (2 * den))

@@ -20,6 +20,6 @@ pub record IsStored (len : ℕ) (bytes : List ℕ) : Type 0 where
   pub in_array : len ≤ length bytes
   pub zeros : take len bytes ++ replicate (64 - len) 0 ≡ bytes
 
--- what is stored is known from the bytes of the name
+-- a name that is stored with the length `len` has `len` bytes
 pub stored_len : (len : ℕ) (bytes : List ℕ) → IsStored len bytes → length (take len bytes) ≡ len
 stored_len len bytes stored = length-take-le len bytes stored.in_array

@@ -4,7 +4,7 @@ use Rattle.trend_num.specs.declared.query.TagQuery.{TagQuery}
 use Rattle.trend_num.specs.declared.query.TagQuery.TheVariants.{At, Points, Window}
 use Rattle.trend_num.specs.Ranges.{last_time}
 
--- a question of times in range, of which the second is not before the first, or is after it
+-- a question of times in range: one for points ends where it begins or later, one for a window later than it begins
 abbrev pub IsTagQuery : TagQuery → Type 0
 IsTagQuery (At t) = t ≤ last_time
 IsTagQuery (Points start end) = (start ≤ end) × (end ≤ last_time)

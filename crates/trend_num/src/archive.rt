@@ -17,7 +17,9 @@ pub enum Kind {
 /// A record of an archive.
 #[derive(Clone, Copy, Debug, PartialEq, Eq)]
 pub struct Rec {
+    /// How it came into the archive.
     pub kind: Kind,
+    /// Its time and its value.
     pub point: Point,
 }
 
@@ -40,8 +42,8 @@ pub struct Summary {
     /// The lower door of a tag of lines: no value since the hinge has a greater slope, lowered by CompDev. Of a step tag
     /// the held point. None where no value is since.
     pub lower: Option<Point>,
-    /// The tuning in force. None stands only in a summary that was written before tags could be retuned, and means the
-    /// tuning with which the tag was made.
+    /// The tuning in force. None stands only in a summary of the older form, which has no tuning, and means the tuning with
+    /// which the tag was made.
     pub tuning: Option<Tuning>,
 }
 

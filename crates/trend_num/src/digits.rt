@@ -4,7 +4,7 @@ ghost use Rattle.std.specs.List.{list_all};
 ghost use Rattle.std.specs.Char.{is_ascii_digit};
 ghost use Rattle.trend_num.specs.Numerals.{numeral, signed_by, unsigned_numeral, are_digits, digits_value};
 
-/// The most digits of a numeral.
+// The most digits of a numeral.
 const MAX_DIGITS: usize = 20;
 
 /// The number that a numeral spells: an optional `-` and 1 to 20 digits. None where the bytes are no numeral.
@@ -20,7 +20,7 @@ pub fn numeral(bytes: &[u8]) -> Option<i128>
     }
 }
 
-/// The number that 1 to 20 digits spell.
+// The number that 1 to 20 digits spell.
 fn unsigned_numeral(bytes: &[u8]) -> Option<i128>
     ensures value { result ≡ signed_by pos (unsigned_numeral bytes.now) }
     ensures small { IfSome result (λ n. (pos 0 ≤ℤ n) × (n <ℤ pos (10 ^ 20))) }
@@ -32,21 +32,21 @@ fn unsigned_numeral(bytes: &[u8]) -> Option<i128>
     }
 }
 
-/// Whether these are 1 to 20 digits.
+// Whether these are 1 to 20 digits.
 fn are_digits(bytes: &[u8]) -> bool
     ensures { result ≡ are_digits bytes.now }
 {
     !bytes.is_empty() && bytes.len() <= MAX_DIGITS && all_digits(bytes)
 }
 
-/// Whether each byte is a digit.
+// Whether each byte is a digit.
 fn all_digits(bytes: &[u8]) -> bool
     ensures { result ≡ list_all is_ascii_digit bytes.now }
 {
     bytes.iter().all(|b| b.is_ascii_digit())
 }
 
-/// The number that digits spell.
+// The number that digits spell.
 fn digits_value(digits: &[u8]) -> u128
     requires digits { list_all is_ascii_digit digits.now ≡ true }
     requires few { length digits.now ≤ 20 }

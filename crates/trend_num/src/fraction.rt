@@ -31,7 +31,7 @@ pub fn line_at(a: Point, b: Point, t: u64) -> Frac
     }
 }
 
-/// A start and a climb from it.
+// A start and a climb from it.
 fn sum(start: i128, climb: i128) -> i128
     requires start { unsigned_abs start ≤ 3 * largest_value * last_time }
     requires climb { unsigned_abs climb ≤ 3 * largest_value * last_time }
@@ -40,7 +40,7 @@ fn sum(start: i128, climb: i128) -> i128
     start + climb
 }
 
-/// The whole number next to `num / den`, the upper one where two are as near.
+/// The whole number nearest to `num / den`, the upper one where two are as near.
 pub fn round_half_up(num: i128, den: u64) -> i128
     requires some { 0 < den }
     requires bounded { den ≤ 2 * last_time }
@@ -50,7 +50,7 @@ pub fn round_half_up(num: i128, den: u64) -> i128
     floor(twice(num, den), 2 * den)
 }
 
-/// Twice a fraction and one more, as a number of its halves.
+// Twice a fraction and one more, as a number of its halves.
 fn twice(num: i128, den: u64) -> i128
     requires bounded { den ≤ 2 * last_time }
     requires small { unsigned_abs num ≤ 10 ^ 30 }
@@ -59,7 +59,7 @@ fn twice(num: i128, den: u64) -> i128
     2 * num + i128::from(den)
 }
 
-/// The greatest whole number that is at most `num / den`.
+// The greatest whole number that is at most `num / den`.
 fn floor(num: i128, den: u64) -> i128
     requires some { 0 < den }
     ensures not_above { (result *ℤ pos den) ≤ℤ num }

@@ -1,9 +1,9 @@
 //! Numbers, names and types of a plant historian.
 //!
 //! The types that every layer shares (points, records, tunings, names), and exact arithmetic on lines and slopes. The
-//! definitions in `specs/` are those of ranges, lines, names and numerals; what a tag's archive is stands in
-//! `trend_model`. Each call equals its formula. Nothing here takes memory; what is no name and no numeral is answered
-//! None.
+//! definitions in `specs/` are those of ranges, limits, lines, names, numerals and questions; what a tag's archive is
+//! stands in `trend_model`. Each call equals its formula. Nothing here takes memory; what is no name and no numeral is
+//! answered None.
 #![tactic(auto)]
 
 mod archive;

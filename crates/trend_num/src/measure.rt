@@ -5,15 +5,15 @@
 pub enum Measure {
     /// Twice the area under the line, in value units times milliseconds.
     Area,
-    /// The time-weighted mean, in value units.
+    /// The time-weighted mean, in value units, rounded.
     Avg,
-    /// The area, in value units times seconds.
+    /// The area, in value units times seconds, rounded.
     Total,
-    /// The least value.
+    /// The least value; of a step tag without the value at the window's end.
     Low,
-    /// The greatest value.
+    /// The greatest value; of a step tag without the value at the window's end.
     High,
-    /// The number of points.
+    /// The number of points from the window's start on, before its end.
     Count,
     /// The value at the window's start.
     First,

@@ -6,7 +6,7 @@ ghost use Rattle.trend_num.specs.Names.{IsName, is_name_byte};
 use std::marker::Model;
 use std::str;
 
-/// The most bytes of a name.
+// The most bytes of a name.
 const MAX_LEN: usize = 64;
 
 /// The name of a tag, a group or a calculation: 1 to 64 letters, digits, `_`, `.` and `-`, case sensitive.
@@ -60,7 +60,7 @@ impl Name {
     }
 }
 
-/// A letter, a digit, `_`, `.` or `-`.
+// A letter, a digit, `_`, `.` or `-`.
 fn is_name_byte(b: u8) -> bool
     ensures { result ≡ is_name_byte b }
 {
@@ -85,14 +85,14 @@ pub fn name_from(bytes: &[u8]) -> Option<Name>
     })
 }
 
-/// Whether a name may have each of these bytes.
+// Whether a name may have each of these bytes.
 fn is_spelled(bytes: &[u8]) -> bool
     ensures { result ≡ list_all is_name_byte bytes.now }
 {
     bytes.iter().all(|b| is_name_byte(*b))
 }
 
-/// The bytes, and zeros after them.
+// The bytes, and zeros after them.
 fn padded(bytes: &[u8]) -> [u8; 64]
     requires { length bytes.now ≤ 64 }
     ensures { result ≡ bytes.now ++ replicate (64 - length bytes.now) 0 }

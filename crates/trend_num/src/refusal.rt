@@ -7,25 +7,29 @@ use std::alloc::{AllocError, AllocFailed};
 pub enum What {
     /// Bytes of standard input, or of a collector's or a reader's file.
     FileBytes,
-    /// Bytes of the base or the plan.
+    /// Bytes of a base, a plan or a calendar.
     TextBytes,
-    /// Raw rows of all files of a run, or lines of standard input.
+    /// Raw rows of a collector's file, of all collectors of a plan, or of the log of a plant; or lines of standard input.
     Rows,
+    /// Tags of a base.
     Tags,
+    /// Collectors of a plan.
     Collectors,
+    /// Readers of a plan.
     Readers,
     /// Queries of one reader.
     Queries,
+    /// Groups of a base.
     Groups,
     /// Calculations of one group.
     Calcs,
     /// Records of one tag.
     Records,
-    /// Records of all tags when the store is opened.
+    /// Records of all tags of a base together, when they are opened.
     StoreRecords,
     /// Records that a group copied from its inputs.
     Copies,
-    /// Windows times calculations of one group.
+    /// Complete windows of one group times its calculations.
     Cells,
 }
 

@@ -49,7 +49,7 @@ pub fn slope_cmp<L: Ledger>(
     left.cmp(&right)
 }
 
-/// How far `to` is above `from`.
+// How far `to` is above `from`.
 pub(crate) fn rise(from: i64, to: i64) -> i64
     requires from { unsigned_abs from ≤ largest_value }
     requires to { unsigned_abs to ≤ 2 * largest_value }
@@ -59,7 +59,7 @@ pub(crate) fn rise(from: i64, to: i64) -> i64
     to - from
 }
 
-/// A rise times a length of time.
+// A rise times a length of time.
 pub(crate) fn product(rise: i64, length: u64) -> i128
     requires rise { unsigned_abs rise ≤ 3 * largest_value }
     requires length { length ≤ last_time }
@@ -70,7 +70,7 @@ pub(crate) fn product(rise: i64, length: u64) -> i128
     i128::from(rise) * i128::from(length as i64)
 }
 
-/// How far x, raised by `raise`, is above `a`, times a length of time.
+// How far x, raised by `raise`, is above `a`, times a length of time.
 fn raised_product(a: Point, x: Point, raise: i64, length: u64) -> i128
     requires hinge { InRange a }
     requires point { InRange x }
@@ -81,7 +81,7 @@ fn raised_product(a: Point, x: Point, raise: i64, length: u64) -> i128
     product(rise(a.v, x.v + raise), length)
 }
 
-/// How far one product is above another.
+// How far one product is above another.
 fn gap(upper: i128, lower: i128) -> i128
     requires upper { unsigned_abs upper ≤ 3 * largest_value * last_time }
     requires lower { unsigned_abs lower ≤ 3 * largest_value * last_time }
@@ -90,7 +90,7 @@ fn gap(upper: i128, lower: i128) -> i128
     upper - lower
 }
 
-/// How far x is above the line from `a` to `b`, times the line's length in time.
+// How far x is above the line from `a` to `b`, times the line's length in time.
 fn above(a: Point, b: Point, x: Point) -> i128
     requires first { InRange a }
     requires last { InRange b }

@@ -16,5 +16,6 @@ pub enum Bad {
 pub enum CalcValue {
     /// A whole number, at most 10^18 from 0.
     Num(i64),
+    /// No number, and why.
     Bad(Bad),
 }

@@ -1,8 +1,9 @@
 -- What a drill generates. The signal of a tag begins with a number below 2 ^ 31, by the drill's number and the tag's place, and
 -- each number gives the next one by a linear congruence; what is drawn of a number is its upper fifteen bits. Each event draws
--- twice. The first draw says how far the event is from the clock, 100 to 999 milliseconds, the second how far from the level, -20
--- to 20 units. An event goes on from the clock, and takes clock and level along. Only each sixteenth goes back: it is as far
--- before the clock, or at time 0 where the clock has not come so far, and leaves clock and level where they are.
+-- twice. The first draw says how far the event is from the clock, 100 to 999 milliseconds, the second how far from the
+-- level, -20 to 20 value units. An event goes on from the clock, and takes clock and level along. Only each sixteenth goes
+-- back: it is as far before the clock, or at time 0 where the clock has not come so far, and leaves clock and level where
+-- they are.
 use Rattle.std.specs.Prelude.{List, map, Bool, ℕ, zero, suc, ◌+◌, ◌-◌, ◌*◌, ◌/◌, ◌%◌, ◌^◌, ◌<◌, ◌≤◌, ◌==◌, if◌then◌else◌, ℤ, pos, ◌+ℤ◌, ◌-ℤ◌, unsigned_abs}
 use Rattle.std.specs.List.{range_with_len}
 use Rattle.trend_num.specs.declared.point.Point.{Point}

@@ -53,7 +53,7 @@ abbrev pub held_text : Option Point → List ℕ
 held_text None = codes "none"
 held_text (Some q) = point_text q
 
--- `taken=N records=R kept=K late=L`, between blanks, and the word of what follows
+-- `taken=N records=R kept=K late=L` with a space before each, and the word of what follows
 abbrev pub counts_text : TagLine → List ℕ
 counts_text l =
     codes " taken=" ++ decimal l.taken ++ codes " records=" ++ decimal l.records ++ codes " kept="
@@ -111,7 +111,7 @@ told_text (Tag reply) = answer_text reply
 told_text (Snap s) = codes "snap " ++ decimal s.taken ++ codes " " ++ held_text s.held
 told_text (Row value) = value_text value
 
--- `reply READER ROW`, with a blank behind it
+-- `reply READER ROW`, with a space behind it
 abbrev pub asker_text : ℕ → ℕ → List ℕ
 asker_text reader row = codes "reply " ++ decimal reader ++ codes " " ++ decimal row ++ codes " "
 

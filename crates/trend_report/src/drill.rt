@@ -6,13 +6,13 @@ ghost use Rattle.trend_report.specs.Drill.{after, drill_points, event, first_sig
 use std::alloc::Global;
 use trend_num::{Point, WantOfMemory};
 
-/// Each number that a signal draws from is below this.
+// Each number that a signal draws from is below this.
 const NUMBERS: u64 = 1 << 31;
 
-/// What is drawn of a number is how many of these are in it.
+// What is drawn of a number is its upper fifteen bits: the whole part of the number over this.
 const DRAW: u64 = 1 << 16;
 
-/// The signal of a generated tag before an event.
+// The signal of a generated tag before an event.
 #[derive(Clone, Copy)]
 struct Signal {
     /// The last number that was drawn from.
@@ -24,8 +24,9 @@ struct Signal {
 }
 
 /// The first `events` points of the tag at the place `tag`, counted from 0, in the drill `number`. Of events one behind the other
-/// each is 100 to 999 milliseconds later than the one before it and at most 20 units off, but each sixteenth goes back in time, and
-/// the next goes on from the one before that. The same three numbers give the same points. The one error is want of memory.
+/// each is 100 to 999 milliseconds later than the one before it and at most 20 value units off, but each sixteenth goes back
+/// in time, and the next goes on from the one before that. The same three numbers give the same points. The one error is
+/// want of memory.
 pub fn drill_rows(
     alloc: Global,
     number: u32,
@@ -43,7 +44,7 @@ pub fn drill_rows(
     Ok(rows)
 }
 
-/// The signal of a tag before its first event.
+// The signal of a tag before its first event.
 fn first_signal(number: u32, tag: u32) -> Signal
     ensures first { result ≡ first_signal number tag }
     ensures near { IsNear 0 result }
@@ -56,7 +57,7 @@ fn first_signal(number: u32, tag: u32) -> Signal
 }
 
 impl Signal {
-    /// The event at a place among those of the tag. The signal is then the one after it.
+    // The event at a place among those of the tag. The signal is then the one after it.
     fn event(&mut self, place: u32) -> Point
         requires { IsNear place self.old }
         ensures event { result ≡ event place self.old }
@@ -82,7 +83,7 @@ impl Signal {
     }
 }
 
-/// A level after a swing.
+// A level after a swing.
 fn moved(level: i64, swing: i64) -> i64
     requires level { unsigned_abs level ≤ 2 ^ 40 }
     requires swing { unsigned_abs swing ≤ 20 }
@@ -92,7 +93,7 @@ fn moved(level: i64, swing: i64) -> i64
     level + swing
 }
 
-/// The number after a number.
+// The number after a number.
 fn next_number(number: u64) -> u64
     requires { number < 2 ^ 31 }
     ensures next { result ≡ next_number number }
@@ -101,7 +102,7 @@ fn next_number(number: u64) -> u64
     (1_103_515_245 * number + 12_345) % NUMBERS
 }
 
-/// How far from the clock, in milliseconds, an event is that draws after a number.
+// How far from the clock, in milliseconds, an event is that draws after a number.
 fn gap_of(number: u64) -> u64
     requires { number < 2 ^ 31 }
     ensures gap { result ≡ gap_of number }
@@ -110,7 +111,7 @@ fn gap_of(number: u64) -> u64
     100 + next_number(number) / DRAW % 900
 }
 
-/// How far from the level it is.
+// How far from the level such an event is, in value units.
 fn swing_of(number: u64) -> i64
     requires { number < 2 ^ 31 }
     ensures swing { result ≡ swing_of number }

@@ -37,7 +37,7 @@ pub fn group_text(alloc: Global, line: &GroupLine) -> Result<String, WantOfMemor
     Ok(group_lines(alloc, line)?)
 }
 
-/// The same, with the allocator's own error.
+// The same, with the allocator's own error.
 fn group_lines(alloc: Global, line: &GroupLine) -> Result<String, AllocError>
     ensures { IfOk result (λ text. string_bytes text ≡ group_text line.now) }
 {
@@ -47,7 +47,7 @@ fn group_lines(alloc: Global, line: &GroupLine) -> Result<String, AllocError>
     Ok(text)
 }
 
-/// Adds the line of the group.
+// Adds the line of the group.
 fn put_heading(text: &mut String, line: &GroupLine) -> Result<(), AllocError>
     ensures { OnOk result (string_bytes text.new ≡ string_bytes text.old
         ++ heading_text line.now.name line.now.windows line.now.refreshes line.now.evals) }
@@ -58,7 +58,7 @@ fn put_heading(text: &mut String, line: &GroupLine) -> Result<(), AllocError>
     write!(text, " refreshes={refreshes} evals={evals}\n")
 }
 
-/// Adds the lines of its calculations.
+// Adds the lines of its calculations.
 fn put_lasts(text: &mut String, line: &GroupLine) -> Result<(), AllocError>
     ensures { OnOk result (string_bytes text.new ≡ string_bytes text.old
         ++ flat_map (last_text line.now.name line.now.windows) line.now.lasts.items) }
@@ -69,7 +69,7 @@ fn put_lasts(text: &mut String, line: &GroupLine) -> Result<(), AllocError>
     Ok(())
 }
 
-/// Adds the line of one.
+// Adds the line of one.
 fn put_last(text: &mut String, group: &Name, windows: u32, last: &LastRow) -> Result<(), AllocError>
     ensures { OnOk result (string_bytes text.new ≡ string_bytes text.old ++ last_text group.now windows last.now) }
 {

@@ -1,10 +1,12 @@
 //! The lines of a report: what a session has made of each tag and of each group, and the answers to the queries of its readers.
 //!
-//! Each line is one text, and its bytes are those of the definition of the same name: `tag_text`,
-//! `group_text` and `reply_text`. A fraction on a line between two points is rounded to the whole number next to it, the upper
-//! one where two are as near. The one error is want of memory.
+//! What is told of a tag, of a group and of a query is one text each, whose bytes are those of the definition of the same
+//! name: `tag_text`, `group_text` (a line for the group and one for each calculation) and `reply_text`. A fraction on a line
+//! between two points is rounded to the whole number next to it, the upper one where two are as near. The one error is want
+//! of memory.
 //!
-//! And the points that a drill generates for a tag, those of `drill_points`, in range however many they are.
+//! The crate also gives the points that a drill generates for a tag, those of `drill_points`: in range, however many they
+//! are.
 #![tactic(auto)]
 
 mod drill;

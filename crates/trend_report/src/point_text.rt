@@ -5,7 +5,7 @@ ghost use Rattle.trend_report.specs.Lines.{held_text, point_text};
 use std::alloc::AllocError;
 use trend_num::Point;
 
-/// Adds `T,V`.
+// Adds `T,V`.
 pub(crate) fn put_point(text: &mut String, p: Point) -> Result<(), AllocError>
     ensures { OnOk result (string_bytes text.new ≡ string_bytes text.old ++ point_text p) }
 {
@@ -13,7 +13,7 @@ pub(crate) fn put_point(text: &mut String, p: Point) -> Result<(), AllocError>
     write!(text, "{t},{v}")
 }
 
-/// Adds a point, or `none` where there is none.
+// Adds a point, or `none` where there is none.
 pub(crate) fn put_held(text: &mut String, held: Option<Point>) -> Result<(), AllocError>
     ensures { OnOk result (string_bytes text.new ≡ string_bytes text.old ++ held_text held) }
 {

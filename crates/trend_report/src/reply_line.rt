@@ -54,7 +54,7 @@ fn line_of_answer(alloc: Global, reader: u32, row: u64, reply: &Reply) -> Result
     Ok(text)
 }
 
-/// The same, with the allocator's own error.
+// The same, with the allocator's own error.
 fn reply_line(alloc: Global, reader: u32, row: u64, reply: &ReplyText) -> Result<String, AllocError>
     ensures { IfOk result (λ text. string_bytes text ≡ reply_text reader row reply.now) }
 {
@@ -72,7 +72,7 @@ fn put_asker(text: &mut String, reader: u32, row: u64) -> Result<(), AllocError>
     write!(text, "reply {reader} {row} ")
 }
 
-/// Adds what is told.
+// Adds what is told.
 fn put_told(text: &mut String, reply: &ReplyText) -> Result<(), AllocError>
     ensures { OnOk result (string_bytes text.new ≡ string_bytes text.old ++ told_text reply.now) }
 {
@@ -86,7 +86,7 @@ fn put_told(text: &mut String, reply: &ReplyText) -> Result<(), AllocError>
     }
 }
 
-/// Adds the answer to a question about a tag.
+// Adds the answer to a question about a tag.
 fn put_answer(text: &mut String, reply: &Reply) -> Result<(), AllocError>
     ensures { OnOk result (string_bytes text.new ≡ string_bytes text.old ++ answer_text reply.now) }
 {
@@ -97,7 +97,7 @@ fn put_answer(text: &mut String, reply: &Reply) -> Result<(), AllocError>
     }
 }
 
-/// Adds what stands at a time.
+// Adds what stands at a time.
 fn put_reading(text: &mut String, reading: Reading) -> Result<(), AllocError>
     ensures { OnOk result (string_bytes text.new ≡ string_bytes text.old ++ reading_text reading) }
 {
@@ -112,7 +112,7 @@ fn put_reading(text: &mut String, reading: Reading) -> Result<(), AllocError>
     }
 }
 
-/// The whole number next to a fraction, the upper one where two are as near; 0 where it is over 0.
+// The whole number next to a fraction, the upper one where two are as near; 0 where it is over 0.
 fn rounded(f: Frac) -> i128
     ensures { result ≡ whole_of f.num f.den }
 {
@@ -125,7 +125,7 @@ fn rounded(f: Frac) -> i128
     if 2 * rest < den { whole } else { whole + 1 }
 }
 
-/// Adds points.
+// Adds points.
 fn put_points(text: &mut String, points: &PointList) -> Result<(), AllocError>
     ensures { OnOk result (string_bytes text.new
         ≡ string_bytes text.old ++ points_text points.now.list.items points.now.more) }
@@ -137,7 +137,7 @@ fn put_points(text: &mut String, points: &PointList) -> Result<(), AllocError>
     text.push_str(if points.more { "more" } else { "end" })
 }
 
-/// Adds a number, or `none` where there is none.
+// Adds a number, or `none` where there is none.
 fn put_number(text: &mut String, number: Option<i128>) -> Result<(), AllocError>
     ensures { OnOk result (string_bytes text.new ≡ string_bytes text.old ++ number_text number) }
 {
@@ -147,7 +147,7 @@ fn put_number(text: &mut String, number: Option<i128>) -> Result<(), AllocError>
     }
 }
 
-/// Adds the value of a calculation, or `none` where there is none.
+// Adds the value of a calculation, or `none` where there is none.
 pub(crate) fn put_value(text: &mut String, value: Option<CalcValue>) -> Result<(), AllocError>
     ensures { OnOk result (string_bytes text.new ≡ string_bytes text.old ++ value_text value) }
 {
@@ -158,7 +158,7 @@ pub(crate) fn put_value(text: &mut String, value: Option<CalcValue>) -> Result<(
     }
 }
 
-/// Why a value is no number.
+// Why a value is no number.
 fn cause_text(why: Bad) -> &'static str
     ensures { result.now ≡ cause_text why }
 {

@@ -66,7 +66,7 @@ pub fn tag_text(alloc: Global, line: &TagLine) -> Result<String, WantOfMemory>
     Ok(tag_line(alloc, line)?)
 }
 
-/// The same, with the allocator's own error.
+// The same, with the allocator's own error.
 fn tag_line(alloc: Global, line: &TagLine) -> Result<String, AllocError>
     ensures { IfOk result (λ text. string_bytes text ≡ tag_text line.now) }
 {
@@ -78,7 +78,7 @@ fn tag_line(alloc: Global, line: &TagLine) -> Result<String, AllocError>
     Ok(text)
 }
 
-/// Adds what comes before the counts.
+// Adds what comes before the counts.
 fn put_name(text: &mut String, line: &TagLine) -> Result<(), AllocError>
     ensures { OnOk result (string_bytes text.new ≡ string_bytes text.old ++ (codes "tag " ++ line.now.name)) }
 {
@@ -86,7 +86,7 @@ fn put_name(text: &mut String, line: &TagLine) -> Result<(), AllocError>
     write!(text, "tag {name}")
 }
 
-/// Adds the counts, and what comes before the held point.
+// Adds the counts, and what comes before the held point.
 fn put_counts(text: &mut String, line: &TagLine) -> Result<(), AllocError>
     ensures { OnOk result (string_bytes text.new ≡ string_bytes text.old ++ counts_text line.now) }
 {

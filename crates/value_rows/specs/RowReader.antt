@@ -1,4 +1,5 @@
--- Where a reader of records stands in its text. For private functions: no public call cites it.
+-- Where a reader of records stands in its text, where the places of names stand, and what the rows are that a text begins
+-- with. For private functions: no public call cites it.
 use Rattle.std.specs.Prelude.{◌≡◌, ℕ, ◌+◌, ◌<◌, All, Bool, ◌&&◌, true, false, List, [], ◌∷◌, ◌++◌, Some, get_or, length, map, nat_le, Result, Ok}
 use Rattle.std.specs.BTreeMap.{BTreeMap, get_by}
 use Rattle.std.specs.Cmp.Lexicographic.{slice_cmp}
@@ -73,7 +74,7 @@ pub record IsFirstRow {R : Type 0} (row_of : Reads R) (text after : List ℕ) (r
   pub first : records_left st.StartRecord text ≡ fields ∷ records_left st.StartRecord after
   pub reads : row_of fields ≡ Ok row
 
--- the first records of the text are read as these rows, and so on
+-- the first records of the text are read as these rows, and its others are those of the text after them
 abbrev pub AreFirstRows : {R : Type 0} → Reads R → List ℕ → List ℕ → List R → Type 0
 AreFirstRows row_of text after rows =
     map row_of (records_left st.StartRecord text) ≡ map (λ r. Ok r) rows ++ map row_of (records_left st.StartRecord after)

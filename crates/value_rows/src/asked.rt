@@ -16,7 +16,7 @@ use point_text::RowNo;
 use std::alloc::Global;
 use trend_num::{Measure, Name, Reason, TagQuery, numeral};
 
-/// The number of the last window that may be asked for.
+// The number of the last window that may be asked for.
 const LAST_WINDOW: u64 = 1_000_000_000_000;
 
 /// What a reader asks. Tags, groups and calculations are told by their places.
@@ -60,7 +60,7 @@ pub fn query_rows(
     }
 }
 
-/// Records that begin with a verb.
+// Records that begin with a verb.
 #[derive(Drop)]
 struct QueryForm<'n> {
     tags: Places<'n>,
@@ -87,7 +87,7 @@ impl<'n> Form for QueryForm<'n> {
 }
 
 impl<'n> QueryForm<'n> {
-    /// What a verb asks of one further field.
+    // What a verb asks of one further field.
     fn one_field(&self, verb: Option<Verb>, a: &[u8]) -> Result<Query, Reason>
         ensures query { result ≡ one_field self.now.tags verb a.now }
         ensures is_query { IfOk result (IsQuery self.now.tags self.now.groups.now) }
@@ -99,7 +99,7 @@ impl<'n> QueryForm<'n> {
         }
     }
 
-    /// What it asks of two.
+    // What a verb asks of two further fields.
     fn two_fields(&self, verb: Option<Verb>, a: &[u8], b: &[u8]) -> Result<Query, Reason>
         ensures query { result ≡ two_fields self.now.tags verb a.now b.now }
         ensures is_query { IfOk result (IsQuery self.now.tags self.now.groups.now) }
@@ -111,7 +111,7 @@ impl<'n> QueryForm<'n> {
         }
     }
 
-    /// What it asks of three.
+    // What a verb asks of three further fields.
     fn three_fields(
         &self,
         verb: Option<Verb>,
@@ -131,7 +131,7 @@ impl<'n> QueryForm<'n> {
         }
     }
 
-    /// `snap,TAG`.
+    // `snap,TAG`.
     #[tactic(auto, unfolding(crate::specs::Asked::snap_row))]
     fn snap(&self, tag: &[u8]) -> Result<Query, Reason>
         ensures query { result ≡ snap_row self.now.tags tag.now }
@@ -141,7 +141,7 @@ impl<'n> QueryForm<'n> {
         Ok(Query::Snap { tag })
     }
 
-    /// `at,TAG,T`.
+    // `at,TAG,T`.
     #[tactic(auto, unfolding(crate::specs::Asked::at_row))]
     fn at(&self, tag: &[u8], t: &[u8]) -> Result<Query, Reason>
         ensures query { result ≡ at_row self.now.tags tag.now t.now }
@@ -156,7 +156,7 @@ impl<'n> QueryForm<'n> {
         })
     }
 
-    /// `points,TAG,FROM,TO`.
+    // `points,TAG,FROM,TO`.
     fn points(&self, tag: &[u8], from: &[u8], to: &[u8]) -> Result<Query, Reason>
         ensures query { result ≡ points_row self.now.tags tag.now from.now to.now }
         ensures is_query { IfOk result (IsQuery self.now.tags self.now.groups.now) }
@@ -172,7 +172,7 @@ impl<'n> QueryForm<'n> {
         }
     }
 
-    /// `MEASURE,TAG,FROM,TO`.
+    // `MEASURE,TAG,FROM,TO`.
     fn window(&self, measure: Measure, tag: &[u8], from: &[u8], to: &[u8]) -> Result<Query, Reason>
         ensures query { result ≡ window_row self.now.tags measure tag.now from.now to.now }
         ensures is_query { IfOk result (IsQuery self.now.tags self.now.groups.now) }
@@ -188,7 +188,7 @@ impl<'n> QueryForm<'n> {
         }
     }
 
-    /// `TAG,FROM,TO`: a tag and two times.
+    // `TAG,FROM,TO`: a tag and two times.
     #[tactic(auto, unfolding(crate::specs::Asked::span_of))]
     fn span(&self, tag: &[u8], from: &[u8], to: &[u8]) -> Result<(u32, u64, u64), Reason>
         ensures span { result ≡ span_of self.now.tags tag.now from.now to.now }
@@ -203,7 +203,7 @@ impl<'n> QueryForm<'n> {
         Ok((tag, from, to))
     }
 
-    /// `row,GROUP,CALC,K`.
+    // `row,GROUP,CALC,K`.
     #[tactic(auto, unfolding(crate::specs::Asked::calc_row))]
     fn calc_row(&self, group: &[u8], calc: &[u8], k: &[u8]) -> Result<Query, Reason>
         ensures query { result ≡ calc_row self.now.groups.now group.now calc.now k.now }
@@ -220,7 +220,7 @@ impl<'n> QueryForm<'n> {
         })
     }
 
-    /// The place of the first group of a name.
+    // The place of the first group of a name.
     fn group_place(&self, name: &[u8]) -> Option<usize>
         ensures place { result ≡ group_place self.now.groups.now name.now }
         ensures within { IfSome result (λ i. i < length self.now.groups.now) }
@@ -228,7 +228,7 @@ impl<'n> QueryForm<'n> {
         self.groups.iter().position(|g| name == g.name.bytes())
     }
 
-    /// The names of the calculations of the group at a place.
+    // The names of the calculations of the group at a place.
     fn calcs_at(&self, group: usize) -> &[Name]
         requires { group < length self.now.groups.now }
         ensures calcs { result.now ≡ calcs_at self.now.groups.now group }
@@ -238,7 +238,7 @@ impl<'n> QueryForm<'n> {
     }
 }
 
-/// The place of the first one of a name.
+// The place of the first one of a name.
 fn place_among(names: &[Name], name: &[u8]) -> Option<usize>
     ensures place { result ≡ place_of names.now name.now }
     ensures within { IfSome result (λ i. i < length names.now) }

@@ -5,7 +5,7 @@ ghost use Rattle.value_rows.specs.Form.{AreFields};
 
 use csv::ByteRecord;
 
-/// The fields of a record, where they are two, three or four.
+// The fields of a record, where they are two, three or four.
 #[derive(Clone, Copy)]
 pub(crate) enum Fields<'r> {
     Two(&'r [u8], &'r [u8]),
@@ -14,7 +14,7 @@ pub(crate) enum Fields<'r> {
     Other,
 }
 
-/// The fields of a record.
+// The fields of a record.
 #[tactic(auto, using(crate::proofs::FieldList::two_fields, crate::proofs::FieldList::three_fields, crate::proofs::FieldList::four_fields))]
 pub(crate) fn fields_in(row: &ByteRecord) -> Fields<'_>
     ensures { AreFields result (fields_of row.now) }
@@ -27,7 +27,7 @@ pub(crate) fn fields_in(row: &ByteRecord) -> Fields<'_>
     }
 }
 
-/// The field at a place.
+// The field at a place.
 #[tactic(auto, using(crate::proofs::FieldList::field_there))]
 fn field(row: &ByteRecord, i: usize) -> &[u8]
     requires { i < length (fields_of row.now) }

@@ -10,14 +10,14 @@ use std::collections::BTreeMap;
 use std::marker::Model;
 use trend_num::{Name, WantOfMemory};
 
-/// How many names are remembered, each in a slot of its own.
+// How many slots there are. Of names that share one a single one stands there; the map has all.
 const SLOTS: usize = 4096;
 
-/// A slot without a name: there are not so many.
+// What stands in a slot without a name: no place, since there are fewer names.
 const NOBODY: u32 = u32::MAX;
 
-/// Names, with a map from each to its place among them, and a table of slots where most of them are found at once. It is
-/// seen as the names in order.
+// Names, with a map from each to its place among them, and a table of slots where most of them are found at once. It is
+// seen as the names in order.
 #[derive(Drop)]
 pub(crate) struct Places<'n> {
     names: &'n [Name],
@@ -37,7 +37,7 @@ impl<'n> Model for Places<'n> {
 }
 
 impl<'n> Places<'n> {
-    /// The places of these names.
+    // The places of these names.
     pub(crate) fn new(alloc: Global, names: &'n [Name]) -> Result<Places<'n>, WantOfMemory>
         requires few { length names.now < 2 ^ 32 }
         ensures names { IfOk result (λ places. places ≡ names.now) }
@@ -47,7 +47,7 @@ impl<'n> Places<'n> {
         Ok(Places { names, map, hints })
     }
 
-    /// The place of the first one of this name.
+    // The place of the first one of this name.
     #[inline(always)]
     pub(crate) fn place(&self, name: &[u8]) -> Option<u32>
         ensures place { result ≡ place_of self.now name.now }
@@ -63,7 +63,7 @@ impl<'n> Places<'n> {
         self.place_in_map(name)
     }
 
-    /// The same, of a name that has no slot.
+    // The same, of a name that does not stand in its slot.
     #[cold]
     fn place_in_map(&self, name: &[u8]) -> Option<u32>
         ensures place { result ≡ place_of self.now name.now }
@@ -74,7 +74,7 @@ impl<'n> Places<'n> {
     }
 }
 
-/// The place of each name.
+// The place of each name.
 fn map_of<'n>(alloc: Global, names: &'n [Name]) -> Result<BTreeMap<&'n [u8], u32>, WantOfMemory>
     requires few { length names.now < 2 ^ 32 }
     ensures places { IfOk result (λ map. ArePlaces map names.now) }
@@ -90,7 +90,7 @@ fn map_of<'n>(alloc: Global, names: &'n [Name]) -> Result<BTreeMap<&'n [u8], u32
     Ok(map)
 }
 
-/// The place of a name in each slot, of the last one where several have the same slot.
+// The place of a name in each slot, of the last one where several have the same slot.
 fn hints_of<'n>(
     alloc: Global,
     names: &'n [Name],
@@ -110,14 +110,14 @@ fn hints_of<'n>(
     Ok(hints)
 }
 
-/// Slots without a name.
+// Slots without a name.
 fn empty_slots(alloc: Global) -> Result<Vec<u32>, WantOfMemory>
     ensures { IfOk result (λ hints. hints.items ≡ replicate SLOTS NOBODY) }
 {
     Ok(Vec::from_elem(alloc, NOBODY, SLOTS)?)
 }
 
-/// The slot of a name.
+// The slot of a name.
 #[inline(always)]
 fn slot_of(name: &[u8]) -> usize
     ensures { result < SLOTS }

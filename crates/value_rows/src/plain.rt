@@ -11,8 +11,8 @@ use crate::reading::push;
 use point_text::{Front, RowNo, plain_point};
 use std::alloc::Global;
 
-/// Rows that a text begins with, at most `most`, and the text behind them. They are rows enough to be worth a way of their
-/// own, and not all that could be told: the rows behind them are left to the reader of records.
+// Rows that a text begins with, at most `most`, and the text behind them. How many they are is not promised: there may be
+// none, and rows like them may follow. What stands behind them is left to the reader of records.
 pub(crate) fn front_rows<'b>(
     alloc: Global,
     tags: &Places<'_>,
@@ -33,14 +33,14 @@ pub(crate) fn front_rows<'b>(
     Ok((rows, rest))
 }
 
-/// Whether a text begins with a byte order mark.
+// Whether a text begins with a byte order mark.
 fn has_mark(text: &[u8]) -> bool
     ensures { result ≡ has_mark text.now }
 {
     text.len() >= 3 && text[0] == 0xef && text[1] == 0xbb && text[2] == 0xbf
 }
 
-/// The plain rows that a text begins with, at most `most`, and the text behind them.
+// The plain rows that a text begins with, at most `most`, and the text behind them.
 fn plain_rows<'b>(
     alloc: Global,
     tags: &Places<'_>,
@@ -64,8 +64,8 @@ fn plain_rows<'b>(
     Ok((rows, rest))
 }
 
-/// The row of a plain line that a text begins with, and what follows the line. Plain is a line of a name that is known, a
-/// comma, and a plain line of a point. None says nothing of the text.
+// The row of a plain line that a text begins with, and what follows the line. Plain is a line of a name that is known, a
+// comma, and a plain line of a point. None says nothing of the text.
 #[inline(always)]
 fn plain_row<'b>(tags: &Places<'_>, text: &'b [u8], front: &mut Front) -> Option<(RawRow, &'b [u8])>
     ensures first { IfSome result (λ p. IsFirstRow (raw_row tags.now) text.now p.1.now p.0) }
@@ -78,7 +78,7 @@ fn plain_row<'b>(tags: &Places<'_>, text: &'b [u8], front: &mut Front) -> Option
     Some((RawRow { tag, point }, after))
 }
 
-/// The bytes before a comma, and those behind it.
+// The bytes before a comma, and those behind it.
 #[inline(always)]
 fn at_comma(text: &[u8]) -> Option<(&[u8], &[u8])>
     ensures { IfSome result (λ p. text.now ≡ p.0.now ++ 44 ∷ p.1.now) }

@@ -20,7 +20,9 @@ use trend_num::{MAX_V, Name, Point, Reason, numeral};
 /// A raw value of a tag, which is told by its place among the tags.
 #[derive(Clone, Copy, Debug, PartialEq, Eq)]
 pub struct RawRow {
+    /// The place of its tag, counted from 0.
     pub tag: u32,
+    /// The raw value.
     pub point: Point,
 }
 
@@ -38,7 +40,7 @@ pub fn raw_rows(alloc: Global, bytes: &[u8], tags: &[Name], most: u64) -> Result
     }
 }
 
-/// Records `TAG,T,V`.
+// Records `TAG,T,V`.
 #[derive(Drop)]
 struct RawForm<'n> {
     tags: Places<'n>,
@@ -63,7 +65,7 @@ impl<'n> Form for RawForm<'n> {
     }
 }
 
-/// The raw values of a text: first of the plain rows that it begins with, and then of the records behind them.
+// The raw values of a text: first of the plain rows that it begins with, and then of the records behind them.
 fn rows_of_form(
     alloc: Global,
     form: &RawForm<'_>,
@@ -78,7 +80,7 @@ fn rows_of_form(
     rows_behind(alloc, form, front, rest, most)
 }
 
-/// The point of a time and a value.
+// The point of a time and a value.
 fn point_of(t: &[u8], v: &[u8]) -> Result<Point, Reason>
     ensures point { result ≡ point_read (numeral t.now) (numeral v.now) }
     ensures in_range { IfOk result InRange }

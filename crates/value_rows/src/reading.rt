@@ -11,7 +11,7 @@ use point_text::RowNo;
 use std::alloc::Global;
 use trend_num::Reason;
 
-/// How each record of a file is read.
+// How each record of a file is read.
 pub(crate) trait Form {
     /// What a good record gives.
     type Row: Copy + Drop;
@@ -26,7 +26,7 @@ pub(crate) trait Form {
         ensures is_row { IfOk result (is_row self.now) };
 }
 
-/// The rows of a text's records, of at most `most`.
+// The rows of a text's records, of at most `most`.
 pub(crate) fn rows_of_text<F: Form>(
     alloc: Global,
     form: &F,
@@ -40,7 +40,7 @@ pub(crate) fn rows_of_text<F: Form>(
     rows_behind(alloc, form, Vec::new(alloc), bytes, most)
 }
 
-/// Rows that were read before, and behind them those of a text's records: at most `most` in all.
+// Rows that were read before, and behind them those of a text's records: at most `most` in all.
 pub(crate) fn rows_behind<F: Form>(
     alloc: Global,
     form: &F,
@@ -74,10 +74,11 @@ pub(crate) fn rows_behind<F: Form>(
             }
         }
     }
+    // Not reached: no memory holds so many rows.
     Err(RowNo::WantOfMemory)
 }
 
-/// A reader of the records of a text: no header row, and records of any length.
+// A reader of the records of a text: no header row, and records of any length.
 fn records(alloc: Global, bytes: &[u8]) -> Reader<&[u8]>
     ensures { HasLeft result (records_of bytes.now) }
 {
@@ -87,7 +88,7 @@ fn records(alloc: Global, bytes: &[u8]) -> Reader<&[u8]>
         .from_reader(alloc, bytes)
 }
 
-/// Reads the next record, and tells whether there was one.
+// Reads the next record, and tells whether there was one.
 fn read_next(reader: &mut Reader<&[u8]>, row: &mut ByteRecord) -> Result<bool, RowNo>
     requires { (left : List (List (List ℕ))) × HasLeft reader.old left }
     ensures next { IfOk result (λ found. (left : List (List (List ℕ))) → HasLeft reader.old left
@@ -100,12 +101,13 @@ fn read_next(reader: &mut Reader<&[u8]>, row: &mut ByteRecord) -> Result<bool, R
             if let ErrorKind::UnequalLengths { .. } = e.kind() {
                 unreachable!();
             }
+            // No contract rules out that a reader over bytes fails; it is answered as want of memory.
             Err(RowNo::WantOfMemory)
         }
     }
 }
 
-/// Adds a row to others.
+// Adds a row to others.
 #[inline(always)]
 pub(crate) fn push<R: Copy + Drop>(rows: &mut Vec<R>, row: R) -> Result<(), RowNo>
     ensures rows { IfOk result (λ _. rows.new.items ≡ rows.old.items ++ row ∷ []) }

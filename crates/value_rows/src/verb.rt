@@ -4,7 +4,7 @@ ghost use Rattle.value_rows.specs.Asked.{verb_of};
 
 use trend_num::Measure;
 
-/// What a query asks.
+// What a query asks.
 #[derive(Clone, Copy, Debug, PartialEq, Eq)]
 pub(crate) enum Verb {
     At,
@@ -14,7 +14,7 @@ pub(crate) enum Verb {
     Row,
 }
 
-/// The verb of a word.
+// The verb of a word.
 pub(crate) fn verb_of(word: &[u8]) -> Option<Verb>
     ensures { result ≡ verb_of word.now }
 {

@@ -26,7 +26,7 @@ pub record AreEnds (ps : List Point) (e : Ends) : Type 0 where
   pub order : e.first ≤ e.behind
   pub within : e.behind ≤ length ps
 
--- the shape of a covered window of closed points, all but the last of which are those of the content
+-- the shape of a covered window of the closed points cs, by ends whose places are among the content's own points ps
 pub record IsShape (step : Bool) (cs ps : List Point) (from to : ℕ) (e : Ends) : Type 0 where
   pub covered : is_covered cs from to ≡ true
   pub whole : shape step cs from to ≡ outline ps e

@@ -10,7 +10,7 @@ ghost use Rattle.trend_model.specs.Windows.{piece};
 use late_insert::{Content, piece};
 use trend_num::Point;
 
-/// Points one after another: the first, the last, and twice the area under them.
+// Points one after another: the first, the last, and twice the area under them.
 #[derive(Clone, Copy)]
 pub(crate) struct Part {
     pub first: Point,
@@ -18,14 +18,14 @@ pub(crate) struct Part {
     pub area: i128,
 }
 
-/// The area under a start and the points after it, with the last of these points.
+// The area under a start and the points after it, with the last of these points.
 #[derive(Clone, Copy)]
 pub(crate) struct Area {
     pub twice: i128,
     pub last: Point,
 }
 
-/// Twice the area under the start and the points at the places from `first` on, before `behind`.
+// Twice the area under the start and the points at the places from `first` on, before `behind`.
 pub(crate) fn area_inside(
     content: &Content,
     step: bool,
@@ -41,6 +41,7 @@ pub(crate) fn area_inside(
     ensures last { result.last ≡ last_from start (slice_range (points_of content.now.records) first behind) }
     ensures range { InRange result.last }
 {
+    // Called for its clauses: the points rise, and are in range.
     let _len = content.len();
     let mut area = Area {
         twice: 0,
@@ -58,7 +59,7 @@ pub(crate) fn area_inside(
     area
 }
 
-/// The area with one part more.
+// The area with one part more.
 fn joined(step: bool, area: Area, part: Part) -> Area
     requires last { InRange area.last }
     requires first { InRange part.first }
@@ -77,7 +78,7 @@ fn joined(step: bool, area: Area, part: Part) -> Area
     }
 }
 
-/// A sum of few areas.
+// The sum of two areas.
 pub(crate) fn sum(a: i128, b: i128) -> i128
     requires first { unsigned_abs a ≤ 2 * last_time * (2 * largest_value) }
     requires second { unsigned_abs b ≤ last_time * (2 * largest_value) }
@@ -86,15 +87,15 @@ pub(crate) fn sum(a: i128, b: i128) -> i128
     a + b
 }
 
-/// The least value and the greatest.
+// The least value and the greatest.
 #[derive(Clone, Copy)]
 pub(crate) struct Extremes {
     pub low: i64,
     pub high: i64,
 }
 
-/// The least value and the greatest of a start and of the points at the places from `first` on, before
-/// `behind`.
+// The least value and the greatest of a start and of the points at the places from `first` on, before
+// `behind`.
 pub(crate) fn extremes_inside(content: &Content, start: Point, first: u32, behind: u32) -> Extremes
     requires order { first ≤ behind }
     requires within { behind ≤ length content.now.records }
@@ -113,7 +114,7 @@ pub(crate) fn extremes_inside(content: &Content, start: Point, first: u32, behin
     extremes
 }
 
-/// The least value and the greatest with two more.
+// The least value and the greatest with two more.
 pub(crate) fn widened(extremes: Extremes, low: i64, high: i64) -> Extremes
     ensures low { result.low ≡ lesser extremes.low low }
     ensures high { result.high ≡ greater extremes.high high }

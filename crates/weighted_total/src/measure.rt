@@ -52,7 +52,7 @@ pub fn window_step(
     value(content, held, true, measure, from, to)
 }
 
-/// A measure of the window of a line or a stair.
+// A measure of the window of a line or a stair.
 pub(crate) fn value(
     content: &Content,
     held: Option<Point>,
@@ -71,7 +71,7 @@ pub(crate) fn value(
     Some(value_between(content, step, measure, from, to, ends))
 }
 
-/// A measure of the points between the ends of a window, and of these.
+// A measure of the points between the ends of a window, and of these.
 fn value_between(
     content: &Content,
     step: bool,
@@ -98,7 +98,7 @@ fn value_between(
     }
 }
 
-/// Twice the area under the points between the ends of a window, and under these.
+// Twice the area under the points between the ends of a window, and under these.
 fn twice_area(content: &Content, step: bool, ends: Ends) -> i128
     requires ends { AreEnds (points_of content.now.records) ends }
     ensures value { result ≡ area step (outline (points_of content.now.records) ends) }
@@ -108,7 +108,7 @@ fn twice_area(content: &Content, step: bool, ends: Ends) -> i128
     sum(inside.twice, piece(step, inside.last, ends.end))
 }
 
-/// The least value and the greatest that a window takes: a stair does not take that at its end.
+// The least value and the greatest that a window takes: a stair does not take that at its end.
 fn extremes(content: &Content, step: bool, ends: Ends) -> Extremes
     requires ends { AreEnds (points_of content.now.records) ends }
     ensures low { of_first least_from (taken_values step (outline (points_of content.now.records) ends)) ≡ Some result.low }
@@ -121,11 +121,12 @@ fn extremes(content: &Content, step: bool, ends: Ends) -> Extremes
     widened(inside, ends.end.v, ends.end.v)
 }
 
-/// How many points of a content are from one time on, and before another.
+// How many points of a content are from one time on, and before another.
 fn counted(content: &Content, from: u64, to: u64) -> u32
     requires { from ≤ to }
     ensures { result ≡ length (counted (points_of content.now.records) from to) }
 {
+    // Called for its clauses: the points rise, and are in range.
     let _len = content.len();
     content.below(to) - content.below(from)
 }

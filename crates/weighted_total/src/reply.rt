@@ -43,7 +43,7 @@ pub fn answer(
     }
 }
 
-/// What a line or a stair reads at t.
+// What a line or a stair reads at t.
 fn reading(content: &Content, held: Option<Point>, step: bool, t: u64) -> Reading
     requires range { IfThere InRange held }
     requires last { IfThere (IsNotBefore content.now.records) held }
