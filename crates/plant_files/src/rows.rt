@@ -72,7 +72,6 @@ pub fn rows_of<F: Files>(
 }
 
 /// Looks whether the collectors have at most 4,000,000 rows together. Where they have more, `Limit` tells 4,000,001,
-/// however many there are. Where they have more, `Limit` tells 4,000,001,
 /// however many there are.
 pub fn check_row_count(collectors: &[Vec<RawRow>]) -> Result<(), Status>
     ensures few { OnOk result (row_count (map (λ rows. rows.items) collectors.now) ≤ most_rows) }

@@ -76,7 +76,7 @@ abbrev pub shifting : Option AskedShifts → Form → Form
 shifting None other = other
 shifting (Some asked) other = Shifts asked
 
--- what a command line asks for that neither runs a plan nor logs one, and asks for no drill, and asks for no drill, and asks for no drill
+-- what a command line asks for that neither runs a plan nor logs one, and asks for no drill
 abbrev pub form_of : List (List ℕ) → Form
 form_of words = shifting (shift_words words) (other_form words)
 

@@ -44,7 +44,7 @@ pub(crate) fn answer<I: Source, F: Files, O: Sink, S: Store>(
         (S.device_at store.new) }
     ensures files { F.told files.new ≡ F.told files.old }
 
-    // Words that ask for nothing are refused as such, and the input is left alone then.
+    // Words that ask for nothing are refused as such, and then nothing but the output changes.
     ensures bad_words { (result ≡ Status.BadWords) ↔ MeansNothing (form_of (map string_bytes words.now)) }
     ensures untouched { result ≡ Status.BadWords → input.new ≡ input.old }
     ensures unread { result ≡ Status.BadWords → files.new ≡ files.old }
