@@ -1,4 +1,5 @@
 pub mod Firsts
+pub mod Snaps
 pub mod Endings
 pub mod Seats
 pub mod Gathering

@@ -1,6 +1,7 @@
 -- What the note of a worker says: of its own work, in order, and how it ended.
-use Rattle.std.specs.Prelude.{◌≡◌, ◌≢◌, ◌⊎◌, ℕ, suc, ◌+◌, ◌<◌, ◌≤◌, true, List, [], ◌∷◌, Any, IsSomeAnd, Option, Some, Vec, length, slice_get, slice_index_or, drop, fold, take}
+use Rattle.std.specs.Prelude.{◌≡◌, ◌≢◌, ◌⊎◌, ℕ, suc, ◌+◌, ◌<◌, ◌≤◌, true, List, [], ◌∷◌, Any, IfSome, IsSomeAnd, Option, Some, Vec, length, slice_get, slice_index_or, slice_set, drop, fold, take}
 use Rattle.std.specs.declared.alloc.Global.{Global}
+use Rattle.trend_num.specs.declared.archive.Snap.{Snap}
 use Rattle.trend_num.specs.declared.query.TagQuery.{TagQuery}
 use Rattle.trend_num.specs.declared.value.CalcValue.{CalcValue}
 use Rattle.trend_model.specs.Contents.{closed_points}
@@ -104,6 +105,22 @@ IsToldFor D tells reader number (ask.Row group calc k) (told.Row asked place rep
     (asked ≡ group) × tells (record { reader = reader; row = number; group = group; calc = calc; k = k }) place reply
 IsToldFor D tells reader number query other = ⊥
 
+-- of two snapshots of one tag among these answers, in order, the later one is not older
+abbrev pub DoSnapsRise : List Told → Type 0
+DoSnapsRise answers = (i j tag : ℕ) (first later : Snap) → i < j → slice_get answers i ≡ Some (told.Snap tag first)
+    → slice_get answers j ≡ Some (told.Snap tag later) → first.taken ≤ later.taken
+
+-- none of these answers is a snapshot newer than the one that was seen last of its tag
+abbrev pub AreSnapsSeen : List Told → List Snap → Type 0
+AreSnapsSeen answers seen = (i tag : ℕ) (first last : Snap) → slice_get answers i ≡ Some (told.Snap tag first)
+    → slice_get seen tag ≡ Some last → first.taken ≤ last.taken
+
+-- a look at a tag gave the answer, which is not older than what was seen of it last, and is seen now; or there was no look
+abbrev pub IsSeenNext : List Snap → List Snap → Told → Type 0
+IsSeenNext old new (told.Snap tag snap) = (tag < length old) × (new ≡ slice_set old tag snap)
+    × IfSome (slice_get old tag) (λ last. last.taken ≤ snap.taken)
+IsSeenNext old new answer = new ≡ old
+
 -- why a group made no turn, or gave no answer, beside want of memory
 abbrev pub IsOfGroup : TurnNo → Type 0
 IsOfGroup turn.WantOfMemory = ⊥
@@ -129,10 +146,11 @@ EndsReader refuses queries answered (Group group why) =
     IsSomeAnd (slice_get queries answered) (AsksGroup group) × IsOfGroup why × refuses group why
 EndsReader refuses queries answered (Tag tag why) = ⊥
 
--- the note of a reader of these queries: the first of them were answered, in order
+-- the note of a reader of these queries: the first of them were answered, in order, and no tag was shown older than before
 pub record IsReaderNote (D : Type 0) (tells : RowAsk → ℕ → Option CalcValue → Type 0) (refuses : ℕ → TurnNo → Type 0) (reader : ℕ)
     (queries : List Query) (n : WorkerNote) : Type 0 where
   pub told : AreOfFirst (IsToldFor D tells reader) 1 queries n.told.items
+  pub snaps : DoSnapsRise n.told.items
   pub ending : EndsReader refuses queries (length n.told.items) n.ending
   pub no_takes : n.takes.items ≡ []
   pub no_turns : n.turns ≡ 0

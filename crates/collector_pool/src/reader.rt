@@ -2,7 +2,7 @@
 ghost use Rattle.std.specs.Prelude.{◌≡◌, ℕ, ◌+◌, ◌<◌, ◌≤◌, [], All, IfErr, IfOk, length};
 ghost use Rattle.snapshot_table.specs.Boards.{LooksAt};
 ghost use Rattle.trend_num.specs.Queries.{IsTagQuery};
-ghost use Rattle.collector_pool.specs.Notes.{AreOfFirst, EndsAtQuery, EndsReader, IsAnswerOf, IsReaderNote, IsToldFor, halts};
+ghost use Rattle.collector_pool.specs.Notes.{AreOfFirst, DoSnapsRise, EndsAtQuery, EndsReader, IsAnswerOf, IsReaderNote, IsSeenNext, IsToldFor, halts};
 ghost use Rattle.collector_pool.specs.Work.{IsQueryOf};
 
 use crate::group_turns::GroupTurns;
@@ -71,6 +71,7 @@ fn answer_all<R: Wait, D: Disk, G: GroupTurns<D>, O: Pass>(
     requires fresh { O.stops pass.old ≡ 0 }
     requires none { told.old.items ≡ [] }
     ensures told { AreOfFirst (IsToldFor D (G.Tells groups.now) reader) 1 queries.now told.new.items }
+    ensures snaps { DoSnapsRise told.new.items }
     ensures ending { EndsReader (G.Refuses groups.now) queries.now (length told.new.items) result }
     ensures stops { O.stops pass.new ≡ halts result }
 {
@@ -114,6 +115,7 @@ fn answer<R: Wait, D: Disk, G: GroupTurns<D>>(
     requires looks { LooksAt board.now looker.old }
     ensures looks { LooksAt board.now looker.new }
     ensures told { IfOk result (IsToldFor D (G.Tells groups.now) reader number query) }
+    ensures seen { IfOk result (IsSeenNext looker.old.seen looker.new.seen) }
     ensures ending { IfErr result (EndsAtQuery (G.Refuses groups.now) query) }
 {
     match query {

@@ -42,7 +42,7 @@ use Rattle.group_session.specs.Pulls.{ArePulled}
 use Rattle.group_session.specs.Refreshing.{EndsInSave, durable_lists, durable_numbers}
 use Rattle.group_session.specs.Tapes.{pulled as pulls_of, reached, refreshes, row_ask_of}
 use Rattle.group_session.specs.Turns.{turns_for}
-use Rattle.group_session.proofs.Laws.{all_durable, counted, pulled_for_good}
+use Rattle.group_session.proofs.Laws.{all_durable, counted, pulls_durable}
 use Rattle.collector_pool.specs.declared.work.Refresh.{Refresh}
 use Rattle.tag_base.specs.declared.definition.Base.{Base}
 use Rattle.tag_base.specs.declared.definition.GroupDef.{GroupDef}
@@ -78,7 +78,7 @@ sound_tag trace ticks faults t is =
         bounded = bounded org (followed h (map Raw (taken t.tape.items)));
       };
       safe = is.safe;
-      pulled = λ group n upto there. pulled_for_good t.def t.opening t.tape.items s t.acked group n upto is.replayed there;
+      pulled = pulls_durable t.def t.opening t.tape.items s t.acked is.replayed;
     }
 
 pub sound_tags : (new : Devices) (defs : List TagDef) (ts : List TagHistory) → AreHistoriesAt new (names_of defs) ts

@@ -42,7 +42,7 @@ use Rattle.tape_audit.specs.Agendas.{ask_item, row_item, take_item}
 use Rattle.tape_audit.specs.Tapes.{ask_of, take_of}
 use Rattle.plant_session.specs.Workers.{AreTapesWhole}
 use Rattle.group_session.specs.Refreshing.{EndsInSave}
-use Rattle.group_session.specs.Durable.{HadForGood}
+use Rattle.group_session.specs.Durable.{ArePullsDurable}
 use Rattle.group_session.specs.Tapes.{pulled, reached, refreshes, row_ask_of}
 use Rattle.session_files.specs.Plans.{IsPlanned}
 use Rattle.session_report.specs.declared.session.Session.{Session}
@@ -58,12 +58,12 @@ pub record IsKeptFor (org : Origin) (h : List Event) (t : TagHistory) : Type 0 w
   pub bounded : IsBounded org (followed h (map Raw (taken t.tape.items)))
 
 -- So it is for every history for which the tag's opening stands. A crash at any moment since the opening leaves of the tag's device,
--- whose calls are these, the oldest values that were taken since, with all that are acknowledged. And wherever a pull of a group
--- ended, the tag had as many records for good.
+-- whose calls are these, the oldest values that were taken since, with all that are acknowledged. And each pull of a group ended
+-- where the records ended that were acknowledged before it.
 pub record IsTagSound (t : TagHistory) (trace : Option Trace) : Type 0 where
   pub kept : (org : Origin) (h : List Event) → org.step ≡ t.def.step → Stands org h (opened t.opening) → IsKeptFor org h t
   pub safe : IsSafe t.def t.opening t.tape.items (LeftSince trace)
-  pub pulled : (group n upto : ℕ) → slice_get (pulled group t.tape.items) n ≡ Some upto → HadForGood t.def t.opening t.tape.items upto
+  pub pulled : ArePullsDurable t.def t.opening t.tape.items
 
 -- a tag is that of a base, and its opening stands for every history for which its device, whose calls were these, stood before, or
 -- for that and a retuning

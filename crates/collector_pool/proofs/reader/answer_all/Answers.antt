@@ -2,6 +2,7 @@ use Rattle.std.proofs.Common.{◌≡◌, ◌+◌, length, ◌∙◌, sym, rules,
 use Rattle.collector_pool.specs.Notes.{IsToldFor}
 use Rattle.collector_pool.proofs.Endings.{ends_reader, query_stops_none}
 use Rattle.collector_pool.proofs.Firsts.{of_first_more}
+use Rattle.collector_pool.proofs.Snaps.{snaps_rise_on, snaps_seen_on}
 use Rattle.collector_pool.proofs.reader.answer_all.Goals as goal
 
 pub returns-in-Err-clause-ending : goal.returns-in-Err-clause-ending
@@ -24,5 +25,7 @@ loop-i-preserved g c =
       count = omega arith;
       room = omega arith;
       looks = c.in-Ok.ensures.looks;
+      snaps = rw c.push_reserved.ensures.items (snaps_rise_on _ _ _ _ inv.snaps inv.seen c.in-Ok.ensures.seen);
+      seen = rw c.push_reserved.ensures.items (snaps_seen_on _ _ _ _ inv.seen c.in-Ok.ensures.seen);
       fresh = c.if-not-pass.ensures ∙ inv.fresh;
     }

@@ -1,5 +1,5 @@
-use Rattle.group_session.proofs.Laws.{pulled_for_good}
+use Rattle.group_session.proofs.Laws.{pulls_durable}
 use Rattle.group_session.proofs.law.what_was_pulled_is_durable.Goals as goal
 
 pub returns : goal.returns
-returns c = pulled_for_good
+returns c = pulls_durable
