@@ -37,7 +37,6 @@ const ROWS: &str = "\
 18446744073709551615 none";
 
 // The snapshot that a row spells.
-// The snapshot that a row spells.
 fn snap_of(row: &str) -> Option<Snap> {
     let (taken, held) = row.split_once(' ')?;
     let taken = taken.parse().ok()?;
@@ -102,10 +101,11 @@ fn post_all<R: Wait>(rt: &R, board: &Board, poster: Poster, count: u64)
     }
 }
 
-// Whether none of so many looks shows fewer events than the one before, and each shows a whole snapshot.
-fn looks_rise<R: Wait>(rt: &R, board: &Board, looker: Looker, count: u64) -> bool
+// Whether none of so many looks shows fewer events than the one before, and each shows a whole snapshot; and who looked.
+fn looks_rise<R: Wait>(rt: &R, board: &Board, looker: Looker, count: u64) -> (bool, Looker)
     requires one { length board.now ≡ 1 }
     requires looks { LooksAt board.now looker }
+    ensures looks { LooksAt board.now result.1 }
 {
     let mut looker = looker;
     let mut last = 0;
@@ -116,27 +116,29 @@ fn looks_rise<R: Wait>(rt: &R, board: &Board, looker: Looker, count: u64) -> boo
         rise = rise && whole && last <= snap.taken;
         last = snap.taken;
     }
-    rise
+    (rise, looker)
 }
 
-// A poster and a looker at work beside each other.
-fn beside<R: Threads + Wait + Sync>(rt: &R, alloc: Global) -> Result<bool, WantOfMemory> {
+// A poster and a looker at work beside each other: whether the looks rose, and the events that one more look shows then.
+fn beside<R: Threads + Wait + Sync>(rt: &R, alloc: Global) -> Result<(bool, u64), WantOfMemory> {
     let (board, poster, looker) = small(rt, alloc)?;
     let shown = &board;
-    let (_, rise) = join(
+    let (_, (rise, looker)) = join(
         rt,
         move ||
             requires { IsSync R.row × PostsTo shown.now poster }
         { post_all(rt, shown, poster, 1000) },
-        move || -> bool
+        move || -> (bool, Looker)
             requires { IsSync R.row × (length shown.now ≡ 1) × LooksAt shown.now looker }
+            ensures { LooksAt shown.entry.now result.1 }
         { looks_rise(rt, shown, looker, 1000) },
     );
-    Ok(rise)
+    let mut looker = looker;
+    Ok((rise, board.look(rt, &mut looker, 0).taken))
 }
 
 #[test]
 fn a_board_is_posted_to_and_looked_at_by_two_threads(rt: HostRuntime) -> Result<(), Fail> {
-    assert!(&rt; beside(&rt, rt.alloc())?);
+    assert_eq!(&rt; beside(&rt, rt.alloc())?, (true, 1000));
     Ok(())
 }

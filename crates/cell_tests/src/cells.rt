@@ -168,7 +168,6 @@ fn device_of(cell: Cell<MemDisk>) -> MemDisk {
 }
 
 // A kept record.
-// A kept record.
 fn kept(t: u64, v: i64) -> Rec {
     Rec {
         kind: Kind::Kept,

@@ -6,3 +6,4 @@ pub mod Keeping
 pub mod Had
 pub mod Held
 pub mod Snapped
+pub mod Marks

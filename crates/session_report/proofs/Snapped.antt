@@ -43,25 +43,6 @@ held_for readers tags reader k d there within tag is =
     by None = refl
     by (Some h) = ap (λ b. cond b (held_points h.tape.items) []) wanted
 
--- a reader that asks the snapshot
-pub snapped_here : (files : List (Vec Query Global)) (i : ℕ) (queries : Vec Query Global) (tag : ℕ) → i < length files
-    → queries ≡ get_or files i queries → list_any (is_snap tag) queries.items ≡ true → is_snapped (lists_of files) tag ≡ true
-snapped_here files i queries tag there is asks =
-    let items : Vec Query Global → List Query = λ v. v.items in
-    list_any_at (list_any (is_snap tag)) (lists_of files) i [] (omega (arith, there, length-map files items))
-    (ap (list_any (is_snap tag)) (list_at files i queries there is) ∙ asks)
-
--- one more that does not
-pub not_snapped_more : (files : List (Vec Query Global)) (i : ℕ) (queries : Vec Query Global) (tag : ℕ) → i < length files
-    → queries ≡ get_or files i queries → list_any (is_snap tag) queries.items ≡ false
-    → is_snapped (lists_of (take i files)) tag ≡ false → is_snapped (lists_of (take (i + 1) files)) tag ≡ false
-not_snapped_more files i queries tag there is asks before =
-    let items : Vec Query Global → List Query = λ v. v.items in
-    ap (λ l. is_snapped (lists_of l) tag) (take_more files i queries there ∙ ap (λ q. take i files ++ q ∷ []) (sym is))
-    ∙ ap (λ l. is_snapped l tag) (map_push items (take i files) queries)
-    ∙ list_any-append (list_any (is_snap tag)) (lists_of (take i files)) (queries.items ∷ [])
-    ∙ ap₂ (λ a b. a || (b || false)) before asks
-
 -- as many lists as tags
 pub as_many_held : (readers : List (List Query)) (tags : List TagHistory) (lists : List (Vec Point Global))
     → lists_of lists ≡ held_lists readers tags → length lists ≡ length tags

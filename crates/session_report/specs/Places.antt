@@ -1,6 +1,6 @@
 -- What is looked up for the queries of readers: where answers stand on tapes, and which points closed the lines of tags. For
 -- private functions: no public call cites it.
-use Rattle.std.specs.Prelude.{◌≡◌, ℕ, ◌+◌, ◌<◌, Bool, true, false, List, [], length, nat_eq, position, slice_get, slice_index_or, if◌then◌else◌}
+use Rattle.std.specs.Prelude.{◌≡◌, ℕ, ◌+◌, ◌<◌, Bool, true, false, ◌||◌, List, [], length, nat_eq, position, slice_get, slice_index_or, if◌then◌else◌}
 use Rattle.std.specs.Prelude.{Option, None, Some}
 use Rattle.std.specs.List.{list_any}
 use Rattle.std.specs.Option.{option_or}
@@ -25,6 +25,16 @@ is_snap tag other = false
 
 abbrev pub is_snapped : List (List Query) → ℕ → Bool
 is_snapped readers tag = list_any (list_any (is_snap tag)) readers
+
+-- those are marked that were, and those that are wanted
+pub record AreMarked (wanted : ℕ → Bool) (old new : List Bool) : Type 0 where
+  pub as_many : length new ≡ length old
+  pub each : (tag : ℕ) → tag < length old → slice_index_or new tag false ≡ (slice_index_or old tag false || wanted tag)
+
+-- of so many tags those are marked of which a reader asks the snapshot
+pub record AreSnapped (readers : List (List Query)) (tags : ℕ) (marks : List Bool) : Type 0 where
+  pub as_many : length marks ≡ tags
+  pub each : (tag : ℕ) → tag < tags → slice_index_or marks tag false ≡ is_snapped readers tag
 
 -- of each tag of which a reader asks the snapshot, the points that closed its line after its takes; of the others none
 abbrev pub held_lists : List (List Query) → List TagHistory → List (List Point)

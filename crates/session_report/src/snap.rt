@@ -2,7 +2,7 @@
 ghost use Rattle.std.specs.Prelude.{◌≡◌, ◌<◌, ◌^◌, [], IfOk, if◌then◌else◌, length, slice_index_or};
 ghost use Rattle.std.specs.List.{list_any};
 ghost use Rattle.calc_refresh.specs.Lists.{lists_of};
-ghost use Rattle.session_report.specs.Places.{held_lists, is_snap, is_snapped};
+ghost use Rattle.session_report.specs.Places.{AreMarked, AreSnapped, held_lists, is_snap, is_snapped};
 ghost use Rattle.session_report.specs.Report.{tag_tape};
 ghost use Rattle.session_report.specs.Snaps.{checked, had, held_after, held_points, same_held, snap_at_end, snap_in, snap_of, told_at};
 
@@ -21,41 +21,53 @@ pub(crate) fn held_lists(
     requires { length tags.now < 2 ^ 32 }
     ensures { IfOk result (λ lists. lists_of lists.items ≡ held_lists (lists_of readers.now) tags.now) }
 {
+    let wanted = snapped(alloc, readers, tags.len())?;
     let mut lists = Vec::new(alloc);
     for place in 0..tags.len() {
-        let wanted = is_snapped(readers, place as u32);
-        let points = held_if(alloc, tags[place].tape.as_slice(), wanted)?;
+        let points = held_if(alloc, tags[place].tape.as_slice(), wanted[place])?;
         lists.push(points)?;
     }
     Ok(lists)
 }
 
-// Whether a reader asks the snapshot of a tag.
-fn is_snapped(readers: &[Vec<Query>], tag: u32) -> bool
-    ensures { result ≡ is_snapped (lists_of readers.now) tag }
+// Of each of so many tags whether a reader asks its snapshot.
+fn snapped(alloc: Global, readers: &[Vec<Query>], tags: usize) -> Result<Vec<bool>, WantOfMemory>
+    ensures { IfOk result (λ marks. AreSnapped (lists_of readers.now) tags marks.items) }
+{
+    let mut marks = vec![in alloc; false; tags].map_err(|_| WantOfMemory)?;
+    mark_all(&mut marks, readers);
+    Ok(marks)
+}
+
+// Marks the tags whose snapshots readers ask.
+fn mark_all(marks: &mut [bool], readers: &[Vec<Query>])
+    ensures { AreMarked (is_snapped (lists_of readers.now)) marks.old marks.new }
 {
     for queries in readers {
-        if has_snap(queries.as_slice(), tag) {
-            return true;
-        }
+        mark_snaps(marks, queries.as_slice());
     }
-    false
 }
 
-// Whether one of these queries does.
-fn has_snap(queries: &[Query], tag: u32) -> bool
-    ensures { result ≡ list_any (is_snap tag) queries.now }
+// Marks the tags whose snapshots the queries of a reader ask.
+fn mark_snaps(marks: &mut [bool], queries: &[Query])
+    ensures { AreMarked (λ tag. list_any (is_snap tag) queries.now) marks.old marks.new }
 {
-    queries.iter().any(|query| is_snap(*query, tag))
+    for place in 0..queries.len() {
+        let query = queries[place];
+        mark_snap(marks, query);
+    }
 }
 
-// Whether a query does.
-fn is_snap(query: Query, tag: u32) -> bool
-    ensures { result ≡ is_snap tag query }
+// Marks the tag whose snapshot a query asks, if it asks one.
+fn mark_snap(marks: &mut [bool], query: Query)
+    ensures { AreMarked (λ tag. is_snap tag query) marks.old marks.new }
 {
-    match query {
-        Query::Snap { tag: its } => its == tag,
-        _ => false,
+    let Query::Snap { tag } = query else {
+        return;
+    };
+    let place = tag as usize;
+    if place < marks.len() {
+        marks[place] = true;
     }
 }
 

@@ -14,7 +14,6 @@ use std::test::Fail;
 use trend_num::{MAX_T, Name, Steps, name_from};
 
 // A window, a formula over A of (10,7) and (20,9), B without points and m, which is 0, and its value. The last formula is as
-// long and as deep as one may be: 1,024 bytes, 32 levels. The last formula is as
 // long and as deep as one may be: 1,024 bytes, 32 levels.
 const VALUES: &str = "\
 0 10 -7 / 2 => Num(-4)

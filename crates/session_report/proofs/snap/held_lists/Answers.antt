@@ -1,7 +1,7 @@
-use Rattle.std.proofs.Common.{◌≡◌, ℕ, ◌∙◌, ◌++◌, ◌∷◌, [], List, Vec, ap, sym, cond, take, arith}
+use Rattle.std.proofs.Common.{◌≡◌, ℕ, false, ◌∙◌, ◌++◌, ◌∷◌, [], List, Vec, ap, sym, cond, take, arith}
 use Rattle.std.specs.declared.alloc.Global.{Global}
 use Rattle.std.proofs.lemmas.Grind.{common_steps}
-use Rattle.std.proofs.lemmas.List.{map_push}
+use Rattle.std.proofs.lemmas.List.{get_or_default, map_push}
 use Rattle.trend_num.specs.declared.point.Point.{Point}
 use Rattle.tag_cell.specs.declared.history.TagHistory.{TagHistory}
 use Rattle.calc_refresh.specs.Lists.{lists_of}
@@ -23,7 +23,7 @@ loop-place-preserved c =
     let tape : c.as_slice.result.now ≡ tag.tape.items =
     c.as_slice.ensures.value ∙ ap (λ (h : TagHistory). h.tape.items) (sym c.index-tags-place.is) in
     let is : new.items ≡ points i tag = c.in_ok-points.ensures
-    ∙ ap (λ b. cond b (held_points c.as_slice.result.now) []) c.is_snapped-wanted.ensures
+    ∙ ap (λ b. cond b (held_points c.as_slice.result.now) []) (c.index.ensures ∙ get_or_default c.in_ok-wanted.wanted.items i c.index.result.now false (omega (arith, c.in_ok-wanted.ensures.as_many, c.loop-place-test.true)) ∙ c.in_ok-wanted.ensures.each i (omega (arith, c.loop-place-test.true)))
     ∙ ap (λ t. cond (is_snapped readers i) (held_points t) []) tape in
     let grown : c.push.new.self.items ≡ c.loop-place.lists.items ++ new ∷ [] = grind (arith, common_steps) in
     ap lists_of grown ∙ map_push items c.loop-place.lists.items new ∙ ap (λ l. l ++ new.items ∷ []) c.loop-place.invariant
