@@ -54,8 +54,9 @@ pub returns-in_err-check_row_count-clause-refused : goal.returns-in_err-check_ro
 returns-in_err-check_row_count-clause-refused g c =
     let stays = c.in_ok-plan.ensures.stays ∙ c.in_ok-base.ensures.stays in
     let p = err_from_is_err_and c.from_residual-in_err-check_row_count.result c.from_residual-in_err-check_row_count.ensures.1 in
-    rw (p.1, p.2) (OfRows c.in_ok-base.base c.in_ok-plan.plan (map (λ list. list.items) c.in_ok-rows.rows.items) c.in_ok-base.ensures.base
-    (rw (← c.in_ok-base.ensures.stays) c.in_ok-plan.ensures.plan) (rw (← stays) c.in_ok-rows.ensures.rows)
+    rw (p.1, p.2) (OfRows c.in_ok-base.base c.in_ok-plan.plan (map (λ list. list.items) c.in_ok-rows.rows.items)
+    c.in_ok-readers.readers.items c.in_ok-base.ensures.base (rw (← c.in_ok-base.ensures.stays) c.in_ok-plan.ensures.plan)
+    (rw (← stays) c.in_ok-rows.ensures.rows) (rw (← c.in_ok-rows.ensures.stays ∙ stays) c.in_ok-readers.ensures.queries)
     (rw (← c.deref.ensures.value) c.in_err-check_row_count.ensures.refused))
 
 pub returns-in-Ok-clause-base : goal.returns-in-Ok-clause-base
