@@ -39,8 +39,8 @@ pub record IsPlanned (name plan_name : List ℕ) (told : ToldFiles) (base : Base
   pub asked : AreQueries base told plan.readers.items queries
   pub few : row_count rows ≤ most_rows
 
--- the refusals, in their order: of the base, of the plan, of a collector's file, of a reader's; or the rows are too many,
--- whatever the readers' files are. No memory may be found at any time
+-- the refusals, in their order: of the base, of the plan, of a collector's file, of a reader's; or the rows are too many. No memory
+-- may be found at any time
 pub data IsPlanningRefusal (name plan_name : List ℕ) (told : ToldFiles) (why : Status) : Type 0 where
   OfBase : IsBaseRefusal (told name) why → IsPlanningRefusal name plan_name told why
   OfPlan : (base : Base) → IsBaseFile (told name) base → IsPlanRefusal base.groups.items (told plan_name) why
@@ -50,9 +50,10 @@ pub data IsPlanningRefusal (name plan_name : List ℕ) (told : ToldFiles) (why :
   OfReader : (base : Base) (plan : Plan) (rows : List (List RawRow)) → IsBaseFile (told name) base
       → IsPlanFile base.groups.items (told plan_name) plan → AreRows base told plan.collectors.items rows
       → IsQueriesRefusal base told plan.readers.items why → IsPlanningRefusal name plan_name told why
-  OfRows : (base : Base) (plan : Plan) (rows : List (List RawRow)) → IsBaseFile (told name) base
+  OfRows : (base : Base) (plan : Plan) (rows : List (List RawRow)) (lists : List (List Query)) → IsBaseFile (told name) base
       → IsPlanFile base.groups.items (told plan_name) plan → AreRows base told plan.collectors.items rows
-      → AreRowsTooMany (row_count rows) why → IsPlanningRefusal name plan_name told why
+      → AreQueries base told plan.readers.items lists → AreRowsTooMany (row_count rows) why
+      → IsPlanningRefusal name plan_name told why
   OfMemory : why ≡ WantOfMemory → IsPlanningRefusal name plan_name told why
 
 -- where a read fault is told, and it is told whose read failed last, that is the file that is told of: the base's, the plan's, or

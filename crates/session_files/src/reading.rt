@@ -42,25 +42,11 @@ pub fn read_session<F: Files>(
     ensures faults { F.fault_count files.new ≡ faults_after result (F.fault_count files.old) }
     ensures whose { IfErr result (IsFaultOfPlanned name.now plan_name.now (F.told files.old) (F.failed_name files.new)) }
 {
-    let base = match base_of(alloc, files, name) {
-        Ok(base) => base,
-        Err(why) => return Err(why),
-    };
-    let plan = match plan_of(alloc, files, plan_name, &base) {
-        Ok(plan) => plan,
-        Err(why) => return Err(why),
-    };
-    let rows = match rows_of(alloc, files, &plan, &base) {
-        Ok(rows) => rows,
-        Err(why) => return Err(why),
-    };
-    let readers = match queries_of(alloc, files, &plan, &base) {
-        Ok(readers) => readers,
-        Err(why) => return Err(why),
-    };
-    if let Err(why) = check_row_count(&rows) {
-        return Err(why);
-    }
+    let base = base_of(alloc, files, name)?;
+    let plan = plan_of(alloc, files, plan_name, &base)?;
+    let rows = rows_of(alloc, files, &plan, &base)?;
+    let readers = queries_of(alloc, files, &plan, &base)?;
+    check_row_count(&rows)?;
     match lists_out(alloc, readers) {
         Ok(queries) => Ok(SessionFiles {
             base,

@@ -31,10 +31,7 @@ pub(crate) fn calendar_of<F: Files>(
     ensures faults { F.fault_count files.new ≡ faults_after result (F.fault_count files.old) }
     ensures whose { (which : FileId) → IsErrOf result (ReadFault which) → IsFaultOf (F.failed_name files.new) name.now }
 {
-    let bytes = match calendar_bytes(alloc, files, name) {
-        Ok(bytes) => bytes,
-        Err(why) => return Err(why),
-    };
+    let bytes = calendar_bytes(alloc, files, name)?;
     let Ok(names) = names_of_tags(alloc, &base.tags) else {
         return Err(Status::WantOfMemory);
     };

@@ -51,18 +51,9 @@ pub fn shifts<F: Files, S: Store>(
     ensures counts { S.fault_count store.old < 2 ^ 64
         → CountsDevices result (S.fault_count store.old) (S.fault_count store.new) }
 {
-    let base = match base_of(alloc, files, name) {
-        Ok(base) => base,
-        Err(why) => return Err(why),
-    };
-    let calendar = match calendar_of(alloc, files, calendar_name, &base) {
-        Ok(calendar) => calendar,
-        Err(why) => return Err(why),
-    };
-    let cores = match open_base(alloc, store, &base) {
-        Ok(cores) => cores,
-        Err(why) => return Err(why),
-    };
+    let base = base_of(alloc, files, name)?;
+    let calendar = calendar_of(alloc, files, calendar_name, &base)?;
+    let cores = open_base(alloc, store, &base)?;
     match shift_lines(alloc, &base.tags, &cores, &calendar, day, days) {
         Ok(text) => Ok(text),
         Err(_) => Err(Status::WantOfMemory),

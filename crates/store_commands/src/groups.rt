@@ -56,16 +56,11 @@ pub(crate) fn histories_of<S: Store>(
     let Ok(mut histories) = Vec::with_capacity(alloc, groups.len()) else {
         return Err(Status::WantOfMemory);
     };
-    let mut books = match open_books(alloc, store, groups, &names, &records) {
-        Ok(books) => books,
-        Err(why) => return Err(why),
-    };
+    let mut books = open_books(alloc, store, groups, &names, &records)?;
     let refreshed = refresh_all(alloc, &mut books, groups, &records);
     close_books(store, &names, books, &mut histories);
-    match refreshed {
-        Ok(()) => Ok(histories),
-        Err(why) => Err(why),
-    }
+    refreshed?;
+    Ok(histories)
 }
 
 // The records of each tag.
@@ -76,9 +71,7 @@ fn records_of(alloc: Global, cores: &[TagCore]) -> Result<Vec<&[Rec]>, WantOfMem
 {
     let mut records = Vec::new(alloc);
     for core in cores {
-        let Ok(()) = records.push(core.recs()) else {
-            return Err(WantOfMemory);
-        };
+        records.push(core.recs())?;
     }
     Ok(records)
 }
@@ -139,13 +132,8 @@ fn refresh_once<D: Disk>(
     ensures unchanged { OnErr result (book.new ≡ book.old) }
     ensures refused { IfErr result (IsOverIn (lists_at (map (λ r. r.now) records.now) tags.now)) }
 {
-    let Ok(pulled) = pull_all(alloc, book, tags, records) else {
-        return Err(RefreshNo::WantOfMemory);
-    };
-    match publish_once(book, pulled) {
-        Ok(()) => Ok(()),
-        Err(no) => Err(no),
-    }
+    let pulled = pull_all(alloc, book, tags, records)?;
+    publish_once(book, pulled)
 }
 
 // Takes what was pulled into account.
@@ -177,10 +165,8 @@ fn publish_on<L: Ledger, D: Disk>(
     ensures fault { IfErr result (IsToldOf (fault_after book.old.sheet (pulled_records pulled.items))) }
 {
     let mut steps = Steps::<L>::new(blank);
-    match book.publish(pulled, &mut steps) {
-        Ok(_) => Ok(()),
-        Err(no) => Err(no),
-    }
+    book.publish(pulled, &mut steps)?;
+    Ok(())
 }
 
 // Of each input of a group the records that the group has not taken into account.

@@ -39,26 +39,11 @@ pub fn trend<F: Files, S: Store>(
     ensures counts { S.fault_count store.old < 2 ^ 64
         → CountsDevices result (S.fault_count store.old) (S.fault_count store.new) }
 {
-    let base = match base_of(alloc, files, name) {
-        Ok(base) => base,
-        Err(why) => return Err(why),
-    };
-    let plan = match plan_of(alloc, files, plan_name, &base) {
-        Ok(plan) => plan,
-        Err(why) => return Err(why),
-    };
-    let readers = match queries_of(alloc, files, &plan, &base) {
-        Ok(readers) => readers,
-        Err(why) => return Err(why),
-    };
-    let cores = match open_base(alloc, store, &base) {
-        Ok(cores) => cores,
-        Err(why) => return Err(why),
-    };
-    let groups = match histories_of(alloc, store, &base.groups, &cores) {
-        Ok(groups) => groups,
-        Err(why) => return Err(why),
-    };
+    let base = base_of(alloc, files, name)?;
+    let plan = plan_of(alloc, files, plan_name, &base)?;
+    let readers = queries_of(alloc, files, &plan, &base)?;
+    let cores = open_base(alloc, store, &base)?;
+    let groups = histories_of(alloc, store, &base.groups, &cores)?;
     match replies(alloc, &cores, &groups, &readers) {
         Ok(text) => Ok(text),
         Err(_) => Err(Status::WantOfMemory),
@@ -76,9 +61,7 @@ fn replies(
     requires few { length readers.now < 2 ^ 32 }
     ensures { IfOk result (λ text. string_bytes text ≡ trend_text cores.now (rows_in groups.now) readers.now) }
 {
-    let Ok(lists) = lists_of(alloc, readers) else {
-        return Err(WantOfMemory);
-    };
+    let lists = lists_of(alloc, readers)?;
     trend_text(alloc, cores, groups, &lists)
 }
 

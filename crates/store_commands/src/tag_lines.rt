@@ -34,14 +34,8 @@ pub fn check<F: Files, S: Store>(
     ensures counts { S.fault_count store.old < 2 ^ 64
         → CountsStore result (S.fault_count store.old) (S.fault_count store.new) }
 {
-    let base = match base_of(alloc, files, name) {
-        Ok(base) => base,
-        Err(why) => return Err(why),
-    };
-    let cores = match open_base(alloc, store, &base) {
-        Ok(cores) => cores,
-        Err(why) => return Err(why),
-    };
+    let base = base_of(alloc, files, name)?;
+    let cores = open_base(alloc, store, &base)?;
     match check_text(alloc, &base.tags, &cores) {
         Ok(text) => Ok(text),
         Err(_) => Err(Status::WantOfMemory),

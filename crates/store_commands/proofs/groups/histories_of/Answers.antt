@@ -2,6 +2,7 @@ use Rattle.std.proofs.Common.{◌≡◌, ◌<◌, ◌^◌, ◌∙◌, inl, All, 
 use Rattle.std.specs.Prelude.{String}
 use Rattle.std.specs.declared.alloc.Global.{Global}
 use Rattle.std.proofs.lemmas.List.{length-map}
+use Rattle.std.proofs.lemmas.Result.{IfErr-weaker, err_from_is_err_and}
 use Rattle.trend_num.specs.declared.archive.Rec.{Rec}
 use Rattle.calc_refresh.specs.Sheet.{IsCopy}
 use Rattle.tag_base.specs.Groups.{IsSound}
@@ -26,11 +27,13 @@ returns-in_default-records_of-clause-same g c = λ k d below. still (get_or c.ar
 pub returns-in_default-with_capacity-clause-same : goal.returns-in_default-with_capacity-clause-same
 returns-in_default-with_capacity-clause-same g c = λ k d below. still (get_or c.args.groups.now k d) _
 
-pub returns-in-Err-clause-refused : goal.returns-in-Err-clause-refused
-returns-in-Err-clause-refused g c =
+pub returns-in_err-books-clause-refused : goal.returns-in_err-books-clause-refused
+returns-in_err-books-clause-refused g c =
     let lists = ap (map (λ r. r.now)) c.deref-2.ensures.value ∙ c.in-Ok-records_of.ensures.records in
-    OfOpening (subst (λ l. IsRefusal c.args.groups.now l (g.S.Store.device_at c.args.store.now) (g.S.Store.fault_count c.args.store.now)
-    (g.S.Store.fault_count c.open_books.new.store) c.in-Err.why) lists c.in-Err.ensures.refused)
+    let p = err_from_is_err_and c.from_residual.result c.from_residual.ensures.1 in
+    rw (p.1, p.2) (OfOpening (subst (λ l. IsRefusal c.args.groups.now l (g.S.Store.device_at c.args.store.now)
+    (g.S.Store.fault_count c.args.store.now) (g.S.Store.fault_count c.open_books.new.store) c.in_err-books.field-0.0) lists
+    c.in_err-books.ensures.refused))
 
 pub refresh_all-refreshed-requires-clause-sound : goal.refresh_all-refreshed-requires-clause-sound
 refresh_all-refreshed-requires-clause-sound g c =
@@ -50,9 +53,9 @@ refresh_all-refreshed-requires-clause-cut g c =
     let old = g.S.Store.device_at c.args.store.now in
     let same = ap (map (λ r. r.now)) (c.deref-2.ensures.value ∙ sym c.deref-3.ensures.value) in
     cut_books D.trace D.ticks D.fault_count c.args.groups.now (map (λ r. r.now) c.deref-3.result.now) old
-    c.in-Ok-open_books.books.items c.in-Ok-open_books.ensures.as_many
-    (subst (λ l. AreBooksOpened D.trace D.ticks D.fault_count c.args.groups.now l old c.in-Ok-open_books.books.items) same
-    c.in-Ok-open_books.ensures.opened)
+    c.in_ok-books.books.items c.in_ok-books.ensures.as_many
+    (subst (λ l. AreBooksOpened D.trace D.ticks D.fault_count c.args.groups.now l old c.in_ok-books.books.items) same
+    c.in_ok-books.ensures.opened)
 
 pub close_books-requires-clause-as_many : goal.close_books-requires-clause-as_many
 close_books-requires-clause-as_many g c κs within =
@@ -60,7 +63,7 @@ close_books-requires-clause-as_many g c κs within =
       arith,
       ap (length {A = String Global}) c.deref-4.ensures.value,
       as_many c.args.groups.now c.in-Ok.names.items c.in-Ok.ensures.names,
-      c.in-Ok-open_books.ensures.as_many,
+      c.in_ok-books.ensures.as_many,
       c.refresh_all-refreshed.ensures.same.as_many,
       c.refresh_all-refreshed.new.books.ok.0,
     )
@@ -71,70 +74,27 @@ close_books-requires-clause-places g c κs within =
     let has_place = g.S.Store.has_place c.open_books.new.store in
     subst (λ l. HavePlaces (length l) l has_place) (sym c.deref-4.ensures.value)
     (subst (λ n. HavePlaces n names has_place) (sym (as_many c.args.groups.now names c.in-Ok.ensures.names))
-    (subst (λ l. HavePlaces (length c.args.groups.now) l has_place) c.deref.ensures.value c.in-Ok-open_books.ensures.places))
+    (subst (λ l. HavePlaces (length c.args.groups.now) l has_place) c.deref.ensures.value c.in_ok-books.ensures.places))
 
 pub close_books-requires-clause-distinct : goal.close_books-requires-clause-distinct
 close_books-requires-clause-distinct g c κs within =
     names_differ c.args.groups.now c.deref-4.result.now
     (subst (AreNamesOf c.args.groups.now) (sym c.deref-4.ensures.value) c.in-Ok.ensures.names) c.requires.distinct
 
-pub returns-in-Ok-refreshed-clause-told : goal.returns-in-Ok-refreshed-clause-told
-returns-in-Ok-refreshed-clause-told g c =
+pub returns-clause-told : goal.returns-clause-told
+returns-clause-told g c =
     let D = g.S.Dev.Disk in
     let groups = c.args.groups.now in
     let old = g.S.Store.device_at c.args.store.now in
-    let books = c.in-Ok-open_books.books.items in
+    let books = c.in_ok-books.books.items in
     let closed = c.refresh_all-refreshed.new.books.items in
     let lists = ap (map (λ r. r.now)) c.deref-2.ensures.value ∙ c.in-Ok-records_of.ensures.records in
     let lists_then = ap (map (λ r. r.now)) c.deref-3.ensures.value ∙ c.in-Ok-records_of.ensures.records in
     all_told D.trace D.ticks D.fault_count groups (tag_records c.args.cores.now) old books closed c.close_books.new.histories.items
-    c.in-Ok-open_books.ensures.as_many
-    (subst (λ l. AreBooksOpened D.trace D.ticks D.fault_count groups l old books) lists c.in-Ok-open_books.ensures.opened)
+    c.in_ok-books.ensures.as_many
+    (subst (λ l. AreBooksOpened D.trace D.ticks D.fault_count groups l old books) lists c.in_ok-books.ensures.opened)
     c.refresh_all-refreshed.ensures.same
-    (subst (λ l. AreRefreshedOnce groups l books closed) lists_then c.in-Ok-refreshed.ensures.refreshed) c.close_books.ensures.closed
-
-pub returns-in-Ok-refreshed-clause-same : goal.returns-in-Ok-refreshed-clause-same
-returns-in-Ok-refreshed-clause-same g c =
-    let D = g.S.Dev.Disk in
-    let new = g.S.Store.device_at c.close_books.new.store in
-    let mid = g.S.Store.device_at c.open_books.new.store in
-    let closed = c.refresh_all-refreshed.new.books.items in
-    all_back D.trace D.ticks D.fault_count c.args.groups.now c.in-Ok.names.items (map (λ r. r.now) c.deref-2.result.now)
-    (g.S.Store.device_at c.args.store.now) mid new c.in-Ok-open_books.books.items closed c.in-Ok.ensures.names
-    c.in-Ok-open_books.ensures.as_many c.in-Ok-open_books.ensures.opened c.refresh_all-refreshed.ensures.same
-    (subst (λ l. AreGivenBack D.trace l closed mid new) c.deref-4.ensures.value c.close_books.ensures.given)
-
-pub returns-in-Ok-refreshed-clause-others : goal.returns-in-Ok-refreshed-clause-others
-returns-in-Ok-refreshed-clause-others g c = λ n none.
-    let new = g.S.Store.device_at c.close_books.new.store in
-    let mid = g.S.Store.device_at c.open_books.new.store in
-    let are = subst (AreNamesOf c.args.groups.now) (sym c.deref-4.ensures.value) c.in-Ok.ensures.names in
-    others_same c.args.groups.now c.deref-4.result.now (length c.deref-4.result.now) mid new are
-    (omega (arith, as_many c.args.groups.now c.deref-4.result.now are)) c.close_books.ensures.others n none
-    ∙ c.open_books.ensures.others n none
-
-pub returns-in-Ok-refreshed-clause-counts : goal.returns-in-Ok-refreshed-clause-counts
-returns-in-Ok-refreshed-clause-counts g c = λ small.
-    let D = g.S.Dev.Disk in
-    let first = c.in-Ok-open_books.ensures.counts small in
-    c.close_books.ensures.faultless (subst (λ n. n < 2 ^ 64) (sym first) small)
-    (none_counted D.trace D.ticks D.fault_count c.args.groups.now (map (λ r. r.now) c.deref-2.result.now)
-    (g.S.Store.device_at c.args.store.now) c.in-Ok-open_books.books.items c.refresh_all-refreshed.new.books.items
-    c.in-Ok-open_books.ensures.as_many c.in-Ok-open_books.ensures.opened c.refresh_all-refreshed.ensures.same)
-    ∙ first
-
-pub returns-clause-refused : goal.returns-clause-refused
-returns-clause-refused g c =
-    let D = g.S.Dev.Disk in
-    let groups = c.args.groups.now in
-    let old = g.S.Store.device_at c.args.store.now in
-    let books = c.in-Ok-open_books.books.items in
-    let lists = ap (map (λ r. r.now)) c.deref-2.ensures.value ∙ c.in-Ok-records_of.ensures.records in
-    let lists_then = ap (map (λ r. r.now)) c.deref-3.ensures.value ∙ c.in-Ok-records_of.ensures.records in
-    over_some D.trace D.ticks D.fault_count groups (tag_records c.args.cores.now) old books _ _ c.in-Err-refreshed.why
-    c.in-Ok-open_books.ensures.as_many
-    (subst (λ l. AreBooksOpened D.trace D.ticks D.fault_count groups l old books) lists c.in-Ok-open_books.ensures.opened)
-    (subst (λ l. IsOverSome groups l c.in-Err-refreshed.why) lists_then c.in-Err-refreshed.ensures.refused)
+    (subst (λ l. AreRefreshedOnce groups l books closed) lists_then c.in_ok-refreshed.ensures.refreshed) c.close_books.ensures.closed
 
 pub returns-clause-same : goal.returns-clause-same
 returns-clause-same g c =
@@ -143,8 +103,8 @@ returns-clause-same g c =
     let mid = g.S.Store.device_at c.open_books.new.store in
     let closed = c.refresh_all-refreshed.new.books.items in
     all_back D.trace D.ticks D.fault_count c.args.groups.now c.in-Ok.names.items (map (λ r. r.now) c.deref-2.result.now)
-    (g.S.Store.device_at c.args.store.now) mid new c.in-Ok-open_books.books.items closed c.in-Ok.ensures.names
-    c.in-Ok-open_books.ensures.as_many c.in-Ok-open_books.ensures.opened c.refresh_all-refreshed.ensures.same
+    (g.S.Store.device_at c.args.store.now) mid new c.in_ok-books.books.items closed c.in-Ok.ensures.names
+    c.in_ok-books.ensures.as_many c.in_ok-books.ensures.opened c.refresh_all-refreshed.ensures.same
     (subst (λ l. AreGivenBack D.trace l closed mid new) c.deref-4.ensures.value c.close_books.ensures.given)
 
 pub returns-clause-others : goal.returns-clause-others
@@ -159,15 +119,62 @@ returns-clause-others g c = λ n none.
 pub returns-clause-counts : goal.returns-clause-counts
 returns-clause-counts g c = λ small.
     let D = g.S.Dev.Disk in
-    let first = c.in-Ok-open_books.ensures.counts small in
-    inl (c.close_books.ensures.faultless (subst (λ n. n < 2 ^ 64) (sym first) small)
+    let first = c.in_ok-books.ensures.counts small in
+    c.close_books.ensures.faultless (subst (λ n. n < 2 ^ 64) (sym first) small)
     (none_counted D.trace D.ticks D.fault_count c.args.groups.now (map (λ r. r.now) c.deref-2.result.now)
-    (g.S.Store.device_at c.args.store.now) c.in-Ok-open_books.books.items c.refresh_all-refreshed.new.books.items
-    c.in-Ok-open_books.ensures.as_many c.in-Ok-open_books.ensures.opened c.refresh_all-refreshed.ensures.same)
-    ∙ first)
+    (g.S.Store.device_at c.args.store.now) c.in_ok-books.books.items c.refresh_all-refreshed.new.books.items
+    c.in_ok-books.ensures.as_many c.in_ok-books.ensures.opened c.refresh_all-refreshed.ensures.same)
+    ∙ first
 
-pub returns-in-Err-clause-no_file_fault : goal.returns-in-Err-clause-no_file_fault
-returns-in-Err-clause-no_file_fault g c = rows_no_fault _ _ _ _ _ c.in-Err.why (returns-in-Err-clause-refused g c)
+pub returns-in_err-refreshed-clause-refused : goal.returns-in_err-refreshed-clause-refused
+returns-in_err-refreshed-clause-refused g c =
+    let D = g.S.Dev.Disk in
+    let groups = c.args.groups.now in
+    let old = g.S.Store.device_at c.args.store.now in
+    let books = c.in_ok-books.books.items in
+    let lists = ap (map (λ r. r.now)) c.deref-2.ensures.value ∙ c.in-Ok-records_of.ensures.records in
+    let lists_then = ap (map (λ r. r.now)) c.deref-3.ensures.value ∙ c.in-Ok-records_of.ensures.records in
+    let p = err_from_is_err_and c.from_residual-in_err-refreshed.result c.from_residual-in_err-refreshed.ensures.1 in
+    rw (p.1, p.2) (over_some D.trace D.ticks D.fault_count groups (tag_records c.args.cores.now) old books _ _ c.in_err-refreshed.field-0.0
+    c.in_ok-books.ensures.as_many
+    (subst (λ l. AreBooksOpened D.trace D.ticks D.fault_count groups l old books) lists c.in_ok-books.ensures.opened)
+    (subst (λ l. IsOverSome groups l c.in_err-refreshed.field-0.0) lists_then c.in_err-refreshed.ensures.refused))
 
-pub returns-clause-no_file_fault : goal.returns-clause-no_file_fault
-returns-clause-no_file_fault g c = rows_no_fault _ _ _ _ _ c.in-Err-refreshed.why (returns-clause-refused g c)
+pub returns-in_err-refreshed-clause-same : goal.returns-in_err-refreshed-clause-same
+returns-in_err-refreshed-clause-same g c =
+    let D = g.S.Dev.Disk in
+    let new = g.S.Store.device_at c.close_books.new.store in
+    let mid = g.S.Store.device_at c.open_books.new.store in
+    let closed = c.refresh_all-refreshed.new.books.items in
+    all_back D.trace D.ticks D.fault_count c.args.groups.now c.in-Ok.names.items (map (λ r. r.now) c.deref-2.result.now)
+    (g.S.Store.device_at c.args.store.now) mid new c.in_ok-books.books.items closed c.in-Ok.ensures.names
+    c.in_ok-books.ensures.as_many c.in_ok-books.ensures.opened c.refresh_all-refreshed.ensures.same
+    (subst (λ l. AreGivenBack D.trace l closed mid new) c.deref-4.ensures.value c.close_books.ensures.given)
+
+pub returns-in_err-refreshed-clause-others : goal.returns-in_err-refreshed-clause-others
+returns-in_err-refreshed-clause-others g c = λ n none.
+    let new = g.S.Store.device_at c.close_books.new.store in
+    let mid = g.S.Store.device_at c.open_books.new.store in
+    let are = subst (AreNamesOf c.args.groups.now) (sym c.deref-4.ensures.value) c.in-Ok.ensures.names in
+    others_same c.args.groups.now c.deref-4.result.now (length c.deref-4.result.now) mid new are
+    (omega (arith, as_many c.args.groups.now c.deref-4.result.now are)) c.close_books.ensures.others n none
+    ∙ c.open_books.ensures.others n none
+
+pub returns-in_err-refreshed-clause-counts : goal.returns-in_err-refreshed-clause-counts
+returns-in_err-refreshed-clause-counts g c = λ small.
+    let D = g.S.Dev.Disk in
+    let first = c.in_ok-books.ensures.counts small in
+    let p = err_from_is_err_and c.from_residual-in_err-refreshed.result c.from_residual-in_err-refreshed.ensures.1 in
+    rw (p.1, p.2) (inl (c.close_books.ensures.faultless (subst (λ n. n < 2 ^ 64) (sym first) small)
+    (none_counted D.trace D.ticks D.fault_count c.args.groups.now (map (λ r. r.now) c.deref-2.result.now)
+    (g.S.Store.device_at c.args.store.now) c.in_ok-books.books.items c.refresh_all-refreshed.new.books.items
+    c.in_ok-books.ensures.as_many c.in_ok-books.ensures.opened c.refresh_all-refreshed.ensures.same)
+    ∙ first))
+
+pub returns-in_err-books-clause-no_file_fault : goal.returns-in_err-books-clause-no_file_fault
+returns-in_err-books-clause-no_file_fault g c =
+    IfErr-weaker c.from_residual.result _ _ (rows_no_fault _ _ _ _ _) (returns-in_err-books-clause-refused g c)
+
+pub returns-in_err-refreshed-clause-no_file_fault : goal.returns-in_err-refreshed-clause-no_file_fault
+returns-in_err-refreshed-clause-no_file_fault g c =
+    IfErr-weaker c.from_residual-in_err-refreshed.result _ _ (rows_no_fault _ _ _ _ _) (returns-in_err-refreshed-clause-refused g c)
