@@ -1,6 +1,7 @@
 -- Refusals of the commands are told as they are, and so is want of memory for the words.
-use Rattle.std.proofs.Common.{◌≡◌, inl, inr, ℕ, ◌^◌, ◌<◌, List, ◌≢◌, refl}
-use Rattle.byte_io.specs.Outside.{CountsNoFault}
+use Rattle.std.proofs.Common.{◌≡◌, inl, inr, ℕ, ◌^◌, ◌<◌, List, ◌≢◌, Option, ap, refl, subst, sym}
+use Rattle.byte_io.specs.Outside.{CountsNoFault, Outside}
+use Rattle.disk_model.specs.Traces.{Trace}
 use Rattle.plant_files.specs.Asked.{ToldFiles}
 use Rattle.store_commands.specs.Commands.{Devices, IsCheckRefusal, IsTrendRefusal, OfBase, OfGroup, OfPlan, OfReader, OfTag, OfMemory}
 use Rattle.disk_model.specs.Calls.{Rose}
@@ -16,8 +17,9 @@ use Rattle.frame_command.specs.Names as frame_names
 use Rattle.frame_command.specs.Rows as frame_rows
 use Rattle.store_commands.proofs.Faults.{of_none}
 use Rattle.plant_more.specs.Endings.{EndsOver, IsUnread, Scene}
-use Rattle.plant_run.specs.CommandLine.{Form, Pack, Check, Trend, Shifts, Frames, Unknown}
+use Rattle.plant_run.specs.CommandLine.{Form, Pack, Check, Trend, Shifts, Frames, Unknown, form_of}
 use Rattle.plant_run.specs.Run.{EndsFor, KeepsFor, World}
+use Rattle.plant_run.specs.Sessions.{ComesOf, IsUnrun}
 
 -- ---- a refusal is not Done, and no fault of the output
 
@@ -160,7 +162,7 @@ none_over : (base : List ℕ) (before now : Scene) → now.file_faults ≡ befor
     → EndsOver base before now WantOfMemory
 none_over base before now faults devices = record { durable = tt; file_faults = faults; device_faults = λ few. devices }
 
-pub memory_ends : (form : Form) (before now : World) → CountsNoFault before.input now.input → IsUnread before.scene now.scene WantOfMemory
+memory_ends : (form : Form) (before now : World) → CountsNoFault before.input now.input → IsUnread before.scene now.scene WantOfMemory
     → now.input ≡ before.input → EndsFor form before now WantOfMemory
 memory_ends (Pack tuning) before now same is left = ((same, is.told), is.file_faults, is.device_faults)
 memory_ends (Check base) before now same is left =
@@ -179,10 +181,33 @@ memory_ends (Frames base group calc least) before now same is left =
 memory_ends Unknown before now same is left = ((inr refl, is), left)
 
 -- devices that are as they were are kept
-pub same_kept : (form : Form) (told : ToldFiles) (devices : Devices) → KeepsFor form told devices devices
+same_kept : (form : Form) (told : ToldFiles) (devices : Devices) → KeepsFor form told devices devices
 same_kept (Pack tuning) told devices = refl
 same_kept (Check base) told devices = inl (λ n. refl)
 same_kept (Trend base plan) told devices = inl (λ n. refl)
 same_kept (Shifts asked) told devices = inl (λ n. refl)
 same_kept (Frames base group calc least) told devices = inl (λ n. refl)
 same_kept Unknown told devices = refl
+
+-- that is what comes then of any words
+pub unrun_comes : {D : Type 0} (trace : D → Option Trace) (ticks faults : D → ℕ) (words : List (List ℕ)) (before now : World)
+    (stops_before stops_now code : ℕ) → IsUnrun WantOfMemory before now stops_before stops_now code
+    → ComesOf trace ticks faults words before now stops_before stops_now code
+unrun_comes trace ticks faults words before now stops_before stops_now code unrun = record {
+  ends = λ none. (
+    WantOfMemory,
+    unrun.exit,
+    memory_ends (form_of words) before now (ap (λ (o : Outside). o.faults) unrun.input)
+        (record {
+          told = unrun.told;
+          file_faults = ap (λ (s : Scene). s.file_faults) unrun.rest;
+          device_faults = ap (λ (s : Scene). s.device_faults) unrun.rest;
+        }) unrun.input,
+  );
+  session = λ base plan is. inr unrun;
+  log = λ base plan is. inr unrun;
+  drill = λ wanted is. inr unrun;
+  bad_words = λ none nothing. inr unrun.exit;
+  devices = λ none. subst (KeepsFor (form_of words) before.scene.files before.scene.devices)
+      (sym (ap (λ (s : Scene). s.devices) unrun.rest)) (same_kept (form_of words) before.scene.files before.scene.devices);
+}

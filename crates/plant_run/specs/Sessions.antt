@@ -1,4 +1,4 @@
--- What the run or the logging of a plan comes to: what is printed, and its session.
+-- What the run or the logging of a plan comes to: what is printed, and its session; and what any words come to, with the exit code.
 use Rattle.std.specs.Prelude.{◌≡◌, ◌≢◌, ◌⊎◌, ℕ, List, [], None, Some, Option, Result, String, IfErr, IfOk, IfSome, OnOk, string_bytes}
 use Rattle.std.specs.Option.{IsSome}
 use Rattle.std.specs.declared.alloc.Global.{Global}
@@ -19,9 +19,9 @@ use Rattle.command_text.specs.Printing.{IsPrintedSo, IsTold}
 use Rattle.plant_more.specs.Logs.{IsLogSo}
 use Rattle.plant_more.specs.Words.{log_words}
 use Rattle.plant_more.specs.declared.log_answer.LogOutcome.{LogOutcome}
-use Rattle.plant_run.specs.CommandLine.{plan_words}
+use Rattle.plant_run.specs.CommandLine.{form_of, plan_words}
 use Rattle.plant_run.specs.declared.program.Outcome.{Outcome}
-use Rattle.plant_run.specs.Run.{World}
+use Rattle.plant_run.specs.Run.{EndsWithCode, KeepsFor, MeansNothing, World}
 
 -- The run of the plan in a file over the base in another: its report is printed, or the line that tells why there is none; the input
 -- is left alone. Where the devices were opened there is a session, whatever came of it, and what is promised of one; else there is a
@@ -115,3 +115,17 @@ abbrev pub RunsWithCode : {D : Type 0} → (D → Option Trace) → (D → ℕ) 
 RunsWithCode trace ticks faults base plan before now stops_before stops_now code =
     ((o : Outcome) × (code ≡ code_of o.status) × IsRunSo trace ticks faults base plan before now stops_before stops_now o)
     ⊎ IsUnrun WantOfMemory before now stops_before stops_now code
+
+-- What comes of a command line of these words, with this exit code: of `run`, `log` and `drill` their sessions, of all other words what
+-- was read and printed; words that ask for nothing are told as such, or that there was no memory for them; and what a crash at any
+-- moment leaves of the devices where no session is held.
+pub record ComesOf {D : Type 0} (trace : D → Option Trace) (ticks faults : D → ℕ) (words : List (List ℕ)) (before now : World)
+    (stops_before stops_now code : ℕ) : Type 0 where
+  pub ends : HoldsNone words → EndsWithCode words before now code
+  pub session : (base plan : List ℕ) → plan_words words ≡ Some (base, plan)
+      → RunsWithCode trace ticks faults base plan before now stops_before stops_now code
+  pub log : (base plan : List ℕ) → log_words words ≡ Some (base, plan)
+      → LogsWithCode trace ticks faults base plan before now stops_before stops_now code
+  pub drill : (wanted : DrillWords) → drill_words words ≡ Some wanted → DrillsWithCode wanted before now stops_before stops_now code
+  pub bad_words : HoldsNone words → MeansNothing (form_of words) → (code ≡ code_of BadWords) ⊎ (code ≡ code_of WantOfMemory)
+  pub devices : HoldsNone words → KeepsFor (form_of words) before.scene.files before.scene.devices now.scene.devices

@@ -1,17 +1,13 @@
 // The arguments of the process, and its exit code.
-ghost use Rattle.std.specs.Prelude.{◌≡◌, ◌⊎◌, ℕ, List, None, Some, drop, map, string_bytes, IfOk, IfErr};
+ghost use Rattle.std.specs.Prelude.{◌≡◌, drop, map, string_bytes, IfOk, IfErr};
 ghost use Rattle.std.specs.IoError.{error_kind};
 ghost use Rattle.std.specs.Process.{exit_status};
 ghost use Rattle.std.specs.Vec.Iter.{into_iter_items};
 ghost use Rattle.plant_status.specs.Status.{code_of};
-ghost use Rattle.plant_run.specs.Argument.{status_of_args};
 ghost use Rattle.command_text.specs.Printing.{IsTold};
-ghost use Rattle.plant_more.specs.Words.{log_words};
-ghost use Rattle.plant_run.specs.Run.{EndsWithCode, KeepsFor, MeansNothing, world};
-ghost use Rattle.plant_run.specs.CommandLine.{form_of, plan_words};
-ghost use Rattle.drill_command.specs.declared.words.DrillWords.{DrillWords};
-ghost use Rattle.drill_command.specs.Words.{drill_words};
-ghost use Rattle.plant_run.specs.Sessions.{DrillsWithCode, HoldsNone, LogsWithCode, RunsWithCode};
+ghost use Rattle.plant_run.specs.Argument.{status_of_args};
+ghost use Rattle.plant_run.specs.Run.{world};
+ghost use Rattle.plant_run.specs.Sessions.{ComesOf};
 
 use crate::program::run;
 use byte_io::{Files, Sink, Source};
@@ -39,40 +35,12 @@ pub fn run_args<R: Threads + Wait + Sync, I: Source, F: Files, O: Sink, S: Store
     passes: &mut P,
 ) -> ExitCode
     // The words are the arguments after the first.
-    ensures ends { IfOk args (λ given. HoldsNone (map string_bytes (drop 1 (into_iter_items given)))
-        → EndsWithCode (map string_bytes (drop 1 (into_iter_items given)))
-        (world (I.meaning input.old) (O.meaning out.old) (F.told files.old) (F.fault_count files.old) (F.failed_name files.old)
-        (S.device_at store.old) (S.fault_count store.old))
-        (world (I.meaning input.new) (O.meaning out.new) (F.told files.new) (F.fault_count files.new) (F.failed_name files.new)
-        (S.device_at store.new) (S.fault_count store.new)) (exit_status result)) }
-    ensures session { IfOk args (λ given. (base plan : List ℕ)
-        → plan_words (map string_bytes (drop 1 (into_iter_items given))) ≡ Some (base, plan)
-        → RunsWithCode S.Dev.trace S.Dev.ticks S.Dev.fault_count base plan
+    ensures comes { IfOk args (λ given. ComesOf S.Dev.trace S.Dev.ticks S.Dev.fault_count
+        (map string_bytes (drop 1 (into_iter_items given)))
         (world (I.meaning input.old) (O.meaning out.old) (F.told files.old) (F.fault_count files.old) (F.failed_name files.old)
         (S.device_at store.old) (S.fault_count store.old))
         (world (I.meaning input.new) (O.meaning out.new) (F.told files.new) (F.fault_count files.new) (F.failed_name files.new)
         (S.device_at store.new) (S.fault_count store.new)) (P.stops passes.old) (P.stops passes.new) (exit_status result)) }
-    ensures log { IfOk args (λ given. (base plan : List ℕ)
-        → log_words (map string_bytes (drop 1 (into_iter_items given))) ≡ Some (base, plan)
-        → LogsWithCode S.Dev.trace S.Dev.ticks S.Dev.fault_count base plan
-        (world (I.meaning input.old) (O.meaning out.old) (F.told files.old) (F.fault_count files.old) (F.failed_name files.old)
-        (S.device_at store.old) (S.fault_count store.old))
-        (world (I.meaning input.new) (O.meaning out.new) (F.told files.new) (F.fault_count files.new) (F.failed_name files.new)
-        (S.device_at store.new) (S.fault_count store.new)) (P.stops passes.old) (P.stops passes.new) (exit_status result)) }
-    ensures drill { IfOk args (λ given. (wanted : DrillWords)
-        → drill_words (map string_bytes (drop 1 (into_iter_items given))) ≡ Some wanted → DrillsWithCode wanted
-        (world (I.meaning input.old) (O.meaning out.old) (F.told files.old) (F.fault_count files.old) (F.failed_name files.old)
-        (S.device_at store.old) (S.fault_count store.old))
-        (world (I.meaning input.new) (O.meaning out.new) (F.told files.new) (F.fault_count files.new) (F.failed_name files.new)
-        (S.device_at store.new) (S.fault_count store.new)) (P.stops passes.old) (P.stops passes.new) (exit_status result)) }
-    ensures bad_words { IfOk args (λ given. HoldsNone (map string_bytes (drop 1 (into_iter_items given)))
-        → MeansNothing (form_of (map string_bytes (drop 1 (into_iter_items given))))
-        → (exit_status result ≡ code_of Status.BadWords) ⊎ (exit_status result ≡ code_of Status.WantOfMemory)) }
-
-    // What a crash at any moment leaves of the devices.
-    ensures devices { IfOk args (λ given. HoldsNone (map string_bytes (drop 1 (into_iter_items given)))
-        → KeepsFor (form_of (map string_bytes (drop 1 (into_iter_items given))))
-        (F.told files.old) (S.device_at store.old) (S.device_at store.new)) }
 
     // No arguments.
     ensures no_args_code { IfErr args (λ why. exit_status result ≡ code_of (status_of_args (error_kind why))) }
