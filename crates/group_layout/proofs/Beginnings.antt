@@ -1,27 +1,24 @@
 -- What a crash leaves while a group's device is begun, or a block is added.
-use Rattle.std.proofs.Common.{◌≡◌, ◌≢◌, inl, inr, ⊎_elim, ℕ, zero, suc, ◌+◌, ◌*◌, ◌^◌, ◌<◌, ◌≤◌, true, All, List, [], ◌∷◌, ◌++◌, length, get_or, take, drop, Option, None, Some, Result, refl, sym, ◌∙◌, ap, subst, arith, lit<, length-append, length-take, length-drop, eq-eqb}
+use Rattle.std.proofs.Common.{◌≡◌, ◌≢◌, inl, inr, ⊎_elim, ℕ, zero, suc, ◌+◌, ◌*◌, ◌^◌, ◌<◌, ◌≤◌, true, All, List, [], ◌∷◌, ◌++◌, length, get_or, take, drop, Option, None, Some, Result, refl, sym, ◌∙◌, ap, subst, arith, lit<, length-append, eq-eqb}
 use Rattle.std.specs.Int.{w32, from_be_bytes}
 use Rattle.std.proofs.lemmas.Bool.{cases_eq}
-use Rattle.std.proofs.Math.Seq.{take-add}
-use Rattle.std.proofs.lemmas.List.{get_or-take, get_or-drop, drop-drop, take-take, take_at}
-use Rattle.std.proofs.lemmas.List.Elements.{All-cons, All-nil}
 use Rattle.std.proofs.lemmas.Grind.{same_number_lists}
 use Rattle.std.proofs.lemmas.Nat.{from_be_bytes-to_be_bytes_4}
 use Rattle.disk_model.specs.Traces.{Wrote, WroteInPart, Synced, Idle, Trace, seen, written}
 use Rattle.disk_model.specs.Images.{MayLeave, Now, FromOld, IsSettled}
 use Rattle.disk_model.specs.Moments.{During}
-use Rattle.disk_model.specs.Calls.{IsNoted, HasLength, Reaches, Sees, Shows}
+use Rattle.disk_model.specs.Calls.{IsNoted, HasLength, Sees, Shows}
 use Rattle.disk_model.specs.Gates.{Holds, IsClosing, IsGuarded, IsOpen, IsShut, open_byte}
 use Rattle.disk_model.proofs.Images.{present, wrote_now, synced_now}
 use Rattle.disk_model.proofs.Moments.{started, during_now, weaker, in_turn, goes_on}
 use Rattle.archive_file.specs.Fields.{number_bytes}
 use Rattle.group_layout.specs.declared.block.BlockRow.{BlockRow}
-use Rattle.layout_fields.specs.declared.field.Field.{Field}
 use Rattle.layout_fields.specs.Fields.{Keeps, short_at}
 use Rattle.group_layout.specs.Blocks.{Parts, block_image, block_size, row_image, rows_image, versions_image}
 use Rattle.group_layout.specs.Images.{IsUnsaved, head_fields, letter_field, letters, text_in}
 use Rattle.group_layout.specs.Readings.{IsEmpty, SavesNothing, head_image}
-use Rattle.layout_fields.proofs.FieldLaws.{field_of}
+use Rattle.layout_fields.proofs.FieldLaws.{all_six, field_of}
+use Rattle.layout_fields.proofs.PlacedBytes.{holds_byte, holds_left, holds_right, holds_there}
 
 -- ---- the gate of the layout is closed
 
@@ -93,54 +90,6 @@ unsaved_closed text o o1 o2 is settled same closing =
     (subst (λ x. During x o2 (FromOld x (IsClosing 0 1))) same closing)
 
 -- ---- the head is written behind it
-
--- bytes written behind the gate begin behind it
-pub shut_reached : (o : Option Trace) (at : ℕ) → Now o (IsShut at) → Reaches o (at + 1)
-shut_reached None at shut = tt
-shut_reached (Some t) at shut = omega (arith, (shut.each (seen (Some t)) (present t)).there)
-
--- a part of bytes that stand there
-pub holds_left : (c : List ℕ) (at : ℕ) (xs ys : List ℕ) → Holds at (xs ++ ys) c → Holds at xs c
-holds_left c at xs ys holds =
-    sym (take-take (length xs) (length (xs ++ ys)) (drop at c) (omega (arith, length-append xs ys)))
-    ∙ ap (take (length xs)) holds ∙ take_at xs ys (length xs) refl
-
-pub holds_right : (c : List ℕ) (at : ℕ) (xs ys : List ℕ) → Holds at (xs ++ ys) c → Holds (at + length xs) ys c
-holds_right c at xs ys holds =
-    let all = sym (take-add (length xs) (length ys) (drop at c)) ∙ ap (λ n. take n (drop at c)) (sym (length-append xs ys)) ∙ holds in
-    ap (take (length ys)) (sym (drop-drop (length xs) at c))
-    ∙ append_parts (take (length xs) (drop at c)) xs _ ys (omega (arith, holds_long)) all
-  where
-    holds_long : length (take (length xs) (drop at c)) ≡ length xs
-    holds_long = ap length (holds_left c at xs ys holds)
-
-    append_parts : (a b x y : List ℕ) → length a ≡ length b → a ++ x ≡ b ++ y → x ≡ y
-    append_parts [] [] x y same e = e
-    append_parts [] (n ∷ b) x y same e = absurd (omega (arith, same))
-    append_parts (n ∷ a) [] x y same e = absurd (omega (arith, same))
-    append_parts (n ∷ a) (m ∷ b) x y same e = append_parts a b x y (omega (arith, same)) (tail_is e)
-      where
-        tail_is : n ∷ (a ++ x) ≡ m ∷ (b ++ y) → a ++ x ≡ b ++ y
-        tail_is e = cc
-
--- one of them
-pub holds_byte : (c : List ℕ) (at : ℕ) (bytes : List ℕ) (i : ℕ) → Holds at bytes c → i < length bytes
-    → get_or c (at + i) 0 ≡ get_or bytes i 0
-holds_byte c at bytes i holds low =
-    sym (get_or-take (length bytes) (drop at c) i 0 low ∙ get_or-drop at c i 0) ∙ ap (λ l. get_or l i 0) holds
-
--- and the image is long enough
-pub holds_there : (c : List ℕ) (at : ℕ) (bytes : List ℕ) → Holds at bytes c → 0 < length bytes → at + length bytes ≤ length c
-holds_there c at bytes holds some =
-    omega (arith, ap length holds, length-take (length bytes) (drop at c), length-drop at c)
-
--- six fields that are kept
-pub all_six : (c : List ℕ) (f g h i j k : Field) → Keeps c f → Keeps c g → Keeps c h → Keeps c i → Keeps c j → Keeps c k
-    → All (Keeps c) (f ∷ g ∷ h ∷ i ∷ j ∷ k ∷ [])
-all_six c f g h i j k kf kg kh ki kj kk =
-    All-cons (Keeps c) f (g ∷ h ∷ i ∷ j ∷ k ∷ []) kf (All-cons (Keeps c) g (h ∷ i ∷ j ∷ k ∷ []) kg
-    (All-cons (Keeps c) h (i ∷ j ∷ k ∷ []) kh (All-cons (Keeps c) i (j ∷ k ∷ []) ki
-    (All-cons (Keeps c) j (k ∷ []) kj (All-cons (Keeps c) k [] kk (All-nil (Keeps c)))))))
 
 -- the head with a text is a layout of it without blocks
 pub head_is : (text c : List ℕ) → length text < 2 ^ 32 → IsOpen 0 c → Holds 1 (head_image text) c → IsEmpty text c

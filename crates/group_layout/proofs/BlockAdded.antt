@@ -1,14 +1,12 @@
 -- A block behind others: what an image has while it is added.
-use Rattle.std.proofs.Common.{◌≡◌, ◌≢◌, inl, ℕ, ◌+◌, ◌<◌, ◌≤◌, true, All, List, [], ◌∷◌, ◌++◌, length, get_or, take, drop, nat_eq, Option, None, Some, refl, sym, ap, ◌∙◌, subst, arith, lit<, length-append, length-take, length-drop}
+use Rattle.std.proofs.Common.{◌≡◌, ◌≢◌, ℕ, ◌+◌, ◌<◌, ◌≤◌, true, All, List, [], ◌∷◌, ◌++◌, length, get_or, take, drop, nat_eq, Option, None, Some, refl, sym, ap, ◌∙◌, subst, arith, lit<, length-append}
 use Rattle.std.specs.Int.{w32, from_be_bytes}
-use Rattle.std.proofs.lemmas.Grind.{same_number_lists}
-use Rattle.std.proofs.lemmas.List.{get_or-take, get_or-drop}
 use Rattle.trend_num.specs.declared.value.CalcValue.{CalcValue}
 use Rattle.disk_model.specs.Calls.{Sees, Shows}
 use Rattle.disk_model.specs.Images.{FromOld, IsSettled, Now}
 use Rattle.disk_model.specs.Moments.{During}
 use Rattle.disk_model.specs.Traces.{Trace, seen, written}
-use Rattle.disk_model.proofs.Bytes.{holds_written, length-written}
+use Rattle.disk_model.proofs.Bytes.{length-written}
 use Rattle.disk_model.proofs.Images.{present}
 use Rattle.disk_model.proofs.Moments.{during_now}
 use Rattle.disk_model.specs.Gates.{Holds, IsGuarded, IsOpen, IsShut, open_byte}
@@ -17,25 +15,11 @@ use Rattle.group_layout.specs.Blocks.{HasBlock, HasBlocks, MayFollow, Parts, blo
 use Rattle.group_layout.specs.Images.{HasSaved, IsOfText, blocks_at, head_fields, letter_field, text_in}
 use Rattle.group_layout.specs.Readings.{IsEmpty}
 use Rattle.group_layout.specs.Rows.{AreRowsOf}
-use Rattle.group_layout.proofs.Beginnings.{all_six, holds_left, holds_right, holds_byte, holds_there, length-block_image}
-use Rattle.layout_fields.proofs.FieldLaws.{field_of}
+use Rattle.layout_fields.proofs.FieldLaws.{all_six, field_of}
+use Rattle.layout_fields.proofs.PlacedBytes.{SameFront, guarded_front, holds_byte, holds_left, holds_right, holds_there, part_same, written_byte}
+use Rattle.group_layout.proofs.Beginnings.{length-block_image}
 use Rattle.group_layout.proofs.Heads.{text_place}
 use Rattle.group_layout.proofs.Walks.{end_of-push, has_push, last_of-push}
-
--- the first n bytes are the same
-pub record SameFront (n : ℕ) (d c : List ℕ) : Type 0 where
-  pub before : n ≤ length d
-  pub now : n ≤ length c
-  pub same : (i : ℕ) → i < n → get_or c i 0 ≡ get_or d i 0
-
--- so is a part of them
-part_same : (n at size : ℕ) (d c : List ℕ) → SameFront n d c → at + size ≤ n → take size (drop at c) ≡ take size (drop at d)
-part_same n at size d c front within = same_number_lists (take size (drop at c)) (take size (drop at d))
-    (omega (arith, length-take size (drop at c), length-take size (drop at d), length-drop at c, length-drop at d, front.before, front.now))
-    (λ k low.
-    let inside : k < size = omega (arith, low, length-take size (drop at c)) in
-    (get_or-take size (drop at c) k 0 inside ∙ get_or-drop at c k 0) ∙ front.same (at + k) (omega arith)
-    ∙ sym (get_or-take size (drop at d) k 0 inside ∙ get_or-drop at d k 0))
 
 -- blocks that end there stand in both
 pub blocks_same : (n : ℕ) (d c : List ℕ) (calcs : ℕ) (b : Parts) (at : ℕ) (bs : List Parts) → SameFront n d c → end_of at bs ≤ n
@@ -98,14 +82,6 @@ head_same text d c n of_text front far long = record {
 
 -- ---- a block behind a gate
 
--- in front of the gate nothing is written
-guarded_front : (d c bytes : List ℕ) (at : ℕ) → IsGuarded (at + 1) bytes at d c → at < length d → SameFront at d c
-guarded_front d c bytes at guarded low = record {
-  before = omega (arith, low);
-  now = omega (arith, low, guarded.no_shorter);
-  same = λ i before. guarded.outside i (omega (arith, before, low)) (inl (omega (arith, before))) (λ e. absurd (omega (arith, e, before)));
-}
-
 -- the blocks begin before they end
 begins_before : (from : ℕ) (bs : List Parts) → from ≤ end_of from bs
 begins_before from [] = omega arith
@@ -131,13 +107,6 @@ next_shut b at d c guarded opened = record {
     gate_byte : get_or c (at + block_size b) 0 ≡ 0
     gate_byte = ap (λ n. get_or c n 0) place
         ∙ holds_byte c (at + 1 + length (block_image b)) (0 ∷ []) 0 (holds_right c (at + 1) (block_image b) (0 ∷ []) holds) (lit< tt)
-
--- the last byte of what was written
-pub written_byte : (s : List ℕ) (at byte : ℕ) → at ≤ length s → get_or (written s at (byte ∷ [])) at 0 ≡ byte
-written_byte s at byte low =
-    let place : at ≡ at + 0 = omega arith in
-    ap (λ n. get_or (written s at (byte ∷ [])) n 0) place
-    ∙ holds_byte (written s at (byte ∷ [])) at (byte ∷ []) 0 (holds_written s at (byte ∷ []) low) (lit< tt)
 
 -- behind a block that was added there is room for the next one
 pub block_ready : (b : Parts) (at : ℕ) (o o1 : Option Trace) → Now o (IsShut at)

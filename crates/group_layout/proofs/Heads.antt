@@ -1,16 +1,9 @@
 -- The head of a layout: its definition text, and where the blocks begin.
-use Rattle.std.proofs.Common.{◌≡◌, ℕ, ◌+◌, ◌<◌, ◌≤◌, true, List, length, drop, get_or, Option, None, Some, sym, ap, subst, arith, lit<, length-take, length-drop}
-use Rattle.disk_model.specs.Calls.{Shows}
-use Rattle.disk_model.specs.Traces.{Trace}
+use Rattle.std.proofs.Common.{◌≡◌, ℕ, ◌+◌, ◌<◌, ◌≤◌, true, List, length, drop, get_or, sym, ap, arith, lit<, length-take, length-drop}
 use Rattle.disk_model.specs.Gates.{open_byte}
 use Rattle.layout_fields.specs.Fields.{Keeps, short_at}
 use Rattle.group_layout.specs.Images.{HasHead, IsOfText, blocks_at, head_fields}
 use Rattle.layout_fields.proofs.FieldLaws.{field_of}
-
--- what is read of all bytes holds of what a read gives
-pub shows_at : (o : Option Trace) (bytes : List ℕ) (P : List ℕ → Type 0) → Shows o (λ c. bytes ≡ c) → P bytes → Shows o P
-shows_at None bytes P all p = tt
-shows_at (Some t) bytes P all p = subst P all p
 
 -- the head with its text and the gate behind it is there
 pub head_long : (c : List ℕ) → HasHead c → 9 + (short_at c 5 + 1) ≤ length c

@@ -1,5 +1,6 @@
 use Rattle.std.proofs.Common.{refl, ◌∙◌, arith}
-use Rattle.commit_log.proofs.Beginnings.{layout_begun, logs_nothing, new_kept, nothing_yet, shut_reached}
+use Rattle.commit_log.proofs.Beginnings.{layout_begun, logs_nothing, new_kept, nothing_yet}
+use Rattle.layout_fields.proofs.PlacedBytes.{shut_reached}
 use Rattle.commit_log.proofs.layout.make_layout.Goals as goal
 
 pub returns-in_default-clause-any_moment : goal.returns-in_default-clause-any_moment

@@ -1,6 +1,7 @@
 use Rattle.std.proofs.Common.{refl, ◌∙◌, arith}
 use Rattle.group_layout.proofs.BlockAdded.{layout_ready}
-use Rattle.group_layout.proofs.Beginnings.{layout_begun, nothing_yet, saves_nothing, shut_reached, unsaved_kept}
+use Rattle.group_layout.proofs.Beginnings.{layout_begun, nothing_yet, saves_nothing, unsaved_kept}
+use Rattle.layout_fields.proofs.PlacedBytes.{shut_reached}
 use Rattle.group_layout.proofs.making.make_group.Goals as goal
 
 pub returns-in_default-clause-any_moment : goal.returns-in_default-clause-any_moment
