@@ -1,17 +1,15 @@
 -- A block behind others: what an image has while it is added.
-use Rattle.std.proofs.Common.{◌≡◌, ◌≢◌, ◌⊎◌, inl, inr, ℕ, ◌+◌, ◌<◌, ◌≤◌, true, All, List, [], ◌∷◌, ◌++◌, length, get_or, take, drop, nat_eq, refl, sym, ap, ◌∙◌, subst, arith, lit<, length-append}
-use Rattle.std.specs.Int.{w32, from_be_bytes}
+use Rattle.std.proofs.Common.{◌≡◌, ◌≢◌, ◌⊎◌, inl, inr, ℕ, ◌+◌, ◌<◌, ◌≤◌, List, [], ◌∷◌, ◌++◌, length, get_or, sym, ap, ◌∙◌, subst, arith, lit<, length-append}
 use Rattle.std.proofs.lemmas.Bool.{cases_eq}
 use Rattle.disk_model.specs.Gates.{Holds, IsGuarded, IsOpen, IsShut, open_byte}
 use Rattle.commit_log.specs.declared.row.LogRow.{LogRow}
-use Rattle.layout_fields.specs.Fields.{Keeps, short_at}
 use Rattle.commit_log.specs.Blocks.{AreBlockRows, HasBlock, HasBlocks, block_image, block_size, end_of, rows_of}
-use Rattle.commit_log.specs.Images.{IsOfPlant, blocks_at, head_fields, letter_field, text_in}
+use Rattle.layout_fields.specs.TextHeads.{IsOfText, blocks_at}
+use Rattle.commit_log.specs.Images.{letters}
 use Rattle.commit_log.specs.Openings.{Stores}
-use Rattle.layout_fields.proofs.FieldLaws.{all_six, field_of}
+use Rattle.layout_fields.proofs.TextHeads.{head_same}
 use Rattle.layout_fields.proofs.PlacedBytes.{SameFront, guarded_front, holds_byte, holds_left, holds_right, holds_there, part_same}
 use Rattle.commit_log.proofs.Beginnings.{length-block_image}
-use Rattle.commit_log.proofs.Heads.{text_place}
 use Rattle.commit_log.proofs.Walks.{end_of-push, has_push, rows_of-push}
 
 -- the blocks begin before they end
@@ -37,43 +35,6 @@ blocks_same n d c tags number at (x ∷ bs) front within has = (
 
     size : length (block_image number x) + 1 ≡ block_size x
     size = omega (arith, length-block_image number x, length-append (block_image number x) (0 ∷ []))
-
--- ---- the head
-
--- the head of a layout lies in front of a gate of blocks
-head_same : (plant d c : List ℕ) (n : ℕ) → IsOfPlant plant d → SameFront n d c → blocks_at (length plant) ≤ n → n < length c
-    → IsOfPlant plant c
-head_same plant d c n is front far long = record {
-  head = record { begun = record { long = omega (arith, long, far); opened = byte 0 (omega (arith, far)) ∙ is.head.begun.opened }; fields = fields };
-  same = part_text ∙ is.same;
-}
-  where
-    place : blocks_at (length plant) ≡ 9 + short_at d 5
-    place = text_place plant d is
-
-    byte : (i : ℕ) → i < n → get_or c i 0 ≡ get_or d i 0
-    byte i low = front.same i low
-
-    size : short_at c 5 ≡ short_at d 5
-    size = ap (from_be_bytes w32) (part_same n 5 4 d c front (omega (arith, far)))
-
-    part_text : text_in c ≡ text_in d
-    part_text = ap (λ k. take k (drop 9 c)) size ∙ part_same n 9 (short_at d 5) d c front (omega (arith, far, place))
-
-    was : (i : ℕ) → i < 6 → Keeps d (get_or (head_fields d) i (field_of 0 0 true))
-    was i low = is.head.fields i (field_of 0 0 true) low
-
-    letter : (at value : ℕ) → at < 5 → Keeps d (letter_field d at value) → Keeps c (letter_field c at value)
-    letter at value low keeps =
-        record { there = omega (arith, long, far); kept = ap (λ m. nat_eq m value) (byte at (omega (arith, low, far))) ∙ keeps.kept }
-
-    fields : All (Keeps c) (head_fields c)
-    fields =
-        all_six c (letter_field c 1 80) (letter_field c 2 72) (letter_field c 3 67) (letter_field c 4 49) (field_of 5 4 true)
-        (field_of 9 (short_at c 5 + 1) true) (letter 1 80 (lit< tt) (was 0 (lit< tt))) (letter 2 72 (lit< tt) (was 1 (lit< tt)))
-        (letter 3 67 (lit< tt) (was 2 (lit< tt))) (letter 4 49 (lit< tt) (was 3 (lit< tt)))
-        (record { there = omega (arith, long, far); kept = refl })
-        (record { there = omega (arith, long, far, place, size); kept = refl })
 
 -- ---- a block behind a gate
 
@@ -113,8 +74,8 @@ module _ (plant : List ℕ) (tags : ℕ) (rows : List LogRow) (at : ℕ) (d c : 
   front : SameFront at d c
   front = guarded_front d c (block_image (length rows) b ++ 0 ∷ []) at guarded gate_there
 
-  of_plant : IsOfPlant plant c
-  of_plant = head_same plant d c at has.of_plant front (subst (λ n. from ≤ n) (sym has.lists.end_is) (begins_before from bs))
+  of_plant : IsOfText letters plant c
+  of_plant = head_same letters plant d c at has.of_plant front (subst (λ n. from ≤ n) (sym has.lists.end_is) (begins_before from bs))
       (omega (arith, gate_there, guarded.no_shorter))
 
   blocks : HasBlocks c tags 0 from bs

@@ -1,26 +1,11 @@
 -- Bytes that stand at a place of an image, part by part, and those in front of a place.
-use Rattle.std.proofs.Common.{◌≡◌, inl, ℕ, ◌+◌, ◌<◌, ◌≤◌, List, [], ◌∷◌, ◌++◌, length, get_or, take, drop, Option, None, Some, refl, sym, ap, ◌∙◌, subst, arith, lit<, length-append, length-take, length-drop}
+use Rattle.std.proofs.Common.{◌≡◌, inl, ℕ, ◌+◌, ◌<◌, ◌≤◌, List, [], ◌∷◌, ◌++◌, length, get_or, take, drop, refl, sym, ap, ◌∙◌, arith, lit<, length-append, length-take, length-drop}
 use Rattle.std.proofs.Math.Seq.{take-add}
 use Rattle.std.proofs.lemmas.Grind.{same_number_lists}
 use Rattle.std.proofs.lemmas.List.{get_or-take, get_or-drop, drop-drop, take-take, take_at}
-use Rattle.disk_model.specs.Calls.{Reaches, Shows}
-use Rattle.disk_model.specs.Gates.{Holds, IsGuarded, IsShut}
-use Rattle.disk_model.specs.Images.{Now}
-use Rattle.disk_model.specs.Traces.{Trace, seen, written}
+use Rattle.disk_model.specs.Gates.{Holds, IsGuarded}
+use Rattle.disk_model.specs.Traces.{written}
 use Rattle.disk_model.proofs.Bytes.{holds_written}
-use Rattle.disk_model.proofs.Images.{present}
-
--- ---- what a read gives
-
--- what is read of all bytes holds of what a read gives
-pub shows_at : (o : Option Trace) (bytes : List ℕ) (P : List ℕ → Type 0) → Shows o (λ c. bytes ≡ c) → P bytes → Shows o P
-shows_at None bytes P all p = tt
-shows_at (Some t) bytes P all p = subst P all p
-
--- bytes written behind a gate begin behind it
-pub shut_reached : (o : Option Trace) (at : ℕ) → Now o (IsShut at) → Reaches o (at + 1)
-shut_reached None at shut = tt
-shut_reached (Some t) at shut = omega (arith, (shut.each (seen (Some t)) (present t)).there)
 
 -- ---- parts of bytes
 
