@@ -1,207 +1,33 @@
 -- What a crash leaves while a plant's log is begun on a device.
-use Rattle.std.proofs.Common.{◌≡◌, ◌≢◌, inl, inr, ⊎_elim, ℕ, ◌+◌, ◌*◌, ◌^◌, ◌<◌, ◌≤◌, true, All, List, [], ◌∷◌, ◌++◌, length, get_or, take, drop, Option, None, Some, Result, refl, sym, ◌∙◌, ap, subst, arith, lit<, length-append, length-take, length-drop, eq-eqb}
-use Rattle.std.specs.Int.{w32, from_be_bytes}
-use Rattle.std.proofs.lemmas.Bool.{cases_eq}
-use Rattle.std.proofs.Math.Seq.{take-add}
-use Rattle.std.proofs.lemmas.List.{get_or-take, get_or-drop, drop-drop, take-take, take_at}
-use Rattle.std.proofs.lemmas.List.Elements.{All-cons, All-nil}
-use Rattle.std.proofs.lemmas.Nat.{from_be_bytes-to_be_bytes_4}
-use Rattle.disk_model.specs.Traces.{Wrote, WroteInPart, Synced, Idle, Trace, seen, written}
-use Rattle.disk_model.specs.Images.{MayLeave, Now, FromOld, IsSettled}
+use Rattle.std.proofs.Common.{◌≡◌, inl, inr, ℕ, ◌*◌, List, [], ◌∷◌, ◌++◌, length, Option, refl, arith, length-append}
+use Rattle.disk_model.specs.Traces.{Trace}
+use Rattle.disk_model.specs.Images.{IsSettled}
 use Rattle.disk_model.specs.Moments.{During}
-use Rattle.disk_model.specs.Calls.{IsNoted, HasLength, Reaches, Sees, Shows}
-use Rattle.disk_model.specs.Gates.{Holds, IsClosing, IsGuarded, IsNew, IsOpen, IsShut, open_byte}
-use Rattle.disk_model.proofs.Images.{present, wrote_now, synced_now}
-use Rattle.disk_model.proofs.Moments.{started, during_now, weaker, in_turn, goes_on}
-use Rattle.archive_file.specs.Fields.{number_bytes}
-use Rattle.layout_fields.specs.declared.field.Field.{Field}
+use Rattle.disk_model.specs.Calls.{Shows}
+use Rattle.disk_model.specs.Gates.{IsNew}
+use Rattle.disk_model.proofs.Moments.{started, weaker}
 use Rattle.commit_log.specs.declared.row.LogRow.{LogRow}
-use Rattle.layout_fields.specs.Fields.{Keeps, short_at}
 use Rattle.commit_log.specs.Blocks.{block_image, block_size, row_image, rows_image}
-use Rattle.commit_log.specs.Images.{IsEmpty, LogsNothing, head_fields, head_image, letter_field, letters, text_in}
-use Rattle.layout_fields.proofs.FieldLaws.{field_of}
+use Rattle.layout_fields.specs.TextHeads.{IsLeftOrBegun}
+use Rattle.layout_fields.proofs.ReadImages.{shown_now}
+use Rattle.commit_log.specs.Images.{LogsNothing, letters}
 
--- ---- the gate of the layout is closed
+-- ---- a device is begun
 
--- where a read gives a new device, so does each image
-pub new_now : (o : Option Trace) → Shows o IsNew → IsSettled o → Now o IsNew
-new_now None is settled = record { each = λ c may. absurd may.image }
-new_now (Some t) is settled = record { each = λ c may. subst IsNew (sym (settled.each c may)) is }
+-- no rows are on a new device as long as nothing was called
+pub nothing_yet : (plant : List ℕ) (o : Option Trace) → Shows o IsNew → IsSettled o → During o o (LogsNothing plant)
+nothing_yet plant o is settled =
+    weaker o o IsNew (LogsNothing plant) (λ c new. inl new) (started o IsNew (shown_now o IsNew is settled))
 
--- nothing was called
-pub new_kept : (o o1 : Option Trace) → Shows o IsNew → IsSettled o → o1 ≡ o → During o o1 IsNew
-new_kept o o1 is settled same = subst (λ x. During o x IsNew) (sym same) (started o IsNew (new_now o is settled))
-
--- an image of an empty device is short
-short_now : (o : Option Trace) (c : List ℕ) → IsSettled o → HasLength o 0 → MayLeave o c → length c ≡ 0
-short_now None c settled empty may = absurd may.image
-short_now (Some t) c settled empty may = ap length (settled.each c may) ∙ empty
-
--- an empty device was begun by one byte
-pub new_wrote : {E : Type 0} (r : Result (Unit {0}) E) (o o1 o2 : Option Trace) (n : ℕ) → Shows o IsNew → IsSettled o → o1 ≡ o
-    → HasLength o n → n ≤ 0 → IsNoted (Wrote 0 (0 ∷ [])) (WroteInPart 0 (0 ∷ [])) r o1 o2 → During o o2 IsNew
-new_wrote r o o1 o2 n is settled same long none wrote =
-    let zero_long : n ≡ 0 = omega arith in
-    let empty : HasLength o 0 = subst (HasLength o) zero_long long in
-    let short : (c : List ℕ) → MayLeave o2 c → IsNew c =
-    λ c may.
-    let from = wrote_now r o1 o2 0 (0 ∷ []) c wrote may in
-    let old = short_now o from.0 settled empty (subst (λ x. MayLeave x from.0) same from.1) in
-    inl (omega (arith, from.2.no_longer, old)) in
-    goes_on (Wrote 0 (0 ∷ [])) (WroteInPart 0 (0 ∷ [])) r o o1 o2 IsNew (new_kept o o1 is settled same) wrote (record { each = short })
-
--- and synced
-pub new_synced : {E : Type 0} (q : Result (Unit {0}) E) (o o2 o3 : Option Trace) → During o o2 IsNew → IsNoted Synced Idle q o2 o3
-    → During o o3 IsNew
-new_synced q o o2 o3 so_far synced =
-    goes_on Synced Idle q o o2 o3 IsNew so_far synced
-    (record { each = λ c may. (during_now o o2 IsNew so_far).each c (synced_now q o2 o3 c synced may) })
-
--- an image in which the gate alone may be torn
-new_torn : (d c : List ℕ) → IsNew d → IsClosing 0 1 d c → IsNew c
-new_torn d c is torn =
-    ⊎_elim (λ short. inl (omega (arith, short, torn.same_length))) (λ shut. inr (λ other. shut (sym (torn.same 0 (inr shut)) ∙ other))) is
-
--- gates are closed
-pub new_closed : (o o1 o2 : Option Trace) → Shows o IsNew → IsSettled o → o1 ≡ o → During o1 o2 (FromOld o1 (IsClosing 0 1))
-    → During o o2 IsNew
-new_closed o o1 o2 is settled same closing =
-    weaker o o2 (FromOld o (IsClosing 0 1)) IsNew (λ c from. new_torn from.0 c ((new_now o is settled).each from.0 from.1) from.2)
-    (subst (λ x. During x o2 (FromOld x (IsClosing 0 1))) same closing)
-
--- ---- the head is written behind it
-
--- bytes written behind the gate begin behind it
-pub shut_reached : (o : Option Trace) (at : ℕ) → Now o (IsShut at) → Reaches o (at + 1)
-shut_reached None at shut = tt
-shut_reached (Some t) at shut = omega (arith, (shut.each (seen (Some t)) (present t)).there)
-
--- a part of bytes that stand there
-pub holds_left : (c : List ℕ) (at : ℕ) (xs ys : List ℕ) → Holds at (xs ++ ys) c → Holds at xs c
-holds_left c at xs ys holds =
-    sym (take-take (length xs) (length (xs ++ ys)) (drop at c) (omega (arith, length-append xs ys)))
-    ∙ ap (take (length xs)) holds ∙ take_at xs ys (length xs) refl
-
-pub holds_right : (c : List ℕ) (at : ℕ) (xs ys : List ℕ) → Holds at (xs ++ ys) c → Holds (at + length xs) ys c
-holds_right c at xs ys holds =
-    let all = sym (take-add (length xs) (length ys) (drop at c)) ∙ ap (λ n. take n (drop at c)) (sym (length-append xs ys)) ∙ holds in
-    ap (take (length ys)) (sym (drop-drop (length xs) at c))
-    ∙ append_parts (take (length xs) (drop at c)) xs _ ys (omega (arith, holds_long)) all
+-- nor while its layout is begun
+pub logs_nothing : (plant : List ℕ) (o o1 : Option Trace) → Shows o IsNew → IsSettled o
+    → During o o1 (IsLeftOrBegun letters plant o) → During o o1 (LogsNothing plant)
+logs_nothing plant o o1 is settled begun = weaker o o1 (IsLeftOrBegun letters plant o) (LogsNothing plant) each begun
   where
-    holds_long : length (take (length xs) (drop at c)) ≡ length xs
-    holds_long = ap length (holds_left c at xs ys holds)
-
-    append_parts : (a b x y : List ℕ) → length a ≡ length b → a ++ x ≡ b ++ y → x ≡ y
-    append_parts [] [] x y same e = e
-    append_parts [] (n ∷ b) x y same e = absurd (omega (arith, same))
-    append_parts (n ∷ a) [] x y same e = absurd (omega (arith, same))
-    append_parts (n ∷ a) (m ∷ b) x y same e = append_parts a b x y (omega (arith, same)) (tail_is e)
-      where
-        tail_is : n ∷ (a ++ x) ≡ m ∷ (b ++ y) → a ++ x ≡ b ++ y
-        tail_is e = cc
-
--- one of them
-pub holds_byte : (c : List ℕ) (at : ℕ) (bytes : List ℕ) (i : ℕ) → Holds at bytes c → i < length bytes
-    → get_or c (at + i) 0 ≡ get_or bytes i 0
-holds_byte c at bytes i holds low =
-    sym (get_or-take (length bytes) (drop at c) i 0 low ∙ get_or-drop at c i 0) ∙ ap (λ l. get_or l i 0) holds
-
--- and the image is long enough
-pub holds_there : (c : List ℕ) (at : ℕ) (bytes : List ℕ) → Holds at bytes c → 0 < length bytes → at + length bytes ≤ length c
-holds_there c at bytes holds some =
-    omega (arith, ap length holds, length-take (length bytes) (drop at c), length-drop at c)
-
--- six fields that are kept
-pub all_six : (c : List ℕ) (f g h i j k : Field) → Keeps c f → Keeps c g → Keeps c h → Keeps c i → Keeps c j → Keeps c k
-    → All (Keeps c) (f ∷ g ∷ h ∷ i ∷ j ∷ k ∷ [])
-all_six c f g h i j k kf kg kh ki kj kk =
-    All-cons (Keeps c) f (g ∷ h ∷ i ∷ j ∷ k ∷ []) kf (All-cons (Keeps c) g (h ∷ i ∷ j ∷ k ∷ []) kg
-    (All-cons (Keeps c) h (i ∷ j ∷ k ∷ []) kh (All-cons (Keeps c) i (j ∷ k ∷ []) ki
-    (All-cons (Keeps c) j (k ∷ []) kj (All-cons (Keeps c) k [] kk (All-nil (Keeps c)))))))
-
--- the head with the text of a plant is its layout without blocks
-pub head_is : (plant c : List ℕ) → length plant < 2 ^ 32 → IsOpen 0 c → Holds 1 (head_image plant) c → IsEmpty plant c
-head_is plant c small opened holds = record {
-  of_plant = record { head = record { begun = record { long = omega (arith, long); opened = opened }; fields = fields }; same = same };
-  shut = record { there = omega (arith, long); closed = closed };
-}
-  where
-    size : length (head_image plant) ≡ 9 + length plant
-    size = omega (arith, length-append plant (0 ∷ []))
-
-    long : 10 + length plant ≤ length c
-    long = omega (arith, holds_there c 1 (head_image plant) holds (omega (arith, size)), size)
-
-    rest : Holds 5 (number_bytes 4 (length plant) ++ (plant ++ 0 ∷ [])) c
-    rest = holds_right c 1 letters (number_bytes 4 (length plant) ++ (plant ++ 0 ∷ [])) holds
-
-    number : short_at c 5 ≡ length plant
-    number = ap (from_be_bytes w32) (holds_left c 5 (number_bytes 4 (length plant)) (plant ++ 0 ∷ []) rest)
-        ∙ from_be_bytes-to_be_bytes_4 (length plant) small
-
-    behind : Holds 9 (plant ++ 0 ∷ []) c
-    behind = holds_right c 5 (number_bytes 4 (length plant)) (plant ++ 0 ∷ []) rest
-
-    same : text_in c ≡ plant
-    same = ap (λ n. take n (drop 9 c)) number ∙ holds_left c 9 plant (0 ∷ []) behind
-
-    closed : get_or c (9 + length plant) 0 ≢ open_byte
-    closed e =
-        let place : 9 + length plant ≡ 9 + length plant + 0 = omega arith in
-        let zero_there : get_or c (9 + length plant) 0 ≡ 0
-        = ap (λ n. get_or c n 0) place ∙ holds_byte c (9 + length plant) (0 ∷ []) 0 (holds_right c 9 plant (0 ∷ []) behind) (lit< tt) in
-        absurd (omega (arith, e, zero_there))
-
-    letter : (i : ℕ) → i < 4 → get_or c (1 + i) 0 ≡ get_or letters i 0
-    letter i low = holds_byte c 1 letters i (holds_left c 1 letters (number_bytes 4 (length plant) ++ (plant ++ 0 ∷ [])) holds) low
-
-    kept : (at value : ℕ) → at < 5 → get_or c at 0 ≡ value → Keeps c (letter_field c at value)
-    kept at value low is = record { there = omega (arith, long); kept = eq-eqb _ _ is }
-
-    size_kept : Keeps c (field_of 5 4 true)
-    size_kept = record { there = omega (arith, long); kept = refl }
-
-    text_kept : Keeps c (field_of 9 (short_at c 5 + 1) true)
-    text_kept = record { there = omega (arith, long, number); kept = refl }
-
-    fields : All (Keeps c) (head_fields c)
-    fields =
-        all_six c (letter_field c 1 80) (letter_field c 2 72) (letter_field c 3 67) (letter_field c 4 49) (field_of 5 4 true)
-        (field_of 9 (short_at c 5 + 1) true) (kept 1 80 (lit< tt) (letter 0 (lit< tt))) (kept 2 72 (lit< tt) (letter 1 (lit< tt)))
-        (kept 3 67 (lit< tt) (letter 2 (lit< tt))) (kept 4 49 (lit< tt) (letter 3 (lit< tt))) size_kept text_kept
-
--- ---- while it is written
-
--- no rows are on a new device
-pub nothing_yet : (plant : List ℕ) (o o1 : Option Trace) → During o o1 IsNew → During o o1 (LogsNothing plant)
-nothing_yet plant o o1 closed = weaker o o1 IsNew (LogsNothing plant) (λ c is. inl is) closed
-
-module _ (plant bytes : List ℕ) (small : length plant < 2 ^ 32) (is : bytes ≡ head_image plant) (o o1 : Option Trace)
-    (closed : During o o1 IsNew) where
-  -- behind the open gate they are a layout
-  begun : (d c : List ℕ) → IsGuarded 1 bytes 0 d c → IsOpen 0 c → IsEmpty plant c
-  begun d c guarded opened = head_is plant c small opened (subst (λ b. Holds 1 b c) is (guarded.whole opened))
-
-  -- at each moment there are no rows
-  pub logs_nothing : (o2 : Option Trace) → During o1 o2 (FromOld o1 (IsGuarded 1 bytes 0)) → During o o2 (LogsNothing plant)
-  logs_nothing o2 guarded =
-      in_turn o o1 o2 (LogsNothing plant) (nothing_yet plant o o1 closed)
-      (weaker o1 o2 (FromOld o1 (IsGuarded 1 bytes 0)) (LogsNothing plant) either guarded)
-    where
-      either : (c : List ℕ) → FromOld o1 (IsGuarded 1 bytes 0) c → LogsNothing plant c
-      either c from = elim (cases_eq (get_or c 0 0) open_byte) [
-        | inl opened ↦ inr (begun from.0 c from.2 opened)
-        | inr shut ↦ inl (inr shut)
-      ]
-
-  -- in the end the layout is there
-  pub layout_begun : (o2 : Option Trace) → During o1 o2 (FromOld o1 (IsGuarded 1 bytes 0))
-      → Sees o2 (written (written (seen o1) 1 bytes) 0 (open_byte ∷ [])) → Shows o2 (IsEmpty plant)
-  layout_begun None guarded sees = tt
-  layout_begun (Some t) guarded sees =
-      let left = during_now o1 (Some t) (FromOld o1 (IsGuarded 1 bytes 0)) guarded in
-      let from = left.each (seen (Some t)) (present t) in
-      begun from.0 (seen (Some t)) from.2 (ap (λ l. get_or l 0 0) sees)
+    each : (c : List ℕ) → IsLeftOrBegun letters plant o c → LogsNothing plant c
+    each c (inl (inl may)) = inl ((shown_now o IsNew is settled).each c may)
+    each c (inl (inr new)) = inl new
+    each c (inr empty) = inr empty
 
 -- ---- a block
 

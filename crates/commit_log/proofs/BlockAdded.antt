@@ -1,36 +1,16 @@
 -- A block behind others: what an image has while it is added.
-use Rattle.std.proofs.Common.{◌≡◌, ◌≢◌, ◌⊎◌, inl, inr, ℕ, ◌+◌, ◌<◌, ◌≤◌, true, All, List, [], ◌∷◌, ◌++◌, length, get_or, take, drop, nat_eq, refl, sym, ap, ◌∙◌, subst, arith, lit<, length-append, length-take, length-drop}
-use Rattle.std.specs.Int.{w32, from_be_bytes}
+use Rattle.std.proofs.Common.{◌≡◌, ◌≢◌, ◌⊎◌, inl, inr, ℕ, ◌+◌, ◌<◌, ◌≤◌, List, [], ◌∷◌, ◌++◌, length, get_or, sym, ap, ◌∙◌, subst, arith, lit<, length-append}
 use Rattle.std.proofs.lemmas.Bool.{cases_eq}
-use Rattle.std.proofs.lemmas.Grind.{same_number_lists}
-use Rattle.std.proofs.lemmas.List.{get_or-take, get_or-drop}
-use Rattle.disk_model.proofs.Bytes.{holds_written}
 use Rattle.disk_model.specs.Gates.{Holds, IsGuarded, IsOpen, IsShut, open_byte}
-use Rattle.disk_model.specs.Traces.{written}
 use Rattle.commit_log.specs.declared.row.LogRow.{LogRow}
-use Rattle.layout_fields.specs.Fields.{Keeps, short_at}
 use Rattle.commit_log.specs.Blocks.{AreBlockRows, HasBlock, HasBlocks, block_image, block_size, end_of, rows_of}
-use Rattle.commit_log.specs.Images.{IsOfPlant, blocks_at, head_fields, letter_field, text_in}
+use Rattle.layout_fields.specs.TextHeads.{IsOfText, blocks_at}
+use Rattle.commit_log.specs.Images.{letters}
 use Rattle.commit_log.specs.Openings.{Stores}
-use Rattle.commit_log.proofs.Beginnings.{all_six, holds_left, holds_right, holds_byte, holds_there, length-block_image}
-use Rattle.layout_fields.proofs.FieldLaws.{field_of}
-use Rattle.commit_log.proofs.Heads.{text_place}
+use Rattle.layout_fields.proofs.TextHeads.{head_same}
+use Rattle.layout_fields.proofs.PlacedBytes.{SameFront, guarded_front, holds_byte, holds_left, holds_right, holds_there, part_same}
+use Rattle.commit_log.proofs.Beginnings.{length-block_image}
 use Rattle.commit_log.proofs.Walks.{end_of-push, has_push, rows_of-push}
-
--- the first n bytes are the same
-pub record SameFront (n : ℕ) (d c : List ℕ) : Type 0 where
-  pub before : n ≤ length d
-  pub now : n ≤ length c
-  pub same : (i : ℕ) → i < n → get_or c i 0 ≡ get_or d i 0
-
--- so is a part of them
-part_same : (n at size : ℕ) (d c : List ℕ) → SameFront n d c → at + size ≤ n → take size (drop at c) ≡ take size (drop at d)
-part_same n at size d c front within = same_number_lists (take size (drop at c)) (take size (drop at d))
-    (omega (arith, length-take size (drop at c), length-take size (drop at d), length-drop at c, length-drop at d, front.before, front.now))
-    (λ k low.
-    let inside : k < size = omega (arith, low, length-take size (drop at c)) in
-    (get_or-take size (drop at c) k 0 inside ∙ get_or-drop at c k 0) ∙ front.same (at + k) (omega arith)
-    ∙ sym (get_or-take size (drop at d) k 0 inside ∙ get_or-drop at d k 0))
 
 -- the blocks begin before they end
 begins_before : (from : ℕ) (bs : List (List LogRow)) → from ≤ end_of from bs
@@ -56,52 +36,7 @@ blocks_same n d c tags number at (x ∷ bs) front within has = (
     size : length (block_image number x) + 1 ≡ block_size x
     size = omega (arith, length-block_image number x, length-append (block_image number x) (0 ∷ []))
 
--- ---- the head
-
--- the head of a layout lies in front of a gate of blocks
-head_same : (plant d c : List ℕ) (n : ℕ) → IsOfPlant plant d → SameFront n d c → blocks_at (length plant) ≤ n → n < length c
-    → IsOfPlant plant c
-head_same plant d c n is front far long = record {
-  head = record { begun = record { long = omega (arith, long, far); opened = byte 0 (omega (arith, far)) ∙ is.head.begun.opened }; fields = fields };
-  same = part_text ∙ is.same;
-}
-  where
-    place : blocks_at (length plant) ≡ 9 + short_at d 5
-    place = text_place plant d is
-
-    byte : (i : ℕ) → i < n → get_or c i 0 ≡ get_or d i 0
-    byte i low = front.same i low
-
-    size : short_at c 5 ≡ short_at d 5
-    size = ap (from_be_bytes w32) (part_same n 5 4 d c front (omega (arith, far)))
-
-    part_text : text_in c ≡ text_in d
-    part_text = ap (λ k. take k (drop 9 c)) size ∙ part_same n 9 (short_at d 5) d c front (omega (arith, far, place))
-
-    was : (i : ℕ) → i < 6 → Keeps d (get_or (head_fields d) i (field_of 0 0 true))
-    was i low = is.head.fields i (field_of 0 0 true) low
-
-    letter : (at value : ℕ) → at < 5 → Keeps d (letter_field d at value) → Keeps c (letter_field c at value)
-    letter at value low keeps =
-        record { there = omega (arith, long, far); kept = ap (λ m. nat_eq m value) (byte at (omega (arith, low, far))) ∙ keeps.kept }
-
-    fields : All (Keeps c) (head_fields c)
-    fields =
-        all_six c (letter_field c 1 80) (letter_field c 2 72) (letter_field c 3 67) (letter_field c 4 49) (field_of 5 4 true)
-        (field_of 9 (short_at c 5 + 1) true) (letter 1 80 (lit< tt) (was 0 (lit< tt))) (letter 2 72 (lit< tt) (was 1 (lit< tt)))
-        (letter 3 67 (lit< tt) (was 2 (lit< tt))) (letter 4 49 (lit< tt) (was 3 (lit< tt)))
-        (record { there = omega (arith, long, far); kept = refl })
-        (record { there = omega (arith, long, far, place, size); kept = refl })
-
 -- ---- a block behind a gate
-
--- in front of the gate nothing is written
-guarded_front : (d c bytes : List ℕ) (at : ℕ) → IsGuarded (at + 1) bytes at d c → at < length d → SameFront at d c
-guarded_front d c bytes at guarded low = record {
-  before = omega (arith, low);
-  now = omega (arith, low, guarded.no_shorter);
-  same = λ i before. guarded.outside i (omega (arith, before, low)) (inl (omega (arith, before))) (λ e. absurd (omega (arith, e, before)));
-}
 
 -- behind its open gate the next one is closed
 next_shut : (number : ℕ) (b : List LogRow) (at : ℕ) (d c : List ℕ) → IsGuarded (at + 1) (block_image number b ++ 0 ∷ []) at d c
@@ -125,13 +60,6 @@ next_shut number b at d c guarded opened = record {
         ∙ holds_byte c (at + 1 + length (block_image number b)) (0 ∷ []) 0
         (holds_right c (at + 1) (block_image number b) (0 ∷ []) holds) (lit< tt)
 
--- the last byte of what was written
-pub written_byte : (s : List ℕ) (at byte : ℕ) → at ≤ length s → get_or (written s at (byte ∷ [])) at 0 ≡ byte
-written_byte s at byte low =
-    let place : at ≡ at + 0 = omega arith in
-    ap (λ n. get_or (written s at (byte ∷ [])) n 0) place
-    ∙ holds_byte (written s at (byte ∷ [])) at (byte ∷ []) 0 (holds_written s at (byte ∷ []) low) (lit< tt)
-
 module _ (plant : List ℕ) (tags : ℕ) (rows : List LogRow) (at : ℕ) (d c : List ℕ) (has : Stores plant tags rows at d) (b : List LogRow)
     (guarded : IsGuarded (at + 1) (block_image (length rows) b ++ 0 ∷ []) at d c) where
   abbrev bs : List (List LogRow)
@@ -146,8 +74,8 @@ module _ (plant : List ℕ) (tags : ℕ) (rows : List LogRow) (at : ℕ) (d c : 
   front : SameFront at d c
   front = guarded_front d c (block_image (length rows) b ++ 0 ∷ []) at guarded gate_there
 
-  of_plant : IsOfPlant plant c
-  of_plant = head_same plant d c at has.of_plant front (subst (λ n. from ≤ n) (sym has.lists.end_is) (begins_before from bs))
+  of_plant : IsOfText letters plant c
+  of_plant = head_same letters plant d c at has.of_plant front (subst (λ n. from ≤ n) (sym has.lists.end_is) (begins_before from bs))
       (omega (arith, gate_there, guarded.no_shorter))
 
   blocks : HasBlocks c tags 0 from bs

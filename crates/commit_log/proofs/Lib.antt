@@ -2,7 +2,6 @@ pub mod RowLaws
 pub mod Walks
 pub mod BlockLaws
 pub mod Beginnings
-pub mod Heads
 pub mod BlockAdded
 pub mod Tapes
 pub mod Puts

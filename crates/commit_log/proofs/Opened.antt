@@ -1,43 +1,27 @@
 -- A log while it is opened.
-use Rattle.std.proofs.Common.{◌≡◌, ◌⊎◌, inl, inr, ℕ, ◌+◌, All, List, [], ◌∷◌, length, Option, None, Some, IfSome, Result, refl, sym, ◌∙◌, subst, arith}
+use Rattle.std.proofs.Common.{◌≡◌, inl, inr, ℕ, ◌+◌, All, List, [], ◌∷◌, length, Option, None, Some, IfSome, refl, sym, ◌∙◌, subst, arith}
 use Rattle.std.proofs.lemmas.List.Elements.{All-append, All-nil}
-use Rattle.disk_model.specs.Calls.{IsNoted, Shows}
+use Rattle.disk_model.specs.Calls.{Shows}
 use Rattle.disk_model.specs.Gates.{IsNew}
-use Rattle.disk_model.specs.Images.{IsSettled, MayLeave}
+use Rattle.disk_model.specs.Images.{IsSettled}
 use Rattle.disk_model.specs.Moments.{During}
-use Rattle.disk_model.specs.Traces.{Synced, Idle, Trace, noted, seen}
-use Rattle.disk_model.proofs.Images.{settled, synced_now}
-use Rattle.disk_model.proofs.Moments.{goes_on, in_turn, started, weaker}
+use Rattle.disk_model.specs.Traces.{Synced, Trace, noted, seen}
+use Rattle.disk_model.proofs.Images.{settled}
+use Rattle.disk_model.proofs.Moments.{in_turn, weaker}
 use Rattle.commit_log.specs.declared.block_reader.Stored.{Stored}
 use Rattle.commit_log.specs.declared.row.LogRow.{LogRow}
 use Rattle.commit_log.specs.Blocks.{HasBlocks, IsRow, block_size, rows_of}
-use Rattle.commit_log.specs.Images.{ByBlocks, ByNothing, IsEmpty, LogsNothing, StandsFor, blocks_at}
+use Rattle.layout_fields.specs.TextHeads.{IsEmpty, blocks_at}
+use Rattle.commit_log.specs.Images.{ByBlocks, ByNothing, LogsNothing, StandsFor, letters}
 use Rattle.commit_log.specs.Openings.{IsFound, IsLeftOrSame, IsLeftOrStands, IsTooMany, ListsRows}
 use Rattle.commit_log.specs.Told.{IsReady}
 use Rattle.commit_log.proofs.Commits.{stores_stand}
 
 -- ---- a sync
 
--- it leaves what might have been left before
-pub left_synced : {E : Type 0} (P : List ℕ → Type 0) (r : Result (Unit {0}) E) (o mid : Option Trace) → IsNoted Synced Idle r o mid
-    → During o mid (λ c. MayLeave o c ⊎ P c)
-left_synced P r o mid is =
-    goes_on Synced Idle r o o mid (λ c. MayLeave o c ⊎ P c)
-    (started o (λ c. MayLeave o c ⊎ P c) (record { each = λ c may. inl may })) is
-    (record { each = λ c may. inl (synced_now r o mid c is may) })
-
--- a synced device shows what it showed
-pub shown_before : (o mid : Option Trace) (P : List ℕ → Type 0) → mid ≡ noted Synced o → Shows mid P → Shows o P
-shown_before None mid P synced is = tt
-shown_before (Some t) mid P synced is = subst (λ x. Shows x P) synced is
-
--- and has settled
+-- it has settled
 pub settled_after : (o mid new : Option Trace) → mid ≡ noted Synced o → new ≡ mid → IsSettled new
 settled_after o mid new synced same = subst IsSettled (sym (same ∙ synced)) (settled o)
-
--- the same images until a later device that is the same
-pub during_same : (o mid new : Option Trace) (P : List ℕ → Type 0) → new ≡ mid → During o mid P → During o new P
-during_same o mid new P same during = subst (λ x. During o x P) (sym same) during
 
 -- ---- a log that is there
 
@@ -81,16 +65,16 @@ lists_rows c tags at rows end lists =
 nothing_stands : (plant : List ℕ) (tags : ℕ) (c : List ℕ) → LogsNothing plant c → StandsFor plant tags c []
 nothing_stands plant tags c (inl new) = ByNothing new refl
 nothing_stands plant tags c (inr empty) =
-    ByBlocks [] (record { of_plant = empty.of_plant; blocks = record { blocks = tt; shut = empty.shut } }) refl
+    ByBlocks [] (record { of_plant = empty.of_text; blocks = record { blocks = tt; shut = empty.shut } }) refl
 
 -- a layout without blocks is ready
-pub empty_ready : (plant : List ℕ) (tags end : ℕ) (o : Option Trace) → end ≡ blocks_at (length plant) → Shows o (IsEmpty plant) → IsSettled o
+pub empty_ready : (plant : List ℕ) (tags end : ℕ) (o : Option Trace) → end ≡ blocks_at (length plant) → Shows o (IsEmpty letters plant) → IsSettled o
     → IfSome o (IsReady plant tags [] end)
 empty_ready plant tags end None is empty settled = tt
 empty_ready plant tags end (Some t) is empty settled = record {
   settled = settled;
   stores = record {
-    of_plant = empty.of_plant;
+    of_plant = empty.of_text;
     lists = record { blocks = []; are = record { blocks = tt; shut = empty.shut }; rows_are = refl; end_is = is };
   };
 }

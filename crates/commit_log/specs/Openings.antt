@@ -11,8 +11,9 @@ use Rattle.commit_log.specs.declared.refusal.LogNo.{LogNo}
 use Rattle.commit_log.specs.declared.refusal.LogNo.TheVariants.{DeviceFault, Damaged, OtherPlant, TooMany, WantOfMemory}
 use Rattle.commit_log.specs.declared.row.LogRow.{LogRow}
 use Rattle.layout_fields.specs.Fields.{Spells}
+use Rattle.layout_fields.specs.TextHeads.{IsOfText, blocks_at}
 use Rattle.commit_log.specs.Blocks.{AreBlockRows, AreBlocks, IsRow, block_image, block_size, end_of, rows_image, rows_of}
-use Rattle.commit_log.specs.Images.{IsLogDamage, IsOfOther, IsOfPlant, StandsFor, blocks_at}
+use Rattle.commit_log.specs.Images.{IsLogDamage, IsOfOther, StandsFor, letters}
 
 -- rows that a log holds at most, with those that it has room for
 abbrev pub most_rows : ℕ
@@ -45,7 +46,7 @@ pub record ListsRows (c : List ℕ) (tags at : ℕ) (rows : List LogRow) (end : 
 
 -- a plant's log lists them
 pub record Stores (plant : List ℕ) (tags : ℕ) (rows : List LogRow) (end : ℕ) (c : List ℕ) : Type 0 where
-  pub of_plant : IsOfPlant plant c
+  pub of_plant : IsOfText letters plant c
   pub lists : ListsRows c tags (blocks_at (length plant)) rows end
 
 -- this was found: no finished layout, or a plant's log

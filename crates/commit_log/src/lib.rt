@@ -21,7 +21,6 @@ mod commit;
 mod difference;
 mod history;
 mod law;
-mod layout;
 mod layout_reader;
 mod log;
 mod opening;

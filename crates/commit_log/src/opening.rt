@@ -12,13 +12,14 @@ ghost use Rattle.commit_log.specs.Told.{IsReady};
 
 use crate::block_reader::Stored;
 use crate::history::LogTurn;
-use crate::layout::make_layout;
 use crate::layout_reader::read_log;
 use crate::log::Log;
 use crate::refusal::{LogFail, LogNo};
 use crate::row::LogRow;
+use crate::writer::LETTERS;
 use archive_file::PutNo;
 use disk_model::Disk;
+use layout_fields::begin_layout;
 use std::alloc::Global;
 
 // How many rows a log holds at most, with those that it has room for.
@@ -176,7 +177,7 @@ fn parts_of(alloc: Global, stored: Stored, plant: &[u8], room: u32) -> Result<Pa
     })
 }
 
-// Begins a new device.
+// Begins a new device. A crash at any moment leaves a device without rows.
 fn begin<D: Disk>(
     alloc: Global,
     dev: &mut D,
@@ -203,7 +204,7 @@ fn begin<D: Disk>(
         end: 9 + plant.len() as u64,
     };
     let parts = parts_of(alloc, none, plant, room)?;
-    match make_layout(alloc, dev, plant) {
+    match begin_layout(alloc, dev, LETTERS, plant) {
         Ok(()) => Ok(parts),
         Err(PutNo::DeviceFault) => Err(LogNo::DeviceFault),
         Err(PutNo::WantOfMemory) => Err(LogNo::WantOfMemory),

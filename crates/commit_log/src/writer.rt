@@ -1,7 +1,6 @@
-// The bytes of a layout and of blocks.
+// The bytes of blocks.
 ghost use Rattle.std.specs.Prelude.{◌≡◌, ◌≤◌, ◌∷◌, ◌++◌, [], IfOk, OnOk, length};
 ghost use Rattle.commit_log.specs.Blocks.{block_image, row_image, rows_image};
-ghost use Rattle.commit_log.specs.Images.{head_image};
 ghost use Rattle.commit_log.specs.Writes.{IsBlockOf, WritesRows};
 ghost use Rattle.commit_log.specs.Tapes.{puts};
 
@@ -15,7 +14,7 @@ use std::alloc::{AllocError, Global};
 const CLOSED: u8 = 0;
 
 // The letters behind the gate of the layout.
-const LETTERS: [u8; 4] = *b"PHC1";
+pub(crate) const LETTERS: [u8; 4] = *b"PHC1";
 
 // How many bytes a block has before its rows: its gate, the number of its first row, and how many rows there are.
 pub(crate) const HEAD_LEN: usize = 13;
@@ -25,19 +24,6 @@ pub(crate) const ROW_LEN: usize = 32;
 
 // How many rows a block has at most.
 pub(crate) const MOST_IN_BLOCK: u32 = 4_096;
-
-// The bytes behind the gate of the layout, of a text of so many bytes.
-pub(crate) fn head_bytes(alloc: Global, plant: &[u8], size: u32) -> Result<Vec<u8>, AllocError>
-    requires { size ≡ length plant.now }
-    ensures { IfOk result (λ v. v.items ≡ head_image plant.now) }
-{
-    let mut bytes = Vec::new(alloc);
-    bytes.extend_from_slice(&LETTERS)?;
-    bytes.extend_from_slice(&size.to_be_bytes())?;
-    bytes.extend_from_slice(plant)?;
-    bytes.push(CLOSED)?;
-    Ok(bytes)
-}
 
 /// The bytes of a block behind its gate, up to the next gate, which is closed, and how many turns were gone over for its rows.
 #[derive(Drop)]

@@ -1,41 +1,22 @@
 -- A block behind others: what an image has while it is added.
-use Rattle.std.proofs.Common.{◌≡◌, ◌≢◌, inl, ℕ, ◌+◌, ◌<◌, ◌≤◌, true, All, List, [], ◌∷◌, ◌++◌, length, get_or, take, drop, nat_eq, Option, None, Some, refl, sym, ap, ◌∙◌, subst, arith, lit<, length-append, length-take, length-drop}
-use Rattle.std.specs.Int.{w32, from_be_bytes}
-use Rattle.std.proofs.lemmas.Grind.{same_number_lists}
-use Rattle.std.proofs.lemmas.List.{get_or-take, get_or-drop}
+use Rattle.std.proofs.Common.{◌≡◌, ◌≢◌, ℕ, ◌+◌, ◌<◌, ◌≤◌, List, [], ◌∷◌, ◌++◌, length, get_or, Option, None, Some, sym, ap, ◌∙◌, subst, arith, lit<, length-append}
 use Rattle.trend_num.specs.declared.value.CalcValue.{CalcValue}
-use Rattle.disk_model.specs.Calls.{Sees, Shows}
+use Rattle.disk_model.specs.Calls.{Sees}
 use Rattle.disk_model.specs.Images.{FromOld, IsSettled, Now}
 use Rattle.disk_model.specs.Moments.{During}
 use Rattle.disk_model.specs.Traces.{Trace, seen, written}
-use Rattle.disk_model.proofs.Bytes.{holds_written, length-written}
+use Rattle.disk_model.proofs.Bytes.{length-written}
 use Rattle.disk_model.proofs.Images.{present}
 use Rattle.disk_model.proofs.Moments.{during_now}
 use Rattle.disk_model.specs.Gates.{Holds, IsGuarded, IsOpen, IsShut, open_byte}
-use Rattle.layout_fields.specs.Fields.{Keeps, short_at}
 use Rattle.group_layout.specs.Blocks.{HasBlock, HasBlocks, MayFollow, Parts, block_image, block_size, end_of, last_of, unsaved}
-use Rattle.group_layout.specs.Images.{HasSaved, IsOfText, blocks_at, head_fields, letter_field, text_in}
-use Rattle.group_layout.specs.Readings.{IsEmpty}
+use Rattle.layout_fields.specs.TextHeads.{IsOfText, blocks_at}
+use Rattle.group_layout.specs.Images.{HasSaved, letters}
 use Rattle.group_layout.specs.Rows.{AreRowsOf}
-use Rattle.group_layout.proofs.Beginnings.{all_six, holds_left, holds_right, holds_byte, holds_there, length-block_image}
-use Rattle.layout_fields.proofs.FieldLaws.{field_of}
-use Rattle.group_layout.proofs.Heads.{text_place}
+use Rattle.layout_fields.proofs.TextHeads.{head_same}
+use Rattle.layout_fields.proofs.PlacedBytes.{SameFront, guarded_front, holds_byte, holds_left, holds_right, holds_there, part_same, written_byte}
+use Rattle.group_layout.proofs.Beginnings.{length-block_image}
 use Rattle.group_layout.proofs.Walks.{end_of-push, has_push, last_of-push}
-
--- the first n bytes are the same
-pub record SameFront (n : ℕ) (d c : List ℕ) : Type 0 where
-  pub before : n ≤ length d
-  pub now : n ≤ length c
-  pub same : (i : ℕ) → i < n → get_or c i 0 ≡ get_or d i 0
-
--- so is a part of them
-part_same : (n at size : ℕ) (d c : List ℕ) → SameFront n d c → at + size ≤ n → take size (drop at c) ≡ take size (drop at d)
-part_same n at size d c front within = same_number_lists (take size (drop at c)) (take size (drop at d))
-    (omega (arith, length-take size (drop at c), length-take size (drop at d), length-drop at c, length-drop at d, front.before, front.now))
-    (λ k low.
-    let inside : k < size = omega (arith, low, length-take size (drop at c)) in
-    (get_or-take size (drop at c) k 0 inside ∙ get_or-drop at c k 0) ∙ front.same (at + k) (omega arith)
-    ∙ sym (get_or-take size (drop at d) k 0 inside ∙ get_or-drop at d k 0))
 
 -- blocks that end there stand in both
 pub blocks_same : (n : ℕ) (d c : List ℕ) (calcs : ℕ) (b : Parts) (at : ℕ) (bs : List Parts) → SameFront n d c → end_of at bs ≤ n
@@ -60,51 +41,7 @@ blocks_same n d c calcs b at (x ∷ bs) front within has = (
     size : length (block_image x) + 1 ≡ block_size x
     size = omega (arith, length-block_image x, length-append (block_image x) (0 ∷ []))
 
--- ---- the head
-
--- the head of a layout lies in front of a gate of blocks
-head_same : (text d c : List ℕ) (n : ℕ) → IsOfText text d → SameFront n d c → blocks_at (length text) ≤ n → n < length c → IsOfText text c
-head_same text d c n of_text front far long = record {
-  head = record { begun = record { long = omega (arith, long, far); opened = byte 0 (omega (arith, far)) ∙ of_text.head.begun.opened }; fields = fields };
-  same = part_text ∙ of_text.same;
-}
-  where
-    place : blocks_at (length text) ≡ 9 + short_at d 5
-    place = text_place text d of_text
-
-    byte : (i : ℕ) → i < n → get_or c i 0 ≡ get_or d i 0
-    byte i low = front.same i low
-
-    size : short_at c 5 ≡ short_at d 5
-    size = ap (from_be_bytes w32) (part_same n 5 4 d c front (omega (arith, far)))
-
-    part_text : text_in c ≡ text_in d
-    part_text = ap (λ k. take k (drop 9 c)) size ∙ part_same n 9 (short_at d 5) d c front (omega (arith, far, place))
-
-    was : (i : ℕ) → i < 6 → Keeps d (get_or (head_fields d) i (field_of 0 0 true))
-    was i low = of_text.head.fields i (field_of 0 0 true) low
-
-    letter : (at value : ℕ) → at < 5 → Keeps d (letter_field d at value) → Keeps c (letter_field c at value)
-    letter at value low keeps =
-        record { there = omega (arith, long, far); kept = ap (λ m. nat_eq m value) (byte at (omega (arith, low, far))) ∙ keeps.kept }
-
-    fields : All (Keeps c) (head_fields c)
-    fields =
-        all_six c (letter_field c 1 80) (letter_field c 2 72) (letter_field c 3 71) (letter_field c 4 49) (field_of 5 4 true)
-        (field_of 9 (short_at c 5 + 1) true) (letter 1 80 (lit< tt) (was 0 (lit< tt))) (letter 2 72 (lit< tt) (was 1 (lit< tt)))
-        (letter 3 71 (lit< tt) (was 2 (lit< tt))) (letter 4 49 (lit< tt) (was 3 (lit< tt)))
-        (record { there = omega (arith, long, far); kept = refl })
-        (record { there = omega (arith, long, far, place, size); kept = refl })
-
 -- ---- a block behind a gate
-
--- in front of the gate nothing is written
-guarded_front : (d c bytes : List ℕ) (at : ℕ) → IsGuarded (at + 1) bytes at d c → at < length d → SameFront at d c
-guarded_front d c bytes at guarded low = record {
-  before = omega (arith, low);
-  now = omega (arith, low, guarded.no_shorter);
-  same = λ i before. guarded.outside i (omega (arith, before, low)) (inl (omega (arith, before))) (λ e. absurd (omega (arith, e, before)));
-}
 
 -- the blocks begin before they end
 begins_before : (from : ℕ) (bs : List Parts) → from ≤ end_of from bs
@@ -132,13 +69,6 @@ next_shut b at d c guarded opened = record {
     gate_byte = ap (λ n. get_or c n 0) place
         ∙ holds_byte c (at + 1 + length (block_image b)) (0 ∷ []) 0 (holds_right c (at + 1) (block_image b) (0 ∷ []) holds) (lit< tt)
 
--- the last byte of what was written
-pub written_byte : (s : List ℕ) (at byte : ℕ) → at ≤ length s → get_or (written s at (byte ∷ [])) at 0 ≡ byte
-written_byte s at byte low =
-    let place : at ≡ at + 0 = omega arith in
-    ap (λ n. get_or (written s at (byte ∷ [])) n 0) place
-    ∙ holds_byte (written s at (byte ∷ [])) at (byte ∷ []) 0 (holds_written s at (byte ∷ []) low) (lit< tt)
-
 -- behind a block that was added there is room for the next one
 pub block_ready : (b : Parts) (at : ℕ) (o o1 : Option Trace) → Now o (IsShut at)
     → During o o1 (FromOld o (IsGuarded (at + 1) (block_image b ++ 0 ∷ []) at))
@@ -160,13 +90,6 @@ block_ready b at (Some s) (Some t) shut during sees settled = record {
     long : at ≤ length (written (seen (Some s)) (at + 1) (block_image b ++ 0 ∷ []))
     long = omega (arith, there, length-written (seen (Some s)) (at + 1) (block_image b ++ 0 ∷ []) (omega (arith, there)))
 
--- behind a layout that was begun there is room for the first one
-pub layout_ready : (text : List ℕ) (o : Option Trace) → Shows o (IsEmpty text) → IsSettled o → Now o (IsShut (blocks_at (length text)))
-layout_ready text None made settled = record { each = λ c may. absurd may.image }
-layout_ready text (Some t) made settled = record {
-  each = λ c may. subst (IsShut (blocks_at (length text))) (sym (settled.each c may)) made.shut;
-}
-
 module _ (text d c : List ℕ) (inputs calcs : ℕ) (bs : List Parts) (rows : List (List CalcValue)) (has : HasSaved text inputs calcs d bs rows)
     (b : Parts) (at : ℕ) (end : end_of (blocks_at (length text)) bs ≡ at)
     (guarded : IsGuarded (at + 1) (block_image b ++ 0 ∷ []) at d c) where
@@ -176,8 +99,8 @@ module _ (text d c : List ℕ) (inputs calcs : ℕ) (bs : List Parts) (rows : Li
   front : SameFront at d c
   front = guarded_front d c (block_image b ++ 0 ∷ []) at guarded gate_there
 
-  of_text : IsOfText text c
-  of_text = head_same text d c at has.of_text front (subst (λ n. blocks_at (length text) ≤ n) end (begins_before (blocks_at (length text)) bs))
+  of_text : IsOfText letters text c
+  of_text = head_same letters text d c at has.of_text front (subst (λ n. blocks_at (length text) ≤ n) end (begins_before (blocks_at (length text)) bs))
       (omega (arith, gate_there, guarded.no_shorter))
 
   blocks : HasBlocks c calcs (unsaved inputs) (blocks_at (length text)) bs

@@ -3,7 +3,6 @@ pub mod VersionLaws
 pub mod BlockLaws
 pub mod Walks
 pub mod SavedRows
-pub mod Heads
 pub mod Beginnings
 pub mod BlockAdded
 pub mod RowsAdded

@@ -3,18 +3,18 @@ use Rattle.std.proofs.Common.{◌≡◌, ◌⊎◌, inl, inr, ℕ, zero, suc, �
 use Rattle.std.proofs.lemmas.List.{length-map, length-replicate}
 use Rattle.std.proofs.lemmas.List.Elements.{All-head, All-tail}
 use Rattle.trend_num.specs.declared.value.CalcValue.{CalcValue}
-use Rattle.disk_model.specs.Traces.{Synced, Idle, Trace, noted, seen}
+use Rattle.disk_model.specs.Traces.{Synced, Trace, noted, seen}
 use Rattle.disk_model.specs.Moments.{During}
-use Rattle.disk_model.specs.Calls.{IsNoted, Shows}
-use Rattle.disk_model.proofs.Images.{synced_now}
-use Rattle.disk_model.proofs.Moments.{goes_on, in_turn, started, weaker}
+use Rattle.disk_model.specs.Calls.{Shows}
+use Rattle.disk_model.proofs.Moments.{in_turn, weaker}
 use Rattle.group_layout.specs.declared.block.Block.{Block}
 use Rattle.group_layout.specs.declared.layout_reader.Found.{Found}
 use Rattle.group_layout.specs.declared.layout_reader.Found.TheVariants.{New, Other, Saved}
 use Rattle.group_layout.specs.declared.layout_reader.SavedGroup.{SavedGroup}
 use Rattle.group_layout.specs.Blocks.{HasBlocks, Parts, block_size, last_of, parts_of, unsaved}
-use Rattle.group_layout.specs.Images.{ByBlocks, ByNothing, HasSaved, IsUnsaved, StandsFor, blocks_at}
-use Rattle.group_layout.specs.Readings.{HasShape, IsEmpty, IsFound, IsLeftOrSame, IsReadOf, IsShaped, SavesNothing, StandsSame}
+use Rattle.layout_fields.specs.TextHeads.{IsEmpty, blocks_at}
+use Rattle.group_layout.specs.Images.{ByBlocks, ByNothing, HasSaved, IsUnsaved, StandsFor, letters}
+use Rattle.group_layout.specs.Readings.{HasShape, IsFound, IsLeftOrSame, IsReadOf, IsShaped, SavesNothing, StandsSame}
 use Rattle.group_layout.specs.Rows.{AreRowsOf, lists_of}
 
 -- no blocks give rows without values
@@ -34,7 +34,7 @@ pub no_rows : (calcs : ℕ) (rows : List (List CalcValue)) → AreRowsOf calcs 0
 no_rows calcs rows are = none_given calcs rows are.calcs_are are.windows_are
 
 -- a layout without blocks has no rows
-pub empty_saved : (text : List ℕ) (inputs calcs : ℕ) (c : List ℕ) (rows : List (List CalcValue)) → IsEmpty text c → AreRowsOf calcs 0 [] rows
+pub empty_saved : (text : List ℕ) (inputs calcs : ℕ) (c : List ℕ) (rows : List (List CalcValue)) → IsEmpty letters text c → AreRowsOf calcs 0 [] rows
     → HasSaved text inputs calcs c [] rows
 empty_saved text inputs calcs c rows empty are = record {
   of_text = empty.of_text;
@@ -69,19 +69,6 @@ saves_same text inputs calcs s c is nothing = record {
   stands = stands_none text inputs calcs c nothing;
 }
 
--- a sync leaves what might have been left before
-pub left_synced : {E : Type 0} (text : List ℕ) (inputs calcs : ℕ) (r : Result (Unit {0}) E) (o mid : Option Trace) → IsNoted Synced Idle r o mid
-    → During o mid (IsLeftOrSame text inputs calcs o)
-left_synced text inputs calcs r o mid noted =
-    goes_on Synced Idle r o o mid (IsLeftOrSame text inputs calcs o)
-    (started o (IsLeftOrSame text inputs calcs o) (record { each = λ c may. inl may })) noted
-    (record { each = λ c may. inl (synced_now r o mid c noted may) })
-
--- a synced device shows what it showed
-pub shown_before : (o mid : Option Trace) (P : List ℕ → Type 0) → mid ≡ noted Synced o → Shows mid P → Shows o P
-shown_before None mid P synced is = tt
-shown_before (Some t) mid P synced is = subst (λ x. Shows x P) synced is
-
 -- what is begun behind a sync stands for what stood before
 pub left_begun : (text : List ℕ) (inputs calcs : ℕ) (o mid new : Option Trace) → mid ≡ noted Synced o → Shows mid (IsUnsaved text)
     → During o mid (IsLeftOrSame text inputs calcs o) → During mid new (SavesNothing text)
@@ -94,10 +81,6 @@ left_begun text inputs calcs o mid new synced is before begun =
     unsaved_seen : (x y : Option Trace) → y ≡ noted Synced x → Shows y (IsUnsaved text) → IsUnsaved text (seen x)
     unsaved_seen None y synced is = inl (inl (omega arith))
     unsaved_seen (Some t) y synced is = subst (λ x. Shows x (IsUnsaved text)) synced is
-
--- the same images until a later device that is the same
-pub during_same : (o mid new : Option Trace) (P : List ℕ → Type 0) → new ≡ mid → During o mid P → During o new P
-during_same o mid new P same during = subst (λ x. During o x P) (sym same) during
 
 -- what was read of blocks is what they stand for
 pub read_stands : (text : List ℕ) (inputs calcs : ℕ) (o : Option Trace) (f : Found) (g : SavedGroup) → f ≡ Saved g

@@ -1,15 +1,15 @@
 -- What was found on a group's device, and what a device is begun with.
-use Rattle.std.specs.Prelude.{◌≡◌, ◌⊎◌, ℕ, ◌^◌, ◌<◌, All, List, Option, [], ◌∷◌, ◌++◌, length}
+use Rattle.std.specs.Prelude.{◌≡◌, ◌⊎◌, ℕ, ◌^◌, ◌<◌, All, List, Option, length}
 use Rattle.trend_num.specs.declared.value.CalcValue.{CalcValue}
-use Rattle.disk_model.specs.Gates.{IsNew, IsShut}
+use Rattle.disk_model.specs.Gates.{IsNew}
 use Rattle.disk_model.specs.Images.{MayLeave}
 use Rattle.disk_model.specs.Traces.{Trace, seen}
-use Rattle.archive_file.specs.Fields.{number_bytes}
+use Rattle.layout_fields.specs.TextHeads.{IsEmpty, blocks_at}
 use Rattle.group_layout.specs.declared.layout_reader.Found.{Found}
 use Rattle.group_layout.specs.declared.layout_reader.Found.TheVariants.{New, Other, Saved}
 use Rattle.group_layout.specs.declared.layout_reader.SavedGroup.{SavedGroup}
 use Rattle.group_layout.specs.Blocks.{Parts, end_of, last_of, unsaved}
-use Rattle.group_layout.specs.Images.{HasSaved, IsOfOther, IsOfText, IsUnsaved, StandsFor, blocks_at, letters}
+use Rattle.group_layout.specs.Images.{HasSaved, IsOfOther, IsUnsaved, StandsFor, letters}
 use Rattle.group_layout.specs.Rows.{lists_of}
 
 -- this was read of the blocks of a group
@@ -47,18 +47,9 @@ HasFewWindows (Saved g) = g.windows < 2 ^ 32
 
 -- ---- a device that is begun
 
--- what stands behind the gate of the layout, up to the first block's gate, which is closed
-abbrev pub head_image : List ℕ → List ℕ
-head_image text = letters ++ (number_bytes 4 (length text) ++ (text ++ 0 ∷ []))
-
--- a layout of this text without blocks
-pub record IsEmpty (text c : List ℕ) : Type 0 where
-  pub of_text : IsOfText text c
-  pub shut : IsShut (blocks_at (length text)) c
-
 -- nothing is saved for this text, whether or not its layout is there
 abbrev pub SavesNothing : List ℕ → List ℕ → Type 0
-SavesNothing text c = IsUnsaved text c ⊎ IsEmpty text c
+SavesNothing text c = IsUnsaved text c ⊎ IsEmpty letters text c
 
 -- ---- while a device is opened
 

@@ -1,19 +1,19 @@
 // Reading of a group's device: its definition text, and what its saves left.
-ghost use Rattle.std.specs.Prelude.{◌≡◌, ◌≢◌, ℕ, ◌+◌, ◌^◌, ◌<◌, ◌≤◌, true, false, All, Option, IfOk, IsErrOf, OnOk, length, map};
+ghost use Rattle.std.specs.Prelude.{◌≡◌, ℕ, ◌+◌, ◌^◌, ◌<◌, Option, IfOk, IsErrOf, length, map};
 ghost use Rattle.disk_model.specs.Calls.{CountsFault, Shows};
 ghost use Rattle.archive_file.specs.declared.failure.ScanNo.TheVariants.{Damaged, DeviceFault};
-ghost use Rattle.layout_fields.specs.Fields.{BreaksFirst, Keeps, short_at};
 ghost use Rattle.group_layout.specs.Blocks.{AreBlocks, AreDamaged, end_of, last_of, parts_of, unsaved};
 ghost use Rattle.group_layout.specs.Rows.{AreRowsOf, IsIncomplete, lists_of};
-ghost use Rattle.group_layout.specs.Images.{IsGroupDamage, head_fields, letter_field, text_in};
+ghost use Rattle.group_layout.specs.Images.{IsGroupDamage};
 ghost use Rattle.group_layout.specs.Readings.{HasFewWindows, IsFound, IsShaped};
 
 use crate::block::Blocks;
+use crate::making::LETTERS;
 use crate::reader::{last_or, parse_blocks, size_of_block, unsaved_block};
 use crate::saved::rows_of;
-use archive_file::{ScanNo, read_bytes};
+use archive_file::ScanNo;
 use disk_model::{Disk, OPEN};
-use layout_fields::{Field, byte_at, check, short_at};
+use layout_fields::{read_all, read_head};
 use std::alloc::Global;
 use trend_num::CalcValue;
 
@@ -61,7 +61,7 @@ pub fn read_group<D: Disk>(
     ensures same { D.trace dev.new ≡ D.trace dev.old }
     ensures untimed { D.ticks dev.new ≡ D.ticks dev.old }
 {
-    let bytes = all_bytes(alloc, dev)?;
+    let bytes = read_all(alloc, dev)?;
     parse_group(alloc, &bytes, text, inputs, calcs)
 }
 
@@ -82,22 +82,8 @@ pub fn read_blocks<D: Disk>(
     ensures same { D.trace dev.new ≡ D.trace dev.old }
     ensures untimed { D.ticks dev.new ≡ D.ticks dev.old }
 {
-    let bytes = all_bytes(alloc, dev)?;
+    let bytes = read_all(alloc, dev)?;
     parse_blocks(alloc, &bytes, at as usize, inputs, calcs)
-}
-
-// All bytes of a device.
-fn all_bytes<D: Disk>(alloc: Global, dev: &mut D) -> Result<Vec<u8>, ScanNo>
-    ensures all { IfOk result (λ v. Shows (D.trace dev.old) (λ c. v.items ≡ c)) }
-    ensures undamaged { (a : ℕ) (byte : Option ℕ) → IsErrOf result (Damaged a byte) → ⊥ }
-    ensures cause { CountsFault result DeviceFault (D.fault_count dev.old) (D.fault_count dev.new) }
-    ensures same { D.trace dev.new ≡ D.trace dev.old }
-    ensures untimed { D.ticks dev.new ≡ D.ticks dev.old }
-{
-    let Ok(len) = dev.len() else {
-        return Err(ScanNo::DeviceFault);
-    };
-    read_bytes(alloc, dev, 0, len as usize)
 }
 
 // What stands on an image.
@@ -114,58 +100,16 @@ fn parse_group(
     ensures damaged { (a : ℕ) (byte : Option ℕ) → IsErrOf result (Damaged a byte) → IsGroupDamage text.now inputs calcs c.now a byte }
     ensures no_fault { IsErrOf result DeviceFault → ⊥ }
 {
-    if c.len() <= 1 || byte_at(c, 0) != OPEN {
+    let Some(found) = read_head(c, LETTERS)? else {
         return Ok(Found::New);
-    }
-    let size = short_at(c, 5);
-    check_head(c, size)?;
-    let size = size as usize;
-    if !is_text(c, size, text) {
+    };
+    if found != text {
         return Ok(Found::Other);
     }
-    let blocks = parse_blocks(alloc, c, 9 + size, inputs, calcs)?;
-    let saved = gather(alloc, &blocks, 9 + size, inputs, calcs)?;
+    let at = 9 + text.len();
+    let blocks = parse_blocks(alloc, c, at, inputs, calcs)?;
+    let saved = gather(alloc, &blocks, at, inputs, calcs)?;
     Ok(Found::Saved(saved))
-}
-
-// Refuses the head of a layout with a text of so many bytes, in the first field that is not there or breaks its rule.
-fn check_head(c: &[u8], size: u32) -> Result<(), ScanNo>
-    requires { size ≡ short_at c.now 5 }
-    ensures kept { OnOk result (All (Keeps c.now) (head_fields c.now)) }
-    ensures damaged { (a : ℕ) (byte : Option ℕ) → IsErrOf result (Damaged a byte) → BreaksFirst c.now (head_fields c.now) a byte }
-    ensures no_fault { IsErrOf result DeviceFault → ⊥ }
-    ensures long { OnOk result (9 + (size + 1) ≤ length c.now) }
-{
-    check(
-        c,
-        &[
-            letter_field(c, 1, b'P'),
-            letter_field(c, 2, b'H'),
-            letter_field(c, 3, b'G'),
-            letter_field(c, 4, b'1'),
-            Field::new(5, 4, true),
-            Field::new(9, size as usize + 1, true),
-        ],
-    )
-}
-
-// Whether the definition text, of so many bytes, is this one.
-fn is_text(c: &[u8], size: usize, text: &[u8]) -> bool
-    requires there { 9 + size ≤ length c.now }
-    requires size { size ≡ short_at c.now 5 }
-    ensures same { result ≡ true → text_in c.now ≡ text.now }
-    ensures other { result ≡ false → text_in c.now ≢ text.now }
-{
-    let (_, rest) = c.split_at(9);
-    let (found, _) = rest.split_at(size);
-    found == text
-}
-
-// One letter of the head.
-fn letter_field(c: &[u8], at: usize, letter: u8) -> Field
-    ensures { result ≡ letter_field c.now at letter }
-{
-    Field::new(at, 1, byte_at(c, at) == letter)
 }
 
 // What blocks behind a place give: refuses those that lack a value.

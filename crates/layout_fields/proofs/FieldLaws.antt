@@ -31,6 +31,16 @@ spells_both c at mid end xs ys first second = record {
   within = second.within;
 }
 
+-- ---- all are kept
+
+-- six fields that are kept
+pub all_six : (c : List ℕ) (f g h i j k : Field) → Keeps c f → Keeps c g → Keeps c h → Keeps c i → Keeps c j → Keeps c k
+    → All (Keeps c) (f ∷ g ∷ h ∷ i ∷ j ∷ k ∷ [])
+all_six c f g h i j k kf kg kh ki kj kk =
+    All-cons (Keeps c) f (g ∷ h ∷ i ∷ j ∷ k ∷ []) kf (All-cons (Keeps c) g (h ∷ i ∷ j ∷ k ∷ []) kg
+    (All-cons (Keeps c) h (i ∷ j ∷ k ∷ []) kh (All-cons (Keeps c) i (j ∷ k ∷ []) ki
+    (All-cons (Keeps c) j (k ∷ []) kj (All-cons (Keeps c) k [] kk (All-nil (Keeps c)))))))
+
 -- ---- the first field that breaks
 
 pub breaks_here : (c : List ℕ) (f : Field) (fs : List Field) (a : ℕ) (byte : Option ℕ) → Breaks c f a byte

@@ -1,40 +1,6 @@
-use Rattle.std.proofs.Common.{refl, ◌∙◌, arith}
-use Rattle.group_layout.proofs.BlockAdded.{layout_ready}
-use Rattle.group_layout.proofs.Beginnings.{layout_begun, nothing_yet, saves_nothing, shut_reached, unsaved_kept}
+use Rattle.group_layout.proofs.Beginnings.{saves_nothing}
 use Rattle.group_layout.proofs.making.make_group.Goals as goal
-
-pub returns-in_default-clause-any_moment : goal.returns-in_default-clause-any_moment
-returns-in_default-clause-any_moment g c =
-    nothing_yet c.args.text.now _ _ (unsaved_kept c.args.text.now _ _ c.requires.unsaved c.requires.settled refl)
-
-pub returns-in_default-head_bytes-clause-any_moment : goal.returns-in_default-head_bytes-clause-any_moment
-returns-in_default-head_bytes-clause-any_moment g c =
-    nothing_yet c.args.text.now _ _ (unsaved_kept c.args.text.now _ _ c.requires.unsaved c.requires.settled refl)
-
-pub write_guarded-requires-clause-room : goal.write_guarded-requires-clause-room
-write_guarded-requires-clause-room g c = shut_reached _ 0 c.in-Ok-close_layout.ensures.shut
-
-pub returns-in_default-write_guarded-clause-any_moment : goal.returns-in_default-write_guarded-clause-any_moment
-returns-in_default-write_guarded-clause-any_moment g c =
-    saves_nothing c.args.text.now c.deref.result.now (omega (arith, c.in-Ok.ensures))
-    (c.deref.ensures.value ∙ c.in-Ok-head_bytes.ensures) _ _ c.close_layout.ensures.any_moment _
-    c.write_guarded.ensures.any_moment
 
 pub returns-clause-any_moment : goal.returns-clause-any_moment
 returns-clause-any_moment g c =
-    saves_nothing c.args.text.now c.deref.result.now (omega (arith, c.in-Ok.ensures))
-    (c.deref.ensures.value ∙ c.in-Ok-head_bytes.ensures) _ _ c.close_layout.ensures.any_moment _
-    c.write_guarded.ensures.any_moment
-
-pub returns-clause-made : goal.returns-clause-made
-returns-clause-made g c =
-    layout_begun c.args.text.now c.deref.result.now (omega (arith, c.in-Ok.ensures))
-    (c.deref.ensures.value ∙ c.in-Ok-head_bytes.ensures) _ _ c.close_layout.ensures.any_moment _
-    c.write_guarded.ensures.any_moment c.in-Ok-write_guarded.ensures.reads
-
-pub returns-clause-ready : goal.returns-clause-ready
-returns-clause-ready g c =
-    layout_ready c.args.text.now _
-    (layout_begun c.args.text.now c.deref.result.now (omega (arith, c.in-Ok.ensures))
-    (c.deref.ensures.value ∙ c.in-Ok-head_bytes.ensures) _ _ c.close_layout.ensures.any_moment _
-    c.write_guarded.ensures.any_moment c.in-Ok-write_guarded.ensures.reads) c.in-Ok-write_guarded.ensures.settled
+    saves_nothing c.args.text.now _ _ c.requires.unsaved c.requires.settled c.begin_layout.ensures.any_moment

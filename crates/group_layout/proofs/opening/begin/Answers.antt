@@ -1,16 +1,16 @@
-use Rattle.std.proofs.Common.{◌∙◌, ◌<◌, [], List, map, refl, ap, subst, arith}
+use Rattle.std.proofs.Common.{◌∙◌, ◌<◌, [], List, map, ap, subst, arith}
 use Rattle.std.proofs.lemmas.Result.{err_from_is_err_and}
 use Rattle.group_layout.specs.declared.block.Block.{Block}
 use Rattle.group_layout.specs.Blocks.{last_of, parts_of, unsaved}
 use Rattle.group_layout.specs.Rows.{AreRowsOf, lists_of}
-use Rattle.group_layout.proofs.Beginnings.{nothing_yet, unsaved_kept}
+use Rattle.group_layout.proofs.Beginnings.{nothing_yet}
 use Rattle.layout_fields.proofs.FieldLaws.{told_through}
 use Rattle.group_layout.proofs.Openings.{no_rows, none_shape}
 use Rattle.group_layout.proofs.opening.begin.Goals as goal
 
 pub returns-in_err-saved-clause-any_moment : goal.returns-in_err-saved-clause-any_moment
 returns-in_err-saved-clause-any_moment g c =
-    nothing_yet c.args.text.now _ _ (unsaved_kept c.args.text.now _ _ c.requires.unsaved c.requires.settled refl)
+    nothing_yet c.args.text.now _ c.requires.unsaved c.requires.settled
 
 pub returns-in_err-saved-clause-undamaged : goal.returns-in_err-saved-clause-undamaged
 returns-in_err-saved-clause-undamaged g c = λ a byte told.

@@ -1,21 +1,23 @@
 use Rattle.std.proofs.Common.{subst}
 use Rattle.std.proofs.lemmas.Result.{err_from_is_err_and}
 use Rattle.disk_model.specs.Moments.{During}
+use Rattle.disk_model.specs.Traces.{seen}
 use Rattle.group_layout.specs.Images.{IsGroupDamage, IsUnsaved, StandsFor}
-use Rattle.group_layout.specs.Readings.{IsLeftOrSame, SavesNothing}
+use Rattle.group_layout.specs.Readings.{IsLeftOrSame, SavesNothing, StandsSame}
 use Rattle.group_layout.specs.Rows.{lists_of}
 use Rattle.layout_fields.proofs.FieldLaws.{told_through}
-use Rattle.group_layout.proofs.Openings.{during_same, found_unsaved, left_begun, left_synced, read_stands, shown_before, unsaved_stands}
+use Rattle.layout_fields.proofs.ReadImages.{during_same, left_synced, shown_before}
+use Rattle.group_layout.proofs.Openings.{found_unsaved, left_begun, read_stands, unsaved_stands}
 use Rattle.group_layout.proofs.opening.open_group.Goals as goal
 
 pub returns-in_default-clause-any_moment : goal.returns-in_default-clause-any_moment
 returns-in_default-clause-any_moment g c =
-    left_synced c.args.text.now c.args.inputs c.args.calcs c.sync.result _ _ c.sync.ensures.noted
+    left_synced (StandsSame c.args.text.now c.args.inputs c.args.calcs (seen (g.D.Disk.trace c.args.dev.now))) c.sync.result _ _ c.sync.ensures.noted
 
 pub returns-in_err-saved-clause-any_moment : goal.returns-in_err-saved-clause-any_moment
 returns-in_err-saved-clause-any_moment g c =
     during_same _ _ _ (IsLeftOrSame c.args.text.now c.args.inputs c.args.calcs (g.D.Disk.trace c.args.dev.now)) c.read_group.ensures.same
-    (left_synced c.args.text.now c.args.inputs c.args.calcs c.sync.result _ _ c.sync.ensures.noted)
+    (left_synced (StandsSame c.args.text.now c.args.inputs c.args.calcs (seen (g.D.Disk.trace c.args.dev.now))) c.sync.result _ _ c.sync.ensures.noted)
 
 pub returns-in_err-saved-clause-damaged : goal.returns-in_err-saved-clause-damaged
 returns-in_err-saved-clause-damaged g c = λ a byte told.
@@ -33,7 +35,7 @@ returns-in-Saved-clause-stood g c =
 pub returns-in-Saved-clause-any_moment : goal.returns-in-Saved-clause-any_moment
 returns-in-Saved-clause-any_moment g c =
     during_same _ _ _ (IsLeftOrSame c.args.text.now c.args.inputs c.args.calcs (g.D.Disk.trace c.args.dev.now)) c.read_group.ensures.same
-    (left_synced c.args.text.now c.args.inputs c.args.calcs c.sync.result _ _ c.sync.ensures.noted)
+    (left_synced (StandsSame c.args.text.now c.args.inputs c.args.calcs (seen (g.D.Disk.trace c.args.dev.now))) c.sync.result _ _ c.sync.ensures.noted)
 
 pub returns-clause-stood : goal.returns-clause-stood
 returns-clause-stood g c =
@@ -49,5 +51,5 @@ returns-clause-any_moment g c =
     let mid = g.D.Disk.trace c.sync.new.self in
     left_begun x.text.now x.inputs x.calcs _ mid _ c.in-Ok.ensures.noted
     (found_unsaved x.text.now x.inputs x.calcs mid c.in_ok-saved.field-0 c.in-New.is c.in_ok-saved.ensures.found)
-    (left_synced x.text.now x.inputs x.calcs c.sync.result _ _ c.sync.ensures.noted)
+    (left_synced (StandsSame x.text.now x.inputs x.calcs (seen (g.D.Disk.trace x.dev.now))) c.sync.result _ _ c.sync.ensures.noted)
     (subst (λ o. During o (g.D.Disk.trace c.begin.new.dev) (SavesNothing x.text.now)) c.read_group.ensures.same c.begin.ensures.any_moment)

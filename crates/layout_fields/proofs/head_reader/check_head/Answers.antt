@@ -1,8 +1,8 @@
 use Rattle.std.proofs.Common.{◌≡◌, ◌+◌, ◌∷◌, [], true, All, OnOk, ap, ◌∙◌, subst}
 use Rattle.layout_fields.specs.Fields.{Keeps}
-use Rattle.commit_log.specs.Images.{head_fields}
+use Rattle.layout_fields.specs.TextHeads.{head_fields}
 use Rattle.layout_fields.proofs.FieldLaws.{field_of}
-use Rattle.commit_log.proofs.layout_reader.check_head.Goals as goal
+use Rattle.layout_fields.proofs.head_reader.check_head.Goals as goal
 
 pub returns-clause-kept : goal.returns-clause-kept
 returns-clause-kept c =
@@ -13,6 +13,6 @@ returns-clause-kept c =
     let size = c.new.ensures in
     let text = c.new-2.ensures ∙ ap (λ n. field_of 9 (n + 1) true) c.requires in
     let same : c.letter_field.result ∷ c.letter_field-2.result ∷ c.letter_field-3.result ∷ c.letter_field-4.result ∷ c.new.result
-    ∷ c.new-2.result ∷ [] ≡ head_fields c.args.c.now
+    ∷ c.new-2.result ∷ [] ≡ head_fields c.args.letters c.args.c.now
     = λ i. first i ∷ second i ∷ third i ∷ fourth i ∷ size i ∷ text i ∷ [] in
     subst (λ fields. OnOk c.check.result (All (Keeps c.args.c.now) fields)) same c.check.ensures.kept

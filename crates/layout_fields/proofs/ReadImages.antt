@@ -1,0 +1,45 @@
+-- What a read of a device gives, what follows for its images, and a device that is synced before it is read.
+use Rattle.std.proofs.Common.{◌≡◌, ◌⊎◌, inl, ℕ, ◌+◌, List, Option, None, Some, Result, sym, subst, arith}
+use Rattle.disk_model.specs.Calls.{IsNoted, Reaches, Shows}
+use Rattle.disk_model.specs.Gates.{IsShut}
+use Rattle.disk_model.specs.Images.{IsSettled, MayLeave, Now}
+use Rattle.disk_model.specs.Moments.{During}
+use Rattle.disk_model.specs.Traces.{Synced, Idle, Trace, noted, seen}
+use Rattle.disk_model.proofs.Images.{present, synced_now}
+use Rattle.disk_model.proofs.Moments.{goes_on, started}
+
+-- ---- what a read gives
+
+-- what is read of all bytes holds of what a read gives
+pub shows_at : (o : Option Trace) (bytes : List ℕ) (P : List ℕ → Type 0) → Shows o (λ c. bytes ≡ c) → P bytes → Shows o P
+shows_at None bytes P all p = tt
+shows_at (Some t) bytes P all p = subst P all p
+
+-- bytes written behind a gate begin behind it
+pub shut_reached : (o : Option Trace) (at : ℕ) → Now o (IsShut at) → Reaches o (at + 1)
+shut_reached None at shut = tt
+shut_reached (Some t) at shut = omega (arith, (shut.each (seen (Some t)) (present t)).there)
+
+-- what holds of that of a settled device holds of each image
+pub shown_now : (o : Option Trace) (P : List ℕ → Type 0) → Shows o P → IsSettled o → Now o P
+shown_now None P is settled = record { each = λ c may. absurd may.image }
+shown_now (Some t) P is settled = record { each = λ c may. subst P (sym (settled.each c may)) is }
+
+-- ---- a sync before it
+
+-- a sync leaves what might have been left before
+pub left_synced : {E : Type 0} (P : List ℕ → Type 0) (r : Result (Unit {0}) E) (o mid : Option Trace) → IsNoted Synced Idle r o mid
+    → During o mid (λ c. MayLeave o c ⊎ P c)
+left_synced P r o mid is =
+    goes_on Synced Idle r o o mid (λ c. MayLeave o c ⊎ P c)
+    (started o (λ c. MayLeave o c ⊎ P c) (record { each = λ c may. inl may })) is
+    (record { each = λ c may. inl (synced_now r o mid c is may) })
+
+-- a synced device shows what it showed
+pub shown_before : (o mid : Option Trace) (P : List ℕ → Type 0) → mid ≡ noted Synced o → Shows mid P → Shows o P
+shown_before None mid P synced is = tt
+shown_before (Some t) mid P synced is = subst (λ x. Shows x P) synced is
+
+-- the same images until a later device that is the same
+pub during_same : (o mid new : Option Trace) (P : List ℕ → Type 0) → new ≡ mid → During o mid P → During o new P
+during_same o mid new P same during = subst (λ x. During o x P) (sym same) during
