@@ -44,11 +44,10 @@ pub record EndsOver (base : List ℕ) (before now : Scene) (status : Status) : T
   pub file_faults : now.file_faults ≡ faults_told status before.file_faults
   pub device_faults : before.device_faults < 2 ^ 64 → CountsFor status before.device_faults now.device_faults
 
--- nothing was read, and the line of this status printed
+-- the line of this status is printed, and nothing else has changed: nothing was read
 pub record IsUnread (before now : Scene) (status : Status) : Type 0 where
   pub told : IsTold before.output now.output status
-  pub file_faults : now.file_faults ≡ before.file_faults
-  pub device_faults : now.device_faults ≡ before.device_faults
+  pub rest : now ≡ record before { output = now.output }
 
 -- ---- shifts
 

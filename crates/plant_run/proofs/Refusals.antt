@@ -1,5 +1,5 @@
 -- Refusals of the commands are told as they are, and so is want of memory for the words.
-use Rattle.std.proofs.Common.{◌≡◌, inl, inr, ℕ, ◌^◌, ◌<◌, List, ◌≢◌, refl}
+use Rattle.std.proofs.Common.{◌≡◌, inl, inr, ℕ, ◌^◌, ◌<◌, List, ◌≢◌, refl, ap}
 use Rattle.byte_io.specs.Outside.{CountsNoFault}
 use Rattle.plant_files.specs.Asked.{ToldFiles}
 use Rattle.store_commands.specs.Commands.{Devices, IsCheckRefusal, IsTrendRefusal, OfBase, OfGroup, OfPlan, OfReader, OfTag, OfMemory}
@@ -156,26 +156,29 @@ module _ (name group calc : List ℕ) (told : ToldFiles) (old new : Devices) (be
 -- ---- a run for whose words no memory was found
 
 -- what it leaves of files and devices is as it was
-none_over : (base : List ℕ) (before now : Scene) → now.file_faults ≡ before.file_faults → now.device_faults ≡ before.device_faults
-    → EndsOver base before now WantOfMemory
-none_over base before now faults devices = record { durable = tt; file_faults = faults; device_faults = λ few. devices }
+none_over : (base : List ℕ) (before now : Scene) → now ≡ record before { output = now.output } → EndsOver base before now WantOfMemory
+none_over base before now rest = record {
+  durable = tt;
+  file_faults = ap (λ (s : Scene). s.file_faults) rest;
+  device_faults = λ few. ap (λ (s : Scene). s.device_faults) rest;
+}
 
 pub memory_ends : (form : Form) (before now : World) → CountsNoFault before.input now.input → IsUnread before.scene now.scene WantOfMemory
     → now.input ≡ before.input → EndsFor form before now WantOfMemory
-memory_ends (Pack tuning) before now same is left = ((same, is.told), is.file_faults, is.device_faults)
+memory_ends (Pack tuning) before now same is left = ((same, is.told), is.rest)
 memory_ends (Check base) before now same is left =
-    (((inr (inr refl), is.told), none_over base before.scene now.scene is.file_faults is.device_faults, λ which same. cc), left)
+    (((inr (inr refl), is.told), none_over base before.scene now.scene is.rest, λ which same. cc), left)
 memory_ends (Trend base plan) before now same is left = (
   (
     (OfMemory refl, is.told),
-    none_over base before.scene now.scene is.file_faults is.device_faults,
+    none_over base before.scene now.scene is.rest,
     of_none base plan before.scene.files now.scene.failed_name WantOfMemory (λ which same. cc),
   ),
   left,
 )
 memory_ends (Shifts asked) before now same is left = (inr ((inr refl, is), λ same. cc), left)
 memory_ends (Frames base group calc least) before now same is left =
-    (((frame.OfMemory refl, is.told), none_over base before.scene now.scene is.file_faults is.device_faults, λ which same. cc), left)
+    (((frame.OfMemory refl, is.told), none_over base before.scene now.scene is.rest, λ which same. cc), left)
 memory_ends Unknown before now same is left = ((inr refl, is), left)
 
 -- devices that are as they were are kept

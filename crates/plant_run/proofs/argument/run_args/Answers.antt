@@ -30,7 +30,7 @@ returns-clause-ends g c =
             code ∙ ap code_of (w.status-is ∙ w.refuse.ensures.same),
             rw (w.input-is, w.files-is, w.out-is, w.store-is)
                 (memory_ends (form_of (map string_bytes (drop 1 (into_iter_items w.in-Ok.given)))) _ _ refl
-                (record { told = w.refuse.ensures.line; file_faults = refl; device_faults = refl }) refl),
+                (record { told = w.refuse.ensures.line; rest = refl }) refl),
           ))
       | in-Err w ↦ rw w.in-Err.is tt
     ]
