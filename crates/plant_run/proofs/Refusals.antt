@@ -158,26 +158,29 @@ module _ (name group calc : List ℕ) (told : ToldFiles) (old new : Devices) (be
 -- ---- a run for whose words no memory was found
 
 -- what it leaves of files and devices is as it was
-none_over : (base : List ℕ) (before now : Scene) → now.file_faults ≡ before.file_faults → now.device_faults ≡ before.device_faults
-    → EndsOver base before now WantOfMemory
-none_over base before now faults devices = record { durable = tt; file_faults = faults; device_faults = λ few. devices }
+none_over : (base : List ℕ) (before now : Scene) → now ≡ record before { output = now.output } → EndsOver base before now WantOfMemory
+none_over base before now rest = record {
+  durable = tt;
+  file_faults = ap (λ (s : Scene). s.file_faults) rest;
+  device_faults = λ few. ap (λ (s : Scene). s.device_faults) rest;
+}
 
 memory_ends : (form : Form) (before now : World) → CountsNoFault before.input now.input → IsUnread before.scene now.scene WantOfMemory
     → now.input ≡ before.input → EndsFor form before now WantOfMemory
-memory_ends (Pack tuning) before now same is left = ((same, is.told), is.file_faults, is.device_faults)
+memory_ends (Pack tuning) before now same is left = ((same, is.told), is.rest)
 memory_ends (Check base) before now same is left =
-    (((inr (inr refl), is.told), none_over base before.scene now.scene is.file_faults is.device_faults, λ which same. cc), left)
+    (((inr (inr refl), is.told), none_over base before.scene now.scene is.rest, λ which same. cc), left)
 memory_ends (Trend base plan) before now same is left = (
   (
     (OfMemory refl, is.told),
-    none_over base before.scene now.scene is.file_faults is.device_faults,
+    none_over base before.scene now.scene is.rest,
     of_none base plan before.scene.files now.scene.failed_name WantOfMemory (λ which same. cc),
   ),
   left,
 )
 memory_ends (Shifts asked) before now same is left = (inr ((inr refl, is), λ same. cc), left)
 memory_ends (Frames base group calc least) before now same is left =
-    (((frame.OfMemory refl, is.told), none_over base before.scene now.scene is.file_faults is.device_faults, λ which same. cc), left)
+    (((frame.OfMemory refl, is.told), none_over base before.scene now.scene is.rest, λ which same. cc), left)
 memory_ends Unknown before now same is left = ((inr refl, is), left)
 
 -- devices that are as they were are kept
@@ -200,8 +203,7 @@ unrun_comes trace ticks faults words before now stops_before stops_now code unru
     memory_ends (form_of words) before now (ap (λ (o : Outside). o.faults) unrun.input)
         (record {
           told = unrun.told;
-          file_faults = ap (λ (s : Scene). s.file_faults) unrun.rest;
-          device_faults = ap (λ (s : Scene). s.device_faults) unrun.rest;
+          rest = unrun.rest;
         }) unrun.input,
   );
   session = λ base plan is. inr unrun;

@@ -83,8 +83,7 @@ abbrev pub EndsFor : Form → World → World → Status → Type 0
 EndsFor (Pack tuning) before now status =
     PrintsSo (IsPacked tuning before.input now.input) (IsNotPacked tuning before.input now.input)
     before.scene.output now.scene.output status
-    × (now.scene.file_faults ≡ before.scene.file_faults)
-    × (now.scene.device_faults ≡ before.scene.device_faults)
+    × (now.scene ≡ record before.scene { output = now.scene.output })
 EndsFor form before now status = EndsAround form before.scene now.scene status × (now.input ≡ before.input)
 
 -- a run of these words ends in this status
