@@ -75,7 +75,8 @@ module _ (text d c : List ℕ) (inputs calcs : ℕ) (bs : List Parts) (rows : Li
   front = guarded_front d c (block_image b ++ 0 ∷ []) at guarded gate_there
 
   of_text : IsOfText letters text c
-  of_text = head_same letters text d c at has.of_text front (subst (λ n. blocks_at (length text) ≤ n) end (begins_before (blocks_at (length text)) bs))
+  of_text = head_same letters text d c at has.of_text front
+      (subst (λ n. blocks_at (length text) ≤ n) end (begins_before (blocks_at (length text)) bs))
       (omega (arith, gate_there, guarded.no_shorter))
 
   blocks : HasBlocks c calcs (unsaved inputs) (blocks_at (length text)) bs
