@@ -1,14 +1,14 @@
 -- A block behind others: what an image has while it is added.
-use Rattle.std.proofs.Common.{◌≡◌, ◌≢◌, ◌⊎◌, inl, inr, ℕ, ◌+◌, ◌<◌, ◌≤◌, List, [], ◌∷◌, ◌++◌, length, get_or, sym, ap, ◌∙◌, subst, arith, lit<, length-append}
+use Rattle.std.proofs.Common.{◌≡◌, ◌≢◌, ◌⊎◌, inl, inr, ℕ, ◌+◌, ◌<◌, ◌≤◌, List, [], ◌∷◌, ◌++◌, length, get_or, sym, ap, ◌∙◌, subst, arith, length-append}
 use Rattle.std.proofs.lemmas.Bool.{cases_eq}
-use Rattle.disk_model.specs.Gates.{Holds, IsGuarded, IsOpen, IsShut, open_byte}
+use Rattle.disk_model.specs.Gates.{IsGuarded, IsOpen, IsShut, open_byte}
 use Rattle.commit_log.specs.declared.row.LogRow.{LogRow}
 use Rattle.commit_log.specs.Blocks.{AreBlockRows, HasBlock, HasBlocks, block_image, block_size, end_of, rows_of}
 use Rattle.layout_fields.specs.TextHeads.{IsOfText, blocks_at}
 use Rattle.commit_log.specs.Images.{letters}
 use Rattle.commit_log.specs.Openings.{Stores}
 use Rattle.layout_fields.proofs.TextHeads.{head_same}
-use Rattle.layout_fields.proofs.PlacedBytes.{SameFront, guarded_front, holds_byte, holds_left, holds_right, holds_there, part_same}
+use Rattle.layout_fields.proofs.PlacedBytes.{SameFront, guarded_front, holds_left, next_shut, part_same}
 use Rattle.commit_log.proofs.Beginnings.{length-block_image}
 use Rattle.commit_log.proofs.Walks.{end_of-push, has_push, rows_of-push}
 
@@ -37,28 +37,6 @@ blocks_same n d c tags number at (x ∷ bs) front within has = (
     size = omega (arith, length-block_image number x, length-append (block_image number x) (0 ∷ []))
 
 -- ---- a block behind a gate
-
--- behind its open gate the next one is closed
-next_shut : (number : ℕ) (b : List LogRow) (at : ℕ) (d c : List ℕ) → IsGuarded (at + 1) (block_image number b ++ 0 ∷ []) at d c
-    → IsOpen at c → IsShut (at + block_size b) c
-next_shut number b at d c guarded opened = record {
-  there = omega (arith, holds_there c (at + 1) (block_image number b ++ 0 ∷ []) holds (omega (arith, size)), size);
-  closed = λ is. absurd (omega (arith, is, gate_byte));
-}
-  where
-    holds : Holds (at + 1) (block_image number b ++ 0 ∷ []) c
-    holds = guarded.whole opened
-
-    size : length (block_image number b ++ 0 ∷ []) ≡ block_size b
-    size = length-block_image number b
-
-    place : at + block_size b ≡ at + 1 + length (block_image number b) + 0
-    place = omega (arith, size, length-append (block_image number b) (0 ∷ []))
-
-    gate_byte : get_or c (at + block_size b) 0 ≡ 0
-    gate_byte = ap (λ n. get_or c n 0) place
-        ∙ holds_byte c (at + 1 + length (block_image number b)) (0 ∷ []) 0
-        (holds_right c (at + 1) (block_image number b) (0 ∷ []) holds) (lit< tt)
 
 module _ (plant : List ℕ) (tags : ℕ) (rows : List LogRow) (at : ℕ) (d c : List ℕ) (has : Stores plant tags rows at d) (b : List LogRow)
     (guarded : IsGuarded (at + 1) (block_image (length rows) b ++ 0 ∷ []) at d c) where
@@ -112,7 +90,8 @@ module _ (plant : List ℕ) (tags : ℕ) (rows : List LogRow) (at : ℕ) (d c : 
               spelled = holds_left c (at + 1) (block_image (length rows) b) (0 ∷ []) (guarded.whole opened);
               rows_are = rows_are;
             })));
-        shut = subst (λ n. IsShut n c) end (next_shut (length rows) b at d c guarded opened);
+        shut = subst (λ n. IsShut n c) end (next_shut (block_image (length rows) b) at (at + block_size b) d c
+            (ap (λ n. at + n) (length-block_image (length rows) b)) guarded opened);
       };
       rows_are = ap (λ l. l ++ b) has.lists.rows_are ∙ sym (rows_of-push bs b);
       end_is = end;

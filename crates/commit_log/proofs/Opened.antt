@@ -68,8 +68,8 @@ nothing_stands plant tags c (inr empty) =
     ByBlocks [] (record { of_plant = empty.of_text; blocks = record { blocks = tt; shut = empty.shut } }) refl
 
 -- a layout without blocks is ready
-pub empty_ready : (plant : List ℕ) (tags end : ℕ) (o : Option Trace) → end ≡ blocks_at (length plant) → Shows o (IsEmpty letters plant) → IsSettled o
-    → IfSome o (IsReady plant tags [] end)
+pub empty_ready : (plant : List ℕ) (tags end : ℕ) (o : Option Trace) → end ≡ blocks_at (length plant)
+    → Shows o (IsEmpty letters plant) → IsSettled o → IfSome o (IsReady plant tags [] end)
 empty_ready plant tags end None is empty settled = tt
 empty_ready plant tags end (Some t) is empty settled = record {
   settled = settled;

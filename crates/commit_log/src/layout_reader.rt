@@ -8,10 +8,12 @@ ghost use Rattle.commit_log.specs.Openings.{HasRowsOf, IsFound};
 use crate::block_reader::{Stored, parse_blocks};
 use crate::difference::first_difference;
 use crate::refusal::LogNo;
-use crate::writer::LETTERS;
 use disk_model::Disk;
 use layout_fields::{read_all, read_head};
 use std::alloc::Global;
+
+// The letters behind the gate of the layout.
+pub(crate) const LETTERS: [u8; 4] = *b"PHC1";
 
 // Reads the log of a plant with this text and so many tags; none is on a new device. Names the first byte of the first field that
 // breaks the layout, or the place where the text differs.

@@ -12,11 +12,10 @@ ghost use Rattle.commit_log.specs.Told.{IsReady};
 
 use crate::block_reader::Stored;
 use crate::history::LogTurn;
-use crate::layout_reader::read_log;
+use crate::layout_reader::{LETTERS, read_log};
 use crate::log::Log;
 use crate::refusal::{LogFail, LogNo};
 use crate::row::LogRow;
-use crate::writer::LETTERS;
 use archive_file::PutNo;
 use disk_model::Disk;
 use layout_fields::begin_layout;

@@ -13,9 +13,6 @@ use std::alloc::{AllocError, Global};
 // The byte of a gate that is not opened yet.
 const CLOSED: u8 = 0;
 
-// The letters behind the gate of the layout.
-pub(crate) const LETTERS: [u8; 4] = *b"PHC1";
-
 // How many bytes a block has before its rows: its gate, the number of its first row, and how many rows there are.
 pub(crate) const HEAD_LEN: usize = 13;
 

@@ -19,7 +19,8 @@ use Rattle.layout_fields.proofs.ReadImages.{shown_now}
 -- nothing is saved as long as nothing was called
 pub nothing_yet : (text : List ℕ) (o : Option Trace) → Shows o (IsUnsaved text) → IsSettled o → During o o (SavesNothing text)
 nothing_yet text o is settled =
-    weaker o o (IsUnsaved text) (SavesNothing text) (λ c unsaved. inl unsaved) (started o (IsUnsaved text) (shown_now o (IsUnsaved text) is settled))
+    weaker o o (IsUnsaved text) (SavesNothing text) (λ c unsaved. inl unsaved)
+    (started o (IsUnsaved text) (shown_now o (IsUnsaved text) is settled))
 
 -- nor while the layout is begun
 pub saves_nothing : (text : List ℕ) (o o1 : Option Trace) → Shows o (IsUnsaved text) → IsSettled o

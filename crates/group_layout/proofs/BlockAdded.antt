@@ -1,5 +1,5 @@
 -- A block behind others: what an image has while it is added.
-use Rattle.std.proofs.Common.{◌≡◌, ◌≢◌, ℕ, ◌+◌, ◌<◌, ◌≤◌, List, [], ◌∷◌, ◌++◌, length, get_or, Option, None, Some, sym, ap, ◌∙◌, subst, arith, lit<, length-append}
+use Rattle.std.proofs.Common.{◌≡◌, ◌≢◌, ℕ, ◌+◌, ◌<◌, ◌≤◌, List, [], ◌∷◌, ◌++◌, length, get_or, Option, None, Some, sym, ap, ◌∙◌, subst, arith, length-append}
 use Rattle.trend_num.specs.declared.value.CalcValue.{CalcValue}
 use Rattle.disk_model.specs.Calls.{Sees}
 use Rattle.disk_model.specs.Images.{FromOld, IsSettled, Now}
@@ -8,15 +8,20 @@ use Rattle.disk_model.specs.Traces.{Trace, seen, written}
 use Rattle.disk_model.proofs.Bytes.{length-written}
 use Rattle.disk_model.proofs.Images.{present}
 use Rattle.disk_model.proofs.Moments.{during_now}
-use Rattle.disk_model.specs.Gates.{Holds, IsGuarded, IsOpen, IsShut, open_byte}
+use Rattle.disk_model.specs.Gates.{IsGuarded, IsOpen, IsShut, open_byte}
 use Rattle.group_layout.specs.Blocks.{HasBlock, HasBlocks, MayFollow, Parts, block_image, block_size, end_of, last_of, unsaved}
 use Rattle.layout_fields.specs.TextHeads.{IsOfText, blocks_at}
 use Rattle.group_layout.specs.Images.{HasSaved, letters}
 use Rattle.group_layout.specs.Rows.{AreRowsOf}
 use Rattle.layout_fields.proofs.TextHeads.{head_same}
-use Rattle.layout_fields.proofs.PlacedBytes.{SameFront, guarded_front, holds_byte, holds_left, holds_right, holds_there, part_same, written_byte}
+use Rattle.layout_fields.proofs.PlacedBytes.{SameFront, guarded_front, holds_left, next_shut, part_same, written_byte}
 use Rattle.group_layout.proofs.Beginnings.{length-block_image}
 use Rattle.group_layout.proofs.Walks.{end_of-push, has_push, last_of-push}
+
+-- the blocks begin before they end
+begins_before : (from : ℕ) (bs : List Parts) → from ≤ end_of from bs
+begins_before from [] = omega arith
+begins_before from (b ∷ bs) = let rest = begins_before (from + block_size b) bs in omega (arith, rest)
 
 -- blocks that end there stand in both
 pub blocks_same : (n : ℕ) (d c : List ℕ) (calcs : ℕ) (b : Parts) (at : ℕ) (bs : List Parts) → SameFront n d c → end_of at bs ≤ n
@@ -31,43 +36,13 @@ blocks_same n d c calcs b at (x ∷ bs) front within has = (
   blocks_same n d c calcs x (at + block_size x) bs front within has.1,
 )
   where
-    grows : (from : ℕ) (xs : List Parts) → from ≤ end_of from xs
-    grows from [] = omega arith
-    grows from (y ∷ xs) = let rest = grows (from + block_size y) xs in omega (arith, rest)
-
     before : at + block_size x ≤ n
-    before = let rest = grows (at + block_size x) bs in omega (arith, rest, within)
+    before = let rest = begins_before (at + block_size x) bs in omega (arith, rest, within)
 
     size : length (block_image x) + 1 ≡ block_size x
     size = omega (arith, length-block_image x, length-append (block_image x) (0 ∷ []))
 
 -- ---- a block behind a gate
-
--- the blocks begin before they end
-begins_before : (from : ℕ) (bs : List Parts) → from ≤ end_of from bs
-begins_before from [] = omega arith
-begins_before from (b ∷ bs) = let rest = begins_before (from + block_size b) bs in omega (arith, rest)
-
--- behind its open gate the next one is closed
-next_shut : (b : Parts) (at : ℕ) (d c : List ℕ) → IsGuarded (at + 1) (block_image b ++ 0 ∷ []) at d c → IsOpen at c
-    → IsShut (at + block_size b) c
-next_shut b at d c guarded opened = record {
-  there = omega (arith, holds_there c (at + 1) (block_image b ++ 0 ∷ []) holds (omega (arith, size)), size);
-  closed = λ is. absurd (omega (arith, is, gate_byte));
-}
-  where
-    holds : Holds (at + 1) (block_image b ++ 0 ∷ []) c
-    holds = guarded.whole opened
-
-    size : length (block_image b ++ 0 ∷ []) ≡ block_size b
-    size = length-block_image b
-
-    place : at + block_size b ≡ at + 1 + length (block_image b) + 0
-    place = omega (arith, size, length-append (block_image b) (0 ∷ []))
-
-    gate_byte : get_or c (at + block_size b) 0 ≡ 0
-    gate_byte = ap (λ n. get_or c n 0) place
-        ∙ holds_byte c (at + 1 + length (block_image b)) (0 ∷ []) 0 (holds_right c (at + 1) (block_image b) (0 ∷ []) holds) (lit< tt)
 
 -- behind a block that was added there is room for the next one
 pub block_ready : (b : Parts) (at : ℕ) (o o1 : Option Trace) → Now o (IsShut at)
@@ -79,7 +54,7 @@ block_ready b at None (Some t) shut during sees settled = absurd during.later
 block_ready b at (Some s) (Some t) shut during sees settled = record {
   each = λ c may.
       let from = (during_now (Some s) (Some t) (FromOld (Some s) (IsGuarded (at + 1) (block_image b ++ 0 ∷ []) at)) during).each c may in
-      next_shut b at from.0 c from.2
+      next_shut (block_image b) at (at + block_size b) from.0 c (ap (λ n. at + n) (length-block_image b)) from.2
       (ap (λ l. get_or l at 0) (settled.each c may ∙ sees)
       ∙ written_byte (written (seen (Some s)) (at + 1) (block_image b ++ 0 ∷ [])) at open_byte long);
 }
@@ -100,7 +75,8 @@ module _ (text d c : List ℕ) (inputs calcs : ℕ) (bs : List Parts) (rows : Li
   front = guarded_front d c (block_image b ++ 0 ∷ []) at guarded gate_there
 
   of_text : IsOfText letters text c
-  of_text = head_same letters text d c at has.of_text front (subst (λ n. blocks_at (length text) ≤ n) end (begins_before (blocks_at (length text)) bs))
+  of_text = head_same letters text d c at has.of_text front
+      (subst (λ n. blocks_at (length text) ≤ n) end (begins_before (blocks_at (length text)) bs))
       (omega (arith, gate_there, guarded.no_shorter))
 
   blocks : HasBlocks c calcs (unsaved inputs) (blocks_at (length text)) bs
@@ -126,7 +102,8 @@ module _ (text d c : List ℕ) (inputs calcs : ℕ) (bs : List Parts) (rows : Li
       blocks = has_push c calcs (unsaved inputs) (blocks_at (length text)) bs b blocks
           (subst (HasBlock c calcs (last_of (unsaved inputs) bs) b) (sym end)
           (record { opened = opened; spelled = holds_left c (at + 1) (block_image b) (0 ∷ []) (guarded.whole opened); follows = follows }));
-      shut = subst (λ n. IsShut n c) (sym (end_of-push (blocks_at (length text)) bs b ∙ ap (λ n. n + block_size b) end)) (next_shut b at d c guarded opened);
+      shut = subst (λ n. IsShut n c) (sym (end_of-push (blocks_at (length text)) bs b ∙ ap (λ n. n + block_size b) end))
+          (next_shut (block_image b) at (at + block_size b) d c (ap (λ n. at + n) (length-block_image b)) guarded opened);
     };
     rows_are = subst (λ x. AreRowsOf calcs x.windows (bs ++ b ∷ []) new) (sym (last_of-push (unsaved inputs) bs b)) rows_are;
   }

@@ -34,8 +34,8 @@ pub no_rows : (calcs : ℕ) (rows : List (List CalcValue)) → AreRowsOf calcs 0
 no_rows calcs rows are = none_given calcs rows are.calcs_are are.windows_are
 
 -- a layout without blocks has no rows
-pub empty_saved : (text : List ℕ) (inputs calcs : ℕ) (c : List ℕ) (rows : List (List CalcValue)) → IsEmpty letters text c → AreRowsOf calcs 0 [] rows
-    → HasSaved text inputs calcs c [] rows
+pub empty_saved : (text : List ℕ) (inputs calcs : ℕ) (c : List ℕ) (rows : List (List CalcValue)) → IsEmpty letters text c
+    → AreRowsOf calcs 0 [] rows → HasSaved text inputs calcs c [] rows
 empty_saved text inputs calcs c rows empty are = record {
   of_text = empty.of_text;
   blocks = record { blocks = tt; shut = empty.shut };

@@ -3,7 +3,7 @@ use Rattle.std.proofs.Common.{◌≡◌, inl, ℕ, ◌+◌, ◌<◌, ◌≤◌, 
 use Rattle.std.proofs.Math.Seq.{take-add}
 use Rattle.std.proofs.lemmas.Grind.{same_number_lists}
 use Rattle.std.proofs.lemmas.List.{get_or-take, get_or-drop, drop-drop, take-take, take_at}
-use Rattle.disk_model.specs.Gates.{Holds, IsGuarded}
+use Rattle.disk_model.specs.Gates.{Holds, IsGuarded, IsOpen, IsShut}
 use Rattle.disk_model.specs.Traces.{written}
 use Rattle.disk_model.proofs.Bytes.{holds_written}
 
@@ -75,3 +75,26 @@ guarded_front d c bytes at guarded low = record {
   now = omega (arith, low, guarded.no_shorter);
   same = λ i before. guarded.outside i (omega (arith, before, low)) (inl (omega (arith, before))) (λ e. absurd (omega (arith, e, before)));
 }
+
+-- ---- a block behind a gate
+
+-- behind the open gate of a block the gate of the next one is closed
+pub next_shut : (block : List ℕ) (at next : ℕ) (d c : List ℕ) → at + length (block ++ 0 ∷ []) ≡ next
+    → IsGuarded (at + 1) (block ++ 0 ∷ []) at d c → IsOpen at c → IsShut next c
+next_shut block at next d c place guarded opened = record {
+  there = omega (arith, holds_there c (at + 1) (block ++ 0 ∷ []) holds (omega (arith, size)), place);
+  closed = λ is. absurd (omega (arith, is, gate_byte));
+}
+  where
+    holds : Holds (at + 1) (block ++ 0 ∷ []) c
+    holds = guarded.whole opened
+
+    size : length (block ++ 0 ∷ []) ≡ length block + 1
+    size = length-append block (0 ∷ [])
+
+    behind : next ≡ at + 1 + length block + 0
+    behind = omega (arith, size, place)
+
+    gate_byte : get_or c next 0 ≡ 0
+    gate_byte = ap (λ n. get_or c n 0) behind
+        ∙ holds_byte c (at + 1 + length block) (0 ∷ []) 0 (holds_right c (at + 1) block (0 ∷ []) holds) (lit< tt)

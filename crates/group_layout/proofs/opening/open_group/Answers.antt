@@ -12,12 +12,14 @@ use Rattle.group_layout.proofs.opening.open_group.Goals as goal
 
 pub returns-in_default-clause-any_moment : goal.returns-in_default-clause-any_moment
 returns-in_default-clause-any_moment g c =
-    left_synced (StandsSame c.args.text.now c.args.inputs c.args.calcs (seen (g.D.Disk.trace c.args.dev.now))) c.sync.result _ _ c.sync.ensures.noted
+    left_synced (StandsSame c.args.text.now c.args.inputs c.args.calcs (seen (g.D.Disk.trace c.args.dev.now)))
+    c.sync.result _ _ c.sync.ensures.noted
 
 pub returns-in_err-saved-clause-any_moment : goal.returns-in_err-saved-clause-any_moment
 returns-in_err-saved-clause-any_moment g c =
     during_same _ _ _ (IsLeftOrSame c.args.text.now c.args.inputs c.args.calcs (g.D.Disk.trace c.args.dev.now)) c.read_group.ensures.same
-    (left_synced (StandsSame c.args.text.now c.args.inputs c.args.calcs (seen (g.D.Disk.trace c.args.dev.now))) c.sync.result _ _ c.sync.ensures.noted)
+    (left_synced (StandsSame c.args.text.now c.args.inputs c.args.calcs (seen (g.D.Disk.trace c.args.dev.now)))
+    c.sync.result _ _ c.sync.ensures.noted)
 
 pub returns-in_err-saved-clause-damaged : goal.returns-in_err-saved-clause-damaged
 returns-in_err-saved-clause-damaged g c = λ a byte told.
@@ -35,7 +37,8 @@ returns-in-Saved-clause-stood g c =
 pub returns-in-Saved-clause-any_moment : goal.returns-in-Saved-clause-any_moment
 returns-in-Saved-clause-any_moment g c =
     during_same _ _ _ (IsLeftOrSame c.args.text.now c.args.inputs c.args.calcs (g.D.Disk.trace c.args.dev.now)) c.read_group.ensures.same
-    (left_synced (StandsSame c.args.text.now c.args.inputs c.args.calcs (seen (g.D.Disk.trace c.args.dev.now))) c.sync.result _ _ c.sync.ensures.noted)
+    (left_synced (StandsSame c.args.text.now c.args.inputs c.args.calcs (seen (g.D.Disk.trace c.args.dev.now)))
+    c.sync.result _ _ c.sync.ensures.noted)
 
 pub returns-clause-stood : goal.returns-clause-stood
 returns-clause-stood g c =
