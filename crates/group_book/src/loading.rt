@@ -169,10 +169,7 @@ fn restore(
     ensures opening_rows { IfOk result (λ r. lists_of r.opening_rows.items ≡ lists_of saved.now.rows.items) }
     ensures refused { IfErr result (IsRefused def.now (lists_of recovered.now) saved.now.versions.items (lists_of saved.now.rows.items)) }
 {
-    let sheet = match rebuild(alloc, def, saved, recovered) {
-        Ok(sheet) => sheet,
-        Err(why) => return Err(why),
-    };
+    let sheet = rebuild(alloc, def, saved, recovered)?;
     Ok(Restored {
         def: copy_of_def(def)?,
         text: bytes_of(alloc, text)?,
@@ -187,7 +184,7 @@ fn restore(
 fn bytes_of(alloc: Global, bytes: &[u8]) -> Result<Vec<u8>, WantOfMemory>
     ensures { IfOk result (λ v. v.items ≡ bytes.now) }
 {
-    Vec::from_slice(alloc, bytes).map_err(|_| WantOfMemory)
+    Ok(Vec::from_slice(alloc, bytes)?)
 }
 
 // The sheet with the saved rows, over as many of the recovered records as the saved versions say.
@@ -208,10 +205,7 @@ fn rebuild(
     ensures within { OnOk result (map length (cut saved.now.versions.items (lists_of recovered.now)) ≡ saved.now.versions.items) }
     ensures refused { IfErr result (IsRefused def.now (lists_of recovered.now) saved.now.versions.items (lists_of saved.now.rows.items)) }
 {
-    let copies = match first_records(alloc, &saved.versions, recovered) {
-        Ok(copies) => copies,
-        Err(why) => return Err(why),
-    };
+    let copies = first_records(alloc, &saved.versions, recovered)?;
     let rows = copy_rows(alloc, &saved.rows)?;
     match from_saved(alloc, def, copies, rows) {
         Ok(sheet) => Ok(sheet),
@@ -255,5 +249,5 @@ fn records_of(alloc: Global, recs: &[Rec], count: u32) -> Result<Vec<Rec>, WantO
     requires { count ≤ length recs.now }
     ensures { IfOk result (λ v. v.items ≡ take count recs.now) }
 {
-    Vec::from_slice(alloc, &recs[..count as usize]).map_err(|_| WantOfMemory)
+    Ok(Vec::from_slice(alloc, &recs[..count as usize])?)
 }

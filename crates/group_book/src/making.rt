@@ -69,7 +69,7 @@ pub fn new_book<D: Disk>(
 pub(crate) fn zeros(alloc: Global, inputs: u32) -> Result<Vec<u32>, WantOfMemory>
     ensures { IfOk result (λ v. v.items ≡ replicate inputs 0) }
 {
-    vec![in alloc; 0; inputs as usize].map_err(|_| WantOfMemory)
+    Ok(vec![in alloc; 0; inputs as usize]?)
 }
 
 // So many rows without values.
@@ -79,7 +79,7 @@ pub(crate) fn empty_rows(alloc: Global, calcs: usize) -> Result<Vec<Vec<CalcValu
     let mut rows = Vec::new(alloc);
     for _ in 0..calcs {
         let row = Vec::new(alloc);
-        rows.push(row).map_err(|_| WantOfMemory)?;
+        rows.push(row)?;
     }
     Ok(rows)
 }

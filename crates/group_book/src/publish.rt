@@ -80,7 +80,7 @@ impl<D: Disk> Book<D> {
 fn uptos(alloc: Global, pulled: &[Pulled]) -> Result<Vec<u32>, WantOfMemory>
     ensures { IfOk result (λ v. v.items ≡ map (λ p. p.upto) pulled.now) }
 {
-    let mut versions = Vec::with_capacity(alloc, pulled.len()).map_err(|_| WantOfMemory)?;
+    let mut versions = Vec::with_capacity(alloc, pulled.len())?;
     for one in pulled {
         versions.push_reserved(one.upto);
     }
@@ -93,7 +93,7 @@ fn records_of(alloc: Global, pulled: Vec<Pulled>) -> Result<Vec<Vec<Rec>>, WantO
 {
     let mut lists = Vec::new(alloc);
     for one in pulled {
-        lists.push(one.recs).map_err(|_| WantOfMemory)?;
+        lists.push(one.recs)?;
     }
     Ok(lists)
 }
@@ -103,5 +103,5 @@ pub(crate) fn make_place(tape: &mut Vec<Turn>) -> Result<(), WantOfMemory>
     ensures same { tape.new.items ≡ tape.old.items }
     ensures room { OnOk result (vec_len tape.new < vec_capacity tape.new) }
 {
-    tape.reserve(1).map_err(|_| WantOfMemory)
+    Ok(tape.reserve(1)?)
 }

@@ -66,10 +66,7 @@ fn pull_all<C: Disk, R: Wait>(
 {
     let mut pulled = Vec::new(alloc);
     for i in 0..tags.len() {
-        let one = match pull_one(alloc, rt, cells, group, tags[i], i as u32, versions[i]) {
-            Ok(one) => one,
-            Err(why) => return Err(why),
-        };
+        let one = pull_one(alloc, rt, cells, group, tags[i], i as u32, versions[i])?;
         let Ok(()) = pulled.push(one) else {
             return Err(RefreshNo::WantOfMemory);
         };

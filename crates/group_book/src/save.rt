@@ -87,7 +87,7 @@ impl<D: Disk> Book<D> {
 pub(crate) fn copy_of(alloc: Global, versions: &[u32]) -> Result<Vec<u32>, WantOfMemory>
     ensures { IfOk result (λ v. v.items ≡ versions.now) }
 {
-    Vec::from_slice(alloc, versions).map_err(|_| WantOfMemory)
+    Ok(Vec::from_slice(alloc, versions)?)
 }
 
 // The block of the next save of a sheet with these versions, where these rows and this number are those of the last one.

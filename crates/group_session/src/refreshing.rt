@@ -158,10 +158,7 @@ fn pull_all<C: Disk, D: Disk>(
     let mut pulled = Vec::new(alloc);
     for input in 0..tags.len() {
         let from = book.version(input as u32);
-        let one = match pull_one(cells, tags[input], group, input as u32, from) {
-            Ok(one) => one,
-            Err(no) => return Err(no),
-        };
+        let one = pull_one(cells, tags[input], group, input as u32, from)?;
         let Ok(()) = pulled.push(one) else {
             return Err(RefreshNo::WantOfMemory);
         };

@@ -21,10 +21,7 @@ pub fn pack<I: Source>(alloc: Global, tuning: Tuning, input: &mut I) -> Result<A
         IsPrinted tuning (I.meaning input.old) (I.meaning input.new) text) }
     ensures refused { IfErr result (IsPackRefusal tuning (I.meaning input.old) (I.meaning input.new)) }
 {
-    let intake = match read_input::<Brand, I>(alloc, tuning, input, Blank::new(1)) {
-        Ok(intake) => intake,
-        Err(why) => return Err(why),
-    };
+    let intake = read_input::<Brand, I>(alloc, tuning, input, Blank::new(1))?;
     match intake.standing {
         Standing::Taken => Ok(ArchiveText::of(intake.core)),
         Standing::Full { records } => Err(Status::Limit {

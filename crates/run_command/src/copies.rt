@@ -115,5 +115,5 @@ fn rows_of(alloc: Global, rows: &[Vec<CalcValue>]) -> Result<Vec<Vec<CalcValue>>
 fn row_of(alloc: Global, row: &[CalcValue]) -> Result<Vec<CalcValue>, WantOfMemory>
     ensures { IfOk result (λ list. list.items ≡ row.now) }
 {
-    Vec::from_slice(alloc, row).map_err(|_| WantOfMemory)
+    Ok(Vec::from_slice(alloc, row)?)
 }

@@ -99,5 +99,5 @@ fn inputs_of(alloc: Global, groups: &[GroupDef]) -> Result<Vec<Vec<u32>>, WantOf
 fn tags_of(alloc: Global, tags: &[u32]) -> Result<Vec<u32>, WantOfMemory>
     ensures { IfOk result (λ list. list.items ≡ tags.now) }
 {
-    Vec::from_slice(alloc, tags).map_err(|_| WantOfMemory)
+    Ok(Vec::from_slice(alloc, tags)?)
 }

@@ -34,7 +34,7 @@ pub(crate) fn held_lists(
 fn snapped(alloc: Global, readers: &[Vec<Query>], tags: usize) -> Result<Vec<bool>, WantOfMemory>
     ensures { IfOk result (λ marks. AreSnapped (lists_of readers.now) tags marks.items) }
 {
-    let mut marks = vec![in alloc; false; tags].map_err(|_| WantOfMemory)?;
+    let mut marks = vec![in alloc; false; tags]?;
     mark_all(&mut marks, readers);
     Ok(marks)
 }

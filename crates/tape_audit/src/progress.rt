@@ -96,7 +96,7 @@ impl<'a> Progress<'a> {
 fn table(alloc: Global, number: u32, count: usize) -> Result<Vec<u32>, WantOfMemory>
     ensures { IfOk result (λ v. v.items ≡ replicate count number) }
 {
-    vec![in alloc; number; count].map_err(|_| WantOfMemory)
+    Ok(vec![in alloc; number; count]?)
 }
 
 // Links each row to the next one of its unit, and each unit to its first row.

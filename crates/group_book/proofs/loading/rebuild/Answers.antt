@@ -12,15 +12,15 @@ pub from_saved-requires : goal.from_saved-requires
 from_saved-requires c =
     let saved = c.args.saved.now in
     let recovered = lists_of c.args.recovered.now in
-    let copies = c.in-Ok.copies.items in
+    let copies = c.in_ok-copies.copies.items in
     let are : lists_of copies ≡ cut saved.versions.items recovered
-    = c.in-Ok.ensures.cut ∙ ap (λ (l : List _). cut l recovered) c.deref.ensures.value in
-    let long = subst (λ (l : List _). map length (cut l recovered) ≡ l) c.deref.ensures.value c.in-Ok.ensures.within in
+    = c.in_ok-copies.ensures.cut ∙ ap (λ (l : List _). cut l recovered) c.deref.ensures.value in
+    let long = subst (λ (l : List _). map length (cut l recovered) ≡ l) c.deref.ensures.value c.in_ok-copies.ensures.within in
     let rows = c.in_ok-rows.ensures ∙ ap lists_of c.deref-2.ensures.value in
     record {
       group = c.requires.group;
       grid = c.requires.grid;
-      inputs = omega (arith, copies_many saved.versions.items recovered copies are long, c.requires.shape.versions_are, c.in-Ok.copies.ok.0);
+      inputs = omega (arith, copies_many saved.versions.items recovered copies are long, c.requires.shape.versions_are, c.in_ok-copies.copies.ok.0);
       calcs = omega (
         arith,
         ap length rows,
@@ -39,9 +39,9 @@ returns-in-Err-Shape-clause-refused c =
     let saved = c.args.saved.now in
     let grid = grid_of def.start def.period in
     let recovered = lists_of c.args.recovered.now in
-    let copies = c.in-Ok.copies.items in
+    let copies = c.in_ok-copies.copies.items in
     let are : lists_of copies ≡ cut saved.versions.items recovered
-    = c.in-Ok.ensures.cut ∙ ap (λ (l : List _). cut l recovered) c.deref.ensures.value in
+    = c.in_ok-copies.ensures.cut ∙ ap (λ (l : List _). cut l recovered) c.deref.ensures.value in
     let rows = c.in_ok-rows.ensures ∙ ap lists_of c.deref-2.ensures.value in
     ap (λ l. shape_fault (complete_windows grid l) (lists_of saved.rows.items)) (sym are)
     ∙ ap (shape_fault (complete_windows grid (lists_of copies))) (sym rows)

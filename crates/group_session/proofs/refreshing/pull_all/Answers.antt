@@ -1,5 +1,6 @@
 use Rattle.std.proofs.Common.{◌<◌, ◌+◌, [], sym, subst, arith, get_or, length}
 use Rattle.std.proofs.lemmas.List.Elements.{All-get_or}
+use Rattle.std.proofs.lemmas.Result.{err_from_is_err_and}
 use Rattle.group_session.specs.Refreshing.{IsPullOf, IsPulledMore, durable_lists}
 use Rattle.group_session.specs.Refusals.{IsPullRefusal}
 use Rattle.group_session.proofs.Each.{each_refl, each_trans}
@@ -20,8 +21,8 @@ pull_one-requires g c =
     let known = All-get_or (λ tag. tag < many) c.args.tags.now c.loop-input.input 0 c.loop-input-test.true c.requires.inputs.known in
     record { known = omega (arith, known, c.loop-input.invariant.cells.as_many) }
 
-pub returns-in-Err-clause-pulled : goal.returns-in-Err-clause-pulled
-returns-in-Err-clause-pulled g c =
+pub returns-in_err-one-clause-pulled : goal.returns-in_err-one-clause-pulled
+returns-in_err-one-clause-pulled g c =
     each_trans IsPulledMore pulled_trans c.args.cells.now c.loop-input.cells c.pull_one.new.cells c.loop-input.invariant.cells
     c.pull_one.ensures.pulled
 
@@ -30,14 +31,16 @@ returns-in_default-clause-pulled g c =
     each_trans IsPulledMore pulled_trans c.args.cells.now c.loop-input.cells c.pull_one.new.cells c.loop-input.invariant.cells
     c.pull_one.ensures.pulled
 
-pub returns-in-Err-clause-refused : goal.returns-in-Err-clause-refused
-returns-in-Err-clause-refused g c =
+pub returns-in_err-one-clause-refused : goal.returns-in_err-one-clause-refused
+returns-in_err-one-clause-refused g c =
     let at = c.loop-input.input in
     let tags = c.args.tags.now in
+    let no = c.in_err-one.field-0.0 in
     let lists = lists_same c.args.cells.now c.loop-input.cells c.loop-input.invariant.cells in
-    pulls_refused (durable_lists c.args.cells.now) tags c.args.book.now at c.version-from.result c.in-Err.no c.loop-input-test.true
+    let p = err_from_is_err_and c.from_residual.result c.from_residual.ensures.1 in
+    rw (p.1, p.2) (pulls_refused (durable_lists c.args.cells.now) tags c.args.book.now at c.version-from.result no c.loop-input-test.true
     (c.version-from.ensures [])
-    (subst (λ l. IsPullRefusal (get_or l (get_or tags at 0) []) at c.version-from.result c.in-Err.no) lists c.in-Err.ensures.refused)
+    (subst (λ l. IsPullRefusal (get_or l (get_or tags at 0) []) at c.version-from.result no) lists c.in_err-one.ensures.refused))
 
 pub loop-input-preserved : goal.loop-input-preserved
 loop-input-preserved g c =
@@ -47,10 +50,10 @@ loop-input-preserved g c =
     let copies = c.args.book.now.sheet.copies in
     let lists = lists_same c.args.cells.now c.loop-input.cells c.loop-input.invariant.cells in
     record {
-      pulls = subst (ArePullsTo (at + 1) durables tags copies) (sym c.in-Ok-push.ensures.items)
-          (pulls_more at c.version-from.result durables tags copies c.loop-input.pulled.items c.in-Ok.one c.loop-input-test.true
+      pulls = subst (ArePullsTo (at + 1) durables tags copies) (sym c.in-Ok.ensures.items)
+          (pulls_more at c.version-from.result durables tags copies c.loop-input.pulled.items c.in_ok-one.one c.loop-input-test.true
           c.version-from.ensures
-          (subst (λ l. IsPullOf (get_or l (get_or tags at 0) []) c.version-from.result c.in-Ok.one) lists c.in-Ok.ensures.pull)
+          (subst (λ l. IsPullOf (get_or l (get_or tags at 0) []) c.version-from.result c.in_ok-one.one) lists c.in_ok-one.ensures.pull)
           c.loop-input.invariant.pulls);
       cells = each_trans IsPulledMore pulled_trans c.args.cells.now c.loop-input.cells c.pull_one.new.cells
           c.loop-input.invariant.cells c.pull_one.ensures.pulled;
