@@ -1,5 +1,5 @@
 -- What is opened over devices that hold nothing.
-use Rattle.std.proofs.Common.{◌≡◌, ◌≢◌, ◌<◌, ◌≤◌, ℕ, List, [], ◌∷◌, inl, inr, refl, arith, length, replicate, get_or}
+use Rattle.std.proofs.Common.{◌≡◌, ℕ, List, [], ◌∷◌, inl, inr, refl, arith, length, replicate, get_or}
 use Rattle.std.specs.List.{AllZip}
 use Rattle.trend_num.specs.declared.tag_def.TagDef.{TagDef}
 use Rattle.trend_num.specs.declared.value.CalcValue.{CalcValue}

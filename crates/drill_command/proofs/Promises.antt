@@ -1,6 +1,5 @@
 -- What is promised of the session of a drill.
-use Rattle.std.proofs.Common.{◌≡◌, ◌+◌, ℕ, List, [], Result, Ok, Err, IfOk, IfErr, String, Global, string_bytes, arith, refl, subst, sym}
-use Rattle.disk_model.specs.Memory.{DiskState}
+use Rattle.std.proofs.Common.{◌+◌, ℕ, List, [], Result, String, Global, string_bytes}
 use Rattle.plant_status.specs.declared.status.Status.{Status}
 use Rattle.tag_base.specs.declared.definition.Base.{Base}
 use Rattle.value_rows.specs.declared.raw.RawRow.{RawRow}

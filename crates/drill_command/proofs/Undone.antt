@@ -1,5 +1,5 @@
 -- What the phases of a drill come to, and what is told of it.
-use Rattle.std.proofs.Common.{◌≡◌, ◌≤◌, ◌+◌, ℕ, List, [], Bool, false, Result, Ok, Err, OnOk, IfErr, String, Global, arith, ap, length, sym, subst}
+use Rattle.std.proofs.Common.{◌≡◌, ◌≤◌, ℕ, List, false, Result, Ok, Err, OnOk, IfErr, String, Global, arith, ap, length, sym, subst}
 use Rattle.std.specs.Result.{is_err}
 use Rattle.plant_status.specs.declared.status.Status.{Status}
 use Rattle.plant_status.specs.declared.status.Status.TheVariants.{Done, BadWords, BadText, BadRow, ReadFault, WriteFault, DeviceFault, Damaged, OtherTag, Limit, Mismatch, Halted, WantOfMemory, OtherPlant, BadName}

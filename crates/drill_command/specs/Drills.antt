@@ -1,5 +1,5 @@
 -- What a drill comes to: its session, or why it holds none.
-use Rattle.std.specs.Prelude.{◌≡◌, ◌≢◌, ℕ, ◌/◌, ◌^◌, ◌<◌, List, [], All, length, map, replicate, slice_index_or, Option, Some, Result, IfErr, IfOk, String, string_bytes}
+use Rattle.std.specs.Prelude.{◌≡◌, ℕ, ◌/◌, ◌^◌, ◌<◌, List, [], All, length, replicate, slice_index_or, Option, Some, Result, IfErr, IfOk, String, string_bytes}
 use Rattle.std.specs.List.{AllZip}
 use Rattle.std.specs.declared.alloc.Global.{Global}
 use Rattle.trend_num.specs.declared.tag_def.TagDef.{TagDef}
@@ -20,14 +20,13 @@ use Rattle.book_store.specs.Groups.{Devices, parts_of, text_of}
 use Rattle.plant_status.specs.declared.status.Status.{Status}
 use Rattle.plant_status.specs.declared.status.Status.TheVariants.{DeviceFault, WantOfMemory}
 use Rattle.plant_store.specs.Closings.{CountsClosed}
-use Rattle.plant_store.specs.Openings.{IsPlantRefusal}
 use Rattle.tape_audit.specs.Agendas.{phase_item}
 use Rattle.session_files.specs.Plans.{IsGoodBase}
 use Rattle.session_report.specs.declared.session.Session.{Session}
 use Rattle.run_command.specs.declared.known.Given.{Given}
 use Rattle.run_command.specs.Headline.{AreGroupsSound, IsDoneSo, IsTagSound}
 use Rattle.run_command.specs.Refusals.{IsOfOpening}
-use Rattle.run_command.specs.Runs.{IsContinued, IsContinuedGroup, IsDone, IsOpen, IsOver, IsWorkIn}
+use Rattle.run_command.specs.Runs.{IsContinued, IsContinuedGroup, IsDone, IsOpen, IsOver, IsUnopened, IsWorkIn}
 use Rattle.drill_plant.specs.Plant.{IsDrillGroup, drill_tags}
 use Rattle.drill_plant.specs.Rows.{drill_rows_of}
 use Rattle.drill_command.specs.Phases.{AreNotesOfBoth, IsUndoneOfBoth}
@@ -142,14 +141,14 @@ pub record IsDrilled (number tags events : ℕ) (answer : Result (String Global)
 
 -- ---- no session
 
--- why the devices of a base are not out: a tag or a group is not opened; or memory is wanting before
-pub data IsUnopened (base : Base) (old new : Devices) (before now : ℕ) (why : Status) : Type 0 where
-  OfPlant : (cause : Status) → IsPlantRefusal base old new before now cause → why ≡ drill_status cause
-      → IsUnopened base old new before now why
-  OfWant : why ≡ WantOfMemory → IsUnopened base old new before now why
+-- why the devices of a base are not out, as a drill tells it
+pub record IsDrillUnopened (base : Base) (old new : Devices) (before now : ℕ) (why : Status) : Type 0 where
+  pub cause : Status
+  pub told : why ≡ drill_status cause
+  pub unopened : IsUnopened base old new before now cause
 
 -- why no session is held: the new devices are not opened; or memory is wanting before
 pub data IsUnheld (tags : ℕ) (why : Status) : Type 0 where
-  OfOpening : (base : Base) (new : Devices) (now : ℕ) → IsDrillBase tags base → IsUnopened base fresh new 0 now why
+  OfOpening : (base : Base) (new : Devices) (now : ℕ) → IsDrillBase tags base → IsDrillUnopened base fresh new 0 now why
       → IsUnheld tags why
   OfMemory : why ≡ WantOfMemory → IsUnheld tags why

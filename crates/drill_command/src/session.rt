@@ -1,5 +1,5 @@
 // The session of a drill in a store.
-ghost use Rattle.std.specs.Prelude.{◌≡◌, [], Err, ◌≤◌, IfErr, IfSome, None, OnOk, length, map, vec_len};
+ghost use Rattle.std.specs.Prelude.{◌≡◌, [], Err, ◌<◌, ◌≤◌, ◌^◌, ℕ, IfErr, IfSome, None, OnOk, length, map, vec_len};
 ghost use Rattle.std.specs.Option.{IsSome};
 ghost use Rattle.calc_refresh.specs.Lists.{lists_of};
 ghost use Rattle.book_store.specs.Groups.{Devices};
@@ -8,13 +8,13 @@ ghost use Rattle.plant_store.specs.Shelves.{HasPlacesOf, IsShelfFor};
 ghost use Rattle.session_files.specs.Plans.{IsGoodBase};
 ghost use Rattle.run_command.specs.Runs.{AreDefined, IsOpen};
 ghost use Rattle.run_command.specs.Steps.{AreGivenFor};
-ghost use Rattle.drill_command.specs.Drills.{IsRunInPhases, IsUnopened, drill_status};
+ghost use Rattle.drill_command.specs.Drills.{IsDrillUnopened, IsRunInPhases, drill_status};
 
 use crate::phases::hold_both;
 use disk_model::Store;
 use plant_status::{Passes, Status};
-use plant_store::{OpenPlant, Shelf, open_plant, shelf_for};
-use run_command::{Boarding, Given, Ran, boarding_for, close};
+use plant_store::{OpenPlant, Shelf};
+use run_command::{Given, OpenSession, Ran, close, open_session};
 use session_report::Session;
 use snapshot_table::Board;
 use std::alloc::Global;
@@ -43,30 +43,21 @@ pub(crate) fn hold_in<S: Store, P: Passes, R: Threads + Wait + Sync>(
     ensures session { IfSome result.session (IsRunInPhases S.Dev.trace S.Dev.ticks S.Dev.fault_count base.now first.now second.now
         (S.device_at store.old) (S.device_at store.new) (S.fault_count store.old) (S.fault_count store.new)
         (P.stops passes.old) (P.stops passes.new) result.answer) }
-    ensures unheld { result.session ≡ None → IfErr result.answer (IsUnopened base.now (S.device_at store.old) (S.device_at store.new)
-        (S.fault_count store.old) (S.fault_count store.new)) }
+    ensures unheld { result.session ≡ None → IfErr result.answer (IsDrillUnopened base.now (S.device_at store.old)
+        (S.device_at store.new) (S.fault_count store.old) (S.fault_count store.new)) }
     ensures unstopped { result.session ≡ None → P.stops passes.new ≡ P.stops passes.old }
 {
-    let Ok(shelf) = shelf_for(alloc, base) else {
-        return refused(Status::WantOfMemory);
-    };
-    let Ok(boarding) = boarding_for(rt, alloc, base.tags.len() as u32, 0) else {
-        return refused(Status::WantOfMemory);
-    };
-    let Boarding { board, posters, .. } = boarding;
-    match open_plant(
-        rt,
-        alloc,
-        store,
-        base,
-        &shelf,
-        &second.rooms,
-        &board,
-        posters,
-    ) {
-        Ok(open) => {
+    match open_session(rt, alloc, store, base, &second.rooms, 0) {
+        Ok(
+            OpenSession {
+                shelf,
+                board,
+                lookers: _lookers,
+                plant,
+            },
+        ) => {
             let (answer, session) = hold_open(
-                rt, alloc, store, passes, base, first, second, shelf, open, &board,
+                rt, alloc, store, passes, base, first, second, shelf, plant, &board,
             );
             Ran {
                 answer,
@@ -114,10 +105,10 @@ fn hold_open<S: Store, P: Passes, R: Threads + Wait + Sync>(
     requires books { vec_len plant.books ≡ length base.now.groups.items }
     requires defined { AreDefined base.now.groups.items plant.books.items }
     requires board { vec_len plant.cells ≤ length board.now }
-    ensures { (old : Devices) → IsOpen S.Dev.trace S.Dev.ticks S.Dev.fault_count base.now old plant.cells.items plant.books.items
-        → AreRestSame base.now old (S.device_at store.old)
+    ensures { (old : Devices) (before : ℕ) → IsOpen S.Dev.trace S.Dev.ticks S.Dev.fault_count base.now old plant.cells.items
+        plant.books.items → AreRestSame base.now old (S.device_at store.old) → (before < 2 ^ 64 → S.fault_count store.old ≡ before)
         → IsRunInPhases S.Dev.trace S.Dev.ticks S.Dev.fault_count base.now first.now second.now old (S.device_at store.new)
-        (S.fault_count store.old) (S.fault_count store.new) (P.stops passes.old) (P.stops passes.new) result.0 result.1 }
+        before (S.fault_count store.new) (P.stops passes.old) (P.stops passes.new) result.0 result.1 }
 {
     let OpenPlant { cells, books } = plant;
     let ended = hold_both(rt, alloc, cells, books, board, first, second, passes);

@@ -1,6 +1,6 @@
 -- What is answered of a session, beside what it came to.
-use Rattle.std.proofs.Common.{◌≡◌, List, Option, None, Some, Result, Ok, Err, OnOk, IfErr, IfOk, String, string_bytes, sym, subst}
-use Rattle.std.specs.Prelude.{IfSome}
+use Rattle.std.proofs.Common.{◌≡◌, ◌<◌, ℕ, List, Option, None, Some, Result, Ok, Err, OnOk, IfErr, IfOk, String, string_bytes, sym, subst}
+use Rattle.std.specs.Prelude.{◌^◌, IfSome}
 use Rattle.std.specs.declared.alloc.Global.{Global}
 use Rattle.plant_status.specs.declared.status.Status.{Status}
 use Rattle.tag_base.specs.declared.definition.Base.{Base}
@@ -9,6 +9,7 @@ use Rattle.tag_cell.specs.Told.{Told as Cell}
 use Rattle.group_book.specs.Told.{Told as Book}
 use Rattle.collector_pool.specs.declared.note.WorkerNote.{WorkerNote}
 use Rattle.group_session.specs.Pulls.{ArePulled}
+use Rattle.plant_store.specs.Closings.{CountsClosed}
 use Rattle.session_report.specs.declared.session.Session.{Session}
 use Rattle.run_command.specs.declared.known.Given.{Given}
 use Rattle.run_command.specs.Refusals.{IsOfOpening}
@@ -48,3 +49,10 @@ module _ (base : Base) (g : Given) (s : Session) where
       undone_told (Err why) (Err e) is undone =
           let same : e ≡ why = cc (is.refused) in
           subst (IsUndone g opened opened_books cells books notes) (sym same) undone
+
+-- where an opening counted no fault, those counted since are all that were counted since before it
+pub counted_since : {D : Type 0} (faults : D → ℕ) (cells : List (Cell D)) (books : List (Book D)) (before opened now : ℕ)
+    → (before < 2 ^ 64 → opened ≡ before) → (opened < 2 ^ 64 → CountsClosed faults cells books opened now) → before < 2 ^ 64
+    → CountsClosed faults cells books before now
+counted_since faults cells books before opened now same counts few =
+    subst (λ n. CountsClosed faults cells books n now) (same few) (counts (subst (λ n. n < 2 ^ 64) (sym (same few)) few))

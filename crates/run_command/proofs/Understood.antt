@@ -42,7 +42,7 @@ of_plant base old new before now (OfGroups cores opened (OfVersion i input found
 of_plant base old new before now (OfGroups cores opened (OfWindows i windows rows same at)) = cc same
 of_plant base old new before now (OfGroups cores opened (OfMemory same)) = cc same
 
-of_devices : (base : Base) (old new : Devices) (before now : ℕ) → runs.IsUnopened base old new before now BadWords → ⊥
+pub of_devices : (base : Base) (old new : Devices) (before now : ℕ) → runs.IsUnopened base old new before now BadWords → ⊥
 of_devices base old new before now (runs.OfPlant is kept) = of_plant base old new before now is
 of_devices base old new before now (runs.OfWant same untouched) = cc same
 

@@ -1,5 +1,5 @@
 // A session over devices that are open, until they are given back.
-ghost use Rattle.std.specs.Prelude.{◌≡◌, ◌<◌, ◌≤◌, ◌+◌, ◌^◌, All, length, map, vec_len};
+ghost use Rattle.std.specs.Prelude.{◌≡◌, ◌<◌, ◌≤◌, ◌+◌, ◌^◌, ℕ, All, length, map, vec_len};
 ghost use Rattle.calc_refresh.specs.Lists.{lists_of};
 ghost use Rattle.session_files.specs.Plans.{IsGoodBase};
 ghost use Rattle.snapshot_table.specs.Boards.{LooksAt};
@@ -47,10 +47,10 @@ pub(crate) fn hold_open<S: Store, P: Passes, R: Threads + Wait + Sync>(
     requires board { vec_len plant.cells ≤ length board.now }
     requires lookers { vec_len lookers ≡ vec_len given.now.work.readers }
     requires looks { All (LooksAt board.now) lookers.items }
-    ensures { (old : Devices) → IsOpen S.Dev.trace S.Dev.ticks S.Dev.fault_count base.now old plant.cells.items plant.books.items
-        → AreRestSame base.now old (S.device_at store.old)
+    ensures { (old : Devices) (before : ℕ) → IsOpen S.Dev.trace S.Dev.ticks S.Dev.fault_count base.now old plant.cells.items
+        plant.books.items → AreRestSame base.now old (S.device_at store.old) → (before < 2 ^ 64 → S.fault_count store.old ≡ before)
         → IsRun S.Dev.trace S.Dev.ticks S.Dev.fault_count base.now given.now old (S.device_at store.new)
-        (S.fault_count store.old) (S.fault_count store.new) (P.stops passes.old) (P.stops passes.new) result.0 result.1 }
+        before (S.fault_count store.new) (P.stops passes.old) (P.stops passes.new) result.0 result.1 }
 {
     let OpenPlant { cells, books } = plant;
     let ended = hold_phase(rt, alloc, cells, books, board, lookers, given, passes);

@@ -5,8 +5,8 @@
 //! memory, or which snapshot it was told: the cells and books are compared with what they were opened as, their tapes with the rows
 //! of the files, and what the tapes lack is done. Then the devices are given back, and the report is made of the histories.
 //!
-//! That is a session of one phase. [`hold_phase`] is one of several over the same cells and books, whose collectors go on where
-//! those of the phase before ended; [`close`] ends the session.
+//! That is a session of one phase. [`open_session`] begins one; [`hold_phase`] is one of several phases over the same cells and
+//! books, whose collectors go on where those of the phase before ended; [`close`] ends the session.
 #![tactic(auto)]
 
 mod boarding;
@@ -32,6 +32,6 @@ pub use given::given_of;
 pub use held::close;
 pub use known::Given;
 pub use phase::hold_phase;
-pub use plant::Ran;
+pub use plant::{OpenSession, Ran, open_session};
 pub use run::run_plan;
 pub use session::Ended;

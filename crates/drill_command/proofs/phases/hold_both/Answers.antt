@@ -1,4 +1,4 @@
-use Rattle.std.proofs.Common.{◌∙◌, [], Result, OnOk, refl, subst, sym}
+use Rattle.std.proofs.Common.{[], Result, OnOk, refl, subst, sym}
 use Rattle.std.specs.Prelude.{IfErr}
 use Rattle.std.proofs.lemmas.List.{append-nil}
 use Rattle.plant_status.specs.declared.status.Status.{Status}

@@ -6,7 +6,7 @@ use Rattle.collector_pool.specs.declared.note.WorkerNote.{WorkerNote}
 use Rattle.run_command.specs.Refusals.{IsOfOpening, IsOpening}
 use Rattle.run_command.specs.Runs.{IsDone}
 use Rattle.run_command.proofs.Continued.{inputs_of_base}
-use Rattle.run_command.proofs.Told.{done_told, opening_told}
+use Rattle.run_command.proofs.Told.{counted_since, done_told, opening_told}
 use Rattle.drill_command.specs.Phases.{AreNotesOfBoth, IsUndoneOfBoth}
 use Rattle.drill_command.proofs.Undone.{both_told, opening_kept}
 use Rattle.drill_command.proofs.session.hold_open.Goals as goal
@@ -18,7 +18,7 @@ hold_both-ended-requires-clause-inputs g c κs within =
     c.requires.defined
 
 pub returns-in-Ok : goal.returns-in-Ok
-returns-in-Ok g c old was rest =
+returns-in-Ok g c old before was rest same =
     let base = c.args.base.now in
     let second = c.args.second.now in
     let s = c.close-answer.result.1 in
@@ -33,7 +33,7 @@ returns-in-Ok g c old was rest =
       books = books;
       opening = was;
       over = c.close-answer.ensures.over old rest;
-      counts = c.close-answer.ensures.counts;
+      counts = counted_since g.S.Dev.Disk.fault_count cells books before _ _ same c.close-answer.ensures.counts;
       same_tags = λ none. c.hold_both-ended.ensures.same_cells
           (λ of. none (subst (λ (r : Result (String Global) Status). IsOfOpening r) c.in-Ok.is (opening_told base second s came _ told of)));
       same_groups = λ none. c.hold_both-ended.ensures.same_books
@@ -48,7 +48,7 @@ returns-in-Ok g c old was rest =
     }
 
 pub returns-in-Err : goal.returns-in-Err
-returns-in-Err g c old was rest =
+returns-in-Err g c old before was rest same =
     let base = c.args.base.now in
     let first = c.args.first.now in
     let second = c.args.second.now in
@@ -71,7 +71,7 @@ returns-in-Err g c old was rest =
       books = books;
       opening = was;
       over = c.close-answer.ensures.over old rest;
-      counts = c.close-answer.ensures.counts;
+      counts = counted_since g.S.Dev.Disk.fault_count cells books before _ _ same c.close-answer.ensures.counts;
       same_tags = λ none. c.hold_both-ended.ensures.same_cells
           (λ of. none (subst IsOpening (sym c.drill_status.ensures) (opening_kept c.in-Err.why
           (subst (λ (r : Result (String Global) Status). IsOfOpening r) c.in-Err.is (opening_told base second s came _ told of)))));

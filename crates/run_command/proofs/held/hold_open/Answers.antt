@@ -5,7 +5,7 @@ use Rattle.collector_pool.specs.declared.note.WorkerNote.{WorkerNote}
 use Rattle.run_command.specs.Runs.{IsUndone}
 use Rattle.run_command.specs.Sessions.{AreNotes}
 use Rattle.run_command.proofs.Continued.{inputs_of_base}
-use Rattle.run_command.proofs.Told.{done_told, opening_told, undone_told}
+use Rattle.run_command.proofs.Told.{counted_since, done_told, opening_told, undone_told}
 use Rattle.run_command.proofs.held.hold_open.Goals as goal
 
 pub hold_phase-ended-requires-clause-inputs : goal.hold_phase-ended-requires-clause-inputs
@@ -15,7 +15,7 @@ hold_phase-ended-requires-clause-inputs g c κs within =
     c.requires.defined
 
 pub returns : goal.returns
-returns g c old was rest =
+returns g c old before was rest same =
     let base = c.args.base.now in
     let given = c.args.given.now in
     let s = c.close.result.1 in
@@ -32,7 +32,7 @@ returns g c old was rest =
       books = books;
       opening = was;
       over = c.close.ensures.over old rest;
-      counts = c.close.ensures.counts;
+      counts = counted_since g.S.Dev.Disk.fault_count cells books before _ _ same c.close.ensures.counts;
       same_tags = λ none. c.hold_phase-ended.ensures.same_cells (λ of. none (opening_told base given s came _ told of));
       same_groups = λ none. c.hold_phase-ended.ensures.same_books (λ of. none (opening_told base given s came _ told of));
       notes = subst (λ (v : Vec WorkerNote Global). AreNotes g.row.S-Dev.Denot given.work (g.P.Passes.stops c.args.passes.now)
