@@ -177,7 +177,7 @@ returns-in_err-rows-clause-refused g c =
     let opened = subst (λ l. AreOpened l old cores) c.deref-3.ensures.value (c.in_ok-cores.ensures.opened distinct) in
     let others = subst (λ l. AreOthersSame l old mid) c.deref-3.ensures.value c.open_tags.ensures.others in
     let p = err_from_is_err_and c.from_residual-in_err-rows.result c.from_residual-in_err-rows.ensures.1 in
-    rw (p.1, p.2) (OfGroup base group place.group place.calc cores c.in_ok-base.ensures.base named opened
+    rw (p.1, p.2) (OfGroup base group place.group place.calc cores (record { read = c.in_ok-base.ensures.base; opened = opened }) named
     (refusal_before place.group group (records_of (tag_records cores) group) (trace_at old group) (trace_at mid group) before count now
     c.in_err-rows.field-0.0 (groups_same base.tags.items old mid others group) c.in_ok-cores.ensures.counts
     (subst (λ (l : List Core). IsRowsRefusal place.group group (records_of (tag_records l) group) (trace_at mid group) count now
@@ -248,9 +248,8 @@ returns-in-Ok-tell_frames-clause-text g c =
       cores = cores;
       saved = rows.saved.items;
       refreshed = rows.refreshed.items;
-      read = c.in_ok-base.ensures.base;
+      opened = record { read = c.in_ok-base.ensures.base; opened = opened };
       named = named;
-      opened = opened;
       rows = rows_before group place.calc (records_of (tag_records cores) group) (trace_at old group) (trace_at mid group) rows.saved.items
           rows.refreshed.items (groups_same base.tags.items old mid others group)
           (subst (λ (l : List Core). AreRows group place.calc (records_of (tag_records l) group) (trace_at mid group) rows.saved.items
@@ -291,8 +290,7 @@ returns-in-Ok-tell_frames-clause-durable g c =
     record {
       base = base;
       cores = cores;
-      read = c.in_ok-base.ensures.base;
-      opened = opened;
+      opened = record { read = c.in_ok-base.ensures.base; opened = opened };
       left = left_after base.tags.items cores old mid new (tags_same group mid new c.rows_of.ensures.others)
           (subst (λ l. AreLeft l old mid cores) c.deref-3.ensures.value (c.in_ok-cores.ensures.left distinct));
     }
