@@ -39,7 +39,8 @@ pub returns-in_err-cores-clause-refused : goal.returns-in_err-cores-clause-refus
 returns-in_err-cores-clause-refused g c =
     let base = c.in_ok-base.base in
     let place = c.in_ok-place.place in
-    let placed = subst (λ l. IsPlaced l c.args.group.now c.args.calc.now place.group place.calc) c.deref.ensures.value c.in_ok-place.ensures.placed in
+    let placed = subst (λ l. IsPlaced l c.args.group.now c.args.calc.now place.group place.calc)
+    c.deref.ensures.value c.in_ok-place.ensures.placed in
     let distinct = subst AreDistinct (sym c.deref-3.ensures.value) (distinct_tags base.tags.items c.in_ok-base.ensures.distinct) in
     let old = g.S.Store.device_at c.args.store.now in
     let mid = g.S.Store.device_at c.open_tags.new.store in
@@ -54,7 +55,8 @@ pub returns-in_err-cores-clause-kept : goal.returns-in_err-cores-clause-kept
 returns-in_err-cores-clause-kept g c =
     let base = c.in_ok-base.base in
     let place = c.in_ok-place.place in
-    let placed = subst (λ l. IsPlaced l c.args.group.now c.args.calc.now place.group place.calc) c.deref.ensures.value c.in_ok-place.ensures.placed in
+    let placed = subst (λ l. IsPlaced l c.args.group.now c.args.calc.now place.group place.calc)
+    c.deref.ensures.value c.in_ok-place.ensures.placed in
     let told = g.F.Files.told c.args.files.now in
     let old = g.S.Store.device_at c.args.store.now in
     let mid = g.S.Store.device_at c.open_tags.new.store in
@@ -101,7 +103,8 @@ pub index-requires : goal.index-requires
 index-requires g c =
     let base = c.in_ok-base.base in
     let place = c.in_ok-place.place in
-    let placed = subst (λ l. IsPlaced l c.args.group.now c.args.calc.now place.group place.calc) c.deref.ensures.value c.in_ok-place.ensures.placed in
+    let placed = subst (λ l. IsPlaced l c.args.group.now c.args.calc.now place.group place.calc)
+    c.deref.ensures.value c.in_ok-place.ensures.placed in
     let below = slice_get_within base.groups.items place.group placed.0 placed.1.there in
     omega (arith, below, base.groups.ok.0)
 
@@ -109,7 +112,8 @@ pub index-requires-2 : goal.index-requires-2
 index-requires-2 g c =
     let base = c.in_ok-base.base in
     let place = c.in_ok-place.place in
-    let placed = subst (λ l. IsPlaced l c.args.group.now c.args.calc.now place.group place.calc) c.deref.ensures.value c.in_ok-place.ensures.placed in
+    let placed = subst (λ l. IsPlaced l c.args.group.now c.args.calc.now place.group place.calc)
+    c.deref.ensures.value c.in_ok-place.ensures.placed in
     let below = slice_get_within base.groups.items place.group placed.0 placed.1.there in
     let are = subst (λ l. AreNamesOf l c.in-Ok.names.items) c.deref-2.ensures.value c.in-Ok.ensures.names in
     let many = as_many base.groups.items c.in-Ok.names.items are in
@@ -119,7 +123,8 @@ pub rows_of-requires-clause-name : goal.rows_of-requires-clause-name
 rows_of-requires-clause-name g c κs within =
     let base = c.in_ok-base.base in
     let place = c.in_ok-place.place in
-    let placed = subst (λ l. IsPlaced l c.args.group.now c.args.calc.now place.group place.calc) c.deref.ensures.value c.in_ok-place.ensures.placed in
+    let placed = subst (λ l. IsPlaced l c.args.group.now c.args.calc.now place.group place.calc)
+    c.deref.ensures.value c.in_ok-place.ensures.placed in
     let below = slice_get_within base.groups.items place.group placed.0 placed.1.there in
     let are = subst (λ l. AreNamesOf l c.in-Ok.names.items) c.deref-2.ensures.value c.in-Ok.ensures.names in
     let group = c.index.result.now in
@@ -131,19 +136,23 @@ pub rows_of-requires-clause-sound : goal.rows_of-requires-clause-sound
 rows_of-requires-clause-sound g c κs within =
     let base = c.in_ok-base.base in
     let place = c.in_ok-place.place in
-    let placed = subst (λ l. IsPlaced l c.args.group.now c.args.calc.now place.group place.calc) c.deref.ensures.value c.in_ok-place.ensures.placed in
+    let placed = subst (λ l. IsPlaced l c.args.group.now c.args.calc.now place.group place.calc)
+    c.deref.ensures.value c.in_ok-place.ensures.placed in
     let below = slice_get_within base.groups.items place.group placed.0 placed.1.there in
     let group = c.index.result.now in
-    let sound = subst (λ (x : GroupDef). IsSound (length base.tags.items) x) (sym c.index.ensures) (c.in_ok-base.ensures.sound place.group group below) in
+    let sound = subst (λ (x : GroupDef). IsSound (length base.tags.items) x) (sym c.index.ensures)
+    (c.in_ok-base.ensures.sound place.group group below) in
     let many : length base.tags.items ≡ length c.deref-4.result.now =
-    sym (ap (length {A = Core}) c.deref-4.ensures.value ∙ c.in_ok-cores.ensures.as_many ∙ ap (length {A = TagDef}) c.deref-3.ensures.value) in
+    sym (ap (length {A = Core}) c.deref-4.ensures.value ∙ c.in_ok-cores.ensures.as_many
+    ∙ ap (length {A = TagDef}) c.deref-3.ensures.value) in
     subst (λ n. IsSound n group) many sound
 
 pub rows_of-requires-clause-place : goal.rows_of-requires-clause-place
 rows_of-requires-clause-place g c κs within =
     let base = c.in_ok-base.base in
     let place = c.in_ok-place.place in
-    let placed = subst (λ l. IsPlaced l c.args.group.now c.args.calc.now place.group place.calc) c.deref.ensures.value c.in_ok-place.ensures.placed in
+    let placed = subst (λ l. IsPlaced l c.args.group.now c.args.calc.now place.group place.calc)
+    c.deref.ensures.value c.in_ok-place.ensures.placed in
     let below = slice_get_within base.groups.items place.group placed.0 placed.1.there in
     omega (arith, below, base.few_groups, base.groups.ok.0)
 
@@ -151,7 +160,8 @@ pub rows_of-requires-clause-calc : goal.rows_of-requires-clause-calc
 rows_of-requires-clause-calc g c κs within =
     let base = c.in_ok-base.base in
     let place = c.in_ok-place.place in
-    let placed = subst (λ l. IsPlaced l c.args.group.now c.args.calc.now place.group place.calc) c.deref.ensures.value c.in_ok-place.ensures.placed in
+    let placed = subst (λ l. IsPlaced l c.args.group.now c.args.calc.now place.group place.calc)
+    c.deref.ensures.value c.in_ok-place.ensures.placed in
     let group = c.index.result.now in
     let named = named_group base.groups.items c.args.group.now c.args.calc.now place.group place.calc group placed c.index.ensures in
     omega (
@@ -164,7 +174,8 @@ pub returns-in_err-rows-clause-refused : goal.returns-in_err-rows-clause-refused
 returns-in_err-rows-clause-refused g c =
     let base = c.in_ok-base.base in
     let place = c.in_ok-place.place in
-    let placed = subst (λ l. IsPlaced l c.args.group.now c.args.calc.now place.group place.calc) c.deref.ensures.value c.in_ok-place.ensures.placed in
+    let placed = subst (λ l. IsPlaced l c.args.group.now c.args.calc.now place.group place.calc)
+    c.deref.ensures.value c.in_ok-place.ensures.placed in
     let group = c.index.result.now in
     let named = named_group base.groups.items c.args.group.now c.args.calc.now place.group place.calc group placed c.index.ensures in
     let distinct = subst AreDistinct (sym c.deref-3.ensures.value) (distinct_tags base.tags.items c.in_ok-base.ensures.distinct) in
@@ -187,7 +198,8 @@ pub returns-in_err-rows-clause-kept : goal.returns-in_err-rows-clause-kept
 returns-in_err-rows-clause-kept g c =
     let base = c.in_ok-base.base in
     let place = c.in_ok-place.place in
-    let placed = subst (λ l. IsPlaced l c.args.group.now c.args.calc.now place.group place.calc) c.deref.ensures.value c.in_ok-place.ensures.placed in
+    let placed = subst (λ l. IsPlaced l c.args.group.now c.args.calc.now place.group place.calc)
+    c.deref.ensures.value c.in_ok-place.ensures.placed in
     let group = c.index.result.now in
     let named = named_group base.groups.items c.args.group.now c.args.calc.now place.group place.calc group placed c.index.ensures in
     let told = g.F.Files.told c.args.files.now in
@@ -220,17 +232,20 @@ pub tell_frames-requires-clause-period : goal.tell_frames-requires-clause-period
 tell_frames-requires-clause-period g c =
     let base = c.in_ok-base.base in
     let place = c.in_ok-place.place in
-    let placed = subst (λ l. IsPlaced l c.args.group.now c.args.calc.now place.group place.calc) c.deref.ensures.value c.in_ok-place.ensures.placed in
+    let placed = subst (λ l. IsPlaced l c.args.group.now c.args.calc.now place.group place.calc)
+    c.deref.ensures.value c.in_ok-place.ensures.placed in
     let below = slice_get_within base.groups.items place.group placed.0 placed.1.there in
     let group = c.index.result.now in
-    let sound = subst (λ (x : GroupDef). IsSound (length base.tags.items) x) (sym c.index.ensures) (c.in_ok-base.ensures.sound place.group group below) in
+    let sound = subst (λ (x : GroupDef). IsSound (length base.tags.items) x) (sym c.index.ensures)
+    (c.in_ok-base.ensures.sound place.group group below) in
     sound.some_period
 
 pub returns-in-Ok-tell_frames-clause-text : goal.returns-in-Ok-tell_frames-clause-text
 returns-in-Ok-tell_frames-clause-text g c =
     let base = c.in_ok-base.base in
     let place = c.in_ok-place.place in
-    let placed = subst (λ l. IsPlaced l c.args.group.now c.args.calc.now place.group place.calc) c.deref.ensures.value c.in_ok-place.ensures.placed in
+    let placed = subst (λ l. IsPlaced l c.args.group.now c.args.calc.now place.group place.calc)
+    c.deref.ensures.value c.in_ok-place.ensures.placed in
     let group = c.index.result.now in
     let named = named_group base.groups.items c.args.group.now c.args.calc.now place.group place.calc group placed c.index.ensures in
     let distinct = subst AreDistinct (sym c.deref-3.ensures.value) (distinct_tags base.tags.items c.in_ok-base.ensures.distinct) in
@@ -264,7 +279,8 @@ pub returns-in-Ok-tell_frames-clause-kept : goal.returns-in-Ok-tell_frames-claus
 returns-in-Ok-tell_frames-clause-kept g c =
     let base = c.in_ok-base.base in
     let place = c.in_ok-place.place in
-    let placed = subst (λ l. IsPlaced l c.args.group.now c.args.calc.now place.group place.calc) c.deref.ensures.value c.in_ok-place.ensures.placed in
+    let placed = subst (λ l. IsPlaced l c.args.group.now c.args.calc.now place.group place.calc)
+    c.deref.ensures.value c.in_ok-place.ensures.placed in
     let group = c.index.result.now in
     let named = named_group base.groups.items c.args.group.now c.args.calc.now place.group place.calc group placed c.index.ensures in
     let told = g.F.Files.told c.args.files.now in
@@ -299,7 +315,8 @@ pub returns-clause-kept : goal.returns-clause-kept
 returns-clause-kept g c =
     let base = c.in_ok-base.base in
     let place = c.in_ok-place.place in
-    let placed = subst (λ l. IsPlaced l c.args.group.now c.args.calc.now place.group place.calc) c.deref.ensures.value c.in_ok-place.ensures.placed in
+    let placed = subst (λ l. IsPlaced l c.args.group.now c.args.calc.now place.group place.calc)
+    c.deref.ensures.value c.in_ok-place.ensures.placed in
     let group = c.index.result.now in
     let named = named_group base.groups.items c.args.group.now c.args.calc.now place.group place.calc group placed c.index.ensures in
     let told = g.F.Files.told c.args.files.now in

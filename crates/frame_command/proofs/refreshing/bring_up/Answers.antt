@@ -41,7 +41,8 @@ returns-clause-rows c =
     omega (arith, length-map c.args.records.now (λ r. r.now), c.requires.inputs, c.requires.shape.versions_are) in
     both_rows group versions rows recovered c.in_ok-sheet.sheet c.refresh.new.sheet c.requires.grid many
     (subst (λ l. AreWithin l recovered) c.deref.ensures.value c.in_ok-sheet.ensures.within)
-    (c.in_ok-sheet.ensures.sheet ∙ ap (λ l. fresh group.calcs (grid_of group.start group.period) (cut l recovered) rows) c.deref.ensures.value)
+    (c.in_ok-sheet.ensures.sheet
+    ∙ ap (λ l. fresh group.calcs (grid_of group.start group.period) (cut l recovered) rows) c.deref.ensures.value)
     c.in_ok-refresh.ensures.refreshed c.args.place.calc c.in-Ok.saved.items c.in-Ok-row_of.refreshed.items
     c.in-Ok.ensures.row c.in-Ok.ensures.complete c.in-Ok-row_of.ensures.row c.in-Ok-row_of.ensures.complete
 
@@ -56,6 +57,7 @@ returns-clause-times c =
     let some : 0 < length recovered = omega (arith, as_many, c.requires.inputs, c.requires.group.some_inputs) in
     times_then group versions rows recovered c.in_ok-sheet.sheet c.refresh.new.sheet c.requires.grid many
     (subst (λ l. AreWithin l recovered) c.deref.ensures.value c.in_ok-sheet.ensures.within)
-    (c.in_ok-sheet.ensures.sheet ∙ ap (λ l. fresh group.calcs (grid_of group.start group.period) (cut l recovered) rows) c.deref.ensures.value)
+    (c.in_ok-sheet.ensures.sheet
+    ∙ ap (λ l. fresh group.calcs (grid_of group.start group.period) (cut l recovered) rows) c.deref.ensures.value)
     c.in_ok-refresh.ensures.refreshed (length c.in-Ok-row_of.refreshed.items) some
     (All-map IsCopy (λ r. r.now) c.args.records.now c.requires.copied) c.in-Ok-row_of.ensures.complete
