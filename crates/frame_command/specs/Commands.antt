@@ -10,19 +10,19 @@ use Rattle.plant_status.specs.declared.status.Status.TheVariants.{WantOfMemory}
 use Rattle.plant_files.specs.Asked.{ToldFiles}
 use Rattle.plant_files.specs.Texts.{IsBaseFile, IsBaseRefusal}
 use Rattle.tag_store.specs.Refusals.{IsRefusal}
-use Rattle.tag_store.specs.Tags.{AllStaySame, AreOpened}
+use Rattle.tag_store.specs.Tags.{AllStaySame}
 use Rattle.tag_store.specs.Tags as tag
 use Rattle.group_book.specs.Openings.{StaysSame}
 use Rattle.book_store.specs.Groups.{parts_of, records_of, text_of, trace_at}
 use Rattle.book_store.specs.Groups as group
-use Rattle.store_commands.specs.Commands.{AreUntouched, Devices}
+use Rattle.store_commands.specs.Commands.{AreUntouched, Devices, IsOpenedBase}
 use Rattle.store_commands.specs.GroupRows.{tag_records}
 use Rattle.frame_command.specs.Lines.{TellsFrames}
 use Rattle.frame_command.specs.Names.{IsNamed, IsNameRefusal}
 use Rattle.frame_command.specs.Rows.{AreRows, IsRowsRefusal}
 
--- the base was read of the file of this name, the names stand for the calculation at place k of the group at place i, the tags are
--- opened, these are the saved row of the calculation and the refreshed one, and the text tells of their frames
+-- a base was read and opened, the names stand for the calculation at place k of the group at place i, these are the saved row of the
+-- calculation and the refreshed one, and the text tells of their frames
 pub record IsFrames (name group_name calc_name : List ℕ) (least : ℕ) (told : ToldFiles) (old : Devices) (text : List ℕ) : Type 0 where
   pub base : Base
   pub g : GroupDef
@@ -31,9 +31,8 @@ pub record IsFrames (name group_name calc_name : List ℕ) (least : ℕ) (told :
   pub cores : List Core
   pub saved : List CalcValue
   pub refreshed : List CalcValue
-  pub read : IsBaseFile (told name) base
+  pub opened : IsOpenedBase name told old base cores
   pub named : IsNamed base.groups.items group_name calc_name g i k
-  pub opened : AreOpened base.tags.items old cores
   pub rows : AreRows g k (records_of (tag_records cores) g) (trace_at old g) saved refreshed
   pub tells : TellsFrames g least saved refreshed text
 
@@ -48,8 +47,8 @@ pub data IsFramesRefusal (name group_name calc_name : List ℕ) (told : ToldFile
   OfTag : (base : Base) (g : GroupDef) (i k : ℕ) → IsBaseFile (told name) base
       → IsNamed base.groups.items group_name calc_name g i k → IsRefusal base.tags.items old new before now why
       → IsFramesRefusal name group_name calc_name told old new before now why
-  OfGroup : (base : Base) (g : GroupDef) (i k : ℕ) (cores : List Core) → IsBaseFile (told name) base
-      → IsNamed base.groups.items group_name calc_name g i k → AreOpened base.tags.items old cores
+  OfGroup : (base : Base) (g : GroupDef) (i k : ℕ) (cores : List Core) → IsOpenedBase name told old base cores
+      → IsNamed base.groups.items group_name calc_name g i k
       → IsRowsRefusal i g (records_of (tag_records cores) g) (trace_at old g) before now why
       → IsFramesRefusal name group_name calc_name told old new before now why
   OfMemory : why ≡ WantOfMemory → IsFramesRefusal name group_name calc_name told old new before now why

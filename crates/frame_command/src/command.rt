@@ -44,26 +44,14 @@ pub fn frames<F: Files, S: Store>(
     ensures counts { S.fault_count store.old < 2 ^ 64
         → CountsDevices result (S.fault_count store.old) (S.fault_count store.new) }
 {
-    let base = match base_of(alloc, files, name) {
-        Ok(base) => base,
-        Err(why) => return Err(why),
-    };
-    let place = match place_of(&base.groups, group, calc) {
-        Ok(place) => place,
-        Err(why) => return Err(why),
-    };
+    let base = base_of(alloc, files, name)?;
+    let place = place_of(&base.groups, group, calc)?;
     let Ok(names) = device_names(alloc, &base.groups) else {
         return Err(Status::WantOfMemory);
     };
-    let cores = match open_tags(alloc, store, &base.tags) {
-        Ok(cores) => cores,
-        Err(why) => return Err(why),
-    };
+    let cores = open_tags(alloc, store, &base.tags)?;
     let (group, device) = (&base.groups[place.group], names[place.group].as_str());
-    let rows = match rows_of(alloc, store, place, group, device, &cores) {
-        Ok(rows) => rows,
-        Err(why) => return Err(why),
-    };
+    let rows = rows_of(alloc, store, place, group, device, &cores)?;
     match tell_frames(alloc, group, least, &rows.saved, &rows.refreshed) {
         Ok(text) => Ok(text),
         Err(_) => Err(Status::WantOfMemory),

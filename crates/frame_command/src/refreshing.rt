@@ -67,10 +67,7 @@ pub(crate) fn rows_of<S: Store>(
     let Ok(records) = records_of(alloc, &group.inputs, cores) else {
         return Err(Status::WantOfMemory);
     };
-    let saved = match saved_of(alloc, store, place.group as u32, group, name) {
-        Ok(saved) => saved,
-        Err(why) => return Err(why),
-    };
+    let saved = saved_of(alloc, store, place.group as u32, group, name)?;
     bring_up(alloc, place, group, saved, &records)
 }
 
@@ -98,17 +95,11 @@ fn bring_up(
 {
     let SavedGroup { versions, rows, .. } = saved;
     let calc = place.calc as u32;
-    let mut sheet = match sheet_of(alloc, place.group as u32, group, &versions, rows, records) {
-        Ok(sheet) => sheet,
-        Err(why) => return Err(why),
-    };
+    let mut sheet = sheet_of(alloc, place.group as u32, group, &versions, rows, records)?;
     let Ok(saved) = row_of(alloc, &sheet, calc) else {
         return Err(Status::WantOfMemory);
     };
-    match refresh(alloc, &mut sheet, &versions, records) {
-        Ok(()) => {}
-        Err(why) => return Err(why),
-    }
+    refresh(alloc, &mut sheet, &versions, records)?;
     let Ok(refreshed) = row_of(alloc, &sheet, calc) else {
         return Err(Status::WantOfMemory);
     };
@@ -139,10 +130,7 @@ fn sheet_of(
     let Ok(def) = parts_of(group) else {
         return Err(Status::WantOfMemory);
     };
-    let copies = match first_records(alloc, place, versions, records) {
-        Ok(copies) => copies,
-        Err(why) => return Err(why),
-    };
+    let copies = first_records(alloc, place, versions, records)?;
     match from_saved(alloc, &def, copies, rows) {
         Ok(sheet) => Ok(sheet),
         Err(SheetNo::Shape { windows, rows }) => Err(Status::Mismatch {

@@ -13,7 +13,7 @@ use value_rows::RawRow;
 pub(crate) fn none_found(alloc: Global, collectors: usize) -> Result<Vec<usize>, WantOfMemory>
     ensures { IfOk result (λ next. next.items ≡ replicate collectors 0) }
 {
-    vec![in alloc; 0usize; collectors].map_err(|_| WantOfMemory)
+    Ok(vec![in alloc; 0usize; collectors]?)
 }
 
 // Finds the puts of a tape among the rows of the collectors' files. `next` tells of each collector how many of its rows were found.

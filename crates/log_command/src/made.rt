@@ -32,9 +32,7 @@ pub(crate) fn put_missing<D: Disk>(
 {
     let total = row_total(files);
     for collector in 0..files.len() {
-        if let Err(why) = put_file(log, files, next, collector, total) {
-            return Err(why);
-        }
+        put_file(log, files, next, collector, total)?;
     }
     Ok(())
 }
@@ -71,9 +69,7 @@ fn put_file<D: Disk>(
     ensures refused { IfErr result (IsPutRefusal D.fault_count (total_rows (lists_of files.now)) log.new) }
 {
     for place in next[collector]..files[collector].len() {
-        if let Err(why) = put_next(log, files, next, collector, total) {
-            return Err(why);
-        }
+        put_next(log, files, next, collector, total)?;
     }
     Ok(())
 }
@@ -101,13 +97,9 @@ fn put_next<D: Disk>(
     let Some(row) = row_at(&files[collector], collector as u32, next[collector]) else {
         unreachable!()
     };
-    match put_row(log, row, total) {
-        Ok(()) => {
-            next[collector] += 1;
-            Ok(())
-        }
-        Err(why) => Err(why),
-    }
+    put_row(log, row, total)?;
+    next[collector] += 1;
+    Ok(())
 }
 
 // Puts a row. So many rows are to be put in all, and fewer were.

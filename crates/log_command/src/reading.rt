@@ -34,20 +34,9 @@ pub(crate) fn read_files<F: Files>(
     ensures faults { F.fault_count files.new ≡ faults_after result (F.fault_count files.old) }
     ensures whose { IfErr result (IsFaultOfPlanned name.now plan_name.now (F.told files.old) (F.failed_name files.new)) }
 {
-    let base = match base_of(alloc, files, name) {
-        Ok(base) => base,
-        Err(why) => return Err(why),
-    };
-    let plan = match plan_of(alloc, files, plan_name, &base) {
-        Ok(plan) => plan,
-        Err(why) => return Err(why),
-    };
-    let rows = match rows_of(alloc, files, &plan, &base) {
-        Ok(rows) => rows,
-        Err(why) => return Err(why),
-    };
-    match check_row_count(&rows) {
-        Ok(()) => Ok(LogFiles { base, plan, rows }),
-        Err(why) => Err(why),
-    }
+    let base = base_of(alloc, files, name)?;
+    let plan = plan_of(alloc, files, plan_name, &base)?;
+    let rows = rows_of(alloc, files, &plan, &base)?;
+    check_row_count(&rows)?;
+    Ok(LogFiles { base, plan, rows })
 }

@@ -27,9 +27,7 @@ pub(crate) fn report(alloc: Global, tags: &[TagDef], log: &LogHistory) -> Result
     let Ok(mut cores) = new_cores(alloc, tags, &rows) else {
         return Err(Status::WantOfMemory);
     };
-    if let Err(why) = take_all(&mut cores, tags, &rows) {
-        return Err(why);
-    }
+    take_all(&mut cores, tags, &rows)?;
     match check_text(alloc, tags, &cores) {
         Ok(text) => Ok(text),
         Err(_) => Err(Status::WantOfMemory),
@@ -114,9 +112,7 @@ fn take_on<L: Ledger>(
 {
     let mut steps = Steps::<L>::new(blank);
     for place in 0..rows.len() {
-        if let Err(why) = take_row(cores, tags, rows, place, &mut steps) {
-            return Err(why);
-        }
+        take_row(cores, tags, rows, place, &mut steps)?;
     }
     Ok(())
 }

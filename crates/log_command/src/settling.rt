@@ -34,15 +34,11 @@ pub(crate) fn settle<D: Disk>(
     ensures known { (IsOfOpening result → ⊥) → IsAsKnown log.new known.now }
     ensures refused { IfErr result (IsSettlingRefusal D.fault_count (lists_of files.now) notes.now known.now log.new) }
 {
-    if let Err(why) = compare_log(log, known) {
-        return Err(why);
-    }
+    compare_log(log, known)?;
     let Ok(mut next) = none_found(alloc, files.len()) else {
         return Err(Status::WantOfMemory);
     };
-    if let Err(why) = find_puts(log.tape(), files, &mut next) {
-        return Err(why);
-    }
+    find_puts(log.tape(), files, &mut next)?;
     complete(log, files, &mut next, notes)
 }
 
@@ -61,11 +57,7 @@ fn complete<D: Disk>(
     ensures same { IsSameLog log.old log.new }
     ensures refused { IfErr result (IsRestRefusal D.fault_count (lists_of files.now) notes.now log.new) }
 {
-    if let Err(why) = check_endings(notes) {
-        return Err(why);
-    }
-    if let Err(why) = put_missing(log, files, next) {
-        return Err(why);
-    }
+    check_endings(notes)?;
+    put_missing(log, files, next)?;
     commit_rest(log)
 }

@@ -79,7 +79,7 @@ module _ (name plan_name : List ℕ) (told : ToldFiles) (old new : Devices) (bef
   trend_not_done (OfPlan base read refused same) = refused
   trend_not_done (OfReader base plan read planned refused same) = (refused done_is_not_memory).first.refused
   trend_not_done (OfTag base plan lists read planned asked refused) = refused
-  trend_not_done (OfGroup base plan lists cores read planned asked opened refused) = rows_not_done base.groups.items _ _ _ _ refused
+  trend_not_done (OfGroup base plan lists cores opened planned asked refused) = rows_not_done base.groups.items _ _ _ _ refused
   trend_not_done (OfMemory same) = cc
 
   pub trend_no_fault : IsTrendRefusal name plan_name told old new before now WriteFault → ⊥
@@ -87,7 +87,7 @@ module _ (name plan_name : List ℕ) (told : ToldFiles) (old new : Devices) (bef
   trend_no_fault (OfPlan base read refused same) = refused
   trend_no_fault (OfReader base plan read planned refused same) = (refused fault_is_not_memory).first.refused
   trend_no_fault (OfTag base plan lists read planned asked refused) = refused
-  trend_no_fault (OfGroup base plan lists cores read planned asked opened refused) = rows_no_output base.groups.items _ _ _ _ refused
+  trend_no_fault (OfGroup base plan lists cores opened planned asked refused) = rows_no_output base.groups.items _ _ _ _ refused
   trend_no_fault (OfMemory same) = cc
 
   -- a device fault is told where one was counted
@@ -106,7 +106,7 @@ module _ (name plan_name : List ℕ) (told : ToldFiles) (old new : Devices) (bef
   trend_rose few (Tag i) (OfTag base plan lists read planned asked refused) = refused.cause few
   trend_rose few (Group i) (OfTag base plan lists read planned asked refused) = absurd refused
   trend_rose few Log (OfTag base plan lists read planned asked refused) = absurd refused
-  trend_rose few unit (OfGroup base plan lists cores read planned asked opened refused) =
+  trend_rose few unit (OfGroup base plan lists cores opened planned asked refused) =
       rows_rose base.groups.items _ _ before now few unit refused
   trend_rose few unit (OfMemory same) = cc
 
@@ -116,13 +116,13 @@ module _ (name group calc : List ℕ) (told : ToldFiles) (old new : Devices) (be
   frames_not_done (frame.OfName base read (frame_names.NoGroup is none) same) = cc
   frames_not_done (frame.OfName base read (frame_names.NoCalculation g is there named none) same) = cc
   frames_not_done (frame.OfTag base g i k read named refused) = refused
-  frames_not_done (frame.OfGroup base g i k cores read named opened (frame_rows.OfFault is cause)) = cc
-  frames_not_done (frame.OfGroup base g i k cores read named opened (frame_rows.OfDamage at byte is shows)) = cc
-  frames_not_done (frame.OfGroup base g i k cores read named opened (frame_rows.OfVersion input found version is shows)) = cc
-  frames_not_done (frame.OfGroup base g i k cores read named opened (frame_rows.OfWindows windows rows is shows)) = cc
-  frames_not_done (frame.OfGroup base g i k cores read named opened (frame_rows.OfCells number is many above)) = cc
-  frames_not_done (frame.OfGroup base g i k cores read named opened (frame_rows.OfCopies number is many above)) = cc
-  frames_not_done (frame.OfGroup base g i k cores read named opened (frame_rows.OfMemory is)) = cc
+  frames_not_done (frame.OfGroup base g i k cores opened named (frame_rows.OfFault is cause)) = cc
+  frames_not_done (frame.OfGroup base g i k cores opened named (frame_rows.OfDamage at byte is shows)) = cc
+  frames_not_done (frame.OfGroup base g i k cores opened named (frame_rows.OfVersion input found version is shows)) = cc
+  frames_not_done (frame.OfGroup base g i k cores opened named (frame_rows.OfWindows windows rows is shows)) = cc
+  frames_not_done (frame.OfGroup base g i k cores opened named (frame_rows.OfCells number is many above)) = cc
+  frames_not_done (frame.OfGroup base g i k cores opened named (frame_rows.OfCopies number is many above)) = cc
+  frames_not_done (frame.OfGroup base g i k cores opened named (frame_rows.OfMemory is)) = cc
   frames_not_done (frame.OfMemory is) = cc
 
   pub frames_no_fault : frame.IsFramesRefusal name group calc told old new before now WriteFault → ⊥
@@ -130,13 +130,13 @@ module _ (name group calc : List ℕ) (told : ToldFiles) (old new : Devices) (be
   frames_no_fault (frame.OfName base read (frame_names.NoGroup is none) same) = cc
   frames_no_fault (frame.OfName base read (frame_names.NoCalculation g is there named none) same) = cc
   frames_no_fault (frame.OfTag base g i k read named refused) = refused
-  frames_no_fault (frame.OfGroup base g i k cores read named opened (frame_rows.OfFault is cause)) = cc
-  frames_no_fault (frame.OfGroup base g i k cores read named opened (frame_rows.OfDamage at byte is shows)) = cc
-  frames_no_fault (frame.OfGroup base g i k cores read named opened (frame_rows.OfVersion input found version is shows)) = cc
-  frames_no_fault (frame.OfGroup base g i k cores read named opened (frame_rows.OfWindows windows rows is shows)) = cc
-  frames_no_fault (frame.OfGroup base g i k cores read named opened (frame_rows.OfCells number is many above)) = cc
-  frames_no_fault (frame.OfGroup base g i k cores read named opened (frame_rows.OfCopies number is many above)) = cc
-  frames_no_fault (frame.OfGroup base g i k cores read named opened (frame_rows.OfMemory is)) = cc
+  frames_no_fault (frame.OfGroup base g i k cores opened named (frame_rows.OfFault is cause)) = cc
+  frames_no_fault (frame.OfGroup base g i k cores opened named (frame_rows.OfDamage at byte is shows)) = cc
+  frames_no_fault (frame.OfGroup base g i k cores opened named (frame_rows.OfVersion input found version is shows)) = cc
+  frames_no_fault (frame.OfGroup base g i k cores opened named (frame_rows.OfWindows windows rows is shows)) = cc
+  frames_no_fault (frame.OfGroup base g i k cores opened named (frame_rows.OfCells number is many above)) = cc
+  frames_no_fault (frame.OfGroup base g i k cores opened named (frame_rows.OfCopies number is many above)) = cc
+  frames_no_fault (frame.OfGroup base g i k cores opened named (frame_rows.OfMemory is)) = cc
   frames_no_fault (frame.OfMemory is) = cc
 
   pub frames_rose : before < 2 ^ 64 → (unit : Unit) → frame.IsFramesRefusal name group calc told old new before now (DeviceFault unit) → Rose before now
@@ -146,13 +146,13 @@ module _ (name group calc : List ℕ) (told : ToldFiles) (old new : Devices) (be
   frames_rose few (Tag n) (frame.OfTag base g i k read named refused) = refused.cause few
   frames_rose few (Group n) (frame.OfTag base g i k read named refused) = absurd refused
   frames_rose few Log (frame.OfTag base g i k read named refused) = absurd refused
-  frames_rose few unit (frame.OfGroup base g i k cores read named opened (frame_rows.OfFault is cause)) = cause few
-  frames_rose few unit (frame.OfGroup base g i k cores read named opened (frame_rows.OfDamage at byte is shows)) = cc
-  frames_rose few unit (frame.OfGroup base g i k cores read named opened (frame_rows.OfVersion input found version is shows)) = cc
-  frames_rose few unit (frame.OfGroup base g i k cores read named opened (frame_rows.OfWindows windows rows is shows)) = cc
-  frames_rose few unit (frame.OfGroup base g i k cores read named opened (frame_rows.OfCells number is many above)) = cc
-  frames_rose few unit (frame.OfGroup base g i k cores read named opened (frame_rows.OfCopies number is many above)) = cc
-  frames_rose few unit (frame.OfGroup base g i k cores read named opened (frame_rows.OfMemory is)) = cc
+  frames_rose few unit (frame.OfGroup base g i k cores opened named (frame_rows.OfFault is cause)) = cause few
+  frames_rose few unit (frame.OfGroup base g i k cores opened named (frame_rows.OfDamage at byte is shows)) = cc
+  frames_rose few unit (frame.OfGroup base g i k cores opened named (frame_rows.OfVersion input found version is shows)) = cc
+  frames_rose few unit (frame.OfGroup base g i k cores opened named (frame_rows.OfWindows windows rows is shows)) = cc
+  frames_rose few unit (frame.OfGroup base g i k cores opened named (frame_rows.OfCells number is many above)) = cc
+  frames_rose few unit (frame.OfGroup base g i k cores opened named (frame_rows.OfCopies number is many above)) = cc
+  frames_rose few unit (frame.OfGroup base g i k cores opened named (frame_rows.OfMemory is)) = cc
   frames_rose few unit (frame.OfMemory is) = cc
 
 -- ---- a run for whose words no memory was found

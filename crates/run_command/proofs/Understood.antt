@@ -30,7 +30,7 @@ of_files name plan_name told (plans.OfBase is) = is
 of_files name plan_name told (plans.OfPlan base read is) = is
 of_files name plan_name told (plans.OfCollector base plan read planned is) = (is (λ same. cc same)).refused
 of_files name plan_name told (plans.OfReader base plan rows read planned fed is) = (is (λ same. cc same)).first.refused
-of_files name plan_name told (plans.OfRows base plan rows read planned fed is) = cc (is.told)
+of_files name plan_name told (plans.OfRows base plan rows lists read planned fed asked is) = cc (is.told)
 of_files name plan_name told (plans.OfMemory same) = cc same
 
 -- no device either

@@ -9,25 +9,23 @@ use Rattle.plant_status.specs.declared.file.FileId.TheVariants as file
 use Rattle.plant_files.specs.Asked.{ToldFiles}
 use Rattle.plant_files.specs.Texts.{IsBaseFile, IsBaseRefusal, tag_names}
 use Rattle.tag_store.specs.Refusals.{IsRefusal}
-use Rattle.tag_store.specs.Tags.{AreOpened}
-use Rattle.store_commands.specs.Commands.{AreUntouched, Devices}
+use Rattle.store_commands.specs.Commands.{AreUntouched, Devices, IsOpenedBase}
 use Rattle.shift_calendar.specs.Calendars.{Parts}
 use Rattle.shift_calendar.specs.Windows.{AreWindows, shifts_over}
 use Rattle.shift_calendar.specs.declared.window.ShiftWindow.{ShiftWindow}
 use Rattle.shift_command.specs.CalendarFile.{IsCalendarFile, IsCalendarRefusal}
 use Rattle.shift_command.specs.Lines.{AreShiftLines}
 
--- the base and the calendar were read of the files of these names, the tags are opened, these are the windows of the shifts of so many
--- days from a day on, and the text is their lines
+-- a base was read and opened, the calendar was read of the file of its name, these are the windows of the shifts of so many days from
+-- a day on, and the text is their lines
 pub record IsShifts (name calendar_name : List ℕ) (day : ℤ) (days : ℕ) (told : ToldFiles) (old : Devices) (text : List ℕ)
     : Type 0 where
   pub base : Base
   pub cal : Parts
   pub cores : List Core
   pub windows : List ShiftWindow
-  pub read : IsBaseFile (told name) base
+  pub opened : IsOpenedBase name told old base cores
   pub calendar : IsCalendarFile (tag_names base.tags.items) (told calendar_name) cal
-  pub opened : AreOpened base.tags.items old cores
   pub shifts : AreWindows cal.zone (shifts_over cal.starts day days) windows
   pub lines : AreShiftLines base.tags.items cores cal windows text
 

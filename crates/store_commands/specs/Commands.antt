@@ -29,14 +29,18 @@ Devices = List ℕ → Option Trace
 abbrev pub AreUntouched : Devices → Devices → Type 0
 AreUntouched old new = (n : List ℕ) → new n ≡ old n
 
+-- the base was read of the file of this name, and its tags are opened as these cores
+pub record IsOpenedBase (name : List ℕ) (told : ToldFiles) (old : Devices) (base : Base) (cores : List Core) : Type 0 where
+  pub read : IsBaseFile (told name) base
+  pub opened : AreOpened base.tags.items old cores
+
 -- ---- check
 
--- the base was read of the file of this name, its tags are opened, and this is a line for each
+-- a base was read and opened, and this is a line for each of its tags
 pub record IsChecked (name : List ℕ) (told : ToldFiles) (old : Devices) (text : List ℕ) : Type 0 where
   pub base : Base
   pub cores : List Core
-  pub read : IsBaseFile (told name) base
-  pub opened : AreOpened base.tags.items old cores
+  pub opened : IsOpenedBase name told old base cores
   pub same : text ≡ check_text base.tags.items cores
 
 -- the base is refused, and no device has changed; or its tags are. No memory may be found at any time
@@ -47,28 +51,27 @@ IsCheckRefusal name told old new before now why = (IsBaseRefusal (told name) why
 
 -- ---- what a command that is done leaves
 
--- the tags of the base that was read are opened, and a crash now leaves of each device what recovers its tag as it is opened; a
--- device that was new has a whole layout
+-- a base was read and opened, and a crash now leaves of each device what recovers its tag as it is opened; a device that was new
+-- has a whole layout
 pub record IsDurable (name : List ℕ) (told : ToldFiles) (old new : Devices) : Type 0 where
   pub base : Base
   pub cores : List Core
-  pub read : IsBaseFile (told name) base
-  pub opened : AreOpened base.tags.items old cores
+  pub opened : IsOpenedBase name told old base cores
   pub left : AreLeft base.tags.items old new cores
 
 -- ---- trend
 
--- the plan and the files of its readers were read, the tags are opened, these are the rows of the groups, and these the replies
+-- a base was read and opened, the plan and the files of its readers were read, these are the rows of the groups, and these the
+-- replies
 pub record IsTrend (name plan_name : List ℕ) (told : ToldFiles) (old : Devices) (text : List ℕ) : Type 0 where
   pub base : Base
   pub plan : Plan
   pub lists : List (List Query)
   pub cores : List Core
   pub groups : List Rows
-  pub read : IsBaseFile (told name) base
+  pub opened : IsOpenedBase name told old base cores
   pub planned : IsPlanFile base.groups.items (told plan_name) plan
   pub asked : AreQueries base told plan.readers.items lists
-  pub opened : AreOpened base.tags.items old cores
   pub rows : AreGroupsTold base.groups.items (tag_records cores) old groups
   pub same : text ≡ trend_text cores groups lists
 
@@ -84,9 +87,9 @@ pub data IsTrendRefusal (name plan_name : List ℕ) (told : ToldFiles) (old new 
   OfTag : (base : Base) (plan : Plan) (lists : List (List Query)) → IsBaseFile (told name) base
       → IsPlanFile base.groups.items (told plan_name) plan → AreQueries base told plan.readers.items lists
       → IsRefusal base.tags.items old new before now why → IsTrendRefusal name plan_name told old new before now why
-  OfGroup : (base : Base) (plan : Plan) (lists : List (List Query)) (cores : List Core) → IsBaseFile (told name) base
+  OfGroup : (base : Base) (plan : Plan) (lists : List (List Query)) (cores : List Core) → IsOpenedBase name told old base cores
       → IsPlanFile base.groups.items (told plan_name) plan → AreQueries base told plan.readers.items lists
-      → AreOpened base.tags.items old cores → IsRowsRefusal base.groups.items (tag_records cores) old before now why
+      → IsRowsRefusal base.groups.items (tag_records cores) old before now why
       → IsTrendRefusal name plan_name told old new before now why
   OfMemory : why ≡ WantOfMemory → IsTrendRefusal name plan_name told old new before now why
 

@@ -1,5 +1,5 @@
 use Rattle.std.proofs.Common.{◌≡◌, ◌∙◌, [], List, ap, get_or, map, subst}
-use Rattle.std.proofs.lemmas.Result.{IfErr-weaker, IfOk-weaker}
+use Rattle.std.proofs.lemmas.Result.{err_from_is_err_and, IfErr-weaker, IfOk-weaker}
 use Rattle.trend_num.specs.declared.archive.Rec.{Rec}
 use Rattle.calc_refresh.specs.Lists.{lists_of}
 use Rattle.book_store.specs.Groups.{records_of, trace_at}
@@ -13,15 +13,17 @@ use Rattle.frame_command.proofs.refreshing.rows_of.Goals as goal
 pub returns-in_default-clause-same : goal.returns-in_default-clause-same
 returns-in_default-clause-same g c = still c.args.group.now _
 
-pub returns-in-Err-clause-refused : goal.returns-in-Err-clause-refused
-returns-in-Err-clause-refused g c = of_saved _ _ _ _ _ _ c.in-Err.why c.in-Err.ensures.refused
+pub returns-in_err-saved-clause-refused : goal.returns-in_err-saved-clause-refused
+returns-in_err-saved-clause-refused g c =
+    let p = err_from_is_err_and c.from_residual.result c.from_residual.ensures.1 in
+    rw (p.1, p.2) (of_saved _ _ _ _ _ _ c.in_err-saved.field-0.0 c.in_err-saved.ensures.refused)
 
 pub returns-clause-rows : goal.returns-clause-rows
 returns-clause-rows g c =
     let group = c.args.group.now in
     let k = c.args.place.calc in
     let records = tag_records c.args.cores.now in
-    let saved = c.in-Ok-saved_of.saved in
+    let saved = c.in_ok-saved.saved in
     let o = trace_at (g.S.Store.device_at c.args.store.now) group in
     let lists : map (λ r. r.now) c.deref-2.result.now ≡ records_of records group =
     ap (map (λ r. r.now)) c.deref-2.ensures.value ∙ c.in-Ok.ensures.records
@@ -33,7 +35,7 @@ returns-clause-rows g c =
     (λ rows are. record {
       versions = saved.versions.items;
       rows = lists_of saved.rows.items;
-      stood = c.in-Ok-saved_of.ensures.stood;
+      stood = c.in_ok-saved.ensures.stood;
       are = subst (λ (l : List (List Rec)). AreRefreshed group k saved.versions.items (lists_of saved.rows.items) l rows.saved.items
           rows.refreshed.items) lists are;
     })
@@ -44,7 +46,7 @@ returns-clause-refused g c =
     let group = c.args.group.now in
     let i = c.args.place.group in
     let records = tag_records c.args.cores.now in
-    let saved = c.in-Ok-saved_of.saved in
+    let saved = c.in_ok-saved.saved in
     let o = trace_at (g.S.Store.device_at c.args.store.now) group in
     let before = g.S.Store.fault_count c.args.store.now in
     let now = g.S.Store.fault_count c.saved_of.new.store in
@@ -55,6 +57,6 @@ returns-clause-refused g c =
     (IsBringRefusal i group saved.versions.items (lists_of saved.rows.items) (map (λ r. r.now) c.deref-2.result.now))
     (IsRowsRefusal i group (records_of records group) o before now)
     (λ why is. of_bring i group saved.versions.items (lists_of saved.rows.items) (records_of records group) o before now why
-    c.in-Ok-saved_of.ensures.stood
+    c.in_ok-saved.ensures.stood
     (subst (λ (l : List (List Rec)). IsBringRefusal i group saved.versions.items (lists_of saved.rows.items) l why) lists is))
     c.bring_up.ensures.refused

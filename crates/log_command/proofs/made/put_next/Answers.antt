@@ -31,9 +31,9 @@ pub overflow_add-next : goal.overflow_add-next
 overflow_add-next g c =
     omega (arith, c.in-Some.ensures.within, c.deref.ensures.len, c.index-files-collector.result.ok, c.index-files-collector.result.small)
 
-pub returns-in-Ok-clause-found : goal.returns-in-Ok-clause-found
-returns-in-Ok-clause-found g c =
+pub returns-clause-found : goal.returns-clause-found
+returns-clause-found g c =
     row_found c.args.files.now c.args.collector c.in-Some.row (slice_index c.args.next.now c.args.collector) c.requires.known
     (next_is c.args.files.now c.args.collector _ c.index-files-collector.result c.deref.result.now (Some c.in-Some.row) c.requires.known
     c.index-files-collector.is c.deref.ensures.value c.in-Some.ensures.row) c.args.log.now c.put_row.new.log c.args.next.now _
-    c.requires.rows c.requires.found refl c.in-Ok.ensures.put refl
+    c.requires.rows c.requires.found refl c.in_ok-put_row.ensures.put refl

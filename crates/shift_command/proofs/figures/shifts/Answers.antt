@@ -84,9 +84,8 @@ returns-in-Ok-clause-text g c =
       cal = cal;
       cores = cores;
       windows = told.0;
-      read = c.in_ok-base.ensures.base;
+      opened = record { read = c.in_ok-base.ensures.base; opened = c.in_ok-cores.ensures.opened };
       calendar = rw (← c.in_ok-base.ensures.stays) c.in_ok-calendar.ensures.calendar;
-      opened = c.in_ok-cores.ensures.opened;
       shifts = subst (λ day. AreWindows cal.zone (shifts_over cal.starts day c.args.days) told.0)
           (to_z-of_z w32 c.args.day c.ranges.day) told.1;
       lines = subst (λ l. AreShiftLines base.tags.items l cal told.0 text) c.deref-2.ensures.value
@@ -101,8 +100,7 @@ pub returns-in-Ok-clause-durable : goal.returns-in-Ok-clause-durable
 returns-in-Ok-clause-durable g c = record {
   base = c.in_ok-base.base;
   cores = c.in_ok-cores.cores.items;
-  read = c.in_ok-base.ensures.base;
-  opened = c.in_ok-cores.ensures.opened;
+  opened = record { read = c.in_ok-base.ensures.base; opened = c.in_ok-cores.ensures.opened };
   left = c.in_ok-cores.ensures.left;
 }
 

@@ -31,7 +31,8 @@ returns-in_err-cores-clause-refused g c =
     let stays = c.in_ok-plan.ensures.stays ∙ c.in_ok-base.ensures.stays in
     let p = err_from_is_err_and c.from_residual-in_err-cores.result c.from_residual-in_err-cores.ensures.1 in
     rw (p.1, p.2) (OfTag base plan c.in_ok-readers.readers.items c.in_ok-base.ensures.base
-    (rw (← c.in_ok-base.ensures.stays) c.in_ok-plan.ensures.plan) (rw (← stays) c.in_ok-readers.ensures.queries) c.in_err-cores.ensures.refused)
+    (rw (← c.in_ok-base.ensures.stays) c.in_ok-plan.ensures.plan) (rw (← stays) c.in_ok-readers.ensures.queries)
+    c.in_err-cores.ensures.refused)
 
 pub returns-in_err-groups-clause-refused : goal.returns-in_err-groups-clause-refused
 returns-in_err-groups-clause-refused g c =
@@ -47,9 +48,9 @@ returns-in_err-groups-clause-refused g c =
     let refused_cores = subst (λ l. IsRowsRefusal base.groups.items (tag_records l) mid (g.S.Store.fault_count c.open_base.new.store)
     (g.S.Store.fault_count c.histories_of.new.store) c.in_err-groups.field-0.0) c.deref-2.ensures.value refused in
     let p = err_from_is_err_and c.from_residual-in_err-groups.result c.from_residual-in_err-groups.ensures.1 in
-    rw (p.1, p.2) (OfGroup base plan c.in_ok-readers.readers.items cores c.in_ok-base.ensures.base
+    rw (p.1, p.2) (OfGroup base plan c.in_ok-readers.readers.items cores
+    (record { read = c.in_ok-base.ensures.base; opened = c.in_ok-cores.ensures.opened })
     (rw (← c.in_ok-base.ensures.stays) c.in_ok-plan.ensures.plan) (rw (← stays) c.in_ok-readers.ensures.queries)
-    c.in_ok-cores.ensures.opened
     (rows_before base.groups.items (tag_records cores) old mid (groups_same base.tags.items old mid c.open_base.ensures.others) _ _ _
     c.in_err-groups.field-0.0 c.in_ok-cores.ensures.counts refused_cores))
 
@@ -96,10 +97,9 @@ returns-in-Ok-clause-text g c =
       lists = c.in_ok-readers.readers.items;
       cores = cores;
       groups = rows_in groups;
-      read = c.in_ok-base.ensures.base;
+      opened = record { read = c.in_ok-base.ensures.base; opened = c.in_ok-cores.ensures.opened };
       planned = rw (← c.in_ok-base.ensures.stays) c.in_ok-plan.ensures.plan;
       asked = rw (← stays) c.in_ok-readers.ensures.queries;
-      opened = c.in_ok-cores.ensures.opened;
       rows = told_before base.groups.items (tag_records cores) old mid (groups_same base.tags.items old mid c.open_base.ensures.others)
           (rows_in groups)
           (subst (λ l. AreGroupsTold base.groups.items (tag_records l) mid (rows_in groups)) c.deref-2.ensures.value
@@ -146,8 +146,7 @@ pub returns-in-Ok-clause-durable : goal.returns-in-Ok-clause-durable
 returns-in-Ok-clause-durable g c = record {
   base = c.in_ok-base.base;
   cores = c.in_ok-cores.cores.items;
-  read = c.in_ok-base.ensures.base;
-  opened = c.in_ok-cores.ensures.opened;
+  opened = record { read = c.in_ok-base.ensures.base; opened = c.in_ok-cores.ensures.opened };
   left = left_after c.in_ok-base.base.tags.items c.in_ok-cores.cores.items (g.S.Store.device_at c.args.store.now)
       (g.S.Store.device_at c.open_base.new.store) (g.S.Store.device_at c.histories_of.new.store)
       (tags_same c.in_ok-base.base.groups.items _ _ (subst (λ l. group.AreOthersSame l (g.S.Store.device_at c.open_base.new.store)
