@@ -12,9 +12,9 @@ use Rattle.device_layout.proofs.layout_reader.read_stored.Goals as goal
 
 pub returns-in_err-summary-clause-cause : goal.returns-in_err-summary-clause-cause
 returns-in_err-summary-clause-cause g c def layout =
-    let same = c.in_ok-counting_slot.ensures.same in
+    let same = c.in_ok-slot.ensures.same in
     let counts = shows _ _ (λ c'. counting c' ≡ Some c.in-Some.slot) (λ c' is. is
-    ∙ c.in-Some.is) c.in_ok-counting_slot.ensures.slot in
+    ∙ c.in-Some.is) c.in_ok-slot.ensures.slot in
     let p = err_from_is_err_and c.from_residual-in_err-summary.result c.from_residual-in_err-summary.ensures.1 in
     rw (p.1, p.2)
     (cause_before def _ _ _ same
@@ -27,8 +27,8 @@ returns-clause-found g c def layout =
     let slots = c.args.header.now.slots in
     let slot = c.in-Some.slot in
     let s = c.in_ok-summary.summary in
-    let same = c.in_ok-counting_slot.ensures.same in
-    let counts = shows _ _ (λ c'. counting c' ≡ Some slot) (λ c' is. is ∙ c.in-Some.is) c.in_ok-counting_slot.ensures.slot in
+    let same = c.in_ok-slot.ensures.same in
+    let counts = shows _ _ (λ c'. counting c' ≡ Some slot) (λ c' is. is ∙ c.in-Some.is) c.in_ok-slot.ensures.slot in
     let bytes = shows_before _ _ (λ c'. slot_bytes c' slot ≡ summary_image s) same c.in_ok-summary.ensures.bytes in
     let has = counts_shown def _ slots _ slot s _ layout counts c.in_ok-summary.ensures.whole bytes c.in_force-tuning.ensures in
     stored_shown def _ slots slot s c.in_force-tuning.result _ has
@@ -41,9 +41,9 @@ returns-in_err-recs-clause-cause g c def layout =
     let slots = c.args.header.now.slots in
     let slot = c.in-Some.slot in
     let s = c.in_ok-summary.summary in
-    let same = c.in_ok-counting_slot.ensures.same in
+    let same = c.in_ok-slot.ensures.same in
     let both = c.in_ok-summary.ensures.same ∙ same in
-    let counts = shows _ _ (λ c'. counting c' ≡ Some slot) (λ c' is. is ∙ c.in-Some.is) c.in_ok-counting_slot.ensures.slot in
+    let counts = shows _ _ (λ c'. counting c' ≡ Some slot) (λ c' is. is ∙ c.in-Some.is) c.in_ok-slot.ensures.slot in
     let bytes = shows_before _ _ (λ c'. slot_bytes c' slot ≡ summary_image s) same c.in_ok-summary.ensures.bytes in
     let has = counts_shown def _ slots _ slot s c.in_force-tuning.result layout counts c.in_ok-summary.ensures.whole bytes
     c.in_force-tuning.ensures in
