@@ -2,7 +2,7 @@
 use Rattle.std.proofs.Common.{ℕ, ◌<◌, inl, inr, List, length, get_or, set, refl, sym, subst, ◌∙◌}
 use Rattle.std.proofs.lemmas.Bool.{cases_eq}
 use Rattle.std.proofs.lemmas.List.{get_or-set_same, get_or-set_other, get_or_default, length-set}
-use Rattle.group_session.specs.Books.{AreEach}
+use Rattle.plant_session.specs.Each.{AreEach}
 
 pub each_refl : {C : Type 0} (R : C → C → Type 0) → ((c : C) → R c c) → (all : List C) → AreEach R all all
 each_refl R same all = record { as_many = refl; each = λ i d. same (get_or all i d) }
