@@ -16,8 +16,9 @@ use Rattle.group_book.specs.declared.turn.Turn.{Turn}
 use Rattle.group_book.specs.declared.turn.Turn.TheVariants as turn
 use Rattle.group_book.specs.Told.{Told}
 use Rattle.group_session.specs.Asking.{IsRowAnswered}
-use Rattle.group_session.specs.Books.{AreEach, IsAsk, IsAskedMore, IsKnownRowAsk, tape_of}
-use Rattle.group_session.proofs.Each.{each_refl, each_set}
+use Rattle.plant_session.specs.Each.{AreEach}
+use Rattle.group_session.specs.Books.{IsAsk, IsAskedMore, IsKnownRowAsk, tape_of}
+use Rattle.plant_session.proofs.Each.{each_refl, each_set}
 
 -- ---- books that were asked
 

@@ -13,7 +13,7 @@ use Rattle.group_session.specs.Inputs.{AreInputs, IsInputsOf}
 use Rattle.run_command.specs.Copies.{IsCopied, IsCopiedGroup}
 use Rattle.run_command.specs.Runs.{AreDefined, IsContinued, IsContinuedGroup}
 use Rattle.run_command.specs.Steps.{AreAsKept, AreInputsFor}
-use Rattle.run_command.proofs.GroupDevices.{element}
+use Rattle.plant_status.proofs.Elements.{element}
 
 -- lists that are related place by place are as long
 pub zip_length : {A B : Type 0} (R : A → B → Type 0) (xs : List A) (ys : List B) → AllZip R xs ys → length ys ≡ length xs

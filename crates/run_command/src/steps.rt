@@ -2,7 +2,7 @@
 ghost use Rattle.std.specs.Prelude.{◌^◌, ◌<◌, IfErr, OnOk, length};
 ghost use Rattle.calc_refresh.specs.Lists.{lists_of};
 ghost use Rattle.plant_session.specs.Starting.{AreUnfound};
-ghost use Rattle.group_session.specs.Books.{AreEach};
+ghost use Rattle.plant_session.specs.Each.{AreEach};
 ghost use Rattle.group_session.specs.Inputs.{AreInputs};
 ghost use Rattle.group_session.specs.Pulls.{ArePulled};
 ghost use Rattle.run_command.specs.Refusals.{IsFindingRefusal, IsMakingRefusal, IsRefused};

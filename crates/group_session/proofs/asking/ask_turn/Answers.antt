@@ -3,10 +3,11 @@ use Rattle.std.proofs.lemmas.List.{get_or_default}
 use Rattle.tape_audit.specs.Agendas.{row_item}
 use Rattle.plant_session.specs.Workers.{IsOver}
 use Rattle.plant_session.proofs.Turns.{all_known, caught_past_row, caught_row, due_next, found_turn, others_stay, over_turn, row_within}
-use Rattle.group_session.specs.Books.{AreEach, IsAskedMore, tape_of}
+use Rattle.plant_session.specs.Each.{AreEach}
+use Rattle.group_session.specs.Books.{IsAskedMore, tape_of}
 use Rattle.group_session.specs.Tapes.{row_ask_of}
 use Rattle.group_session.proofs.AskTurns.{answered_more, answered_turn, asked_refl, caught_other, group_there, missing_row_ask}
-use Rattle.group_session.proofs.Each.{each_refl}
+use Rattle.plant_session.proofs.Each.{each_refl}
 use Rattle.group_session.proofs.asking.ask_turn.Goals as goal
 
 pub returns-in_default : goal.returns-in_default

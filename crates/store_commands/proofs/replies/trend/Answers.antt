@@ -6,7 +6,8 @@ use Rattle.store_commands.specs.Commands.{OfGroup, OfPlan, OfReader, OfTag}
 use Rattle.store_commands.specs.GroupRows.{AreGroupsTold, IsRowsRefusal, tag_records}
 use Rattle.store_commands.proofs.Commands.{as_many_lists}
 use Rattle.store_commands.proofs.Faults.{of_base, of_none, of_plan, of_reader, group_is_no_fault, tag_is_no_fault}
-use Rattle.store_commands.proofs.Stores.{groups_same, kept_after, left_after, rest_same, rows_before, same_before, same_untouched, tags_same, told_before}
+use Rattle.book_store.proofs.Devices.{same_untouched}
+use Rattle.store_commands.proofs.Stores.{groups_same, kept_after, left_after, rest_same, rows_before, same_before, tags_same, told_before}
 use Rattle.store_commands.proofs.replies.trend.Goals as goal
 
 pub returns-in_err-plan-clause-refused : goal.returns-in_err-plan-clause-refused

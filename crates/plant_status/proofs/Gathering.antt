@@ -1,16 +1,8 @@
--- Passes are given back, and notes kept.
-use Rattle.std.proofs.Common.{◌≡◌, ℕ, suc, List, [], ◌∷◌, ◌++◌, length, map, refl, sym, ◌∙◌, ap, subst, arith, append_assoc, take, drop}
+-- The passes of workers are given back, and their notes kept.
+use Rattle.std.proofs.Common.{◌≡◌, ℕ, suc, List, [], ◌∷◌, ◌++◌, length, map, fold, refl, sym, ◌∙◌, ap, subst, arith, append_assoc, take, drop}
 use Rattle.std.specs.Prelude.{All}
 use Rattle.std.proofs.lemmas.Grind.{common_steps}
-use Rattle.plant_status.specs.Pass.{sum_of_counts}
-use Rattle.collector_pool.specs.declared.note.WorkerNote.{WorkerNote}
-use Rattle.collector_pool.specs.Notes.{halts, stops_with}
-
--- the stops with those of one worker more
-pub stops_with_more : (stops : ℕ) (notes : List WorkerNote) (n : WorkerNote)
-    → stops_with stops (notes ++ n ∷ []) ≡ sum_of_counts (stops_with stops notes) (halts n.ending)
-stops_with_more stops [] n = refl
-stops_with_more stops (x ∷ notes) n = stops_with_more (sum_of_counts stops (halts x.ending)) notes n
+use Rattle.plant_status.specs.Pass.{sum_from, sum_of_counts}
 
 -- what holds of all holds of the first
 pub all_first : {A : Type 0} (P : A → Type 0) (all : List A) (x : A) (xs : List A) → all ≡ x ∷ xs → All P all → P x
@@ -30,3 +22,14 @@ one_moved f notes all xs x whole was is = append_assoc notes (f x ∷ []) (map f
 pub whole_again : {A : Type 0} (n : ℕ) (xs ys : List A) → length ys ≡ length xs → n ≡ length xs
     → take n (ys ++ drop (length ys) xs) ≡ ys
 whole_again n xs ys same count = grind (arith, common_steps)
+
+-- the stops that passes have counted are those that the notes tell, where each note tells those of its pass
+pub stops_told : {S N : Type 0} (counted : S → ℕ) (note : S → N) (told : N → ℕ) (seats : List S) (before : ℕ)
+    → All (λ s. counted s ≡ told (note s)) seats
+    → sum_from before (map counted seats) ≡ fold (λ count n. sum_of_counts count (told n)) before (map note seats)
+stops_told counted note told [] before are = refl
+stops_told counted note told (s ∷ seats) before are =
+    let first : counted s ≡ told (note s) = are 0 s (omega arith) in
+    let rest = all_rest (λ s. counted s ≡ told (note s)) (s ∷ seats) s seats refl are in
+    ap (λ n. sum_from (sum_of_counts before n) (map counted seats)) first
+    ∙ stops_told counted note told seats (sum_of_counts before (told (note s))) rest
