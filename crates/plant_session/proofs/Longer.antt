@@ -1,8 +1,9 @@
 -- Cells that have gained entries of a kind, one after another.
-use Rattle.std.proofs.Common.{◌≡◌, ◌⊎◌, ℕ, ◌<◌, inl, inr, List, [], ◌++◌, length, get_or, set, Some, true, refl, sym, ap, ◌∙◌, arith, append-nil, append_assoc}
+use Rattle.std.proofs.Common.{◌≡◌, ◌⊎◌, ℕ, zero, suc, ◌<◌, inl, inr, All, List, [], ◌∷◌, ◌++◌, length, get_or, set, Some, true, refl, sym, ap, subst, ◌∙◌, arith, append-nil, append_assoc}
+use Rattle.std.specs.Prelude.{slice_get}
 use Rattle.std.proofs.lemmas.List.{get_or-set_same, length-set}
 use Rattle.std.proofs.lemmas.List.Elements.{All-append}
-use Rattle.std.proofs.lemmas.Option.{slice_get-get_or}
+use Rattle.std.proofs.lemmas.Option.{get_or_from_slice_get, slice_get-get_or, slice_get_within}
 use Rattle.tag_cell.specs.declared.entry.Entry.{Entry}
 use Rattle.tag_cell.specs.declared.entry.CommitNo.{CommitNo}
 use Rattle.tag_cell.specs.declared.entry.CommitNo.TheVariants as commit
@@ -44,6 +45,28 @@ pub longer_set : {D : Type 0} (IsOf : Entry → Type 0) (first now : List (Told 
     → tag < length now → IsLonger IsOf (get_or now tag d) c → AreLonger IsOf first now → AreLonger IsOf first (set now tag c)
 longer_set IsOf first now tag c d within step before =
     each_set (IsLonger IsOf) (longer_trans IsOf) first now tag c d within step before
+
+-- one entry of a kind
+one_entry : (IsOf : Entry → Type 0) (e : Entry) → IsOf e → All IsOf (e ∷ [])
+one_entry IsOf e is = λ k d below. at k d below
+  where
+    at : (k : ℕ) (d : Entry) → k < 1 → IsOf (get_or (e ∷ []) k d)
+    at zero d below = is
+    at (suc k) d below = absurd (omega (arith, below))
+
+-- the cell of a tag gained one
+pub entry_longer : {D : Type 0} (IsOf : Entry → Type 0) (tag : ℕ) (e : Entry) (old new : List (Told D)) (before after : Told D)
+    → slice_get old tag ≡ Some before → new ≡ set old tag after → IsOf e → after.tape ≡ before.tape ++ e ∷ []
+    → after.def ≡ before.def → after.opening ≡ before.opening → AreLonger IsOf old new
+entry_longer IsOf tag e old new before after there changed is tape same_def same_opening =
+    subst (AreLonger IsOf old) (sym changed) (longer_set IsOf old old tag after before (slice_get_within old tag before there)
+    (subst (λ c. IsLonger IsOf c after) (sym (get_or_from_slice_get old tag before before there)) (record {
+      more = e ∷ [];
+      each = one_entry IsOf e is;
+      tape = tape;
+      same_def = same_def;
+      same_opening = same_opening;
+    })) (all_longer IsOf old))
 
 -- the cell of a tag that was just looked at
 so_here : {D : Type 0} (P : Told D → Type 0) (now : List (Told D)) (tag : ℕ) (c : Told D) → tag < length now → P c
