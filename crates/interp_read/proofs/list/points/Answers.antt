@@ -26,8 +26,10 @@ listed c =
     let left = left_over ps start end stop 256 (omega arith) few within in
     let long = ap length is in (
       c.in_ok-list.ensures ∙ (copied_first ps start end stop 256 (omega arith) few ∙ ap (take 256) (sym is)),
-      (λ h. let some = left.0 (ltb-true stop end h) in omega (arith, some, long),
-      λ h. lt-ltb stop end (left.1 (omega (arith, h, long)))),
+      (
+        λ h. let some = left.0 (ltb-true stop end h) in omega (arith, some, long),
+        λ h. lt-ltb stop end (left.1 (omega (arith, h, long))),
+      ),
     )
 
 pub returns-clause-list : goal.returns-clause-list
