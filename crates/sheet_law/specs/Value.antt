@@ -11,7 +11,7 @@ use Rattle.trend_num.specs.declared.value.Bad.TheVariants.{NoData}
 use Rattle.trend_num.specs.declared.value.CalcValue.{CalcValue}
 use Rattle.trend_num.specs.declared.value.CalcValue.TheVariants.{Bad}
 use Rattle.calc_check.specs.Group.{Group, names_of}
-use Rattle.calc_eval.specs.Number.{bounded, measured_value, after, operated, compared}
+use Rattle.sheet_law.specs.Number.{bounded, measured_value, after, operated, compared}
 
 -- what names stand for: inputs for points that rise in time, earlier calculations for values
 pub record Scope : Type 0 where

@@ -13,9 +13,9 @@ use Rattle.calc_parser.proofs.RoundTrip.{round_trip}
 use Rattle.trend_num.specs.declared.value.Bad.TheVariants.{NoData}
 use Rattle.trend_num.specs.declared.value.CalcValue.{CalcValue}
 use Rattle.trend_num.specs.declared.value.CalcValue.TheVariants.{Bad}
-use Rattle.calc_eval.specs.Number.{bounded, measured_value, after, operated, compared}
+use Rattle.sheet_law.specs.Number.{bounded, measured_value, after, operated, compared}
 use Rattle.calc_check.specs.Group.{Group, Calculation}
-use Rattle.calc_eval.specs.Value.{Scope, measure_of, scope, value, values}
+use Rattle.sheet_law.specs.Value.{Scope, measure_of, scope, value, values}
 
 -- two scopes in which each input measures the same, with the same earlier values
 record AgreesIn (s u : Scope) (from to : ℕ) : Type 0 where
