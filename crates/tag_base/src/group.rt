@@ -149,10 +149,8 @@ pub(crate) fn groups_of(
 {
     let mut groups = Vec::new(alloc);
     for table in tables {
-        match group_of(alloc, tags, &groups, table) {
-            Ok(group) => groups.push(group)?,
-            Err(why) => return Err(why),
-        }
+        let group = group_of(alloc, tags, &groups, table)?;
+        groups.push(group)?;
     }
     Ok(groups)
 }

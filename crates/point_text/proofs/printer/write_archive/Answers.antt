@@ -18,11 +18,11 @@ loop-done-preserved g c =
       written = subst (IsWritten (meaning c.args.out.now) (meaning c.write_records.new.out)) (lines_more recs done next (omega arith))
           (written_more (meaning c.args.out.now) (meaning c.loop-done.out) (meaning c.write_records.new.out)
           (flat_map record_line (take done recs)) (flat_map record_line (take (next - done) (drop done recs))) c.loop-done.invariant.written
-          c.in-Ok.ensures.whole);
+          c.in_ok-write_records.ensures.whole);
     }
 
-pub returns-in-Err-clause-cut_short : goal.returns-in-Err-clause-cut_short
-returns-in-Err-clause-cut_short g c =
+pub returns-in_err-write_records-clause-cut_short : goal.returns-in_err-write_records-clause-cut_short
+returns-in_err-write_records-clause-cut_short g c =
     let meaning = g.O.Sink.meaning in
     let recs = c.args.recs.now in
     let done = c.loop-done.done in
@@ -31,7 +31,7 @@ returns-in-Err-clause-cut_short g c =
     let text = text_from done recs c.args.held ∙ ap (λ l. flat_map record_line (take done recs) ++ l) (text_from n rest c.args.held) in
     subst (IsCutShort (meaning c.args.out.now) (meaning c.write_records.new.out)) (sym text)
     (cut_more (meaning c.args.out.now) (meaning c.loop-done.out) (meaning c.write_records.new.out) (flat_map record_line (take done recs))
-    (flat_map record_line (take n rest)) (archive_text (drop n rest) c.args.held) c.loop-done.invariant.written c.in-Err.ensures.cut_short)
+    (flat_map record_line (take n rest)) (archive_text (drop n rest) c.args.held) c.loop-done.invariant.written c.in_err-write_records.ensures.cut_short)
 
 pub returns-clause-whole : goal.returns-clause-whole
 returns-clause-whole g c =
