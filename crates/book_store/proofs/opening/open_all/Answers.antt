@@ -1,6 +1,7 @@
 use Rattle.std.proofs.Common.{◌∙◌, ◌^◌, ◌<◌, ◌∷◌, [], ap, arith, length, length-append, map, subst, sym}
 use Rattle.std.proofs.lemmas.Result.{err_from_is_err_and}
 use Rattle.group_book.specs.Told.{Told}
+use Rattle.book_store.proofs.Causes.{counted_since}
 use Rattle.book_store.proofs.Names.{as_many, one_place}
 use Rattle.book_store.proofs.Turns.{IsSoFar, at_place, begun, cause_at, next_at, others_at, others_same, rest_at, rest_untouched}
 use Rattle.book_store.proofs.opening.open_all.Goals as goal
@@ -71,6 +72,14 @@ returns-in_err-book-clause-cause g c =
     (cause_at groups names _ _ (g.S.Store.device_at c.loop-place.store) (length c.loop-place.books.items) c.loop-place.place
     c.index-groups-place.result c.as_str-name.result.now c.in_err-book.field-0.0 c.requires.names c.requires.distinct before.count at
     before.so_far.others c.in_err-book.ensures.cause)
+
+pub returns-in_err-book-clause-counts : goal.returns-in_err-book-clause-counts
+returns-in_err-book-clause-counts g c = λ small.
+    let out = err_from_is_err_and c.from_residual.result c.from_residual.ensures.1 in
+    rw (out.1, out.2)
+    (counted_since (g.S.Store.fault_count c.args.store.now) (g.S.Store.fault_count c.loop-place.store)
+    (g.S.Store.fault_count c.open_book.new.store) c.in_err-book.field-0.0 (c.loop-place.invariant.faults small) small
+    c.in_err-book.ensures.counts)
 
 pub returns-clause-others : goal.returns-clause-others
 returns-clause-others g c =

@@ -86,23 +86,23 @@ pub open_groups-requires-clause-names : goal.open_groups-requires-clause-names
 open_groups-requires-clause-names g c κs within =
     subst (group.AreNamesOf c.args.base.now.groups.items) (sym c.deref-3.ensures.value) c.requires.shelf.group_names_are
 
-pub returns-in-Ok-clause-groups : goal.returns-in-Ok-clause-groups
-returns-in-Ok-clause-groups g c =
+pub returns-in-Ok-open_groups-clause-groups : goal.returns-in-Ok-open_groups-clause-groups
+returns-in-Ok-open_groups-clause-groups g c =
     let D = g.S.Dev.Disk in
     let ts = c.args.base.now.tags.items in
     let gs = c.args.base.now.groups.items in
     let cells = c.in_ok-cells.cells.items in
-    let books = c.in-Ok.books.items in
+    let books = c.in-Ok-open_groups.books.items in
     let old = g.S.Store.device_at c.args.store.now in
     let mid = g.S.Store.device_at c.open_cells.new.store in
     books_before gs (records_in cells) old mid
     (groups_same ts old mid (subst (λ l. tag.AreOthersSame l old mid) c.deref.ensures.value c.open_cells.ensures.others))
     D.trace D.ticks D.fault_count books
     (subst (λ l. group.AreBooksOpened D.trace D.ticks D.fault_count gs (records_in l) mid books) c.deref-4.ensures.value
-    c.in-Ok.ensures.opened)
+    c.in-Ok-open_groups.ensures.opened)
 
-pub returns-in-Ok-clause-places : goal.returns-in-Ok-clause-places
-returns-in-Ok-clause-places g c =
+pub returns-in-Ok-open_groups-clause-places : goal.returns-in-Ok-open_groups-clause-places
+returns-in-Ok-open_groups-clause-places g c =
     let was = g.S.Store.has_place c.open_cells.new.store in
     let has = g.S.Store.has_place c.open_groups.new.store in
     record {
@@ -111,20 +111,20 @@ returns-in-Ok-clause-places g c =
           c.in_ok-cells.ensures.places);
       for_groups = subst (λ n. HavePlaces n c.args.shelf.now.group_names.items has) (sym c.requires.shelf.as_many_groups)
           (subst (λ l. HavePlaces (length c.args.base.now.groups.items) l has) c.deref-3.ensures.value
-          c.in-Ok.ensures.places);
+          c.in-Ok-open_groups.ensures.places);
     }
 
-pub returns-in-Ok-clause-others : goal.returns-in-Ok-clause-others
-returns-in-Ok-clause-others g c =
+pub returns-in-Ok-open_groups-clause-others : goal.returns-in-Ok-open_groups-clause-others
+returns-in-Ok-open_groups-clause-others g c =
     let old = g.S.Store.device_at c.args.store.now in
     let mid = g.S.Store.device_at c.open_cells.new.store in
     λ n no_tag no_group. c.open_groups.ensures.others n no_group
     ∙ subst (λ l. tag.AreOthersSame l old mid) c.deref.ensures.value c.open_cells.ensures.others n no_tag
 
-pub returns-in-Ok-clause-counts : goal.returns-in-Ok-clause-counts
-returns-in-Ok-clause-counts g c = λ small.
+pub returns-in-Ok-open_groups-clause-counts : goal.returns-in-Ok-open_groups-clause-counts
+returns-in-Ok-open_groups-clause-counts g c = λ small.
     let passed = c.in_ok-cells.ensures.passed in
-    c.in-Ok.ensures.counts (subst (λ n. n < 2 ^ 64) (sym passed) small) ∙ passed
+    c.in-Ok-open_groups.ensures.counts (subst (λ n. n < 2 ^ 64) (sym passed) small) ∙ passed
 
 -- ---- a group is refused, and the devices of the tags are given back
 
