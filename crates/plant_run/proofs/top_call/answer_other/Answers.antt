@@ -2,8 +2,9 @@ use Rattle.std.proofs.Common.{◌≡◌, refl, sym, ap, ◌∙◌}
 use Rattle.byte_io.specs.Files.{IsFaultOf}
 use Rattle.plant_status.specs.declared.file.FileId.{FileId}
 use Rattle.plant_status.specs.declared.status.Status.TheVariants.{Done, ReadFault, WriteFault}
-use Rattle.store_commands.specs.Commands.{IsCheckRefusal, IsChecked, IsFaultOfNamed, IsTrend, IsTrendRefusal}
-use Rattle.store_commands.proofs.Faults.{of_none}
+use Rattle.plant_files.specs.Faults.{IsFaultOfPlanned}
+use Rattle.plant_files.proofs.Faults.{of_none}
+use Rattle.store_commands.specs.Commands.{IsCheckRefusal, IsChecked, IsTrend, IsTrendRefusal}
 use Rattle.store_commands.proofs.Stores.{of_tags}
 use Rattle.plant_run.specs.CommandLine.{asked}
 use Rattle.frame_command.specs.Commands.{IsFrames, IsFramesRefusal}
@@ -76,7 +77,7 @@ returns-in-Trend-clause-ends g c =
           device_faults = λ few. counts_so IsRefused before now c.trend.result c.finish-in-Trend.result faults more
               (c.trend.ensures.counts few) c.trend.ensures.refused (rose few) text line;
         },
-        ended_so (IsFaultOfNamed base plan told (g.F.Files.failed_name c.trend.new.files)) before now c.trend.result
+        ended_so (IsFaultOfPlanned base plan told (g.F.Files.failed_name c.trend.new.files)) before now c.trend.result
             c.finish-in-Trend.result (of_none base plan told _ Done (λ which same. cc))
             (of_none base plan told _ WriteFault (λ which same. cc)) c.trend.ensures.whose text line,
       ),
