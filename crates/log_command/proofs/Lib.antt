@@ -1,5 +1,4 @@
 pub mod Texts
-pub mod Stopped
 pub mod Rows
 pub mod Found
 pub mod Counting

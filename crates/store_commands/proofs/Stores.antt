@@ -5,7 +5,6 @@ use Rattle.trend_num.specs.declared.archive.Rec.{Rec}
 use Rattle.trend_num.specs.declared.tag_def.TagDef.{TagDef}
 use Rattle.tag_core.specs.Core.{Core}
 use Rattle.disk_model.specs.Calls.{Rose}
-use Rattle.disk_model.specs.Moments.{During}
 use Rattle.disk_model.specs.Traces.{Trace}
 use Rattle.crash_recovery.specs.Opening.{StaysSame as TagStaysSame}
 use Rattle.plant_status.specs.declared.status.Status.{Status}
@@ -17,12 +16,10 @@ use Rattle.plant_files.specs.Texts.{IsBaseFile}
 use Rattle.tag_store.specs.Refusals as tags
 use Rattle.tag_store.specs.Tags as tag
 use Rattle.group_book.specs.declared.history.GroupOpening.{GroupOpening}
-use Rattle.group_book.specs.Openings.{StaysSame}
 use Rattle.book_store.specs.Groups as group
-use Rattle.book_store.specs.Groups.{Devices, IsOpening, parts_of, records_of, text_of, trace_at}
+use Rattle.book_store.specs.Groups.{Devices, IsOpening, records_of, trace_at}
 use Rattle.book_store.specs.Refusals as groups
-use Rattle.book_store.specs.Refusals.{IsRefusal, IsRefusedAt, OfDamage, OfFault, OfMemory, OfVersion, OfWindows}
-use Rattle.book_store.proofs.Turns.{untouched}
+use Rattle.book_store.proofs.Devices.{refusal_before, same_before}
 use Rattle.trend_command.specs.Replies.{Rows}
 use Rattle.store_commands.specs.Commands.{AreAllKept, AreRestSame, CountsDevices}
 use Rattle.store_commands.specs.GroupRows.{AreGroupsTold, IsGroupTold, IsRowsRefusal, IsTooMuchAt, OfCells, OfCopies, OfOpening, OfWant}
@@ -65,31 +62,6 @@ module _ (gs : List GroupDef) (records : List (List Rec)) (old mid : Devices) (s
       subst (λ o. IsOpening (get_or gs k g) (records_of records (get_or gs k g)) o (get_or openings k x)) (same (get_or gs k g))
       (opened k g x below)
 
-  at_before : (i : ℕ) (P Q : GroupDef → List (List Rec) → Option Trace → Type 0)
-      → ((g : GroupDef) (recovered : List (List Rec)) (o : Option Trace) → P g recovered o → Q g recovered o)
-      → IsRefusedAt gs records mid i P → IsRefusedAt gs records old i Q
-  at_before i P Q follows at = record {
-    g = at.g;
-    openings = at.openings;
-    there = at.there;
-    is_group = at.is_group;
-    as_many = at.as_many;
-    front = opened_before i at.openings at.front;
-    cause = subst (Q at.g (records_of records at.g)) (same at.g) (follows at.g (records_of records at.g) (trace_at mid at.g) at.cause);
-  }
-
-  refusal_before : (before mid_count now : ℕ) (why : Status) → (before < 2 ^ 64 → mid_count ≡ before)
-      → IsRefusal gs records mid mid_count now why → IsRefusal gs records old before now why
-  refusal_before before count now why first (OfFault i is at) =
-      OfFault i is (at_before i _ _ (λ g recovered o rose small.
-      subst (λ n. Rose n now) (first small) (rose (subst (λ n. n < 2 ^ 64) (sym (first small)) small))) at)
-  refusal_before before count now why first (OfDamage i a byte is at) = OfDamage i a byte is (at_before i _ _ (λ g recovered o p. p) at)
-  refusal_before before count now why first (OfVersion i input found version is at) =
-      OfVersion i input found version is (at_before i _ _ (λ g recovered o p. p) at)
-  refusal_before before count now why first (OfWindows i windows rows is at) =
-      OfWindows i windows rows is (at_before i _ _ (λ g recovered o p. p) at)
-  refusal_before before count now why first (OfMemory is) = OfMemory is
-
   much_before : (i : ℕ) (P : List (List Rec) → Type 0) → IsTooMuchAt gs records mid i P → IsTooMuchAt gs records old i P
   much_before i P at = record {
     g = at.g;
@@ -102,19 +74,11 @@ module _ (gs : List GroupDef) (records : List (List Rec)) (old mid : Devices) (s
 
   pub rows_before : (before mid_count now : ℕ) (why : Status) → (before < 2 ^ 64 → mid_count ≡ before)
       → IsRowsRefusal gs records mid mid_count now why → IsRowsRefusal gs records old before now why
-  rows_before before count now why first (OfOpening refused) = OfOpening (refusal_before before count now why first refused)
+  rows_before before count now why first (OfOpening refused) = OfOpening (refusal_before gs records old mid same before now count now why
+      (λ rose small. subst (λ n. Rose n now) (first small) (rose (subst (λ n. n < 2 ^ 64) (sym (first small)) small))) refused)
   rows_before before count now why first (OfCells i number is at) = OfCells i number is (much_before i _ at)
   rows_before before count now why first (OfCopies i number is at) = OfCopies i number is (much_before i _ at)
   rows_before before count now why first (OfWant is) = OfWant is
-
-  pub same_before : (new : Devices) → group.AllStaySame gs mid new → group.AllStaySame gs old new
-  same_before new kept i g below =
-      subst (λ o. During o (trace_at new (get_or gs i g)) (StaysSame (text_of (get_or gs i g)) (parts_of (get_or gs i g)) o))
-      (same (get_or gs i g)) (kept i g below)
-
-  -- groups that were not opened stay the same
-  pub same_untouched : group.AllStaySame gs old mid
-  same_untouched i g below = untouched (get_or gs i g) _ _ (same (get_or gs i g))
 
 -- ---- what is said of tags before the groups were opened is so of the devices after
 
@@ -148,7 +112,7 @@ all_kept name told base gs old mid new are read tags_stay first stay second =
       base,
       read,
       kept_after base.tags.items old mid new (tags_same base.groups.items mid new others) tags_stay,
-      same_before base.groups.items [] old mid (groups_same base.tags.items old mid first) new
+      same_before base.groups.items [] old mid (groups_same base.tags.items old mid first) new new (λ g. refl)
           (subst (λ l. group.AllStaySame l mid new) are stay),
       rest_same base old mid new first others,
     )

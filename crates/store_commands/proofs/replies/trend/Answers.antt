@@ -2,12 +2,13 @@ use Rattle.std.proofs.Common.{Err, [], inr, refl, ◌∙◌, ap, arith, length, 
 use Rattle.std.proofs.lemmas.Result.{err_from_is_err_and}
 use Rattle.plant_files.proofs.Faults.{of_base, of_none, of_plan, of_reader}
 use Rattle.book_store.specs.Groups as group
+use Rattle.book_store.proofs.Devices.{same_untouched}
 use Rattle.trend_command.specs.Replies.{rows_in, trend_text}
 use Rattle.store_commands.specs.Commands.{OfGroup, OfPlan, OfReader, OfTag}
 use Rattle.store_commands.specs.GroupRows.{AreGroupsTold, IsRowsRefusal, tag_records}
 use Rattle.store_commands.proofs.Commands.{as_many_lists}
 use Rattle.store_commands.proofs.Faults.{group_is_no_fault, tag_is_no_fault}
-use Rattle.store_commands.proofs.Stores.{all_kept, groups_same, left_after, rows_before, same_untouched, tags_same, told_before}
+use Rattle.store_commands.proofs.Stores.{all_kept, groups_same, left_after, rows_before, tags_same, told_before}
 use Rattle.store_commands.proofs.replies.trend.Goals as goal
 
 pub returns-in_err-plan-clause-refused : goal.returns-in_err-plan-clause-refused
