@@ -9,6 +9,7 @@ use Rattle.std.proofs.lemmas.Grind.{common_steps}
 use Rattle.std.proofs.lemmas.List.Quantifiers.{all_pairs_push}
 use Rattle.std.proofs.lemmas.Slice.Eq.{bytes_eq-Decides}
 use Rattle.toml.specs.Data.{Members}
+use Rattle.toml_tables.specs.Tables.{document, has_keys}
 use Rattle.trend_num.specs.declared.refusal.What.TheVariants.{Calcs}
 use Rattle.trend_num.specs.declared.tag_def.TagDef.{TagDef}
 use Rattle.calc_check.specs.Group.{Group}
@@ -17,7 +18,7 @@ use Rattle.tag_base.specs.declared.definition.GroupDef.{GroupDef}
 use Rattle.tag_base.specs.declared.refusal.TextNo.{TextNo}
 use Rattle.tag_base.specs.declared.refusal.TextNo.TheVariants.{Limit}
 use Rattle.tag_base.specs.Answers.{broken, when, limited, given, Follows}
-use Rattle.tag_base.specs.Tables.{document, has_keys, name_at, number_at}
+use Rattle.tag_base.specs.Tables.{name_at, number_at}
 use Rattle.tag_base.specs.Groups.{CalcForm, GroupForm, GroupRead, GroupsRead, IsGroupAnswer, TextRead, calcs_at, group_keys, group_place, group_text, inputs_at, longest_period, most_calcs, new_group_name}
 use Rattle.tag_base.specs.Tags.{tags_after}
 use Rattle.tag_base.specs.Bases.{BaseForm, BaseRead, IsBaseOf, TablesRead, base_tables}

@@ -41,10 +41,7 @@ fn queries_over<F: Files>(
     let mut lists = Vec::new(alloc);
     for reader in readers {
         let file = reader_at(lists.len());
-        let queries = match queries_in(alloc, files, reader, file, tags, groups) {
-            Ok(queries) => queries,
-            Err(why) => return Err(why),
-        };
+        let queries = queries_in(alloc, files, reader, file, tags, groups)?;
         if lists.push(queries).is_err() {
             return Err(Status::WantOfMemory);
         }

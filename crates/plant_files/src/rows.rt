@@ -37,10 +37,7 @@ fn rows_over<F: Files>(
     let mut lists = Vec::new(alloc);
     for collector in collectors {
         let file = collector_at(lists.len());
-        let rows = match rows_in(alloc, files, collector, file, tags) {
-            Ok(rows) => rows,
-            Err(why) => return Err(why),
-        };
+        let rows = rows_in(alloc, files, collector, file, tags)?;
         if lists.push(rows).is_err() {
             return Err(Status::WantOfMemory);
         }

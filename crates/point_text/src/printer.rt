@@ -32,10 +32,8 @@ pub fn write_archive<O: Sink>(
     let mut done = 0;
     while done < recs.len() {
         let next = recs.len().min(done + LINES);
-        match write_records(out, &mut piece, &recs[done..next]) {
-            Ok(()) => done = next,
-            Err(fault) => return Err(fault),
-        }
+        write_records(out, &mut piece, &recs[done..next])?;
+        done = next;
     }
     write_held(out, &mut piece, held)
 }

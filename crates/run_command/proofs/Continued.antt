@@ -14,7 +14,7 @@ use Rattle.group_session.specs.Inputs.{AreInputs, IsInputsOf}
 use Rattle.run_command.specs.Copies.{IsCopied, IsCopiedGroup}
 use Rattle.run_command.specs.Runs.{AreDefined, IsContinued, IsContinuedGroup}
 use Rattle.run_command.specs.Steps.{AreAsKept, AreInputsFor, IsAsKept}
-use Rattle.run_command.proofs.GroupDevices.{element}
+use Rattle.plant_status.proofs.Elements.{element}
 use Rattle.run_command.proofs.Zipped.{zip_at, zip_each, zip_length, zip_on, zip_same}
 
 -- as many are known as there are at the end, where as many were opened

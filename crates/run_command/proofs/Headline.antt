@@ -64,7 +64,7 @@ use Rattle.run_command.specs.Runs.{IsContinued, IsContinuedGroup, IsDone, IsHeld
 use Rattle.run_command.specs.Steps.{IsMade, planned_turn, turn_of}
 use Rattle.run_command.proofs.Zipped.{zip_at, zip_length}
 use Rattle.run_command.proofs.DeviceFaults.{faults_counted}
-use Rattle.run_command.proofs.GroupDevices.{element}
+use Rattle.plant_status.proofs.Elements.{element}
 
 -- ---- tags
 

@@ -1,7 +1,7 @@
 // A session whose workers have ended is brought to its end.
 ghost use Rattle.std.specs.Prelude.{◌≡◌, ◌^◌, ◌<◌, IfErr, OnOk, length};
 ghost use Rattle.calc_refresh.specs.Lists.{lists_of};
-ghost use Rattle.group_session.specs.Books.{AreEach};
+ghost use Rattle.plant_session.specs.Each.{AreEach};
 ghost use Rattle.group_session.specs.Openings.{AreAsKept as AreGroupsAsKept};
 ghost use Rattle.group_session.specs.Pulls.{ArePulled};
 ghost use Rattle.run_command.specs.Refusals.{IsRefused, IsSettlingRefusal, IsOfOpening, notes_of};

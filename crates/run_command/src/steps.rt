@@ -1,7 +1,7 @@
 // What is done with the cells and books of a session once its workers have ended and their openings are as they were kept.
 ghost use Rattle.std.specs.Prelude.{◌≡◌, ◌<◌, IfErr, OnOk, length};
 ghost use Rattle.calc_refresh.specs.Lists.{lists_of};
-ghost use Rattle.group_session.specs.Books.{AreEach};
+ghost use Rattle.plant_session.specs.Each.{AreEach};
 ghost use Rattle.group_session.specs.Pulls.{ArePulled};
 ghost use Rattle.run_command.specs.Refusals.{IsFindingRefusal, IsMakingRefusal, IsRefused};
 ghost use Rattle.run_command.specs.Steps.{AreFoundAll, AreNoneFound, AreOverAll, AreReady, IsBookKept, IsCellKept, IsMade};

@@ -11,7 +11,7 @@ use Rattle.trend_num.specs.declared.measure.Measure.TheVariants.{Area, Avg, Tota
 use Rattle.shift_calendar.specs.declared.refusal.CalNo.{CalNo}
 use Rattle.shift_calendar.specs.declared.refusal.CalNo.TheVariants.{BadText}
 use Rattle.shift_calendar.specs.Answers.{when, given}
-use Rattle.shift_calendar.specs.Tables.{document, has_keys, string_at, array_at, is_count}
+use Rattle.toml_tables.specs.Tables.{document, has_keys, string_at, array_at, is_count}
 
 -- the most shifts of a day, and the most tags, of a calendar
 abbrev pub most_starts : ℕ
@@ -150,7 +150,7 @@ calendar_keys = codes "zone" ∷ codes "starts" ∷ codes "tags" ∷ codes "meas
 abbrev pub calendar : List (List ℕ) → List ℕ → Result Form CalNo
 calendar names bytes =
     given (document bytes) (BadText 1) (λ ms.
-    when (has_keys calendar_keys ms) (BadText 2)
+    when (has_keys calendar_keys [] ms) (BadText 2)
     (given (zone_at ms) (BadText 3) (λ zone.
     given (starts_at ms) (BadText 4) (λ starts.
     given (places_at names ms) (BadText 5) (λ tags.

@@ -1,5 +1,4 @@
 pub mod Answers
-pub mod Tables
 pub mod Calendars
 pub mod Instants
 pub mod Windows

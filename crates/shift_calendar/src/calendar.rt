@@ -10,8 +10,6 @@ ghost use Rattle.shift_calendar.specs.Days.{IsShiftDay};
 ghost use Rattle.shift_calendar.specs.Instants.{IsInstant};
 ghost use Rattle.shift_calendar.specs.declared.refusal.CalNo.TheVariants.{BadText};
 
-use crate::access::{has_keys, string_at};
-use crate::document::document;
 use crate::instant::instant;
 use crate::measure::measure_at;
 use crate::places::places_at;
@@ -21,6 +19,7 @@ use jiff::tz::TimeZone;
 use std::alloc::Global;
 use std::marker::Model;
 use toml::Table;
+use toml_tables::{document, has_keys, string_at};
 use trend_num::{Measure, Name, WantOfMemory};
 
 /// When the shifts of a day begin, in which zone, and what is told of each: a clause sees the zone, the
@@ -115,7 +114,7 @@ pub fn read_calendar(alloc: Global, bytes: &[u8], tags: &[Name]) -> Result<Calen
     let Some(table) = document(alloc, bytes)? else {
         return Err(CalNo::BadText { rule: 1 });
     };
-    if !has_keys(&table, &["zone", "starts", "tags", "measure"]) {
+    if !has_keys(&table, &["zone", "starts", "tags", "measure"], &[]) {
         return Err(CalNo::BadText { rule: 2 });
     }
     let Some(zone) = zone_at(&table) else {

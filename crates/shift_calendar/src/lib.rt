@@ -9,9 +9,7 @@
 //! `YYYY-MM-DD`, and spelled as such.
 #![tactic(auto)]
 
-mod access;
 mod calendar;
-mod document;
 mod instant;
 mod measure;
 mod places;

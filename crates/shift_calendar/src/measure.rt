@@ -3,8 +3,8 @@ ghost use Rattle.std.specs.Prelude.{◌≡◌};
 ghost use Rattle.toml.specs.View.{table_view};
 ghost use Rattle.shift_calendar.specs.Calendars.{measure_of, measure_at};
 
-use crate::access::string_at;
 use toml::Table;
+use toml_tables::string_at;
 use trend_num::Measure;
 
 // The measure of a word.

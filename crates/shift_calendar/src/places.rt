@@ -3,9 +3,9 @@ ghost use Rattle.std.specs.Prelude.{◌≡◌, ◌≤◌, ◌<◌, ◌^◌, [], 
 ghost use Rattle.toml.specs.View.{items_view, table_view};
 ghost use Rattle.shift_calendar.specs.Calendars.{place_of, is_taken, untaken, new_place, most_tags, places_after, places_at};
 
-use crate::access::{has_count, items_at};
 use std::alloc::Global;
 use toml::{Table, Value};
+use toml_tables::{has_count, items_at};
 use trend_num::{Name, WantOfMemory};
 
 // The most tags of a calendar.

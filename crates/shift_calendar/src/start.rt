@@ -3,9 +3,9 @@ ghost use Rattle.std.specs.Prelude.{◌≡◌, ◌+◌, ◌≤◌, ◌<◌, [], 
 ghost use Rattle.toml.specs.View.{items_view, table_view};
 ghost use Rattle.shift_calendar.specs.Calendars.{two_digits, start_of, starts_after, rises_from, starts_at};
 
-use crate::access::{has_count, items_at};
 use std::alloc::Global;
 use toml::{Table, Value};
+use toml_tables::{has_count, items_at};
 use trend_num::WantOfMemory;
 
 // The most shifts of a day.

@@ -1,25 +1,24 @@
 -- The devices of tags and of groups, which are opened one after the other.
-use Rattle.std.proofs.Common.{◌≡◌, ◌≢◌, ◌⊎◌, inl, inr, ℕ, ◌+◌, ◌^◌, ◌<◌, List, [], ◌∷◌, ◌++◌, All, length, length-append, map, get_or, codes, Option, Result, Ok, Err, refl, sym, ap, subst, ◌∙◌, arith}
+use Rattle.std.proofs.Common.{◌≡◌, ◌≢◌, inl, inr, ℕ, ◌+◌, ◌^◌, ◌<◌, List, [], ◌∷◌, ◌++◌, length, length-append, get_or, codes, Result, Ok, Err, refl, sym, ap, subst, ◌∙◌, arith}
 use Rattle.std.proofs.lemmas.List.{get_or-append-add}
 use Rattle.trend_num.specs.declared.archive.Rec.{Rec}
 use Rattle.trend_num.specs.declared.tag_def.TagDef.{TagDef}
 use Rattle.tag_core.specs.Core.{Core}
 use Rattle.disk_model.specs.Calls.{Rose}
-use Rattle.disk_model.specs.Traces.{Trace}
 use Rattle.crash_recovery.specs.Opening.{StaysSame as TagStaysSame}
 use Rattle.plant_status.specs.declared.status.Status.{Status}
-use Rattle.plant_status.specs.declared.unit.Unit.TheVariants.{Tag, Group}
+use Rattle.plant_status.specs.declared.unit.Unit.TheVariants.{Tag}
 use Rattle.tag_base.specs.declared.definition.Base.{Base}
 use Rattle.tag_base.specs.declared.definition.GroupDef.{GroupDef}
 use Rattle.plant_files.specs.RowFiles.{ToldFiles}
 use Rattle.plant_files.specs.Texts.{IsBaseFile}
 use Rattle.tag_store.specs.Refusals as tags
 use Rattle.tag_store.specs.Tags as tag
-use Rattle.group_book.specs.declared.history.GroupOpening.{GroupOpening}
 use Rattle.book_store.specs.Groups as group
-use Rattle.book_store.specs.Groups.{Devices, IsOpening, records_of, trace_at}
+use Rattle.book_store.specs.Groups.{Devices, records_of, trace_at}
 use Rattle.book_store.specs.Refusals as groups
-use Rattle.book_store.proofs.Devices.{refusal_before, same_before}
+use Rattle.book_store.specs.Refusals.{IsRefusal}
+use Rattle.book_store.proofs.Devices as book
 use Rattle.trend_command.specs.Replies.{Rows}
 use Rattle.store_commands.specs.Commands.{AreAllKept, AreRestSame, CountsDevices}
 use Rattle.store_commands.specs.GroupRows.{AreGroupsTold, IsGroupTold, IsRowsRefusal, IsTooMuchAt, OfCells, OfCopies, OfOpening, OfWant}
@@ -56,11 +55,12 @@ module _ (gs : List GroupDef) (records : List (List Rec)) (old mid : Devices) (s
         (same (get_or gs i g)) (told.each i g r below);
   }
 
-  opened_before : (many : ℕ) (openings : List GroupOpening) → group.AreOpened many gs records mid openings
-      → group.AreOpened many gs records old openings
-  opened_before many openings opened k g x below =
-      subst (λ o. IsOpening (get_or gs k g) (records_of records (get_or gs k g)) o (get_or openings k x)) (same (get_or gs k g))
-      (opened k g x below)
+  -- what the opening of groups was refused with
+  refusal_before : (before mid_count now : ℕ) (why : Status) → (before < 2 ^ 64 → mid_count ≡ before)
+      → IsRefusal gs records mid mid_count now why → IsRefusal gs records old before now why
+  refusal_before before count now why first refused =
+      book.refusal_before gs records old mid same before now count now why
+      (λ rose small. subst (λ n. Rose n now) (first small) (rose (subst (λ n. n < 2 ^ 64) (sym (first small)) small))) refused
 
   much_before : (i : ℕ) (P : List (List Rec) → Type 0) → IsTooMuchAt gs records mid i P → IsTooMuchAt gs records old i P
   much_before i P at = record {
@@ -68,17 +68,19 @@ module _ (gs : List GroupDef) (records : List (List Rec)) (old mid : Devices) (s
     openings = at.openings;
     there = at.there;
     is_group = at.is_group;
-    opened = opened_before (length gs) at.openings at.opened;
+    opened = book.opened_before gs records old mid same (length gs) at.openings at.opened;
     over = at.over;
   }
 
   pub rows_before : (before mid_count now : ℕ) (why : Status) → (before < 2 ^ 64 → mid_count ≡ before)
       → IsRowsRefusal gs records mid mid_count now why → IsRowsRefusal gs records old before now why
-  rows_before before count now why first (OfOpening refused) = OfOpening (refusal_before gs records old mid same before now count now why
-      (λ rose small. subst (λ n. Rose n now) (first small) (rose (subst (λ n. n < 2 ^ 64) (sym (first small)) small))) refused)
+  rows_before before count now why first (OfOpening refused) = OfOpening (refusal_before before count now why first refused)
   rows_before before count now why first (OfCells i number is at) = OfCells i number is (much_before i _ at)
   rows_before before count now why first (OfCopies i number is at) = OfCopies i number is (much_before i _ at)
   rows_before before count now why first (OfWant is) = OfWant is
+
+  pub same_before : (new : Devices) → group.AllStaySame gs mid new → group.AllStaySame gs old new
+  same_before new kept = book.same_before gs records old mid same new new (λ g. refl) kept
 
 -- ---- what is said of tags before the groups were opened is so of the devices after
 
@@ -112,7 +114,7 @@ all_kept name told base gs old mid new are read tags_stay first stay second =
       base,
       read,
       kept_after base.tags.items old mid new (tags_same base.groups.items mid new others) tags_stay,
-      same_before base.groups.items [] old mid (groups_same base.tags.items old mid first) new new (λ g. refl)
+      same_before base.groups.items [] old mid (groups_same base.tags.items old mid first) new
           (subst (λ l. group.AllStaySame l mid new) are stay),
       rest_same base old mid new first others,
     )

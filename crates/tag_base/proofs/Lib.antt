@@ -1,5 +1,2 @@
 pub mod Names
-pub mod Keys
-pub mod Documents
 pub mod Calcs
-pub mod Items

@@ -2,6 +2,7 @@
 use Rattle.std.specs.Prelude.{◌≡◌, ℕ, if◌then◌else◌, List, [], ◌∷◌, length, map, codes, Option, None, Some, option_and_then, option_map, Result, Ok, Err}
 use Rattle.toml.specs.Data.{Members}
 use Rattle.toml.specs.View.{table_view}
+use Rattle.toml_tables.specs.Tables.{document, has_keys}
 use Rattle.trend_num.specs.declared.refusal.What.TheVariants.{Tags, Groups}
 use Rattle.trend_num.specs.declared.tag_def.TagDef.{TagDef}
 use Rattle.tag_base.specs.declared.definition.GroupDef.{GroupDef}
@@ -9,7 +10,7 @@ use Rattle.tag_base.specs.declared.base.BaseTables.{BaseTables}
 use Rattle.tag_base.specs.declared.definition.Base.{Base}
 use Rattle.tag_base.specs.declared.refusal.TextNo.{TextNo}
 use Rattle.tag_base.specs.Answers.{broken, limited, given, Follows}
-use Rattle.tag_base.specs.Tables.{document, has_keys, tables_at, tables_if_there}
+use Rattle.tag_base.specs.Tables.{tables_at, tables_if_there}
 use Rattle.tag_base.specs.Tags.{tags_after}
 use Rattle.tag_base.specs.Groups.{GroupsRead}
 

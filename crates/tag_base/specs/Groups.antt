@@ -1,7 +1,8 @@
 -- What the tables of groups say.
-use Rattle.std.specs.Prelude.{◌≡◌, ◌≢◌, ◌⊎◌, ℕ, ◌+◌, Bool, if◌then◌else◌, ◌&&◌, ◌||◌, List, [], ◌∷◌, ◌++◌, length, map, position, slice_get, codes, bytes_eq, string_bytes, nat_eq, nat_le, Option, None, Some, is_none, option_and_then, Result, Ok, Err, ⊤, ◌<◌, ◌≤◌, All, vec_len}
+use Rattle.std.specs.Prelude.{◌≡◌, ◌≢◌, ◌⊎◌, ℕ, Bool, if◌then◌else◌, ◌&&◌, ◌||◌, List, [], ◌∷◌, ◌++◌, length, map, position, slice_get, codes, bytes_eq, string_bytes, nat_eq, Option, None, Some, is_none, option_and_then, Result, Ok, Err, ⊤, ◌<◌, ◌≤◌, All, vec_len}
 use Rattle.std.specs.List.{list_any}
 use Rattle.toml.specs.Data.{Items, Members, no_items, item, as_str}
+use Rattle.toml_tables.specs.Tables.{has_keys, string_at, array_at, is_count}
 use Rattle.trend_num.specs.Ranges.{last_time}
 use Rattle.trend_num.specs.declared.refusal.What.TheVariants.{Calcs}
 use Rattle.trend_num.specs.declared.tag_def.TagDef.{TagDef}
@@ -16,7 +17,7 @@ use Rattle.tag_base.specs.declared.input.Input.{Input}
 use Rattle.tag_base.specs.declared.refusal.TextNo.{TextNo}
 use Rattle.tag_base.specs.declared.refusal.TextNo.TheVariants.{BadText, WantOfMemory}
 use Rattle.tag_base.specs.Answers.{broken, when, limited, given, Follows}
-use Rattle.tag_base.specs.Tables.{has_keys, name_at, number_at, string_at, array_at, tables_at}
+use Rattle.tag_base.specs.Tables.{name_at, number_at, tables_at}
 use Rattle.tag_base.specs.Tags.{tag_place}
 
 -- the most inputs, and the most calculations, of a group; the longest period in milliseconds
@@ -88,16 +89,8 @@ inputs_after tags earlier (item d ds) =
     option_and_then (λ input. inputs_after tags (earlier ++ input ∷ []) ds)
     (option_and_then (named_input tags earlier) (as_str d))
 
-abbrev pub item_count : Items → ℕ
-item_count no_items = 0
-item_count (item d ds) = item_count ds + 1
-
--- as many items as a group may have inputs
-abbrev pub is_input_count : Items → Bool
-is_input_count items = nat_le 1 (item_count items) && nat_le (item_count items) most_inputs
-
 abbrev pub inputs_of : List TagDef → Items → Option (List Input)
-inputs_of tags items = if is_input_count items then inputs_after tags [] items else None
+inputs_of tags items = if is_count most_inputs items then inputs_after tags [] items else None
 
 abbrev pub inputs_at : List TagDef → Members → Option (List Input)
 inputs_at tags ms = option_and_then (inputs_of tags) (array_at (codes "tags") ms)

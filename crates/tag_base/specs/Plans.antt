@@ -3,6 +3,7 @@ use Rattle.std.specs.Prelude.{ℕ, Bool, if◌then◌else◌, ◌&&◌, List, []
 use Rattle.std.specs.List.{list_any}
 use Rattle.toml.specs.Data.{Members}
 use Rattle.toml.specs.View.{table_view}
+use Rattle.toml_tables.specs.Tables.{document, has_keys, string_at}
 use Rattle.trend_num.specs.declared.refusal.What.TheVariants.{Collectors, Readers}
 use Rattle.tag_base.specs.declared.definition.GroupDef.{GroupDef}
 use Rattle.tag_base.specs.declared.plan.PlanTables.{PlanTables}
@@ -10,7 +11,7 @@ use Rattle.tag_base.specs.declared.schedule.Refresher.{Refresher}
 use Rattle.tag_base.specs.declared.schedule.Plan.{Plan}
 use Rattle.tag_base.specs.declared.refusal.TextNo.{TextNo}
 use Rattle.tag_base.specs.Answers.{broken, limited, given, after}
-use Rattle.tag_base.specs.Tables.{document, has_keys, string_at, number_at, tables_if_there}
+use Rattle.tag_base.specs.Tables.{number_at, tables_if_there}
 use Rattle.tag_base.specs.Groups.{group_place}
 
 -- the most collectors, and the most readers, of a plan; the most turns of a refresher

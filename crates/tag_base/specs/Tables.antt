@@ -1,38 +1,9 @@
--- What a table of a TOML document holds at its keys.
-use Rattle.std.specs.Prelude.{ℕ, ℤ, pos, negsuc, Bool, true, if◌then◌else◌, ◌&&◌, ◌||◌, List, [], ◌∷◌, ◌++◌, length, nat_le, Option, None, Some, is_some, option_and_then, bytes_eq}
-use Rattle.std.specs.List.{list_any, list_all}
-use Rattle.std.specs.Str.{is_utf8}
-use Rattle.toml.specs.Data.{Items, Members, no_items, item, no_members, member, get_member, as_str, as_integer, as_array, as_table}
-use Rattle.toml.specs.Parse.{parse_document}
+-- The names, the numbers and the tables that stand at the keys of a table.
+use Rattle.std.specs.Prelude.{ℕ, ℤ, pos, negsuc, Bool, if◌then◌else◌, ◌&&◌, List, [], ◌∷◌, ◌++◌, length, nat_le, Option, None, Some, option_and_then}
+use Rattle.std.specs.List.{list_all}
+use Rattle.toml.specs.Data.{Items, Members, no_items, item, get_member, as_integer, as_table}
+use Rattle.toml_tables.specs.Tables.{has_key, string_at, array_at}
 use Rattle.trend_num.specs.Names.{is_name_byte}
-
--- the document that bytes are, if they are one
-abbrev pub document : List ℕ → Option Members
-document bytes = if is_utf8 bytes then parse_document bytes else None
-
--- ---- keys
-
-abbrev pub is_among : List (List ℕ) → List ℕ → Bool
-is_among keys key = list_any (λ k. bytes_eq k key) keys
-
--- every key passes a test
-abbrev pub all_keys : (List ℕ → Bool) → Members → Bool
-all_keys test no_members = true
-all_keys test (member key d ms) = test key && all_keys test ms
-
-abbrev pub has_key : Members → List ℕ → Bool
-has_key ms key = is_some (get_member key ms)
-
--- each of the first keys is there, and no key but these and the others
-abbrev pub has_keys : List (List ℕ) → List (List ℕ) → Members → Bool
-has_keys needed others ms =
-    list_all (has_key ms) needed && all_keys (λ key. is_among needed key || is_among others key) ms
-
--- ---- values
-
--- the text at a key, where it is one
-abbrev pub string_at : List ℕ → Members → Option (List ℕ)
-string_at key ms = option_and_then as_str (get_member key ms)
 
 -- whether bytes are a name: 1 to 64 bytes that a name may have
 abbrev pub is_name : List ℕ → Bool
@@ -51,10 +22,6 @@ within least most (negsuc n) = None
 abbrev pub number_at : List ℕ → ℕ → ℕ → Members → Option ℕ
 number_at key least most ms =
     option_and_then (within least most) (option_and_then as_integer (get_member key ms))
-
--- the array at a key
-abbrev pub array_at : List ℕ → Members → Option Items
-array_at key ms = option_and_then as_array (get_member key ms)
 
 -- the tables that items are, behind some tables; each item has to be one
 abbrev pub tables_after : List Members → Items → Option (List Members)

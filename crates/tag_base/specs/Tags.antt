@@ -6,7 +6,8 @@ use Rattle.trend_num.specs.declared.tuning.Tuning.{Tuning}
 use Rattle.trend_num.specs.declared.tag_def.TagDef.{TagDef}
 use Rattle.tag_base.specs.declared.refusal.TextNo.{TextNo}
 use Rattle.tag_base.specs.Answers.{broken, when, given, after}
-use Rattle.tag_base.specs.Tables.{has_keys, name_at, number_at}
+use Rattle.tag_base.specs.Tables.{name_at, number_at}
+use Rattle.toml_tables.specs.Tables.{has_keys}
 
 -- the keys that each tag has
 abbrev pub tag_keys : List (List ℕ)

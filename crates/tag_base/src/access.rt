@@ -1,76 +1,12 @@
-// What a table of a TOML document holds at its keys.
-ghost use Rattle.std.specs.Prelude.{◌≡◌, ◌||◌, [], map, IfOk, option_map, ◌≤◌, IfSome};
-ghost use Rattle.std.specs.List.{list_all};
-ghost use Rattle.toml.specs.Data.{get_member};
-ghost use Rattle.toml.specs.View.{view, table_view, items_view};
-ghost use Rattle.tag_base.specs.Tables.{is_among, has_key, all_keys, has_keys, string_at, name_at, number_at, within, tables_at, tables_if_there, tables_after};
+// The names, the numbers and the tables that stand at the keys of a table.
+ghost use Rattle.std.specs.Prelude.{◌≡◌, ◌≤◌, [], map, IfOk, IfSome, option_map};
+ghost use Rattle.toml.specs.View.{table_view, items_view};
+ghost use Rattle.tag_base.specs.Tables.{name_at, number_at, within, tables_at, tables_if_there, tables_after};
 
 use std::alloc::Global;
 use toml::{Table, Value};
+use toml_tables::{items_at, string_at, value_at};
 use trend_num::{Name, WantOfMemory, name_from};
-
-// The value at a key.
-pub(crate) fn value_at<'t>(table: &'t Table, key: &str) -> Option<&'t Value>
-    ensures { option_map (λ v. view v.now) result ≡ get_member key.now (table_view table.now) }
-{
-    table.get(key)
-}
-
-// Whether a key is one of these.
-fn is_among(keys: &[&str], key: &str) -> bool
-    ensures { result ≡ is_among (map (λ k. k.now) keys.now) key.now }
-{
-    for k in keys {
-        if *k == key {
-            return true;
-        }
-    }
-    false
-}
-
-// Whether a table has each of the first keys, and no key but these and the others.
-pub(crate) fn has_keys(table: &Table, needed: &[&str], others: &[&str]) -> bool
-    ensures { result ≡ has_keys (map (λ k. k.now) needed.now) (map (λ k. k.now) others.now)
-        (table_view table.now) }
-{
-    has_each(table, needed) && has_only(table, needed, others)
-}
-
-// Whether a table has each of these keys.
-fn has_each(table: &Table, keys: &[&str]) -> bool
-    ensures { result ≡ list_all (has_key (table_view table.now)) (map (λ k. k.now) keys.now) }
-{
-    for key in keys {
-        if value_at(table, key).is_none() {
-            return false;
-        }
-    }
-    true
-}
-
-// Whether each key of a table is one of these.
-fn has_only(table: &Table, needed: &[&str], others: &[&str]) -> bool
-    ensures { result ≡ all_keys
-        (λ key. is_among (map (λ k. k.now) needed.now) key || is_among (map (λ k. k.now) others.now) key)
-        (table_view table.now) }
-{
-    for key in table.keys() {
-        if !is_among(&*needed, key.as_str()) && !is_among(&*others, key.as_str()) {
-            return false;
-        }
-    }
-    true
-}
-
-// The text at a key, where it is one.
-pub(crate) fn string_at<'t>(table: &'t Table, key: &str) -> Option<&'t str>
-    ensures { option_map (λ s. s.now) result ≡ string_at key.now (table_view table.now) }
-{
-    match value_at(table, key) {
-        Some(value) => value.as_str(),
-        None => None,
-    }
-}
 
 // The name at a key, where it is a text that is a name.
 pub(crate) fn name_at(table: &Table, key: &str) -> Option<Name>
@@ -122,13 +58,10 @@ pub(crate) fn tables_at<'t>(
         option_map (λ ts. map (λ t. table_view t.now) ts.items) found
         ≡ tables_at key.now (table_view table.now)) }
 {
-    let Some(value) = value_at(table, key) else {
-        return Ok(None);
-    };
-    let Some(items) = value.as_array() else {
-        return Ok(None);
-    };
-    tables_of(alloc, items.as_slice())
+    match items_at(table, key) {
+        Some(items) => tables_of(alloc, items),
+        None => Ok(None),
+    }
 }
 
 // The same, and an empty list where the key is not there.

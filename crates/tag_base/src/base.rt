@@ -7,14 +7,14 @@ ghost use Rattle.tag_base.specs.Answers.{Answers, Reads, broken};
 ghost use Rattle.tag_base.specs.Bases.{tables_of, base_arrays, base_tables, BaseRead};
 ghost use Rattle.tag_base.specs.Groups.{IsSound};
 
-use crate::access::{has_keys, tables_at, tables_if_there};
+use crate::access::{tables_at, tables_if_there};
 use crate::definition::Base;
-use crate::document::document;
 use crate::group::groups_of;
 use crate::refusal::{TextNo, broken, limited};
 use crate::tag::tags_of;
 use std::alloc::Global;
 use toml::Table;
+use toml_tables::{document, has_keys};
 use trend_num::{WantOfMemory, What};
 
 // The most tags of a base.

@@ -6,12 +6,13 @@ ghost use Rattle.calc_check.specs.Group.{calculation};
 ghost use Rattle.tag_base.specs.Answers.{Reads};
 ghost use Rattle.tag_base.specs.Groups.{text_of, told_of, calc_text, calcs_after, calcs_at, Define, IsFirstRefused, CalcsRead};
 
-use crate::access::{has_keys, name_at, string_at, tables_at};
+use crate::access::{name_at, tables_at};
 use crate::refusal::TextNo;
 use calc_check::{CalcDef, CheckNo, Checked, check};
 use calc_parser::{ParseNo, parse};
 use std::alloc::Global;
 use toml::Table;
+use toml_tables::{has_keys, string_at};
 use trend_num::{Name, WantOfMemory, same_name};
 
 // The most bytes of a formula.

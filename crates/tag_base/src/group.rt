@@ -4,13 +4,14 @@ ghost use Rattle.toml.specs.View.{table_view};
 ghost use Rattle.tag_base.specs.Answers.{Answers, Reads};
 ghost use Rattle.tag_base.specs.Groups.{group_place, new_group_name, text_of, form_of, group_text, IsSoundText, IsSound, GroupRead, GroupsRead};
 
-use crate::access::{has_keys, name_at, number_at};
+use crate::access::{name_at, number_at};
 use crate::calculation::{CalcText, calcs_at, checked};
 use crate::definition::GroupDef;
 use crate::input::{Input, inputs_at};
 use crate::refusal::{TextNo, broken, limited};
 use std::alloc::Global;
 use toml::Table;
+use toml_tables::has_keys;
 use trend_num::{MAX_T, Name, TagDef, WantOfMemory, What};
 
 // The most calculations of a group.
@@ -148,10 +149,8 @@ pub(crate) fn groups_of(
 {
     let mut groups = Vec::new(alloc);
     for table in tables {
-        match group_of(alloc, tags, &groups, table) {
-            Ok(group) => groups.push(group)?,
-            Err(why) => return Err(why),
-        }
+        let group = group_of(alloc, tags, &groups, table)?;
+        groups.push(group)?;
     }
     Ok(groups)
 }

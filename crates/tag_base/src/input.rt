@@ -1,12 +1,12 @@
 // The inputs of a group.
-ghost use Rattle.std.specs.Prelude.{◌≡◌, ◌↔◌, ◌<◌, ◌≤◌, [], length, vec_len, All, IfOk, IfSome, IsTrue, option_map};
+ghost use Rattle.std.specs.Prelude.{◌≡◌, ◌<◌, ◌≤◌, [], length, vec_len, All, IfOk, IfSome, option_map};
 ghost use Rattle.toml.specs.View.{items_view, table_view};
-ghost use Rattle.tag_base.specs.Groups.{is_input, new_input, named_input, inputs_after, is_input_count, inputs_of, inputs_at};
+ghost use Rattle.tag_base.specs.Groups.{is_input, new_input, named_input, inputs_after, inputs_of, inputs_at};
 
-use crate::access::value_at;
 use crate::tag::tag_place;
 use std::alloc::Global;
 use toml::{Table, Value};
+use toml_tables::{has_count, items_at};
 use trend_num::{Name, TagDef, WantOfMemory};
 
 // The most inputs of a group.
@@ -82,16 +82,6 @@ fn inputs_of(
     Ok(Some(inputs))
 }
 
-// Whether there are as many items as a group may have inputs.
-#[tactic(auto, using(crate::proofs::Items::count_of_items))]
-fn is_input_count(items: &[Value]) -> bool
-    ensures told { result ≡ is_input_count (items_view items.now) }
-    ensures counted { IsTrue result ↔ ((1 ≤ length items.now) × (length items.now ≤ 64)) }
-{
-    let count = items.len();
-    1 <= count && count <= MAX_INPUTS
-}
-
 // The inputs of the table of a group, where they are 1 to 64 tags that are no step tags, none twice.
 pub(crate) fn inputs_at(
     alloc: Global,
@@ -106,14 +96,11 @@ pub(crate) fn inputs_at(
     ensures some { IfOk result (λ found. IfSome found (λ inputs. 1 ≤ vec_len inputs)) }
     ensures few { IfOk result (λ found. IfSome found (λ inputs. vec_len inputs ≤ 64)) }
 {
-    let Some(value) = value_at(table, "tags") else {
+    let Some(items) = items_at(table, "tags") else {
         return Ok(None);
     };
-    let Some(items) = value.as_array() else {
-        return Ok(None);
-    };
-    if !is_input_count(items.as_slice()) {
+    if !has_count(items, MAX_INPUTS) {
         return Ok(None);
     }
-    inputs_of(alloc, tags, items.as_slice())
+    inputs_of(alloc, tags, items)
 }

@@ -11,7 +11,6 @@ mod access;
 mod base;
 mod calculation;
 mod definition;
-mod document;
 mod file_name;
 mod group;
 mod input;

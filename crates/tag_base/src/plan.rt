@@ -5,15 +5,15 @@ ghost use Rattle.toml.specs.View.{table_view};
 ghost use Rattle.tag_base.specs.Answers.{Answers, broken};
 ghost use Rattle.tag_base.specs.Plans.{most_files, tables_of, plan_arrays, plan_tables, file_of, files_after, is_refreshed, new_group, refresher_of, refreshers_after, plan_parts, plan};
 
-use crate::access::{has_keys, number_at, string_at, tables_if_there};
+use crate::access::{number_at, tables_if_there};
 use crate::definition::{Base, GroupDef};
-use crate::document::document;
 use crate::file_name::FileName;
 use crate::group::group_place;
 use crate::refusal::{TextNo, broken, limited};
 use crate::schedule::{Plan, Refresher};
 use std::alloc::Global;
 use toml::Table;
+use toml_tables::{document, has_keys, string_at};
 use trend_num::{WantOfMemory, What};
 
 // The most collectors of a plan, and the most readers.

@@ -6,10 +6,11 @@ ghost use Rattle.trend_num.specs.Ranges.{TuningInRange};
 ghost use Rattle.tag_base.specs.Answers.{Answers};
 ghost use Rattle.tag_base.specs.Tags.{is_text_if_there, has_tag_form, tuning_at, step_of, tag_place, new_tag_name, tag_of, tags_after};
 
-use crate::access::{has_keys, name_at, number_at, value_at};
+use crate::access::{name_at, number_at};
 use crate::refusal::{TextNo, broken};
 use std::alloc::Global;
 use toml::{Table, Value};
+use toml_tables::{has_keys, value_at};
 use trend_num::{MAX_DEV, MAX_T, Name, TagDef, Tuning};
 
 // Whether a value is not there, or is a text.

@@ -1,25 +1,27 @@
 use Rattle.std.proofs.Common.{◌≡◌, ◌+◌, ◌∙◌, ◌++◌, ◌∷◌, [], All, ap, sym, subst, take, arith}
 use Rattle.std.proofs.lemmas.Grind.{common_steps}
 use Rattle.std.proofs.lemmas.List.Elements.{All-push}
+use Rattle.std.proofs.lemmas.Result.{err_from_is_err_and}
 use Rattle.value_rows.specs.Asked.{IsQuery}
 use Rattle.plant_files.specs.Asked.{AreReaderFiles, IsReaderFile, IsReaderRefusal, reader_at}
 use Rattle.plant_files.proofs.InOrder.{AreRowFiles-more, first_refused}
 use Rattle.plant_files.proofs.queries.queries_over.Goals as goal
 
-pub returns-in-Err-clause-refused : goal.returns-in-Err-clause-refused
-returns-in-Err-clause-refused g c _ =
+pub returns-in_err-queries-clause-refused : goal.returns-in_err-queries-clause-refused
+returns-in_err-queries-clause-refused g c =
     let tags = c.args.tags.now in
     let groups = c.args.groups.now in
     let told = g.F.Files.told c.args.files.now in
     let i = c.loop-reader.reader-index in
     let file = c.reader-item.result in
-    let why = c.in-Err.why in
+    let why = c.in_err-queries.field-0.0 in
     let place : c.len.result ≡ i = omega arith in
     let numbered = subst (λ f. IsReaderRefusal tags groups f (g.F.Files.told c.loop-reader.files file) why)
-    (c.reader_at-file.ensures ∙ ap reader_at place) c.in-Err.ensures.refused in
+    (c.reader_at-file.ensures ∙ ap reader_at place) c.in_err-queries.ensures.refused in
     let refused = subst (λ t. IsReaderRefusal tags groups (reader_at i) (t file) why) c.loop-reader.invariant.stays numbered in
-    first_refused (IsReaderFile tags groups) told (λ place. IsReaderRefusal tags groups (reader_at place)) c.args.readers.now i file c.loop-reader.lists.items why c.loop-reader-test.true c.reader-item.is
-    c.loop-reader.invariant.read refused
+    let p = err_from_is_err_and c.from_residual.result c.from_residual.ensures.1 in
+    rw (p.1, p.2) (λ _. first_refused (IsReaderFile tags groups) told (λ place. IsReaderRefusal tags groups (reader_at place)) c.args.readers.now i file c.loop-reader.lists.items why c.loop-reader-test.true c.reader-item.is
+    c.loop-reader.invariant.read refused)
 
 pub loop-reader-preserved : goal.loop-reader-preserved
 loop-reader-preserved g c =
@@ -30,17 +32,17 @@ loop-reader-preserved g c =
     let i = c.loop-reader.reader-index in
     let file = c.reader-item.result in
     let lists = c.loop-reader.lists.items in
-    let queries = c.in-Ok.queries in
+    let queries = c.in_ok-queries.queries in
     let one : IsReaderFile tags groups (told file) queries =
-    subst (λ t. IsReaderFile tags groups (t file) queries) c.loop-reader.invariant.stays c.in-Ok.ensures.queries in
+    subst (λ t. IsReaderFile tags groups (t file) queries) c.loop-reader.invariant.stays c.in_ok-queries.ensures.queries in
     let grown : c.push.new.self.items ≡ lists ++ queries ∷ [] = grind (arith, common_steps) in
     record {
       read = subst (AreReaderFiles tags groups told (take (i + 1) readers)) (sym grown)
           (AreRowFiles-more (IsReaderFile tags groups) told readers i file lists queries c.loop-reader-test.true c.reader-item.is
           c.loop-reader.invariant.read one);
       in_range = subst (All (All (IsQuery tags groups))) (sym grown)
-          (All-push (All (IsQuery tags groups)) lists queries c.loop-reader.invariant.in_range c.in-Ok.ensures.in_range);
+          (All-push (All (IsQuery tags groups)) lists queries c.loop-reader.invariant.in_range c.in_ok-queries.ensures.in_range);
       as_many = grind (arith, common_steps);
-      stays = c.in-Ok.ensures.stays ∙ c.loop-reader.invariant.stays;
-      no_fault = c.in-Ok.ensures.faults ∙ c.loop-reader.invariant.no_fault;
+      stays = c.in_ok-queries.ensures.stays ∙ c.loop-reader.invariant.stays;
+      no_fault = c.in_ok-queries.ensures.faults ∙ c.loop-reader.invariant.no_fault;
     }

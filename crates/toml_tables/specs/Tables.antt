@@ -1,0 +1,46 @@
+-- What a table of a TOML document has, and what stands at its keys.
+use Rattle.std.specs.Prelude.{ℕ, Bool, true, if◌then◌else◌, ◌&&◌, ◌||◌, ◌+◌, List, Option, None, is_some, option_and_then, bytes_eq, nat_le}
+use Rattle.std.specs.List.{list_any, list_all}
+use Rattle.std.specs.Str.{is_utf8}
+use Rattle.toml.specs.Data.{Items, Members, no_items, item, no_members, member, get_member, as_str, as_array}
+use Rattle.toml.specs.Parse.{parse_document}
+
+-- the document that bytes are, if they are one
+abbrev pub document : List ℕ → Option Members
+document bytes = if is_utf8 bytes then parse_document bytes else None
+
+-- ---- keys
+
+abbrev pub is_among : List (List ℕ) → List ℕ → Bool
+is_among keys key = list_any (λ k. bytes_eq k key) keys
+
+-- every key passes a test
+abbrev pub all_keys : (List ℕ → Bool) → Members → Bool
+all_keys test no_members = true
+all_keys test (member key d ms) = test key && all_keys test ms
+
+abbrev pub has_key : Members → List ℕ → Bool
+has_key ms key = is_some (get_member key ms)
+
+-- each of the needed keys is there, and no key but these and the others
+abbrev pub has_keys : List (List ℕ) → List (List ℕ) → Members → Bool
+has_keys needed others ms =
+    list_all (has_key ms) needed && all_keys (λ key. is_among needed key || is_among others key) ms
+
+-- ---- values
+
+-- the text at a key, where it is one
+abbrev pub string_at : List ℕ → Members → Option (List ℕ)
+string_at key ms = option_and_then as_str (get_member key ms)
+
+-- the array at a key, where it is one
+abbrev pub array_at : List ℕ → Members → Option Items
+array_at key ms = option_and_then as_array (get_member key ms)
+
+abbrev pub item_count : Items → ℕ
+item_count no_items = 0
+item_count (item d ds) = item_count ds + 1
+
+-- an item or more, and no more than so many
+abbrev pub is_count : ℕ → Items → Bool
+is_count most items = nat_le 1 (item_count items) && nat_le (item_count items) most
