@@ -10,6 +10,8 @@ use Rattle.plant_status.specs.declared.status.Status.{Status}
 use Rattle.plant_status.specs.declared.unit.Unit.TheVariants.{Tag}
 use Rattle.tag_base.specs.declared.definition.Base.{Base}
 use Rattle.tag_base.specs.declared.definition.GroupDef.{GroupDef}
+use Rattle.plant_files.specs.RowFiles.{ToldFiles}
+use Rattle.plant_files.specs.Texts.{IsBaseFile}
 use Rattle.tag_store.specs.Refusals as tags
 use Rattle.tag_store.specs.Tags as tag
 use Rattle.book_store.specs.Groups as group
@@ -18,7 +20,7 @@ use Rattle.book_store.specs.Refusals as groups
 use Rattle.book_store.specs.Refusals.{IsRefusal}
 use Rattle.book_store.proofs.Devices as book
 use Rattle.trend_command.specs.Replies.{Rows}
-use Rattle.store_commands.specs.Commands.{AreRestSame, CountsDevices}
+use Rattle.store_commands.specs.Commands.{AreAllKept, AreRestSame, CountsDevices}
 use Rattle.store_commands.specs.GroupRows.{AreGroupsTold, IsGroupTold, IsRowsRefusal, IsTooMuchAt, OfCells, OfCopies, OfOpening, OfWant}
 
 -- no group's device is called as a tag's
@@ -98,9 +100,24 @@ left_after (t ∷ ts) (c ∷ cs) old mid new same left = (
 )
 
 -- no device but theirs has changed
-pub rest_same : (base : Base) (old mid new : Devices) → tag.AreOthersSame base.tags.items old mid
+rest_same : (base : Base) (old mid new : Devices) → tag.AreOthersSame base.tags.items old mid
     → group.AreOthersSame base.groups.items mid new → AreRestSame base old new
 rest_same base old mid new first second n no_tag no_group = second n no_group ∙ first n no_tag
+
+-- first the tags are opened, and then the groups
+pub all_kept : (name : List ℕ) (told : ToldFiles) (base : Base) (gs : List GroupDef) (old mid new : Devices) → gs ≡ base.groups.items
+    → IsBaseFile (told name) base → tag.AllStaySame base.tags.items old mid → tag.AreOthersSame base.tags.items old mid
+    → group.AllStaySame gs mid new → group.AreOthersSame gs mid new → AreAllKept name told old new
+all_kept name told base gs old mid new are read tags_stay first stay second =
+    let others = subst (λ l. group.AreOthersSame l mid new) are second in
+    inr (
+      base,
+      read,
+      kept_after base.tags.items old mid new (tags_same base.groups.items mid new others) tags_stay,
+      same_before base.groups.items [] old mid (groups_same base.tags.items old mid first) new
+          (subst (λ l. group.AllStaySame l mid new) are stay),
+      rest_same base old mid new first others,
+    )
 
 -- ---- faults
 

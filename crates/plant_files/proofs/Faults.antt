@@ -1,9 +1,7 @@
--- Of which file a read fault is told, and what the names of a base give.
-use Rattle.std.proofs.Common.{◌≡◌, ◌∙◌, ◌+◌, ℕ, List, Option, arith, length, subst, sym}
-use Rattle.std.specs.Prelude.{◌≢◌, AllPairs}
-use Rattle.std.proofs.lemmas.List.{get_or-map, length-map}
+-- Of which file a read fault is told.
+use Rattle.std.proofs.Common.{◌≡◌, ◌∙◌, ◌+◌, ℕ, List, Option, subst, sym}
+use Rattle.std.specs.Prelude.{◌≢◌}
 use Rattle.byte_io.specs.Files.{FileTold, IsFaultOf}
-use Rattle.trend_num.specs.declared.tag_def.TagDef.{TagDef}
 use Rattle.tag_base.specs.declared.definition.Base.{Base}
 use Rattle.tag_base.specs.declared.definition.GroupDef.{GroupDef}
 use Rattle.tag_base.specs.declared.schedule.Plan.{Plan}
@@ -14,18 +12,10 @@ use Rattle.plant_status.specs.declared.status.Status.TheVariants.{Limit, ReadFau
 use Rattle.trend_num.specs.declared.refusal.What.TheVariants.{Rows}
 use Rattle.plant_files.specs.Asked.{IsQueriesRefusal}
 use Rattle.plant_files.specs.Collected.{AreRowsTooMany, IsRowsRefusal, most_rows}
+use Rattle.plant_files.specs.Faults.{IsFaultOfPlanned}
 use Rattle.plant_files.specs.Reading.{IsFaultAt}
 use Rattle.plant_files.specs.RowFiles.{ToldFiles}
-use Rattle.plant_files.specs.Texts.{IsBaseFile, IsBaseRefusal, IsPlanFile, IsPlanRefusal, tag_names}
-use Rattle.session_files.specs.Plans.{IsFaultOfPlanned}
-
--- tags of distinct names are distinct
-pub distinct_tags : (tags : List TagDef) → AllPairs (λ x y. x ≢ y) (tag_names tags) → AllPairs (λ a b. a.name ≢ b.name) tags
-distinct_tags tags all i j d less below same =
-    let named = λ (t : TagDef). t.name in
-    all i j d.name less (omega (arith, below, length-map tags named)) (
-    get_or-map named tags i d d.name (omega (arith, less, below)) ∙ same
-    ∙ sym (get_or-map named tags j d d.name below))
+use Rattle.plant_files.specs.Texts.{IsBaseFile, IsBaseRefusal, IsPlanFile, IsPlanRefusal}
 
 -- want of memory, and more rows than there may be, are no read fault
 memory_is_no_fault : (which : FileId) → ReadFault which ≢ WantOfMemory
