@@ -15,8 +15,8 @@ use byte_io::Files;
 use disk_model::Store;
 use plant_files::base_of;
 use plant_status::Status;
-use store_commands::open_base;
 use std::alloc::Global;
+use store_commands::open_base;
 
 /// What `frames` prints of the calculation `calc` of the group `group`, over the base in the file `name`: what became of
 /// the frames of its saved row by one refresh from all records of the tags, and then the frames there are; those of at

@@ -105,11 +105,13 @@ pub fn run<R: Threads + Wait + Sync, I: Source, F: Files, O: Sink, S: Store, P: 
             session: session_of(alloc, log),
         };
     }
-    if let Some(DrillWords {
-        number,
-        tags,
-        events,
-    }) = drill_words(words)
+    if let Some(
+        DrillWords {
+            number,
+            tags,
+            events,
+        },
+    ) = drill_words(words)
     {
         let Ran { answer, session } = drill(rt, alloc, passes, number, tags, events);
         return Outcome {
