@@ -1,6 +1,6 @@
 -- How the opening of groups ends.
 use Rattle.std.proofs.Common.{◌≡◌, ◌≢◌, inl, inr, ℕ, ◌+◌, ◌^◌, ◌<◌, ◌≤◌, List, [], ◌∷◌, length, map, get_or, string_bytes, Option, None, Some, IsSome, Result, Ok, Err, refl, sym, ◌∙◌, ap, subst, arith}
-use Rattle.std.specs.Prelude.{String}
+use Rattle.std.specs.Prelude.{IsErrOf, String}
 use Rattle.std.specs.declared.alloc.Global.{Global}
 use Rattle.std.proofs.lemmas.Bool.{cases_lt}
 use Rattle.std.proofs.lemmas.List.{get_or_default, get_or-map, length-map}
@@ -117,6 +117,22 @@ counted U i before now (Damaged at byte) counts = inl (counts.refused (λ is. ab
 counted U i before now (Ahead input version found) counts = inl (counts.refused (λ is. absurd (cc (is))))
 counted U i before now (Shape windows rows) counts = inl (counts.refused (λ is. absurd (cc (is))))
 counted U i before now WantOfMemory counts = inl (counts.refused (λ is. absurd (cc (is))))
+
+-- an error is the one that is told
+error_is : {T : Type 0} (why no : LoadNo) → IsErrOf {T = T} (Err why) no → why ≡ no
+error_is why no is = cc (is)
+
+-- the faults of a refusal are counted from the first call on, whatever would have been made
+pub counted_since : {T U : Type 0} (before now after : ℕ) (why : LoadNo) → now ≡ before → before < 2 ^ 64
+    → (now < 2 ^ 64 → CountsFault {T = T} (Err why) DeviceFault now after) → CountsFault {T = U} (Err why) DeviceFault before after
+counted_since before now after why same small counts =
+    let one = counts (subst (λ n. n < 2 ^ 64) (sym same) small) in
+    record {
+      later = subst (λ n. n ≤ after) same one.later;
+      passed = tt;
+      failed = λ is. subst (λ n. Rose n after) same (fails why now after one (error_is why DeviceFault is));
+      refused = λ no. one.refused (λ is. no (ap Err (error_is why DeviceFault is))) ∙ same;
+    }
 
 -- and a count stays in its type
 pub stays_small : {T : Type 0} (why : LoadNo) (before now : ℕ) → before < 2 ^ 64

@@ -24,7 +24,7 @@ module _ (gs : List GroupDef) (records : List (List Rec)) (old mid : Devices) (s
   }
 
   -- and groups
-  opened_before : (many : ℕ) (openings : List GroupOpening) → AreOpened many gs records mid openings
+  pub opened_before : (many : ℕ) (openings : List GroupOpening) → AreOpened many gs records mid openings
       → AreOpened many gs records old openings
   opened_before many openings opened k g x below =
       subst (λ o. IsOpening (get_or gs k g) (records_of records (get_or gs k g)) o (get_or openings k x)) (same (get_or gs k g))

@@ -95,10 +95,8 @@ fn open_all<S: Store>(
 {
     for place in 0..groups.len() {
         let (group, name) = (&groups[place], names[place].as_str());
-        match open_book(alloc, store, place as u32, group, name, records) {
-            Ok(book) => books.push_reserved(book),
-            Err(why) => return Err(why),
-        }
+        let book = open_book(alloc, store, place as u32, group, name, records)?;
+        books.push_reserved(book);
     }
     Ok(())
 }

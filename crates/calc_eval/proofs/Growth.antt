@@ -10,7 +10,7 @@ use Rattle.calc_parser.specs.Tree.{tree_of}
 use Rattle.calc_check.specs.declared.definition.CalcDef.{CalcDef}
 use Rattle.trend_num.specs.declared.value.CalcValue.{CalcValue}
 use Rattle.calc_check.specs.Group.{Calculation, Group, calculation, group_of}
-use Rattle.calc_eval.specs.Value.{scope, value, values}
+use Rattle.sheet_law.specs.Value.{scope, value, values}
 
 -- a list with elements added, each made of those before it and of one of xs
 abbrev pub grown : {A B : Type 0} → (List B → A → B) → List B → List A → List B

@@ -1,4 +1,3 @@
 pub mod Quotient
 pub mod Growth
 pub mod Range
-pub mod Window

@@ -16,9 +16,9 @@ use Rattle.calc_parser.specs.Tree.{Tree, num, window, calc, neg, abs, two, compa
 use Rattle.trend_num.specs.declared.value.Bad.TheVariants.{NoData, DivZero, Range}
 use Rattle.trend_num.specs.declared.value.CalcValue.{CalcValue}
 use Rattle.trend_num.specs.declared.value.CalcValue.TheVariants.{Num, Bad}
-use Rattle.calc_eval.specs.Number.{bounded, IsInRange, measured_value, after, floor_div, floor_rem, operated, holds, compared}
+use Rattle.sheet_law.specs.Number.{bounded, IsInRange, measured_value, after, floor_div, floor_rem, operated, holds, compared}
 use Rattle.calc_check.specs.Group.{Group, Calculation, names_of}
-use Rattle.calc_eval.specs.Value.{Scope, value, at_name, scope, values}
+use Rattle.sheet_law.specs.Value.{Scope, value, at_name, scope, values}
 
 -- either of two values that are in the range
 either : (b : Bool) (v w : CalcValue) → IsInRange v → IsInRange w → IsInRange (cond b v w)

@@ -1,6 +1,6 @@
 //! The calculation language: the values of checked formulas.
 //!
-//! Its model is the value of a tree in a window, defined in `specs/` over the points of the inputs and the values
+//! Its model is the value of a tree in a window, which `sheet_law` defines over the points of the inputs and the values
 //! of earlier calculations; the values of a group are those of its calculations in order, each by the ones before
 //! it. `eval` gives the value of one calculation of a checked group in one step, without memory.
 #![tactic(auto)]

@@ -87,38 +87,19 @@ in_brackets factor d = record { height_le = omega arith; weight_le = omega arith
 abbrev pub best : (level : Level) → Tree → Reading level
 best level t = lift (own t) level (direct t)
 
+-- smaller than what is smaller, also where a level lies between
+smaller_again : {a b c e : Level} {x : Reading a} {y : Reading b} {z : Reading c} {w : Reading e} → IsSmaller x y → IsSmaller y z
+    → height z ≡ height w → weight z ≡ weight w → IsSmaller x w
+smaller_again first second deep long = record {
+  height_le = omega (arith, first.height_le, second.height_le, deep);
+  weight_le = omega (arith, first.weight_le, second.weight_le, long);
+}
+
 -- the tree's own derivation is no deeper and no longer
 pub smaller : {level : Level} (d : Reading level) → IsSmaller (best level (tree d)) d
-smaller (plain s) =
-    let a = smaller s in let l = looser_sums (own (tree s)) (direct (tree s)) in
-    record {
-      height_le = omega (arith, a.height_le, l.height_le);
-      weight_le = omega (
-        arith,
-        a.weight_le,
-        l.weight_le,
-      );
-    }
-smaller (one_term t) =
-    let a = smaller t in let l = looser_terms (own (tree t)) (direct (tree t)) in
-    record {
-      height_le = omega (arith, a.height_le, l.height_le);
-      weight_le = omega (
-        arith,
-        a.weight_le,
-        l.weight_le,
-      );
-    }
-smaller (one_factor f) =
-    let a = smaller f in let l = looser_factor (own (tree f)) (direct (tree f)) in
-    record {
-      height_le = omega (arith, a.height_le, l.height_le);
-      weight_le = omega (
-        arith,
-        a.weight_le,
-        l.weight_le,
-      );
-    }
+smaller (plain s) = smaller_again (looser_sums (own (tree s)) (direct (tree s))) (smaller s) refl refl
+smaller (one_term t) = smaller_again (looser_terms (own (tree t)) (direct (tree t))) (smaller t) refl refl
+smaller (one_factor f) = smaller_again (looser_factor (own (tree f)) (direct (tree f))) (smaller f) refl refl
 smaller (grouped d) =
     let a = smaller d in let l = in_brackets (own (tree d)) (direct (tree d)) in
     record {

@@ -7,7 +7,7 @@ use Rattle.std.proofs.lemmas.List.{get_or-map, length_push, length-map, map-set,
 use Rattle.std.proofs.lemmas.Option.{slice_get_within, get_or_from_slice_get}
 use Rattle.trend_num.specs.declared.point.Point.{Point}
 use Rattle.calc_check.specs.Group.{Calculation, Group}
-use Rattle.calc_eval.specs.Value.{scope, value, values}
+use Rattle.sheet_law.specs.Value.{scope, value, values}
 use Rattle.trend_num.specs.declared.value.CalcValue.{CalcValue}
 use Rattle.sheet_law.specs.Scratch.{column}
 use Rattle.calc_refresh.specs.Lists.{lists_of}

@@ -13,7 +13,7 @@ use Rattle.trend_num.specs.Ranges.{InRange, last_time}
 use Rattle.trend_model.specs.Content.{is_late_record}
 use Rattle.trend_model.specs.Contents.{ContentState, listed, points_of}
 use Rattle.calc_check.specs.Group.{Group}
-use Rattle.calc_eval.specs.Value.{points_in, values}
+use Rattle.sheet_law.specs.Value.{points_in, values}
 use Rattle.sheet_law.specs.declared.grid.Grid.{Grid}
 use Rattle.sheet_law.specs.Windows.{complete_windows, is_complete, reaches, window_from, window_to}
 use Rattle.sheet_law.specs.Touched.{any_touched, longer}

@@ -3,7 +3,7 @@ ghost use Rattle.std.specs.Prelude.{◌≡◌, ◌≢◌, ℕ, ◌+◌, ◌*◌,
 ghost use Rattle.std.specs.Prelude.{vec_len, vec_capacity};
 ghost use Rattle.std.specs.List.{range_with_len};
 ghost use Rattle.trend_num.specs.Ranges.{last_time};
-ghost use Rattle.calc_eval.specs.Value.{points_in, values};
+ghost use Rattle.sheet_law.specs.Value.{points_in, values};
 ghost use Rattle.sheet_law.specs.Windows.{window_from, window_to};
 ghost use Rattle.sheet_law.specs.Scratch.{column};
 ghost use Rattle.calc_refresh.specs.Lists.{lists_of};

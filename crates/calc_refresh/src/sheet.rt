@@ -91,7 +91,7 @@ fn empty_copies(alloc: Global, inputs: usize) -> Result<Vec<Vec<Rec>>, WantOfMem
     let mut copies = Vec::new(alloc);
     for _ in 0..inputs {
         let copy = Vec::new(alloc);
-        copies.push(copy).map_err(|_| WantOfMemory)?;
+        copies.push(copy)?;
     }
     Ok(copies)
 }
@@ -103,7 +103,7 @@ fn empty_rows(alloc: Global, calcs: usize) -> Result<Vec<Vec<CalcValue>>, WantOf
     let mut rows = Vec::new(alloc);
     for _ in 0..calcs {
         let row = Vec::new(alloc);
-        rows.push(row).map_err(|_| WantOfMemory)?;
+        rows.push(row)?;
     }
     Ok(rows)
 }

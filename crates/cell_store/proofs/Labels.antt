@@ -86,6 +86,21 @@ pub name_of_tag : (names : List (String Global)) (tags : List TagDef) (i k : ℕ
 name_of_tag names tags i k name text def same tag place is bytes = bytes
     ∙ name_at names tags i name def same tag.there (is ∙ ap (λ j. get_or names j name) place) tag.is
 
+-- a tag, by its place, and the name of its device, which was looked up under the same number
+pub record IsNamed (tags : List TagDef) (i k : ℕ) (text : List ℕ) (def : TagDef) : Type 0 where
+  pub tag : IsTag tags i def
+  pub place : k ≡ i
+  pub named : text ≡ device_name def.name
+
+pub named_at : (names : List (String Global)) (tags : List TagDef) (i k : ℕ) (name : String Global) (text : List ℕ) (def : TagDef)
+    → texts names ≡ names_of tags → i < length tags → def ≡ get_or tags i def → k ≡ i → name ≡ get_or names k name
+    → text ≡ string_bytes name → IsNamed tags i k text def
+named_at names tags i k name text def same there def_is place is bytes = record {
+  tag = record { there = there; is = def_is };
+  place = place;
+  named = name_of_tag names tags i k name text def same (record { there = there; is = def_is }) place is bytes;
+}
+
 -- the store has a place for one device more
 pub places_more : (old new : List ℕ → Bool) (names : List (String Global)) (i k : ℕ) (name : String Global) (text : List ℕ)
     → HasPlaces old (take i (texts names)) → ((n : List ℕ) → IsTrue (old n) → IsTrue (new n)) → IsTrue (new text)

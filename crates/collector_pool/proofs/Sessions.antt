@@ -1,6 +1,5 @@
 -- The notes of all workers, once they have ended.
-use Rattle.std.proofs.Common.{◌≡◌, ℕ, suc, zero, ◌<◌, List, [], ◌∷◌, length, drop, map, get_or, refl, sym, ◌∙◌, ap, subst, arith}
-use Rattle.std.proofs.lemmas.List.{length-map}
+use Rattle.std.proofs.Common.{◌≡◌, ℕ, ◌<◌, List, length, drop, map, get_or, sym, ◌∙◌, ap, subst, arith}
 use Rattle.std.proofs.lemmas.List.Elements.{All-drop, All-get_or}
 use Rattle.std.specs.Prelude.{All, Option, Vec}
 use Rattle.std.specs.declared.alloc.Global.{Global}
@@ -9,6 +8,7 @@ use Rattle.trend_num.specs.declared.value.CalcValue.{CalcValue}
 use Rattle.value_rows.specs.declared.asked.Query.{Query}
 use Rattle.value_rows.specs.declared.raw.RawRow.{RawRow}
 use Rattle.snapshot_table.specs.Boards.{Looking, LooksAt}
+use Rattle.plant_status.proofs.Elements.{element, mapped_at, mapped_length}
 use Rattle.collector_pool.specs.declared.group_turns.TurnNo.{TurnNo}
 use Rattle.collector_pool.specs.declared.note.WorkerNote.{WorkerNote}
 use Rattle.collector_pool.specs.declared.slot.Role.{Role}
@@ -21,23 +21,6 @@ use Rattle.collector_pool.specs.RowAsk.{RowAsk}
 use Rattle.collector_pool.specs.Slots.{AreDone, AreSeated, IsNoteAs, IsRoleOf, worker_of}
 use Rattle.collector_pool.specs.Work.{IsQueryOf, IsRowOf, IsWorkOf, worker_count}
 use Rattle.collector_pool.proofs.Firsts.{same_item}
-
--- an element of a list
-element : {A : Type 0} (xs : List A) (i : ℕ) → i < length xs → A
-element [] i few = absurd (omega arith)
-element (x ∷ xs) zero few = x
-element (x ∷ xs) (suc i) few = element xs i (omega arith)
-
--- the length of a mapped list
-mapped_length : {A B : Type 0} (f : A → B) (xs : List A) → length (map f xs) ≡ length xs
-mapped_length f xs = simp length-map
-
--- an element of a mapped list
-mapped_at : {A B : Type 0} (f : A → B) (xs : List A) (i : ℕ) (d : A) (e : B) → i < length xs
-    → get_or (map f xs) i e ≡ f (get_or xs i d)
-mapped_at f [] i d e few = absurd (omega arith)
-mapped_at f (x ∷ xs) zero d e few = refl
-mapped_at f (x ∷ xs) (suc i) d e few = mapped_at f xs i d e (omega arith)
 
 module _ (D : Type 0) (tells : RowAsk → ℕ → Option CalcValue → Type 0) (refuses : ℕ → TurnNo → Type 0) (w : Work) where
   -- the note of a worker in its role is that of its place

@@ -1,5 +1,5 @@
 // A session: all workers beside each other.
-ghost use Rattle.std.specs.Prelude.{◌≡◌, ℕ, ◌+◌, ◌^◌, ◌<◌, ◌≤◌, List, [], All, IfOk, OnErr, length, map, slice_index_or, vec_capacity, vec_len};
+ghost use Rattle.std.specs.Prelude.{◌≡◌, ℕ, ◌+◌, ◌^◌, ◌<◌, ◌≤◌, List, [], All, IfOk, OnErr, length, slice_index_or, vec_capacity, vec_len};
 ghost use Rattle.snapshot_table.specs.Boards.{Looking, LooksAt};
 ghost use Rattle.collector_pool.specs.Notes.{AreNotesOf, halts, stops_with};
 ghost use Rattle.collector_pool.specs.Slots.{AreDone, AreSeated, IsDone, IsNoteAs, IsReady, IsRoleOf, IsSeatedAs};
@@ -13,7 +13,7 @@ use crate::refresher::refresh;
 use crate::slot::{Role, Slot};
 use crate::work::Work;
 use disk_model::Disk;
-use plant_status::{Pass, Passes};
+use plant_status::{Pass, Passes, gather};
 use snapshot_table::{Board, Looker};
 use std::alloc::Global;
 use std::sync::{Mutex, Wait};
@@ -278,22 +278,4 @@ fn work_as<D: Disk, G: GroupTurns<D>, O: Pass, R: Wait>(
             refresh(rt, alloc, cells, groups, worker, turns, pass)
         }
     }
-}
-
-// Gives every pass back, and keeps the notes.
-fn gather<P: Passes>(slots: Vec<Slot<P::One>>, passes: &mut P, notes: &mut Vec<WorkerNote>)
-    requires stopped { All (λ s. P.One.stops s.pass ≡ halts s.note.ending) slots.items }
-    requires none { notes.old.items ≡ [] }
-    requires room { vec_len slots ≤ vec_capacity notes.old }
-    ensures notes { notes.new.items ≡ map (λ s. s.note) slots.items }
-    ensures stops { P.stops passes.new ≡ stops_with (P.stops passes.old) notes.new.items }
-{
-    let mut rest = slots.into_iter();
-    while let Some(slot) = rest.next() {
-        let Slot { role, pass, note } = slot;
-        drop(role);
-        passes.give_back(pass);
-        notes.push_reserved(note);
-    }
-    rest.destroy_empty();
 }

@@ -1,18 +1,15 @@
 -- A row whose fields are kept, and rows read in turn.
-use Rattle.std.proofs.Common.{◌≡◌, ℕ, suc, ◌+◌, ◌-◌, ◌*◌, ◌<◌, true, List, [], ◌∷◌, ◌++◌, All, length-append, append_assoc, Option, sym, ap, ◌∙◌, subst, arith, lit<, ltb-true, leb-true}
-use Rattle.std.specs.Int.{w64, cast_signed}
+use Rattle.std.proofs.Common.{◌≡◌, ℕ, suc, ◌+◌, ◌-◌, ◌*◌, ◌<◌, true, List, [], ◌∷◌, ◌++◌, All, length-append, append_assoc, Option, refl, sym, ap, ◌∙◌, subst, arith, lit<, ltb-true, leb-true}
 use Rattle.std.proofs.lemmas.List.Elements.{All-push}
-use Rattle.std.proofs.lemmas.Int.{of_z-to_z}
-use Rattle.archive_file.specs.Fields.{number_bytes, value_bytes}
 use Rattle.archive_file.proofs.Joins.{images_push}
 use Rattle.archive_file.proofs.Points.{IsBytes}
 use Rattle.layout_fields.specs.declared.field.Field.{Field}
 use Rattle.commit_log.specs.declared.row.LogRow.{LogRow}
-use Rattle.layout_fields.specs.Fields.{BreaksFirst, Keeps, Spells, long_at, short_at}
+use Rattle.layout_fields.specs.Fields.{BreaksFirst, Keeps, Spells}
 use Rattle.commit_log.specs.Blocks.{IsRow, row_at, row_fields, row_image, rows_fields, rows_image}
 use Rattle.commit_log.specs.Openings.{AddsRows}
 use Rattle.layout_fields.proofs.FieldLaws.{KeptUpTo, breaks_after, breaks_within, kept_more, spells_both}
-use Rattle.layout_fields.proofs.Spellings.{spells_long, spells_short, long_below}
+use Rattle.layout_fields.proofs.Spellings.{ends_value, then_long, then_short}
 
 -- no field
 abbrev none : Field
@@ -28,36 +25,13 @@ module _ (c : List ℕ) (tags at : ℕ) (r : LogRow) (kept : All (Keeps c) (row_
 
   -- its bytes
   pub row_spelled : IsBytes c → r ≡ row_at c at → Spells c at (row_image r) (at + 32)
-  row_spelled bytes is = subst (λ x. Spells c at (row_image x) (at + 32)) (sym is) spelled
-    where
-      value : Spells c (at + 24) (value_bytes (cast_signed w64 (long_at c (at + 24)))) (at + 24 + 8)
-      value =
-          subst (λ n. Spells c (at + 24) (number_bytes 8 n) (at + 24 + 8))
-          (sym (of_z-to_z w64 (long_at c (at + 24)) (long_below c (at + 24) bytes)))
-          (spells_long c (at + 24) bytes (kept 4 none (lit< tt)).there)
-
-      tag : Spells c at (number_bytes 4 (short_at c at)) (at + 4)
-      tag = spells_short c at bytes (kept 0 none (lit< tt)).there
-
-      collector : Spells c (at + 4) (number_bytes 4 (short_at c (at + 4))) (at + 8)
-      collector = subst (λ n. Spells c (at + 4) (number_bytes 4 (short_at c (at + 4))) n) (omega arith)
-          (spells_short c (at + 4) bytes (kept 1 none (lit< tt)).there)
-
-      row : Spells c (at + 8) (number_bytes 8 (long_at c (at + 8))) (at + 16)
-      row = subst (λ n. Spells c (at + 8) (number_bytes 8 (long_at c (at + 8))) n) (omega arith)
-          (spells_long c (at + 8) bytes (kept 2 none (lit< tt)).there)
-
-      time : Spells c (at + 16) (number_bytes 8 (long_at c (at + 16))) (at + 24)
-      time = subst (λ n. Spells c (at + 16) (number_bytes 8 (long_at c (at + 16))) n) (omega arith)
-          (spells_long c (at + 16) bytes (kept 3 none (lit< tt)).there)
-
-      spelled : Spells c at (row_image (row_at c at)) (at + 32)
-      spelled =
-          spells_both c at (at + 4) (at + 32) (number_bytes 4 (short_at c at)) _ tag
-          (spells_both c (at + 4) (at + 8) (at + 32) (number_bytes 4 (short_at c (at + 4))) _ collector
-          (spells_both c (at + 8) (at + 16) (at + 32) (number_bytes 8 (long_at c (at + 8))) _ row
-          (spells_both c (at + 16) (at + 24) (at + 32) (number_bytes 8 (long_at c (at + 16))) _ time
-          (subst (λ n. Spells c (at + 24) (value_bytes (cast_signed w64 (long_at c (at + 24)))) n) (omega arith) value))))
+  row_spelled bytes is =
+      subst (λ x. Spells c at (row_image x) (at + 32)) (sym is)
+      (then_short c at (at + 4) (at + 32) _ bytes (kept 0 none (lit< tt)).there refl
+      (then_short c (at + 4) (at + 8) (at + 32) _ bytes (kept 1 none (lit< tt)).there (omega arith)
+      (then_long c (at + 8) (at + 16) (at + 32) _ bytes (kept 2 none (lit< tt)).there (omega arith)
+      (then_long c (at + 16) (at + 24) (at + 32) _ bytes (kept 3 none (lit< tt)).there (omega arith)
+      (ends_value c (at + 24) (at + 32) bytes (kept 4 none (lit< tt)).there (omega arith))))))
 
 -- ---- rows read in turn
 

@@ -276,18 +276,10 @@ fn read_back<L: Ledger, D: Disk>(
     ensures untimed { D.ticks dev.new ≡ D.ticks dev.old }
     ensures counts { CountsFault result DeviceFault (D.fault_count dev.old) (D.fault_count dev.new) }
 {
-    let header = match read_layout(dev, def) {
-        Ok(header) => header,
-        Err(why) => return Err(why),
-    };
-    let stored = match read_parts(alloc, dev, &header, def.step) {
-        Ok(stored) => stored,
-        Err(why) => return Err(why),
-    };
-    match read_core(alloc, dev, header.slots, stored, def.step, room, steps) {
-        Ok((seat, core)) => tuned(seat, core, def, steps),
-        Err(why) => Err(why),
-    }
+    let header = read_layout(dev, def)?;
+    let stored = read_parts(alloc, dev, &header, def.step)?;
+    let (seat, core) = read_core(alloc, dev, header.slots, stored, def.step, room, steps)?;
+    tuned(seat, core, def, steps)
 }
 
 // The tag, retuned where another tuning than the wanted one is in force.

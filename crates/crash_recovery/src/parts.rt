@@ -60,12 +60,7 @@ pub(crate) fn read_parts<D: Disk>(
     ensures untimed { D.ticks dev.new ≡ D.ticks dev.old }
     ensures counts { CountsFault result DeviceFault (D.fault_count dev.old) (D.fault_count dev.new) }
 {
-    let stored = match read_stored(alloc, dev, header) {
-        Ok(stored) => stored,
-        Err(why) => return Err(why),
-    };
-    match test_parts(dev, &stored, step) {
-        Ok(()) => Ok(stored),
-        Err(why) => Err(why),
-    }
+    let stored = read_stored(alloc, dev, header)?;
+    test_parts(dev, &stored, step)?;
+    Ok(stored)
 }

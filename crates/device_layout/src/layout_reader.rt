@@ -66,13 +66,8 @@ pub fn read_layout<D: Disk>(dev: &mut D, def: &TagDef) -> Result<Header, OpenNo>
     let Ok(len) = dev.len() else {
         return Err(OpenNo::DeviceFault);
     };
-    let header = match header_of(dev, len) {
-        Ok(header) => header,
-        Err(why) => return Err(why),
-    };
-    if let Err(why) = check_tag(&header.def, def) {
-        return Err(why);
-    }
+    let header = header_of(dev, len)?;
+    check_tag(&header.def, def)?;
     if len < log_start(header.slots) {
         return Err(ends_at(len));
     }
@@ -240,11 +235,7 @@ pub fn read_stored<D: Disk>(alloc: Global, dev: &mut D, header: &Header) -> Resu
     ensures untimed { D.ticks dev.new ≡ D.ticks dev.old }
     ensures counts { CountsFault result DeviceFault (D.fault_count dev.old) (D.fault_count dev.new) }
 {
-    let counting = match counting_slot(dev) {
-        Ok(counting) => counting,
-        Err(why) => return Err(why),
-    };
-    let Some(slot) = counting else {
+    let Some(slot) = counting_slot(dev)? else {
         return Ok(Stored {
             slot: None,
             summary: NO_SUMMARY,
@@ -252,20 +243,15 @@ pub fn read_stored<D: Disk>(alloc: Global, dev: &mut D, header: &Header) -> Resu
             tuning: header.def.tuning,
         });
     };
-    let summary = match counted(dev, slot) {
-        Ok(summary) => summary,
-        Err(why) => return Err(why),
-    };
+    let summary = counted(dev, slot)?;
     let tuning = in_force(header.def.tuning, summary.tuning);
-    match records_of(alloc, dev, header.slots, &summary) {
-        Ok(recs) => Ok(Stored {
-            slot: Some(slot),
-            summary,
-            recs,
-            tuning,
-        }),
-        Err(why) => Err(why),
-    }
+    let recs = records_of(alloc, dev, header.slots, &summary)?;
+    Ok(Stored {
+        slot: Some(slot),
+        summary,
+        recs,
+        tuning,
+    })
 }
 
 /// The refusal to open what was not read.

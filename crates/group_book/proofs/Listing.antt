@@ -7,7 +7,7 @@ use Rattle.std.proofs.lemmas.List.Quantifiers.{all_pairs_push}
 use Rattle.trend_num.specs.declared.value.Bad.TheVariants.{NoData, DivZero, Range}
 use Rattle.trend_num.specs.declared.value.CalcValue.{CalcValue}
 use Rattle.trend_num.specs.declared.value.CalcValue.TheVariants.{Num, Bad}
-use Rattle.calc_eval.specs.Number.{IsInRange}
+use Rattle.sheet_law.specs.Number.{IsInRange}
 use Rattle.group_layout.specs.declared.block.BlockRow.{BlockRow}
 use Rattle.group_layout.specs.Blocks.{IsBefore, IsRow, comes_before}
 use Rattle.group_layout.specs.Rows.{cell_of, listed_from, value_of}

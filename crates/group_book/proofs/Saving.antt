@@ -16,7 +16,7 @@ use Rattle.disk_model.proofs.Bytes.{length-written}
 use Rattle.disk_model.proofs.Images.{present}
 use Rattle.disk_model.proofs.Moments.{during_now, only_since, parted}
 use Rattle.calc_check.specs.Group.{Group}
-use Rattle.calc_eval.specs.Number.{IsInRange}
+use Rattle.sheet_law.specs.Number.{IsInRange}
 use Rattle.calc_eval.proofs.Range.{values_range}
 use Rattle.calc_refresh.specs.declared.definition.GroupDefParts.{GroupDefParts}
 use Rattle.calc_refresh.specs.Lists.{lists_of}

@@ -3,7 +3,7 @@ use Rattle.std.specs.Prelude.{◌≡◌, ◌≢◌, ℕ, pos, ◌+◌, ◌<◌, 
 use Rattle.trend_num.specs.declared.value.Bad.TheVariants.{NoData, DivZero, Range}
 use Rattle.trend_num.specs.declared.value.CalcValue.{CalcValue}
 use Rattle.trend_num.specs.declared.value.CalcValue.TheVariants.{Num, Bad}
-use Rattle.calc_eval.specs.Number.{IsInRange}
+use Rattle.sheet_law.specs.Number.{IsInRange}
 use Rattle.disk_model.specs.Calls.{Sees}
 use Rattle.disk_model.specs.Gates.{open_byte}
 use Rattle.disk_model.specs.Traces.{Trace, seen, written}

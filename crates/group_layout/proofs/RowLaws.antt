@@ -1,19 +1,16 @@
 -- A row whose fields are kept.
-use Rattle.std.proofs.Common.{◌≡◌, ℕ, suc, ◌+◌, ◌-◌, ◌<◌, ◌≤◌, inl, inr, true, List, [], ◌∷◌, ◌++◌, All, AllPairs, length, get_or, MatchOption, length-append, Option, None, Some, sym, ap, ◌∙◌, subst, arith, lit<, ltb-true, leb-true}
-use Rattle.std.specs.Int.{w64, cast_signed}
+use Rattle.std.proofs.Common.{◌≡◌, ℕ, suc, ◌+◌, ◌-◌, ◌<◌, ◌≤◌, inl, inr, true, List, [], ◌∷◌, ◌++◌, All, AllPairs, length, get_or, MatchOption, length-append, Option, None, Some, refl, sym, ap, ◌∙◌, subst, arith, lit<, ltb-true, leb-true}
 use Rattle.std.proofs.Math.Seq.{get_or-append_seam}
 use Rattle.std.proofs.lemmas.Bool.{and_parts, cases_lt}
 use Rattle.std.proofs.lemmas.Bool.Decides.{nat_tests}
 use Rattle.std.proofs.lemmas.List.Quantifiers.{all_pairs_push}
-use Rattle.std.proofs.lemmas.Int.{of_z-to_z}
-use Rattle.archive_file.specs.Fields.{number_bytes, value_bytes}
 use Rattle.archive_file.proofs.Points.{IsBytes}
 use Rattle.group_layout.specs.declared.block.BlockRow.{BlockRow}
 use Rattle.layout_fields.specs.declared.field.Field.{Field}
-use Rattle.layout_fields.specs.Fields.{BreaksFirst, Keeps, Spells, long_at, short_at}
+use Rattle.layout_fields.specs.Fields.{BreaksFirst, Keeps, Spells}
 use Rattle.group_layout.specs.Blocks.{IsBefore, IsRow, comes_before, is_in_order, row_at, row_fields, row_image, rows_fields}
-use Rattle.layout_fields.proofs.FieldLaws.{KeptUpTo, breaks_after, breaks_within, kept_more, spells_both}
-use Rattle.layout_fields.proofs.Spellings.{spells_byte, spells_long, spells_short, long_below}
+use Rattle.layout_fields.proofs.FieldLaws.{KeptUpTo, breaks_after, breaks_within, kept_more}
+use Rattle.layout_fields.proofs.Spellings.{ends_value, then_byte, then_short}
 
 -- no field
 abbrev none : Field
@@ -36,31 +33,12 @@ module _ (c : List ℕ) (calcs windows at : ℕ) (last : Option BlockRow) (r : B
 
   -- its bytes
   pub row_spelled : IsBytes c → r ≡ row_at c at → Spells c at (row_image r) (at + 17)
-  row_spelled bytes is = subst (λ x. Spells c at (row_image x) (at + 17)) (sym is) spelled
-    where
-      value : Spells c (at + 9) (value_bytes (cast_signed w64 (long_at c (at + 9)))) (at + 9 + 8)
-      value =
-          subst (λ n. Spells c (at + 9) (number_bytes 8 n) (at + 9 + 8))
-          (sym (of_z-to_z w64 (long_at c (at + 9)) (long_below c (at + 9) bytes)))
-          (spells_long c (at + 9) bytes (kept 3 none (lit< tt)).there)
-
-      calc : Spells c at (number_bytes 4 (short_at c at)) (at + 4)
-      calc = spells_short c at bytes (kept 0 none (lit< tt)).there
-
-      window : Spells c (at + 4) (number_bytes 4 (short_at c (at + 4))) (at + 8)
-      window = subst (λ n. Spells c (at + 4) (number_bytes 4 (short_at c (at + 4))) n) (omega arith)
-          (spells_short c (at + 4) bytes (kept 1 none (lit< tt)).there)
-
-      kind : Spells c (at + 8) (number_bytes 1 (get_or c (at + 8) 0)) (at + 9)
-      kind = subst (λ n. Spells c (at + 8) (number_bytes 1 (get_or c (at + 8) 0)) n) (omega arith)
-          (spells_byte c (at + 8) bytes (kept 2 none (lit< tt)).there)
-
-      spelled : Spells c at (row_image (row_at c at)) (at + 17)
-      spelled =
-          spells_both c at (at + 4) (at + 17) (number_bytes 4 (short_at c at)) _ calc
-          (spells_both c (at + 4) (at + 8) (at + 17) (number_bytes 4 (short_at c (at + 4))) _ window
-          (spells_both c (at + 8) (at + 9) (at + 17) (number_bytes 1 (get_or c (at + 8) 0)) _ kind
-          (subst (λ n. Spells c (at + 9) (value_bytes (cast_signed w64 (long_at c (at + 9)))) n) (omega arith) value)))
+  row_spelled bytes is =
+      subst (λ x. Spells c at (row_image x) (at + 17)) (sym is)
+      (then_short c at (at + 4) (at + 17) _ bytes (kept 0 none (lit< tt)).there refl
+      (then_short c (at + 4) (at + 8) (at + 17) _ bytes (kept 1 none (lit< tt)).there (omega arith)
+      (then_byte c (at + 8) (at + 9) (at + 17) _ bytes (kept 2 none (lit< tt)).there (omega arith)
+      (ends_value c (at + 9) (at + 17) bytes (kept 3 none (lit< tt)).there (omega arith)))))
 
 -- ---- rows in order
 

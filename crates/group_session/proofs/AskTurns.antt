@@ -1,6 +1,5 @@
 -- A question of a reader that was answered on a book.
 use Rattle.std.proofs.Common.{◌≡◌, ℕ, zero, suc, ◌+◌, ◌<◌, List, [], ◌∷◌, ◌++◌, All, length, get_or, None, IfSome, true, refl, sym, ap, subst, ◌∙◌, arith, append-nil, append_assoc}
-use Rattle.std.proofs.lemmas.List.{get_or_default}
 use Rattle.std.proofs.lemmas.List.Elements.{All-append, All-get_or}
 use Rattle.std.proofs.lemmas.Option.{get_or_from_slice_get, slice_get_within}
 use Rattle.value_rows.specs.declared.asked.Query.{Query}
@@ -8,16 +7,15 @@ use Rattle.value_rows.specs.declared.asked.Query.TheVariants as query
 use Rattle.plant_status.specs.declared.mismatch.Seen.TheVariants.{Row}
 use Rattle.tape_audit.specs.Agendas.{IsNext, row_item}
 use Rattle.tape_audit.specs.Found.{Reached, lacks, place_at}
-use Rattle.tape_audit.proofs.Catching.{lacks_none}
-use Rattle.tape_audit.proofs.Numbers.{numbered_at}
 use Rattle.plant_session.specs.Workers.{IsCaughtTo, IsOver}
-use Rattle.plant_session.proofs.Turns.{HasEntry, IsMissing, caught_past_row, missing_row}
+use Rattle.plant_session.proofs.Turns.{HasEntry, IsMissing, caught_beside, missing_row}
 use Rattle.group_book.specs.declared.turn.Turn.{Turn}
 use Rattle.group_book.specs.declared.turn.Turn.TheVariants as turn
 use Rattle.group_book.specs.Told.{Told}
 use Rattle.group_session.specs.Asking.{IsRowAnswered}
-use Rattle.group_session.specs.Books.{AreEach, IsAsk, IsAskedMore, IsKnownRowAsk, tape_of}
-use Rattle.group_session.proofs.Each.{each_refl, each_set}
+use Rattle.plant_session.specs.Each.{AreEach}
+use Rattle.group_session.specs.Books.{IsAsk, IsAskedMore, IsKnownRowAsk, tape_of}
+use Rattle.plant_session.proofs.Each.{each_refl, each_set}
 
 -- ---- books that were asked
 
@@ -79,10 +77,8 @@ pub missing_row_ask : (groups reader place group calc k : ℕ) (queries : List Q
     → IsCaughtTo place reader works
     → IsMissing reader place group (Row reader (place + 1) calc k) works (get_or works reader e)
 missing_row_ask groups reader place group calc k queries works row d e over within is below lack next caught =
-    subst (IsMissing reader place group (Row reader (place + 1) calc k) works) (get_or_default works reader d e over.there)
-    (missing_row row_item groups reader group place (Row reader (place + 1) calc k) row queries works (get_or works reader d)
-    over (get_or_default works reader d (get_or works reader d) over.there) within (ap (row_item reader (place + 1)) is)
-    below lack next caught)
+    missing_row row_item groups reader group place (Row reader (place + 1) calc k) row queries works d e over within
+    (ap (row_item reader (place + 1)) is) below lack next caught
 
 -- where it is for a value of a group, there is that group
 pub group_there : (groups place group calc k : ℕ) (queries : List Query) (row : Query) → All (IsKnownRowAsk groups) queries
@@ -96,10 +92,7 @@ pub caught_other : (groups reader place : ℕ) (queries : List Query) (works : L
     → ((group calc k : ℕ) → get_or queries place row ≡ query.Row group calc k → ⊥) → IsCaughtTo place reader works
     → IsCaughtTo (place + 1) reader works
 caught_other groups reader place queries works row d over within other caught =
-    caught_past_row reader place works (get_or works reader d)
-    (get_or_default works reader d (get_or works reader d) over.there) over.there
-    (lacks_none (get_or works reader d) place (ap (λ l. get_or l place None) (over.items d)
-    ∙ (numbered_at (row_item reader) 1 queries place row None within ∙ none (get_or queries place row) other))) caught
+    caught_beside row_item groups reader place queries works row d over within (none (get_or queries place row) other) caught
   where
     none : (r : Query) → ((group calc k : ℕ) → r ≡ query.Row group calc k → ⊥) → row_item reader (place + 1) r ≡ None
     none (query.Tag tag q) not_so = refl

@@ -1,5 +1,4 @@
 pub mod Starts
-pub mod Each
 pub mod AskTurns
 pub mod Refreshes
 pub mod Numbers

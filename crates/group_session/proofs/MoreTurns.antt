@@ -20,7 +20,8 @@ use Rattle.group_book.specs.declared.turn.Turn.{Turn}
 use Rattle.group_book.specs.declared.turn.Turn.TheVariants.{Refresh, Ask, Save}
 use Rattle.group_book.specs.Refusals.{IsToldOf}
 use Rattle.group_book.specs.Told.{GoesOn, IsPublished, Told as Book, pulled_records}
-use Rattle.group_session.specs.Books.{AreEach, IsNoAsk, IsRefreshedMore, tape_of}
+use Rattle.plant_session.specs.Each.{AreEach}
+use Rattle.group_session.specs.Books.{IsNoAsk, IsRefreshedMore, tape_of}
 use Rattle.group_session.specs.Inputs.{IsInputsOf}
 use Rattle.group_session.specs.Refreshing.{ArePullsOf, IsPullOf, durable_numbers, new_records}
 use Rattle.group_session.specs.Refusals.{IsPullRefusal, IsRefusalOf, pull_refusal}

@@ -12,7 +12,7 @@ use Rattle.value_rows.specs.declared.asked.Query.{Query}
 use Rattle.value_rows.specs.declared.raw.RawRow.{RawRow}
 use Rattle.plant_session.specs.Cells.{AreAllShown, AreLonger}
 use Rattle.plant_session.proofs.EntryKinds.{longer_shown}
-use Rattle.group_session.specs.Books.{AreEach}
+use Rattle.plant_session.specs.Each.{AreEach}
 use Rattle.group_session.specs.Refreshing.{IsPull, IsPulledMore, durable_lists}
 
 pub pulled_refl : {C : Type 0} (c : Cell C) → IsPulledMore c c

@@ -6,7 +6,8 @@ use Rattle.std.proofs.lemmas.List.Elements.{All-head, All-tail, filter_map-appen
 use Rattle.group_book.specs.declared.turn.Turn.{Turn}
 use Rattle.group_book.specs.declared.turn.Turn.TheVariants.{Refresh, Ask, Save}
 use Rattle.group_book.specs.Told.{Told}
-use Rattle.group_session.specs.Books.{AreEach, IsAsk, IsAskedMore}
+use Rattle.plant_session.specs.Each.{AreEach}
+use Rattle.group_session.specs.Books.{IsAsk, IsAskedMore}
 use Rattle.group_session.specs.Tapes.{refreshes, reached_by}
 use Rattle.group_session.specs.Turns.{IsWithinTurns}
 

@@ -1,5 +1,5 @@
 -- Books that have gained turns.
-use Rattle.std.specs.Prelude.{◌≡◌, ℕ, ◌<◌, List, ◌++◌, All, length, slice_index_or, ⊤}
+use Rattle.std.specs.Prelude.{◌≡◌, ℕ, ◌<◌, List, ◌++◌, All, ⊤}
 use Rattle.value_rows.specs.declared.asked.Query.{Query}
 use Rattle.value_rows.specs.declared.asked.Query.TheVariants as query
 use Rattle.group_book.specs.declared.turn.Turn.{Turn}
@@ -31,11 +31,6 @@ pub record IsAskedMore {D : Type 0} (old new : Told D) : Type 0 where
   pub more : List Turn
   pub each : All IsAsk more
   pub changed : new ≡ record old { tape = old.tape ++ more }
-
--- two lists are of one length, and what stands in each place of them is related so
-pub record AreEach {C : Type 0} (R : C → C → Type 0) (old new : List C) : Type 0 where
-  pub as_many : length new ≡ length old
-  pub each : (i : ℕ) (d : C) → R (slice_index_or old i d) (slice_index_or new i d)
 
 -- the tape is longer by turns that are no questions; the group and its definition, the tags and the opening stay
 pub record IsRefreshedMore {D : Type 0} (old new : Told D) : Type 0 where

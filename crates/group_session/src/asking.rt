@@ -4,7 +4,8 @@ ghost use Rattle.calc_refresh.specs.Lists.{lists_of};
 ghost use Rattle.tape_audit.specs.Agendas.{row_item};
 ghost use Rattle.plant_session.specs.Workers.{AreOthersSame, AreOver, AreTapesFound, AreTapesWhole, IsCaughtTo, IsOver};
 ghost use Rattle.group_session.specs.Asking.{IsRowAnswered};
-ghost use Rattle.group_session.specs.Books.{AreEach, IsAskedMore, IsKnownRowAsk, tape_of};
+ghost use Rattle.plant_session.specs.Each.{AreEach};
+ghost use Rattle.group_session.specs.Books.{IsAskedMore, IsKnownRowAsk, tape_of};
 ghost use Rattle.group_session.specs.Tapes.{row_ask_of};
 ghost use Rattle.group_session.specs.Turns.{IsWithinTurns};
 

@@ -3,7 +3,7 @@ use Rattle.std.proofs.Common.{◌≡◌, ℕ, zero, suc, ◌+◌, ◌<◌, ◌�
 use Rattle.std.proofs.Common.{◌≢◌, All, pos, refl, ap, ap₂, sym, ◌∙◌, subst, arith, length-append}
 use Rattle.std.specs.Prelude.{insert}
 use Rattle.std.proofs.lemmas.List.{get_or_append_left, get_or_at, get_or-map, get_or-set_same, get_or-set_other}
-use Rattle.std.proofs.lemmas.List.{length-map, take-append-drop}
+use Rattle.std.proofs.lemmas.List.{get_or_default, length-map, take-append-drop}
 use Rattle.std.proofs.lemmas.List.Edits.{length-insert}
 use Rattle.std.proofs.lemmas.List.Elements.{All-append, All-cons, All-head, All-tail, All-weaker}
 use Rattle.late_insert.proofs.Joining.{all_left, all_right, apart_insert}
@@ -167,15 +167,23 @@ module _ (ls : List Leaf) (is ns : List ℕ) (ordered : AreOrdered ls is ns) whe
         length-placed_pages (picked ls is) ns even_length,
       )
 
+  -- so a page has a number
+  pub has_number : (k : ℕ) → k < length (placed_pages (picked ls is) ns) → k < length is
+  has_number k within = omega (arith, within, listed_length, ordered.numbers)
+
   -- the number of a page
   pub number_within : (k : ℕ) → k < length (placed_pages (picked ls is) ns) → get_or is k 0 < length ls
   number_within k within = ordered.within k 0 (omega (arith, within, listed_length, ordered.numbers))
+
+  -- also one that was read with another default
+  pub number_read : (k n : ℕ) → k < length (placed_pages (picked ls is) ns) → n ≡ get_or is k n → n ≡ get_or is k 0
+  number_read k n within read = read ∙ get_or_default is k n 0 (has_number k within)
 
   -- a page is what has its number, and its place
   pub listed_read : (k n : ℕ) (d : Page) → k < length (placed_pages (picked ls is) ns)
       → get_or (placed_pages (picked ls is) ns) k d ≡ with_place (get_or ls (get_or is k 0) no_leaf) (get_or ns k n)
   listed_read k n d within =
-      let inside : k < length is = omega (arith, within, listed_length, ordered.numbers) in
+      let inside = has_number k within in
       get_or-placed_pages (picked ls is) ns k no_leaf n d even_length
       (omega (arith, inside, length-map is (λ i. get_or ls i no_leaf)))
       ∙ ap (λ l. with_place l (get_or ns k n)) (get_or-map (λ i. get_or ls i no_leaf) is k 0 no_leaf inside)

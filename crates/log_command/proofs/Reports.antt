@@ -1,5 +1,5 @@
 -- Archives that stand for the points of the first rows of a log, row by row.
-use Rattle.std.proofs.Common.{◌≡◌, ℕ, zero, suc, ◌+◌, ◌^◌, ◌<◌, ◌≤◌, Bool, true, false, List, [], ◌∷◌, ◌++◌, length, get_or, map, take, refl, sym, ap, ◌∙◌, inl, inr, arith, append_assoc, length-take}
+use Rattle.std.proofs.Common.{◌≡◌, ℕ, suc, ◌+◌, ◌^◌, ◌<◌, ◌≤◌, Bool, true, false, List, [], ◌∷◌, ◌++◌, length, get_or, map, take, refl, sym, ap, ◌∙◌, inl, inr, arith, append_assoc, length-take}
 use Rattle.std.specs.Prelude.{◌≢◌, ◌⊎◌, All, filter, nat_eq, slice_set}
 use Rattle.std.proofs.Math.Seq.{get_or-append_seam}
 use Rattle.std.proofs.lemmas.Bool.{cases_eq, cases_lt}
@@ -18,6 +18,7 @@ use Rattle.commit_log.specs.Blocks.{IsRow}
 use Rattle.commit_log.specs.Images.{points_of}
 use Rattle.commit_log.specs.Tapes.{puts}
 use Rattle.commit_log.proofs.Tapes.{puts-append}
+use Rattle.plant_status.proofs.Elements.{element}
 use Rattle.log_command.specs.Reports.{AreStanding, IsFull, history_of, origin_of}
 
 -- one event more
@@ -57,12 +58,6 @@ history_own tag rows row same =
 -- and that of another one
 history_other : (tag : ℕ) (rows : List LogRow) (row : LogRow) → tag ≢ row.tag → history_of tag (rows ++ row ∷ []) ≡ history_of tag rows
 history_other tag rows row other = ap (λ (ps : List Point). followed [] (map Raw ps)) (points_other tag rows row other)
-
--- an element of a list
-element : {A : Type 0} (xs : List A) (i : ℕ) → i < length xs → A
-element [] i few = absurd (omega arith)
-element (x ∷ xs) zero few = x
-element (x ∷ xs) (suc i) few = element xs i (omega arith)
 
 -- no more elements pass a test than there are
 filter_few : {A : Type 0} (p : A → Bool) (xs : List A) → length (filter p xs) ≤ length xs

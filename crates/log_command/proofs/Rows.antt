@@ -1,5 +1,5 @@
 -- The rows of collectors, as a log has them.
-use Rattle.std.proofs.Common.{◌≡◌, ℕ, zero, suc, ◌+◌, ◌<◌, ◌≤◌, List, [], ◌∷◌, length, get_or, map, take, refl, sym, ap, ◌∙◌, subst, arith}
+use Rattle.std.proofs.Common.{◌≡◌, ℕ, zero, suc, ◌+◌, ◌<◌, ◌≤◌, List, [], ◌∷◌, length, get_or, take, refl, sym, ap, ◌∙◌, subst, arith}
 use Rattle.std.specs.Prelude.{All, None, Option, Some, Vec, slice_get}
 use Rattle.std.specs.declared.alloc.Global.{Global}
 use Rattle.std.specs.Option.{option_map, option_map_or, unwrap_or}
@@ -12,6 +12,7 @@ use Rattle.value_rows.specs.declared.raw.RawRow.{RawRow}
 use Rattle.commit_log.specs.declared.row.LogRow.{LogRow}
 use Rattle.log_pool.specs.Notes.{lists_of}
 use Rattle.log_pool.specs.Turns.{row_of}
+use Rattle.plant_status.proofs.Elements.{mapped_at}
 use Rattle.log_command.specs.Finding.{rows_from, rows_in, seen_of}
 use Rattle.log_command.specs.Making.{AreRowsFor, IsRowFor, total_rows}
 
@@ -46,13 +47,6 @@ row_there collector n (suc place) (r ∷ rows) d few =
 -- behind the last one there is none
 pub row_past : (collector n place : ℕ) (rows : List RawRow) → length rows ≤ place → slice_get (rows_from collector n rows) place ≡ None
 row_past collector n place rows past = slice_get_past (rows_from collector n rows) place (omega (arith, rows_length collector n rows))
-
--- an element of a mapped list
-mapped_at : {A B : Type 0} (f : A → B) (xs : List A) (i : ℕ) (d : A) (e : B) → i < length xs
-    → get_or (map f xs) i e ≡ f (get_or xs i d)
-mapped_at f [] i d e few = absurd (omega arith)
-mapped_at f (x ∷ xs) zero d e few = refl
-mapped_at f (x ∷ xs) (suc i) d e few = mapped_at f xs i d e (omega arith)
 
 -- how many files there are
 pub files_length : (files : List (Vec RawRow Global)) → length (lists_of files) ≡ length files

@@ -1,4 +1,3 @@
 pub mod Committing
-pub mod Gathering
 pub mod Puts
 pub mod Seats

@@ -1,10 +1,10 @@
 -- Workers are given their slots, and their notes stand in order.
-use Rattle.std.proofs.Common.{◌≡◌, ℕ, zero, suc, ◌<◌, List, [], ◌∷◌, ◌++◌, length, get_or, map, refl, sym, ◌∙◌, ap, subst, arith}
+use Rattle.std.proofs.Common.{◌≡◌, ℕ, ◌<◌, List, [], ◌∷◌, ◌++◌, length, get_or, map, sym, ◌∙◌, ap, subst, arith}
 use Rattle.std.specs.Prelude.{All, Vec}
 use Rattle.std.specs.declared.alloc.Global.{Global}
 use Rattle.std.proofs.lemmas.Grind.{common_steps}
-use Rattle.std.proofs.lemmas.List.{length-map}
 use Rattle.value_rows.specs.declared.raw.RawRow.{RawRow}
+use Rattle.plant_status.proofs.Elements.{element, mapped_at, mapped_length}
 use Rattle.log_pool.specs.declared.note.LogNote.{LogNote}
 use Rattle.log_pool.specs.declared.slot.Slot.{Slot}
 use Rattle.log_pool.specs.Notes.{AreNotesOf, IsNoteOf, halts, lists_of}
@@ -39,23 +39,6 @@ all_ready stops workers slots seated count = λ k d few. record {
   worker = omega (arith, seated.numbered k d few, count);
   fresh = seated.fresh k d few;
 }
-
--- an element of a list
-element : {A : Type 0} (xs : List A) (i : ℕ) → i < length xs → A
-element [] i few = absurd (omega arith)
-element (x ∷ xs) zero few = x
-element (x ∷ xs) (suc i) few = element xs i (omega arith)
-
--- an element of a mapped list
-mapped_at : {A B : Type 0} (f : A → B) (xs : List A) (i : ℕ) (d : A) (e : B) → i < length xs
-    → get_or (map f xs) i e ≡ f (get_or xs i d)
-mapped_at f [] i d e few = absurd (omega arith)
-mapped_at f (x ∷ xs) zero d e few = refl
-mapped_at f (x ∷ xs) (suc i) d e few = mapped_at f xs i d e (omega arith)
-
--- the length of a mapped list
-mapped_length : {A B : Type 0} (f : A → B) (xs : List A) → length (map f xs) ≡ length xs
-mapped_length f xs = simp length-map
 
 -- the notes of slots whose workers were seated and have ended
 notes_of : {O : Type 0} (D : Type 0) (stops : O → ℕ) (files : List (List RawRow)) (old new : List (Slot O)) (notes : List LogNote)

@@ -1,7 +1,7 @@
 // All workers beside each other.
-ghost use Rattle.std.specs.Prelude.{◌≡◌, ℕ, ◌^◌, ◌<◌, ◌≤◌, [], All, IfErr, IfOk, OnErr, length, map, slice_index_or, vec_capacity, vec_len};
+ghost use Rattle.std.specs.Prelude.{◌≡◌, ℕ, ◌^◌, ◌<◌, ◌≤◌, [], All, IfErr, IfOk, OnErr, length, slice_index_or, vec_capacity, vec_len};
 ghost use Rattle.trend_num.specs.Ranges.{InRange};
-ghost use Rattle.log_pool.specs.Notes.{AreNotesOf, halts, lists_of, stops_with};
+ghost use Rattle.log_pool.specs.Notes.{AreNotesOf, lists_of, stops_with};
 ghost use Rattle.log_pool.specs.Slots.{AreDone, AreSeated, IsDone, IsReady};
 
 use crate::collector::collect;
@@ -9,7 +9,7 @@ use crate::note::LogNote;
 use crate::slot::Slot;
 use commit_log::Log;
 use disk_model::Disk;
-use plant_status::{Pass, Passes};
+use plant_status::{Pass, Passes, gather};
 use std::alloc::Global;
 use std::sync::{Mutex, Wait};
 use std::thread;
@@ -140,21 +140,4 @@ fn work_in<D: Disk, O: Pass, R: Wait>(
     let worker = slot.note.worker;
     let rows = &collectors[worker as usize];
     slot.note = collect(rt, log, worker, rows, &mut slot.pass);
-}
-
-// Gives every pass back, and keeps the notes.
-fn gather<P: Passes>(slots: Vec<Slot<P::One>>, passes: &mut P, notes: &mut Vec<LogNote>)
-    requires stopped { All (λ s. P.One.stops s.pass ≡ halts s.note.ending) slots.items }
-    requires none { notes.old.items ≡ [] }
-    requires room { vec_len slots ≤ vec_capacity notes.old }
-    ensures notes { notes.new.items ≡ map (λ s. s.note) slots.items }
-    ensures stops { P.stops passes.new ≡ stops_with (P.stops passes.old) notes.new.items }
-{
-    let mut rest = slots.into_iter();
-    while let Some(slot) = rest.next() {
-        let Slot { pass, note } = slot;
-        passes.give_back(pass);
-        notes.push_reserved(note);
-    }
-    rest.destroy_empty();
 }

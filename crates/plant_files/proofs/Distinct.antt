@@ -6,7 +6,7 @@ use Rattle.std.specs.Option.{is_none, option_and_then}
 use Rattle.std.specs.Str.{bytes_eq}
 use Rattle.std.proofs.lemmas.Bool.{false≢true}
 use Rattle.std.proofs.lemmas.Grind.{common_steps}
-use Rattle.std.proofs.lemmas.List.{get_or-map, map_push}
+use Rattle.std.proofs.lemmas.List.{get_or-map, length-map, map_push}
 use Rattle.std.proofs.lemmas.List.Quantifiers.{all_pairs_push}
 use Rattle.std.proofs.lemmas.List.Sums.{fails_before_first}
 use Rattle.std.proofs.lemmas.Slice.Eq.{bytes_eq-Decides}
@@ -105,3 +105,11 @@ of_tables (Ok tables) base read =
 -- the names of the tags of a base are distinct
 pub names_apart : (bytes : List ℕ) (base : Base) → BaseRead bytes (Ok base) → AllPairs (λ x y. x ≢ y) (tag_names base.tags.items)
 names_apart bytes base read = of_tables (base_tables (document bytes)) base read
+
+-- tags of distinct names are distinct
+pub distinct_tags : (tags : List TagDef) → AllPairs (λ x y. x ≢ y) (tag_names tags) → AllPairs (λ a b. a.name ≢ b.name) tags
+distinct_tags tags all i j d less below same =
+    let named = λ (t : TagDef). t.name in
+    all i j d.name less (omega (arith, below, length-map tags named)) (
+    get_or-map named tags i d d.name (omega (arith, less, below)) ∙ same
+    ∙ sym (get_or-map named tags j d d.name below))

@@ -3,3 +3,4 @@ pub mod Named
 pub mod InOrder
 pub mod Distinct
 pub mod DistinctGroups
+pub mod Faults

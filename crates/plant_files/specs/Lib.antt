@@ -3,3 +3,4 @@ pub mod Texts
 pub mod RowFiles
 pub mod Asked
 pub mod Collected
+pub mod Faults

@@ -12,9 +12,10 @@ use Rattle.plant_status.specs.declared.file.FileId.{FileId}
 use Rattle.plant_status.specs.declared.status.Status.{Status}
 use Rattle.plant_status.specs.declared.status.Status.TheVariants.{BadWords, ReadFault, WantOfMemory}
 use Rattle.plant_files.specs.Asked.{ToldFiles}
+use Rattle.plant_files.specs.Faults.{IsFaultOfPlanned}
 use Rattle.pack_command.specs.Pack.{IsRead, IsPackRefusal, first_full, history_of, origin_of}
 use Rattle.command_text.specs.Printing.{PrintsSo}
-use Rattle.store_commands.specs.Commands.{Devices, IsFaultOfNamed, IsChecked, IsCheckRefusal, IsTrend, IsTrendRefusal, AreAllKept, AreKept}
+use Rattle.store_commands.specs.Commands.{Devices, IsChecked, IsCheckRefusal, IsTrend, IsTrendRefusal, AreAllKept, AreKept}
 use Rattle.frame_command.specs.Commands.{AreFramesKept, IsFrames, IsFramesRefusal}
 use Rattle.plant_more.specs.Endings.{EndsFrom, EndsOver, IsNoDay, IsUnread, Scene, scene}
 use Rattle.plant_run.specs.CommandLine.{Form, Pack, Check, Trend, Shifts, Frames, Unknown, form_of}
@@ -67,7 +68,7 @@ EndsAround (Trend base plan) before now status =
     (IsTrendRefusal base plan before.files before.devices now.devices before.device_faults now.device_faults)
     before.output now.output status
     × EndsOver base before now status
-    × IsFaultOfNamed base plan before.files now.failed_name status
+    × IsFaultOfPlanned base plan before.files now.failed_name status
 EndsAround (Shifts asked) before now status = ((day : ℤ) × EndsFrom asked day before now status)
     ⊎ (EndsUnread before now status × (status ≡ BadWords → IsNoDay asked.day))
 EndsAround (Frames base group calc least) before now status =

@@ -1,8 +1,6 @@
 -- A question of a reader that was answered.
-use Rattle.std.proofs.Common.{◌≡◌, ℕ, ◌+◌, ◌<◌, List, [], ◌∷◌, All, length, get_or, None, IfSome, true, refl, sym, ap, subst, ◌∙◌}
-use Rattle.std.proofs.lemmas.List.{get_or_default}
+use Rattle.std.proofs.Common.{◌≡◌, ℕ, ◌+◌, ◌<◌, List, All, length, get_or, None, IfSome, true, refl, ap, subst}
 use Rattle.std.proofs.lemmas.List.Elements.{All-get_or}
-use Rattle.std.proofs.lemmas.Option.{get_or_from_slice_get, slice_get_within}
 use Rattle.trend_num.specs.declared.query.TagQuery.{TagQuery}
 use Rattle.value_rows.specs.declared.asked.Query.{Query}
 use Rattle.value_rows.specs.declared.asked.Query.TheVariants as query
@@ -12,15 +10,12 @@ use Rattle.tag_cell.specs.declared.entry.Entry.TheVariants as entry
 use Rattle.tag_cell.specs.Told.{Told}
 use Rattle.tape_audit.specs.Agendas.{IsNext, ask_item}
 use Rattle.tape_audit.specs.Found.{Reached, lacks, place_at}
-use Rattle.tape_audit.proofs.Catching.{lacks_none}
-use Rattle.tape_audit.proofs.Numbers.{numbered_at}
 use Rattle.trend_num.specs.Queries.{IsTagQuery}
 use Rattle.plant_session.specs.Asking.{IsRowAsked}
-use Rattle.plant_session.specs.Cells.{AreLonger, IsAsked, IsLonger, IsKnownAsk, tape_of}
+use Rattle.plant_session.specs.Cells.{AreLonger, IsAsked, IsKnownAsk, tape_of}
 use Rattle.plant_session.specs.Workers.{IsCaughtTo, IsOver}
-use Rattle.plant_session.proofs.Longer.{all_longer, longer_set}
-use Rattle.plant_session.proofs.TakeTurns.{one_entry}
-use Rattle.plant_session.proofs.Turns.{HasEntry, IsMissing, caught_past_row, missing_row}
+use Rattle.plant_session.proofs.Longer.{entry_longer}
+use Rattle.plant_session.proofs.Turns.{HasEntry, IsMissing, caught_beside, missing_row}
 
 -- the entry that it left
 abbrev pub entry_of : {D : Type 0} (reader number tag : ℕ) (q : TagQuery) (old new : List (Told D))
@@ -41,15 +36,8 @@ asked_entry reader number tag q old new t = record {
 pub asked_longer : {D : Type 0} (reader number tag : ℕ) (q : TagQuery) (old new : List (Told D))
     → IsRowAsked reader number tag q old new → AreLonger IsAsked old new
 asked_longer reader number tag q old new t =
-    subst (AreLonger IsAsked old) (sym t.changed) (longer_set IsAsked old old tag t.after t.before
-    (slice_get_within old tag t.before t.there)
-    (subst (λ c. IsLonger IsAsked c t.after) (sym (get_or_from_slice_get old tag t.before t.before t.there)) (record {
-      more = entry_of reader number tag q old new t ∷ [];
-      each = one_entry IsAsked (entry_of reader number tag q old new t) tt;
-      tape = ap (λ c. c.tape) t.asked.changed;
-      same_def = ap (λ c. c.def) t.asked.changed;
-      same_opening = ap (λ c. c.opening) t.asked.changed;
-    })) (all_longer IsAsked old))
+    entry_longer IsAsked tag (entry_of reader number tag q old new t) old new t.before t.after t.there t.changed tt
+    (ap (λ c. c.tape) t.asked.changed) (ap (λ c. c.def) t.asked.changed) (ap (λ c. c.opening) t.asked.changed)
 
 -- the question at a place of a reader's file, where it lacks
 pub missing_ask : (tags reader place tag : ℕ) (q : TagQuery) (queries : List Query) (works : List Reached) (row : Query)
@@ -60,10 +48,8 @@ pub missing_ask : (tags reader place tag : ℕ) (q : TagQuery) (queries : List Q
     → IsCaughtTo place reader works
     → IsMissing reader place tag (Ask reader (place + 1) q) works (get_or works reader e)
 missing_ask tags reader place tag q queries works row d e over within is below lack next caught =
-    subst (IsMissing reader place tag (Ask reader (place + 1) q) works) (get_or_default works reader d e over.there)
-    (missing_row ask_item tags reader tag place (Ask reader (place + 1) q) row queries works (get_or works reader d) over
-    (get_or_default works reader d (get_or works reader d) over.there) within (ap (ask_item reader (place + 1)) is)
-    below lack next caught)
+    missing_row ask_item tags reader tag place (Ask reader (place + 1) q) row queries works d e over within
+    (ap (ask_item reader (place + 1)) is) below lack next caught
 
 -- a question that is about a tag, by the rows of the file
 pub query_there : (tags place tag : ℕ) (q : TagQuery) (queries : List Query) (row : Query) → All (IsKnownAsk tags) queries
@@ -77,10 +63,7 @@ pub caught_other : (tags reader place : ℕ) (queries : List Query) (works : Lis
     → ((tag : ℕ) (q : TagQuery) → get_or queries place row ≡ query.Tag tag q → ⊥) → IsCaughtTo place reader works
     → IsCaughtTo (place + 1) reader works
 caught_other tags reader place queries works row d over within other caught =
-    caught_past_row reader place works (get_or works reader d)
-    (get_or_default works reader d (get_or works reader d) over.there) over.there
-    (lacks_none (get_or works reader d) place (ap (λ l. get_or l place None) (over.items d)
-    ∙ (numbered_at (ask_item reader) 1 queries place row None within ∙ none (get_or queries place row) other))) caught
+    caught_beside ask_item tags reader place queries works row d over within (none (get_or queries place row) other) caught
   where
     none : (r : Query) → ((tag : ℕ) (q : TagQuery) → r ≡ query.Tag tag q → ⊥) → ask_item reader (place + 1) r ≡ None
     none (query.Tag tag q) not_so = absurd (not_so tag q refl)

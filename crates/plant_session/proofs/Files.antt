@@ -1,10 +1,10 @@
 -- The files of all workers, one after another.
-use Rattle.std.proofs.Common.{◌∷◌, ◌+◌, nat_eq, take, ◌++◌, ◌≡◌, ℕ, ◌<◌, inl, inr, List, [], All, length, get_or, Option, Vec, sym, ap, subst, ◌∙◌, arith}
+use Rattle.std.proofs.Common.{◌∷◌, ◌+◌, nat_eq, take, ◌++◌, ◌≡◌, ℕ, ◌<◌, ◌≤◌, inl, inr, List, [], All, length, get_or, Option, Vec, sym, ap, subst, ◌∙◌, arith}
 use Rattle.std.specs.declared.alloc.Global.{Global}
 use Rattle.std.specs.Option.{option_map_or}
 use Rattle.std.proofs.lemmas.Bool.{cases_eq, cases_lt}
 use Rattle.std.proofs.lemmas.List.{map_more, get_or-map, get_or_default, length-map}
-use Rattle.std.proofs.lemmas.List.Elements.{All-map}
+use Rattle.std.proofs.lemmas.List.Elements.{All-get_or, All-map}
 use Rattle.std.proofs.lemmas.Option.{slice_get-get_or, slice_get_past}
 use Rattle.std.specs.List.{count_by}
 use Rattle.value_rows.specs.declared.raw.RawRow.{RawRow}
@@ -37,34 +37,64 @@ pub each_file : {A : Type 0} (P : List A → Type 0) (files : List (Vec A Global
     → All P (lists_of files)
 each_file {A = A} P files each = All-map {X = List A} P (λ (v : Vec A Global). v.items) files each
 
+-- these are the rows of a file that there is
+pub record IsFile {A : Type 0} (files : List (List A)) (worker : ℕ) (rows : List A) : Type 0 where
+  pub within : worker < length files
+  pub are : rows ≡ get_or files worker []
+
+-- so are those that were read there
+pub file_read : {A : Type 0} (files : List (Vec A Global)) (worker : ℕ) (v : Vec A Global) (rows : List A) → worker < length files
+    → v ≡ get_or files worker v → rows ≡ v.items → IsFile (lists_of files) worker rows
+file_read files worker v rows within is read = record {
+  within = file_within files worker within;
+  are = read ∙ file_at files worker v [] within is;
+}
+
+-- what is known of the rows of all files is known of those of one, where there are as many units still
+pub known_file : {A : Type 0} {worker : ℕ} {rows : List A} (P : ℕ → A → Type 0) (many more : ℕ) (files : List (Vec A Global))
+    → more ≡ many → All (λ v. All (P many) v.items) files → IsFile (lists_of files) worker rows → All (P more) rows
+known_file {worker = worker} {rows = rows} P many more files same each file =
+    subst (λ n. All (P n) rows) (sym same)
+    (subst (All (P many)) (sym file.are)
+    (All-get_or (All (P many)) (lists_of files) worker [] file.within (each_file (All (P many)) files each)))
+
 -- the progress of one worker is over the rows of its file
-pub over_file : {A : Type 0} (item_of : ℕ → ℕ → A → Option Item) (tags : ℕ) (files : List (List A)) (works : List Reached)
-    (worker : ℕ) (rows d : List A) → AreOver item_of tags files works → worker < length files → rows ≡ get_or files worker d
-    → IsOver item_of tags worker rows works
-over_file item_of tags files works worker rows d over within is = record {
-  there = omega (arith, within, over.as_many);
-  items = λ p. over.items worker d p within ∙ ap (numbered (item_of worker) 1) (sym is);
+pub over_file : {A : Type 0} (item_of : ℕ → ℕ → A → Option Item) (many : ℕ) (files : List (List A)) (works : List Reached)
+    (worker : ℕ) (rows : List A) → AreOver item_of many files works → IsFile files worker rows → IsOver item_of many worker rows works
+over_file item_of many files works worker rows over file = record {
+  there = omega (arith, file.within, over.as_many);
+  items = λ p. over.items worker [] p file.within ∙ ap (numbered (item_of worker) 1) (sym file.are);
   units = λ w p below. over.units w p below;
 }
 
 -- so all are still, once one of them has gone on
-pub over_again : {A : Type 0} (item_of : ℕ → ℕ → A → Option Item) (tags more : ℕ) (files : List (List A))
-    (old new : List Reached) (worker : ℕ) (rows d : List A) → AreOver item_of tags files old → worker < length files
-    → rows ≡ get_or files worker d → IsOver item_of more worker rows new → AreOthersSame worker old new
-    → AreOver item_of more files new
-over_again item_of tags more files old new worker rows d over within is one others = record {
+pub over_again : {A : Type 0} (item_of : ℕ → ℕ → A → Option Item) (many more : ℕ) (files : List (List A))
+    (old new : List Reached) (worker : ℕ) (rows : List A) → AreOver item_of many files old → IsFile files worker rows
+    → IsOver item_of more worker rows new → AreOthersSame worker old new → AreOver item_of more files new
+over_again item_of many more files old new worker rows over file one others = record {
   few = over.few;
   as_many = others.as_many ∙ over.as_many;
   items = λ w e p below. elim (cases_eq w worker) [
     | inl same ↦ subst (λ n. (get_or new n p).items ≡ numbered (item_of n) 1 (get_or files n e)) (sym same)
-        (one.items p ∙ ap (numbered (item_of worker) 1) (is ∙ get_or_default files worker d e within))
+        (one.items p ∙ ap (numbered (item_of worker) 1) (file.are ∙ get_or_default files worker [] e file.within))
     | inr differ ↦ ap (λ r. r.items) (others.same w p differ) ∙ over.items w e p below
   ];
   units = λ w p below. one.units w p below;
 }
 
+-- none of the rows of the first files lacks, once the next one is caught up
+pub caught_file : {A : Type 0} (files : List (List A)) (old new : List Reached) (worker : ℕ) (rows : List A) → IsFile files worker rows
+    → ((w : ℕ) → w < worker → IsCaughtTo (length (get_or files w [])) w old) → IsCaughtTo (length rows) worker new
+    → AreOthersSame worker old new → (w : ℕ) → w < worker + 1 → IsCaughtTo (length (get_or files w [])) w new
+caught_file files old new worker rows file before caught others w below = elim (cases_eq w worker) [
+  | inl same ↦ subst (λ n. IsCaughtTo (length (get_or files n [])) n new) (sym same)
+      (subst (λ l. IsCaughtTo (length l) worker new) file.are caught)
+  | inr differ ↦ λ p. subst (IsCaughtUp (length (get_or files w []))) (sym (others.same w p differ))
+      (before w (omega (arith, below, differ)) p)
+]
+
 -- where none of the rows of a file lacks, all that are due at a tag were found there
-pub shown_all : {C E A : Type 0} (tape_of : C → List E) (work : E → Option Shown) (item_of : ℕ → ℕ → A → Option Item)
+shown_all : {C E A : Type 0} (tape_of : C → List E) (work : E → Option Shown) (item_of : ℕ → ℕ → A → Option Item)
     (tags : ℕ) (files : List (List A)) (cells : List C) (works : List Reached) → AreOver item_of tags files works
     → AreTapesFound tape_of work cells works
     → ((w : ℕ) → w < length files → IsCaughtTo (length (get_or files w [])) w works)
@@ -93,6 +123,16 @@ shown_all tape_of work item_of tags files cells works over found_so caught = rec
         ∙ (caught_whole p tag (subst (λ n. IsCaughtUp n p) size (caught worker within none))
         ∙ (ap (due tag) items ∙ sym (ap (λ o. option_map_or (λ l. due tag (numbered (item_of worker) 1 l)) o [])
         (slice_get-get_or files worker [] within))))
+
+-- so it is once all files are caught up
+pub shown_files : {C E A : Type 0} (tape_of : C → List E) (work : E → Option Shown) (item_of : ℕ → ℕ → A → Option Item)
+    (many next : ℕ) (files : List (Vec A Global)) (units : List C) (works : List Reached)
+    → AreOver item_of many (lists_of files) works → AreTapesFound tape_of work units works
+    → ((w : ℕ) → w < next → IsCaughtTo (length (get_or (lists_of files) w [])) w works) → length files ≤ next
+    → AreTapesWhole tape_of work item_of (lists_of files) units
+shown_files tape_of work item_of many next files units works over found_so caught all =
+    shown_all tape_of work item_of many (lists_of files) units works over found_so
+    (λ w below. caught w (omega (arith, below, all, length-map files (λ (v : Vec _ Global). v.items))))
 
 -- questions of readers that are of a plant's tags and groups are of its tags
 pub known_asks_of : (tags groups : ℕ) (files : List (Vec Query Global))

@@ -1,3 +1,4 @@
+pub mod Each
 pub mod Longer
 pub mod Turns
 pub mod Refused

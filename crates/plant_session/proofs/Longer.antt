@@ -1,14 +1,15 @@
 -- Cells that have gained entries of a kind, one after another.
-use Rattle.std.proofs.Common.{◌≡◌, ◌⊎◌, ℕ, ◌<◌, inl, inr, List, [], ◌++◌, length, get_or, set, Some, true, refl, sym, ap, subst, ◌∙◌, arith, append-nil, append_assoc}
-use Rattle.std.proofs.lemmas.Bool.{cases_eq}
-use Rattle.std.proofs.lemmas.List.{get_or-set_same, get_or-set_other, get_or_default, length-set}
+use Rattle.std.proofs.Common.{◌≡◌, ◌⊎◌, ℕ, zero, suc, ◌<◌, inl, inr, All, List, [], ◌∷◌, ◌++◌, length, get_or, set, Some, true, refl, sym, ap, subst, ◌∙◌, arith, append-nil, append_assoc}
+use Rattle.std.specs.Prelude.{slice_get}
+use Rattle.std.proofs.lemmas.List.{get_or-set_same, length-set}
 use Rattle.std.proofs.lemmas.List.Elements.{All-append}
-use Rattle.std.proofs.lemmas.Option.{slice_get-get_or}
+use Rattle.std.proofs.lemmas.Option.{get_or_from_slice_get, slice_get-get_or, slice_get_within}
 use Rattle.tag_cell.specs.declared.entry.Entry.{Entry}
 use Rattle.tag_cell.specs.declared.entry.CommitNo.{CommitNo}
 use Rattle.tag_cell.specs.declared.entry.CommitNo.TheVariants as commit
 use Rattle.tag_cell.specs.Told.{Told}
 use Rattle.plant_session.specs.Cells.{AreLonger, IsLonger}
+use Rattle.plant_session.proofs.Each.{each_refl, each_set, each_trans}
 use Rattle.plant_session.specs.Refusals.{IsCommitRefusal, IsSo, commit_status}
 
 -- a cell that gained nothing
@@ -33,29 +34,39 @@ longer_trans IsOf a b c first second = record {
 }
 
 pub all_longer : {D : Type 0} (IsOf : Entry → Type 0) (cells : List (Told D)) → AreLonger IsOf cells cells
-all_longer IsOf cells = record { as_many = refl; each = λ tag d. longer_refl IsOf (get_or cells tag d) }
+all_longer IsOf cells = each_refl (IsLonger IsOf) (longer_refl IsOf) cells
 
 pub all_longer_trans : {D : Type 0} (IsOf : Entry → Type 0) (a b c : List (Told D)) → AreLonger IsOf a b → AreLonger IsOf b c
     → AreLonger IsOf a c
-all_longer_trans IsOf a b c first second = record {
-  as_many = second.as_many ∙ first.as_many;
-  each = λ tag d. longer_trans IsOf (get_or a tag d) (get_or b tag d) (get_or c tag d) (first.each tag d) (second.each tag d);
-}
+all_longer_trans IsOf a b c first second = each_trans (IsLonger IsOf) (longer_trans IsOf) a b c first second
 
 -- one of the cells gained entries
 pub longer_set : {D : Type 0} (IsOf : Entry → Type 0) (first now : List (Told D)) (tag : ℕ) (c d : Told D)
     → tag < length now → IsLonger IsOf (get_or now tag d) c → AreLonger IsOf first now → AreLonger IsOf first (set now tag c)
-longer_set IsOf first now tag c d within step before = record {
-  as_many = length-set now tag c ∙ before.as_many;
-  each = λ other e. elim (cases_eq other tag) [
-    | inl same ↦ subst (λ n. IsLonger IsOf (get_or first n e) (get_or (set now tag c) n e)) (sym same)
-        (subst (λ x. IsLonger IsOf (get_or first tag e) x) (sym (get_or-set_same now tag c e within))
-        (longer_trans IsOf (get_or first tag e) (get_or now tag e) c (before.each tag e)
-        (subst (λ x. IsLonger IsOf x c) (get_or_default now tag d e within) step)))
-    | inr differ ↦ subst (λ x. IsLonger IsOf (get_or first other e) x) (sym (get_or-set_other now tag other c e differ))
-        (before.each other e)
-  ];
-}
+longer_set IsOf first now tag c d within step before =
+    each_set (IsLonger IsOf) (longer_trans IsOf) first now tag c d within step before
+
+-- one entry of a kind
+one_entry : (IsOf : Entry → Type 0) (e : Entry) → IsOf e → All IsOf (e ∷ [])
+one_entry IsOf e is = λ k d below. at k d below
+  where
+    at : (k : ℕ) (d : Entry) → k < 1 → IsOf (get_or (e ∷ []) k d)
+    at zero d below = is
+    at (suc k) d below = absurd (omega (arith, below))
+
+-- the cell of a tag gained one
+pub entry_longer : {D : Type 0} (IsOf : Entry → Type 0) (tag : ℕ) (e : Entry) (old new : List (Told D)) (before after : Told D)
+    → slice_get old tag ≡ Some before → new ≡ set old tag after → IsOf e → after.tape ≡ before.tape ++ e ∷ []
+    → after.def ≡ before.def → after.opening ≡ before.opening → AreLonger IsOf old new
+entry_longer IsOf tag e old new before after there changed is tape same_def same_opening =
+    subst (AreLonger IsOf old) (sym changed) (longer_set IsOf old old tag after before (slice_get_within old tag before there)
+    (subst (λ c. IsLonger IsOf c after) (sym (get_or_from_slice_get old tag before before there)) (record {
+      more = e ∷ [];
+      each = one_entry IsOf e is;
+      tape = tape;
+      same_def = same_def;
+      same_opening = same_opening;
+    })) (all_longer IsOf old))
 
 -- the cell of a tag that was just looked at
 so_here : {D : Type 0} (P : Told D → Type 0) (now : List (Told D)) (tag : ℕ) (c : Told D) → tag < length now → P c

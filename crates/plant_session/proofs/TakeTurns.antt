@@ -1,22 +1,20 @@
 -- A row of a collector that was taken.
-use Rattle.std.proofs.Common.{◌≡◌, ℕ, zero, suc, ◌+◌, ◌<◌, List, [], ◌∷◌, All, length, get_or, None, IfSome, true, refl, sym, ap, subst, arith}
-use Rattle.std.proofs.lemmas.Option.{get_or_from_slice_get, slice_get_within}
+use Rattle.std.proofs.Common.{◌≡◌, ℕ, ◌+◌, ◌<◌, List, All, length, get_or, None, IfSome, true, refl, ap, subst}
 use Rattle.value_rows.specs.declared.raw.RawRow.{RawRow}
 use Rattle.tag_cell.specs.declared.entry.Entry.{Entry}
 use Rattle.tag_cell.specs.declared.entry.Entry.TheVariants as entry
 use Rattle.plant_status.specs.declared.mismatch.Seen.TheVariants.{Take}
 use Rattle.tape_audit.specs.Agendas.{IsNext, number_in, phase_item}
 use Rattle.tape_audit.specs.Found.{Reached, lacks, place_at}
-use Rattle.std.proofs.lemmas.List.{get_or_default}
 use Rattle.std.proofs.lemmas.List.Elements.{All-get_or}
 use Rattle.trend_model.specs.History.{Raw}
 use Rattle.trend_model.specs.State.{after}
 use Rattle.tag_cell.specs.Told.{Told}
 use Rattle.collector_pool.specs.Work.{IsRowOf}
-use Rattle.plant_session.specs.Cells.{AreLonger, IsLonger, IsTaken, tape_of}
+use Rattle.plant_session.specs.Cells.{AreLonger, IsTaken, tape_of}
 use Rattle.plant_session.specs.Workers.{IsCaughtTo, IsOver}
 use Rattle.plant_session.specs.Taking.{IsRowTaken}
-use Rattle.plant_session.proofs.Longer.{all_longer, longer_set}
+use Rattle.plant_session.proofs.Longer.{entry_longer}
 use Rattle.plant_session.proofs.Turns.{HasEntry, IsMissing, missing_row}
 
 -- the entry that it left
@@ -41,27 +39,12 @@ pub taken_as : {D : Type 0} (collector n number : ℕ) (row : RawRow) (old new :
     → IsRowTaken collector n row old new → IsRowTaken collector number row old new
 taken_as collector n number row old new same t = subst (λ m. IsRowTaken collector m row old new) same t
 
--- one entry of a kind
-pub one_entry : (IsOf : Entry → Type 0) (e : Entry) → IsOf e → All IsOf (e ∷ [])
-one_entry IsOf e is = λ k d below. at k d below
-  where
-    at : (k : ℕ) (d : Entry) → k < 1 → IsOf (get_or (e ∷ []) k d)
-    at zero d below = is
-    at (suc k) d below = absurd (omega (arith, below))
-
 -- the cells are longer by it
 pub taken_longer : {D : Type 0} (collector number : ℕ) (row : RawRow) (old new : List (Told D))
     → IsRowTaken collector number row old new → AreLonger IsTaken old new
 taken_longer collector number row old new t =
-    subst (AreLonger IsTaken old) (sym t.changed) (longer_set IsTaken old old row.tag t.after t.before
-    (slice_get_within old row.tag t.before t.there)
-    (subst (λ c. IsLonger IsTaken c t.after) (sym (get_or_from_slice_get old row.tag t.before t.before t.there)) (record {
-      more = entry_of collector number row old new t ∷ [];
-      each = one_entry IsTaken (entry_of collector number row old new t) tt;
-      tape = ap (λ c. c.tape) t.taken.changed;
-      same_def = ap (λ c. c.def) t.taken.changed;
-      same_opening = ap (λ c. c.opening) t.taken.changed;
-    })) (all_longer IsTaken old))
+    entry_longer IsTaken row.tag (entry_of collector number row old new t) old new t.before t.after t.there t.changed tt
+    (ap (λ c. c.tape) t.taken.changed) (ap (λ c. c.def) t.taken.changed) (ap (λ c. c.opening) t.taken.changed)
 
 -- the row at a place of a collector's file, where it lacks
 pub missing_take : (earlier tags collector place : ℕ) (rows : List RawRow) (works : List Reached) (row : RawRow) (d e : Reached)
@@ -73,9 +56,6 @@ pub missing_take : (earlier tags collector place : ℕ) (rows : List RawRow) (wo
     → IsMissing collector place (get_or rows place row).tag (Take collector (number_in earlier (place + 1)) (get_or rows place row).point) works
     (get_or works collector e)
 missing_take earlier tags collector place rows works row d e over within values lack next caught =
-    subst (IsMissing collector place (get_or rows place row).tag (Take collector (number_in earlier (place + 1)) (get_or rows place row).point) works)
-    (get_or_default works collector d e over.there)
-    (missing_row (phase_item earlier) tags collector (get_or rows place row).tag place
-    (Take collector (number_in earlier (place + 1)) (get_or rows place row).point) row rows works (get_or works collector d) over
-    (get_or_default works collector d (get_or works collector d) over.there) within refl
-    (All-get_or (IsRowOf tags) rows place row within values).tag lack next caught)
+    missing_row (phase_item earlier) tags collector (get_or rows place row).tag place
+    (Take collector (number_in earlier (place + 1)) (get_or rows place row).point) row rows works d e over within refl
+    (All-get_or (IsRowOf tags) rows place row within values).tag lack next caught

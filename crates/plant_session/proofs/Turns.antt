@@ -8,9 +8,9 @@ use Rattle.std.proofs.lemmas.Option.{get_or_from_slice_get, slice_get_within}
 use Rattle.plant_status.specs.declared.mismatch.Seen.{Seen}
 use Rattle.tape_audit.specs.declared.agenda.Item.{Item}
 use Rattle.tape_audit.specs.declared.kind.Shown.{Shown}
-use Rattle.tape_audit.specs.Agendas.{IsNext, numbered}
+use Rattle.tape_audit.specs.Agendas.{IsNext}
 use Rattle.tape_audit.specs.Found.{AreFound, IsAdvanced, IsCaughtUp, IsFollowed, Reached, lacks, next_due, place_at}
-use Rattle.tape_audit.proofs.Catching.{caught_due, caught_here, caught_more, caught_past}
+use Rattle.tape_audit.proofs.Catching.{caught_due, caught_here, caught_more, caught_past, lacks_none}
 use Rattle.tape_audit.proofs.Numbers.{length-numbered, numbered_at}
 use Rattle.tape_audit.proofs.Walking.{all_further, all_further_step, followed_here, found_beside, found_step}
 use Rattle.plant_session.specs.Workers.{AreOthersSame, AreTapesFound, IsCaughtTo, IsOver}
@@ -115,16 +115,15 @@ others_trans worker a b c first second = record {
 
 -- the rows and the units of the workers
 pub over_turn : {A : Type 0} (item_of : ℕ → ℕ → A → Option Item) (tags worker tag : ℕ) (rows : List A) (works : List Reached)
-    (p q : Reached) → p ≡ get_or works worker p → IsAdvanced tag p q → IsOver item_of tags worker rows works
+    (d q : Reached) → IsAdvanced tag (get_or works worker d) q → IsOver item_of tags worker rows works
     → IsOver item_of tags worker rows (set works worker q)
-over_turn item_of tags worker tag rows works p q is step over = record {
+over_turn item_of tags worker tag rows works d q step over = record {
   there = omega (arith, over.there, length-set works worker q);
-  items = λ r. ap (λ x. x.items) (get_or-set_same works worker q r over.there) ∙ (ap (λ x. x.items) step.changed
-      ∙ (ap (λ x. x.items) is ∙ over.items p));
+  items = λ r. ap (λ x. x.items) (get_or-set_same works worker q r over.there) ∙ (ap (λ x. x.items) step.changed ∙ over.items d);
   units = λ w r below. elim (cases_eq w worker) [
     | inl same ↦ subst (λ n. length (get_or (set works worker q) n r).at ≡ tags) (sym same)
         (ap (λ x. length x.at) (get_or-set_same works worker q r over.there) ∙ (ap (λ x. length x.at) step.changed
-        ∙ (length-set p.at tag step.place ∙ (ap (λ x. length x.at) is ∙ over.units worker p over.there))))
+        ∙ (length-set (get_or works worker d).at tag step.place ∙ over.units worker d over.there)))
     | inr differ ↦ ap (λ x. length x.at) (get_or-set_other works worker w q r differ)
         ∙ over.units w r (omega (arith, below, length-set works worker q))
   ];
@@ -139,45 +138,48 @@ all_known item_of tags worker tag rows works over below =
 
 -- a row at a place lacks
 pub missing_row : {A : Type 0} (item_of : ℕ → ℕ → A → Option Item) (tags worker tag place : ℕ) (seen : Seen) (row : A)
-    (rows : List A) (works : List Reached) (p : Reached) → IsOver item_of tags worker rows works
-    → p ≡ get_or works worker p → place < length rows
+    (rows : List A) (works : List Reached) (d e : Reached) → IsOver item_of tags worker rows works → place < length rows
     → item_of worker (place + 1) (get_or rows place row) ≡ Some (record { unit = tag; seen = seen }) → tag < tags
-    → lacks p place ≡ true
-    → IfSome (get_or p.items place None) (λ item. IsNext item.unit p.items (place_at p item.unit) (place_at p item.unit))
-    → IsCaughtTo place worker works → IsMissing worker place tag seen works p
-missing_row item_of tags worker tag place seen row rows works p over is within made below lack next caught = record {
-  there = over.there;
-  is = is;
-  item = item;
-  within = size;
-  missing = lack;
-  next = subst (λ o. IfSome o (λ item. IsNext item.unit p.items (place_at p item.unit) (place_at p item.unit))) item next;
-  known = omega (arith, below, ap (λ x. length x.at) is ∙ over.units worker p over.there);
-  caught = subst (IsCaughtUp place) (sym is) (caught p);
-}
-  where
-    items : p.items ≡ numbered (item_of worker) 1 rows
-    items = ap (λ x. x.items) is ∙ over.items p
-
-    item : get_or p.items place None ≡ Some (record { unit = tag; seen = seen })
-    item = ap (λ l. get_or l place None) items ∙ (numbered_at (item_of worker) 1 rows place row None within ∙ made)
-
-    size : place < length p.items
-    size = omega (arith, within, ap length items ∙ length-numbered (item_of worker) 1 rows)
+    → lacks (get_or works worker d) place ≡ true
+    → IfSome (get_or (get_or works worker d).items place None) (λ item. IsNext item.unit (get_or works worker d).items
+    (place_at (get_or works worker d) item.unit) (place_at (get_or works worker d) item.unit))
+    → IsCaughtTo place worker works → IsMissing worker place tag seen works (get_or works worker e)
+missing_row item_of tags worker tag place seen row rows works d e over within made below lack next caught =
+    let p = get_or works worker d in
+    let item : get_or p.items place None ≡ Some (record { unit = tag; seen = seen }) =
+    ap (λ l. get_or l place None) (over.items d) ∙ (numbered_at (item_of worker) 1 rows place row None within ∙ made) in
+    subst (IsMissing worker place tag seen works) (get_or_default works worker d e over.there) (record {
+      there = over.there;
+      is = get_or_default works worker d p over.there;
+      item = item;
+      within = omega (arith, within, ap length (over.items d) ∙ length-numbered (item_of worker) 1 rows);
+      missing = lack;
+      next = subst (λ o. IfSome o (λ x. IsNext x.unit p.items (place_at p x.unit) (place_at p x.unit))) item next;
+      known = omega (arith, below, over.units worker d over.there);
+      caught = caught d;
+    })
 
 -- there is a row at each place of a file
 pub row_within : {A : Type 0} (item_of : ℕ → ℕ → A → Option Item) (tags worker place : ℕ) (rows : List A)
-    (works : List Reached) (p : Reached) → IsOver item_of tags worker rows works → p ≡ get_or works worker p
-    → place < length rows → place < length p.items
-row_within item_of tags worker place rows works p over is within =
-    omega (arith, within, ap (λ x. length x.items) is ∙ (ap length (over.items p) ∙ length-numbered (item_of worker) 1 rows))
+    (works : List Reached) (d : Reached) → IsOver item_of tags worker rows works → place < length rows
+    → place < length (get_or works worker d).items
+row_within item_of tags worker place rows works d over within =
+    omega (arith, within, ap length (over.items d) ∙ length-numbered (item_of worker) 1 rows)
 
 -- where the row at a place does not lack, none up to it does
-pub caught_past_row : (worker place : ℕ) (works : List Reached) (p : Reached) → p ≡ get_or works worker p
-    → worker < length works → lacks p place ≡ false → IsCaughtTo place worker works → IsCaughtTo (place + 1) worker works
-caught_past_row worker place works p is there full caught = λ r.
-    subst (IsCaughtUp (place + 1)) (is ∙ get_or_default works worker p r there)
-    (caught_past p place full (subst (IsCaughtUp place) (sym is) (caught p)))
+pub caught_past_row : (worker place : ℕ) (works : List Reached) (d : Reached) → worker < length works
+    → lacks (get_or works worker d) place ≡ false → IsCaughtTo place worker works → IsCaughtTo (place + 1) worker works
+caught_past_row worker place works d there full caught = λ r.
+    subst (IsCaughtUp (place + 1)) (get_or_default works worker d r there) (caught_past (get_or works worker d) place full (caught d))
+
+-- nor where it leaves nothing on a tape
+pub caught_beside : {A : Type 0} (item_of : ℕ → ℕ → A → Option Item) (tags worker place : ℕ) (rows : List A) (works : List Reached)
+    (row : A) (d : Reached) → IsOver item_of tags worker rows works → place < length rows
+    → item_of worker (place + 1) (get_or rows place row) ≡ None → IsCaughtTo place worker works → IsCaughtTo (place + 1) worker works
+caught_beside item_of tags worker place rows works row d over within none caught =
+    caught_past_row worker place works d over.there
+    (lacks_none (get_or works worker d) place (ap (λ l. get_or l place None) (over.items d)
+    ∙ (numbered_at (item_of worker) 1 rows place row None within ∙ none))) caught
 
 -- and where it was found, none up to it does
 pub caught_row : (worker place tag : ℕ) (seen : Seen) (works : List Reached) (p q : Reached)

@@ -1,5 +1,5 @@
 -- Cells that have gained entries.
-use Rattle.std.specs.Prelude.{◌≡◌, ℕ, ◌<◌, List, ◌++◌, All, length, slice_index_or, Option, ⊤}
+use Rattle.std.specs.Prelude.{◌≡◌, ℕ, ◌<◌, List, ◌++◌, All, Option, ⊤}
 use Rattle.trend_num.specs.Queries.{IsTagQuery}
 use Rattle.value_rows.specs.declared.asked.Query.{Query}
 use Rattle.value_rows.specs.declared.asked.Query.TheVariants as query
@@ -9,6 +9,7 @@ use Rattle.tag_cell.specs.Told.{Told}
 use Rattle.tape_audit.specs.declared.agenda.Item.{Item}
 use Rattle.tape_audit.specs.declared.kind.Shown.{Shown}
 use Rattle.tape_audit.specs.Found.{Reached}
+use Rattle.plant_session.specs.Each.{AreEach}
 use Rattle.plant_session.specs.Workers.{AreTapesFound, AreTapesWhole}
 
 -- ---- entries by their kind
@@ -36,9 +37,8 @@ pub record IsLonger {D : Type 0} (IsOf : Entry → Type 0) (old new : Told D) : 
   pub same_opening : new.opening ≡ old.opening
 
 -- so it is of each cell
-pub record AreLonger {D : Type 0} (IsOf : Entry → Type 0) (old new : List (Told D)) : Type 0 where
-  pub as_many : length new ≡ length old
-  pub each : (tag : ℕ) (d : Told D) → IsLonger IsOf (slice_index_or old tag d) (slice_index_or new tag d)
+abbrev pub AreLonger : {D : Type 0} → (Entry → Type 0) → List (Told D) → List (Told D) → Type 0
+AreLonger IsOf old new = AreEach (IsLonger IsOf) old new
 
 -- ---- what their tapes show of workers
 

@@ -1,4 +1,5 @@
 pub mod Asking
+pub mod Each
 pub mod Cells
 pub mod Finding
 pub mod Openings

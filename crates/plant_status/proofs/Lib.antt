@@ -1,1 +1,3 @@
 pub mod Printable
+pub mod Elements
+pub mod Gathering

@@ -7,13 +7,15 @@
 //! and its line.
 //!
 //! Where two accounts of a session differ the status carries both values, with the `Place` at which they stand.
-//! `Pass` and `Passes` are what workers ask whether to go on; `OpenPasses` never stop one.
+//! `Pass` and `Passes` are what workers ask whether to go on; `OpenPasses` never stop one. Once all workers have ended `gather` gives
+//! their passes back and keeps their notes.
 #![tactic(auto)]
 
 mod fault_line;
 mod file;
 mod mismatch;
 mod pass;
+mod seat;
 mod status;
 mod unit;
 mod word;
@@ -22,6 +24,7 @@ pub use fault_line::Line;
 pub use file::FileId;
 pub use mismatch::{Place, Seen};
 pub use pass::{OpenPass, OpenPasses, Pass, Passes};
+pub use seat::{Seat, gather};
 pub use status::{Status, code, line};
 pub use trend_num::{Point, Reason, Summary, TagDef, TagQuery, What};
 pub use unit::Unit;

@@ -83,10 +83,7 @@ pub fn open_plant<S: Store, R: Wait>(
         return Err(Status::WantOfMemory);
     };
     let names = &shelf.tag_names;
-    let cells = match open_cells(rt, alloc, store, &base.tags, names, rooms, board, posters) {
-        Ok(cells) => cells,
-        Err(why) => return Err(why),
-    };
+    let cells = open_cells(rt, alloc, store, &base.tags, names, rooms, board, posters)?;
     match open_groups(alloc, store, base, &shelf.group_names, &cells) {
         Ok(books) => Ok(OpenPlant { cells, books }),
         Err(why) => {

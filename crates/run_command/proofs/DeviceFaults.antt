@@ -25,7 +25,7 @@ use Rattle.run_command.specs.declared.known.Given.{Given}
 use Rattle.run_command.specs.Refusals.{IsMakingRefusal, IsRefused, OfAsk, OfCommit, OfFinding, OfGroup, OfMaking, OfMemory, OfPull, OfRefresh as OfRefreshing, OfRest, OfRowAsk, OfStop, OfTag, OfTake, OfTaking, OfTurns}
 use Rattle.run_command.specs.Runs.{IsOver, IsUndone, OfNone, OfSettling}
 use Rattle.run_command.specs.Headline.{IsFaultCounted}
-use Rattle.run_command.proofs.GroupDevices.{element}
+use Rattle.plant_status.proofs.Elements.{element}
 use Rattle.plant_session.specs.Refusals.{IsSo}
 use Rattle.collector_pool.specs.declared.note.WorkerNote.{WorkerNote}
 

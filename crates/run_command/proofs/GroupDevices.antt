@@ -1,5 +1,5 @@
 -- Group histories, and the devices that are back under the groups' names.
-use Rattle.std.proofs.Common.{◌≡◌, ◌∙◌, ◌<◌, ℕ, List, [], ◌∷◌, Option, None, Some, String, string_bytes, arith, ap, sym, subst, refl, length, get_or}
+use Rattle.std.proofs.Common.{◌≡◌, ◌∙◌, ◌<◌, ℕ, List, [], Option, None, Some, String, string_bytes, arith, ap, sym, subst, refl, length, get_or}
 use Rattle.std.specs.Prelude.{IsSome}
 use Rattle.std.specs.declared.alloc.Global.{Global}
 use Rattle.std.proofs.lemmas.List.{get_or-map, length-map}
@@ -9,12 +9,8 @@ use Rattle.group_book.specs.Told.{IsHistory, Told as Book, count_of, trace_of}
 use Rattle.tag_base.specs.declared.definition.GroupDef.{GroupDef}
 use Rattle.book_store.specs.Endings.{AreGivenBack, AreHistoriesOf, trace_after}
 use Rattle.book_store.specs.Groups.{AreNamesOf, Devices, device_name, trace_at}
+use Rattle.plant_status.proofs.Elements.{element}
 use Rattle.run_command.specs.Runs.{AreGroupHistoriesAt}
-
--- a list that has a place has an element
-pub element : {A : Type 0} (xs : List A) (i : ℕ) → i < length xs → A
-element [] i below = absurd (omega (arith, below))
-element (x ∷ xs) i below = x
 
 -- the device of a book that has one is that under its name
 back_is : {D : Type 0} (trace : D → Option Trace) (dev : Option D) (old : Option Trace) → IsSome dev

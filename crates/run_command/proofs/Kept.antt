@@ -4,9 +4,10 @@ use Rattle.tag_cell.specs.declared.entry.Entry.{Entry}
 use Rattle.tag_cell.specs.Told.{Told as Cell, waits}
 use Rattle.plant_session.specs.Cells.{AreLonger}
 use Rattle.group_book.specs.Told.{Told as Book}
-use Rattle.group_session.specs.Books.{AreEach, IsAskedMore, IsRefreshedMore}
+use Rattle.plant_session.specs.Each.{AreEach}
+use Rattle.group_session.specs.Books.{IsAskedMore, IsRefreshedMore}
 use Rattle.group_session.specs.Refreshing.{IsPulledMore}
-use Rattle.group_session.proofs.Each.{each_trans}
+use Rattle.plant_session.proofs.Each.{each_trans}
 use Rattle.plant_session.specs.declared.comparing.Kept.{Kept}
 use Rattle.tag_cell.specs.declared.history.TagOpening.{TagOpening}
 use Rattle.group_book.specs.declared.history.GroupOpening.{GroupOpening}

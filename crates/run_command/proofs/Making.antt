@@ -10,7 +10,8 @@ use Rattle.plant_session.specs.Workers.{AreOver}
 use Rattle.collector_pool.specs.Work.{IsQueryOf}
 use Rattle.plant_session.specs.Cells.{IsKnownAsk}
 use Rattle.group_book.specs.Told.{Told as Book}
-use Rattle.group_session.specs.Books.{AreEach, IsKnownRowAsk}
+use Rattle.plant_session.specs.Each.{AreEach}
+use Rattle.group_session.specs.Books.{IsKnownRowAsk}
 use Rattle.group_session.specs.Inputs.{AreInputs}
 use Rattle.group_session.specs.declared.comparing.KeptGroup.{KeptGroup}
 use Rattle.group_session.specs.Openings.{AreAsKept}

@@ -33,6 +33,10 @@ placed f n (a ∷ rest) = f n a ∷ placed f (n + 1) rest
 abbrev pub texts : {A : Type 0} → (ℕ → A → List ℕ) → List A → List ℕ
 texts text_of xs = concat (placed text_of 0 xs)
 
+-- the lines of all that a base defines and that has a history, which stands in its place
+abbrev pub lines_of_each : {A B : Type 0} → (A → B → List ℕ) → List A → List B → List ℕ
+lines_of_each lines_of defs histories = texts (λ place def. option_map_or (lines_of def) (slice_get histories place) []) defs
+
 -- ---- tags
 
 -- the line of a tag, as it is at the end
@@ -41,7 +45,7 @@ tag_line def h = tag_text (line_of def.name h.recs.items h.summary)
 
 -- a line of each tag of a base
 abbrev pub tag_lines : List TagDef → List TagHistory → List ℕ
-tag_lines defs tags = texts (λ place def. option_map_or (tag_line def) (slice_get tags place) []) defs
+tag_lines defs tags = lines_of_each tag_line defs tags
 
 -- ---- replies
 
@@ -109,7 +113,7 @@ lines_of_group def h =
 
 -- those of each group of a base
 abbrev pub all_group_lines : List GroupDef → List GroupHistory → List ℕ
-all_group_lines defs groups = texts (λ place def. option_map_or (lines_of_group def) (slice_get groups place) []) defs
+all_group_lines defs groups = lines_of_each lines_of_group defs groups
 
 -- ---- all
 

@@ -1,11 +1,11 @@
 // The lines of groups.
-ghost use Rattle.std.specs.Prelude.{◌≡◌, ◌++◌, [], IfOk, OnOk, count_by, map, slice_get, slice_index_or, string_bytes};
-ghost use Rattle.std.specs.Option.{option_map_or};
+ghost use Rattle.std.specs.Prelude.{◌≡◌, [], IfOk, count_by, map, slice_index_or};
 ghost use Rattle.calc_check.specs.Group.{calculation};
 ghost use Rattle.calc_refresh.specs.Lists.{lists_of};
 ghost use Rattle.trend_report.specs.Lines.{group_text};
-ghost use Rattle.session_report.specs.Report.{all_group_lines, is_refresh, last_rows, last_value, lines_of_group, windows_in};
+ghost use Rattle.session_report.specs.Report.{is_refresh, last_rows, last_value, lines_of_group, windows_in};
 
+use crate::reported::Reported;
 use calc_check::CalcDef;
 use group_book::{GroupHistory, Turn};
 use std::alloc::Global;
@@ -13,38 +13,17 @@ use tag_base::GroupDef;
 use trend_num::{CalcValue, WantOfMemory};
 use trend_report::{GroupLine, LastRow, group_text};
 
-// Adds the lines of each group.
-pub(crate) fn put_groups(
-    alloc: Global,
-    text: &mut String,
-    defs: &[GroupDef],
-    groups: &[GroupHistory],
-) -> Result<(), WantOfMemory>
-    ensures { OnOk result (string_bytes text.new ≡ string_bytes text.old ++ all_group_lines defs.now groups.now) }
-{
-    for place in 0..defs.len() {
-        put_group(alloc, text, &defs[place], groups, place)?;
-    }
-    Ok(())
-}
+impl Reported for GroupHistory {
+    ghost use Rattle.session_report.specs.Report.{lines_of_group};
 
-// Adds the lines of the group at a place, if there is one.
-fn put_group(
-    alloc: Global,
-    text: &mut String,
-    def: &GroupDef,
-    groups: &[GroupHistory],
-    place: usize,
-) -> Result<(), WantOfMemory>
-    ensures { OnOk result (string_bytes text.new
-        ≡ string_bytes text.old ++ option_map_or (lines_of_group def.now) (slice_get groups.now place) []) }
-{
-    if place >= groups.len() {
-        return Ok(());
+    type Def = GroupDef;
+
+    ghost lines = { lines_of_group };
+
+    fn lines(&self, alloc: Global, def: &GroupDef) -> Result<String, WantOfMemory> {
+        let line = line_of_group(alloc, def, self)?;
+        group_text(alloc, &line)
     }
-    let line = line_of_group(alloc, def, &groups[place])?;
-    let line = group_text(alloc, &line)?;
-    Ok(text.push_str(line.as_str())?)
 }
 
 // What is told of a group. A number of windows that is no `u32` is told as memory that is not there.

@@ -17,6 +17,7 @@ mod group_lines;
 mod lines;
 mod places;
 mod replies;
+mod reported;
 mod session;
 mod snap;
 mod tag_lines;

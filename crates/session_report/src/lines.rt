@@ -3,10 +3,9 @@ ghost use Rattle.std.specs.Prelude.{◌≡◌, ◌+◌, ◌<◌, ◌^◌, IfOk, 
 ghost use Rattle.calc_refresh.specs.Lists.{lists_of};
 ghost use Rattle.session_report.specs.Report.{report};
 
-use crate::group_lines::put_groups;
 use crate::replies::put_replies;
+use crate::reported::put_each;
 use crate::session::Session;
-use crate::tag_lines::put_tags;
 use std::alloc::Global;
 use tag_base::Base;
 use trend_num::WantOfMemory;
@@ -28,8 +27,8 @@ pub fn report(
         ≡ report base.now collectors (lists_of readers.now) session.now) }
 {
     let mut text = String::new(alloc);
-    put_tags(alloc, &mut text, &base.tags, &session.tags)?;
+    put_each(alloc, &mut text, &base.tags, &session.tags)?;
     put_replies(alloc, &mut text, session, collectors, readers)?;
-    put_groups(alloc, &mut text, &base.groups, &session.groups)?;
+    put_each(alloc, &mut text, &base.groups, &session.groups)?;
     Ok(text)
 }

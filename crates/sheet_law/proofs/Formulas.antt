@@ -9,7 +9,7 @@ use Rattle.trend_num.specs.declared.measure.Measure.{Measure}
 use Rattle.trend_num.specs.declared.point.Point.{Point}
 use Rattle.trend_model.specs.Windows.{window_value}
 use Rattle.calc_check.specs.Group.{Group}
-use Rattle.calc_eval.proofs.Window.{window_decides}
+use Rattle.sheet_law.proofs.Window.{window_decides}
 use Rattle.sheet_law.specs.declared.grid.Grid.{Grid}
 use Rattle.sheet_law.specs.Windows.{is_complete, reaches, window_from, window_to}
 use Rattle.sheet_law.specs.Touched.{any_touched, is_touched, longer}

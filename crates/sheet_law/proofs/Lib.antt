@@ -1,3 +1,4 @@
+pub mod Window
 pub mod Alike
 pub mod Stretch
 pub mod Stay

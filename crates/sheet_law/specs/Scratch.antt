@@ -6,7 +6,7 @@ use Rattle.trend_num.specs.declared.point.Point.{Point}
 use Rattle.trend_model.specs.Contents.{listed, points_of}
 use Rattle.trend_num.specs.declared.value.CalcValue.{CalcValue}
 use Rattle.calc_check.specs.Group.{Group}
-use Rattle.calc_eval.specs.Value.{values}
+use Rattle.sheet_law.specs.Value.{values}
 use Rattle.sheet_law.specs.declared.grid.Grid.{Grid}
 use Rattle.sheet_law.specs.Windows.{complete_windows, window_from, window_to}
 use Rattle.sheet_law.specs.Touched.{any_touched}

@@ -1,6 +1,7 @@
 -- Books that are opened, refreshed once, and closed.
-use Rattle.std.proofs.Common.{◌≡◌, ◌≢◌, inl, inr, ℕ, ◌+◌, ◌<◌, ◌≤◌, List, [], ◌∷◌, All, length, map, get_or, set, string_bytes, Option, refl, sym, ap, subst, ◌∙◌, arith}
-use Rattle.std.specs.Prelude.{String}
+use Rattle.std.proofs.Common.{◌≡◌, ◌≢◌, inl, inr, ℕ, ◌+◌, ◌<◌, ◌≤◌, List, [], ◌∷◌, All, length, map, get_or, set, string_bytes, Option, Result, Ok, Err, refl, sym, ap, subst, ◌∙◌, arith}
+use Rattle.std.specs.Prelude.{IfErr, IfOk, OnOk, String}
+use Rattle.std.specs.Result.{result_and}
 use Rattle.std.specs.declared.alloc.Global.{Global}
 use Rattle.std.proofs.lemmas.Bool.{cases_eq}
 use Rattle.std.proofs.lemmas.List.{get_or-map, get_or-set_other, get_or-set_same, get_or_default, length-map, length-set}
@@ -25,6 +26,7 @@ use Rattle.group_book.specs.Told.{Told, count_of, trace_of}
 use Rattle.group_session.specs.Inputs.{IsInputsOf}
 use Rattle.book_store.specs.Endings.{AreGivenBack, AreHistoriesOf, IsHistoryOf, trace_after}
 use Rattle.book_store.specs.Groups.{AllStaySame, AreBooksOpened, AreNamesOf, Devices, IsBookOpened, parts_of, records_of, text_of, trace_at}
+use Rattle.book_store.specs.Refusals.{CountsStore}
 use Rattle.book_store.proofs.Causes.{back_is, front_of}
 use Rattle.book_store.proofs.Names.{as_many, named_at}
 use Rattle.trend_command.specs.Replies.{Rows, rows_in}
@@ -178,6 +180,22 @@ none_counted trace ticks faults [] records old books closed many opened devices 
     absurd (omega (arith, below, many, devices.as_many))
 none_counted trace ticks faults (g ∷ gs) records old books closed many opened devices i b below =
     ap (count_of faults) (devices.each i b) ∙ (opened.each i g b (omega (arith, below, devices.as_many))).faultless
+
+pub counts_same : {T : Type 0} {before now : ℕ} (r : Result T Status) → now ≡ before → CountsStore r before now
+counts_same (Ok x) same = same
+counts_same (Err why) same = inl same
+
+-- ---- the histories, where all books were refreshed
+
+pub ok_and : {T U E A : Type 0} {P : U → Type 0} (r : Result T E) (x : U) (s : Result U E) → s ≡ result_and r (Ok x) → (A → P x)
+    → OnOk r A → IfOk s P
+ok_and {P} (Ok t) x s same follows a = subst (λ v. IfOk v P) (sym same) (follows a)
+ok_and {P} (Err e) x s same follows a = subst (λ v. IfOk v P) (sym same) tt
+
+pub err_and : {T U E : Type 0} {P Q : E → Type 0} (r : Result T E) (x : U) (s : Result U E) → s ≡ result_and r (Ok x)
+    → ((e : E) → P e → Q e) → IfErr r P → IfErr s Q
+err_and {Q} (Ok t) x s same follows p = subst (λ v. IfErr v Q) (sym same) tt
+err_and {Q} (Err e) x s same follows p = subst (λ v. IfErr v Q) (sym same) (follows e p)
 
 -- ---- a group that comes to too much
 

@@ -1,6 +1,5 @@
 -- What the commands over stored archives need of a base and of its queries.
-use Rattle.std.proofs.Common.{◌≡◌, ◌≢◌, ℕ, ◌^◌, ◌<◌, ◌≤◌, List, [], All, length, map, refl, sym, ◌∙◌, subst, arith, ap}
-use Rattle.std.specs.List.{AllPairs}
+use Rattle.std.proofs.Common.{◌≡◌, ℕ, ◌^◌, ◌<◌, ◌≤◌, List, [], All, length, map, refl, sym, ◌∙◌, subst, arith, ap}
 use Rattle.std.proofs.lemmas.List.{get_or-map, length-map}
 use Rattle.std.proofs.lemmas.List.Sums.{get_or-le-sum_by}
 use Rattle.std.proofs.lemmas.List.Elements.{All-weaker}
@@ -12,7 +11,6 @@ use Rattle.tag_base.specs.declared.definition.Base.{Base}
 use Rattle.tag_base.specs.declared.definition.GroupDef.{GroupDef}
 use Rattle.value_rows.specs.declared.asked.Query.{Query}
 use Rattle.value_rows.specs.declared.asked.Query.TheVariants.{Tag, Snap, Row}
-use Rattle.plant_files.specs.Texts.{tag_names}
 use Rattle.plant_files.specs.Asked.{IsQueryOf, ToldFiles, AreReaderFiles}
 use Rattle.value_rows.specs.declared.asked.GroupNames.{GroupNames}
 use Rattle.plant_status.specs.declared.status.Status.{Status}
@@ -20,7 +18,7 @@ use Rattle.plant_status.specs.declared.status.Status.TheVariants.{Done, BadWords
 use Rattle.plant_status.specs.declared.status.Status.TheVariants.{Damaged, OtherTag, Limit, Mismatch, Halted, WantOfMemory, OtherPlant, BadName}
 use Rattle.plant_files.specs.Reading.{faults_told}
 use Rattle.disk_model.specs.Traces.{Trace}
-use Rattle.tag_store.specs.Tags.{AreDistinct, records_in}
+use Rattle.tag_store.specs.Tags.{records_in}
 use Rattle.tag_store.specs.Refusals.{IsRefusal}
 use Rattle.book_store.specs.Refusals.{OfDamage, OfFault, OfMemory, OfVersion, OfWindows}
 use Rattle.trend_command.specs.Replies.{IsAsked}
@@ -31,14 +29,6 @@ use Rattle.std.proofs.Common.{Option, Result, Ok, Err, IfErr, ◌∷◌}
 pub all_of_map : {X Y : Type 0} (f : X → Y) (P : Y → Type 0) (xs : List X) → All P (map f xs) → All (λ x. P (f x)) xs
 all_of_map f P xs all k d below =
     subst P (get_or-map f xs k d (f d) below) (all k (f d) (omega (arith, below, length-map xs f)))
-
--- tags of distinct names are distinct
-pub distinct_tags : (tags : List TagDef) → AllPairs (λ x y. x ≢ y) (tag_names tags) → AreDistinct tags
-distinct_tags tags all i j d less below same =
-    let named = λ (t : TagDef). t.name in
-    all i j d.name less (omega (arith, below, length-map tags named)) (
-    get_or-map named tags i d d.name (omega (arith, less, below)) ∙ same
-    ∙ sym (get_or-map named tags j d d.name below))
 
 -- a query of a base is asked of one of its tags or of one of its groups
 asked_one : (base : Base) (n m : ℕ) → n ≡ length base.tags.items → m ≡ length base.groups.items → (q : Query) → IsQueryOf base q

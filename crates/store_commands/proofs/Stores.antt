@@ -1,28 +1,26 @@
 -- The devices of tags and of groups, which are opened one after the other.
-use Rattle.std.proofs.Common.{◌≡◌, ◌≢◌, ◌⊎◌, inl, inr, ℕ, ◌+◌, ◌^◌, ◌<◌, List, [], ◌∷◌, ◌++◌, All, length, length-append, map, get_or, codes, Option, Result, Ok, Err, refl, sym, ap, subst, ◌∙◌, arith}
+use Rattle.std.proofs.Common.{◌≡◌, ◌≢◌, inl, inr, ℕ, ◌+◌, ◌^◌, ◌<◌, List, [], ◌∷◌, ◌++◌, length, length-append, get_or, codes, Result, Ok, Err, refl, sym, ap, subst, ◌∙◌, arith}
 use Rattle.std.proofs.lemmas.List.{get_or-append-add}
 use Rattle.trend_num.specs.declared.archive.Rec.{Rec}
 use Rattle.trend_num.specs.declared.tag_def.TagDef.{TagDef}
 use Rattle.tag_core.specs.Core.{Core}
 use Rattle.disk_model.specs.Calls.{Rose}
-use Rattle.disk_model.specs.Moments.{During}
-use Rattle.disk_model.specs.Traces.{Trace}
 use Rattle.crash_recovery.specs.Opening.{StaysSame as TagStaysSame}
 use Rattle.plant_status.specs.declared.status.Status.{Status}
-use Rattle.plant_status.specs.declared.unit.Unit.TheVariants.{Tag, Group}
+use Rattle.plant_status.specs.declared.unit.Unit.TheVariants.{Tag}
 use Rattle.tag_base.specs.declared.definition.Base.{Base}
 use Rattle.tag_base.specs.declared.definition.GroupDef.{GroupDef}
+use Rattle.plant_files.specs.RowFiles.{ToldFiles}
+use Rattle.plant_files.specs.Texts.{IsBaseFile}
 use Rattle.tag_store.specs.Refusals as tags
 use Rattle.tag_store.specs.Tags as tag
-use Rattle.group_book.specs.declared.history.GroupOpening.{GroupOpening}
-use Rattle.group_book.specs.Openings.{StaysSame}
 use Rattle.book_store.specs.Groups as group
-use Rattle.book_store.specs.Groups.{Devices, IsOpening, parts_of, records_of, text_of, trace_at}
+use Rattle.book_store.specs.Groups.{Devices, records_of, trace_at}
 use Rattle.book_store.specs.Refusals as groups
-use Rattle.book_store.specs.Refusals.{IsRefusal, IsRefusedAt, OfDamage, OfFault, OfMemory, OfVersion, OfWindows}
-use Rattle.book_store.proofs.Turns.{untouched}
+use Rattle.book_store.specs.Refusals.{IsRefusal}
+use Rattle.book_store.proofs.Devices as book
 use Rattle.trend_command.specs.Replies.{Rows}
-use Rattle.store_commands.specs.Commands.{AreRestSame, CountsDevices}
+use Rattle.store_commands.specs.Commands.{AreAllKept, AreRestSame, CountsDevices}
 use Rattle.store_commands.specs.GroupRows.{AreGroupsTold, IsGroupTold, IsRowsRefusal, IsTooMuchAt, OfCells, OfCopies, OfOpening, OfWant}
 
 -- no group's device is called as a tag's
@@ -57,36 +55,12 @@ module _ (gs : List GroupDef) (records : List (List Rec)) (old mid : Devices) (s
         (same (get_or gs i g)) (told.each i g r below);
   }
 
-  opened_before : (many : ℕ) (openings : List GroupOpening) → group.AreOpened many gs records mid openings
-      → group.AreOpened many gs records old openings
-  opened_before many openings opened k g x below =
-      subst (λ o. IsOpening (get_or gs k g) (records_of records (get_or gs k g)) o (get_or openings k x)) (same (get_or gs k g))
-      (opened k g x below)
-
-  at_before : (i : ℕ) (P Q : GroupDef → List (List Rec) → Option Trace → Type 0)
-      → ((g : GroupDef) (recovered : List (List Rec)) (o : Option Trace) → P g recovered o → Q g recovered o)
-      → IsRefusedAt gs records mid i P → IsRefusedAt gs records old i Q
-  at_before i P Q follows at = record {
-    g = at.g;
-    openings = at.openings;
-    there = at.there;
-    is_group = at.is_group;
-    as_many = at.as_many;
-    front = opened_before i at.openings at.front;
-    cause = subst (Q at.g (records_of records at.g)) (same at.g) (follows at.g (records_of records at.g) (trace_at mid at.g) at.cause);
-  }
-
+  -- what the opening of groups was refused with
   refusal_before : (before mid_count now : ℕ) (why : Status) → (before < 2 ^ 64 → mid_count ≡ before)
       → IsRefusal gs records mid mid_count now why → IsRefusal gs records old before now why
-  refusal_before before count now why first (OfFault i is at) =
-      OfFault i is (at_before i _ _ (λ g recovered o rose small.
-      subst (λ n. Rose n now) (first small) (rose (subst (λ n. n < 2 ^ 64) (sym (first small)) small))) at)
-  refusal_before before count now why first (OfDamage i a byte is at) = OfDamage i a byte is (at_before i _ _ (λ g recovered o p. p) at)
-  refusal_before before count now why first (OfVersion i input found version is at) =
-      OfVersion i input found version is (at_before i _ _ (λ g recovered o p. p) at)
-  refusal_before before count now why first (OfWindows i windows rows is at) =
-      OfWindows i windows rows is (at_before i _ _ (λ g recovered o p. p) at)
-  refusal_before before count now why first (OfMemory is) = OfMemory is
+  refusal_before before count now why first refused =
+      book.refusal_before gs records old mid same before now count now why
+      (λ rose small. subst (λ n. Rose n now) (first small) (rose (subst (λ n. n < 2 ^ 64) (sym (first small)) small))) refused
 
   much_before : (i : ℕ) (P : List (List Rec) → Type 0) → IsTooMuchAt gs records mid i P → IsTooMuchAt gs records old i P
   much_before i P at = record {
@@ -94,7 +68,7 @@ module _ (gs : List GroupDef) (records : List (List Rec)) (old mid : Devices) (s
     openings = at.openings;
     there = at.there;
     is_group = at.is_group;
-    opened = opened_before (length gs) at.openings at.opened;
+    opened = book.opened_before gs records old mid same (length gs) at.openings at.opened;
     over = at.over;
   }
 
@@ -106,13 +80,7 @@ module _ (gs : List GroupDef) (records : List (List Rec)) (old mid : Devices) (s
   rows_before before count now why first (OfWant is) = OfWant is
 
   pub same_before : (new : Devices) → group.AllStaySame gs mid new → group.AllStaySame gs old new
-  same_before new kept i g below =
-      subst (λ o. During o (trace_at new (get_or gs i g)) (StaysSame (text_of (get_or gs i g)) (parts_of (get_or gs i g)) o))
-      (same (get_or gs i g)) (kept i g below)
-
-  -- groups that were not opened stay the same
-  pub same_untouched : group.AllStaySame gs old mid
-  same_untouched i g below = untouched (get_or gs i g) _ _ (same (get_or gs i g))
+  same_before new kept = book.same_before gs records old mid same new new (λ g. refl) kept
 
 -- ---- what is said of tags before the groups were opened is so of the devices after
 
@@ -132,9 +100,24 @@ left_after (t ∷ ts) (c ∷ cs) old mid new same left = (
 )
 
 -- no device but theirs has changed
-pub rest_same : (base : Base) (old mid new : Devices) → tag.AreOthersSame base.tags.items old mid
+rest_same : (base : Base) (old mid new : Devices) → tag.AreOthersSame base.tags.items old mid
     → group.AreOthersSame base.groups.items mid new → AreRestSame base old new
 rest_same base old mid new first second n no_tag no_group = second n no_group ∙ first n no_tag
+
+-- first the tags are opened, and then the groups
+pub all_kept : (name : List ℕ) (told : ToldFiles) (base : Base) (gs : List GroupDef) (old mid new : Devices) → gs ≡ base.groups.items
+    → IsBaseFile (told name) base → tag.AllStaySame base.tags.items old mid → tag.AreOthersSame base.tags.items old mid
+    → group.AllStaySame gs mid new → group.AreOthersSame gs mid new → AreAllKept name told old new
+all_kept name told base gs old mid new are read tags_stay first stay second =
+    let others = subst (λ l. group.AreOthersSame l mid new) are second in
+    inr (
+      base,
+      read,
+      kept_after base.tags.items old mid new (tags_same base.groups.items mid new others) tags_stay,
+      same_before base.groups.items [] old mid (groups_same base.tags.items old mid first) new
+          (subst (λ l. group.AllStaySame l mid new) are stay),
+      rest_same base old mid new first others,
+    )
 
 -- ---- faults
 

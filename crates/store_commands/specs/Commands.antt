@@ -7,11 +7,8 @@ use Rattle.tag_base.specs.declared.definition.Base.{Base}
 use Rattle.tag_base.specs.declared.schedule.Plan.{Plan}
 use Rattle.value_rows.specs.declared.asked.Query.{Query}
 use Rattle.plant_status.specs.declared.status.Status.{Status}
-use Rattle.plant_status.specs.declared.status.Status.TheVariants.{DeviceFault, ReadFault, WantOfMemory}
-use Rattle.plant_status.specs.declared.file.FileId.TheVariants as file
+use Rattle.plant_status.specs.declared.status.Status.TheVariants.{DeviceFault, WantOfMemory}
 use Rattle.plant_status.specs.declared.unit.Unit.{Unit}
-use Rattle.byte_io.specs.Files.{IsFaultOf}
-use Rattle.plant_files.specs.Reading.{IsFaultAt}
 use Rattle.plant_files.specs.Texts.{IsBaseFile, IsBaseRefusal, IsPlanFile, IsPlanRefusal}
 use Rattle.plant_files.specs.Asked.{ToldFiles, AreQueries, IsQueriesRefusal}
 use Rattle.tag_store.specs.Tags.{AreOpened, AreLeft, AllStaySame, AreOthersSame, device_name}
@@ -92,17 +89,6 @@ pub data IsTrendRefusal (name plan_name : List ℕ) (told : ToldFiles) (old new 
       → IsRowsRefusal base.groups.items (tag_records cores) old before now why
       → IsTrendRefusal name plan_name told old new before now why
   OfMemory : why ≡ WantOfMemory → IsTrendRefusal name plan_name told old new before now why
-
--- ---- whose read failed
-
--- where a read fault is told, and it is told whose read failed last, that is the file that is told of: the base's, the plan's, or
--- that of a reader of the plan that was read
-pub record IsFaultOfNamed (name plan_name : List ℕ) (told : ToldFiles) (failed : Option (List ℕ)) (why : Status) : Type 0 where
-  pub base : why ≡ ReadFault file.Base → IsFaultOf failed name
-  pub plan : why ≡ ReadFault file.Plan → IsFaultOf failed plan_name
-  pub reader : (place : ℕ) → why ≡ ReadFault (file.Reader place) → (base : Base) × (plan : Plan)
-      × IsBaseFile (told name) base × IsPlanFile base.groups.items (told plan_name) plan
-      × IsFaultAt plan.readers.items place failed
 
 -- ---- devices
 

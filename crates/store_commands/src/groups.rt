@@ -59,8 +59,7 @@ pub(crate) fn histories_of<S: Store>(
     let mut books = open_books(alloc, store, groups, &names, &records)?;
     let refreshed = refresh_all(alloc, &mut books, groups, &records);
     close_books(store, &names, books, &mut histories);
-    refreshed?;
-    Ok(histories)
+    refreshed.and(Ok(histories))
 }
 
 // The records of each tag.

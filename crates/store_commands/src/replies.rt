@@ -1,8 +1,9 @@
 // The command `trend`.
 ghost use Rattle.std.specs.Prelude.{◌^◌, ◌<◌, ◌≤◌, ◌≡◌, length, map, string_bytes, All, IfOk, IfErr, OnOk};
 ghost use Rattle.trend_command.specs.Replies.{IsAsked, rows_in, trend_text};
+ghost use Rattle.plant_files.specs.Faults.{IsFaultOfPlanned};
 ghost use Rattle.plant_files.specs.Reading.{faults_after};
-ghost use Rattle.store_commands.specs.Commands.{AreAllKept, CountsDevices, IsDurable, IsFaultOfNamed, IsTrend, IsTrendRefusal};
+ghost use Rattle.store_commands.specs.Commands.{AreAllKept, CountsDevices, IsDurable, IsTrend, IsTrendRefusal};
 
 use crate::groups::histories_of;
 use crate::opened::open_base;
@@ -34,7 +35,7 @@ pub fn trend<F: Files, S: Store>(
     ensures kept { AreAllKept name.now (F.told files.old) (S.device_at store.old) (S.device_at store.new) }
     ensures stays { F.told files.new ≡ F.told files.old }
     ensures file_faults { F.fault_count files.new ≡ faults_after result (F.fault_count files.old) }
-    ensures whose { IfErr result (IsFaultOfNamed name.now plan_name.now (F.told files.old) (F.failed_name files.new)) }
+    ensures whose { IfErr result (IsFaultOfPlanned name.now plan_name.now (F.told files.old) (F.failed_name files.new)) }
     ensures durable { OnOk result (IsDurable name.now (F.told files.old) (S.device_at store.old) (S.device_at store.new)) }
     ensures counts { S.fault_count store.old < 2 ^ 64
         → CountsDevices result (S.fault_count store.old) (S.fault_count store.new) }

@@ -17,7 +17,9 @@ pub fn a_replayed_history_is_legal()
         → org.step ≡ def.step → Stands org h (opened o) → IsReplayed def o tape s acked → IsLegal org h def o tape s acked }
 {}
 
-/// The promise of the archive holds of that history followed by the takes.
+/// So what such a tape comes to stands for that history followed by the takes, and the promise of the archive holds of it.
 pub fn a_replayed_history_is_bounded()
-    ensures { (org : Origin) (h : List Event) (tape : List Entry) → IsBounded org (followed h (map Raw (taken tape))) }
+    ensures { (org : Origin) (h : List Event) (def : TagDef) (o : TagOpening) (tape : List Entry) (s : State) (acked : ℕ)
+        → org.step ≡ def.step → Stands org h (opened o) → IsReplayed def o tape s acked
+        → Stands org (followed h (map Raw (taken tape))) s × IsBounded org (followed h (map Raw (taken tape))) }
 {}

@@ -89,8 +89,8 @@ pub(crate) fn make_places(tape: &mut Vec<Entry>, takes_to_come: u32) -> Result<(
     ensures room { OnOk result (vec_len tape.old + takes_to_come + 1 ≤ vec_capacity tape.new) }
     ensures more { vec_capacity tape.old ≤ vec_capacity tape.new }
 {
-    tape.reserve(takes_to_come as usize + 1)
-        .map_err(|_| WantOfMemory)
+    tape.reserve(takes_to_come as usize + 1)?;
+    Ok(())
 }
 
 // The records from one place on, before another.
@@ -101,5 +101,5 @@ fn copied(alloc: Global, recs: &[Rec], from: u32, upto: u32) -> Result<Vec<Rec>,
     ensures records { IfOk result (λ v. v.items ≡ take (upto - from) (drop from recs.now)) }
     ensures in_range { IfOk result (λ v. All (λ r. InRange r.point) v.items) }
 {
-    Vec::from_slice(alloc, &recs[from as usize..upto as usize]).map_err(|_| WantOfMemory)
+    Ok(Vec::from_slice(alloc, &recs[from as usize..upto as usize])?)
 }

@@ -1,26 +1,39 @@
 -- How the opening of tags ends.
-use Rattle.std.proofs.Common.{◌≡◌, ◌≢◌, inl, inr, ℕ, ◌^◌, ◌<◌, ◌≤◌, List, length, take, Option, Err}
+use Rattle.std.proofs.Common.{◌≡◌, ◌≢◌, inl, inr, ℕ, ◌+◌, ◌^◌, ◌<◌, ◌≤◌, List, length, get_or, take, Option, Err}
 use Rattle.std.proofs.Common.{refl, sym, subst}
 use Rattle.std.proofs.lemmas.List.{take_all}
 use Rattle.std.proofs.lemmas.List.Elements.{All-take}
 use Rattle.trend_num.specs.declared.tag_def.TagDef.{TagDef}
 use Rattle.tag_core.specs.Core.{Core}
 use Rattle.disk_model.specs.Traces.{Trace}
+use Rattle.crash_recovery.specs.Opening.{StaysSame}
 use Rattle.device_layout.specs.declared.failure.OpenNo.{OpenNo}
 use Rattle.device_layout.specs.declared.failure.OpenNo.TheVariants.{DeviceFault, Damaged, OtherTag, Full}
 use Rattle.device_layout.specs.declared.failure.OpenNo.TheVariants.{WantOfMemory}
 use Rattle.device_layout.specs.Readings.{IsCause}
 use Rattle.trend_num.specs.Limits.{most_stored}
 use Rattle.disk_model.specs.Calls.{CountsFault, Rose}
-use Rattle.tag_store.specs.Tags.{device_name, trace_of, AreDistinct, AreOpened, AreLeft, AreOthersSame, records_in}
+use Rattle.tag_store.specs.Tags.{device_name, trace_of, AllStaySame, AreDistinct, AreOpened, AreLeft, AreOthersSame, records_in}
 use Rattle.tag_store.specs.Refusals.{status_of, IsRefusedAt, IsRefusal, CountsStore}
-use Rattle.tag_store.proofs.Turns.{IsSoFar, IsTag, IsTurn, unreached, touched}
+use Rattle.tag_store.proofs.Turns.{IsSoFar, IsTag, IsTurn, all_same, unreached, touched}
 
 -- what no tag has, none of the first has
 pub of_all : (tags : List TagDef) (i : ℕ) (old new : List ℕ → Option Trace)
     → AreOthersSame (take i tags) old new → AreOthersSame tags old new
 of_all tags i old new others n none =
     others n (All-take (λ (def : TagDef). n ≢ device_name def.name) i tags none)
+
+-- where it ends at the next tag, whose device alone was touched, each device stays the same, and no other one has changed
+pub ends_at : (tags : List TagDef) (i : ℕ) (def : TagDef) (old now new : List ℕ → Option Trace) (cores : List Core)
+    → IsSoFar tags i old now cores → i < length tags → def ≡ get_or tags i def
+    → ((n : List ℕ) → n ≢ device_name def.name → new n ≡ now n) → StaysSame def (trace_of now def) (trace_of new def)
+    → (AreDistinct tags → AllStaySame tags old new) × AreOthersSame tags old new
+ends_at tags i def old now new cores so_far there is others same =
+    let tag : IsTag tags i def = record { there = there; is = is } in
+    let turn : IsTurn def now new = record { others = others; same = same } in (
+      λ distinct. all_same tags i def old now new cores so_far distinct tag turn,
+      of_all tags (i + 1) old new (touched tags i def old now new so_far.others tag turn),
+    )
 
 -- all tags are opened
 pub all_opened : (tags : List TagDef) (i : ℕ) (old : List ℕ → Option Trace) (cores : List Core)

@@ -19,7 +19,7 @@ use Rattle.trend_model.specs.Lists.{IfThere}
 use Rattle.trend_model.specs.Parts.{PointsRise, RisesAfter, last_point}
 use Rattle.trend_model.specs.Reads.{read_at, value_read}
 use Rattle.trend_model.specs.Windows.{end_at, is_covered, last_from, last_time_from}
-use Rattle.weighted_total.proofs.Covered.{covered_read}
+use Rattle.trend_model.proofs.Covering.{covered_read}
 use Rattle.trend_model.proofs.ReadLaw.{points_rise}
 use Rattle.trend_model.proofs.WindowLaw.{inside, rises_rest}
 use Rattle.trend_model.specs.Contents.{IsNotBefore}

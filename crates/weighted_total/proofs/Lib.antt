@@ -1,4 +1,3 @@
-mod Covered
 pub mod EndsOf
 pub mod Measuring
 pub mod Sums

@@ -2,7 +2,7 @@ use Rattle.std.proofs.Common.{◌≡◌, ℕ, ◌+◌, ◌*◌, ◌<◌, ◌≤�
 use Rattle.std.specs.Prelude.{count_by}
 use Rattle.std.specs.List.{range_with_len}
 use Rattle.std.proofs.lemmas.Bool.{cases_eq, false≢true}
-use Rattle.calc_eval.specs.Value.{points_in, values}
+use Rattle.sheet_law.specs.Value.{points_in, values}
 use Rattle.sheet_law.specs.Windows.{window_from, window_to}
 use Rattle.sheet_law.specs.Scratch.{column}
 use Rattle.calc_refresh.specs.Lists.{lists_of}

@@ -1,5 +1,5 @@
 use Rattle.std.proofs.Common.{◌≡◌, ◌≢◌, ℕ, ◌+◌, Some, length, map, take, vec_len}
-use Rattle.calc_eval.specs.Value.{points_in, values}
+use Rattle.sheet_law.specs.Value.{points_in, values}
 use Rattle.sheet_law.specs.Scratch.{column}
 use Rattle.calc_refresh.specs.Lists.{lists_of}
 use Rattle.calc_refresh.proofs.evaluation.evaluate_window.Given as goal

@@ -12,12 +12,11 @@ use Rattle.device_layout.specs.Readings.{IsCause}
 use Rattle.tag_cell.specs.Told.{Told}
 use Rattle.tag_store.specs.Refusals.{status_of}
 use Rattle.tag_store.proofs.Endings.{of_all}
-use Rattle.tag_store.proofs.Turns.{IsTag}
 use Rattle.cell_store.specs.Openings.{records_opened}
 use Rattle.cell_store.specs.Stops.{IsStopped}
 use Rattle.cell_store.proofs.Fronts.{posts_to, reached}
 use Rattle.cell_store.proofs.Halts.{counted_since, opened_more, opened_since, records_more, rooms_more, stopped_full, stopped_there}
-use Rattle.cell_store.proofs.Labels.{as_many_names, name_of_tag, places_more}
+use Rattle.cell_store.proofs.Labels.{as_many_names, named_at, places_more}
 use Rattle.cell_store.proofs.Lists.{next_of, no_some}
 use Rattle.cell_store.proofs.turns.open_all.Goals as goal
 
@@ -50,38 +49,34 @@ open_one-requires-clause-unposted g c κs within =
 pub returns-in-Err-clause-others : goal.returns-in-Err-clause-others
 returns-in-Err-clause-others g c =
     let inv = c.loop-def.invariant in
-    let i = c.loop-def.def-index in
-    let def = c.def-item.result in
-    let tag : IsTag c.args.tags.now i def = record { there = c.loop-def-test.true; is = c.def-item.is } in
-    let place : c.len-tag.result ≡ i = omega (arith, c.len-tag.ensures, c.loop-def.cells.ok.0, inv.first.count) in
-    let named = name_of_tag c.args.names.now c.args.tags.now i c.len-tag.result c.index-names-tag.result c.as_str-name.result.now
-    def c.requires.names tag place c.index-names-tag.is c.as_str-name.ensures.value in
-    of_all c.args.tags.now (i + 1) (g.S.Store.device_at c.args.store.now) (g.S.Store.device_at c.open_one.new.store)
-    (reached c.args.tags.now i def (g.S.Store.device_at c.args.store.now) (g.S.Store.device_at c.loop-def.store)
-    (g.S.Store.device_at c.open_one.new.store) inv.others tag
-    (λ n apart. c.open_one.ensures.others n (λ e. apart (e ∙ named))))
+    let at = named_at c.args.names.now c.args.tags.now c.loop-def.def-index c.len-tag.result c.index-names-tag.result
+    c.as_str-name.result.now c.def-item.result c.requires.names c.loop-def-test.true c.def-item.is
+    (omega (arith, c.len-tag.ensures, c.loop-def.cells.ok.0, inv.first.count)) c.index-names-tag.is c.as_str-name.ensures.value in
+    of_all c.args.tags.now (c.loop-def.def-index + 1) (g.S.Store.device_at c.args.store.now) (g.S.Store.device_at c.open_one.new.store)
+    (reached c.args.tags.now c.loop-def.def-index c.def-item.result (g.S.Store.device_at c.args.store.now)
+    (g.S.Store.device_at c.loop-def.store) (g.S.Store.device_at c.open_one.new.store) inv.others at.tag
+    (λ n apart. c.open_one.ensures.others n (λ e. apart (e ∙ at.named))))
 
 pub returns-in-Err-clause-stopped : goal.returns-in-Err-clause-stopped
 returns-in-Err-clause-stopped g c =
     let inv = c.loop-def.invariant in
     let i = c.loop-def.def-index in
     let def = c.def-item.result in
-    let tag : IsTag c.args.tags.now i def = record { there = c.loop-def-test.true; is = c.def-item.is } in
-    let place : c.len-tag.result ≡ i = omega (arith, c.len-tag.ensures, c.loop-def.cells.ok.0, inv.first.count) in
-    let named = name_of_tag c.args.names.now c.args.tags.now i c.len-tag.result c.index-names-tag.result c.as_str-name.result.now
-    def c.requires.names tag place c.index-names-tag.is c.as_str-name.ensures.value in
+    let at = named_at c.args.names.now c.args.tags.now c.loop-def.def-index c.len-tag.result c.index-names-tag.result
+    c.as_str-name.result.now c.def-item.result c.requires.names c.loop-def-test.true c.def-item.is
+    (omega (arith, c.len-tag.ensures, c.loop-def.cells.ok.0, inv.first.count)) c.index-names-tag.is c.as_str-name.ensures.value in
     let now = g.S.Store.device_at c.loop-def.store in
     let new = g.S.Store.device_at c.open_one.new.store in
     let status : c.status_of.result ≡ status_of i c.in-Err.why =
-    c.status_of.ensures ∙ ap (λ n. status_of n c.in-Err.why) place in
+    c.status_of.ensures ∙ ap (λ n. status_of n c.in-Err.why) at.place in
     subst (IsStopped g.S.Dev.Disk.trace c.args.tags.now c.loop-def.cells.items (g.S.Store.device_at c.args.store.now) new
     (g.S.Store.fault_count c.args.store.now) (g.S.Store.fault_count c.open_one.new.store)) (sym status)
     (stopped_there g.S.Dev.Disk.trace g.S.Dev.Disk.ticks g.S.Dev.Disk.fault_count c.args.tags.now i def c.loop-def.cells.items
     (g.S.Store.device_at c.args.store.now) now new (g.S.Store.fault_count c.args.store.now)
-    (g.S.Store.fault_count c.open_one.new.store) c.in-Err.why c.requires.distinct inv.first inv.others tag
-    (λ n apart. c.open_one.ensures.others n (λ e. apart (e ∙ named)))
-    (subst (λ (n : List ℕ). StaysSame def (now n) (new n)) named c.in-Err.ensures.same)
-    (subst (λ (n : List ℕ). IsCause def (now n) c.in-Err.why) named c.in-Err.ensures.cause)
+    (g.S.Store.fault_count c.open_one.new.store) c.in-Err.why c.requires.distinct inv.first inv.others at.tag
+    (λ n apart. c.open_one.ensures.others n (λ e. apart (e ∙ at.named)))
+    (subst (λ (n : List ℕ). StaysSame def (now n) (new n)) at.named c.in-Err.ensures.same)
+    (subst (λ (n : List ℕ). IsCause def (now n) c.in-Err.why) at.named c.in-Err.ensures.cause)
     (counted_since {T = Told g.row.S-Dev.Denot} (g.S.Store.fault_count c.args.store.now) (g.S.Store.fault_count c.loop-def.store)
     (g.S.Store.fault_count c.open_one.new.store) c.in-Err.why inv.passed c.in-Err.ensures.counts))
 
@@ -89,19 +84,14 @@ pub returns-then-records-gt-MAX_STORE_RECORDS-clause-others :
     goal.returns-then-records-gt-MAX_STORE_RECORDS-clause-others
 returns-then-records-gt-MAX_STORE_RECORDS-clause-others g c =
     let inv = c.loop-def.invariant in
-    let i = c.loop-def.def-index in
-    let def = c.def-item.result in
-    let cell = c.in-Ok.cell in
-    let tags = c.args.tags.now in
-    let old = g.S.Store.device_at c.args.store.now in
-    let now = g.S.Store.device_at c.loop-def.store in
     let new = g.S.Store.device_at c.close_cell.new.store in
-    let tag : IsTag tags i def = record { there = c.loop-def-test.true; is = c.def-item.is } in
-    let place : c.len-tag.result ≡ i = omega (arith, c.len-tag.ensures, c.loop-def.cells.ok.0, inv.first.count) in
-    let named = name_of_tag c.args.names.now tags i c.len-tag.result c.index-names-tag.result c.as_str-name.result.now def
-    c.requires.names tag place c.index-names-tag.is c.as_str-name.ensures.value in
-    of_all tags (i + 1) old new (reached tags i def old now new inv.others tag (λ n apart.
-    let other : n ≢ c.as_str-name.result.now = λ e. apart (e ∙ named) in
+    let at = named_at c.args.names.now c.args.tags.now c.loop-def.def-index c.len-tag.result c.index-names-tag.result
+    c.as_str-name.result.now c.def-item.result c.requires.names c.loop-def-test.true c.def-item.is
+    (omega (arith, c.len-tag.ensures, c.loop-def.cells.ok.0, inv.first.count)) c.index-names-tag.is c.as_str-name.ensures.value in
+    of_all c.args.tags.now (c.loop-def.def-index + 1) (g.S.Store.device_at c.args.store.now) new
+    (reached c.args.tags.now c.loop-def.def-index c.def-item.result (g.S.Store.device_at c.args.store.now)
+    (g.S.Store.device_at c.loop-def.store) new inv.others at.tag (λ n apart.
+    let other : n ≢ c.as_str-name.result.now = λ e. apart (e ∙ at.named) in
     c.close_cell.ensures.others n other ∙ c.open_one.ensures.others n other))
 
 pub returns-then-records-gt-MAX_STORE_RECORDS-clause-stopped :
@@ -115,10 +105,9 @@ returns-then-records-gt-MAX_STORE_RECORDS-clause-stopped g c =
     let old = g.S.Store.device_at c.args.store.now in
     let now = g.S.Store.device_at c.loop-def.store in
     let new = g.S.Store.device_at c.close_cell.new.store in
-    let tag : IsTag tags i def = record { there = c.loop-def-test.true; is = c.def-item.is } in
-    let place : c.len-tag.result ≡ i = omega (arith, c.len-tag.ensures, c.loop-def.cells.ok.0, inv.first.count) in
-    let named = name_of_tag c.args.names.now tags i c.len-tag.result c.index-names-tag.result c.as_str-name.result.now def
-    c.requires.names tag place c.index-names-tag.is c.as_str-name.ensures.value in
+    let at = named_at c.args.names.now c.args.tags.now c.loop-def.def-index c.len-tag.result c.index-names-tag.result
+    c.as_str-name.result.now c.def-item.result c.requires.names c.loop-def-test.true c.def-item.is
+    (omega (arith, c.len-tag.ensures, c.loop-def.cells.ok.0, inv.first.count)) c.index-names-tag.is c.as_str-name.ensures.value in
     let is = c.in-Ok.ensures.opened in
     let number_is : c.loop-def.records + length c.recs.result.now
     ≡ records_opened c.loop-def.cells.items + length cell.opening.recs.items =
@@ -128,7 +117,7 @@ returns-then-records-gt-MAX_STORE_RECORDS-clause-stopped g c =
     (stopped_full g.S.Dev.Disk.trace g.S.Dev.Disk.ticks g.S.Dev.Disk.fault_count tags i def c.as_str-name.result.now
     c.loop-def.cells.items cell old now new (g.S.Store.fault_count c.args.store.now) (g.S.Store.fault_count c.open_one.new.store)
     (g.S.Store.fault_count c.close_cell.new.store) (c.loop-def.records + length c.recs.result.now) c.requires.distinct inv.first
-    inv.others tag named
+    inv.others at.tag at.named
     (λ n other. c.close_cell.ensures.others n other ∙ c.open_one.ensures.others n other) c.close_cell.ensures.told is number_is
     c.if-records-gt-MAX_STORE_RECORDS.true (c.in-Ok.ensures.passed ∙ inv.passed) c.close_cell.ensures.counted)
 
@@ -144,19 +133,18 @@ loop-def-preserved g c =
     let old = g.S.Store.device_at c.args.store.now in
     let now = g.S.Store.device_at c.loop-def.store in
     let new = g.S.Store.device_at c.open_one.new.store in
-    let tag : IsTag tags i def = record { there = c.loop-def-test.true; is = c.def-item.is } in
-    let place : c.len-tag.result ≡ i = omega (arith, c.len-tag.ensures, c.loop-def.cells.ok.0, inv.first.count) in
-    let named = name_of_tag names tags i c.len-tag.result c.index-names-tag.result c.as_str-name.result.now def c.requires.names tag
-    place c.index-names-tag.is c.as_str-name.ensures.value in
-    let others = reached tags i def old now new inv.others tag (λ n apart. c.open_one.ensures.others n (λ e. apart (e ∙ named))) in
+    let at = named_at c.args.names.now c.args.tags.now c.loop-def.def-index c.len-tag.result c.index-names-tag.result
+    c.as_str-name.result.now c.def-item.result c.requires.names c.loop-def-test.true c.def-item.is
+    (omega (arith, c.len-tag.ensures, c.loop-def.cells.ok.0, inv.first.count)) c.index-names-tag.is c.as_str-name.ensures.value in
+    let others = reached tags i def old now new inv.others at.tag (λ n apart. c.open_one.ensures.others n (λ e. apart (e ∙ at.named))) in
     let is = opened_since tags i def c.as_str-name.result.now old now (g.S.Dev.Disk.trace cell.journal.dev)
-    (g.S.Dev.Disk.ticks cell.journal.dev) (g.S.Dev.Disk.fault_count cell.journal.dev) cell inv.others c.requires.distinct tag named
+    (g.S.Dev.Disk.ticks cell.journal.dev) (g.S.Dev.Disk.fault_count cell.journal.dev) cell inv.others c.requires.distinct at.tag at.named
     c.in-Ok.ensures.opened in
     let more = opened_more g.S.Dev.Disk.trace g.S.Dev.Disk.ticks g.S.Dev.Disk.fault_count tags i def c.loop-def.cells.items
-    c.push_reserved.new.self.items cell old inv.first tag is c.push_reserved.ensures.items in
+    c.push_reserved.new.self.items cell old inv.first at.tag is c.push_reserved.ensures.items in
     let places = places_more (g.S.Store.has_place c.loop-def.store) (g.S.Store.has_place c.open_one.new.store) names i
     c.len-tag.result c.index-names-tag.result c.as_str-name.result.now inv.places c.open_one.ensures.kept_places
-    c.in-Ok.ensures.place (omega (arith, tag.there, as_many_names names tags c.requires.names)) place c.index-names-tag.is
+    c.in-Ok.ensures.place (omega (arith, at.tag.there, as_many_names names tags c.requires.names)) at.place c.index-names-tag.is
     c.as_str-name.ensures.value in
     let posters : drop i (new_posters 0 (arc_value c.args.board.now)) ≡ c.in-Some.poster ∷ into_iter_items c.next.new.self =
     sym inv.posters ∙ c.in-Some.ensures.items in
@@ -172,7 +160,7 @@ loop-def-preserved g c =
       records = counted;
       room = c.push_reserved.ensures.capacity ∙ inv.room;
       rooms = rooms_more c.loop-def.cells.items c.push_reserved.new.self.items cell c.args.rooms.now i c.len-tag.result
-          c.push_reserved.ensures.items inv.rooms c.in-Ok.ensures.room place (omega (arith, tag.there, c.requires.rooms));
+          c.push_reserved.ensures.items inv.rooms c.in-Ok.ensures.room at.place (omega (arith, at.tag.there, c.requires.rooms));
       others = others;
       places = places;
       kept_places = λ n was. c.open_one.ensures.kept_places n (inv.kept_places n was);

@@ -2,8 +2,31 @@ use Rattle.std.proofs.Common.{◌≡◌, ◌+◌, ◌*◌, ◌≤◌, ◌∷◌,
 use Rattle.std.proofs.lemmas.Result.{err_from_is_err_and}
 use Rattle.layout_fields.specs.Fields.{BreaksFirst, Keeps, long_at}
 use Rattle.layout_fields.proofs.FieldLaws.{breaks_part, field_of, told_through}
-use Rattle.commit_log.proofs.BlockLaws.{at_first, at_gate, at_rows, block_added}
+use Rattle.commit_log.proofs.BlockLaws.{at_first, at_gate, at_rows, block_added, first_fields}
 use Rattle.commit_log.proofs.block_reader.read_block.Goals as goal
+use Rattle.commit_log.proofs.block_reader.read_block.Goals.{After-check, After-read_rows}
+
+-- the first fields are those of a block behind the rows so far
+heads : (c : After-check)
+    → c.new.result ∷ c.new-2.result ∷ []
+    ≡ first_fields c.args.c.now c.args.tags c.args.gate (length c.args.rows.now.items) c.short_at-count.result c.short_at-count.ensures
+heads c =
+    let s = c.args.c.now in
+    let gate = c.args.gate in
+    let n = length c.args.rows.now.items in
+    let len : c.len.result ≡ n = omega (arith, c.len.ensures) in
+    let first = c.new.ensures ∙ ap (λ k. field_of (gate + 1) 8 (nat_eq k c.len.result)) c.long_at-number.ensures
+    ∙ ap (λ k. field_of (gate + 1) 8 (nat_eq (long_at s (gate + 1)) k)) len in
+    let second = c.new-2.ensures ∙ ap (field_of (gate + 9) 4) c.is_count_ok.ensures in
+    λ i. first i ∷ second i ∷ []
+
+-- so they keep what they have to
+kept : (c : After-read_rows)
+    → c.new.result ∷ c.new-2.result ∷ []
+    ≡ first_fields c.args.c.now c.args.tags c.args.gate (length c.args.rows.now.items) c.short_at-count.result c.short_at-count.ensures
+    → All (Keeps c.args.c.now)
+    (first_fields c.args.c.now c.args.tags c.args.gate (length c.args.rows.now.items) c.short_at-count.result c.short_at-count.ensures)
+kept c are = subst (All (Keeps c.args.c.now)) are c.in_ok-check.ensures.kept
 
 pub returns-in_err-check-clause-damaged : goal.returns-in_err-check-clause-damaged
 returns-in_err-check-clause-damaged c = λ a byte told.
@@ -11,13 +34,9 @@ returns-in_err-check-clause-damaged c = λ a byte told.
     let gate = c.args.gate in
     let n = length c.args.rows.now.items in
     let count = c.short_at-count.result in
-    let len : c.len.result ≡ n = omega (arith, c.len.ensures) in
-    let first = c.new.ensures ∙ ap (λ k. field_of (gate + 1) 8 (nat_eq k c.len.result)) c.long_at-number.ensures
-    ∙ ap (λ k. field_of (gate + 1) 8 (nat_eq (long_at s (gate + 1)) k)) len in
-    let second = c.new-2.ensures ∙ ap (field_of (gate + 9) 4) c.is_count_ok.ensures in
     let out = err_from_is_err_and c.from_residual.result c.from_residual.ensures.1 in
     breaks_part s _ _ _ a byte (at_first s c.args.tags gate n count c.short_at-count.ensures)
-    (subst (λ fs. BreaksFirst s fs a byte) (λ i. first i ∷ second i ∷ [])
+    (subst (λ fs. BreaksFirst s fs a byte) (heads (goal.at.returns-in_err-check-clause-damaged c).After-check)
     (c.in_err-check.ensures.damaged a byte (told_through c.from_residual.result out.0 _ a byte out.1 out.2 told)))
 
 pub returns-in_err-read_rows-clause-damaged : goal.returns-in_err-read_rows-clause-damaged
@@ -26,11 +45,8 @@ returns-in_err-read_rows-clause-damaged c = λ a byte told.
     let gate = c.args.gate in
     let n = length c.args.rows.now.items in
     let count = c.short_at-count.result in
-    let len : c.len.result ≡ n = omega (arith, c.len.ensures) in
-    let first = c.new.ensures ∙ ap (λ k. field_of (gate + 1) 8 (nat_eq k c.len.result)) c.long_at-number.ensures
-    ∙ ap (λ k. field_of (gate + 1) 8 (nat_eq (long_at s (gate + 1)) k)) len in
-    let second = c.new-2.ensures ∙ ap (field_of (gate + 9) 4) c.is_count_ok.ensures in
-    let kept = subst (All (Keeps s)) (λ i. first i ∷ second i ∷ []) c.in_ok-check.ensures.kept in
+    let at = goal.at.returns-in_err-read_rows-clause-damaged c in
+    let kept = kept at.After-read_rows (heads at.After-check) in
     let out = err_from_is_err_and c.from_residual-in_err-read_rows.result c.from_residual-in_err-read_rows.ensures.1 in
     breaks_part s _ _ _ a byte (at_rows s c.args.tags gate n count c.short_at-count.ensures kept)
     (c.in_err-read_rows.ensures.damaged a byte
@@ -42,11 +58,8 @@ returns-in_err-check-2-clause-damaged c = λ a byte told.
     let gate = c.args.gate in
     let n = length c.args.rows.now.items in
     let count = c.short_at-count.result in
-    let len : c.len.result ≡ n = omega (arith, c.len.ensures) in
-    let first = c.new.ensures ∙ ap (λ k. field_of (gate + 1) 8 (nat_eq k c.len.result)) c.long_at-number.ensures
-    ∙ ap (λ k. field_of (gate + 1) 8 (nat_eq (long_at s (gate + 1)) k)) len in
-    let second = c.new-2.ensures ∙ ap (field_of (gate + 9) 4) c.is_count_ok.ensures in
-    let kept = subst (All (Keeps s)) (λ i. first i ∷ second i ∷ []) c.in_ok-check.ensures.kept in
+    let at = goal.at.returns-in_err-check-2-clause-damaged c in
+    let kept = kept at.After-read_rows (heads at.After-check) in
     let last = c.new-3.ensures in
     let out = err_from_is_err_and c.from_residual-in_err-check-2.result c.from_residual-in_err-check-2.ensures.1 in
     breaks_part s _ _ _ a byte
@@ -61,11 +74,8 @@ returns-clause-added c =
     let gate = c.args.gate in
     let n = length c.args.rows.now.items in
     let count = c.short_at-count.result in
-    let len : c.len.result ≡ n = omega (arith, c.len.ensures) in
-    let first = c.new.ensures ∙ ap (λ k. field_of (gate + 1) 8 (nat_eq k c.len.result)) c.long_at-number.ensures
-    ∙ ap (λ k. field_of (gate + 1) 8 (nat_eq (long_at s (gate + 1)) k)) len in
-    let second = c.new-2.ensures ∙ ap (field_of (gate + 9) 4) c.is_count_ok.ensures in
-    let kept = subst (All (Keeps s)) (λ i. first i ∷ second i ∷ []) c.in_ok-check.ensures.kept in
+    let at = goal.at.returns-clause-added c in
+    let kept = kept at.After-read_rows (heads at.After-check) in
     block_added s c.args.tags gate count _ c.args.rows.now.items c.read_rows.new.rows.items c.short_at-count.ensures
     (λ i. omega (arith, c.type_inv.c i)) kept c.in_ok-read_rows.ensures.added refl
 

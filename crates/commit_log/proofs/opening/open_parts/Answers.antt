@@ -9,7 +9,19 @@ use Rattle.commit_log.specs.Openings.{IsCause, IsLeftOrSame, IsLeftOrStands, IsT
 use Rattle.layout_fields.proofs.ReadImages.{during_same, left_synced, shown_before}
 use Rattle.commit_log.proofs.Opened.{begun_same, begun_stands, found_many, found_new, found_stands}
 use Rattle.commit_log.proofs.Openings.{ok_rows, on_err, parts_cause, read_cause}
+use Rattle.commit_log.proofs.opening.open_parts.Given as given
 use Rattle.commit_log.proofs.opening.open_parts.Goals as goal
+use Rattle.commit_log.proofs.opening.open_parts.Goals.{After-read_log}
+
+-- what the reading leaves is what was there, or stands for the same
+left_same : (g : given.Over) (c : After-read_log g)
+    → let o = g.D.Disk.trace c.args.dev.now in
+    During o (g.D.Disk.trace c.read_log.new.dev) (IsLeftOrSame c.args.plant.now c.args.tags o)
+left_same g c =
+    let o = g.D.Disk.trace c.args.dev.now in
+    let mid = g.D.Disk.trace c.sync.new.self in
+    during_same o mid (g.D.Disk.trace c.read_log.new.dev) (IsLeftOrSame c.args.plant.now c.args.tags o) c.read_log.ensures.same
+    (left_synced (StandsSame c.args.plant.now c.args.tags (seen o)) c.sync.result o mid c.sync.ensures.noted)
 
 pub returns-in_default-clause-any_moment_refused : goal.returns-in_default-clause-any_moment_refused
 returns-in_default-clause-any_moment_refused g c =
@@ -17,13 +29,7 @@ returns-in_default-clause-any_moment_refused g c =
 
 pub returns-in_err-stored-clause-any_moment_refused : goal.returns-in_err-stored-clause-any_moment_refused
 returns-in_err-stored-clause-any_moment_refused g c =
-    let x = c.args in
-    let o = g.D.Disk.trace x.dev.now in
-    let mid = g.D.Disk.trace c.sync.new.self in
-    let new = g.D.Disk.trace c.read_log.new.dev in
-    on_err c.from_residual.result (During o new (IsLeftOrSame x.plant.now x.tags o))
-    (during_same o mid new (IsLeftOrSame x.plant.now x.tags o) c.read_log.ensures.same
-    (left_synced (StandsSame x.plant.now x.tags (seen o)) c.sync.result o mid c.sync.ensures.noted))
+    on_err c.from_residual.result _ (left_same g (goal.at.returns-in_err-stored-clause-any_moment_refused g c).After-read_log)
 
 pub returns-in_err-stored-clause-cause : goal.returns-in_err-stored-clause-cause
 returns-in_err-stored-clause-cause g c =
@@ -60,13 +66,7 @@ returns-in-Some-clause-any_moment g c =
 
 pub returns-in-Some-clause-any_moment_refused : goal.returns-in-Some-clause-any_moment_refused
 returns-in-Some-clause-any_moment_refused g c =
-    let x = c.args in
-    let o = g.D.Disk.trace x.dev.now in
-    let mid = g.D.Disk.trace c.sync.new.self in
-    let new = g.D.Disk.trace c.read_log.new.dev in
-    on_err c.parts_of.result (During o new (IsLeftOrSame x.plant.now x.tags o))
-    (during_same o mid new (IsLeftOrSame x.plant.now x.tags o) c.read_log.ensures.same
-    (left_synced (StandsSame x.plant.now x.tags (seen o)) c.sync.result o mid c.sync.ensures.noted))
+    on_err c.parts_of.result _ (left_same g (goal.at.returns-in-Some-clause-any_moment_refused g c).After-read_log)
 
 pub returns-in-Some-clause-cause : goal.returns-in-Some-clause-cause
 returns-in-Some-clause-cause g c =

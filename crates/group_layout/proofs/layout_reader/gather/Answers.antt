@@ -3,13 +3,20 @@ use Rattle.group_layout.specs.Blocks.{block_size, end_of, last_of, parts_of, uns
 use Rattle.group_layout.specs.Rows.{saved_value}
 use Rattle.group_layout.proofs.Walks.{last_fits}
 use Rattle.group_layout.proofs.layout_reader.gather.Goals as goal
+use Rattle.group_layout.proofs.layout_reader.gather.Goals.{After-last_or-last}
+
+-- the block whose rows count is the last one, or that before any was saved
+last_is : (c : After-last_or-last)
+    → parts_of c.last_or-last.result.now ≡ last_of (unsaved c.args.inputs) (map parts_of c.args.blocks.now.list.items)
+last_is c =
+    c.last_or-last.ensures
+    ∙ ap (λ l. last_of (parts_of c.in_ok-unsaved.unsaved) (map parts_of l)) c.deref.ensures.value
+    ∙ ap (λ b. last_of b (map parts_of c.args.blocks.now.list.items)) c.in_ok-unsaved.ensures.unsaved
 
 pub size_of_block-requires : goal.size_of_block-requires
 size_of_block-requires c =
     let bs = map parts_of c.args.blocks.now.list.items in
-    let last : parts_of c.last_or-last.result.now ≡ last_of (unsaved c.args.inputs) bs = c.last_or-last.ensures
-    ∙ ap (λ l. last_of (parts_of c.in_ok-unsaved.unsaved) (map parts_of l)) c.deref.ensures.value
-    ∙ ap (λ b. last_of b bs) c.in_ok-unsaved.ensures.unsaved in
+    let last = last_is (goal.at.size_of_block-requires c).After-last_or-last in
     let missing = rw c.in-Ok-None.field-0-is at c.in-Ok-None.ensures.missing in
     let fits : block_size (parts_of c.last_or-last.result.now) ≤ end_of c.args.at bs
     = subst (λ b. block_size b ≤ end_of c.args.at bs) (sym last)
@@ -20,9 +27,7 @@ size_of_block-requires c =
 pub overflow_sub-result : goal.overflow_sub-result
 overflow_sub-result c =
     let bs = map parts_of c.args.blocks.now.list.items in
-    let last : parts_of c.last_or-last.result.now ≡ last_of (unsaved c.args.inputs) bs = c.last_or-last.ensures
-    ∙ ap (λ l. last_of (parts_of c.in_ok-unsaved.unsaved) (map parts_of l)) c.deref.ensures.value
-    ∙ ap (λ b. last_of b bs) c.in_ok-unsaved.ensures.unsaved in
+    let last = last_is (goal.at.overflow_sub-result c).After-last_or-last in
     let missing = rw c.in-Ok-None.field-0-is at c.in-Ok-None.ensures.missing in
     let fits : block_size (parts_of c.last_or-last.result.now) ≤ end_of c.args.at bs
     = subst (λ b. block_size b ≤ end_of c.args.at bs) (sym last)
@@ -33,9 +38,7 @@ overflow_sub-result c =
 pub returns-in-Ok-None-clause-damaged : goal.returns-in-Ok-None-clause-damaged
 returns-in-Ok-None-clause-damaged c = λ a byte told.
     let bs = map parts_of c.args.blocks.now.list.items in
-    let last : parts_of c.last_or-last.result.now ≡ last_of (unsaved c.args.inputs) bs = c.last_or-last.ensures
-    ∙ ap (λ l. last_of (parts_of c.in_ok-unsaved.unsaved) (map parts_of l)) c.deref.ensures.value
-    ∙ ap (λ b. last_of b bs) c.in_ok-unsaved.ensures.unsaved in
+    let last = last_is (goal.at.returns-in-Ok-None-clause-damaged c).After-last_or-last in
     let missing = rw c.in-Ok-None.field-0-is at c.in-Ok-None.ensures.missing in
     let fits : block_size (last_of (unsaved c.args.inputs) bs) ≤ end_of c.args.at bs
     = last_fits c.args.at c.args.inputs missing.1 bs (subst (λ b. missing.1 < b.windows) last missing.3) in

@@ -2,7 +2,7 @@ use Rattle.std.proofs.Common.{arith}
 use Rattle.plant_session.proofs.Turns.{others_stay, others_trans}
 use Rattle.group_session.specs.Books.{IsAskedMore}
 use Rattle.group_session.proofs.AskTurns.{asked_refl, asked_trans}
-use Rattle.group_session.proofs.Each.{each_refl, each_trans}
+use Rattle.plant_session.proofs.Each.{each_refl, each_trans}
 use Rattle.group_session.proofs.asking.ask_file.Goals as goal
 
 pub loop-place-init : goal.loop-place-init

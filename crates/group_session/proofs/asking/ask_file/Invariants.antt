@@ -1,7 +1,8 @@
 use Rattle.std.proofs.Common.{length}
 use Rattle.tape_audit.specs.Agendas.{row_item}
 use Rattle.plant_session.specs.Workers.{AreOthersSame, AreTapesFound, IsCaughtTo, IsOver}
-use Rattle.group_session.specs.Books.{AreEach, IsAskedMore, tape_of}
+use Rattle.plant_session.specs.Each.{AreEach}
+use Rattle.group_session.specs.Books.{IsAskedMore, tape_of}
 use Rattle.group_session.specs.Tapes.{row_ask_of}
 use Rattle.group_session.proofs.asking.ask_file.Given as goal
 

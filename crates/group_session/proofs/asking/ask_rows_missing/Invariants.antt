@@ -2,7 +2,8 @@ use Rattle.std.proofs.Common.{◌<◌, ℕ, [], length, get_or}
 use Rattle.calc_refresh.specs.Lists.{lists_of}
 use Rattle.tape_audit.specs.Agendas.{row_item}
 use Rattle.plant_session.specs.Workers.{AreOver, AreTapesFound, IsCaughtTo}
-use Rattle.group_session.specs.Books.{AreEach, IsAskedMore, tape_of}
+use Rattle.plant_session.specs.Each.{AreEach}
+use Rattle.group_session.specs.Books.{IsAskedMore, tape_of}
 use Rattle.group_session.specs.Tapes.{row_ask_of}
 use Rattle.group_session.proofs.asking.ask_rows_missing.Given as goal
 

@@ -1,12 +1,12 @@
-use Rattle.std.proofs.Common.{◌∙◌, ◌+◌, ap, sym, subst, refl, [], get_or, length, set, is_some}
-use Rattle.std.proofs.lemmas.List.{get_or_default}
+use Rattle.std.proofs.Common.{◌∙◌, ◌+◌, ap, sym, subst, refl, [], length, set, is_some}
 use Rattle.tape_audit.specs.Agendas.{row_item}
 use Rattle.plant_session.specs.Workers.{IsOver}
 use Rattle.plant_session.proofs.Turns.{all_known, caught_past_row, caught_row, due_next, found_turn, others_stay, over_turn, row_within}
-use Rattle.group_session.specs.Books.{AreEach, IsAskedMore, tape_of}
+use Rattle.plant_session.specs.Each.{AreEach}
+use Rattle.group_session.specs.Books.{IsAskedMore, tape_of}
 use Rattle.group_session.specs.Tapes.{row_ask_of}
 use Rattle.group_session.proofs.AskTurns.{answered_more, answered_turn, asked_refl, caught_other, group_there, missing_row_ask}
-use Rattle.group_session.proofs.Each.{each_refl}
+use Rattle.plant_session.proofs.Each.{each_refl}
 use Rattle.group_session.proofs.asking.ask_turn.Goals as goal
 
 pub returns-in_default : goal.returns-in_default
@@ -21,18 +21,12 @@ returns-in_default g c = record {
 
 pub lacks-requires : goal.lacks-requires
 lacks-requires g c =
-    let works = c.args.works.now in
-    let d = c.index-works-reader.result in
-    row_within row_item (length c.args.books.now) c.args.reader c.args.place c.args.queries.now works
-    (get_or works c.args.reader d) c.requires.over
-    (get_or_default works c.args.reader d (get_or works c.args.reader d) c.requires.over.there) c.requires.within
+    row_within row_item (length c.args.books.now) c.args.reader c.args.place c.args.queries.now c.args.works.now
+    c.index-works-reader.result c.requires.over c.requires.within
 
 pub returns-then-not-lacks-clause-caught : goal.returns-then-not-lacks-clause-caught
 returns-then-not-lacks-clause-caught g c =
-    let works = c.args.works.now in
-    let d = c.index-works-reader.result in
-    caught_past_row c.args.reader c.args.place works (get_or works c.args.reader d)
-    (get_or_default works c.args.reader d (get_or works c.args.reader d) c.requires.over.there) c.requires.over.there
+    caught_past_row c.args.reader c.args.place c.args.works.now c.index-works-reader.result c.requires.over.there
     (sym c.lacks.ensures.lacks ∙ c.if-not-lacks.true) c.requires.caught
 
 pub returns-then-not-lacks-clause-asked : goal.returns-then-not-lacks-clause-asked
@@ -61,14 +55,11 @@ advance-requires-clause-due g c =
 
 pub returns-clause-over : goal.returns-clause-over
 returns-clause-over g c =
-    let works = c.args.works.now in
-    let e = c.index-works-reader-2.result in
-    subst (λ n. IsOver row_item n c.args.reader c.args.queries.now (set works c.args.reader c.advance.new.self))
+    subst (λ n. IsOver row_item n c.args.reader c.args.queries.now (set c.args.works.now c.args.reader c.advance.new.self))
     (sym (answered_more c.args.reader (c.args.place + 1) c.in-Row.group c.in-Row.calc c.in-Row.k c.args.books.now
     c.ask_row.new.books c.in_ok-ask_row.ensures.asked).as_many)
-    (over_turn row_item (length c.args.books.now) c.args.reader _ c.args.queries.now works (get_or works c.args.reader e)
-    c.advance.new.self (get_or_default works c.args.reader e (get_or works c.args.reader e) c.requires.over.there)
-    c.advance.ensures c.requires.over)
+    (over_turn row_item (length c.args.books.now) c.args.reader _ c.args.queries.now c.args.works.now
+    c.index-works-reader-2.result c.advance.new.self c.advance.ensures c.requires.over)
 
 pub returns-clause-found : goal.returns-clause-found
 returns-clause-found g c =

@@ -1,7 +1,6 @@
-use Rattle.std.proofs.Common.{◌<◌, ◌∙◌, inl, inr, Some, ap, sym, subst, arith, get_or, length}
-use Rattle.std.proofs.lemmas.Bool.{cases_eq}
-use Rattle.std.proofs.lemmas.List.{get_or_default}
+use Rattle.std.proofs.Common.{◌∙◌, Some, ap, sym, arith}
 use Rattle.std.proofs.lemmas.Option.{slice_get-get_or}
+use Rattle.plant_session.proofs.Each.{paired_next}
 use Rattle.group_session.specs.Openings.{IsAsKept}
 use Rattle.group_session.proofs.comparing.compare_books.Goals as goal
 
@@ -20,19 +19,10 @@ returns-in-Err-clause-differs g c =
     }
 
 pub loop-group-preserved : goal.loop-group-preserved
-loop-group-preserved g c =
-    let at = c.loop-group.group in
-    let books = c.args.books.now in
-    let known = c.args.known.now in
-    let b = c.index-books-group.result in
-    let k = c.index-known-group.result in
-    let within : at < length known = omega (arith, c.loop-group-test.true, c.requires.as_many) in
-    λ group d e below. elim (cases_eq group at) [
-      | inl same ↦ subst (λ n. IsAsKept (get_or books n d) (get_or known n e)) (sym same)
-          (subst (λ x. IsAsKept x (get_or known at e)) (c.index-books-group.is ∙ get_or_default books at b d c.loop-group-test.true)
-          (subst (λ y. IsAsKept b y) (c.index-known-group.is ∙ get_or_default known at k e within) c.in_default.ensures.same))
-      | inr differ ↦ c.loop-group.invariant group d e (omega (arith, below, differ))
-    ]
+loop-group-preserved g c = λ group book k below.
+    paired_next IsAsKept c.args.books.now c.args.known.now c.loop-group.group c.index-books-group.result c.index-known-group.result
+    c.loop-group-test.true c.requires.as_many c.index-books-group.is c.index-known-group.is c.loop-group.invariant
+    c.in_default.ensures.same group book k (omega (arith, below))
 
 pub returns-clause-same : goal.returns-clause-same
 returns-clause-same g c = record {

@@ -3,7 +3,7 @@ use Rattle.std.proofs.lemmas.List.Elements.{All-get_or}
 use Rattle.std.proofs.lemmas.Result.{err_from_is_err_and}
 use Rattle.group_session.specs.Refreshing.{IsPullOf, IsPulledMore, durable_lists}
 use Rattle.group_session.specs.Refusals.{IsPullRefusal}
-use Rattle.group_session.proofs.Each.{each_refl, each_trans}
+use Rattle.plant_session.proofs.Each.{each_refl, each_trans}
 use Rattle.group_session.proofs.MoreTurns.{ArePullsTo, pulls_all, pulls_more, pulls_none, pulls_refused}
 use Rattle.group_session.proofs.Pulls.{lists_same, pulled_refl, pulled_trans}
 use Rattle.group_session.proofs.refreshing.pull_all.Goals as goal

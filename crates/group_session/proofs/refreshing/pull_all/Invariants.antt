@@ -1,4 +1,4 @@
-use Rattle.group_session.specs.Books.{AreEach}
+use Rattle.plant_session.specs.Each.{AreEach}
 use Rattle.group_session.specs.Refreshing.{IsPulledMore, durable_lists}
 use Rattle.group_session.proofs.MoreTurns.{ArePullsTo}
 use Rattle.group_session.proofs.refreshing.pull_all.Given as goal

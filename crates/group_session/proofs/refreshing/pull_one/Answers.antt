@@ -1,7 +1,7 @@
 use Rattle.std.proofs.Common.{◌∙◌, [], Err, ap, drop, length, sym, subst, get_or}
 use Rattle.group_session.specs.Refreshing.{IsPulledMore, durable_lists}
 use Rattle.group_session.specs.Refusals.{IsPullRefusal}
-use Rattle.group_session.proofs.Each.{each_refl, each_set}
+use Rattle.plant_session.proofs.Each.{each_refl, each_set}
 use Rattle.group_session.proofs.MoreTurns.{pull_refused}
 use Rattle.group_session.proofs.Pulls.{list_at, pulled_one, pulled_refl, pulled_trans}
 use Rattle.group_session.proofs.refreshing.pull_one.Goals as goal

@@ -1,7 +1,7 @@
 use Rattle.std.proofs.Common.{◌+◌, ◌∙◌, ap, sym, arith, length}
 use Rattle.group_session.specs.Refreshing.{IsPulledMore, durable_lists, durable_numbers, new_records}
 use Rattle.group_session.specs.Tapes.{refreshes}
-use Rattle.group_session.proofs.Each.{each_refl, each_trans}
+use Rattle.plant_session.proofs.Each.{each_refl, each_trans}
 use Rattle.group_session.proofs.MoreTurns.{inputs_stay, published_count, published_more, refreshed_refl, refreshed_trans, refusal_stays}
 use Rattle.group_session.specs.Refusals.IsBookRefusal.{OfRefresh}
 use Rattle.group_session.proofs.Saves.{save_refused, saved_to}

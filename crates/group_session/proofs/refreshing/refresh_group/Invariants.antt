@@ -1,6 +1,7 @@
 use Rattle.std.proofs.Common.{◌≡◌, ◌<◌, length}
 use Rattle.group_book.specs.Told.{versions_of}
-use Rattle.group_session.specs.Books.{AreEach, IsRefreshedMore}
+use Rattle.plant_session.specs.Each.{AreEach}
+use Rattle.group_session.specs.Books.{IsRefreshedMore}
 use Rattle.group_session.specs.Inputs.{IsInputsOf}
 use Rattle.group_session.specs.Refreshing.{IsPulledMore, durable_lists, durable_numbers}
 use Rattle.group_session.specs.Tapes.{refreshes}

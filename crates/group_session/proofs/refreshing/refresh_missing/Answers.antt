@@ -10,7 +10,7 @@ use Rattle.group_session.specs.Inputs.{IsInputsOf}
 use Rattle.group_session.specs.Refreshing.{IsPulledMore, IsRefreshedTo, durable_lists}
 use Rattle.group_session.specs.Refusals.{IsBookRefusal}
 use Rattle.group_session.specs.Tapes.{refreshes}
-use Rattle.group_session.proofs.Each.{each_refl, each_set, each_trans}
+use Rattle.plant_session.proofs.Each.{each_refl, each_set, each_trans}
 use Rattle.group_session.proofs.MoreTurns.{questions_stay, refreshed_refl, refreshed_trans}
 use Rattle.group_session.proofs.Pulls.{asks_stay, lists_same, pulled_refl, pulled_trans, takes_stay}
 use Rattle.group_session.proofs.refreshing.refresh_missing.Goals as goal

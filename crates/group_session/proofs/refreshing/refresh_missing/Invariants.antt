@@ -1,7 +1,8 @@
 use Rattle.std.proofs.Common.{◌≡◌, ◌<◌, ◌≤◌, ℕ, [], get_or}
 use Rattle.calc_refresh.specs.Lists.{lists_of}
 use Rattle.group_book.specs.Told.{Told}
-use Rattle.group_session.specs.Books.{AreEach, IsRefreshedMore}
+use Rattle.plant_session.specs.Each.{AreEach}
+use Rattle.group_session.specs.Books.{IsRefreshedMore}
 use Rattle.group_session.specs.Refreshing.{IsPulledMore, IsRefreshedTo, durable_lists}
 use Rattle.group_session.proofs.refreshing.refresh_missing.Given as goal
 

@@ -1,9 +1,17 @@
-use Rattle.std.proofs.Common.{◌<◌, ◌≤◌, inr, sym, subst, arith}
+use Rattle.std.proofs.Common.{◌<◌, ◌≤◌, inr, sym, subst, arith, get_or}
 use Rattle.late_insert.proofs.Growing.{halved_at}
 use Rattle.late_insert.proofs.Finding.{no_page, starts_rise, found_for}
-use Rattle.late_insert.proofs.Reading.{held_by, read_by, frame_page, page_len}
+use Rattle.late_insert.proofs.Reading.{IsRead, held_by, read_by, frame_page, page_len}
 use Rattle.late_insert.proofs.Shelving.{upper_found, lower_found, within_split}
 use Rattle.late_insert.proofs.shelf.make_room.Goals as goal
+use Rattle.late_insert.proofs.shelf.make_room.Goals.{After-frame}
+
+-- the page that was found is read
+read : (c : After-frame)
+    → IsRead c.args.pool.now c.args.pages.now.items c.page_for-k.result
+    (get_or c.args.pages.now.items c.page_for-k.result no_page) c.frame.result.now
+read c = read_by c.args.pool.now c.args.pages.now.items c.page_for-k.result c.id.result.now c.frame.result.now
+    c.requires.pages c.page_for-k.ensures.within (c.id.ensures.value no_page) c.frame.ensures
 
 pub page_for-k-requires-clause-rising : goal.page_for-k-requires-clause-rising
 page_for-k-requires-clause-rising c =
@@ -15,8 +23,7 @@ frame-requires c = held_by c.args.pool.now c.args.pages.now.items c.page_for-k.r
 
 pub split-requires-clause-full : goal.split-requires-clause-full
 split-requires-clause-full c = λ d.
-    let is = read_by c.args.pool.now c.args.pages.now.items c.page_for-k.result c.id.result.now c.frame.result.now
-    c.requires.pages c.page_for-k.ensures.within (c.id.ensures.value no_page) c.frame.ensures in
+    let is = read (goal.at.split-requires-clause-full c).After-frame in
     let page = frame_page _ _ _ _ _ is in
     omega (arith, page_len _ _ _ _ _ is d, page.recorded.few, c.if-frame-lt128.false)
 
@@ -27,8 +34,7 @@ returns-then-frame-lt128-clause-found c =
 
 pub returns-then-frame-lt128-clause-not_full : goal.returns-then-frame-lt128-clause-not_full
 returns-then-frame-lt128-clause-not_full c = λ d.
-    let is = read_by c.args.pool.now c.args.pages.now.items c.page_for-k.result c.id.result.now c.frame.result.now
-    c.requires.pages c.page_for-k.ensures.within (c.id.ensures.value no_page) c.frame.ensures in
+    let is = read (goal.at.returns-then-frame-lt128-clause-not_full c).After-frame in
     omega (arith, page_len _ _ _ _ _ is d, c.if-frame-lt128.true)
 
 pub start-requires : goal.start-requires
@@ -38,8 +44,7 @@ start-requires c =
 
 pub returns-then-start-t-clause-lengths : goal.returns-then-start-t-clause-lengths
 returns-then-start-t-clause-lengths c =
-    let is = read_by c.args.pool.now c.args.pages.now.items c.page_for-k.result c.id.result.now c.frame.result.now
-    c.requires.pages c.page_for-k.ensures.within (c.id.ensures.value no_page) c.frame.ensures in
+    let is = read (goal.at.returns-then-start-t-clause-lengths c).After-frame in
     let found = found_for c.args.pool.now c.args.pages.now.items c.page_for-k.result c.args.t c.requires.pages
     c.page_for-k.ensures.within c.page_for-k.ensures.last in
     inr (halved_at _ _ _ c.args.t _ _ is found c.if-frame-lt128.false _ c.split.ensures.lengths)
@@ -56,8 +61,7 @@ returns-then-start-t-clause-not_full c = λ d. let half = c.split.ensures.upper 
 
 pub returns-else-start-t-clause-lengths : goal.returns-else-start-t-clause-lengths
 returns-else-start-t-clause-lengths c =
-    let is = read_by c.args.pool.now c.args.pages.now.items c.page_for-k.result c.id.result.now c.frame.result.now
-    c.requires.pages c.page_for-k.ensures.within (c.id.ensures.value no_page) c.frame.ensures in
+    let is = read (goal.at.returns-else-start-t-clause-lengths c).After-frame in
     let found = found_for c.args.pool.now c.args.pages.now.items c.page_for-k.result c.args.t c.requires.pages
     c.page_for-k.ensures.within c.page_for-k.ensures.last in
     inr (halved_at _ _ _ c.args.t _ _ is found c.if-frame-lt128.false _ c.split.ensures.lengths)

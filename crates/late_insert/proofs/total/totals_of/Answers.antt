@@ -1,45 +1,48 @@
-use Rattle.std.proofs.Common.{◌≡◌, ◌+◌, ◌-◌, true, false, take, drop, subst, sym, ap, ◌∙◌, arith, rules}
+use Rattle.std.proofs.Common.{◌≡◌, ℤ, Bool, ◌+◌, ◌+ℤ◌, ◌-◌, true, false, take, drop, subst, sym, ap, ◌∙◌, arith, rules}
 use Rattle.std.specs.Prelude.{FitsSigned}
 use Rattle.std.specs.Int.{w64, w128}
 use Rattle.std.proofs.lemmas.Int.{to_z-of_z}
 use Rattle.trend_num.specs.Ranges.{InRange}
-use Rattle.trend_model.specs.Windows.{area}
+use mir.Val.{of_z, to_z}
+use Rattle.trend_model.specs.Windows.{area, piece}
 use Rattle.late_insert.specs.Totals.{least_of, greatest_of}
-use Rattle.late_insert.proofs.Summing.{points_in, rec_in_range, value_fits, area_total, least_total}
+use Rattle.late_insert.proofs.Summing.{IsTotal, points_in, rec_in_range, value_fits, area_total, least_total}
 use Rattle.late_insert.proofs.Summing.{greatest_total, total_fits, whole_range}
 use Rattle.late_insert.proofs.total.totals_of.Goals as goal
+use Rattle.late_insert.proofs.total.totals_of.Goals.{After-point_at-p}
 
-pub piece-requires-clause-first : goal.piece-requires-clause-first
-piece-requires-clause-first c =
+-- the last point is in range
+before : (c : After-point_at-p) → InRange c.loop-i.before
+before c =
     subst InRange (sym c.loop-i.invariant.last)
     (rec_in_range c.args.frame.now _ c.requires.recorded
     (omega (arith, c.loop-i.invariant.line.below, c.loop-i.invariant.line.within)))
+
+-- a total and the piece behind it fit
+more_fits : (step : Bool) (c : After-point_at-p) (all part : ℤ) → IsTotal (area step) c.args.frame.now 0 c.loop-i.i all
+    → FitsSigned w128 part → part ≡ piece step c.loop-i.before c.point_at-p.result
+    → FitsSigned w128 (to_z w128 (of_z w128 all) +ℤ to_z w128 (of_z w128 part))
+more_fits step c all part was fits part_is =
+    let total = area_total c.args.frame.now 0 c.loop-i.i c.loop-i.invariant.line.below c.loop-i-test.true step
+    c.loop-i.before c.point_at-p.result _ was c.loop-i.invariant.last c.point_at-p.ensures.value in
+    rw (to_z-of_z w128 all (total_fits step c.args.frame.now 0 _ _ c.requires.recorded was), to_z-of_z w128 part fits, part_is)
+    (total_fits step c.args.frame.now 0 _ _ c.requires.recorded total)
+
+pub piece-requires-clause-first : goal.piece-requires-clause-first
+piece-requires-clause-first c = before (goal.at.piece-requires-clause-first c).After-point_at-p
 
 pub overflow_add-all : goal.overflow_add-all
 overflow_add-all c =
-    let total = area_total c.args.frame.now 0 c.loop-i.i c.loop-i.invariant.line.below c.loop-i-test.true false
-    c.loop-i.before c.point_at-p.result _ c.loop-i.invariant.line c.loop-i.invariant.last
-    c.point_at-p.ensures.value in
-    let line : FitsSigned w128 c.piece.result = search rules in
-    let was = total_fits false c.args.frame.now 0 _ _ c.requires.recorded c.loop-i.invariant.line in
-    rw (to_z-of_z w128 c.loop-i.all.line was, to_z-of_z w128 c.piece.result line, c.piece.ensures)
-    (total_fits false c.args.frame.now 0 _ _ c.requires.recorded total)
+    more_fits false (goal.at.overflow_add-all c).After-point_at-p c.loop-i.all.line c.piece.result c.loop-i.invariant.line (search rules)
+    c.piece.ensures
 
 pub piece-requires-in-loop-i-clause-first : goal.piece-requires-in-loop-i-clause-first
-piece-requires-in-loop-i-clause-first c =
-    subst InRange (sym c.loop-i.invariant.last)
-    (rec_in_range c.args.frame.now _ c.requires.recorded
-    (omega (arith, c.loop-i.invariant.line.below, c.loop-i.invariant.line.within)))
+piece-requires-in-loop-i-clause-first c = before (goal.at.piece-requires-in-loop-i-clause-first c).After-point_at-p
 
 pub overflow_add-all-in-loop-i : goal.overflow_add-all-in-loop-i
 overflow_add-all-in-loop-i c =
-    let total = area_total c.args.frame.now 0 c.loop-i.i c.loop-i.invariant.stair.below c.loop-i-test.true true
-    c.loop-i.before c.point_at-p.result _ c.loop-i.invariant.stair c.loop-i.invariant.last
-    c.point_at-p.ensures.value in
-    let line : FitsSigned w128 c.piece-in-loop-i.result = search rules in
-    let was = total_fits true c.args.frame.now 0 _ _ c.requires.recorded c.loop-i.invariant.stair in
-    rw (to_z-of_z w128 c.loop-i.all.stair was, to_z-of_z w128 c.piece-in-loop-i.result line, c.piece-in-loop-i.ensures)
-    (total_fits true c.args.frame.now 0 _ _ c.requires.recorded total)
+    more_fits true (goal.at.overflow_add-all-in-loop-i c).After-point_at-p c.loop-i.all.stair c.piece-in-loop-i.result
+    c.loop-i.invariant.stair (search rules) c.piece-in-loop-i.ensures
 
 pub loop-i-preserved : goal.loop-i-preserved
 loop-i-preserved c =

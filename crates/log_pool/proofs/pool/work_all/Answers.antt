@@ -1,5 +1,5 @@
 use Rattle.std.proofs.Common.{rules}
-use Rattle.log_pool.proofs.Gathering.{whole_again}
+use Rattle.plant_status.proofs.Gathering.{whole_again}
 use Rattle.log_pool.proofs.pool.work_all.Goals as goal
 
 pub returns-clause-done : goal.returns-clause-done

@@ -2,14 +2,15 @@ use Rattle.std.proofs.Common.{◌≡◌, refl, sym, ap, ◌∙◌}
 use Rattle.byte_io.specs.Files.{IsFaultOf}
 use Rattle.plant_status.specs.declared.file.FileId.{FileId}
 use Rattle.plant_status.specs.declared.status.Status.TheVariants.{Done, ReadFault, WriteFault}
-use Rattle.store_commands.specs.Commands.{IsCheckRefusal, IsChecked, IsFaultOfNamed, IsTrend, IsTrendRefusal}
-use Rattle.store_commands.proofs.Faults.{of_none}
+use Rattle.plant_files.specs.Faults.{IsFaultOfPlanned}
+use Rattle.plant_files.proofs.Faults.{of_none}
+use Rattle.store_commands.specs.Commands.{IsCheckRefusal, IsChecked, IsTrend, IsTrendRefusal}
 use Rattle.store_commands.proofs.Stores.{of_tags}
 use Rattle.plant_run.specs.CommandLine.{asked}
 use Rattle.frame_command.specs.Commands.{IsFrames, IsFramesRefusal}
 use Rattle.command_text.proofs.Printing.{answered_so, done_so, ended_so}
 use Rattle.plant_more.proofs.Told.{counts_so, faults_so}
-use Rattle.plant_run.proofs.Refusals.{check_no_fault, check_not_done, check_rose, trend_no_fault, trend_not_done, trend_rose, frames_no_fault, frames_not_done, frames_rose}
+use Rattle.plant_run.proofs.Refusals.{check_refused, check_rose, frames_refused, frames_rose, no_output, not_done, trend_refused, trend_rose}
 use Rattle.plant_run.proofs.top_call.answer_other.Goals as goal
 
 pub returns-in-Check-clause-ends : goal.returns-in-Check-clause-ends
@@ -23,8 +24,9 @@ returns-in-Check-clause-ends g c =
     let before = g.O.Sink.meaning c.args.out.now in
     let now = g.O.Sink.meaning c.finish.new.out in
     let IsRefused = IsCheckRefusal base told old new faults more in
-    let no_done = check_not_done base base told old new faults more in
-    let no_fault = check_no_fault base base told old new faults more in
+    let refused = check_refused base base told old new faults more in
+    let no_done = not_done refused in
+    let no_fault = no_output refused in
     let rose = check_rose base base told old new faults more in
     let text = c.finish.ensures.text in
     let line = c.finish.ensures.refused in
@@ -60,8 +62,9 @@ returns-in-Trend-clause-ends g c =
     let before = g.O.Sink.meaning c.args.out.now in
     let now = g.O.Sink.meaning c.finish-in-Trend.new.out in
     let IsRefused = IsTrendRefusal base plan told old new faults more in
-    let no_done = trend_not_done base plan told old new faults more in
-    let no_fault = trend_no_fault base plan told old new faults more in
+    let refused = trend_refused base plan told old new faults more in
+    let no_done = not_done refused in
+    let no_fault = no_output refused in
     let rose = trend_rose base plan told old new faults more in
     let text = c.finish-in-Trend.ensures.text in
     let line = c.finish-in-Trend.ensures.refused in
@@ -76,7 +79,7 @@ returns-in-Trend-clause-ends g c =
           device_faults = λ few. counts_so IsRefused before now c.trend.result c.finish-in-Trend.result faults more
               (c.trend.ensures.counts few) c.trend.ensures.refused (rose few) text line;
         },
-        ended_so (IsFaultOfNamed base plan told (g.F.Files.failed_name c.trend.new.files)) before now c.trend.result
+        ended_so (IsFaultOfPlanned base plan told (g.F.Files.failed_name c.trend.new.files)) before now c.trend.result
             c.finish-in-Trend.result (of_none base plan told _ Done (λ which same. cc))
             (of_none base plan told _ WriteFault (λ which same. cc)) c.trend.ensures.whose text line,
       ),
@@ -100,8 +103,9 @@ returns-in-Frames-clause-ends g c =
     let before = g.O.Sink.meaning c.args.out.now in
     let now = g.O.Sink.meaning c.finish-in-Frames.new.out in
     let IsRefused = IsFramesRefusal base group calc told old new faults more in
-    let no_done = frames_not_done base group calc told old new faults more in
-    let no_fault = frames_no_fault base group calc told old new faults more in
+    let refused = frames_refused base group calc told old new faults more in
+    let no_done = not_done refused in
+    let no_fault = no_output refused in
     let rose = frames_rose base group calc told old new faults more in
     let text = c.finish-in-Frames.ensures.text in
     let line = c.finish-in-Frames.ensures.refused in

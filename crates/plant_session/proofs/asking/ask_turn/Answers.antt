@@ -1,5 +1,4 @@
-use Rattle.std.proofs.Common.{◌∙◌, ◌+◌, ap, sym, subst, refl, [], get_or, length, set, is_some}
-use Rattle.std.proofs.lemmas.List.{get_or_default}
+use Rattle.std.proofs.Common.{◌∙◌, ◌+◌, ap, sym, subst, refl, [], length, set, is_some}
 use Rattle.tape_audit.specs.Agendas.{ask_item}
 use Rattle.tape_audit.specs.Tapes.{ask_of}
 use Rattle.plant_session.specs.Cells.{AreLonger, IsAsked, tape_of}
@@ -21,18 +20,12 @@ returns-in_default g c = record {
 
 pub lacks-requires : goal.lacks-requires
 lacks-requires g c =
-    let works = c.args.works.now in
-    let d = c.index-works-reader.result in
-    row_within ask_item (length c.args.cells.now) c.args.reader c.args.place c.args.queries.now works
-    (get_or works c.args.reader d) c.requires.over
-    (get_or_default works c.args.reader d (get_or works c.args.reader d) c.requires.over.there) c.requires.within
+    row_within ask_item (length c.args.cells.now) c.args.reader c.args.place c.args.queries.now c.args.works.now
+    c.index-works-reader.result c.requires.over c.requires.within
 
 pub returns-then-not-lacks-clause-caught : goal.returns-then-not-lacks-clause-caught
 returns-then-not-lacks-clause-caught g c =
-    let works = c.args.works.now in
-    let d = c.index-works-reader.result in
-    caught_past_row c.args.reader c.args.place works (get_or works c.args.reader d)
-    (get_or_default works c.args.reader d (get_or works c.args.reader d) c.requires.over.there) c.requires.over.there
+    caught_past_row c.args.reader c.args.place c.args.works.now c.index-works-reader.result c.requires.over.there
     (sym c.lacks.ensures.lacks ∙ c.if-not-lacks.true) c.requires.caught
 
 pub ask_row-requires-clause-known : goal.ask_row-requires-clause-known
@@ -59,14 +52,11 @@ advance-requires-clause-due g c =
 
 pub returns-clause-over : goal.returns-clause-over
 returns-clause-over g c =
-    let works = c.args.works.now in
-    let e = c.index-works-reader-2.result in
-    subst (λ n. IsOver ask_item n c.args.reader c.args.queries.now (set works c.args.reader c.advance.new.self))
+    subst (λ n. IsOver ask_item n c.args.reader c.args.queries.now (set c.args.works.now c.args.reader c.advance.new.self))
     (sym (asked_longer c.args.reader (c.args.place + 1) c.in-Tag.tag c.in-Tag.query c.args.cells.now c.ask_row.new.cells
     c.in_ok-ask_row.ensures.asked).as_many)
-    (over_turn ask_item (length c.args.cells.now) c.args.reader _ c.args.queries.now works (get_or works c.args.reader e)
-    c.advance.new.self (get_or_default works c.args.reader e (get_or works c.args.reader e) c.requires.over.there)
-    c.advance.ensures c.requires.over)
+    (over_turn ask_item (length c.args.cells.now) c.args.reader _ c.args.queries.now c.args.works.now
+    c.index-works-reader-2.result c.advance.new.self c.advance.ensures c.requires.over)
 
 pub returns-clause-found : goal.returns-clause-found
 returns-clause-found g c =

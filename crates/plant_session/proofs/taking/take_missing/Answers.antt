@@ -1,16 +1,10 @@
-use Rattle.std.proofs.Common.{◌≡◌, ◌∙◌, [], All, sym, subst, inl, inr, arith, length, get_or, Vec}
-use Rattle.std.specs.declared.alloc.Global.{Global}
-use Rattle.std.proofs.lemmas.Bool.{cases_eq}
-use Rattle.std.proofs.lemmas.List.{length-map}
-use Rattle.std.proofs.lemmas.List.Elements.{All-get_or}
+use Rattle.std.proofs.Common.{[], arith, length}
 use Rattle.calc_refresh.specs.Lists.{lists_of}
 use Rattle.tape_audit.specs.Agendas.{phase_item}
-use Rattle.tape_audit.specs.Found.{IsCaughtUp}
 use Rattle.tape_audit.specs.Tapes.{ask_of, take_of}
 use Rattle.collector_pool.specs.Work.{IsRowOf}
 use Rattle.plant_session.specs.Cells.{IsTaken, tape_of}
-use Rattle.plant_session.specs.Workers.{IsCaughtTo}
-use Rattle.plant_session.proofs.Files.{each_file, file_at, file_within, over_again, over_file, shown_all}
+use Rattle.plant_session.proofs.Files.{caught_file, file_read, known_file, over_again, over_file, shown_files}
 use Rattle.plant_session.proofs.EntryKinds.{longer_found, taken_asks}
 use Rattle.plant_session.proofs.FullTapes.{unlike}
 use Rattle.plant_session.proofs.Longer.{all_longer, all_longer_trans}
@@ -26,21 +20,19 @@ loop-collector-init g c = record {
 
 pub take_file-requires-clause-over : goal.take_file-requires-clause-over
 take_file-requires-clause-over g c =
-    let files = c.args.files.now in
-    let at = c.loop-collector.collector in
-    over_file (phase_item c.args.earlier) (length c.loop-collector.cells) (lists_of files) c.loop-collector.works at c.deref.result.now []
-    c.loop-collector.invariant.over (file_within files at c.loop-collector-test.true)
-    (c.deref.ensures.value ∙ file_at files at c.index-files-collector.result [] c.loop-collector-test.true c.index-files-collector.is)
+    let l = c.loop-collector in
+    over_file (phase_item c.args.earlier) (length l.cells) (lists_of c.args.files.now) l.works l.collector
+    c.deref.result.now l.invariant.over
+    (file_read c.args.files.now l.collector c.index-files-collector.result c.deref.result.now
+    c.loop-collector-test.true c.index-files-collector.is c.deref.ensures.value)
 
 pub take_file-requires-clause-values : goal.take_file-requires-clause-values
 take_file-requires-clause-values g c =
-    let files = c.args.files.now in
-    let at = c.loop-collector.collector in
-    let tags = length c.args.cells.now in
-    subst (λ n. All (IsRowOf n) c.deref.result.now) (sym c.loop-collector.invariant.longer.as_many)
-    (subst (All (IsRowOf tags)) (sym (c.deref.ensures.value
-    ∙ file_at files at c.index-files-collector.result [] c.loop-collector-test.true c.index-files-collector.is))
-    (All-get_or (All (IsRowOf tags)) (lists_of files) at [] (file_within files at c.loop-collector-test.true) (each_file (All (IsRowOf tags)) files c.requires.values)))
+    let l = c.loop-collector in
+    known_file IsRowOf (length c.args.cells.now) (length l.cells) c.args.files.now l.invariant.longer.as_many
+    c.requires.values
+    (file_read c.args.files.now l.collector c.index-files-collector.result c.deref.result.now
+    c.loop-collector-test.true c.index-files-collector.is c.deref.ensures.value)
 
 pub returns-in-Err-clause-longer : goal.returns-in-Err-clause-longer
 returns-in-Err-clause-longer g c =
@@ -49,33 +41,28 @@ returns-in-Err-clause-longer g c =
 
 pub loop-collector-preserved : goal.loop-collector-preserved
 loop-collector-preserved g c =
-    let files = c.args.files.now in
-    let at = c.loop-collector.collector in
-    let before = c.loop-collector.invariant in
+    let l = c.loop-collector in
+    let files = lists_of c.args.files.now in
+    let before = l.invariant in
     let step = c.in_default.ensures in
-    let file : c.deref.result.now ≡ get_or (lists_of files) at [] = c.deref.ensures.value
-    ∙ file_at files at c.index-files-collector.result [] c.loop-collector-test.true c.index-files-collector.is in
+    let file = file_read c.args.files.now l.collector c.index-files-collector.result c.deref.result.now
+    c.loop-collector-test.true c.index-files-collector.is c.deref.ensures.value in
     record {
-      over = over_again (phase_item c.args.earlier) (length c.loop-collector.cells) (length c.take_file.new.cells) (lists_of files)
-          c.loop-collector.works c.take_file.new.works at c.deref.result.now [] before.over
-          (file_within files at c.loop-collector-test.true) file step.over step.others;
+      over = over_again (phase_item c.args.earlier) (length l.cells) (length c.take_file.new.cells) files l.works c.take_file.new.works
+          l.collector c.deref.result.now before.over file step.over step.others;
       found = step.found;
-      caught = λ w below. elim (cases_eq w at) [
-        | inl same ↦ subst (λ n. IsCaughtTo (length (get_or (lists_of files) n [])) n c.take_file.new.works) (sym same)
-            (subst (λ l. IsCaughtTo (length l) at c.take_file.new.works) file step.caught)
-        | inr differ ↦ λ p. subst (IsCaughtUp (length (get_or (lists_of files) w []))) (sym (step.others.same w p differ))
-            (before.caught w (omega (arith, below, differ)) p)
-      ];
-      longer = all_longer_trans IsTaken c.args.cells.now c.loop-collector.cells c.take_file.new.cells before.longer step.longer;
+      caught = λ n below. caught_file files l.works c.take_file.new.works l.collector c.deref.result.now file
+          before.caught step.caught step.others n (omega (arith, below));
+      longer = all_longer_trans IsTaken c.args.cells.now l.cells c.take_file.new.cells before.longer step.longer;
     }
 
 pub returns-clause-shown : goal.returns-clause-shown
 returns-clause-shown g c =
-    let files = c.args.files.now in
-    let end = c.loop-collector.invariant in
-    shown_all tape_of take_of (phase_item c.args.earlier) (length c.loop-collector.cells) (lists_of files) c.loop-collector.cells c.loop-collector.works
-    end.over end.found (λ w below. end.caught w
-    (omega (arith, below, c.loop-collector-test.false, c.loop-collector.auto, length-map files (λ (v : Vec _ Global). v.items))))
+    let l = c.loop-collector in
+    let end = l.invariant in
+    shown_files tape_of take_of (phase_item c.args.earlier) (length l.cells) l.collector c.args.files.now l.cells l.works
+    end.over end.found end.caught
+    (omega (arith, c.loop-collector-test.false, l.auto))
 
 pub returns-in-Err-clause-asks : goal.returns-in-Err-clause-asks
 returns-in-Err-clause-asks g c = λ asked.
@@ -89,16 +76,14 @@ returns-clause-asks g c = λ asked.
 
 pub returns-in-Err-clause-unlike : goal.returns-in-Err-clause-unlike
 returns-in-Err-clause-unlike g c =
-    let files = c.args.files.now in
-    let at = c.loop-collector.collector in
+    let l = c.loop-collector in
+    let files = lists_of c.args.files.now in
     let step = c.in-Err.ensures in
-    let file : c.deref.result.now ≡ get_or (lists_of files) at [] = c.deref.ensures.value
-    ∙ file_at files at c.index-files-collector.result [] c.loop-collector-test.true c.index-files-collector.is in
-    unlike c.args.earlier (length c.take_file.new.cells) at c.args.rooms.now (lists_of files) c.take_file.new.cells c.take_file.new.works
+    let file = file_read c.args.files.now l.collector c.index-files-collector.result c.deref.result.now
+    c.loop-collector-test.true c.index-files-collector.is c.deref.ensures.value in
+    unlike c.args.earlier (length c.take_file.new.cells) l.collector c.args.rooms.now files c.take_file.new.cells c.take_file.new.works
     (record { items = []; at = [] }) c.in-Err.why
-    (over_again (phase_item c.args.earlier) (length c.loop-collector.cells) (length c.take_file.new.cells) (lists_of files)
-    c.loop-collector.works c.take_file.new.works at c.deref.result.now [] c.loop-collector.invariant.over
-    (file_within files at c.loop-collector-test.true) file step.over step.others)
-    step.found (file_within files at c.loop-collector-test.true)
-    (omega (arith, c.requires.rooms, step.longer.as_many, c.loop-collector.invariant.longer.as_many)) c.requires.counted
+    (over_again (phase_item c.args.earlier) (length l.cells) (length c.take_file.new.cells) files l.works c.take_file.new.works l.collector
+    c.deref.result.now l.invariant.over file step.over step.others)
+    step.found file.within (omega (arith, c.requires.rooms, step.longer.as_many, l.invariant.longer.as_many)) c.requires.counted
     step.refused step.due

@@ -1,5 +1,4 @@
-use Rattle.std.proofs.Common.{◌∙◌, ◌+◌, ap, sym, subst, refl, get_or, length, set, is_some}
-use Rattle.std.proofs.lemmas.List.{get_or_default}
+use Rattle.std.proofs.Common.{◌∙◌, ◌+◌, ap, sym, subst, refl, length, set, is_some}
 use Rattle.std.proofs.lemmas.List.Elements.{All-get_or}
 use Rattle.tape_audit.specs.Agendas.{number_in, phase_item}
 use Rattle.tape_audit.specs.Tapes.{take_of}
@@ -14,18 +13,12 @@ use Rattle.plant_session.proofs.taking.take_turn.Goals as goal
 
 pub lacks-requires : goal.lacks-requires
 lacks-requires g c =
-    let works = c.args.works.now in
-    let d = c.index-works-collector.result in
-    row_within (phase_item c.args.earlier) (length c.args.cells.now) c.args.collector c.args.place c.args.rows.now works
-    (get_or works c.args.collector d) c.requires.over
-    (get_or_default works c.args.collector d (get_or works c.args.collector d) c.requires.over.there) c.requires.within
+    row_within (phase_item c.args.earlier) (length c.args.cells.now) c.args.collector c.args.place c.args.rows.now c.args.works.now
+    c.index-works-collector.result c.requires.over c.requires.within
 
 pub returns-then-not-lacks-clause-caught : goal.returns-then-not-lacks-clause-caught
 returns-then-not-lacks-clause-caught g c =
-    let works = c.args.works.now in
-    let d = c.index-works-collector.result in
-    caught_past_row c.args.collector c.args.place works (get_or works c.args.collector d)
-    (get_or_default works c.args.collector d (get_or works c.args.collector d) c.requires.over.there) c.requires.over.there
+    caught_past_row c.args.collector c.args.place c.args.works.now c.index-works-collector.result c.requires.over.there
     (sym c.lacks.ensures.lacks ∙ c.if-not-lacks.true) c.requires.caught
 
 pub take_row-requires-clause-value : goal.take_row-requires-clause-value
@@ -51,13 +44,10 @@ advance-requires-clause-due g c =
 
 pub returns-clause-over : goal.returns-clause-over
 returns-clause-over g c =
-    let works = c.args.works.now in
-    let e = c.index-works-collector-2.result in
-    subst (λ n. IsOver (phase_item c.args.earlier) n c.args.collector c.args.rows.now (set works c.args.collector c.advance.new.self))
+    subst (λ n. IsOver (phase_item c.args.earlier) n c.args.collector c.args.rows.now (set c.args.works.now c.args.collector c.advance.new.self))
     (sym (taken_longer c.args.collector _ _ c.args.cells.now c.take_row.new.cells c.in_default.ensures.taken).as_many)
-    (over_turn (phase_item c.args.earlier) (length c.args.cells.now) c.args.collector _ c.args.rows.now works (get_or works c.args.collector e)
-    c.advance.new.self (get_or_default works c.args.collector e (get_or works c.args.collector e) c.requires.over.there)
-    c.advance.ensures c.requires.over)
+    (over_turn (phase_item c.args.earlier) (length c.args.cells.now) c.args.collector _ c.args.rows.now c.args.works.now
+    c.index-works-collector-2.result c.advance.new.self c.advance.ensures c.requires.over)
 
 pub returns-clause-found : goal.returns-clause-found
 returns-clause-found g c =

@@ -2,6 +2,7 @@ use Rattle.std.proofs.Common.{◌≡◌, ◌∙◌, ◌<◌, ◌^◌, [], All, a
 use Rattle.std.specs.Prelude.{IsTrue, String}
 use Rattle.std.specs.declared.alloc.Global.{Global}
 use Rattle.std.proofs.lemmas.List.Elements.{All-weaker}
+use Rattle.std.proofs.lemmas.Result.{err_from_is_err_and}
 use Rattle.trend_num.specs.declared.tag_def.TagDef.{TagDef}
 use Rattle.tag_base.specs.Groups.{IsSound}
 use Rattle.tag_cell.specs.Told.{Told}
@@ -38,29 +39,36 @@ pub open_cells-requires-clause-names : goal.open_cells-requires-clause-names
 open_cells-requires-clause-names g c κs within =
     ap texts c.deref-2.ensures.value ∙ c.requires.shelf.tag_names_are ∙ ap names_of (sym c.deref.ensures.value)
 
-pub returns-in-Err-clause-refused : goal.returns-in-Err-clause-refused
-returns-in-Err-clause-refused g c =
-    OfTags (subst (λ l. tags.IsRefusal l (g.S.Store.device_at c.args.store.now) (g.S.Store.device_at c.open_cells.new.store)
-    (g.S.Store.fault_count c.args.store.now) (g.S.Store.fault_count c.open_cells.new.store) c.in-Err.why) c.deref.ensures.value
-    c.in-Err.ensures.refused)
+pub returns-in_err-cells-clause-refused : goal.returns-in_err-cells-clause-refused
+returns-in_err-cells-clause-refused g c =
+    let out = err_from_is_err_and c.from_residual.result c.from_residual.ensures.1 in
+    rw (out.1, out.2)
+    (OfTags (subst (λ l. tags.IsRefusal l (g.S.Store.device_at c.args.store.now) (g.S.Store.device_at c.open_cells.new.store)
+    (g.S.Store.fault_count c.args.store.now) (g.S.Store.fault_count c.open_cells.new.store) c.in_err-cells.field-0.0) c.deref.ensures.value
+    c.in_err-cells.ensures.refused))
 
-pub returns-in-Err-clause-same_groups : goal.returns-in-Err-clause-same_groups
-returns-in-Err-clause-same_groups g c =
+pub returns-in_err-cells-clause-same_groups : goal.returns-in_err-cells-clause-same_groups
+returns-in_err-cells-clause-same_groups g c =
+    let out = err_from_is_err_and c.from_residual.result c.from_residual.ensures.1 in
     let ts = c.args.base.now.tags.items in
     let old = g.S.Store.device_at c.args.store.now in
     let new = g.S.Store.device_at c.open_cells.new.store in
-    same_untouched c.args.base.now.groups.items [] old new
-    (groups_same ts old new (subst (λ l. tag.AreOthersSame l old new) c.deref.ensures.value c.open_cells.ensures.others))
+    rw out.1
+    (same_untouched c.args.base.now.groups.items [] old new
+    (groups_same ts old new (subst (λ l. tag.AreOthersSame l old new) c.deref.ensures.value c.open_cells.ensures.others)))
 
-pub returns-in-Err-clause-others : goal.returns-in-Err-clause-others
-returns-in-Err-clause-others g c =
+pub returns-in_err-cells-clause-others : goal.returns-in_err-cells-clause-others
+returns-in_err-cells-clause-others g c =
     let old = g.S.Store.device_at c.args.store.now in
     let new = g.S.Store.device_at c.open_cells.new.store in
     λ n no_tag no_group. subst (λ l. tag.AreOthersSame l old new) c.deref.ensures.value c.open_cells.ensures.others n no_tag
 
-pub returns-in-Err-clause-counts : goal.returns-in-Err-clause-counts
-returns-in-Err-clause-counts g c = λ small. tags_count (g.S.Store.fault_count c.args.store.now)
-    (g.S.Store.fault_count c.open_cells.new.store) c.in-Err.why (c.in-Err.ensures.counts small)
+pub returns-in_err-cells-clause-counts : goal.returns-in_err-cells-clause-counts
+returns-in_err-cells-clause-counts g c = λ small.
+    let out = err_from_is_err_and c.from_residual.result c.from_residual.ensures.1 in
+    rw (out.1, out.2)
+    (tags_count (g.S.Store.fault_count c.args.store.now) (g.S.Store.fault_count c.open_cells.new.store) c.in_err-cells.field-0.0
+    (c.in_err-cells.ensures.counts small))
 
 -- ---- the groups
 
@@ -69,7 +77,7 @@ open_groups-requires-clause-sound g c κs within =
     let many : length c.args.base.now.tags.items ≡ length c.deref-4.result.now = omega (
       arith,
       ap (length {A = Told g.row.S-Dev.Denot}) c.deref-4.ensures.value,
-      c.in-Ok-open_cells.ensures.as_many,
+      c.in_ok-cells.ensures.as_many,
       ap (length {A = TagDef}) c.deref.ensures.value,
     ) in
     subst (λ n. All (IsSound n) c.args.base.now.groups.items) many c.requires.sound
@@ -83,7 +91,7 @@ returns-in-Ok-open_groups-clause-groups g c =
     let D = g.S.Dev.Disk in
     let ts = c.args.base.now.tags.items in
     let gs = c.args.base.now.groups.items in
-    let cells = c.in-Ok-open_cells.cells.items in
+    let cells = c.in_ok-cells.cells.items in
     let books = c.in-Ok-open_groups.books.items in
     let old = g.S.Store.device_at c.args.store.now in
     let mid = g.S.Store.device_at c.open_cells.new.store in
@@ -100,7 +108,7 @@ returns-in-Ok-open_groups-clause-places g c =
     record {
       for_tags = subst (λ l. HasPlaces has (texts l)) c.deref-2.ensures.value
           (All-weaker (λ n. IsTrue (was n)) (λ n. IsTrue (has n)) c.open_groups.ensures.kept_places (texts c.deref-2.result.now)
-          c.in-Ok-open_cells.ensures.places);
+          c.in_ok-cells.ensures.places);
       for_groups = subst (λ n. HavePlaces n c.args.shelf.now.group_names.items has) (sym c.requires.shelf.as_many_groups)
           (subst (λ l. HavePlaces (length c.args.base.now.groups.items) l has) c.deref-3.ensures.value
           c.in-Ok-open_groups.ensures.places);
@@ -115,7 +123,7 @@ returns-in-Ok-open_groups-clause-others g c =
 
 pub returns-in-Ok-open_groups-clause-counts : goal.returns-in-Ok-open_groups-clause-counts
 returns-in-Ok-open_groups-clause-counts g c = λ small.
-    let passed = c.in-Ok-open_cells.ensures.passed in
+    let passed = c.in_ok-cells.ensures.passed in
     c.in-Ok-open_groups.ensures.counts (subst (λ n. n < 2 ^ 64) (sym passed) small) ∙ passed
 
 -- ---- a group is refused, and the devices of the tags are given back
@@ -123,32 +131,32 @@ returns-in-Ok-open_groups-clause-counts g c = λ small.
 pub close_cells-requires-clause-as_many : goal.close_cells-requires-clause-as_many
 close_cells-requires-clause-as_many g c κs within = omega (
   arith,
-  ap (length {A = String Global}) c.deref-in-Err-open_groups.ensures.value,
+  ap (length {A = String Global}) c.deref-in-Err.ensures.value,
   c.requires.shelf.as_many_tags,
   ap (length {A = TagDef}) c.deref.ensures.value,
-  c.in-Ok-open_cells.ensures.as_many,
-  c.in-Ok-open_cells.cells.ok.0,
+  c.in_ok-cells.ensures.as_many,
+  c.in_ok-cells.cells.ok.0,
 )
 
 pub close_cells-requires-clause-apart : goal.close_cells-requires-clause-apart
 close_cells-requires-clause-apart g c κs within =
-    subst (λ l. AreApart (texts l)) (sym c.deref-in-Err-open_groups.ensures.value) c.requires.shelf.is_shelf.apart
+    subst (λ l. AreApart (texts l)) (sym c.deref-in-Err.ensures.value) c.requires.shelf.is_shelf.apart
 
 pub close_cells-requires-clause-places : goal.close_cells-requires-clause-places
 close_cells-requires-clause-places g c κs within =
     let was = g.S.Store.has_place c.open_cells.new.store in
     let has = g.S.Store.has_place c.open_groups.new.store in
-    subst (λ l. HasPlaces has (texts l)) (c.deref-2.ensures.value ∙ sym c.deref-in-Err-open_groups.ensures.value)
+    subst (λ l. HasPlaces has (texts l)) (c.deref-2.ensures.value ∙ sym c.deref-in-Err.ensures.value)
     (All-weaker (λ n. IsTrue (was n)) (λ n. IsTrue (has n)) c.open_groups.ensures.kept_places (texts c.deref-2.result.now)
-    c.in-Ok-open_cells.ensures.places)
+    c.in_ok-cells.ensures.places)
 
 pub returns-clause-refused : goal.returns-clause-refused
 returns-clause-refused g c =
     let D = g.S.Dev.Disk in
     let ts = c.args.base.now.tags.items in
     let gs = c.args.base.now.groups.items in
-    let cells = c.in-Ok-open_cells.cells.items in
-    let why = c.in-Err-open_groups.why in
+    let cells = c.in_ok-cells.cells.items in
+    let why = c.in-Err.why in
     let old = g.S.Store.device_at c.args.store.now in
     let mid = g.S.Store.device_at c.open_cells.new.store in
     let new = g.S.Store.device_at c.close_cells.new.store in
@@ -156,46 +164,46 @@ returns-clause-refused g c =
     let first = g.S.Store.fault_count c.open_cells.new.store in
     let last = g.S.Store.fault_count c.open_groups.new.store in
     let now = g.S.Store.fault_count c.close_cells.new.store in
-    let passed = c.in-Ok-open_cells.ensures.passed in
+    let passed = c.in_ok-cells.ensures.passed in
     let opened = subst (λ l. AreCellsOpened D.trace D.ticks D.fault_count l old cells) c.deref.ensures.value
-    c.in-Ok-open_cells.ensures.opened in
+    c.in_ok-cells.ensures.opened in
     given_up_refused D.trace D.ticks D.fault_count c.args.base.now cells old mid new before first last now why opened
     (subst (λ l. tag.AreOthersSame l old mid) c.deref.ensures.value c.open_cells.ensures.others) passed
-    (count_kept D.trace D.ticks D.fault_count ts old cells before first last now why opened passed c.in-Err-open_groups.ensures.counts
+    (count_kept D.trace D.ticks D.fault_count ts old cells before first last now why opened passed c.in-Err.ensures.counts
     c.close_cells.ensures.counts)
-    (subst (λ l. groups.IsRefusal gs (records_in l) mid first last why) c.deref-4.ensures.value c.in-Err-open_groups.ensures.refused)
+    (subst (λ l. groups.IsRefusal gs (records_in l) mid first last why) c.deref-4.ensures.value c.in-Err.ensures.refused)
 
 pub returns-clause-same_tags : goal.returns-clause-same_tags
 returns-clause-same_tags g c =
     let D = g.S.Dev.Disk in
-    let cells = c.in-Ok-open_cells.cells.items in
+    let cells = c.in_ok-cells.cells.items in
     let old = g.S.Store.device_at c.args.store.now in
     let after = g.S.Store.device_at c.open_groups.new.store in
     let new = g.S.Store.device_at c.close_cells.new.store in
     tags_kept D.trace D.ticks D.fault_count c.args.shelf.now.tag_names.items c.args.base.now.tags.items cells old after new
     c.requires.shelf.tag_names_are
-    (subst (λ l. AreCellsOpened D.trace D.ticks D.fault_count l old cells) c.deref.ensures.value c.in-Ok-open_cells.ensures.opened)
-    (subst (λ l. AreGivenBack D.trace (texts l) cells after new) c.deref-in-Err-open_groups.ensures.value c.close_cells.ensures.given_back)
+    (subst (λ l. AreCellsOpened D.trace D.ticks D.fault_count l old cells) c.deref.ensures.value c.in_ok-cells.ensures.opened)
+    (subst (λ l. AreGivenBack D.trace (texts l) cells after new) c.deref-in-Err.ensures.value c.close_cells.ensures.given_back)
 
 pub returns-clause-same_groups : goal.returns-clause-same_groups
 returns-clause-same_groups g c =
     let D = g.S.Dev.Disk in
-    let cells = c.in-Ok-open_cells.cells.items in
+    let cells = c.in_ok-cells.cells.items in
     let old = g.S.Store.device_at c.args.store.now in
     let mid = g.S.Store.device_at c.open_cells.new.store in
     let after = g.S.Store.device_at c.open_groups.new.store in
     let new = g.S.Store.device_at c.close_cells.new.store in
     given_up_groups D.trace c.args.base.now c.args.shelf.now.tag_names.items cells old mid after new c.requires.shelf.tag_names_are
     (subst (λ l. tag.AreOthersSame l old mid) c.deref.ensures.value c.open_cells.ensures.others)
-    (subst (λ l. AreGivenBack D.trace (texts l) cells after new) c.deref-in-Err-open_groups.ensures.value c.close_cells.ensures.given_back)
-    c.in-Err-open_groups.ensures.any_moment
+    (subst (λ l. AreGivenBack D.trace (texts l) cells after new) c.deref-in-Err.ensures.value c.close_cells.ensures.given_back)
+    c.in-Err.ensures.any_moment
 
 pub returns-clause-others : goal.returns-clause-others
 returns-clause-others g c =
     let D = g.S.Dev.Disk in
     let ts = c.args.base.now.tags.items in
     let names = c.args.shelf.now.tag_names.items in
-    let cells = c.in-Ok-open_cells.cells.items in
+    let cells = c.in_ok-cells.cells.items in
     let old = g.S.Store.device_at c.args.store.now in
     let mid = g.S.Store.device_at c.open_cells.new.store in
     let after = g.S.Store.device_at c.open_groups.new.store in
@@ -203,22 +211,22 @@ returns-clause-others g c =
     rest_same c.args.base.now old mid after new
     (subst (λ l. tag.AreOthersSame l old mid) c.deref.ensures.value c.open_cells.ensures.others) c.open_groups.ensures.others
     (others_kept D.trace names ts cells after new c.requires.shelf.tag_names_are
-    (subst (λ l. AreGivenBack D.trace (texts l) cells after new) c.deref-in-Err-open_groups.ensures.value c.close_cells.ensures.given_back))
+    (subst (λ l. AreGivenBack D.trace (texts l) cells after new) c.deref-in-Err.ensures.value c.close_cells.ensures.given_back))
 
 pub returns-clause-counts : goal.returns-clause-counts
 returns-clause-counts g c =
     let D = g.S.Dev.Disk in
     let ts = c.args.base.now.tags.items in
-    let cells = c.in-Ok-open_cells.cells.items in
-    let why = c.in-Err-open_groups.why in
+    let cells = c.in_ok-cells.cells.items in
+    let why = c.in-Err.why in
     let old = g.S.Store.device_at c.args.store.now in
     let before = g.S.Store.fault_count c.args.store.now in
     let first = g.S.Store.fault_count c.open_cells.new.store in
     let last = g.S.Store.fault_count c.open_groups.new.store in
     let now = g.S.Store.fault_count c.close_cells.new.store in
-    let passed = c.in-Ok-open_cells.ensures.passed in
+    let passed = c.in_ok-cells.ensures.passed in
     let opened = subst (λ l. AreCellsOpened D.trace D.ticks D.fault_count l old cells) c.deref.ensures.value
-    c.in-Ok-open_cells.ensures.opened in
+    c.in_ok-cells.ensures.opened in
     given_up_counts before first last now why passed
-    (count_kept D.trace D.ticks D.fault_count ts old cells before first last now why opened passed c.in-Err-open_groups.ensures.counts
-    c.close_cells.ensures.counts) c.in-Err-open_groups.ensures.counts
+    (count_kept D.trace D.ticks D.fault_count ts old cells before first last now why opened passed c.in-Err.ensures.counts
+    c.close_cells.ensures.counts) c.in-Err.ensures.counts

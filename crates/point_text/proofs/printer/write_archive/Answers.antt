@@ -1,6 +1,6 @@
 use Rattle.std.proofs.Common.{◌++◌, ◌-◌, [], take, drop, sym, ap, ◌∙◌, subst, arith, append-nil}
 use Rattle.std.proofs.lemmas.List.{take_all}
-use Rattle.std.proofs.lemmas.Result.{on_err_weaker, on_ok_weaker}
+use Rattle.std.proofs.lemmas.Result.{err_from_is_err_and, on_err_weaker, on_ok_weaker}
 use Rattle.std.specs.List.{flat_map}
 use Rattle.byte_io.specs.Outside.{IsWritten, IsCutShort}
 use Rattle.point_text.specs.Text.{archive_text, held_line, record_line}
@@ -29,9 +29,12 @@ returns-in_err-write_records-clause-cut_short g c =
     let n = c.min-next.result - done in
     let rest = drop done recs in
     let text = text_from done recs c.args.held ∙ ap (λ l. flat_map record_line (take done recs) ++ l) (text_from n rest c.args.held) in
-    subst (IsCutShort (meaning c.args.out.now) (meaning c.write_records.new.out)) (sym text)
+    let out = err_from_is_err_and c.from_residual.result c.from_residual.ensures.1 in
+    let cut = subst (IsCutShort (meaning c.args.out.now) (meaning c.write_records.new.out)) (sym text)
     (cut_more (meaning c.args.out.now) (meaning c.loop-done.out) (meaning c.write_records.new.out) (flat_map record_line (take done recs))
-    (flat_map record_line (take n rest)) (archive_text (drop n rest) c.args.held) c.loop-done.invariant.written c.in_err-write_records.ensures.cut_short)
+    (flat_map record_line (take n rest)) (archive_text (drop n rest) c.args.held) c.loop-done.invariant.written
+    c.in_err-write_records.ensures.cut_short) in
+    rw out.1 cut
 
 pub returns-clause-whole : goal.returns-clause-whole
 returns-clause-whole g c =

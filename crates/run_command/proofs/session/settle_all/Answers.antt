@@ -1,5 +1,5 @@
 use Rattle.std.proofs.Common.{rules}
-use Rattle.collector_pool.proofs.Gathering.{whole_again}
+use Rattle.plant_status.proofs.Gathering.{whole_again}
 use Rattle.run_command.proofs.session.settle_all.Goals as goal
 
 pub returns-clause-made : goal.returns-clause-made

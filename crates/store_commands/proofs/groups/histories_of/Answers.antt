@@ -1,4 +1,4 @@
-use Rattle.std.proofs.Common.{◌≡◌, ◌<◌, ◌^◌, ◌∙◌, inl, All, List, ap, arith, get_or, length, map, subst, sym}
+use Rattle.std.proofs.Common.{◌≡◌, ◌<◌, ◌^◌, ◌∙◌, All, List, ap, arith, get_or, length, map, subst, sym}
 use Rattle.std.specs.Prelude.{String}
 use Rattle.std.specs.declared.alloc.Global.{Global}
 use Rattle.std.proofs.lemmas.List.{length-map}
@@ -14,7 +14,7 @@ use Rattle.book_store.proofs.Names.{as_many, names_differ}
 use Rattle.book_store.proofs.Turns.{others_same, still}
 use Rattle.store_commands.specs.GroupRows.{OfOpening, tag_records}
 use Rattle.store_commands.specs.Refreshing.{AreRefreshedOnce, IsOverSome}
-use Rattle.store_commands.proofs.Books.{all_back, all_told, cut_books, none_counted, over_some}
+use Rattle.store_commands.proofs.Books.{all_back, all_told, counts_same, cut_books, err_and, none_counted, ok_and, over_some}
 use Rattle.store_commands.proofs.Commands.{rows_no_fault}
 use Rattle.store_commands.proofs.groups.histories_of.Goals as goal
 
@@ -90,11 +90,32 @@ returns-clause-told g c =
     let closed = c.refresh_all-refreshed.new.books.items in
     let lists = ap (map (λ r. r.now)) c.deref-2.ensures.value ∙ c.in-Ok-records_of.ensures.records in
     let lists_then = ap (map (λ r. r.now)) c.deref-3.ensures.value ∙ c.in-Ok-records_of.ensures.records in
+    ok_and c.refresh_all-refreshed.result c.close_books.new.histories c.and.result c.and.ensures (λ once.
     all_told D.trace D.ticks D.fault_count groups (tag_records c.args.cores.now) old books closed c.close_books.new.histories.items
     c.in_ok-books.ensures.as_many
     (subst (λ l. AreBooksOpened D.trace D.ticks D.fault_count groups l old books) lists c.in_ok-books.ensures.opened)
-    c.refresh_all-refreshed.ensures.same
-    (subst (λ l. AreRefreshedOnce groups l books closed) lists_then c.in_ok-refreshed.ensures.refreshed) c.close_books.ensures.closed
+    c.refresh_all-refreshed.ensures.same (subst (λ l. AreRefreshedOnce groups l books closed) lists_then once) c.close_books.ensures.closed)
+    c.refresh_all-refreshed.ensures.refreshed
+
+pub returns-clause-refused : goal.returns-clause-refused
+returns-clause-refused g c =
+    let D = g.S.Dev.Disk in
+    let groups = c.args.groups.now in
+    let old = g.S.Store.device_at c.args.store.now in
+    let books = c.in_ok-books.books.items in
+    let lists = ap (map (λ r. r.now)) c.deref-2.ensures.value ∙ c.in-Ok-records_of.ensures.records in
+    let lists_then = ap (map (λ r. r.now)) c.deref-3.ensures.value ∙ c.in-Ok-records_of.ensures.records in
+    err_and c.refresh_all-refreshed.result c.close_books.new.histories c.and.result c.and.ensures (λ why over.
+    over_some D.trace D.ticks D.fault_count groups (tag_records c.args.cores.now) old books _ _ why c.in_ok-books.ensures.as_many
+    (subst (λ l. AreBooksOpened D.trace D.ticks D.fault_count groups l old books) lists c.in_ok-books.ensures.opened)
+    (subst (λ l. IsOverSome groups l why) lists_then over)) c.refresh_all-refreshed.ensures.refused
+
+pub returns-in_err-books-clause-no_file_fault : goal.returns-in_err-books-clause-no_file_fault
+returns-in_err-books-clause-no_file_fault g c =
+    IfErr-weaker c.from_residual.result _ _ (rows_no_fault _ _ _ _ _) (returns-in_err-books-clause-refused g c)
+
+pub returns-clause-no_file_fault : goal.returns-clause-no_file_fault
+returns-clause-no_file_fault g c = IfErr-weaker c.and.result _ _ (rows_no_fault _ _ _ _ _) (returns-clause-refused g c)
 
 pub returns-clause-same : goal.returns-clause-same
 returns-clause-same g c =
@@ -120,61 +141,8 @@ pub returns-clause-counts : goal.returns-clause-counts
 returns-clause-counts g c = λ small.
     let D = g.S.Dev.Disk in
     let first = c.in_ok-books.ensures.counts small in
-    c.close_books.ensures.faultless (subst (λ n. n < 2 ^ 64) (sym first) small)
+    counts_same c.and.result (c.close_books.ensures.faultless (subst (λ n. n < 2 ^ 64) (sym first) small)
     (none_counted D.trace D.ticks D.fault_count c.args.groups.now (map (λ r. r.now) c.deref-2.result.now)
     (g.S.Store.device_at c.args.store.now) c.in_ok-books.books.items c.refresh_all-refreshed.new.books.items
     c.in_ok-books.ensures.as_many c.in_ok-books.ensures.opened c.refresh_all-refreshed.ensures.same)
-    ∙ first
-
-pub returns-in_err-refreshed-clause-refused : goal.returns-in_err-refreshed-clause-refused
-returns-in_err-refreshed-clause-refused g c =
-    let D = g.S.Dev.Disk in
-    let groups = c.args.groups.now in
-    let old = g.S.Store.device_at c.args.store.now in
-    let books = c.in_ok-books.books.items in
-    let lists = ap (map (λ r. r.now)) c.deref-2.ensures.value ∙ c.in-Ok-records_of.ensures.records in
-    let lists_then = ap (map (λ r. r.now)) c.deref-3.ensures.value ∙ c.in-Ok-records_of.ensures.records in
-    let p = err_from_is_err_and c.from_residual-in_err-refreshed.result c.from_residual-in_err-refreshed.ensures.1 in
-    rw (p.1, p.2) (over_some D.trace D.ticks D.fault_count groups (tag_records c.args.cores.now) old books _ _ c.in_err-refreshed.field-0.0
-    c.in_ok-books.ensures.as_many
-    (subst (λ l. AreBooksOpened D.trace D.ticks D.fault_count groups l old books) lists c.in_ok-books.ensures.opened)
-    (subst (λ l. IsOverSome groups l c.in_err-refreshed.field-0.0) lists_then c.in_err-refreshed.ensures.refused))
-
-pub returns-in_err-refreshed-clause-same : goal.returns-in_err-refreshed-clause-same
-returns-in_err-refreshed-clause-same g c =
-    let D = g.S.Dev.Disk in
-    let new = g.S.Store.device_at c.close_books.new.store in
-    let mid = g.S.Store.device_at c.open_books.new.store in
-    let closed = c.refresh_all-refreshed.new.books.items in
-    all_back D.trace D.ticks D.fault_count c.args.groups.now c.in-Ok.names.items (map (λ r. r.now) c.deref-2.result.now)
-    (g.S.Store.device_at c.args.store.now) mid new c.in_ok-books.books.items closed c.in-Ok.ensures.names
-    c.in_ok-books.ensures.as_many c.in_ok-books.ensures.opened c.refresh_all-refreshed.ensures.same
-    (subst (λ l. AreGivenBack D.trace l closed mid new) c.deref-4.ensures.value c.close_books.ensures.given)
-
-pub returns-in_err-refreshed-clause-others : goal.returns-in_err-refreshed-clause-others
-returns-in_err-refreshed-clause-others g c = λ n none.
-    let new = g.S.Store.device_at c.close_books.new.store in
-    let mid = g.S.Store.device_at c.open_books.new.store in
-    let are = subst (AreNamesOf c.args.groups.now) (sym c.deref-4.ensures.value) c.in-Ok.ensures.names in
-    others_same c.args.groups.now c.deref-4.result.now (length c.deref-4.result.now) mid new are
-    (omega (arith, as_many c.args.groups.now c.deref-4.result.now are)) c.close_books.ensures.others n none
-    ∙ c.open_books.ensures.others n none
-
-pub returns-in_err-refreshed-clause-counts : goal.returns-in_err-refreshed-clause-counts
-returns-in_err-refreshed-clause-counts g c = λ small.
-    let D = g.S.Dev.Disk in
-    let first = c.in_ok-books.ensures.counts small in
-    let p = err_from_is_err_and c.from_residual-in_err-refreshed.result c.from_residual-in_err-refreshed.ensures.1 in
-    rw (p.1, p.2) (inl (c.close_books.ensures.faultless (subst (λ n. n < 2 ^ 64) (sym first) small)
-    (none_counted D.trace D.ticks D.fault_count c.args.groups.now (map (λ r. r.now) c.deref-2.result.now)
-    (g.S.Store.device_at c.args.store.now) c.in_ok-books.books.items c.refresh_all-refreshed.new.books.items
-    c.in_ok-books.ensures.as_many c.in_ok-books.ensures.opened c.refresh_all-refreshed.ensures.same)
-    ∙ first))
-
-pub returns-in_err-books-clause-no_file_fault : goal.returns-in_err-books-clause-no_file_fault
-returns-in_err-books-clause-no_file_fault g c =
-    IfErr-weaker c.from_residual.result _ _ (rows_no_fault _ _ _ _ _) (returns-in_err-books-clause-refused g c)
-
-pub returns-in_err-refreshed-clause-no_file_fault : goal.returns-in_err-refreshed-clause-no_file_fault
-returns-in_err-refreshed-clause-no_file_fault g c =
-    IfErr-weaker c.from_residual-in_err-refreshed.result _ _ (rows_no_fault _ _ _ _ _) (returns-in_err-refreshed-clause-refused g c)
+    ∙ first)

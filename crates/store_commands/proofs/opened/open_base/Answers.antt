@@ -6,7 +6,8 @@ use Rattle.plant_files.specs.Reading.{faults_told}
 use Rattle.plant_files.specs.Texts.{tag_names}
 use Rattle.tag_store.specs.Tags.{AreDistinct, records_in}
 use Rattle.tag_store.specs.Refusals.{IsRefusal}
-use Rattle.store_commands.proofs.Commands.{distinct_tags, few_each, no_file_fault, if_err}
+use Rattle.plant_files.proofs.Distinct.{distinct_tags}
+use Rattle.store_commands.proofs.Commands.{few_each, no_file_fault, if_err}
 use Rattle.store_commands.proofs.opened.open_base.Goals as goal
 
 -- the tags that are opened are distinct

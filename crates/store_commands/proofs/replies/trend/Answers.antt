@@ -1,12 +1,14 @@
 use Rattle.std.proofs.Common.{Err, [], inr, refl, ◌∙◌, ap, arith, length, subst}
 use Rattle.std.proofs.lemmas.Result.{err_from_is_err_and}
+use Rattle.plant_files.proofs.Faults.{of_base, of_none, of_plan, of_reader}
 use Rattle.book_store.specs.Groups as group
+use Rattle.book_store.proofs.Devices.{same_untouched}
 use Rattle.trend_command.specs.Replies.{rows_in, trend_text}
 use Rattle.store_commands.specs.Commands.{OfGroup, OfPlan, OfReader, OfTag}
 use Rattle.store_commands.specs.GroupRows.{AreGroupsTold, IsRowsRefusal, tag_records}
 use Rattle.store_commands.proofs.Commands.{as_many_lists}
-use Rattle.store_commands.proofs.Faults.{of_base, of_none, of_plan, of_reader, group_is_no_fault, tag_is_no_fault}
-use Rattle.store_commands.proofs.Stores.{groups_same, kept_after, left_after, rest_same, rows_before, same_before, same_untouched, tags_same, told_before}
+use Rattle.store_commands.proofs.Faults.{group_is_no_fault, tag_is_no_fault}
+use Rattle.store_commands.proofs.Stores.{all_kept, groups_same, left_after, rows_before, tags_same, told_before}
 use Rattle.store_commands.proofs.replies.trend.Goals as goal
 
 pub returns-in_err-plan-clause-refused : goal.returns-in_err-plan-clause-refused
@@ -69,19 +71,8 @@ returns-in_err-cores-clause-kept g c =
 
 pub returns-in_err-groups-clause-kept : goal.returns-in_err-groups-clause-kept
 returns-in_err-groups-clause-kept g c =
-    let base = c.in_ok-base.base in
-    let old = g.S.Store.device_at c.args.store.now in
-    let mid = g.S.Store.device_at c.open_base.new.store in
-    let new = g.S.Store.device_at c.histories_of.new.store in
-    let others = subst (λ l. group.AreOthersSame l mid new) c.deref.ensures.value c.histories_of.ensures.others in
-    let same = subst (λ l. group.AllStaySame l mid new) c.deref.ensures.value c.histories_of.ensures.same in
-    inr (
-      base,
-      c.in_ok-base.ensures.base,
-      kept_after base.tags.items old mid new (tags_same base.groups.items mid new others) c.open_base.ensures.same,
-      same_before base.groups.items [] old mid (groups_same base.tags.items old mid c.open_base.ensures.others) new same,
-      rest_same base old mid new c.open_base.ensures.others others,
-    )
+    all_kept c.args.name.now _ c.in_ok-base.base _ _ _ _ c.deref.ensures.value c.in_ok-base.ensures.base c.open_base.ensures.same
+    c.open_base.ensures.others c.histories_of.ensures.same c.histories_of.ensures.others
 
 pub returns-in-Ok-clause-text : goal.returns-in-Ok-clause-text
 returns-in-Ok-clause-text g c =
@@ -112,35 +103,13 @@ returns-in-Ok-clause-text g c =
 
 pub returns-in-Ok-clause-kept : goal.returns-in-Ok-clause-kept
 returns-in-Ok-clause-kept g c =
-    let base = c.in_ok-base.base in
-    let old = g.S.Store.device_at c.args.store.now in
-    let mid = g.S.Store.device_at c.open_base.new.store in
-    let new = g.S.Store.device_at c.histories_of.new.store in
-    let others = subst (λ l. group.AreOthersSame l mid new) c.deref.ensures.value c.histories_of.ensures.others in
-    let same = subst (λ l. group.AllStaySame l mid new) c.deref.ensures.value c.histories_of.ensures.same in
-    inr (
-      base,
-      c.in_ok-base.ensures.base,
-      kept_after base.tags.items old mid new (tags_same base.groups.items mid new others) c.open_base.ensures.same,
-      same_before base.groups.items [] old mid (groups_same base.tags.items old mid c.open_base.ensures.others) new same,
-      rest_same base old mid new c.open_base.ensures.others others,
-    )
+    all_kept c.args.name.now _ c.in_ok-base.base _ _ _ _ c.deref.ensures.value c.in_ok-base.ensures.base c.open_base.ensures.same
+    c.open_base.ensures.others c.histories_of.ensures.same c.histories_of.ensures.others
 
 pub returns-clause-kept : goal.returns-clause-kept
 returns-clause-kept g c =
-    let base = c.in_ok-base.base in
-    let old = g.S.Store.device_at c.args.store.now in
-    let mid = g.S.Store.device_at c.open_base.new.store in
-    let new = g.S.Store.device_at c.histories_of.new.store in
-    let others = subst (λ l. group.AreOthersSame l mid new) c.deref.ensures.value c.histories_of.ensures.others in
-    let same = subst (λ l. group.AllStaySame l mid new) c.deref.ensures.value c.histories_of.ensures.same in
-    inr (
-      base,
-      c.in_ok-base.ensures.base,
-      kept_after base.tags.items old mid new (tags_same base.groups.items mid new others) c.open_base.ensures.same,
-      same_before base.groups.items [] old mid (groups_same base.tags.items old mid c.open_base.ensures.others) new same,
-      rest_same base old mid new c.open_base.ensures.others others,
-    )
+    all_kept c.args.name.now _ c.in_ok-base.base _ _ _ _ c.deref.ensures.value c.in_ok-base.ensures.base c.open_base.ensures.same
+    c.open_base.ensures.others c.histories_of.ensures.same c.histories_of.ensures.others
 
 pub returns-in-Ok-clause-durable : goal.returns-in-Ok-clause-durable
 returns-in-Ok-clause-durable g c = record {

@@ -9,8 +9,8 @@ use Rattle.device_layout.specs.declared.failure.OpenNo.{OpenNo}
 use Rattle.device_layout.specs.declared.failure.OpenNo.TheVariants.{DeviceFault}
 use Rattle.disk_model.specs.Calls.{CountsFault}
 use Rattle.tag_store.specs.Refusals.{status_of, IsTooMuch, IsRefusal, CountsStore}
-use Rattle.tag_store.proofs.Turns.{IsSoFar, begun, touched, all_same, next}
-use Rattle.tag_store.proofs.Endings.{of_all, all_opened, all_left, refused_at, told, counted}
+use Rattle.tag_store.proofs.Turns.{IsSoFar, begun, next}
+use Rattle.tag_store.proofs.Endings.{ends_at, of_all, all_opened, all_left, refused_at, told, counted}
 use Rattle.tag_store.proofs.opening.open_tags.Goals as goal
 
 -- the faults are counted from the beginning on
@@ -20,17 +20,14 @@ counted_since before now after r same small counts =
     subst (λ n. CountsFault r DeviceFault n after) same (counts (subst (λ n. n < 2 ^ 64) (sym same) small))
 
 pub returns-in-Err-clause-any_moment : goal.returns-in-Err-clause-any_moment
-returns-in-Err-clause-any_moment g c = λ distinct.
-    all_same c.args.tags.now c.loop-def.def-index c.def-item.result _ _ _ _ c.loop-def.invariant.so_far
-    distinct
-    (record { there = c.loop-def-test.true; is = c.def-item.is })
-    (record { others = c.open_device.ensures.others; same = c.open_device.ensures.same })
+returns-in-Err-clause-any_moment g c =
+    (ends_at c.args.tags.now c.loop-def.def-index c.def-item.result _ _ _ _ c.loop-def.invariant.so_far c.loop-def-test.true
+    c.def-item.is c.open_device.ensures.others c.open_device.ensures.same).0
 
 pub returns-in-Err-clause-others : goal.returns-in-Err-clause-others
-returns-in-Err-clause-others g c = of_all c.args.tags.now (c.loop-def.def-index + 1) _ _
-    (touched c.args.tags.now c.loop-def.def-index c.def-item.result _ _ _ c.loop-def.invariant.so_far.others
-    (record { there = c.loop-def-test.true; is = c.def-item.is })
-    (record { others = c.open_device.ensures.others; same = c.open_device.ensures.same }))
+returns-in-Err-clause-others g c =
+    (ends_at c.args.tags.now c.loop-def.def-index c.def-item.result _ _ _ _ c.loop-def.invariant.so_far c.loop-def-test.true
+    c.def-item.is c.open_device.ensures.others c.open_device.ensures.same).1
 
 pub returns-in-Err-clause-refused : goal.returns-in-Err-clause-refused
 returns-in-Err-clause-refused g c = λ distinct.
@@ -56,19 +53,15 @@ returns-in-Err-clause-counts g c = λ small.
 
 pub returns-then-records-gt-MAX_STORE_RECORDS-clause-any_moment :
     goal.returns-then-records-gt-MAX_STORE_RECORDS-clause-any_moment
-returns-then-records-gt-MAX_STORE_RECORDS-clause-any_moment g c = λ distinct.
-    all_same c.args.tags.now c.loop-def.def-index c.def-item.result _ _ _ _ c.loop-def.invariant.so_far
-    distinct
-    (record { there = c.loop-def-test.true; is = c.def-item.is })
-    (record { others = c.open_device.ensures.others; same = c.open_device.ensures.same })
+returns-then-records-gt-MAX_STORE_RECORDS-clause-any_moment g c =
+    (ends_at c.args.tags.now c.loop-def.def-index c.def-item.result _ _ _ _ c.loop-def.invariant.so_far c.loop-def-test.true
+    c.def-item.is c.open_device.ensures.others c.open_device.ensures.same).0
 
 pub returns-then-records-gt-MAX_STORE_RECORDS-clause-others :
     goal.returns-then-records-gt-MAX_STORE_RECORDS-clause-others
 returns-then-records-gt-MAX_STORE_RECORDS-clause-others g c =
-    of_all c.args.tags.now (c.loop-def.def-index + 1) _ _
-    (touched c.args.tags.now c.loop-def.def-index c.def-item.result _ _ _ c.loop-def.invariant.so_far.others
-    (record { there = c.loop-def-test.true; is = c.def-item.is })
-    (record { others = c.open_device.ensures.others; same = c.open_device.ensures.same }))
+    (ends_at c.args.tags.now c.loop-def.def-index c.def-item.result _ _ _ _ c.loop-def.invariant.so_far c.loop-def-test.true
+    c.def-item.is c.open_device.ensures.others c.open_device.ensures.same).1
 
 pub returns-then-records-gt-MAX_STORE_RECORDS-clause-refused :
     goal.returns-then-records-gt-MAX_STORE_RECORDS-clause-refused
@@ -92,17 +85,14 @@ returns-then-records-gt-MAX_STORE_RECORDS-clause-refused g c = λ distinct.
     )
 
 pub returns-in_default-clause-any_moment : goal.returns-in_default-clause-any_moment
-returns-in_default-clause-any_moment g c = λ distinct.
-    all_same c.args.tags.now c.loop-def.def-index c.def-item.result _ _ _ _ c.loop-def.invariant.so_far
-    distinct
-    (record { there = c.loop-def-test.true; is = c.def-item.is })
-    (record { others = c.open_device.ensures.others; same = c.open_device.ensures.same })
+returns-in_default-clause-any_moment g c =
+    (ends_at c.args.tags.now c.loop-def.def-index c.def-item.result _ _ _ _ c.loop-def.invariant.so_far c.loop-def-test.true
+    c.def-item.is c.open_device.ensures.others c.open_device.ensures.same).0
 
 pub returns-in_default-clause-others : goal.returns-in_default-clause-others
-returns-in_default-clause-others g c = of_all c.args.tags.now (c.loop-def.def-index + 1) _ _
-    (touched c.args.tags.now c.loop-def.def-index c.def-item.result _ _ _ c.loop-def.invariant.so_far.others
-    (record { there = c.loop-def-test.true; is = c.def-item.is })
-    (record { others = c.open_device.ensures.others; same = c.open_device.ensures.same }))
+returns-in_default-clause-others g c =
+    (ends_at c.args.tags.now c.loop-def.def-index c.def-item.result _ _ _ _ c.loop-def.invariant.so_far c.loop-def-test.true
+    c.def-item.is c.open_device.ensures.others c.open_device.ensures.same).1
 
 pub loop-def-init : goal.loop-def-init
 loop-def-init g c = record {

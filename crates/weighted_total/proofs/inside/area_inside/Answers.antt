@@ -3,8 +3,10 @@ use Rattle.std.specs.Prelude.{FitsSigned, slice_range}
 use Rattle.std.specs.Int.{w128}
 use Rattle.std.proofs.lemmas.Int.{to_z-of_z}
 use Rattle.trend_model.specs.Contents.{points_of}
-use Rattle.weighted_total.proofs.Walking.{IsRunOf, inner_range, taken_none, walk_step, walk_more, walk_all}
+use Rattle.trend_model.specs.Windows.{area}
+use Rattle.weighted_total.proofs.Walking.{IsRunOf, IsStep, inner_range, taken_none, walk_step, walk_more, walk_all}
 use Rattle.weighted_total.proofs.inside.area_inside.Goals as goal
+use Rattle.weighted_total.proofs.inside.area_inside.Goals.{After-area}
 
 pub loop-run-init : goal.loop-run-init
 loop-run-init c = record {
@@ -12,53 +14,38 @@ loop-run-init c = record {
   range = c.requires.start;
 }
 
+-- a run is the first part of what is left
+next : (c : After-area) → IsRunOf c.loop-run.runs c.in-Some.run' c.next.new.self c.first.result c.last.result
+next c = record { split = c.in-Some.ensures.front; first = c.first.ensures.value; last = c.last.ensures.value }
+
+-- so the walk goes on by it
+step : (c : After-area) → IsStep c.args.step c.loop-run.area.last c.first.result c.loop-run.area.twice (area c.args.step c.in-Some.run')
+step c =
+    walk_step c.args.step c.args.start (slice_range (points_of c.args.content.now.records) c.args.first c.args.behind) _ _ _ _ _ _ _
+    c.loop-run.invariant.walked (next c) c.requires.start
+    (inner_range c.args.content.now.records c.args.first c.args.behind c.len-len.ensures.range) c.requires.rises
+
 pub joined-area-requires-clause-order : goal.joined-area-requires-clause-order
-joined-area-requires-clause-order c =
-    let walk = c.loop-run.invariant.walked in
-    let inner = slice_range (points_of c.args.content.now.records) c.args.first c.args.behind in
-    let next : IsRunOf c.loop-run.runs c.in-Some.run' c.next.new.self c.first.result c.last.result =
-    record { split = c.in-Some.ensures.front; first = c.first.ensures.value; last = c.last.ensures.value } in
-    let range = inner_range c.args.content.now.records c.args.first c.args.behind c.len-len.ensures.range in
-    let fits : FitsSigned w128 c.area.result = search rules in
-    let step = walk_step c.args.step c.args.start inner _ _ _ _ _ _ _ walk next c.requires.start range
-    c.requires.rises in
-    step.order
+joined-area-requires-clause-order c = (step (goal.at.joined-area-requires-clause-order c).After-area).order
 
 pub joined-area-requires-clause-small : goal.joined-area-requires-clause-small
-joined-area-requires-clause-small c =
-    let walk = c.loop-run.invariant.walked in
-    let inner = slice_range (points_of c.args.content.now.records) c.args.first c.args.behind in
-    let next : IsRunOf c.loop-run.runs c.in-Some.run' c.next.new.self c.first.result c.last.result =
-    record { split = c.in-Some.ensures.front; first = c.first.ensures.value; last = c.last.ensures.value } in
-    let range = inner_range c.args.content.now.records c.args.first c.args.behind c.len-len.ensures.range in
-    let fits : FitsSigned w128 c.area.result = search rules in
-    let step = walk_step c.args.step c.args.start inner _ _ _ _ _ _ _ walk next c.requires.start range
-    c.requires.rises in
-    step.small
+joined-area-requires-clause-small c = (step (goal.at.joined-area-requires-clause-small c).After-area).small
 
 pub joined-area-requires-clause-small_part : goal.joined-area-requires-clause-small_part
 joined-area-requires-clause-small_part c =
-    let walk = c.loop-run.invariant.walked in
-    let inner = slice_range (points_of c.args.content.now.records) c.args.first c.args.behind in
-    let next : IsRunOf c.loop-run.runs c.in-Some.run' c.next.new.self c.first.result c.last.result =
-    record { split = c.in-Some.ensures.front; first = c.first.ensures.value; last = c.last.ensures.value } in
-    let range = inner_range c.args.content.now.records c.args.first c.args.behind c.len-len.ensures.range in
     let fits : FitsSigned w128 c.area.result = search rules in
-    let step = walk_step c.args.step c.args.start inner _ _ _ _ _ _ _ walk next c.requires.start range
-    c.requires.rises in
-    rw (to_z-of_z w128 c.area.result fits, c.area.ensures) step.small_part
+    rw (to_z-of_z w128 c.area.result fits, c.area.ensures)
+    (step (goal.at.joined-area-requires-clause-small_part c).After-area).small_part
 
 pub loop-run-preserved : goal.loop-run-preserved
 loop-run-preserved c =
-    let walk = c.loop-run.invariant.walked in
     let inner = slice_range (points_of c.args.content.now.records) c.args.first c.args.behind in
-    let next : IsRunOf c.loop-run.runs c.in-Some.run' c.next.new.self c.first.result c.last.result =
-    record { split = c.in-Some.ensures.front; first = c.first.ensures.value; last = c.last.ensures.value } in
     let fits : FitsSigned w128 c.area.result = search rules in
     let part = rw (to_z-of_z w128 c.area.result fits, c.area.ensures) at c.joined-area.ensures.twice in
     record {
       walked = rw c.joined-area.ensures.last
-          (walk_more c.args.step c.args.start inner _ _ _ _ _ _ _ walk next c.joined-area.result.twice part);
+          (walk_more c.args.step c.args.start inner _ _ _ _ _ _ _ c.loop-run.invariant.walked
+          (next (goal.at.loop-run-preserved c).After-area) c.joined-area.result.twice part);
       range = rw c.joined-area.ensures.last c.last.ensures.range;
     }
 

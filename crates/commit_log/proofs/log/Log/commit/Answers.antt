@@ -15,7 +15,9 @@ use Rattle.commit_log.proofs.Beginnings.{length-block_image}
 use Rattle.commit_log.proofs.Commits.{commit_kept, commit_legal, commit_room, commit_safe, commit_waits, kept_faulted, writing_safe}
 use Rattle.commit_log.proofs.Keeps.{rest_waits, same_tape}
 use Rattle.commit_log.proofs.Tapes.{rest_is}
+use Rattle.commit_log.proofs.log.Log.commit.Given as given
 use Rattle.commit_log.proofs.log.Log.commit.Goals as goal
+use Rattle.commit_log.proofs.log.Log.commit.Goals.{After-write_guarded, After-push_reserved}
 
 pub overflow_sub-waiting : goal.overflow_sub-waiting
 overflow_sub-waiting g c =
@@ -47,6 +49,73 @@ block_bytes-requires g c =
       );
     }
 
+-- the block that was written holds the oldest rows that wait
+block : (g : given.Over) (c : After-write_guarded g)
+    → IsBlockOf c.self.inside.acked c.min-count.result (drop c.self.inside.next c.self.inside.tape.items) c.deref-2.result.now
+    c.in_ok-block.block.turns
+block g c =
+    let s = c.self.inside in
+    let rest : List LogTurn = take (length c.deref.result.now - s.next) (drop s.next c.deref.result.now) in
+    let from : rest ≡ drop s.next s.tape.items
+    = rest_is c.deref.result.now s.tape.items s.next (c.deref.ensures.value ∙ c.make_places.ensures.same) in
+    subst (λ (l : List LogTurn). IsBlockOf s.acked c.min-count.result l c.deref-2.result.now c.in_ok-block.block.turns) from
+    (subst (λ (l : List ℕ). IsBlockOf s.acked c.min-count.result rest l c.in_ok-block.block.turns)
+    (sym c.deref-2.ensures.value) c.in_ok-block.ensures)
+
+-- no call had failed before
+kept : (g : given.Over) (c : After-write_guarded g)
+    → let s = c.self.inside in
+    let D = g.D.Disk in
+    IsKept s.plant.items s.tags s.opening.items s.moment s.faults s.tape.items s.next s.end false (D.trace s.dev) (D.ticks s.dev)
+    (D.fault_count s.dev)
+kept g c =
+    let s = c.self.inside in
+    let D = g.D.Disk in
+    subst (λ f. IsKept s.plant.items s.tags s.opening.items s.moment s.faults s.tape.items s.next s.end f (D.trace s.dev)
+    (D.ticks s.dev) (D.fault_count s.dev)) c.if-self.false c.self.invariant.3
+
+-- a row waits, and a block has room for all that are counted
+some : (g : given.Over) (c : After-write_guarded g) → 1 ≤ c.min-count.result
+some g c = omega (arith, c.if-waiting-eq0.false, c.min-count.ensures, c.from-2.ensures)
+
+few : (g : given.Over) (c : After-write_guarded g) → c.min-count.result ≤ most_in_block
+few g c = omega (arith, c.min-count.ensures, c.from-2.ensures)
+
+counted : (g : given.Over) (c : After-write_guarded g)
+    → c.min-count.result ≡ min most_in_block (length c.self.inside.opening.items + length (puts c.self.inside.tape.items) - c.self.inside.acked)
+counted g c =
+    omega (arith, c.min-count.ensures, c.from-2.ensures, c.len.ensures, c.from.ensures, c.self.invariant.1.count_is)
+
+-- the tape is longer by the commit
+longer : (g : given.Over) (c : After-push_reserved g)
+    → c.push_reserved.new.self.items ≡ c.self.inside.tape.items
+    ++ Commit (g.D.Disk.ticks c.write_guarded.new.dev) (c.self.inside.acked + c.min-count.result) ∷ []
+longer g c =
+    let tape = c.self.inside.tape.items in
+    let acked = c.self.inside.acked + c.min-count.result in
+    c.push_reserved.ensures.items
+    ∙ (ap (λ (l : List LogTurn). l ++ Commit c.clock.result acked ∷ []) c.make_places.ensures.same
+    ∙ ap (λ (m : ℕ). tape ++ Commit m acked ∷ []) c.clock.ensures)
+
+-- and the end lies behind the block
+ends : (g : given.Over) (c : After-push_reserved g)
+    → IsBlockOf c.self.inside.acked c.min-count.result (drop c.self.inside.next c.self.inside.tape.items) c.deref-2.result.now
+    c.in_ok-block.block.turns
+    → c.in-Some.end ≡ c.self.inside.end
+    + block_size (puts (take c.in_ok-block.block.turns (drop c.self.inside.next c.self.inside.tape.items)))
+ends g c is =
+    let s = c.self.inside in
+    let rest : List LogTurn = take (length c.deref.result.now - s.next) (drop s.next c.deref.result.now) in
+    omega (
+      arith,
+      c.in-Some.ensures,
+      c.len-2.ensures,
+      ap length c.in_ok-block.ensures.bytes_are,
+      length-block_image s.acked (puts (take c.in_ok-block.block.turns rest)),
+      c.in_ok-block.ensures.long,
+      is.long,
+    )
+
 pub invariant_of-self-in-Ok : goal.invariant_of-self-in-Ok
 invariant_of-self-in-Ok g c =
     let s = c.self.inside in
@@ -56,65 +125,43 @@ invariant_of-self-in-Ok g c =
     let tape = s.tape.items in
     let count = c.min-count.result in
     let turns = c.in_ok-block.block.turns in
-    let bytes = c.deref-2.result.now in
-    let rest : List LogTurn = take (length c.deref.result.now - s.next) (drop s.next c.deref.result.now) in
-    let from : rest ≡ drop s.next tape = rest_is c.deref.result.now tape s.next (c.deref.ensures.value ∙ c.make_places.ensures.same) in
-    let is : IsBlockOf s.acked count (drop s.next tape) bytes turns
-    = subst (λ (l : List LogTurn). IsBlockOf s.acked count l bytes turns) from
-    (subst (λ (l : List ℕ). IsBlockOf s.acked count rest l turns) (sym c.deref-2.ensures.value) c.in_ok-block.ensures) in
-    let kept : IsKept s.plant.items s.tags o s.moment s.faults tape s.next s.end false (D.trace s.dev) (D.ticks s.dev) (D.fault_count s.dev)
-    = subst (λ f. IsKept s.plant.items s.tags o s.moment s.faults tape s.next s.end f (D.trace s.dev) (D.ticks s.dev) (D.fault_count s.dev))
-    c.if-self.false was.3 in
-    let some : 1 ≤ count = omega (arith, c.if-waiting-eq0.false, c.min-count.ensures, c.from-2.ensures) in
-    let few : count ≤ most_in_block = omega (arith, c.min-count.ensures, c.from-2.ensures) in
-    let count_is : count ≡ min most_in_block (length o + length (puts tape) - s.acked)
-    = omega (arith, c.min-count.ensures, c.from-2.ensures, c.len.ensures, c.from.ensures, was.1.count_is) in
+    let at = goal.at.invariant_of-self-in-Ok g c in
+    let is = block g at.After-write_guarded in
+    let kept_so = kept g at.After-write_guarded in
+    let some_so = some g at.After-write_guarded in
+    let few_so = few g at.After-write_guarded in
+    let longer_by = longer g at.After-push_reserved in
     let new = D.trace c.write_guarded.new.dev in
     let ticks' : ℕ = D.ticks c.write_guarded.new.dev in
-    let longer : c.push_reserved.new.self.items ≡ tape ++ Commit ticks' (s.acked + count) ∷ []
-    = c.push_reserved.ensures.items
-    ∙ (ap (λ (l : List LogTurn). l ++ Commit c.clock.result (s.acked + count) ∷ []) c.make_places.ensures.same
-    ∙ ap (λ (m : ℕ). tape ++ Commit m (s.acked + count) ∷ []) c.clock.ensures) in
-    let end_is : c.in-Some.end ≡ s.end + block_size (puts (take turns (drop s.next tape)))
-    = omega (
-      arith,
-      c.in-Some.ensures,
-      c.len-2.ensures,
-      ap length c.in_ok-block.ensures.bytes_are,
-      length-block_image s.acked (puts (take turns rest)),
-      c.in_ok-block.ensures.long,
-      is.long,
-    ) in
+    let faults' : ℕ = D.fault_count c.write_guarded.new.dev in
+    let tape' = c.push_reserved.new.self.items in
+    let bytes = c.deref-2.result.now in
     let places = vec_capacity c.push_reserved.new.self in
     let room : length tape + (s.room - s.count) + 1 ≤ places
     = omega (arith, c.in_ok-make_places.ensures.room, c.push_reserved.ensures.capacity, was.1.within, s.tape.ok) in (
       commit_legal s.plant.items s.tags o s.moment s.faults tape s.next s.acked s.end (D.trace s.dev) (D.ticks s.dev)
-          (D.fault_count s.dev) was.0 was.2 kept count turns bytes is some few
-          new ticks' (D.fault_count c.write_guarded.new.dev)
+          (D.fault_count s.dev) was.0 was.2 kept_so count turns bytes is some_so few_so new ticks' faults'
           c.in-Ok.ensures.clock c.write_guarded.ensures.any_moment c.in-Ok.ensures.reads c.in-Ok.ensures.settled
-          (g.met.D.Disk.told c.write_guarded.new.dev) c.push_reserved.new.self.items longer count_is,
+          (g.met.D.Disk.told c.write_guarded.new.dev) tape' longer_by (counted g at.After-write_guarded),
       commit_room s.plant.items s.tags o s.moment s.faults tape s.next s.acked s.end (D.trace s.dev) (D.ticks s.dev)
-          (D.fault_count s.dev) was.0 was.2 kept count turns bytes is some few
-          new ticks' (D.fault_count c.write_guarded.new.dev)
+          (D.fault_count s.dev) was.0 was.2 kept_so count turns bytes is some_so few_so new ticks' faults'
           c.in-Ok.ensures.clock c.write_guarded.ensures.any_moment c.in-Ok.ensures.reads c.in-Ok.ensures.settled
-          (g.met.D.Disk.told c.write_guarded.new.dev) c.push_reserved.new.self.items longer (vec_capacity s.tape) places s.count s.room was.1 room,
+          (g.met.D.Disk.told c.write_guarded.new.dev) tape' longer_by (vec_capacity s.tape) places s.count s.room was.1 room,
       commit_waits s.plant.items s.tags o s.moment s.faults tape s.next s.acked s.end (D.trace s.dev) (D.ticks s.dev)
-          (D.fault_count s.dev) was.0 was.2 kept count turns bytes is some few
-          new ticks' (D.fault_count c.write_guarded.new.dev)
+          (D.fault_count s.dev) was.0 was.2 kept_so count turns bytes is some_so few_so new ticks' faults'
           c.in-Ok.ensures.clock c.write_guarded.ensures.any_moment c.in-Ok.ensures.reads c.in-Ok.ensures.settled
-          (g.met.D.Disk.told c.write_guarded.new.dev) c.push_reserved.new.self.items longer,
-      subst (λ f. IsKept s.plant.items s.tags o s.moment s.faults c.push_reserved.new.self.items (s.next + turns) c.in-Some.end f new ticks'
-          (D.fault_count c.write_guarded.new.dev)) (sym c.if-self.false)
+          (g.met.D.Disk.told c.write_guarded.new.dev) tape' longer_by,
+      subst (λ f. IsKept s.plant.items s.tags o s.moment s.faults tape' (s.next + turns) c.in-Some.end f new ticks' faults')
+          (sym c.if-self.false)
           (commit_kept s.plant.items s.tags o s.moment s.faults tape s.next s.acked s.end (D.trace s.dev) (D.ticks s.dev)
-          (D.fault_count s.dev) was.0 was.2 kept count turns bytes is some few
-          new ticks' (D.fault_count c.write_guarded.new.dev)
+          (D.fault_count s.dev) was.0 was.2 kept_so count turns bytes is some_so few_so new ticks' faults'
           c.in-Ok.ensures.clock c.write_guarded.ensures.any_moment c.in-Ok.ensures.reads c.in-Ok.ensures.settled
-          (g.met.D.Disk.told c.write_guarded.new.dev) c.push_reserved.new.self.items longer c.in-Some.end end_is c.in-Ok.ensures.cause.passed),
+          (g.met.D.Disk.told c.write_guarded.new.dev) tape' longer_by c.in-Some.end (ends g at.After-push_reserved is)
+          c.in-Ok.ensures.cause.passed),
       commit_safe s.plant.items s.tags o s.moment s.faults tape s.next s.acked s.end (D.trace s.dev) (D.ticks s.dev)
-          (D.fault_count s.dev) was.0 was.2 kept count turns bytes is some few
-          new ticks' (D.fault_count c.write_guarded.new.dev)
+          (D.fault_count s.dev) was.0 was.2 kept_so count turns bytes is some_so few_so new ticks' faults'
           c.in-Ok.ensures.clock c.write_guarded.ensures.any_moment c.in-Ok.ensures.reads c.in-Ok.ensures.settled
-          (g.met.D.Disk.told c.write_guarded.new.dev) c.push_reserved.new.self.items longer was.4,
+          (g.met.D.Disk.told c.write_guarded.new.dev) tape' longer_by was.4,
     )
 
 pub invariant_of-self-in-Err : goal.invariant_of-self-in-Err
@@ -124,19 +171,7 @@ invariant_of-self-in-Err g c =
     let D = g.D.Disk in
     let o = s.opening.items in
     let tape = s.tape.items in
-    let count = c.min-count.result in
-    let turns = c.in_ok-block.block.turns in
-    let bytes = c.deref-2.result.now in
-    let rest : List LogTurn = take (length c.deref.result.now - s.next) (drop s.next c.deref.result.now) in
-    let from : rest ≡ drop s.next tape = rest_is c.deref.result.now tape s.next (c.deref.ensures.value ∙ c.make_places.ensures.same) in
-    let is : IsBlockOf s.acked count (drop s.next tape) bytes turns
-    = subst (λ (l : List LogTurn). IsBlockOf s.acked count l bytes turns) from
-    (subst (λ (l : List ℕ). IsBlockOf s.acked count rest l turns) (sym c.deref-2.ensures.value) c.in_ok-block.ensures) in
-    let kept : IsKept s.plant.items s.tags o s.moment s.faults tape s.next s.end false (D.trace s.dev) (D.ticks s.dev) (D.fault_count s.dev)
-    = subst (λ f. IsKept s.plant.items s.tags o s.moment s.faults tape s.next s.end f (D.trace s.dev) (D.ticks s.dev) (D.fault_count s.dev))
-    c.if-self.false was.3 in
-    let some : 1 ≤ count = omega (arith, c.if-waiting-eq0.false, c.min-count.ensures, c.from-2.ensures) in
-    let few : count ≤ most_in_block = omega (arith, c.min-count.ensures, c.from-2.ensures) in
+    let at = (goal.at.invariant_of-self-in-Err g c).After-write_guarded in
     let new = D.trace c.write_guarded.new.dev in
     let ticks' : ℕ = D.ticks c.write_guarded.new.dev in
     let faults' : ℕ = D.fault_count c.write_guarded.new.dev in
@@ -147,9 +182,11 @@ invariant_of-self-in-Err g c =
       was.1,
       was.2,
       kept_faulted s.plant.items s.tags o s.moment s.faults tape s.next s.acked s.end (D.trace s.dev) (D.ticks s.dev)
-          (D.fault_count s.dev) was.0 was.2 kept count turns bytes is some few new ticks' faults' c.write_guarded.ensures.later c.in-Err.ensures.cause.failed,
+          (D.fault_count s.dev) was.0 was.2 (kept g at) c.min-count.result c.in_ok-block.block.turns c.deref-2.result.now (block g at)
+          (some g at) (few g at) new ticks' faults' c.write_guarded.ensures.later c.in-Err.ensures.cause.failed,
       writing_safe s.plant.items s.tags o s.moment s.faults tape s.next s.acked s.end (D.trace s.dev) (D.ticks s.dev)
-          (D.fault_count s.dev) was.0 was.2 kept count turns bytes is some few new was.4 c.write_guarded.ensures.any_moment,
+          (D.fault_count s.dev) was.0 was.2 (kept g at) c.min-count.result c.in_ok-block.block.turns c.deref-2.result.now (block g at)
+          (some g at) (few g at) new was.4 c.write_guarded.ensures.any_moment,
     )
 
 pub returns-in-Ok-clause-committed : goal.returns-in-Ok-clause-committed
@@ -161,35 +198,9 @@ returns-in-Ok-clause-committed g c = λ more.
     let tape = s.tape.items in
     let count = c.min-count.result in
     let turns = c.in_ok-block.block.turns in
-    let bytes = c.deref-2.result.now in
-    let rest : List LogTurn = take (length c.deref.result.now - s.next) (drop s.next c.deref.result.now) in
-    let from : rest ≡ drop s.next tape = rest_is c.deref.result.now tape s.next (c.deref.ensures.value ∙ c.make_places.ensures.same) in
-    let is : IsBlockOf s.acked count (drop s.next tape) bytes turns
-    = subst (λ (l : List LogTurn). IsBlockOf s.acked count l bytes turns) from
-    (subst (λ (l : List ℕ). IsBlockOf s.acked count rest l turns) (sym c.deref-2.ensures.value) c.in_ok-block.ensures) in
-    let kept : IsKept s.plant.items s.tags o s.moment s.faults tape s.next s.end false (D.trace s.dev) (D.ticks s.dev) (D.fault_count s.dev)
-    = subst (λ f. IsKept s.plant.items s.tags o s.moment s.faults tape s.next s.end f (D.trace s.dev) (D.ticks s.dev) (D.fault_count s.dev))
-    c.if-self.false was.3 in
-    let some : 1 ≤ count = omega (arith, c.if-waiting-eq0.false, c.min-count.ensures, c.from-2.ensures) in
-    let few : count ≤ most_in_block = omega (arith, c.min-count.ensures, c.from-2.ensures) in
-    let count_is : count ≡ min most_in_block (length o + length (puts tape) - s.acked)
-    = omega (arith, c.min-count.ensures, c.from-2.ensures, c.len.ensures, c.from.ensures, was.1.count_is) in
-    let new = D.trace c.write_guarded.new.dev in
-    let ticks' : ℕ = D.ticks c.write_guarded.new.dev in
-    let longer : c.push_reserved.new.self.items ≡ tape ++ Commit ticks' (s.acked + count) ∷ []
-    = c.push_reserved.ensures.items
-    ∙ (ap (λ (l : List LogTurn). l ++ Commit c.clock.result (s.acked + count) ∷ []) c.make_places.ensures.same
-    ∙ ap (λ (m : ℕ). tape ++ Commit m (s.acked + count) ∷ []) c.clock.ensures) in
-    let end_is : c.in-Some.end ≡ s.end + block_size (puts (take turns (drop s.next tape)))
-    = omega (
-      arith,
-      c.in-Some.ensures,
-      c.len-2.ensures,
-      ap length c.in_ok-block.ensures.bytes_are,
-      length-block_image s.acked (puts (take turns rest)),
-      c.in_ok-block.ensures.long,
-      is.long,
-    ) in
+    let at = goal.at.returns-in-Ok-clause-committed g c in
+    let is = block g at.After-write_guarded in
+    let count_is = counted g at.After-write_guarded in
     let told : Told _ = record {
       plant = s.plant.items;
       tags = s.tags;
@@ -216,7 +227,8 @@ returns-in-Ok-clause-committed g c = λ more.
       acked_are = ap (λ (n : ℕ). s.acked + n) count_is;
       waiting_are = omega (arith, count_is, c.len.ensures, c.from.ensures, was.1.count_is);
       clock = c.in-Ok.ensures.clock;
-      wrote = subst (λ (l : List ℕ). Sees new (written (written (seen (D.trace s.dev)) (s.end + 1) l) s.end (open_byte ∷ []))) is.bytes_are
+      wrote = subst (λ (l : List ℕ). Sees (D.trace c.write_guarded.new.dev)
+          (written (written (seen (D.trace s.dev)) (s.end + 1) l) s.end (open_byte ∷ []))) is.bytes_are
           c.in-Ok.ensures.reads;
       changed = λ i. record {
         plant = s.plant.items;
@@ -224,10 +236,10 @@ returns-in-Ok-clause-committed g c = λ more.
         opening = o;
         moment = s.moment;
         faults = s.faults;
-        tape = longer i;
+        tape = longer g at.After-push_reserved i;
         room = s.room;
         acked = s.acked + count;
-        end = end_is i;
+        end = ends g at.After-push_reserved is i;
         failed = s.failed;
         dev = c.write_guarded.new.dev;
       };

@@ -1,13 +1,20 @@
 use Rattle.std.proofs.Common.{◌+◌, false, length, subst, sym}
+use Rattle.std.specs.Prelude.{map}
+use Rattle.trend_num.specs.declared.tag_def.TagDef.{TagDef}
+use Rattle.trend_model.specs.History.{Raw}
+use Rattle.trend_model.specs.State.{State, replay}
+use Rattle.disk_model.specs.Moments.{During}
 use Rattle.disk_model.proofs.Moments.{during_now}
 use Rattle.crash_recovery.specs.declared.seat.Seat.{Seat}
-use Rattle.device_layout.specs.Recovery.{Recovers}
-use Rattle.crash_recovery.specs.Journals.{SeatedOn}
+use Rattle.device_layout.specs.Recovery.{AllFit, Recovers}
+use Rattle.crash_recovery.specs.Journals.{AllRecover, RecoversEither, SeatedOn}
 use Rattle.crash_recovery.proofs.Places.{laid_on, overrun_on, moved}
-use Rattle.crash_recovery.proofs.Appends.{cleared, taken_cleared, append_moments, append_durable}
+use Rattle.crash_recovery.proofs.Appends.{IsCleared, IsTaken, cleared, taken_cleared, append_moments, append_durable}
 use Rattle.crash_recovery.proofs.Appends.{append_seated}
 use Rattle.crash_recovery.proofs.Turns.{either_first, then_either}
+use Rattle.crash_recovery.proofs.seat.Seat.append.Given as given
 use Rattle.crash_recovery.proofs.seat.Seat.append.Goals as goal
+use Rattle.crash_recovery.proofs.seat.Seat.append.Goals.{After-append_batch}
 
 pub close_stale-requires-clause-laid : goal.close_stale-requires-clause-laid
 close_stale-requires-clause-laid g c = laid_on c.args.self.now _ c.requires.seated
@@ -17,54 +24,49 @@ returns-in_err-close_stale-clause-any_moment g c = λ def s all fits.
     either_first _ _ def s _
     (c.close_stale.ensures.any_moment def s all (overrun_on c.args.self.now _ c.requires.seated))
 
+-- the lane is as it was, or empty
+clear : (g : given.Over) (c : After-append_batch g) → IsCleared c.args.self.now c.close_stale.new.self
+clear g c =
+    cleared c.args.self.now c.close_stale.new.self c.requires.within c.requires.free c.close_stale.ensures.kept
+    c.in_ok-close_stale.ensures.restarted
+
+-- and takes the values
+batch : (g : given.Over) (c : After-append_batch g) → IsTaken c.close_stale.new.self c.args.points.now
+batch g c =
+    taken_cleared c.args.self.now c.close_stale.new.self c.args.points.now (clear g c) c.in_ok-close_stale.ensures.fresh
+    c.requires.some c.requires.few c.requires.in_range c.requires.number
+
+-- a crash on the way leaves what was recovered before, or that with the values
+moments : (g : given.Over) (c : After-append_batch g) (def : TagDef) (s : State)
+    → AllRecover def (g.D.Disk.trace c.args.dev.now) s → AllFit def.step s (map Raw c.args.points.now)
+    → During (g.D.Disk.trace c.args.dev.now) (g.D.Disk.trace c.append_batch.new.dev)
+    (RecoversEither def s (replay def.step s (map Raw c.args.points.now)))
+moments g c def s all fits =
+    then_either _ _ _ def s _ (c.close_stale.ensures.any_moment def s all (overrun_on c.args.self.now _ c.requires.seated))
+    (λ now. append_moments c.close_stale.new.self c.args.points.now (batch g c) _ _ c.in_ok-close_stale.ensures.laid
+    (c.append_batch.ensures.any_moment (clear g c).free) def s now fits)
+
 pub returns-in-Ok-clause-any_moment : goal.returns-in-Ok-clause-any_moment
-returns-in-Ok-clause-any_moment g c = λ def s all fits.
-    let p = c.args.self.now in
-    let q = c.close_stale.new.self in
-    let clear = cleared p q c.requires.within c.requires.free c.close_stale.ensures.kept
-    c.in_ok-close_stale.ensures.restarted in
-    let batch = taken_cleared p q c.args.points.now clear c.in_ok-close_stale.ensures.fresh c.requires.some
-    c.requires.few c.requires.in_range c.requires.number in
-    then_either _ _ _ def s _ (c.close_stale.ensures.any_moment def s all
-    (overrun_on c.args.self.now _ c.requires.seated))
-    (λ now. append_moments q c.args.points.now batch _ _ c.in_ok-close_stale.ensures.laid
-    (c.append_batch.ensures.any_moment clear.free) def s now fits)
+returns-in-Ok-clause-any_moment g c = moments g (goal.at.returns-in-Ok-clause-any_moment g c).After-append_batch
 
 pub returns-in-Err-DeviceFault-clause-any_moment : goal.returns-in-Err-DeviceFault-clause-any_moment
-returns-in-Err-DeviceFault-clause-any_moment g c = λ def s all fits.
-    let p = c.args.self.now in
-    let q = c.close_stale.new.self in
-    let clear = cleared p q c.requires.within c.requires.free c.close_stale.ensures.kept
-    c.in_ok-close_stale.ensures.restarted in
-    let batch = taken_cleared p q c.args.points.now clear c.in_ok-close_stale.ensures.fresh c.requires.some
-    c.requires.few c.requires.in_range c.requires.number in
-    then_either _ _ _ def s _ (c.close_stale.ensures.any_moment def s all
-    (overrun_on c.args.self.now _ c.requires.seated))
-    (λ now. append_moments q c.args.points.now batch _ _ c.in_ok-close_stale.ensures.laid
-    (c.append_batch.ensures.any_moment clear.free) def s now fits)
+returns-in-Err-DeviceFault-clause-any_moment g c =
+    moments g (goal.at.returns-in-Err-DeviceFault-clause-any_moment g c).After-append_batch
 
 pub returns-in-Ok-clause-durable : goal.returns-in-Ok-clause-durable
 returns-in-Ok-clause-durable g c = λ def s all fits.
-    let p = c.args.self.now in
-    let q = c.close_stale.new.self in
-    let clear = cleared p q c.requires.within c.requires.free c.close_stale.ensures.kept
-    c.in_ok-close_stale.ensures.restarted in
-    let batch = taken_cleared p q c.args.points.now clear c.in_ok-close_stale.ensures.fresh c.requires.some
-    c.requires.few c.requires.in_range c.requires.number in
-    append_durable q c.args.points.now batch _ _ c.in_ok-close_stale.ensures.laid
-    (c.append_batch.ensures.any_moment clear.free)
+    let at = (goal.at.returns-in-Ok-clause-durable g c).After-append_batch in
+    append_durable c.close_stale.new.self c.args.points.now (batch g at) _ _ c.in_ok-close_stale.ensures.laid
+    (c.append_batch.ensures.any_moment (clear g at).free)
     c.in-Ok.ensures.settled c.in-Ok.ensures.reads def s
     (during_now _ _ (λ x. Recovers def x s) (c.close_stale.ensures.any_moment def s all
     (overrun_on c.args.self.now _ c.requires.seated))) fits
 
 pub returns-in-Ok-clause-seated : goal.returns-in-Ok-clause-seated
 returns-in-Ok-clause-seated g c =
-    let p = c.args.self.now in
+    let at = (goal.at.returns-in-Ok-clause-seated g c).After-append_batch in
     let q = c.close_stale.new.self in
-    let clear = cleared p q c.requires.within c.requires.free c.close_stale.ensures.kept
-    c.in_ok-close_stale.ensures.restarted in
-    let batch = taken_cleared p q c.args.points.now clear c.in_ok-close_stale.ensures.fresh c.requires.some
-    c.requires.few c.requires.in_range c.requires.number in
+    let batch = batch g at in
     let new = g.D.Disk.trace c.append_batch.new.dev in
     let r : Seat = moved q false (q.lane.used + 1) (q.lane.next + length c.args.points.now) in
     subst (λ l. SeatedOn (record {
@@ -86,5 +88,5 @@ returns-in-Ok-clause-seated g c =
     }) new)
     (sym batch.fresh)
     (append_seated q c.args.points.now batch _ _ c.in_ok-close_stale.ensures.laid
-    (c.append_batch.ensures.any_moment clear.free)
+    (c.append_batch.ensures.any_moment (clear g at).free)
     c.in-Ok.ensures.settled c.in-Ok.ensures.reads))

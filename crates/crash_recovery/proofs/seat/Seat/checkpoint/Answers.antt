@@ -1,9 +1,23 @@
+use Rattle.trend_num.specs.declared.tag_def.TagDef.{TagDef}
+use Rattle.trend_model.specs.State.{State}
+use Rattle.disk_model.specs.Moments.{During}
 use Rattle.disk_model.proofs.Moments.{during_now}
 use Rattle.device_layout.specs.Recovery.{Recovers}
+use Rattle.crash_recovery.specs.Journals.{AllRecover}
 use Rattle.crash_recovery.proofs.Done.{done_recovers}
 use Rattle.crash_recovery.proofs.Places.{laid_on, overrun_on}
 use Rattle.crash_recovery.proofs.Turns.{either_kept, either_first, then_same, then_either, then_second}
+use Rattle.crash_recovery.proofs.seat.Seat.checkpoint.Given as given
 use Rattle.crash_recovery.proofs.seat.Seat.checkpoint.Goals as goal
+use Rattle.crash_recovery.proofs.seat.Seat.checkpoint.Goals.{After-log_records}
+
+-- each image recovers what it did before, until the records are written
+logged : (g : given.Over) (c : After-log_records g) (def : TagDef) (s : State)
+    → AllRecover def (g.D.Disk.trace c.args.dev.now) s
+    → During (g.D.Disk.trace c.args.dev.now) (g.D.Disk.trace c.log_records.new.dev) (λ x. Recovers def x s)
+logged g c def s all = then_same _ _ _ def s
+    (c.close_stale.ensures.any_moment def s all (overrun_on c.args.self.now _ c.requires.seated))
+    (λ now. c.log_records.ensures.any_moment def s now)
 
 pub returns-then-has_all_of-clause-any_moment : goal.returns-then-has_all_of-clause-any_moment
 returns-then-has_all_of-clause-any_moment g c = λ small def s all goes. either_kept _ def s _ all
@@ -28,30 +42,22 @@ returns-in_default-clause-any_moment g c = λ small def s all goes.
 
 pub returns-in_err-log_records-clause-any_moment : goal.returns-in_err-log_records-clause-any_moment
 returns-in_err-log_records-clause-any_moment g c = λ small def s all goes.
-    let logged = then_same _ _ _ def s
-    (c.close_stale.ensures.any_moment def s all (overrun_on c.args.self.now _ c.requires.seated))
-    (λ now. c.log_records.ensures.any_moment def s now) in
+    let logged = logged g (goal.at.returns-in_err-log_records-clause-any_moment g c).After-log_records def s all in
     either_first _ _ def s _ logged
 
 pub returns-in_err-log_records-clause-kept : goal.returns-in_err-log_records-clause-kept
 returns-in_err-log_records-clause-kept g c = λ is def s all.
-    let logged = then_same _ _ _ def s
-    (c.close_stale.ensures.any_moment def s all (overrun_on c.args.self.now _ c.requires.seated))
-    (λ now. c.log_records.ensures.any_moment def s now) in
+    let logged = logged g (goal.at.returns-in_err-log_records-clause-kept g c).After-log_records def s all in
     during_now _ _ (λ x. Recovers def x s) logged
 
 pub returns-in_default-put_summary-clause-any_moment : goal.returns-in_default-put_summary-clause-any_moment
 returns-in_default-put_summary-clause-any_moment g c = λ small def s all goes.
-    let logged = then_same _ _ _ def s
-    (c.close_stale.ensures.any_moment def s all (overrun_on c.args.self.now _ c.requires.seated))
-    (λ now. c.log_records.ensures.any_moment def s now) in
+    let logged = logged g (goal.at.returns-in_default-put_summary-clause-any_moment g c).After-log_records def s all in
     then_either _ _ _ def s _ logged (λ now. c.put_summary.ensures.any_moment def s now goes)
 
 pub returns-in_default-close_stale-clause-any_moment : goal.returns-in_default-close_stale-clause-any_moment
 returns-in_default-close_stale-clause-any_moment g c = λ small def s all goes.
-    let logged = then_same _ _ _ def s
-    (c.close_stale.ensures.any_moment def s all (overrun_on c.args.self.now _ c.requires.seated))
-    (λ now. c.log_records.ensures.any_moment def s now) in
+    let logged = logged g (goal.at.returns-in_default-close_stale-clause-any_moment g c).After-log_records def s all in
     let now = during_now _ _ (λ x. Recovers def x s) logged in
     let then = c.close_stale-2.ensures.any_moment def c.args.core.now.state
     (c.in-Ok-put_summary.ensures.durable def s now goes)
@@ -61,9 +67,7 @@ returns-in_default-close_stale-clause-any_moment g c = λ small def s all goes.
 
 pub returns-clause-any_moment : goal.returns-clause-any_moment
 returns-clause-any_moment g c = λ small def s all goes.
-    let logged = then_same _ _ _ def s
-    (c.close_stale.ensures.any_moment def s all (overrun_on c.args.self.now _ c.requires.seated))
-    (λ now. c.log_records.ensures.any_moment def s now) in
+    let logged = logged g (goal.at.returns-clause-any_moment g c).After-log_records def s all in
     let now = during_now _ _ (λ x. Recovers def x s) logged in
     let then = c.close_stale-2.ensures.any_moment def c.args.core.now.state
     (c.in-Ok-put_summary.ensures.durable def s now goes)
@@ -73,9 +77,7 @@ returns-clause-any_moment g c = λ small def s all goes.
 
 pub returns-clause-durable : goal.returns-clause-durable
 returns-clause-durable g c = λ small def s all goes.
-    let logged = then_same _ _ _ def s
-    (c.close_stale.ensures.any_moment def s all (overrun_on c.args.self.now _ c.requires.seated))
-    (λ now. c.log_records.ensures.any_moment def s now) in
+    let logged = logged g (goal.at.returns-clause-durable g c).After-log_records def s all in
     let now = during_now _ _ (λ x. Recovers def x s) logged in
     let then = c.close_stale-2.ensures.any_moment def c.args.core.now.state
     (c.in-Ok-put_summary.ensures.durable def s now goes)

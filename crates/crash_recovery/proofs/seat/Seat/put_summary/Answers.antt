@@ -3,9 +3,17 @@ use Rattle.std.specs.Prelude.{nat_lt}
 use Rattle.archive_file.specs.Summaries.{summary_image}
 use Rattle.device_layout.specs.Recovery.{summary_place, summary_gate}
 use Rattle.crash_recovery.specs.Seats.{LaidOn, OverrunOn}
-use Rattle.crash_recovery.proofs.Checkpoints.{fit_of, none_used, summed_as, summary_moments, summary_durable}
+use Rattle.crash_recovery.proofs.Checkpoints.{IsFit, fit_of, none_used, summed_as, summary_moments, summary_durable}
 use Rattle.crash_recovery.proofs.Checkpoints.{summary_overrun, summary_laid}
+use Rattle.crash_recovery.proofs.seat.Seat.put_summary.Given as given
 use Rattle.crash_recovery.proofs.seat.Seat.put_summary.Goals as goal
+use Rattle.crash_recovery.proofs.seat.Seat.put_summary.Goals.{After-write_guarded}
+
+-- the tuning that is written is the core's, and its parts fit
+fit : (g : given.Over) (c : After-write_guarded g) → IsFit c.tuning-tuning.result c.args.core.now.step c.args.core.now.state
+fit g c =
+    fit_of c.tuning-tuning.result c.args.core.now.step c.args.core.now.state c.summary-summary.result c.summary-summary.ensures.value
+    c.tuning-tuning.ensures.value c.tuning-tuning.ensures.tuned c.summary-summary.ensures.parts c.requires.countable
 
 pub returns-in_default-clause-any_moment : goal.returns-in_default-clause-any_moment
 returns-in_default-clause-any_moment g c = λ def s all goes.
@@ -14,8 +22,7 @@ returns-in_default-clause-any_moment g c = λ def s all goes.
     let u = c.tuning-tuning.result in
     let step = c.args.core.now.step in
     let value = c.summary-summary.ensures.value in
-    let fit = fit_of u step r c.summary-summary.result value c.tuning-tuning.ensures.value
-    c.tuning-tuning.ensures.tuned c.summary-summary.ensures.parts c.requires.countable in
+    let fit = fit g (goal.at.returns-in_default-clause-any_moment g c).After-write_guarded in
     let at = c.place.ensures ∙ ap summary_place c.spare_slot-slot.ensures in
     let gate = c.gate.ensures ∙ ap summary_gate c.spare_slot-slot.ensures in
     let bytes = c.summary_bytes.ensures ∙ ap summary_image value in
@@ -31,8 +38,7 @@ returns g c =
     let u = c.tuning-tuning.result in
     let step = c.args.core.now.step in
     let value = c.summary-summary.ensures.value in
-    let fit = fit_of u step r c.summary-summary.result value c.tuning-tuning.ensures.value
-    c.tuning-tuning.ensures.tuned c.summary-summary.ensures.parts c.requires.countable in
+    let fit = fit g (goal.at.returns g c).After-write_guarded in
     let at = c.place.ensures ∙ ap summary_place c.spare_slot-slot.ensures in
     let gate = c.gate.ensures ∙ ap summary_gate c.spare_slot-slot.ensures in
     let bytes = c.summary_bytes.ensures ∙ ap summary_image value in

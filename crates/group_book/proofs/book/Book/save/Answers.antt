@@ -1,7 +1,8 @@
-use Rattle.std.proofs.Common.{◌≡◌, ℕ, ◌+◌, ◌++◌, ◌∷◌, [], true, Some, Err, length, refl, sym, ap, ◌∙◌, subst, arith}
+use Rattle.std.proofs.Common.{◌≡◌, ℕ, ◌+◌, ◌++◌, ◌∷◌, [], false, true, Some, Err, length, refl, sym, ap, ◌∙◌, subst, arith}
 use Rattle.disk_model.specs.Gates.{IsShut}
 use Rattle.disk_model.specs.Images.{Now}
 use Rattle.disk_model.specs.Moments.{LeftSince}
+use Rattle.sheet_law.specs.Windows.{complete_windows}
 use Rattle.calc_refresh.specs.Lists.{lists_of}
 use Rattle.calc_refresh.specs.Sheet.{grid_of}
 use Rattle.group_layout.specs.Blocks.{block_size, parts_of}
@@ -10,8 +11,59 @@ use Rattle.group_book.specs.Crashes.{IsSafe}
 use Rattle.group_book.specs.Histories.{IsLegal}
 use Rattle.group_book.specs.Saves.{IsSaved, ListsChanges}
 use Rattle.group_book.specs.Told.{IsKept, Saved, Told, trace_of}
-use Rattle.group_book.proofs.Saving.{book_saved, kept_faulted, kept_there, next_block_is, safe_writing}
+use Rattle.group_book.proofs.Saving.{IsNextBlock, book_saved, kept_faulted, kept_there, next_block_is, safe_writing}
+use Rattle.group_book.proofs.book.Book.save.Given as given
 use Rattle.group_book.proofs.book.Book.save.Goals as goal
+use Rattle.group_book.proofs.book.Book.save.Goals.{After-put_block, After-push_reserved}
+
+-- what was saved before
+abbrev saved_of : (g : given.Over) (c : After-put_block g) → Saved
+saved_of g c =
+    let s = c.self.inside in
+    record { number = s.number; versions = s.saved_versions.items; rows = lists_of s.saved_rows.items; end = s.end }
+
+-- the device that is there was kept, and what it may have left is safe
+kept : (g : given.Over) (c : After-put_block g)
+    → let s = c.self.inside in
+    let D = g.D.Disk in
+    IsKept s.text.items s.def s.opening s.tape.items s.sheet.copies (saved_of g c) false (D.trace c.in-Some.dev) (D.ticks c.in-Some.dev)
+    (D.fault_count c.in-Some.dev)
+kept g c =
+    let s = c.self.inside in
+    let D = g.D.Disk in
+    kept_there D.trace D.ticks D.fault_count s.text.items s.def s.opening s.tape.items s.sheet.copies (saved_of g c) s.failed s.dev
+    c.in-Some.dev c.in-Some.is c.if-self.false c.self.invariant.2
+
+safe : (g : given.Over) (c : After-put_block g)
+    → let s = c.self.inside in
+    IsSafe s.text.items s.def.calcs (grid_of s.def.start s.def.period) s.opening s.sheet.copies s.tape.items
+    (LeftSince (g.D.Disk.trace c.in-Some.dev))
+safe g c =
+    let s = c.self.inside in
+    subst (λ d. IsSafe s.text.items s.def.calcs (grid_of s.def.start s.def.period) s.opening s.sheet.copies s.tape.items
+    (LeftSince (trace_of g.D.Disk.trace d))) c.in-Some.is c.self.invariant.3
+
+-- the block is the next one
+next : (g : given.Over) (c : After-put_block g)
+    → let s = c.self.inside in
+    IsNextBlock (saved_of g c) (length s.def.calcs.calcs) s.versions.items
+    (complete_windows (grid_of s.def.start s.def.period) s.sheet.copies) s.sheet.rows (parts_of c.in_ok-block.block)
+next g c =
+    let s = c.self.inside in
+    let was = c.self.invariant in
+    next_block_is s.def s.sheet (saved_of g c) s.versions.items c.deref-2.result.now c.deref-3.result.now (parts_of c.in_ok-block.block)
+    was.0.same_group was.0.same_grid c.in_ok-block.ensures.number c.in_ok-block.ensures.versions c.deref-2.ensures.value
+    c.in_ok-block.ensures.windows (ap lists_of c.deref-3.ensures.value) c.in_ok-block.ensures.rows
+
+-- the tape is longer by the save
+longer : (g : given.Over) (c : After-push_reserved g)
+    → let b = parts_of c.in_ok-block.block in
+    c.push_reserved.new.self.items ≡ c.self.inside.tape.items ++ Save b.number (g.D.Disk.ticks c.put_block.new.dev) ∷ []
+longer g c =
+    let b = parts_of c.in_ok-block.block in
+    c.push_reserved.ensures.items
+    ∙ ap (λ l. l ++ Save b.number c.clock-moment.result ∷ []) c.make_place.ensures.same
+    ∙ ap (λ (m : ℕ). c.self.inside.tape.items ++ Save b.number m ∷ []) c.clock-moment.ensures
 
 pub invariant_of-self-in-Ok : goal.invariant_of-self-in-Ok
 invariant_of-self-in-Ok g c =
@@ -22,19 +74,13 @@ invariant_of-self-in-Ok g c =
     let copies = s.sheet.copies in
     let b = parts_of c.in_ok-block.block in
     let grid = grid_of s.def.start s.def.period in
-    let saved : Saved = record { number = s.number; versions = s.saved_versions.items; rows = lists_of s.saved_rows.items; end = s.end } in
-    let kept = kept_there D.trace D.ticks D.fault_count s.text.items s.def s.opening tape copies saved s.failed s.dev c.in-Some.dev
-    c.in-Some.is c.if-self.false was.2 in
-    let safe : IsSafe s.text.items s.def.calcs grid s.opening copies tape (LeftSince (D.trace c.in-Some.dev))
-    = subst (λ d. IsSafe s.text.items s.def.calcs grid s.opening copies tape (LeftSince (trace_of D.trace d))) c.in-Some.is was.3 in
-    let is = next_block_is s.def s.sheet saved s.versions.items c.deref-2.result.now c.deref-3.result.now b was.0.same_group was.0.same_grid
-    c.in_ok-block.ensures.number c.in_ok-block.ensures.versions c.deref-2.ensures.value c.in_ok-block.ensures.windows
-    (ap lists_of c.deref-3.ensures.value) c.in_ok-block.ensures.rows in
+    let at = (goal.at.invariant_of-self-in-Ok g c).After-put_block in
+    let saved = saved_of g at in
+    let kept = kept g at in
+    let safe = safe g at in
+    let is = next g at in
     let moment : ℕ = D.ticks c.put_block.new.dev in
-    let longer : c.push_reserved.new.self.items ≡ tape ++ Save b.number moment ∷ []
-    = c.push_reserved.ensures.items
-    ∙ ap (λ l. l ++ Save b.number c.clock-moment.result ∷ []) c.make_place.ensures.same
-    ∙ ap (λ (m : ℕ). tape ++ Save b.number m ∷ []) c.clock-moment.ensures in
+    let longer = longer g (goal.at.invariant_of-self-in-Ok g c).After-push_reserved in
     let next : Saved = record {
       number = b.number;
       versions = c.in_ok-versions.versions.items;
@@ -73,10 +119,7 @@ returns-in-Ok-clause-saved g c = λ d there.
     } in
     let same : Some before ≡ Some d = sym c.in-Some.is ∙ ap (λ (t : Told _). t.dev) c.self.view_is ∙ there in
     let device : before ≡ d = cc (same) in
-    let longer : c.push_reserved.new.self.items ≡ s.tape.items ++ Save b.number (D.ticks c.put_block.new.dev) ∷ []
-    = c.push_reserved.ensures.items
-    ∙ ap (λ l. l ++ Save b.number c.clock-moment.result ∷ []) c.make_place.ensures.same
-    ∙ ap (λ (m : ℕ). s.tape.items ++ Save b.number m ∷ []) c.clock-moment.ensures in
+    let longer = longer g (goal.at.returns-in-Ok-clause-saved g c).After-push_reserved in
     let versions_are = c.in_ok-versions.ensures ∙ c.deref.ensures.value ∙ c.self.invariant.1.copied in
     let rows_are = c.in_ok-rows.ensures ∙ c.rows.ensures.rows in
     let end_is : c.in-Ok.end ≡ s.end + block_size b = c.in-Ok.ensures.next in
@@ -126,14 +169,11 @@ invariant_of-self-in-Err-DeviceFault g c =
     let copies = s.sheet.copies in
     let b = parts_of c.in_ok-block.block in
     let grid = grid_of s.def.start s.def.period in
-    let saved : Saved = record { number = s.number; versions = s.saved_versions.items; rows = lists_of s.saved_rows.items; end = s.end } in
-    let kept = kept_there D.trace D.ticks D.fault_count s.text.items s.def s.opening tape copies saved s.failed s.dev c.in-Some.dev
-    c.in-Some.is c.if-self.false was.2 in
-    let safe : IsSafe s.text.items s.def.calcs grid s.opening copies tape (LeftSince (D.trace c.in-Some.dev))
-    = subst (λ d. IsSafe s.text.items s.def.calcs grid s.opening copies tape (LeftSince (trace_of D.trace d))) c.in-Some.is was.3 in
-    let is = next_block_is s.def s.sheet saved s.versions.items c.deref-2.result.now c.deref-3.result.now b was.0.same_group was.0.same_grid
-    c.in_ok-block.ensures.number c.in_ok-block.ensures.versions c.deref-2.ensures.value c.in_ok-block.ensures.windows
-    (ap lists_of c.deref-3.ensures.value) c.in_ok-block.ensures.rows in
+    let at = (goal.at.invariant_of-self-in-Err-DeviceFault g c).After-put_block in
+    let saved = saved_of g at in
+    let kept = kept g at in
+    let safe = safe g at in
+    let is = next g at in
     let new = D.trace c.put_block.new.dev in
     let ticks' : ℕ = D.ticks c.put_block.new.dev in
     let faults' : ℕ = D.fault_count c.put_block.new.dev in

@@ -1,16 +1,14 @@
 use Rattle.std.proofs.Common.{◌<◌, length, get_or, ap, sym, ◌∙◌, subst, arith}
 use Rattle.std.proofs.lemmas.List.{get_or_default}
 use Rattle.late_insert.specs.Moves.{Listed, AreOrdered, leaf_of, no_leaf}
-use Rattle.late_insert.proofs.Listing.{listed_length, listed_read, number_within}
+use Rattle.late_insert.proofs.Listing.{has_number, listed_read, number_read, number_within}
 use Rattle.late_insert.proofs.directory.Directory.leaf.Goals as goal
 
 pub index-requires : goal.index-requires
 index-requires c =
-    let ordered : AreOrdered c.self.inside.leaves.items c.self.inside.order.items c.self.inside.firsts.items =
-    c.self.invariant.0 in
     let within = subst (λ (s : Listed). c.args.k < length s.items) (sym c.self.view_is) c.requires in
-    let all = listed_length _ _ _ ordered in
-    let inside : c.args.k < length c.self.inside.order.items = omega (arith, within, all, ordered.numbers) in
+    let inside = has_number c.self.inside.leaves.items c.self.inside.order.items c.self.inside.firsts.items c.self.invariant.0
+    c.args.k within in
     omega (arith, inside, c.self.inside.order.ok.0)
 
 pub index-requires-2 : goal.index-requires-2
@@ -18,25 +16,23 @@ index-requires-2 c =
     let ordered : AreOrdered c.self.inside.leaves.items c.self.inside.order.items c.self.inside.firsts.items =
     c.self.invariant.0 in
     let within = subst (λ (s : Listed). c.args.k < length s.items) (sym c.self.view_is) c.requires in
-    let all = listed_length _ _ _ ordered in
-    let inside : c.args.k < length c.self.inside.order.items = omega (arith, within, all, ordered.numbers) in
-    let number = c.index.ensures ∙ get_or_default c.self.inside.order.items c.args.k c.index.result.now 0 inside in
-    let there = number_within _ _ _ ordered c.args.k within in
-    omega (arith, there, number, c.self.inside.leaves.ok.0)
+    omega (
+      arith,
+      number_read _ _ _ ordered c.args.k c.index.result.now within c.index.ensures,
+      number_within _ _ _ ordered c.args.k within,
+      c.self.inside.leaves.ok.0,
+    )
 
 pub returns-clause-value : goal.returns-clause-value
 returns-clause-value c = λ d.
     let ordered : AreOrdered c.self.inside.leaves.items c.self.inside.order.items c.self.inside.firsts.items =
     c.self.invariant.0 in
     let within = subst (λ (s : Listed). c.args.k < length s.items) (sym c.self.view_is) c.requires in
-    let all = listed_length _ _ _ ordered in
-    let inside : c.args.k < length c.self.inside.order.items = omega (arith, within, all, ordered.numbers) in
-    let number = c.index.ensures ∙ get_or_default c.self.inside.order.items c.args.k c.index.result.now 0 inside in
-    let there = number_within _ _ _ ordered c.args.k within in
+    let number = number_read _ _ _ ordered c.args.k c.index.result.now within c.index.ensures in
     ap (λ (s : Listed). leaf_of (get_or s.items c.args.k d)) (sym c.self.view_is)
     ∙ (ap leaf_of (listed_read _ _ _ ordered c.args.k 0 d within)
     ∙ (get_or_default c.self.inside.leaves.items (get_or c.self.inside.order.items c.args.k 0) no_leaf
-    c.index-2.result.now there
+    c.index-2.result.now (number_within _ _ _ ordered c.args.k within)
     ∙ (ap (λ i. get_or c.self.inside.leaves.items i c.index-2.result.now) (sym number) ∙ sym c.index-2.ensures)))
 
 pub returns-clause-next : goal.returns-clause-next
@@ -44,6 +40,10 @@ returns-clause-next c =
     let ordered : AreOrdered c.self.inside.leaves.items c.self.inside.order.items c.self.inside.firsts.items =
     c.self.invariant.0 in
     let within = subst (λ (s : Listed). c.args.k < length s.items) (sym c.self.view_is) c.requires in
-    let all = listed_length _ _ _ ordered in
-    let inside : c.args.k < length c.self.inside.order.items = omega (arith, within, all, ordered.numbers) in
-    omega (arith, inside, ordered.numbers, c.self.inside.leaves.ok.0, c.self.inside.leaves.small)
+    omega (
+      arith,
+      has_number _ _ _ ordered c.args.k within,
+      ordered.numbers,
+      c.self.inside.leaves.ok.0,
+      c.self.inside.leaves.small,
+    )

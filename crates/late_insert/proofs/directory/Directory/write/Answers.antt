@@ -5,16 +5,14 @@ use Rattle.std.proofs.lemmas.Int.{to_z-of_z}
 use Rattle.std.proofs.lemmas.List.{get_or_default, get_or-map, length-map}
 use Rattle.late_insert.specs.declared.directory.Leaf.{Leaf}
 use Rattle.late_insert.specs.Moves.{Listed, AreOrdered, no_leaf, picked, placed_pages, rewritten}
-use Rattle.late_insert.proofs.Listing.{even_length, listed_length, number_within, placed_pages-set, picked-set}
+use Rattle.late_insert.proofs.Listing.{even_length, has_number, number_read, number_within, placed_pages-set, picked-set}
 use Rattle.late_insert.proofs.directory.Directory.write.Goals as goal
 
 pub index-requires : goal.index-requires
 index-requires c =
-    let ordered : AreOrdered c.self.inside.leaves.items c.self.inside.order.items c.self.inside.firsts.items =
-    c.self.invariant.0 in
     let within = subst (λ (s : Listed). c.args.k < length s.items) (sym c.self.view_is) c.requires in
-    let all = listed_length _ _ _ ordered in
-    let inside : c.args.k < length c.self.inside.order.items = omega (arith, within, all, ordered.numbers) in
+    let inside = has_number c.self.inside.leaves.items c.self.inside.order.items c.self.inside.firsts.items c.self.invariant.0
+    c.args.k within in
     omega (arith, inside, c.self.inside.order.ok.0)
 
 pub index_mut-leaf-requires : goal.index_mut-leaf-requires
@@ -22,20 +20,20 @@ index_mut-leaf-requires c =
     let ordered : AreOrdered c.self.inside.leaves.items c.self.inside.order.items c.self.inside.firsts.items =
     c.self.invariant.0 in
     let within = subst (λ (s : Listed). c.args.k < length s.items) (sym c.self.view_is) c.requires in
-    let all = listed_length _ _ _ ordered in
-    let inside : c.args.k < length c.self.inside.order.items = omega (arith, within, all, ordered.numbers) in
-    let number = c.index.ensures ∙ get_or_default c.self.inside.order.items c.args.k c.index.result.now 0 inside in
-    let there = number_within _ _ _ ordered c.args.k within in
-    omega (arith, there, number, c.self.inside.leaves.ok.0)
+    omega (
+      arith,
+      number_read _ _ _ ordered c.args.k c.index.result.now within c.index.ensures,
+      number_within _ _ _ ordered c.args.k within,
+      c.self.inside.leaves.ok.0,
+    )
 
 pub returns : goal.returns
 returns c = λ d.
     let ordered : AreOrdered c.self.inside.leaves.items c.self.inside.order.items c.self.inside.firsts.items =
     c.self.invariant.0 in
     let within = subst (λ (s : Listed). c.args.k < length s.items) (sym c.self.view_is) c.requires in
-    let all = listed_length _ _ _ ordered in
-    let inside : c.args.k < length c.self.inside.order.items = omega (arith, within, all, ordered.numbers) in
-    let number = c.index.ensures ∙ get_or_default c.self.inside.order.items c.args.k c.index.result.now 0 inside in
+    let inside = has_number _ _ _ ordered c.args.k within in
+    let number = number_read _ _ _ ordered c.args.k c.index.result.now within c.index.ensures in
     let there = number_within _ _ _ ordered c.args.k within in
     let ls = c.self.inside.leaves.items in
     let is = c.self.inside.order.items in

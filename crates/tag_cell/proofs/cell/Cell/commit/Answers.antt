@@ -12,36 +12,52 @@ use Rattle.tag_cell.proofs.Tapes.{taken-append}
 use Rattle.tag_cell.proofs.Takes.{entry_in_step, entry_has_room}
 use Rattle.tag_cell.proofs.Crashes.{safe_more}
 use Rattle.tag_cell.proofs.Commits.{commit_during, commit_kept, commit_replayed, commit_safe, commit_waits, is_committed, kept_refused, told, with_tape, most_acked, part_is, rest_is, rest_range, waiting, written_some, written_most}
+use Rattle.tag_cell.proofs.cell.Cell.commit.Given as given
 use Rattle.tag_cell.proofs.cell.Cell.commit.Goals as goal
+use Rattle.tag_cell.proofs.cell.Cell.commit.Goals.{After-deref, After-make_places}
+
+-- a value waits
+not_idle : (g : given.Over) (c : After-make_places g) → waits c.args.self.now ≡ 0 → ⊥
+not_idle g c none =
+    let s = c.self.inside in
+    let was = c.self.invariant in
+    let count = waiting s.def s.opening s.tape.items (drop s.next s.tape.items) s.next s.durable s.journal.acked s.core s.content.records
+    was.1 was.3 refl in
+    let shown = ap (λ (t : Told _). waits t) c.self.view_is in
+    omega (arith, count, shown, none, c.if-acked-taken.false, c.acked-acked.ensures, c.taken-taken.ensures)
+
+-- the entries that are handed on are those behind the last commit
+from : (g : given.Over) (c : After-deref g)
+    → take (length c.deref.result.now - c.self.inside.next) (drop c.self.inside.next c.deref.result.now)
+    ≡ drop c.self.inside.next c.self.inside.tape.items
+from g c = rest_is c.deref.result.now c.self.inside.tape.items c.self.inside.next (c.deref.ensures.value ∙ c.make_places.ensures.same)
+
+-- as many values wait as they take
+count : (g : given.Over) (c : After-deref g)
+    → c.self.inside.journal.acked
+    + length (taken (take (length c.deref.result.now - c.self.inside.next) (drop c.self.inside.next c.deref.result.now)))
+    ≡ c.self.inside.core.state.summary.taken
+count g c =
+    let s = c.self.inside in
+    waiting s.def s.opening s.tape.items _ s.next s.durable s.journal.acked s.core s.content.records c.self.invariant.1 c.self.invariant.3
+    (from g c)
 
 pub returns-in_err-make_places-clause-idle : goal.returns-in_err-make_places-clause-idle
 returns-in_err-make_places-clause-idle g c = λ fine none.
-    let s = c.self.inside in
-    let was = c.self.invariant in
-    let count = waiting s.def s.opening s.tape.items (drop s.next s.tape.items) s.next s.durable s.journal.acked s.core s.content.records was.1 was.3 refl in
-    let shown = ap (λ (t : Told _). waits t) c.self.view_is in
-    absurd (omega (arith, count, shown, none, c.if-acked-taken.false, c.acked-acked.ensures, c.taken-taken.ensures))
+    absurd (not_idle g (goal.at.returns-in_err-make_places-clause-idle g c).After-make_places none)
 
 pub write_waiting-requires-clause-some : goal.write_waiting-requires-clause-some
 write_waiting-requires-clause-some g c =
-    let s = c.self.inside in
-    let was = c.self.invariant in
-    let rest : List Entry = take (length c.deref.result.now - s.next) (drop s.next c.deref.result.now) in
-    let from : rest ≡ drop s.next s.tape.items = rest_is c.deref.result.now s.tape.items s.next (c.deref.ensures.value ∙ c.make_places.ensures.same) in
-    let count = waiting s.def s.opening s.tape.items rest s.next s.durable s.journal.acked s.core s.content.records was.1 was.3 from in
-    omega (arith, count, c.if-acked-taken.false, c.acked-acked.ensures, c.taken-taken.ensures)
+    omega (arith, count g (goal.at.write_waiting-requires-clause-some g c).After-deref, c.if-acked-taken.false, c.acked-acked.ensures, c.taken-taken.ensures)
 
 pub write_waiting-requires-clause-number : goal.write_waiting-requires-clause-number
-write_waiting-requires-clause-number g c =
-    let s = c.self.inside in
-    waiting s.def s.opening s.tape.items _ s.next s.durable s.journal.acked s.core s.content.records c.self.invariant.1 c.self.invariant.3
-    (rest_is c.deref.result.now s.tape.items s.next (c.deref.ensures.value ∙ c.make_places.ensures.same))
+write_waiting-requires-clause-number g c = count g (goal.at.write_waiting-requires-clause-number g c).After-deref
 
 pub write_waiting-requires-clause-in_range : goal.write_waiting-requires-clause-in_range
 write_waiting-requires-clause-in_range g c =
     let s = c.self.inside in
     rest_range s.def s.opening s.tape.items _ s.next s.core s.content.records c.self.invariant.1
-    (rest_is c.deref.result.now s.tape.items s.next (c.deref.ensures.value ∙ c.make_places.ensures.same))
+    (from g (goal.at.write_waiting-requires-clause-in_range g c).After-deref)
 
 pub invariant_of-self-in_err-entries : goal.invariant_of-self-in_err-entries
 invariant_of-self-in_err-entries g c =
@@ -53,9 +69,10 @@ invariant_of-self-in_err-entries g c =
     let journal' = c.write_waiting.new.journal in
     let old = g.D.Disk.trace s.journal.dev in
     let new = g.D.Disk.trace journal'.dev in
+    let at = goal.at.invariant_of-self-in_err-entries g c in
     let rest : List Entry = take (length c.deref.result.now - s.next) (drop s.next c.deref.result.now) in
     let same : tape' ≡ tape = c.make_places.ensures.same in
-    let from : rest ≡ drop s.next tape = rest_is c.deref.result.now tape s.next (c.deref.ensures.value ∙ same) in
+    let from = from g at.After-deref in
     let fine : s.journal.failed ≡ false = sym c.failed.ensures ∙ c.if-failed.false in
     let refused = c.in_err-entries.ensures in
     let acked : journal'.acked ≡ s.journal.acked = refused.unmoved in (
@@ -85,20 +102,13 @@ invariant_of-self-in_err-entries g c =
 
 pub returns-in_err-entries-clause-idle : goal.returns-in_err-entries-clause-idle
 returns-in_err-entries-clause-idle g c = λ fine none.
-    let s = c.self.inside in
-    let was = c.self.invariant in
-    let count = waiting s.def s.opening s.tape.items (drop s.next s.tape.items) s.next s.durable s.journal.acked s.core s.content.records was.1 was.3 refl in
-    let shown = ap (λ (t : Told _). waits t) c.self.view_is in
-    absurd (omega (arith, count, shown, none, c.if-acked-taken.false, c.acked-acked.ensures, c.taken-taken.ensures))
+    absurd (not_idle g (goal.at.returns-in_err-entries-clause-idle g c).After-make_places none)
 
 pub overflow_sub-result : goal.overflow_sub-result
 overflow_sub-result g c =
     let s = c.self.inside in
-    let was = c.self.invariant in
-    let tape = s.tape.items in
     let rest : List Entry = take (length c.deref.result.now - s.next) (drop s.next c.deref.result.now) in
-    let from : rest ≡ drop s.next tape = rest_is c.deref.result.now tape s.next (c.deref.ensures.value ∙ c.make_places.ensures.same) in
-    let count = waiting s.def s.opening tape rest s.next s.durable s.journal.acked s.core s.content.records was.1 was.3 from in
+    let count = count g (goal.at.overflow_sub-result g c).After-deref in
     let most = written_most s.journal.free (length (taken rest)) in
     let wrote = c.in_ok-entries.ensures in
     omega (arith, count, most, wrote.acked, wrote.count, c.acked-acked-2.ensures, c.taken-taken.ensures)
@@ -116,9 +126,10 @@ invariant_of-self-2 g c =
     let ticks' : ℕ = g.D.Disk.ticks journal'.dev in
     let n : ℕ = c.in_ok-entries.entries in
     let wrote = c.in_ok-entries.ensures in
+    let at = goal.at.invariant_of-self-2 g c in
     let rest : List Entry = take (length c.deref.result.now - s.next) (drop s.next c.deref.result.now) in
     let same : c.make_places.new.tape.items ≡ tape = c.make_places.ensures.same in
-    let from : rest ≡ drop s.next tape = rest_is c.deref.result.now tape s.next (c.deref.ensures.value ∙ same) in
+    let from = from g at.After-deref in
     let fine : s.journal.failed ≡ false = sym c.failed.ensures ∙ c.if-failed.false in
     let e : Entry = Commit ticks' journal'.acked in
     let longer : tape' ≡ tape ++ e ∷ [] = c.push_reserved.ensures.items
@@ -126,7 +137,7 @@ invariant_of-self-2 g c =
     ∙ (ap (λ (k : ℕ). tape ++ Commit k c.acked-acked-2.result ∷ []) c.clock.ensures
     ∙ ap (λ (k : ℕ). tape ++ Commit ticks' k ∷ []) c.acked-acked-2.ensures)) in
     let none : taken tape' ≡ taken tape = ap taken longer ∙ (taken-append tape (e ∷ []) ∙ append-nil (taken tape)) in
-    let count = waiting s.def o tape rest s.next s.durable s.journal.acked s.core s.content.records was.1 was.3 from in
+    let count = count g at.After-deref in
     let some : 0 < length (taken rest) = omega (arith, count, c.if-acked-taken.false, c.acked-acked.ensures, c.taken-taken.ensures) in
     let least = written_some s.journal.free (length (taken rest)) some in
     let most = written_most s.journal.free (length (taken rest)) in
@@ -160,11 +171,7 @@ invariant_of-self-2 g c =
 
 pub returns-clause-idle : goal.returns-clause-idle
 returns-clause-idle g c = λ fine none.
-    let s = c.self.inside in
-    let was = c.self.invariant in
-    let count = waiting s.def s.opening s.tape.items (drop s.next s.tape.items) s.next s.durable s.journal.acked s.core s.content.records was.1 was.3 refl in
-    let shown = ap (λ (t : Told _). waits t) c.self.view_is in
-    absurd (omega (arith, count, shown, none, c.if-acked-taken.false, c.acked-acked.ensures, c.taken-taken.ensures))
+    absurd (not_idle g (goal.at.returns-clause-idle g c).After-make_places none)
 
 pub returns-clause-committed : goal.returns-clause-committed
 returns-clause-committed g c =
@@ -175,10 +182,11 @@ returns-clause-committed g c =
     let ticks' : ℕ = g.D.Disk.ticks journal'.dev in
     let acked' : ℕ = c.acked-acked-2.result in
     let wrote = c.in_ok-entries.ensures in
+    let at = goal.at.returns-clause-committed g c in
     let rest : List Entry = take (length c.deref.result.now - s.next) (drop s.next c.deref.result.now) in
     let same : c.make_places.new.tape.items ≡ tape = c.make_places.ensures.same in
-    let from : rest ≡ drop s.next tape = rest_is c.deref.result.now tape s.next (c.deref.ensures.value ∙ same) in
-    let count = waiting s.def s.opening tape rest s.next s.durable s.journal.acked s.core s.content.records was.1 was.3 from in
+    let from = from g at.After-deref in
+    let count = count g at.After-deref in
     let longer : c.push_reserved.new.self.items ≡ tape ++ Commit ticks' acked' ∷ [] = c.push_reserved.ensures.items
     ∙ (ap (λ (l : List Entry). l ++ Commit c.clock.result acked' ∷ []) same
     ∙ ap (λ (k : ℕ). tape ++ Commit k acked' ∷ []) c.clock.ensures) in

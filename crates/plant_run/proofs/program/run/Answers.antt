@@ -1,0 +1,11 @@
+use Rattle.std.proofs.Common.{refl}
+use Rattle.plant_run.proofs.program.run.Goals as goal
+
+pub returns-in_true-clause-log : goal.returns-in_true-clause-log
+returns-in_true-clause-log g c base plan is = record {
+  came = c.log-status.result;
+  logged = c.log-status.ensures.log base plan is;
+  status = refl;
+  session = c.session_of.ensures;
+  input = refl;
+}

@@ -1,0 +1,41 @@
+-- Lists whose elements are related place by place.
+use Rattle.std.proofs.Common.{◌≡◌, ℕ, ◌+◌, ◌<◌, inl, inr, List, length, get_or, set, refl, sym, subst, ◌∙◌, arith}
+use Rattle.std.proofs.lemmas.Bool.{cases_eq}
+use Rattle.std.proofs.lemmas.List.{get_or-set_same, get_or-set_other, get_or_default, length-set}
+use Rattle.plant_session.specs.Each.{AreEach}
+
+pub each_refl : {C : Type 0} (R : C → C → Type 0) → ((c : C) → R c c) → (all : List C) → AreEach R all all
+each_refl R same all = record { as_many = refl; each = λ i d. same (get_or all i d) }
+
+pub each_trans : {C : Type 0} (R : C → C → Type 0) → ((a b c : C) → R a b → R b c → R a c) → (a b c : List C)
+    → AreEach R a b → AreEach R b c → AreEach R a c
+each_trans R joined a b c first second = record {
+  as_many = second.as_many ∙ first.as_many;
+  each = λ i d. joined (get_or a i d) (get_or b i d) (get_or c i d) (first.each i d) (second.each i d);
+}
+
+-- one of them went on
+pub each_set : {C : Type 0} (R : C → C → Type 0) → ((a b c : C) → R a b → R b c → R a c) → (first now : List C) (at : ℕ) (c d : C)
+    → at < length now → R (get_or now at d) c → AreEach R first now → AreEach R first (set now at c)
+each_set R joined first now at c d within step before = record {
+  as_many = length-set now at c ∙ before.as_many;
+  each = λ i e. elim (cases_eq i at) [
+    | inl same ↦ subst (λ n. R (get_or first n e) (get_or (set now at c) n e)) (sym same)
+        (subst (λ x. R (get_or first at e) x) (sym (get_or-set_same now at c e within))
+        (joined (get_or first at e) (get_or now at e) c (before.each at e)
+        (subst (λ x. R x c) (get_or_default now at d e within) step)))
+    | inr differ ↦ subst (λ x. R (get_or first i e) x) (sym (get_or-set_other now at i c e differ)) (before.each i e)
+  ];
+}
+
+-- what stands in the same places of two lists is related up to a place, and so it is in that one
+pub paired_next : {C K : Type 0} (R : C → K → Type 0) (xs : List C) (ks : List K) (at : ℕ) (x : C) (k : K) → at < length xs
+    → length ks ≡ length xs → x ≡ get_or xs at x → k ≡ get_or ks at k
+    → ((i : ℕ) (d : C) (e : K) → i < at → R (get_or xs i d) (get_or ks i e)) → R x k
+    → (i : ℕ) (d : C) (e : K) → i < at + 1 → R (get_or xs i d) (get_or ks i e)
+paired_next R xs ks at x k within as_many is copy_is before here i d e below = elim (cases_eq i at) [
+  | inl same ↦ subst (λ n. R (get_or xs n d) (get_or ks n e)) (sym same)
+      (subst (λ y. R y (get_or ks at e)) (is ∙ get_or_default xs at x d within)
+      (subst (R x) (copy_is ∙ get_or_default ks at k e (omega (arith, within, as_many))) here))
+  | inr differ ↦ before i d e (omega (arith, below, differ))
+]
