@@ -1,1 +1,1 @@
-pub mod Lone
+mod Posters

@@ -1,5 +1,5 @@
 use Rattle.std.proofs.Common.{rules}
-use Rattle.test_rig.proofs.Lone.{all_look, lone_is_new, lone_posts}
+use Rattle.test_rig.proofs.Posters.{all_look, lone_is_new, lone_posts}
 use Rattle.test_rig.proofs.lone.lone_board.Goals as goal
 
 pub returns-in-Some-clause-posts : goal.returns-in-Some-clause-posts
