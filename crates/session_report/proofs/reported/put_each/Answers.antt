@@ -6,7 +6,7 @@ use Rattle.session_report.proofs.reported.put_each.Goals as goal
 
 pub loop-place-preserved : goal.loop-place-preserved
 loop-place-preserved g c =
-    let lines : ℕ → g.T.Reported.Def → List ℕ = λ place def. option_map_or (g.T.Reported.lines def) (slice_get c.args.histories.now place) [] in
+    let lines : ℕ → g.row.T-Def.Denot → List ℕ = λ place def. option_map_or (g.T.Reported.lines def) (slice_get c.args.histories.now place) [] in
     text_more lines c.args.defs.now c.loop-place.place c.index-defs-place.result (string_bytes c.args.text.now)
     (string_bytes c.loop-place.text) (string_bytes c.put_one.new.text) c.loop-place-test.true c.index-defs-place.is
     c.loop-place.invariant c.in_ok-put_one.ensures
