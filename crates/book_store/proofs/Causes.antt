@@ -119,8 +119,8 @@ counted U i before now (Shape windows rows) counts = inl (counts.refused (λ is.
 counted U i before now WantOfMemory counts = inl (counts.refused (λ is. absurd (cc (is))))
 
 -- an error is the one that is told
-error_is : {T : Type 0} (why no : LoadNo) → IsErrOf {T = T} (Err why) no → why ≡ no
-error_is why no is = cc (is)
+error_is : {T : Type 0} (why told : LoadNo) → IsErrOf {T = T} (Err why) told → why ≡ told
+error_is why told is = cc (is)
 
 -- the faults of a refusal are counted from the first call on, whatever would have been made
 pub counted_since : {T U : Type 0} (before now after : ℕ) (why : LoadNo) → now ≡ before → before < 2 ^ 64
@@ -131,7 +131,7 @@ counted_since before now after why same small counts =
       later = subst (λ n. n ≤ after) same one.later;
       passed = tt;
       failed = λ is. subst (λ n. Rose n after) same (fails why now after one (error_is why DeviceFault is));
-      refused = λ no. one.refused (λ is. no (ap Err (error_is why DeviceFault is))) ∙ same;
+      refused = λ other. one.refused (λ is. other (ap Err (error_is why DeviceFault is))) ∙ same;
     }
 
 -- and a count stays in its type

@@ -1,13 +1,10 @@
 // Books that are refreshed from cells: their rows, their answers, and how many values they evaluate.
-ghost use Rattle.std.specs.Prelude.{◌≡◌, ◌<◌, IfOk};
-ghost use Rattle.snapshot_table.specs.Boards.{PostsTo};
-ghost use Rattle.snapshot_table.specs.Snaps.{nothing};
+ghost use Rattle.std.specs.Prelude.{◌≡◌, ◌<◌};
 
 use crate::groups::means;
 use calc_refresh::CalcValue;
 use disk_model::MemDisk;
 use group_book::{Book, RefreshNo, Turn, new_book};
-use snapshot_table::{Board, Poster, new_board};
 use std::alloc::Global;
 use std::fmt::Write;
 use std::marker::Brand;
@@ -15,7 +12,8 @@ use std::sync::ledger::{Blank, Ledger};
 use std::sync::{Arc, Mutex, Wait};
 use std::test::Fail;
 use tag_cell::{Cell, Receipt, open_cell};
-use trend_num::{Point, Steps, TagDef, Tuning, WantOfMemory, in_range, name_from, tuning_ok};
+use test_rig::lone_board;
+use trend_num::{Point, Steps, TagDef, Tuning, in_range, name_from, tuning_ok};
 
 // Steps parted by `/`: values that the tag takes, each a time and a value, and whether they are acknowledged. Behind `=>` the rows
 // that a refresh leaves after each step, and, after `e`, how many values were evaluated.
@@ -23,18 +21,6 @@ const ROWS: &str = "\
 0,0 3000,0 4000,9 commit / 1500,60 commit => 0 0 0 / 20 50 20 / e6
 0,0 3000,0 4000,9 wait / 1500,60 commit => / 20 50 20 / e3
 0,0 3000,0 4000,9 commit / 2500,8 commit / 2500,8 commit => 0 0 0 / 2 5 6 / 2 5 6 / e9";
-
-// A board of one tag and its poster, who has posted nothing.
-fn alone(rt: &impl Wait, alloc: Global) -> Result<(Board, Poster), WantOfMemory>
-    ensures posts { IfOk result (λ made. PostsTo made.0 made.1) }
-    ensures unposted { IfOk result (λ made. made.1.last ≡ nothing) }
-{
-    let (board, mut posters, _) = new_board(rt, alloc, 1, 0)?;
-    match posters.pop() {
-        Some(poster) => Ok((board, poster)),
-        None => Err(WantOfMemory),
-    }
-}
 
 /// A cell of a tag that keeps each bend, on a new device.
 pub fn cell_of(rt: &impl Wait, alloc: Global) -> Option<Cell<MemDisk>> {
@@ -52,7 +38,7 @@ pub fn cell_of(rt: &impl Wait, alloc: Global) -> Option<Cell<MemDisk>> {
     if !tuning_ok(&def.tuning) {
         return None;
     }
-    let (board, poster) = alone(rt, alloc).ok()?;
+    let (board, poster, _) = lone_board(rt, alloc, 0).ok()?;
     let board = Arc::new(alloc, board).ok()?;
     let dev = MemDisk::new(Vec::new(alloc), Vec::new(alloc));
     open_cell(rt, alloc, dev, &def, 64, 100, board, poster).ok()

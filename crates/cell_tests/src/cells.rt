@@ -1,18 +1,15 @@
 // Cells on devices in memory: rows by hand, refusals, and a crash after each call.
-ghost use Rattle.std.specs.Prelude.{◌≡◌, IfOk};
-ghost use Rattle.snapshot_table.specs.Boards.{PostsTo};
-ghost use Rattle.snapshot_table.specs.Snaps.{nothing};
 
 use disk_model::{Disk, MemDisk, Pick};
 use interp_read::Reply;
-use snapshot_table::{Board, Poster, new_board};
 use std::alloc::Global;
 use std::sync::{Arc, Mutex, Wait};
 use std::test::Fail;
 use std::thread::{Threads, join};
 use tag_cell::{Acked, Cell, CommitNo, Entry, PullNo, TakeNo, open_cell};
+use test_rig::lone_board;
 use trend_num::{
-    Kind, Measure, Point, Reading, Rec, TagDef, TagQuery, Tuning, WantOfMemory, in_range, name_from,
+    Kind, Measure, Point, Reading, Rec, TagDef, TagQuery, Tuning, in_range, name_from,
 };
 
 // A tag with this CompDev, of steps or of lines, that sends each value which differs from the one sent before.
@@ -31,18 +28,6 @@ pub(crate) fn tag(step: bool, comp_dev: u64) -> Option<TagDef> {
     })
 }
 
-// A board of one tag and its poster, who has posted nothing.
-fn alone(rt: &impl Wait, alloc: Global) -> Result<(Board, Poster), WantOfMemory>
-    ensures posts { IfOk result (λ made. PostsTo made.0 made.1) }
-    ensures unposted { IfOk result (λ made. made.1.last ≡ nothing) }
-{
-    let (board, mut posters, _) = new_board(rt, alloc, 1, 0)?;
-    match posters.pop() {
-        Some(poster) => Ok((board, poster)),
-        None => Err(WantOfMemory),
-    }
-}
-
 // A cell on this device, or the device if it is refused.
 fn opened(
     rt: &impl Wait,
@@ -52,7 +37,7 @@ fn opened(
     slots: u32,
     room: u32,
 ) -> Option<Cell<MemDisk>> {
-    let (board, poster) = alone(rt, alloc).ok()?;
+    let (board, poster, _) = lone_board(rt, alloc, 0).ok()?;
     let board = Arc::new(alloc, board).ok()?;
     if !trend_num::tuning_ok(&def.tuning) || slots < 1 || slots > 64 {
         return None;

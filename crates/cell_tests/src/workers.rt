@@ -1,130 +1,27 @@
 // Sessions of workers over one tag in memory, whose passes hold them at their steps.
-ghost use Rattle.std.specs.Prelude.{◌≡◌, All, IfOk, IfSome, length};
+ghost use Rattle.std.specs.Prelude.{◌≡◌, All, IfSome, length};
 ghost use Rattle.std.specs.Arc.{arc_value};
-ghost use Rattle.snapshot_table.specs.Boards.{LooksAt, PostsTo};
-ghost use Rattle.snapshot_table.specs.Snaps.{nothing};
+ghost use Rattle.snapshot_table.specs.Boards.{LooksAt};
 
 use crate::cells::tag;
 use collector_pool::{
     CellNo, Ending, GroupTurns, Refresh, TakeNote, Told, TurnNo, Work, WorkerNote, run_session,
 };
 use disk_model::MemDisk;
-use plant_status::{OpenPasses, Pass, Passes};
-use snapshot_table::{Board, Looker, Poster, new_board};
+use plant_status::{OpenPasses, Passes};
+use snapshot_table::{Board, Looker};
 use std::alloc::Global;
 use std::sync::atomic::{AtomicU64, Ordering};
 use std::sync::{Arc, Mutex, Wait};
 use std::test::Fail;
-use std::thread::{self, Threads};
+use std::thread::Threads;
 use tag_cell::{Cell, Entry, PullNo, TagHistory, open_cell};
-use trend_num::{CalcValue, Point, Snap, TagQuery, WantOfMemory, in_range, tuning_ok};
+use test_rig::{Gates, PATIENT, Shut, lone_board};
+use trend_num::{CalcValue, Point, Snap, TagQuery, in_range, tuning_ok};
 use value_rows::{Query, RawRow};
 
-// How often a held worker looks whether the others have come before it is stopped, where they come and where they do not.
-const PATIENT: u64 = 50_000_000;
-
+// How often a held worker looks whether the others have come before it is stopped, where they do not come.
 const BRIEF: u64 = 10_000;
-
-// Passes that hold each worker, at each step but its first, until so many workers have asked for their step of that number.
-#[derive(Drop)]
-struct Gates<'a> {
-    asked: &'a AtomicU64,
-    workers: u64,
-    looks: u64,
-    stops: u64,
-}
-
-// No pass may be dropped, so each has to be given back.
-struct Gate<'a> {
-    asked: &'a AtomicU64,
-    workers: u64,
-    looks: u64,
-    stops: u64,
-}
-
-impl<'a> Pass for Gate<'a> {
-    ghost stops = { λ gate. gate.stops };
-
-    fn pass(&mut self, step: u64) -> bool {
-        if step == 0 {
-            return true;
-        }
-        self.asked.fetch_add(1, Ordering::SeqCst);
-        for _ in 0..self.looks {
-            if self.asked.load(Ordering::SeqCst) >= self.workers.saturating_mul(step) {
-                return true;
-            }
-            thread::yield_now();
-        }
-        self.stops = self.stops.saturating_add(1);
-        false
-    }
-}
-
-impl<'a> Passes for Gates<'a> {
-    type One = Gate<'a>;
-
-    ghost stops = { λ gates. gates.stops };
-
-    fn hand(&mut self, _worker: u32) -> Gate<'a> {
-        Gate {
-            asked: self.asked,
-            workers: self.workers,
-            looks: self.looks,
-            stops: 0,
-        }
-    }
-
-    fn give_back(&mut self, one: Gate<'a>) {
-        let Gate {
-            asked: _,
-            workers: _,
-            looks: _,
-            stops,
-        } = one;
-        self.stops = self.stops.saturating_add(stops);
-    }
-}
-
-// Passes that stop worker 0 at its first step.
-#[derive(Drop)]
-struct Shut {
-    stops: u64,
-}
-
-struct ShutPass {
-    shut: bool,
-    stops: u64,
-}
-
-impl Pass for ShutPass {
-    ghost stops = { λ pass. pass.stops };
-
-    fn pass(&mut self, _step: u64) -> bool {
-        if self.shut {
-            self.stops = self.stops.saturating_add(1);
-        }
-        !self.shut
-    }
-}
-
-impl Passes for Shut {
-    type One = ShutPass;
-
-    ghost stops = { λ passes. passes.stops };
-
-    fn hand(&mut self, worker: u32) -> ShutPass {
-        ShutPass {
-            shut: worker == 0,
-            stops: 0,
-        }
-    }
-
-    fn give_back(&mut self, one: ShutPass) {
-        let ShutPass { shut: _, stops } = one;
-        self.stops = self.stops.saturating_add(stops);
-    }
-}
 
 // One group without calculations: a turn pulls from the first tag, and an answer is none.
 #[derive(Drop)]
@@ -169,24 +66,6 @@ impl GroupTurns<MemDisk> for Puller {
     }
 }
 
-// A board of one tag, its poster, and so many lookers.
-fn board_for(
-    rt: &impl Wait,
-    alloc: Global,
-    readers: u32,
-) -> Result<(Board, Poster, Vec<Looker>), WantOfMemory>
-    ensures one { IfOk result (λ made. length made.0 ≡ 1) }
-    ensures posts { IfOk result (λ made. PostsTo made.0 made.1) }
-    ensures unposted { IfOk result (λ made. made.1.last ≡ nothing) }
-    ensures looks { IfOk result (λ made. All (LooksAt made.0) made.2.items) }
-{
-    let (board, mut posters, lookers) = new_board(rt, alloc, 1, readers)?;
-    match posters.pop() {
-        Some(poster) => Ok((board, poster, lookers)),
-        None => Err(WantOfMemory),
-    }
-}
-
 // A board that two share.
 fn twice(alloc: Global, board: Board) -> Option<(Arc<Board, Global>, Arc<Board, Global>)>
     ensures first { IfSome result (λ made. arc_value made.0 ≡ board) }
@@ -215,7 +94,7 @@ fn session_over<P: Passes, R: Threads + Wait + Sync>(
 ) -> Option<Ran> {
     let def = tag(false, 0)?;
     let readers = u32::try_from(work.readers.len()).ok()?;
-    let Ok((board, poster, lookers)) = board_for(rt, alloc, readers) else {
+    let Ok((board, poster, lookers)) = lone_board(rt, alloc, readers) else {
         return None
     };
     let Some((board, shared)) = twice(alloc, board) else {

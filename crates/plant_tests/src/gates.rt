@@ -1,117 +1,10 @@
-// Passes that hold or stop workers, and a device whose sync waits for one of them.
+// Passes that hold a reader, and a device whose sync waits for it.
 ghost use Rattle.std.specs.Prelude.{◌≡◌, ◌+◌, length, Some, IfOk, OnOk, IsErr, refl};
 
 use disk_model::{Disk, Failed, MemDisk, MemStore, Store};
 use plant_run::{Pass, Passes};
 use std::sync::atomic::{AtomicU64, Ordering};
-use std::thread;
-
-/// How often one looks whether another has come before it gives up.
-pub const PATIENT: u64 = 50_000_000;
-
-// Whether a word comes to be so much while one looks.
-fn comes(word: &AtomicU64, least: u64) -> bool {
-    for _ in 0..PATIENT {
-        if word.load(Ordering::SeqCst) >= least {
-            return true;
-        }
-        thread::yield_now();
-    }
-    false
-}
-
-/// Passes that hold each worker, at each step but its first, until so many workers have asked for their step of that number.
-#[derive(Drop)]
-pub struct InTurn<'a> {
-    pub asked: &'a AtomicU64,
-    pub workers: u64,
-    pub stops: u64,
-}
-
-pub struct InTurnPass<'a> {
-    asked: &'a AtomicU64,
-    workers: u64,
-    stops: u64,
-}
-
-impl<'a> Pass for InTurnPass<'a> {
-    ghost stops = { λ pass. pass.stops };
-
-    fn pass(&mut self, step: u64) -> bool {
-        if step == 0 {
-            return true;
-        }
-        self.asked.fetch_add(1, Ordering::SeqCst);
-        let come = comes(self.asked, self.workers.saturating_mul(step));
-        if !come {
-            self.stops = self.stops.saturating_add(1);
-        }
-        come
-    }
-}
-
-impl<'a> Passes for InTurn<'a> {
-    type One = InTurnPass<'a>;
-
-    ghost stops = { λ passes. passes.stops };
-
-    fn hand(&mut self, _worker: u32) -> InTurnPass<'a> {
-        InTurnPass {
-            asked: self.asked,
-            workers: self.workers,
-            stops: 0,
-        }
-    }
-
-    fn give_back(&mut self, one: InTurnPass<'a>) {
-        let InTurnPass {
-            asked: _,
-            workers: _,
-            stops,
-        } = one;
-        self.stops = self.stops.saturating_add(stops);
-    }
-}
-
-/// Passes that stop worker 0 at its first step.
-#[derive(Drop)]
-pub struct Shut {
-    pub stops: u64,
-}
-
-pub struct ShutPass {
-    shut: bool,
-    stops: u64,
-}
-
-impl Pass for ShutPass {
-    ghost stops = { λ pass. pass.stops };
-
-    fn pass(&mut self, _step: u64) -> bool {
-        if self.shut {
-            self.stops = self.stops.saturating_add(1);
-        }
-        !self.shut
-    }
-}
-
-impl Passes for Shut {
-    type One = ShutPass;
-
-    ghost stops = { λ passes. passes.stops };
-
-    fn hand(&mut self, worker: u32) -> ShutPass {
-        ShutPass {
-            shut: worker == 0,
-            stops: 0,
-        }
-    }
-
-    fn give_back(&mut self, one: ShutPass) {
-        let ShutPass { shut: _, stops } = one;
-        self.stops = self.stops.saturating_add(stops);
-    }
-}
+use test_rig::{PATIENT, comes};
 
 /// What a device and the pass of a reader tell each other: how far the device's sync is, and how far the reader.
 #[derive(Drop)]
@@ -146,7 +39,7 @@ impl<'a> Pass for AtSyncPass<'a> {
         if !self.reads {
             return true;
         }
-        if step == 0 && !comes(&self.signs.device, IN_SYNC) {
+        if step == 0 && !comes(&self.signs.device, IN_SYNC, PATIENT) {
             self.stops = self.stops.saturating_add(1);
             return false;
         }
@@ -214,7 +107,7 @@ impl<'a> Disk for GateDisk<'a> {
     fn sync(&mut self) -> Result<(), Failed> {
         if self.signs.device.load(Ordering::SeqCst) == OPENED {
             self.signs.device.store(IN_SYNC, Ordering::SeqCst);
-            if !comes(&self.signs.reader, 1) {
+            if !comes(&self.signs.reader, 1, PATIENT) {
                 self.disk.stop_after(0);
             }
         }

@@ -1,5 +1,5 @@
 // Sessions whose workers are held or stopped at their steps.
-use crate::gates::{AtSync, GateStore, InTurn, Shut, Signs};
+use crate::gates::{AtSync, GateStore, Signs};
 use crate::plants::{text, words};
 use byte_io::{MemFiles, MemSink, MemSource};
 use disk_model::{MemStore, Store};
@@ -11,6 +11,7 @@ use std::sync::atomic::AtomicU64;
 use std::test::Fail;
 use std::thread::Threads;
 use tag_cell::Entry;
+use test_rig::{Gates, PATIENT, Shut};
 
 // Names and texts of files; a bar stands for a line feed.
 const FILES: &str = "\
@@ -79,9 +80,10 @@ fn taken_rows(alloc: Global, ended: &Outcome) -> Result<Vec<u64>, Fail> {
 fn four_held_collectors_take_row_by_row(rt: HostRuntime) -> Result<(), Fail> {
     let alloc = rt.alloc();
     let asked = AtomicU64::new(0);
-    let mut passes = InTurn {
+    let mut passes = Gates {
         asked: &asked,
         workers: 4,
+        looks: PATIENT,
         stops: 0,
     };
     let mut store = MemStore::new(Vec::new(alloc));
