@@ -1,11 +1,10 @@
 -- Books that are opened, refreshed once, and closed.
-use Rattle.std.proofs.Common.{◌≡◌, ◌≢◌, inl, inr, ℕ, ◌+◌, ◌<◌, ◌≤◌, List, [], ◌∷◌, All, length, map, get_or, set, string_bytes, Option, Result, Ok, Err, refl, sym, ap, subst, ◌∙◌, arith}
+use Rattle.std.proofs.Common.{◌≡◌, inl, inr, ℕ, ◌+◌, ◌<◌, ◌≤◌, List, [], ◌∷◌, All, length, map, get_or, set, string_bytes, Option, Result, Ok, Err, refl, sym, ap, subst, ◌∙◌, arith}
 use Rattle.std.specs.Prelude.{IfErr, IfOk, OnOk, String}
 use Rattle.std.specs.Result.{result_and}
 use Rattle.std.specs.declared.alloc.Global.{Global}
 use Rattle.std.proofs.lemmas.Bool.{cases_eq}
 use Rattle.std.proofs.lemmas.List.{get_or-map, get_or-set_other, get_or-set_same, get_or_default, length-map, length-set}
-use Rattle.std.proofs.lemmas.List.Elements.{All-get_or}
 use Rattle.trend_num.specs.declared.archive.Rec.{Rec}
 use Rattle.disk_model.specs.Moments.{During}
 use Rattle.disk_model.specs.Traces.{Trace}
@@ -31,7 +30,7 @@ use Rattle.book_store.proofs.Causes.{back_is, front_of}
 use Rattle.book_store.proofs.Names.{as_many, named_at}
 use Rattle.trend_command.specs.Replies.{Rows, rows_in}
 use Rattle.store_commands.specs.GroupRows.{AreGroupsTold, IsGroupTold, IsRowsRefusal, IsTooMuchAt, OfCells, OfCopies, OfWant}
-use Rattle.store_commands.specs.Refreshing.{AreCutBooks, AreRefreshedOnce, HaveDevicesOf, IsCutBook, IsOverIn, IsOverSome, IsRefreshedOnce, lists_at, refresh_status}
+use Rattle.store_commands.specs.Refreshing.{AreCutBooks, AreRefreshedOnce, HaveDevicesOf, IsOverIn, IsOverSome, IsRefreshedOnce, lists_at, refresh_status}
 
 -- books that were opened have the first records of their tags
 pub cut_books : {D : Type 0} (trace : D → Option Trace) (ticks faults : D → ℕ) (groups : List GroupDef) (records : List (List Rec))
@@ -187,15 +186,15 @@ counts_same (Err why) same = inl same
 
 -- ---- the histories, where all books were refreshed
 
-pub ok_and : {T U E A : Type 0} {P : U → Type 0} (r : Result T E) (x : U) (s : Result U E) → s ≡ result_and r (Ok x) → (A → P x)
+pub ok_and : {T U E A : Type 0} (P : U → Type 0) (r : Result T E) (x : U) (s : Result U E) → s ≡ result_and r (Ok x) → (A → P x)
     → OnOk r A → IfOk s P
-ok_and {P} (Ok t) x s same follows a = subst (λ v. IfOk v P) (sym same) (follows a)
-ok_and {P} (Err e) x s same follows a = subst (λ v. IfOk v P) (sym same) tt
+ok_and P (Ok t) x s same follows a = subst (λ v. IfOk v P) (sym same) (follows a)
+ok_and P (Err e) x s same follows a = subst (λ v. IfOk v P) (sym same) tt
 
-pub err_and : {T U E : Type 0} {P Q : E → Type 0} (r : Result T E) (x : U) (s : Result U E) → s ≡ result_and r (Ok x)
+pub err_and : {T U E : Type 0} (P Q : E → Type 0) (r : Result T E) (x : U) (s : Result U E) → s ≡ result_and r (Ok x)
     → ((e : E) → P e → Q e) → IfErr r P → IfErr s Q
-err_and {Q} (Ok t) x s same follows p = subst (λ v. IfErr v Q) (sym same) tt
-err_and {Q} (Err e) x s same follows p = subst (λ v. IfErr v Q) (sym same) (follows e p)
+err_and P Q (Ok t) x s same follows p = subst (λ v. IfErr v Q) (sym same) tt
+err_and P Q (Err e) x s same follows p = subst (λ v. IfErr v Q) (sym same) (follows e p)
 
 -- ---- a group that comes to too much
 

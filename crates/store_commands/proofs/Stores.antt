@@ -16,7 +16,6 @@ use Rattle.tag_store.specs.Refusals as tags
 use Rattle.tag_store.specs.Tags as tag
 use Rattle.book_store.specs.Groups as group
 use Rattle.book_store.specs.Groups.{Devices, records_of, trace_at}
-use Rattle.book_store.specs.Refusals as groups
 use Rattle.book_store.specs.Refusals.{IsRefusal}
 use Rattle.book_store.proofs.Devices as book
 use Rattle.trend_command.specs.Replies.{Rows}

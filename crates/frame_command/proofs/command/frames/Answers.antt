@@ -146,9 +146,10 @@ returns-in_err-rows-clause-refused g c =
 
 pub returns-in_err-rows-clause-kept : goal.returns-in_err-rows-clause-kept
 returns-in_err-rows-clause-kept g c =
-    inr (stayed_at c.args.name.now c.args.group.now c.args.calc.now _ c.in_ok-base.base c.index.result.now c.in_ok-place.place.group
-    c.in_ok-place.place.calc _ _ _ c.in_ok-base.ensures.base c.in_ok-place.ensures.placed c.index.ensures c.open_base.ensures.same
-    c.open_base.ensures.others c.rows_of.ensures.same c.rows_of.ensures.others)
+    inr (stayed_at c.args.name.now c.args.group.now c.args.calc.now (g.F.Files.told c.args.files.now) c.in_ok-base.base c.index.result.now
+    c.in_ok-place.place.group c.in_ok-place.place.calc (g.S.Store.device_at c.args.store.now) (g.S.Store.device_at c.open_base.new.store)
+    (g.S.Store.device_at c.rows_of.new.store) c.in_ok-base.ensures.base c.in_ok-place.ensures.placed c.index.ensures
+    c.open_base.ensures.same c.open_base.ensures.others c.rows_of.ensures.same c.rows_of.ensures.others)
 
 pub returns-in_err-rows-clause-whose : goal.returns-in_err-rows-clause-whose
 returns-in_err-rows-clause-whose g c =
@@ -207,9 +208,10 @@ returns-in-Ok-tell_frames-clause-text g c =
 
 pub returns-in-Ok-tell_frames-clause-kept : goal.returns-in-Ok-tell_frames-clause-kept
 returns-in-Ok-tell_frames-clause-kept g c =
-    inr (stayed_at c.args.name.now c.args.group.now c.args.calc.now _ c.in_ok-base.base c.index.result.now c.in_ok-place.place.group
-    c.in_ok-place.place.calc _ _ _ c.in_ok-base.ensures.base c.in_ok-place.ensures.placed c.index.ensures c.open_base.ensures.same
-    c.open_base.ensures.others c.rows_of.ensures.same c.rows_of.ensures.others)
+    inr (stayed_at c.args.name.now c.args.group.now c.args.calc.now (g.F.Files.told c.args.files.now) c.in_ok-base.base c.index.result.now
+    c.in_ok-place.place.group c.in_ok-place.place.calc (g.S.Store.device_at c.args.store.now) (g.S.Store.device_at c.open_base.new.store)
+    (g.S.Store.device_at c.rows_of.new.store) c.in_ok-base.ensures.base c.in_ok-place.ensures.placed c.index.ensures
+    c.open_base.ensures.same c.open_base.ensures.others c.rows_of.ensures.same c.rows_of.ensures.others)
 
 pub returns-in-Ok-tell_frames-clause-durable : goal.returns-in-Ok-tell_frames-clause-durable
 returns-in-Ok-tell_frames-clause-durable g c =
@@ -227,6 +229,7 @@ returns-in-Ok-tell_frames-clause-durable g c =
 
 pub returns-clause-kept : goal.returns-clause-kept
 returns-clause-kept g c =
-    inr (stayed_at c.args.name.now c.args.group.now c.args.calc.now _ c.in_ok-base.base c.index.result.now c.in_ok-place.place.group
-    c.in_ok-place.place.calc _ _ _ c.in_ok-base.ensures.base c.in_ok-place.ensures.placed c.index.ensures c.open_base.ensures.same
-    c.open_base.ensures.others c.rows_of.ensures.same c.rows_of.ensures.others)
+    inr (stayed_at c.args.name.now c.args.group.now c.args.calc.now (g.F.Files.told c.args.files.now) c.in_ok-base.base c.index.result.now
+    c.in_ok-place.place.group c.in_ok-place.place.calc (g.S.Store.device_at c.args.store.now) (g.S.Store.device_at c.open_base.new.store)
+    (g.S.Store.device_at c.rows_of.new.store) c.in_ok-base.ensures.base c.in_ok-place.ensures.placed c.index.ensures
+    c.open_base.ensures.same c.open_base.ensures.others c.rows_of.ensures.same c.rows_of.ensures.others)

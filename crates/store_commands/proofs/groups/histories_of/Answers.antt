@@ -9,7 +9,7 @@ use Rattle.tag_base.specs.Groups.{IsSound}
 use Rattle.book_store.specs.Endings.{AreGivenBack}
 use Rattle.book_store.specs.Groups.{AreBooksOpened, AreNamesOf}
 use Rattle.book_store.specs.Refusals.{IsRefusal}
-use Rattle.book_store.specs.Steps.{AreOtherNamesSame, HavePlaces}
+use Rattle.book_store.specs.Steps.{HavePlaces}
 use Rattle.book_store.proofs.Names.{as_many, names_differ}
 use Rattle.book_store.proofs.Turns.{others_same, still}
 use Rattle.store_commands.specs.GroupRows.{OfOpening, tag_records}
@@ -90,7 +90,7 @@ returns-clause-told g c =
     let closed = c.refresh_all-refreshed.new.books.items in
     let lists = ap (map (λ r. r.now)) c.deref-2.ensures.value ∙ c.in-Ok-records_of.ensures.records in
     let lists_then = ap (map (λ r. r.now)) c.deref-3.ensures.value ∙ c.in-Ok-records_of.ensures.records in
-    ok_and c.refresh_all-refreshed.result c.close_books.new.histories c.and.result c.and.ensures (λ once.
+    ok_and _ c.refresh_all-refreshed.result c.close_books.new.histories c.and.result c.and.ensures (λ once.
     all_told D.trace D.ticks D.fault_count groups (tag_records c.args.cores.now) old books closed c.close_books.new.histories.items
     c.in_ok-books.ensures.as_many
     (subst (λ l. AreBooksOpened D.trace D.ticks D.fault_count groups l old books) lists c.in_ok-books.ensures.opened)
@@ -105,7 +105,7 @@ returns-clause-refused g c =
     let books = c.in_ok-books.books.items in
     let lists = ap (map (λ r. r.now)) c.deref-2.ensures.value ∙ c.in-Ok-records_of.ensures.records in
     let lists_then = ap (map (λ r. r.now)) c.deref-3.ensures.value ∙ c.in-Ok-records_of.ensures.records in
-    err_and c.refresh_all-refreshed.result c.close_books.new.histories c.and.result c.and.ensures (λ why over.
+    err_and _ _ c.refresh_all-refreshed.result c.close_books.new.histories c.and.result c.and.ensures (λ why over.
     over_some D.trace D.ticks D.fault_count groups (tag_records c.args.cores.now) old books _ _ why c.in_ok-books.ensures.as_many
     (subst (λ l. AreBooksOpened D.trace D.ticks D.fault_count groups l old books) lists c.in_ok-books.ensures.opened)
     (subst (λ l. IsOverSome groups l why) lists_then over)) c.refresh_all-refreshed.ensures.refused

@@ -1,4 +1,4 @@
-use Rattle.std.proofs.Common.{◌≡◌, ◌<◌, ◌+◌, [], ap, arith, get_or, length, map, subst, sym}
+use Rattle.std.proofs.Common.{◌<◌, ◌+◌, [], ap, arith, get_or, length, map, subst, sym}
 use Rattle.std.proofs.lemmas.List.{get_or-map}
 use Rattle.std.proofs.lemmas.List.Elements.{All-get_or}
 use Rattle.group_session.specs.Refreshing.{IsPullOf}

@@ -1,4 +1,4 @@
-use Rattle.std.proofs.Common.{◌≡◌, ◌<◌, ◌∙◌, ap, arith, get_or, length, map, subst, sym}
+use Rattle.std.proofs.Common.{◌≡◌, ◌<◌, ◌∙◌, ap, arith, length, map, subst, sym}
 use Rattle.std.proofs.lemmas.List.{get_or_default}
 use Rattle.tag_base.specs.declared.definition.GroupDef.{GroupDef}
 use Rattle.store_commands.specs.Refreshing.{IsOverIn, IsRefreshedOnce, lists_at}

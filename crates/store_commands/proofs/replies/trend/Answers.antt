@@ -71,8 +71,8 @@ returns-in_err-cores-clause-kept g c =
 
 pub returns-in_err-groups-clause-kept : goal.returns-in_err-groups-clause-kept
 returns-in_err-groups-clause-kept g c =
-    all_kept c.args.name.now _ c.in_ok-base.base _ _ _ _ c.deref.ensures.value c.in_ok-base.ensures.base c.open_base.ensures.same
-    c.open_base.ensures.others c.histories_of.ensures.same c.histories_of.ensures.others
+    all_kept c.args.name.now (g.F.Files.told c.args.files.now) c.in_ok-base.base _ _ _ _ c.deref.ensures.value c.in_ok-base.ensures.base
+    c.open_base.ensures.same c.open_base.ensures.others c.histories_of.ensures.same c.histories_of.ensures.others
 
 pub returns-in-Ok-clause-text : goal.returns-in-Ok-clause-text
 returns-in-Ok-clause-text g c =
@@ -103,13 +103,13 @@ returns-in-Ok-clause-text g c =
 
 pub returns-in-Ok-clause-kept : goal.returns-in-Ok-clause-kept
 returns-in-Ok-clause-kept g c =
-    all_kept c.args.name.now _ c.in_ok-base.base _ _ _ _ c.deref.ensures.value c.in_ok-base.ensures.base c.open_base.ensures.same
-    c.open_base.ensures.others c.histories_of.ensures.same c.histories_of.ensures.others
+    all_kept c.args.name.now (g.F.Files.told c.args.files.now) c.in_ok-base.base _ _ _ _ c.deref.ensures.value c.in_ok-base.ensures.base
+    c.open_base.ensures.same c.open_base.ensures.others c.histories_of.ensures.same c.histories_of.ensures.others
 
 pub returns-clause-kept : goal.returns-clause-kept
 returns-clause-kept g c =
-    all_kept c.args.name.now _ c.in_ok-base.base _ _ _ _ c.deref.ensures.value c.in_ok-base.ensures.base c.open_base.ensures.same
-    c.open_base.ensures.others c.histories_of.ensures.same c.histories_of.ensures.others
+    all_kept c.args.name.now (g.F.Files.told c.args.files.now) c.in_ok-base.base _ _ _ _ c.deref.ensures.value c.in_ok-base.ensures.base
+    c.open_base.ensures.same c.open_base.ensures.others c.histories_of.ensures.same c.histories_of.ensures.others
 
 pub returns-in-Ok-clause-durable : goal.returns-in-Ok-clause-durable
 returns-in-Ok-clause-durable g c = record {
