@@ -1,1 +1,1 @@
-mod Posters
+pub mod Posters
