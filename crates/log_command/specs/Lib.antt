@@ -1,3 +1,4 @@
+pub mod Plans
 pub mod Texts
 pub mod Openings
 pub mod Known

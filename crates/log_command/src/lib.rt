@@ -14,6 +14,7 @@ mod known;
 mod made;
 mod opening;
 mod plant_text;
+mod reading;
 mod report;
 mod session;
 mod settling;

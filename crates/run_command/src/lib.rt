@@ -26,8 +26,8 @@ mod settling;
 mod steps;
 mod turns;
 mod workers;
-mod works;
 
+pub use boarding::{Boarding, boarding_for};
 pub use given::given_of;
 pub use held::close;
 pub use known::Given;

@@ -1,28 +1,30 @@
 // A session whose workers have ended is brought to its end.
 ghost use Rattle.std.specs.Prelude.{◌≡◌, ◌^◌, ◌<◌, IfErr, OnOk, length};
 ghost use Rattle.calc_refresh.specs.Lists.{lists_of};
+ghost use Rattle.plant_session.specs.Starting.{AreUnfound};
 ghost use Rattle.plant_session.specs.Each.{AreEach};
+ghost use Rattle.group_session.specs.Inputs.{AreInputs};
 ghost use Rattle.group_session.specs.Openings.{AreAsKept as AreGroupsAsKept};
 ghost use Rattle.group_session.specs.Pulls.{ArePulled};
 ghost use Rattle.run_command.specs.Refusals.{IsRefused, IsSettlingRefusal, IsOfOpening, notes_of};
-ghost use Rattle.run_command.specs.Steps.{AreAsKept, AreGivenFor, AreInputsFor, AreReady, IsBookKept, IsCellKept, IsMade};
+ghost use Rattle.run_command.specs.Steps.{AreAsKept, AreGivenFor, AreInputsFor, AreOverAll, IsBookKept, IsCellKept, IsMade};
 
 use crate::known::Given;
 use crate::openings::compare_cells;
 use crate::steps::complete;
-use crate::works::works_of;
 use collector_pool::WorkerNote;
 use disk_model::Disk;
 use group_book::Book;
-use group_session::{KeptGroup, compare_books};
-use plant_session::Kept;
+use group_session::{KeptGroup, compare_books, row_askers_of};
+use plant_session::{Kept, collectors_of, readers_of};
 use plant_status::Status;
 use std::alloc::Global;
 use std::marker::Brand;
 use std::sync::Wait;
-use std::sync::ledger::Blank;
+use std::sync::ledger::{Blank, Ledger};
 use tag_cell::Cell;
-use trend_num::WantOfMemory;
+use tape_audit::Progress;
+use trend_num::{Steps, WantOfMemory};
 
 // Compares the cells and books with what was kept of their openings, and then brings them to what their workers had to do.
 pub(crate) fn settle<D: Disk, R: Wait>(
@@ -70,7 +72,10 @@ fn complete_all<D: Disk, R: Wait>(
     given: &Given,
     notes: &[WorkerNote],
 ) -> Result<(), Status>
-    requires ready { AreReady given.now cells.old books.old }
+    requires few_cells { length cells.old < 2 ^ 32 }
+    requires few_books { length books.old < 2 ^ 32 }
+    requires given { AreGivenFor (length cells.old) (length books.old) given.now }
+    requires inputs { AreInputs (length cells.old) (lists_of given.now.inputs.items) books.old }
     ensures made { OnOk result (IsMade given.now cells.new books.new) }
     ensures pulled { OnOk result (ArePulled (lists_of given.now.inputs.items) cells.new books.new) }
     ensures cells { AreEach IsCellKept cells.old cells.new }
@@ -78,17 +83,62 @@ fn complete_all<D: Disk, R: Wait>(
     ensures refused { IfErr result (IsRefused given.now notes.now cells.new books.new) }
 {
     let (tags, groups) = (cells.len() as u32, books.len() as u32);
-    let Ok(mut works) = works_of(alloc, &given.work, tags, groups) else {
+    let Ok(mut takes) = collectors_of(alloc, &given.work.collectors, given.work.earlier, tags)
+    else {
         return Err(Status::WantOfMemory);
     };
-    complete::<Brand, D, R>(
+    let Ok(mut asks) = readers_of(alloc, &given.work.readers, tags) else {
+        return Err(Status::WantOfMemory);
+    };
+    let Ok(mut row_asks) = row_askers_of(alloc, &given.work.readers, groups) else {
+        return Err(Status::WantOfMemory);
+    };
+    complete_on::<Brand, D, R>(
         rt,
         alloc,
         cells,
         books,
         given,
         notes,
-        &mut works,
+        &mut takes,
+        &mut asks,
+        &mut row_asks,
         Blank::new(1),
+    )
+}
+
+// The same, on the ledger of a blank.
+fn complete_on<L: Ledger, D: Disk, R: Wait>(
+    rt: &R,
+    alloc: Global,
+    cells: &mut [Cell<D>],
+    books: &mut [Book<D>],
+    given: &Given,
+    notes: &[WorkerNote],
+    takes: &mut [Progress<'_>],
+    asks: &mut [Progress<'_>],
+    row_asks: &mut [Progress<'_>],
+    blank: Blank,
+) -> Result<(), Status>
+    requires name { blank.name ≡ L.name }
+    requires parts { blank.parts ≡ L.parts }
+    requires some { 0 < L.parts }
+    requires few_cells { length cells.old < 2 ^ 32 }
+    requires few_books { length books.old < 2 ^ 32 }
+    requires given { AreGivenFor (length cells.old) (length books.old) given.now }
+    requires inputs { AreInputs (length cells.old) (lists_of given.now.inputs.items) books.old }
+    requires over { AreOverAll (length cells.old) (length books.old) given.now takes.old asks.old row_asks.old }
+    requires no_takes { AreUnfound (length cells.old) takes.old }
+    requires no_asks { AreUnfound (length cells.old) asks.old }
+    requires no_row_asks { AreUnfound (length books.old) row_asks.old }
+    ensures made { OnOk result (IsMade given.now cells.new books.new) }
+    ensures pulled { OnOk result (ArePulled (lists_of given.now.inputs.items) cells.new books.new) }
+    ensures cells { AreEach IsCellKept cells.old cells.new }
+    ensures books { AreEach IsBookKept books.old books.new }
+    ensures refused { IfErr result (IsRefused given.now notes.now cells.new books.new) }
+{
+    let mut steps: Steps<L> = Steps::new(blank);
+    complete(
+        rt, alloc, cells, books, given, notes, takes, asks, row_asks, &mut steps,
     )
 }

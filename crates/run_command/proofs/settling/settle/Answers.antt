@@ -17,13 +17,9 @@ pub returns-in-Err-compare_books-clause-known_groups : goal.returns-in-Err-compa
 returns-in-Err-compare_books-clause-known_groups g c =
     λ none. absurd (none (group_is_opening _ _ c.in-Err-compare_books.why c.in-Err-compare_books.ensures.differs))
 
-pub complete_all-requires : goal.complete_all-requires
-complete_all-requires g c = record {
-  few_cells = c.requires.few_cells;
-  few_books = c.requires.few_books;
-  given = c.requires.given;
-  inputs = inputs_of_kept (length c.args.cells.now) _ _ _ c.requires.groups_are c.requires.inputs c.in_default-compare_books.ensures.same;
-}
+pub complete_all-requires-clause-inputs : goal.complete_all-requires-clause-inputs
+complete_all-requires-clause-inputs g c =
+    inputs_of_kept (length c.args.cells.now) _ _ _ c.requires.groups_are c.requires.inputs c.in_default-compare_books.ensures.same
 
 pub returns-in-Ok-clause-known : goal.returns-in-Ok-clause-known
 returns-in-Ok-clause-known g c = λ none. cells_as_kept _ _ _ c.complete_all.ensures.cells c.in_default.ensures.same

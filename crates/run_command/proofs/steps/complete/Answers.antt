@@ -16,12 +16,12 @@ returns-in-Err-make_up-clause-refused g c = OfMaking c.in-Err-make_up.ensures.re
 pub compare_pulls-requires-clause-inputs : goal.compare_pulls-requires-clause-inputs
 compare_pulls-requires-clause-inputs g c =
     inputs_kept (length c.args.cells.now) _ _ _ _ _ c.make_up.ensures.cells.as_many (ap lists_of c.deref.ensures.value)
-    c.make_up.ensures.books c.requires.ready.inputs
+    c.make_up.ensures.books c.requires.inputs
 
 pub compare_pulls-requires-clause-few_turns : goal.compare_pulls-requires-clause-few_turns
 compare_pulls-requires-clause-few_turns g c =
     few_refreshes _ _ _ c.args.given.now (length c.args.cells.now) (length c.args.books.now) c.make_up.ensures.books.as_many
-    c.requires.ready.given c.in_default-make_up.ensures.made.refreshed
+    c.requires.given c.in_default-make_up.ensures.made.refreshed
 
 pub returns-clause-refused : goal.returns-clause-refused
 returns-clause-refused g c = err_weaker c.compare_pulls.result

@@ -24,13 +24,13 @@ use Rattle.run_command.proofs.steps.make_up.Goals as goal
 pub take_missing-requires-clause-values : goal.take_missing-requires-clause-values
 take_missing-requires-clause-values g c =
     subst (λ (l : List (Vec RawRow Global)). All (λ (rows : Vec RawRow Global). All (IsRowOf (length c.args.cells.now)) rows.items) l)
-    (sym c.deref.ensures.value) c.requires.ready.given.work.rows
+    (sym c.deref.ensures.value) c.requires.given.work.rows
 
 pub take_missing-requires-clause-counted : goal.take_missing-requires-clause-counted
 take_missing-requires-clause-counted g c = λ tag below.
     let rooms = c.deref-2.ensures.value in
     ap (λ (l : List ℕ). slice_index l tag) rooms
-    ∙ c.requires.ready.given.rooms tag (subst (λ n. tag < n) (ap length rooms ∙ c.requires.ready.given.rooms_are) below)
+    ∙ c.requires.given.rooms tag (subst (λ n. tag < n) (ap length rooms ∙ c.requires.given.rooms_are) below)
     ∙ ap (λ (l : List (Vec RawRow Global)). rows_of tag (lists_of l)) (sym c.deref.ensures.value)
 
 pub returns-in-Err-clause-cells : goal.returns-in-Err-clause-cells
@@ -39,14 +39,14 @@ returns-in-Err-clause-cells g c = cells_longer IsTaken _ _ c.take_missing.ensure
 pub ask_missing-requires-clause-queries : goal.ask_missing-requires-clause-queries
 ask_missing-requires-clause-queries g c =
     known_asks (length c.args.cells.now) (length c.args.books.now) _ _ _ c.deref-3.ensures.value c.take_missing.ensures.longer.as_many
-    c.requires.ready.given.work.queries
+    c.requires.given.work.queries
 
 pub ask_missing-requires-clause-found : goal.ask_missing-requires-clause-found
 ask_missing-requires-clause-found g c = c.take_missing.ensures.asks _ c.requires.found.readers
 
 pub ask_rows_missing-requires-clause-queries : goal.ask_rows_missing-requires-clause-queries
 ask_rows_missing-requires-clause-queries g c =
-    known_row_asks (length c.args.cells.now) (length c.args.books.now) _ _ c.deref-4.ensures.value c.requires.ready.given.work.queries
+    known_row_asks (length c.args.cells.now) (length c.args.books.now) _ _ c.deref-4.ensures.value c.requires.given.work.queries
 
 pub returns-in_default-2-clause-cells : goal.returns-in_default-2-clause-cells
 returns-in_default-2-clause-cells g c = cells_joined _ _ _ (cells_longer IsTaken _ _ c.take_missing.ensures.longer)
@@ -67,7 +67,7 @@ pub refresh_missing-requires-clause-inputs : goal.refresh_missing-requires-claus
 refresh_missing-requires-clause-inputs g c =
     inputs_kept (length c.args.cells.now) _ _ _ _ _
     (c.commit_all.ensures.longer.as_many ∙ c.ask_missing.ensures.longer.as_many ∙ c.take_missing.ensures.longer.as_many)
-    (ap lists_of c.deref-5.ensures.value) (books_asked _ _ c.ask_rows_missing.ensures.asked) c.requires.ready.inputs
+    (ap lists_of c.deref-5.ensures.value) (books_asked _ _ c.ask_rows_missing.ensures.asked) c.requires.inputs
 
 pub refresh_missing-requires-clause-within : goal.refresh_missing-requires-clause-within
 refresh_missing-requires-clause-within g c =

@@ -1,0 +1,87 @@
+-- Of which file a read fault is told.
+use Rattle.std.proofs.Common.{◌≡◌, ◌∙◌, ◌+◌, ℕ, List, Option, subst, sym}
+use Rattle.std.specs.Prelude.{◌≢◌}
+use Rattle.byte_io.specs.Files.{FileTold, IsFaultOf}
+use Rattle.tag_base.specs.declared.definition.Base.{Base}
+use Rattle.tag_base.specs.declared.definition.GroupDef.{GroupDef}
+use Rattle.tag_base.specs.declared.schedule.Plan.{Plan}
+use Rattle.plant_status.specs.declared.file.FileId.{FileId}
+use Rattle.plant_status.specs.declared.file.FileId.TheVariants as file
+use Rattle.plant_status.specs.declared.status.Status.{Status}
+use Rattle.plant_status.specs.declared.status.Status.TheVariants.{Limit, ReadFault, WantOfMemory}
+use Rattle.trend_num.specs.declared.refusal.What.TheVariants.{Rows}
+use Rattle.plant_files.specs.Collected.{AreRowsTooMany, IsRowsRefusal, most_rows}
+use Rattle.plant_files.specs.Reading.{IsFaultAt}
+use Rattle.plant_files.specs.RowFiles.{ToldFiles}
+use Rattle.plant_files.specs.Texts.{IsBaseFile, IsBaseRefusal, IsPlanFile, IsPlanRefusal}
+use Rattle.log_command.specs.Plans.{IsFaultOfPlanned}
+
+-- want of memory, and more rows than there may be, are no read fault
+memory_is_no_fault : (which : FileId) → ReadFault which ≢ WantOfMemory
+memory_is_no_fault which same = cc
+
+limit_is_no_fault : (n : ℕ) (which : FileId) → Limit Rows n ≢ ReadFault which
+limit_is_no_fault n which same = cc
+
+-- two files are not one
+base_is_no_plan : file.Plan ≢ file.Base
+base_is_no_plan same = cc
+
+base_is_no_collector : (place : ℕ) → file.Collector place ≢ file.Base
+base_is_no_collector place same = cc
+
+plan_is_no_base : file.Base ≢ file.Plan
+plan_is_no_base same = cc
+
+plan_is_no_collector : (place : ℕ) → file.Collector place ≢ file.Plan
+plan_is_no_collector place same = cc
+
+collector_is_no_base : (place : ℕ) → file.Base ≢ file.Collector place
+collector_is_no_base place same = cc
+
+collector_is_no_plan : (place : ℕ) → file.Plan ≢ file.Collector place
+collector_is_no_plan place same = cc
+
+module _ (name plan_name : List ℕ) (told : ToldFiles) (failed : Option (List ℕ)) (why : Status) where
+  -- what is no read fault is told of no file
+  pub of_none : ((which : FileId) → why ≢ ReadFault which) → IsFaultOfPlanned name plan_name told failed why
+  of_none other = record {
+    base = λ same. absurd (other file.Base same);
+    plan = λ same. absurd (other file.Plan same);
+    collector = λ place same. absurd (other (file.Collector place) same);
+  }
+
+  -- too many rows are none
+  pub of_rows : (rows : ℕ) → AreRowsTooMany rows why → IsFaultOfPlanned name plan_name told failed why
+  of_rows rows many = of_none (λ which same. limit_is_no_fault (most_rows + 1) which (sym many.told ∙ same))
+
+  -- the refusal of a base tells of the base
+  pub of_base : (t : FileTold) → IsBaseRefusal t why → ((which : FileId) → why ≡ ReadFault which → IsFaultOf failed name)
+      → IsFaultOfPlanned name plan_name told failed why
+  of_base t refused whose = record {
+    base = λ same. whose file.Base same;
+    plan = λ same. absurd (base_is_no_plan (subst (IsBaseRefusal t) same refused));
+    collector = λ place same. absurd (base_is_no_collector place (subst (IsBaseRefusal t) same refused));
+  }
+
+  -- that of a plan tells of the plan
+  pub of_plan : (groups : List GroupDef) (t : FileTold) → IsPlanRefusal groups t why
+      → ((which : FileId) → why ≡ ReadFault which → IsFaultOf failed plan_name) → IsFaultOfPlanned name plan_name told failed why
+  of_plan groups t refused whose = record {
+    base = λ same. absurd (plan_is_no_base (subst (IsPlanRefusal groups t) same refused));
+    plan = λ same. whose file.Plan same;
+    collector = λ place same. absurd (plan_is_no_collector place (subst (IsPlanRefusal groups t) same refused));
+  }
+
+  -- that of the rows tells of a collector
+  pub of_collector : (base : Base) (plan : Plan) → IsBaseFile (told name) base → IsPlanFile base.groups.items (told plan_name) plan
+      → IsRowsRefusal base told plan.collectors.items why
+      → ((place : ℕ) → why ≡ ReadFault (file.Collector place) → IsFaultAt plan.collectors.items place failed)
+      → IsFaultOfPlanned name plan_name told failed why
+  of_collector base plan read planned refused whose = record {
+    base = λ same. absurd (collector_is_no_base _ (subst (IsRowsRefusal base told plan.collectors.items) same refused
+        (memory_is_no_fault file.Base)).refused);
+    plan = λ same. absurd (collector_is_no_plan _ (subst (IsRowsRefusal base told plan.collectors.items) same refused
+        (memory_is_no_fault file.Plan)).refused);
+    collector = λ place same. (base, plan, read, planned, whose place same);
+  }
