@@ -1,5 +1,5 @@
 -- The first records of inputs, and those behind them.
-use Rattle.std.proofs.Common.{◌≡◌, ℕ, zero, suc, inl, inr, ◌+◌, ◌<◌, ◌≤◌, All, List, [], ◌∷◌, ◌++◌, length, get_or, take, drop, length-drop, length-take, refl, sym, ap, ap₂, subst, ◌∙◌, arith}
+use Rattle.std.proofs.Common.{◌≡◌, ℕ, zero, suc, inl, inr, ◌+◌, ◌<◌, ◌≤◌, All, List, [], ◌∷◌, ◌++◌, length, get_or, take, drop, length-drop, length-take, refl, sym, ap, ap₂, subst, arith}
 use Rattle.std.proofs.lemmas.Bool.{cases_lt}
 use Rattle.std.proofs.lemmas.List.{take-append-drop}
 use Rattle.std.proofs.lemmas.List.Elements.{All-cons, All-drop, All-head, All-nil, All-tail, All-take}
@@ -59,16 +59,12 @@ length-behind (v ∷ vs) [] = refl
 length-behind (v ∷ vs) (rs ∷ rss) = ap suc (length-behind vs rss)
 
 -- together they are the whole
-longer-behind : (vs : List ℕ) (rss : List (List Rec)) → length rss ≡ length vs → longer (cut vs rss) (behind vs rss) ≡ rss
+pub longer-behind : (vs : List ℕ) (rss : List (List Rec)) → length rss ≡ length vs → longer (cut vs rss) (behind vs rss) ≡ rss
 longer-behind [] [] same = refl
 longer-behind [] (rs ∷ rss) same = absurd (omega (arith, same))
 longer-behind (v ∷ vs) [] same = absurd (omega (arith, same))
 longer-behind (v ∷ vs) (rs ∷ rss) same =
     ap₂ (λ x y. x ∷ y) (take-append-drop v rs) (longer-behind vs rss (omega (arith, same)))
-
-pub whole_again : (vs : List ℕ) (rss copies more : List (List Rec)) → length rss ≡ length vs → copies ≡ cut vs rss
-    → more ≡ behind vs rss → longer copies more ≡ rss
-whole_again vs rss copies more same first rest = ap₂ (λ a b. longer a b) first rest ∙ longer-behind vs rss same
 
 -- one version more is not above its records
 pub low_more : (vs : List ℕ) (rss : List (List Rec)) (i : ℕ) → ((k : ℕ) (rs : List Rec) → k < i → get_or vs k 0 ≤ length (get_or rss k rs))

@@ -11,7 +11,6 @@ use Rattle.disk_model.specs.Traces.{Trace}
 use Rattle.sheet_law.specs.declared.grid.Grid.{Grid}
 use Rattle.sheet_law.specs.Scratch.{IsScratch}
 use Rattle.sheet_law.specs.Windows.{complete_windows, window_to}
-use Rattle.calc_refresh.specs.declared.refusal.SheetNo.{SheetNo}
 use Rattle.calc_refresh.specs.declared.refusal.SheetNo.TheVariants as sheet
 use Rattle.calc_refresh.specs.Lists.{total_length}
 use Rattle.calc_refresh.specs.Refreshed.{most_cells, most_copies, shape_fault}
@@ -73,12 +72,6 @@ pub record IsBroughtUp (old new : SheetState) (recovered : List (List Rec)) : Ty
   pub grid : new.grid ≡ old.grid
   pub copies : new.copies ≡ recovered
   pub scratch : IsScratch old.group old.grid old.copies old.rows → IsScratch new.group new.grid new.copies new.rows
-
--- what a group is answered with whose sheet is not brought up
-abbrev pub limit_status : SheetNo → Status
-limit_status (sheet.CellLimit cells) = Limit Cells cells
-limit_status (sheet.CopyLimit records) = Limit Copies records
-limit_status other = WantOfMemory
 
 -- why a sheet with all these records is refused, of so many calculations on this grid
 pub data IsLimitRefusal (grid : Grid) (calcs : ℕ) (recovered : List (List Rec)) (why : Status) : Type 0 where

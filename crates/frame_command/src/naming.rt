@@ -23,7 +23,14 @@ pub(crate) fn place_of(base: &Base, group: &str, calc: &str) -> Result<CalcPlace
     ensures placed { IfOk result (λ place. IsPlaced base.now.groups.items group.now calc.now place.group place.calc) }
     ensures refused { IfErr result (IsNameRefusal base.now.groups.items group.now calc.now) }
 {
-    let groups = base.groups.as_slice();
+    place_in(&base.groups, group, calc)
+}
+
+// The same, of these groups.
+fn place_in(groups: &[GroupDef], group: &str, calc: &str) -> Result<CalcPlace, Status>
+    ensures placed { IfOk result (λ place. IsPlaced groups.now group.now calc.now place.group place.calc) }
+    ensures refused { IfErr result (IsNameRefusal groups.now group.now calc.now) }
+{
     let Some(group) = group_place(groups, group.as_bytes()) else {
         return Err(Status::BadName { word: 3 });
     };

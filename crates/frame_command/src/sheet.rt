@@ -4,7 +4,7 @@ ghost use Rattle.calc_refresh.specs.Lists.{lists_of};
 ghost use Rattle.calc_refresh.specs.Refreshed.{IsRefreshed, IsToldOf, fault_after};
 ghost use Rattle.calc_refresh.specs.Sheet.{IsCopy};
 ghost use Rattle.group_book.specs.Tapes.{cut};
-ghost use Rattle.frame_command.specs.Steps.{AreWithin, IsBroughtUp, IsLimitRefusal, limit_status};
+ghost use Rattle.frame_command.specs.Steps.{AreWithin, IsBroughtUp, IsLimitRefusal};
 
 use crate::inputs::new_records;
 use calc_refresh::{Sheet, SheetNo};
@@ -33,24 +33,15 @@ pub(crate) fn refresh(
     };
     match apply(sheet, &behind) {
         Ok(()) => Ok(()),
-        Err(no) => Err(limit_status(no)),
-    }
-}
-
-// What a group is answered with whose sheet is not brought up.
-fn limit_status(no: SheetNo) -> Status
-    ensures { result ≡ limit_status no }
-{
-    match no {
-        SheetNo::CellLimit { cells } => Status::Limit {
+        Err(SheetNo::CellLimit { cells }) => Err(Status::Limit {
             what: What::Cells,
             number: cells,
-        },
-        SheetNo::CopyLimit { records } => Status::Limit {
+        }),
+        Err(SheetNo::CopyLimit { records }) => Err(Status::Limit {
             what: What::Copies,
             number: records,
-        },
-        _ => Status::WantOfMemory,
+        }),
+        Err(_) => Err(Status::WantOfMemory),
     }
 }
 

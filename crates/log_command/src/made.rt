@@ -1,5 +1,5 @@
 // What the workers of a log left undone is done: rows are put, and acknowledged.
-ghost use Rattle.std.specs.Prelude.{◌≡◌, ◌^◌, ◌<◌, IfErr, OnErr, OnOk, length, slice_index};
+ghost use Rattle.std.specs.Prelude.{◌≡◌, ◌+◌, ◌^◌, ◌<◌, IfErr, OnErr, OnOk, length, slice_index, slice_set};
 ghost use Rattle.trend_num.specs.Ranges.{InRange};
 ghost use Rattle.commit_log.specs.Tapes.{puts};
 ghost use Rattle.commit_log.specs.Told.{waits};
@@ -69,12 +69,36 @@ fn put_file<D: Disk>(
     ensures refused { IfErr result (IsPutRefusal D.fault_count (total_rows (lists_of files.now)) log.new) }
 {
     for place in next[collector]..files[collector].len() {
-        let Some(row) = row_at(&files[collector], collector as u32, place) else {
-            unreachable!()
-        };
-        put_row(log, row, total)?;
-        next[collector] += 1;
+        put_next(log, files, next, collector, total)?;
     }
+    Ok(())
+}
+
+// Puts the next row of a collector. So many rows are to be put in all.
+fn put_next<D: Disk>(
+    log: &mut Log<D>,
+    files: &[Vec<RawRow>],
+    next: &mut [usize],
+    collector: usize,
+    total: u64,
+) -> Result<(), Status>
+    requires few { length files.now < 2 ^ 32 }
+    requires rows { AreRowsFor log.old.tags (lists_of files.now) }
+    requires total { total ≡ total_rows (lists_of files.now) }
+    requires found { AreFound (lists_of files.now) log.old.tape next.old }
+    requires known { collector < length files.now }
+    requires lacks { slice_index next.old collector < length (rows_in (lists_of files.now) collector) }
+    ensures found { OnOk result (AreFound (lists_of files.now) log.new.tape next.new) }
+    ensures advanced { OnOk result (next.new ≡ slice_set next.old collector (slice_index next.old collector + 1)) }
+    ensures unchanged { OnErr result (next.new ≡ next.old) }
+    ensures same { IsSameLog log.old log.new }
+    ensures refused { IfErr result (IsPutRefusal D.fault_count (total_rows (lists_of files.now)) log.new) }
+{
+    let Some(row) = row_at(&files[collector], collector as u32, next[collector]) else {
+        unreachable!()
+    };
+    put_row(log, row, total)?;
+    next[collector] += 1;
     Ok(())
 }
 

@@ -1,5 +1,5 @@
 -- Refusals of the commands are told as they are, and so is want of memory for the words.
-use Rattle.std.proofs.Common.{◌≡◌, inl, inr, ℕ, ◌^◌, ◌<◌, Bool, true, false, List, ◌≢◌, Option, ap, refl, subst, sym}
+use Rattle.std.proofs.Common.{◌≡◌, inl, inr, ℕ, ◌^◌, ◌<◌, List, ◌≢◌, Option, ap, refl, subst, sym}
 use Rattle.byte_io.specs.Outside.{CountsNoFault, Outside}
 use Rattle.disk_model.specs.Traces.{Trace}
 use Rattle.plant_files.specs.Asked.{ToldFiles}
@@ -12,7 +12,6 @@ use Rattle.book_store.specs.Refusals as group
 use Rattle.store_commands.specs.GroupRows.{IsRowsRefusal, OfCells, OfCopies, OfOpening, OfWant}
 use Rattle.plant_status.specs.declared.unit.Unit.{Unit}
 use Rattle.plant_status.specs.declared.unit.Unit.TheVariants.{Tag, Group, Log}
-use Rattle.plant_status.specs.declared.status.Status.{Status}
 use Rattle.plant_status.specs.declared.status.Status.TheVariants.{Done, WriteFault, DeviceFault, WantOfMemory}
 use Rattle.frame_command.specs.Commands as frame
 use Rattle.frame_command.specs.Names as frame_names
@@ -24,34 +23,26 @@ use Rattle.plant_run.specs.Sessions.{ComesOf, IsUnrun}
 
 -- ---- a refusal is not Done, and no fault of the output
 
--- such a status
-abbrev is_refusal : Status → Bool
-is_refusal Done = false
-is_refusal WriteFault = false
-is_refusal other = true
-
-pub not_done : {P : Status → Type 0} → ((s : Status) → P s → is_refusal s ≡ true) → P Done → ⊥
-not_done refused p = let no : false ≡ true = refused Done p in cc no
-
-pub no_output : {P : Status → Type 0} → ((s : Status) → P s → is_refusal s ≡ true) → P WriteFault → ⊥
-no_output refused p = let no : false ≡ true = refused WriteFault p in cc no
-
--- what is so of neither is so of a refusal
-of_neither : {P : Status → Type 0} (s : Status) → P s → (P Done → ⊥) → (P WriteFault → ⊥) → is_refusal s ≡ true
-of_neither Done p done fault = absurd (done p)
-of_neither WriteFault p done fault = absurd (fault p)
-of_neither other p done fault = refl
-
 module _ (groups : List GroupDef) (records : List (List Rec)) (old : Devices) (before now : ℕ) where
-  rows_refused : (s : Status) → IsRowsRefusal groups records old before now s → is_refusal s ≡ true
-  rows_refused s (OfOpening (group.OfFault i is at)) = ap is_refusal is
-  rows_refused s (OfOpening (group.OfDamage i a byte is at)) = ap is_refusal is
-  rows_refused s (OfOpening (group.OfVersion i input found version is at)) = ap is_refusal is
-  rows_refused s (OfOpening (group.OfWindows i windows rows is at)) = ap is_refusal is
-  rows_refused s (OfOpening (group.OfMemory is)) = ap is_refusal is
-  rows_refused s (OfCells i number is at) = ap is_refusal is
-  rows_refused s (OfCopies i number is at) = ap is_refusal is
-  rows_refused s (OfWant is) = ap is_refusal is
+  rows_not_done : IsRowsRefusal groups records old before now Done → ⊥
+  rows_not_done (OfOpening (group.OfFault i is at)) = cc
+  rows_not_done (OfOpening (group.OfDamage i a byte is at)) = cc
+  rows_not_done (OfOpening (group.OfVersion i input found version is at)) = cc
+  rows_not_done (OfOpening (group.OfWindows i windows rows is at)) = cc
+  rows_not_done (OfOpening (group.OfMemory is)) = cc
+  rows_not_done (OfCells i number is at) = cc
+  rows_not_done (OfCopies i number is at) = cc
+  rows_not_done (OfWant is) = cc
+
+  rows_no_output : IsRowsRefusal groups records old before now WriteFault → ⊥
+  rows_no_output (OfOpening (group.OfFault i is at)) = cc
+  rows_no_output (OfOpening (group.OfDamage i a byte is at)) = cc
+  rows_no_output (OfOpening (group.OfVersion i input found version is at)) = cc
+  rows_no_output (OfOpening (group.OfWindows i windows rows is at)) = cc
+  rows_no_output (OfOpening (group.OfMemory is)) = cc
+  rows_no_output (OfCells i number is at) = cc
+  rows_no_output (OfCopies i number is at) = cc
+  rows_no_output (OfWant is) = cc
 
   rows_rose : before < 2 ^ 64 → (unit : Unit) → IsRowsRefusal groups records old before now (DeviceFault unit) → Rose before now
   rows_rose few unit (OfOpening (group.OfFault i is at)) = at.cause few
@@ -64,10 +55,15 @@ module _ (groups : List GroupDef) (records : List (List Rec)) (old : Devices) (b
   rows_rose few unit (OfWant is) = cc
 
 module _ (name plan_name : List ℕ) (told : ToldFiles) (old new : Devices) (before now : ℕ) where
-  pub check_refused : (s : Status) → IsCheckRefusal name told old new before now s → is_refusal s ≡ true
-  check_refused s (inl base) = of_neither s base.0 (λ p. p) (λ p. p)
-  check_refused s (inr (inl tags)) = of_neither s tags.2 (λ p. p) (λ p. p)
-  check_refused s (inr (inr memory)) = ap is_refusal memory
+  pub check_not_done : IsCheckRefusal name told old new before now Done → ⊥
+  check_not_done (inl base) = base.0
+  check_not_done (inr (inl tags)) = tags.2
+  check_not_done (inr (inr memory)) = cc
+
+  pub check_no_fault : IsCheckRefusal name told old new before now WriteFault → ⊥
+  check_no_fault (inl base) = base.0
+  check_no_fault (inr (inl tags)) = tags.2
+  check_no_fault (inr (inr memory)) = cc
 
   done_is_not_memory : Done ≢ WantOfMemory
   done_is_not_memory same = cc
@@ -78,14 +74,21 @@ module _ (name plan_name : List ℕ) (told : ToldFiles) (old new : Devices) (bef
   device_is_not_memory : (unit : Unit) → DeviceFault unit ≢ WantOfMemory
   device_is_not_memory unit same = cc
 
-  pub trend_refused : (s : Status) → IsTrendRefusal name plan_name told old new before now s → is_refusal s ≡ true
-  trend_refused s (OfBase refused same) = of_neither s refused (λ p. p) (λ p. p)
-  trend_refused s (OfPlan base read refused same) = of_neither s refused (λ p. p) (λ p. p)
-  trend_refused s (OfReader base plan read planned refused same) =
-      of_neither s refused (λ p. (p done_is_not_memory).first.refused) (λ p. (p fault_is_not_memory).first.refused)
-  trend_refused s (OfTag base plan lists read planned asked refused) = of_neither s refused (λ p. p) (λ p. p)
-  trend_refused s (OfGroup base plan lists cores opened planned asked refused) = rows_refused base.groups.items _ _ _ _ s refused
-  trend_refused s (OfMemory same) = ap is_refusal same
+  pub trend_not_done : IsTrendRefusal name plan_name told old new before now Done → ⊥
+  trend_not_done (OfBase refused same) = refused
+  trend_not_done (OfPlan base read refused same) = refused
+  trend_not_done (OfReader base plan read planned refused same) = (refused done_is_not_memory).first.refused
+  trend_not_done (OfTag base plan lists read planned asked refused) = refused
+  trend_not_done (OfGroup base plan lists cores opened planned asked refused) = rows_not_done base.groups.items _ _ _ _ refused
+  trend_not_done (OfMemory same) = cc
+
+  pub trend_no_fault : IsTrendRefusal name plan_name told old new before now WriteFault → ⊥
+  trend_no_fault (OfBase refused same) = refused
+  trend_no_fault (OfPlan base read refused same) = refused
+  trend_no_fault (OfReader base plan read planned refused same) = (refused fault_is_not_memory).first.refused
+  trend_no_fault (OfTag base plan lists read planned asked refused) = refused
+  trend_no_fault (OfGroup base plan lists cores opened planned asked refused) = rows_no_output base.groups.items _ _ _ _ refused
+  trend_no_fault (OfMemory same) = cc
 
   -- a device fault is told where one was counted
   pub check_rose : before < 2 ^ 64 → (unit : Unit) → IsCheckRefusal name told old new before now (DeviceFault unit) → Rose before now
@@ -108,19 +111,33 @@ module _ (name plan_name : List ℕ) (told : ToldFiles) (old new : Devices) (bef
   trend_rose few unit (OfMemory same) = cc
 
 module _ (name group calc : List ℕ) (told : ToldFiles) (old new : Devices) (before now : ℕ) where
-  pub frames_refused : (s : Status) → frame.IsFramesRefusal name group calc told old new before now s → is_refusal s ≡ true
-  frames_refused s (frame.OfBase refused same) = of_neither s refused (λ p. p) (λ p. p)
-  frames_refused s (frame.OfName base read (frame_names.NoGroup is none) same) = ap is_refusal is
-  frames_refused s (frame.OfName base read (frame_names.NoCalculation g is there named none) same) = ap is_refusal is
-  frames_refused s (frame.OfTag base g i k read named refused) = of_neither s refused (λ p. p) (λ p. p)
-  frames_refused s (frame.OfGroup base g i k cores opened named (frame_rows.OfFault is cause)) = ap is_refusal is
-  frames_refused s (frame.OfGroup base g i k cores opened named (frame_rows.OfDamage at byte is shows)) = ap is_refusal is
-  frames_refused s (frame.OfGroup base g i k cores opened named (frame_rows.OfVersion input found version is shows)) = ap is_refusal is
-  frames_refused s (frame.OfGroup base g i k cores opened named (frame_rows.OfWindows windows rows is shows)) = ap is_refusal is
-  frames_refused s (frame.OfGroup base g i k cores opened named (frame_rows.OfCells number is many above)) = ap is_refusal is
-  frames_refused s (frame.OfGroup base g i k cores opened named (frame_rows.OfCopies number is many above)) = ap is_refusal is
-  frames_refused s (frame.OfGroup base g i k cores opened named (frame_rows.OfMemory is)) = ap is_refusal is
-  frames_refused s (frame.OfMemory is) = ap is_refusal is
+  pub frames_not_done : frame.IsFramesRefusal name group calc told old new before now Done → ⊥
+  frames_not_done (frame.OfBase refused same) = refused
+  frames_not_done (frame.OfName base read (frame_names.NoGroup is none) same) = cc
+  frames_not_done (frame.OfName base read (frame_names.NoCalculation g is there named none) same) = cc
+  frames_not_done (frame.OfTag base g i k read named refused) = refused
+  frames_not_done (frame.OfGroup base g i k cores opened named (frame_rows.OfFault is cause)) = cc
+  frames_not_done (frame.OfGroup base g i k cores opened named (frame_rows.OfDamage at byte is shows)) = cc
+  frames_not_done (frame.OfGroup base g i k cores opened named (frame_rows.OfVersion input found version is shows)) = cc
+  frames_not_done (frame.OfGroup base g i k cores opened named (frame_rows.OfWindows windows rows is shows)) = cc
+  frames_not_done (frame.OfGroup base g i k cores opened named (frame_rows.OfCells number is many above)) = cc
+  frames_not_done (frame.OfGroup base g i k cores opened named (frame_rows.OfCopies number is many above)) = cc
+  frames_not_done (frame.OfGroup base g i k cores opened named (frame_rows.OfMemory is)) = cc
+  frames_not_done (frame.OfMemory is) = cc
+
+  pub frames_no_fault : frame.IsFramesRefusal name group calc told old new before now WriteFault → ⊥
+  frames_no_fault (frame.OfBase refused same) = refused
+  frames_no_fault (frame.OfName base read (frame_names.NoGroup is none) same) = cc
+  frames_no_fault (frame.OfName base read (frame_names.NoCalculation g is there named none) same) = cc
+  frames_no_fault (frame.OfTag base g i k read named refused) = refused
+  frames_no_fault (frame.OfGroup base g i k cores opened named (frame_rows.OfFault is cause)) = cc
+  frames_no_fault (frame.OfGroup base g i k cores opened named (frame_rows.OfDamage at byte is shows)) = cc
+  frames_no_fault (frame.OfGroup base g i k cores opened named (frame_rows.OfVersion input found version is shows)) = cc
+  frames_no_fault (frame.OfGroup base g i k cores opened named (frame_rows.OfWindows windows rows is shows)) = cc
+  frames_no_fault (frame.OfGroup base g i k cores opened named (frame_rows.OfCells number is many above)) = cc
+  frames_no_fault (frame.OfGroup base g i k cores opened named (frame_rows.OfCopies number is many above)) = cc
+  frames_no_fault (frame.OfGroup base g i k cores opened named (frame_rows.OfMemory is)) = cc
+  frames_no_fault (frame.OfMemory is) = cc
 
   pub frames_rose : before < 2 ^ 64 → (unit : Unit) → frame.IsFramesRefusal name group calc told old new before now (DeviceFault unit) → Rose before now
   frames_rose few unit (frame.OfBase refused same) = absurd refused

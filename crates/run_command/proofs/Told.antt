@@ -27,14 +27,14 @@ some_weaker (Some x) follows p = follows x p
 
 module _ (base : Base) (g : Given) (s : Session) where
   -- a refused opening is told as one
-  opening_told : (came : Result (Unit {0}) Status) (told : Result (String Global) Status) → IsTold base g s came told
+  pub opening_told : (came : Result (Unit {0}) Status) (told : Result (String Global) Status) → IsTold base g s came told
       → IsOfOpening came → IsOfOpening told
   opening_told (Ok x) told is of = absurd of
   opening_told (Err why) told is of = subst (λ (r : Result (String Global) Status). IsOfOpening r) (sym is.refused) of
 
   module _ {D : Type 0} (cells : List (Cell D)) (books : List (Book D)) where
     -- a text is told of a session that is done
-    done_told : (came : Result (Unit {0}) Status) (told : Result (String Global) Status) → IsTold base g s came told
+    pub done_told : (came : Result (Unit {0}) Status) (told : Result (String Global) Status) → IsTold base g s came told
         → OnOk came (IsMade g cells books) → OnOk came (ArePulled (lists_of g.inputs.items) cells books)
         → IfOk told (λ text. IsDone base g cells books s (string_bytes text))
     done_told (Ok x) (Ok text) is made pulled = record { made = made; pulled = pulled; same = is.text }
@@ -55,14 +55,14 @@ module _ (base : Base) (g : Given) (s : Session) where
           subst (IsUndone g opened opened_books cells books notes) (sym same) undone
 
 -- where an opening counted no fault, those counted since are all that were counted since before it
-counted_since : {D : Type 0} (faults : D → ℕ) (cells : List (Cell D)) (books : List (Book D)) (before opened now : ℕ)
+pub counted_since : {D : Type 0} (faults : D → ℕ) (cells : List (Cell D)) (books : List (Book D)) (before opened now : ℕ)
     → (before < 2 ^ 64 → opened ≡ before) → (opened < 2 ^ 64 → CountsClosed faults cells books opened now) → before < 2 ^ 64
     → CountsClosed faults cells books before now
 counted_since faults cells books before opened now same counts few =
     subst (λ n. CountsClosed faults cells books n now) (same few) (counts (subst (λ n. n < 2 ^ 64) (sym (same few)) few))
 
 -- what is told of a session that ended so, whose devices were opened and are given back
-pub held_told : {D : Type 0} (trace : D → Option Trace) (ticks faults : D → ℕ) (base : Base) (g : Given) (old new : Devices)
+abbrev pub held_told : {D : Type 0} (trace : D → Option Trace) (ticks faults : D → ℕ) (base : Base) (g : Given) (old new : Devices)
     (before opening now : ℕ) (opened : List (Cell D)) (opened_books : List (Book D)) (e : Ended D) (told : Result (String Global) Status)
     (s : Session) → IsOpen trace ticks faults base old opened opened_books
     → IsOver trace ticks faults base old new e.cells.items e.books.items s → (before < 2 ^ 64 → opening ≡ before)

@@ -6,13 +6,13 @@ use Rattle.plant_status.specs.declared.mismatch.Seen.{Seen}
 use Rattle.plant_status.specs.declared.status.Status.{Status}
 use Rattle.plant_status.specs.declared.status.Status.TheVariants.{Mismatch}
 use Rattle.tape_audit.specs.Agendas.{ask_item, phase_item, row_item}
+use Rattle.tape_audit.specs.Found.{Reached}
 use Rattle.tape_audit.specs.Tapes.{ask_of, take_of}
 use Rattle.tag_cell.specs.Told.{Told as Cell, waits}
 use Rattle.plant_session.specs.declared.comparing.Kept.{Kept}
 use Rattle.plant_session.specs.Cells.{AreAllFound, AreAllShown}
 use Rattle.plant_session.specs.Openings.{IsOpeningDifference}
 use Rattle.plant_session.specs.Refusals.{rows_of}
-use Rattle.plant_session.specs.Starting.{AreUnfound}
 use Rattle.plant_session.specs.Workers.{AreOver, AreTapesFound, AreTapesWhole}
 use Rattle.group_book.specs.Told.{Told as Book}
 use Rattle.group_session.specs.declared.comparing.KeptGroup.{KeptGroup}
@@ -23,11 +23,9 @@ use Rattle.group_session.specs.Tapes.{row_ask_of}
 use Rattle.group_session.specs.Turns.{IsWithinTurns, turns_for}
 use Rattle.calc_refresh.specs.Lists.{lists_of}
 use Rattle.collector_pool.specs.declared.work.Refresh.{Refresh}
-use Rattle.collector_pool.specs.declared.work.Work.{Work}
 use Rattle.collector_pool.specs.Work.{IsWorkOf}
 use Rattle.tag_base.specs.declared.schedule.Refresher.{Refresher}
 use Rattle.run_command.specs.declared.known.Given.{Given}
-use Rattle.run_command.specs.declared.works.Works.{Works}
 
 -- ---- openings
 
@@ -76,22 +74,17 @@ pub record AreReady {D : Type 0} (g : Given) (cells : List (Cell D)) (books : Li
   pub inputs : AreInputs (length cells) (lists_of g.inputs.items) books
 
 -- the progress of workers is over their rows: of collectors, of readers at tags, and of readers at groups
-pub record AreOverAll (tags groups : ℕ) (work : Work) (w : Works) : Type 0 where
-  pub collectors : AreOver (phase_item work.earlier) tags (lists_of work.collectors.items) w.takes.items
-  pub readers : AreOver ask_item tags (lists_of work.readers.items) w.asks.items
-  pub row_readers : AreOver row_item groups (lists_of work.readers.items) w.row_asks.items
-
--- none of these rows is found yet
-pub record AreNoneFound (tags groups : ℕ) (w : Works) : Type 0 where
-  pub collectors : AreUnfound tags w.takes.items
-  pub readers : AreUnfound tags w.asks.items
-  pub row_readers : AreUnfound groups w.row_asks.items
+pub record AreOverAll (tags groups : ℕ) (g : Given) (takes asks row_asks : List Reached) : Type 0 where
+  pub collectors : AreOver (phase_item g.work.earlier) tags (lists_of g.work.collectors.items) takes
+  pub readers : AreOver ask_item tags (lists_of g.work.readers.items) asks
+  pub row_readers : AreOver row_item groups (lists_of g.work.readers.items) row_asks
 
 -- how far each stands is known of each tape, and no group was refreshed more often than it has turns
-pub record AreFoundAll {D : Type 0} (g : Given) (cells : List (Cell D)) (books : List (Book D)) (w : Works) : Type 0 where
-  pub collectors : AreAllFound take_of cells w.takes.items
-  pub readers : AreAllFound ask_of cells w.asks.items
-  pub row_readers : AreTapesFound tape_of row_ask_of books w.row_asks.items
+pub record AreFoundAll {D : Type 0} (g : Given) (cells : List (Cell D)) (books : List (Book D)) (takes asks row_asks : List Reached)
+    : Type 0 where
+  pub collectors : AreAllFound take_of cells takes
+  pub readers : AreAllFound ask_of cells asks
+  pub row_readers : AreTapesFound tape_of row_ask_of books row_asks
   pub turns : IsWithinTurns g.turns.items books
 
 -- Each tape shows of each worker all its rows that are due there, and of no other worker any; all takes are acknowledged; each

@@ -12,12 +12,18 @@ pub(crate) fn check_endings(notes: &[WorkerNote]) -> Result<(), Status>
     ensures all_found { OnOk result (All (λ n. n.ending ≢ NoMemory) notes.now) }
     ensures stopped { IfErr result (IsStop notes.now) }
 {
-    if let Some(place) = notes.iter().position(|note| note.ending == Ending::Halted) {
+    if let Some(place) = notes
+        .iter()
+        .position(|note| matches!(note.ending, Ending::Halted))
+    {
         return Err(Status::Halted {
             worker: notes[place].worker,
         });
     }
-    if notes.iter().any(|note| note.ending == Ending::WantOfMemory) {
+    if notes
+        .iter()
+        .any(|note| matches!(note.ending, Ending::WantOfMemory))
+    {
         return Err(Status::WantOfMemory);
     }
     Ok(())

@@ -26,7 +26,6 @@ mod settling;
 mod steps;
 mod turns;
 mod workers;
-mod works;
 
 pub use given::given_of;
 pub use held::close;

@@ -10,12 +10,11 @@ ghost use Rattle.run_command.specs.Steps.{AreAsKept, AreGivenFor, AreInputsFor, 
 use crate::known::Given;
 use crate::openings::compare_cells;
 use crate::steps::complete;
-use crate::works::works_of;
 use collector_pool::WorkerNote;
 use disk_model::Disk;
 use group_book::Book;
-use group_session::{KeptGroup, compare_books};
-use plant_session::Kept;
+use group_session::{KeptGroup, compare_books, row_askers_of};
+use plant_session::{Kept, collectors_of, readers_of};
 use plant_status::Status;
 use std::alloc::Global;
 use std::marker::Brand;
@@ -78,7 +77,14 @@ fn complete_all<D: Disk, R: Wait>(
     ensures refused { IfErr result (IsRefused given.now notes.now cells.new books.new) }
 {
     let (tags, groups) = (cells.len() as u32, books.len() as u32);
-    let Ok(mut works) = works_of(alloc, &given.work, tags, groups) else {
+    let Ok(mut takes) = collectors_of(alloc, &given.work.collectors, given.work.earlier, tags)
+    else {
+        return Err(Status::WantOfMemory);
+    };
+    let Ok(mut asks) = readers_of(alloc, &given.work.readers, tags) else {
+        return Err(Status::WantOfMemory);
+    };
+    let Ok(mut row_asks) = row_askers_of(alloc, &given.work.readers, groups) else {
         return Err(Status::WantOfMemory);
     };
     complete::<Brand, D, R>(
@@ -88,7 +94,9 @@ fn complete_all<D: Disk, R: Wait>(
         books,
         given,
         notes,
-        &mut works,
+        &mut takes,
+        &mut asks,
+        &mut row_asks,
         Blank::new(1),
     )
 }

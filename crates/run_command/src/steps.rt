@@ -2,13 +2,13 @@
 ghost use Rattle.std.specs.Prelude.{◌≡◌, ◌<◌, IfErr, OnOk, length};
 ghost use Rattle.calc_refresh.specs.Lists.{lists_of};
 ghost use Rattle.plant_session.specs.Each.{AreEach};
+ghost use Rattle.plant_session.specs.Starting.{AreUnfound};
 ghost use Rattle.group_session.specs.Pulls.{ArePulled};
 ghost use Rattle.run_command.specs.Refusals.{IsFindingRefusal, IsMakingRefusal, IsRefused};
-ghost use Rattle.run_command.specs.Steps.{AreFoundAll, AreNoneFound, AreOverAll, AreReady, IsBookKept, IsCellKept, IsMade};
+ghost use Rattle.run_command.specs.Steps.{AreFoundAll, AreOverAll, AreReady, IsBookKept, IsCellKept, IsMade};
 
 use crate::endings::check_endings;
 use crate::known::Given;
-use crate::works::Works;
 use collector_pool::WorkerNote;
 use disk_model::Disk;
 use group_book::Book;
@@ -21,6 +21,7 @@ use std::alloc::Global;
 use std::sync::Wait;
 use std::sync::ledger::{Blank, Ledger};
 use tag_cell::Cell;
+use tape_audit::Progress;
 use trend_num::Steps;
 
 // Brings the cells and books to what their workers had to do: compares what the tapes have with it, and does what they lack. It
@@ -32,15 +33,19 @@ pub(crate) fn complete<L: Ledger, D: Disk, R: Wait>(
     books: &mut [Book<D>],
     given: &Given,
     notes: &[WorkerNote],
-    works: &mut Works<'_>,
+    takes: &mut [Progress<'_>],
+    asks: &mut [Progress<'_>],
+    row_asks: &mut [Progress<'_>],
     blank: Blank,
 ) -> Result<(), Status>
     requires name { blank.name ≡ L.name }
     requires parts { blank.parts ≡ L.parts }
     requires some { 0 < L.parts }
     requires ready { AreReady given.now cells.old books.old }
-    requires over { AreOverAll (length cells.old) (length books.old) given.now.work works.old }
-    requires none { AreNoneFound (length cells.old) (length books.old) works.old }
+    requires over { AreOverAll (length cells.old) (length books.old) given.now takes.old asks.old row_asks.old }
+    requires no_takes { AreUnfound (length cells.old) takes.old }
+    requires no_asks { AreUnfound (length cells.old) asks.old }
+    requires no_row_asks { AreUnfound (length books.old) row_asks.old }
     ensures made { OnOk result (IsMade given.now cells.new books.new) }
     ensures pulled { OnOk result (ArePulled (lists_of given.now.inputs.items) cells.new books.new) }
     ensures cells { AreEach IsCellKept cells.old cells.new }
@@ -48,13 +53,15 @@ pub(crate) fn complete<L: Ledger, D: Disk, R: Wait>(
     ensures refused { IfErr result (IsRefused given.now notes.now cells.new books.new) }
 {
     let mut steps: Steps<L> = Steps::new(blank);
-    if let Err(why) = find_all(cells, books, given, works) {
+    if let Err(why) = find_all(cells, books, given, takes, asks, row_asks) {
         return Err(why);
     }
     if let Err(why) = check_endings(notes) {
         return Err(why);
     }
-    if let Err(why) = make_up(rt, alloc, cells, books, given, works, &mut steps) {
+    if let Err(why) = make_up(
+        rt, alloc, cells, books, given, takes, asks, row_asks, &mut steps,
+    ) {
         return Err(why);
     }
     compare_pulls(cells, books, &given.inputs)
@@ -65,22 +72,26 @@ fn find_all<D: Disk>(
     cells: &[Cell<D>],
     books: &[Book<D>],
     given: &Given,
-    works: &mut Works<'_>,
+    takes: &mut [Progress<'_>],
+    asks: &mut [Progress<'_>],
+    row_asks: &mut [Progress<'_>],
 ) -> Result<(), Status>
     requires ready { AreReady given.now cells.now books.now }
-    requires over { AreOverAll (length cells.now) (length books.now) given.now.work works.old }
-    requires none { AreNoneFound (length cells.now) (length books.now) works.old }
-    ensures over { OnOk result (AreOverAll (length cells.now) (length books.now) given.now.work works.new) }
-    ensures found { OnOk result (AreFoundAll given.now cells.now books.now works.new) }
+    requires over { AreOverAll (length cells.now) (length books.now) given.now takes.old asks.old row_asks.old }
+    requires no_takes { AreUnfound (length cells.now) takes.old }
+    requires no_asks { AreUnfound (length cells.now) asks.old }
+    requires no_row_asks { AreUnfound (length books.now) row_asks.old }
+    ensures over { OnOk result (AreOverAll (length cells.now) (length books.now) given.now takes.new asks.new row_asks.new) }
+    ensures found { OnOk result (AreFoundAll given.now cells.now books.now takes.new asks.new row_asks.new) }
     ensures differs { IfErr result (IsFindingRefusal given.now cells.now books.now) }
 {
-    if let Err(why) = find_all_takes(cells, &mut works.takes) {
+    if let Err(why) = find_all_takes(cells, takes) {
         return Err(why);
     }
-    if let Err(why) = find_all_asks(cells, &mut works.asks) {
+    if let Err(why) = find_all_asks(cells, asks) {
         return Err(why);
     }
-    if let Err(why) = find_all_row_asks(books, &mut works.row_asks) {
+    if let Err(why) = find_all_row_asks(books, row_asks) {
         return Err(why);
     }
     compare_turns(books, &given.turns)
@@ -93,12 +104,14 @@ fn make_up<D: Disk, R: Wait, L: Ledger>(
     cells: &mut [Cell<D>],
     books: &mut [Book<D>],
     given: &Given,
-    works: &mut Works<'_>,
+    takes: &mut [Progress<'_>],
+    asks: &mut [Progress<'_>],
+    row_asks: &mut [Progress<'_>],
     steps: &mut Steps<L>,
 ) -> Result<(), Status>
     requires ready { AreReady given.now cells.old books.old }
-    requires over { AreOverAll (length cells.old) (length books.old) given.now.work works.old }
-    requires found { AreFoundAll given.now cells.old books.old works.old }
+    requires over { AreOverAll (length cells.old) (length books.old) given.now takes.old asks.old row_asks.old }
+    requires found { AreFoundAll given.now cells.old books.old takes.old asks.old row_asks.old }
     ensures made { OnOk result (IsMade given.now cells.new books.new) }
     ensures cells { AreEach IsCellKept cells.old cells.new }
     ensures books { AreEach IsBookKept books.old books.new }
@@ -111,11 +124,6 @@ fn make_up<D: Disk, R: Wait, L: Ledger>(
         inputs,
         ..
     } = given;
-    let Works {
-        takes,
-        asks,
-        row_asks,
-    } = works;
     if let Err(why) = take_missing(rt, cells, &work.collectors, work.earlier, rooms, takes) {
         return Err(why);
     }

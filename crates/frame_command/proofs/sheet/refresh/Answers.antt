@@ -1,9 +1,12 @@
-use Rattle.std.proofs.Common.{◌∙◌, ap, length, map, sym}
+use Rattle.std.proofs.Common.{◌≡◌, ◌*◌, ◌∙◌, ap, ap₂, length, map, refl, subst, sym}
 use Rattle.std.proofs.lemmas.List.{length-map}
-use Rattle.calc_refresh.specs.Lists.{lists_of}
-use Rattle.frame_command.specs.Steps.{IsLimitRefusal}
-use Rattle.frame_command.proofs.Cuts.{length-behind, whole_again}
-use Rattle.frame_command.proofs.Limits.{limit_refused}
+use Rattle.calc_refresh.specs.Lists.{lists_of, total_length}
+use Rattle.calc_refresh.specs.Refreshed.{IsToldOf, fault_after}
+use Rattle.sheet_law.specs.Touched.{longer}
+use Rattle.sheet_law.specs.Windows.{complete_windows}
+use Rattle.frame_command.specs.Steps.{CellsAreOver, CopiesAreOver}
+use Rattle.frame_command.proofs.Cuts.{length-behind, longer-behind}
+use Rattle.frame_command.proofs.Limits.{cells_told, copies_told}
 use Rattle.frame_command.proofs.sheet.refresh.Goals as goal
 
 pub apply-requires-clause-inputs : goal.apply-requires-clause-inputs
@@ -15,20 +18,41 @@ apply-requires-clause-inputs c =
 
 pub returns-in-Ok-apply-clause-refreshed : goal.returns-in-Ok-apply-clause-refreshed
 returns-in-Ok-apply-clause-refreshed c =
+    let versions = c.args.versions.now in
+    let recovered = map (λ r. r.now) c.args.records.now in
     let is = c.in-Ok-apply.ensures.refreshed in
     record {
       group = is.group;
       grid = is.grid;
-      copies = is.copies ∙ whole_again c.args.versions.now (map (λ r. r.now) c.args.records.now) _ _
-          (length-map c.args.records.now (λ r. r.now) ∙ c.requires.inputs) c.requires.copies
-          (ap lists_of c.deref.ensures.value ∙ c.in-Ok.ensures.behind);
+      copies = is.copies ∙ ap₂ (λ a b. longer a b) c.requires.copies (ap lists_of c.deref.ensures.value ∙ c.in-Ok.ensures.behind)
+          ∙ longer-behind versions recovered (length-map c.args.records.now (λ r. r.now) ∙ c.requires.inputs);
       scratch = is.scratch;
     }
 
-pub returns-in-Err-clause-refused : goal.returns-in-Err-clause-refused
-returns-in-Err-clause-refused c =
+pub returns-in-Err-CellLimit-clause-refused : goal.returns-in-Err-CellLimit-clause-refused
+returns-in-Err-CellLimit-clause-refused c =
+    let versions = c.args.versions.now in
     let recovered = map (λ r. r.now) c.args.records.now in
-    let whole = whole_again c.args.versions.now recovered _ _ (length-map c.args.records.now (λ r. r.now) ∙ c.requires.inputs)
-    c.requires.copies (ap lists_of c.deref.ensures.value ∙ c.in-Ok.ensures.behind) in
-    rw c.limit_status.ensures
-    (limit_refused c.args.sheet.now (lists_of c.deref.result.now) recovered c.in-Err.no whole c.in-Err.ensures.fault)
+    let s = c.args.sheet.now in
+    let more = lists_of c.deref.result.now in
+    let whole : longer s.copies more ≡ recovered =
+    ap₂ (λ a b. longer a b) c.requires.copies (ap lists_of c.deref.ensures.value ∙ c.in-Ok.ensures.behind)
+    ∙ longer-behind versions recovered (length-map c.args.records.now (λ r. r.now) ∙ c.requires.inputs) in
+    let told = cells_told (complete_windows s.grid (longer s.copies more) * length s.group.calcs) (total_length (longer s.copies more))
+    c.in-Err-CellLimit.cells
+    (subst (IsToldOf (fault_after s more)) c.in-Err-CellLimit.field-0-is c.in-Err-CellLimit.ensures.fault) in
+    CellsAreOver c.in-Err-CellLimit.cells refl (told.0 ∙ ap (λ l. complete_windows s.grid l * length s.group.calcs) whole) told.1
+
+pub returns-in-Err-CopyLimit-clause-refused : goal.returns-in-Err-CopyLimit-clause-refused
+returns-in-Err-CopyLimit-clause-refused c =
+    let versions = c.args.versions.now in
+    let recovered = map (λ r. r.now) c.args.records.now in
+    let s = c.args.sheet.now in
+    let more = lists_of c.deref.result.now in
+    let whole : longer s.copies more ≡ recovered =
+    ap₂ (λ a b. longer a b) c.requires.copies (ap lists_of c.deref.ensures.value ∙ c.in-Ok.ensures.behind)
+    ∙ longer-behind versions recovered (length-map c.args.records.now (λ r. r.now) ∙ c.requires.inputs) in
+    let told = copies_told (complete_windows s.grid (longer s.copies more) * length s.group.calcs) (total_length (longer s.copies more))
+    c.in-Err-CopyLimit.records
+    (subst (IsToldOf (fault_after s more)) c.in-Err-CopyLimit.field-0-is c.in-Err-CopyLimit.ensures.fault) in
+    CopiesAreOver c.in-Err-CopyLimit.records refl (told.0 ∙ ap total_length whole) told.1

@@ -10,7 +10,7 @@ use Rattle.plant_run.specs.CommandLine.{asked}
 use Rattle.frame_command.specs.Commands.{IsFrames, IsFramesRefusal}
 use Rattle.command_text.proofs.Printing.{answered_so, done_so, ended_so}
 use Rattle.plant_more.proofs.Told.{counts_so, faults_so}
-use Rattle.plant_run.proofs.Refusals.{check_refused, check_rose, frames_refused, frames_rose, no_output, not_done, trend_refused, trend_rose}
+use Rattle.plant_run.proofs.Refusals.{check_no_fault, check_not_done, check_rose, trend_no_fault, trend_not_done, trend_rose, frames_no_fault, frames_not_done, frames_rose}
 use Rattle.plant_run.proofs.top_call.answer_other.Goals as goal
 
 pub returns-in-Check-clause-ends : goal.returns-in-Check-clause-ends
@@ -24,9 +24,8 @@ returns-in-Check-clause-ends g c =
     let before = g.O.Sink.meaning c.args.out.now in
     let now = g.O.Sink.meaning c.finish.new.out in
     let IsRefused = IsCheckRefusal base told old new faults more in
-    let refused = check_refused base base told old new faults more in
-    let no_done = not_done refused in
-    let no_fault = no_output refused in
+    let no_done = check_not_done base base told old new faults more in
+    let no_fault = check_no_fault base base told old new faults more in
     let rose = check_rose base base told old new faults more in
     let text = c.finish.ensures.text in
     let line = c.finish.ensures.refused in
@@ -62,9 +61,8 @@ returns-in-Trend-clause-ends g c =
     let before = g.O.Sink.meaning c.args.out.now in
     let now = g.O.Sink.meaning c.finish-in-Trend.new.out in
     let IsRefused = IsTrendRefusal base plan told old new faults more in
-    let refused = trend_refused base plan told old new faults more in
-    let no_done = not_done refused in
-    let no_fault = no_output refused in
+    let no_done = trend_not_done base plan told old new faults more in
+    let no_fault = trend_no_fault base plan told old new faults more in
     let rose = trend_rose base plan told old new faults more in
     let text = c.finish-in-Trend.ensures.text in
     let line = c.finish-in-Trend.ensures.refused in
@@ -103,9 +101,8 @@ returns-in-Frames-clause-ends g c =
     let before = g.O.Sink.meaning c.args.out.now in
     let now = g.O.Sink.meaning c.finish-in-Frames.new.out in
     let IsRefused = IsFramesRefusal base group calc told old new faults more in
-    let refused = frames_refused base group calc told old new faults more in
-    let no_done = not_done refused in
-    let no_fault = no_output refused in
+    let no_done = frames_not_done base group calc told old new faults more in
+    let no_fault = frames_no_fault base group calc told old new faults more in
     let rose = frames_rose base group calc told old new faults more in
     let text = c.finish-in-Frames.ensures.text in
     let line = c.finish-in-Frames.ensures.refused in

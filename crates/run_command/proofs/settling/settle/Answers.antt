@@ -19,10 +19,12 @@ returns-in-Err-compare_books-clause-known_groups g c =
 
 pub complete_all-requires : goal.complete_all-requires
 complete_all-requires g c = record {
-  few_cells = c.requires.few_cells;
-  few_books = c.requires.few_books;
-  given = c.requires.given;
-  inputs = inputs_of_kept (length c.args.cells.now) _ _ _ c.requires.groups_are c.requires.inputs c.in_default-compare_books.ensures.same;
+  ready = record {
+    few_cells = c.requires.few_cells;
+    few_books = c.requires.few_books;
+    given = c.requires.given;
+    inputs = inputs_of_kept (length c.args.cells.now) _ _ _ c.requires.groups_are c.requires.inputs c.in_default-compare_books.ensures.same;
+  };
 }
 
 pub returns-in-Ok-clause-known : goal.returns-in-Ok-clause-known
