@@ -29,9 +29,7 @@ pub fn compare_pulls<C: Disk, D: Disk>(
     ensures differs { IfErr result (IsPullMismatch (lists_of inputs.now) cells.now books.now) }
 {
     for group in 0..books.len() {
-        if let Err(why) = compare_inputs(cells, &books[group], &inputs[group], group as u32) {
-            return Err(why);
-        }
+        compare_inputs(cells, &books[group], &inputs[group], group as u32)?;
     }
     Ok(())
 }
@@ -50,9 +48,7 @@ fn compare_inputs<C: Disk, D: Disk>(
 {
     for input in 0..tags.len() {
         let cell = &cells[tags[input] as usize];
-        if let Err(why) = compare_input(cell, book, group, input as u32) {
-            return Err(why);
-        }
+        compare_input(cell, book, group, input as u32)?;
     }
     Ok(())
 }

@@ -53,7 +53,7 @@ pub fn refresh_missing<C: Disk, D: Disk, L: Ledger>(
 {
     for group in 0..books.len() {
         let (tags, due) = (&inputs[group], turns[group]);
-        if let Err(why) = refresh_group(
+        refresh_group(
             alloc,
             cells,
             &mut books[group],
@@ -61,9 +61,7 @@ pub fn refresh_missing<C: Disk, D: Disk, L: Ledger>(
             group as u32,
             due,
             steps,
-        ) {
-            return Err(why);
-        }
+        )?;
     }
     Ok(())
 }

@@ -40,7 +40,7 @@ pub fn take_missing<D: Disk, R: Wait>(
     ensures unlike { IfErr result AreUnlike }
 {
     for collector in 0..files.len() {
-        if let Err(why) = take_file(
+        take_file(
             rt,
             cells,
             &files[collector],
@@ -48,9 +48,7 @@ pub fn take_missing<D: Disk, R: Wait>(
             rooms,
             works,
             collector,
-        ) {
-            return Err(why);
-        }
+        )?;
     }
     Ok(())
 }
@@ -79,9 +77,7 @@ fn take_file<D: Disk, R: Wait>(
     ensures due { IfErr result (IsDueFor collector works.new) }
 {
     for place in 0..rows.len() {
-        if let Err(why) = take_turn(rt, cells, rows, earlier, rooms, works, collector, place) {
-            return Err(why);
-        }
+        take_turn(rt, cells, rows, earlier, rooms, works, collector, place)?;
     }
     Ok(())
 }
@@ -117,9 +113,7 @@ fn take_turn<D: Disk, R: Wait>(
     }
     let row = rows[place];
     let number = number_in(earlier, place as u64 + 1);
-    if let Err(why) = take_row(rt, cells, row, rooms, collector as u32, number) {
-        return Err(why);
-    }
+    take_row(rt, cells, row, rooms, collector as u32, number)?;
     works[collector].advance(row.tag);
     Ok(())
 }

@@ -13,18 +13,18 @@ loop-place-init g c = record {
   longer = all_longer IsTaken c.args.cells.now;
 }
 
-pub returns-in-Err-clause-longer : goal.returns-in-Err-clause-longer
-returns-in-Err-clause-longer g c =
+pub returns-in_err-take_turn-clause-longer : goal.returns-in_err-take_turn-clause-longer
+returns-in_err-take_turn-clause-longer g c =
     all_longer_trans IsTaken c.args.cells.now c.loop-place.cells c.take_turn.new.cells c.loop-place.invariant.longer
-    c.in-Err.ensures.longer
+    c.take_turn.ensures.longer
 
 pub loop-place-preserved : goal.loop-place-preserved
 loop-place-preserved g c = record {
-  over = c.in_default.ensures.over;
-  found = c.in_default.ensures.found;
-  caught = c.in_default.ensures.caught;
+  over = c.take_turn.ensures.over;
+  found = c.take_turn.ensures.found;
+  caught = c.in_ok-take_turn.ensures.caught;
   others = others_trans c.args.collector c.args.works.now c.loop-place.works c.take_turn.new.works
-      c.loop-place.invariant.others c.in_default.ensures.others;
+      c.loop-place.invariant.others c.take_turn.ensures.others;
   longer = all_longer_trans IsTaken c.args.cells.now c.loop-place.cells c.take_turn.new.cells c.loop-place.invariant.longer
-      c.in_default.ensures.longer;
+      c.take_turn.ensures.longer;
 }
