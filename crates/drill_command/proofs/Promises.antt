@@ -5,23 +5,17 @@ use Rattle.tag_base.specs.declared.definition.Base.{Base}
 use Rattle.value_rows.specs.declared.raw.RawRow.{RawRow}
 use Rattle.tape_audit.specs.Agendas.{phase_item}
 use Rattle.session_report.specs.declared.session.Session.{Session}
-use Rattle.run_command.specs.Headline.{AreOpened, IsDoneSo, turns_in}
-use Rattle.run_command.specs.Refusals.{IsOfOpening}
-use Rattle.run_command.proofs.Headline.{done, if_done, opened_groups, opened_tags, sound_groups, sound_tags}
+use Rattle.run_command.specs.Headline.{IsDoneSo, turns_in}
+use Rattle.run_command.proofs.Headline.{done, held_opened, if_done, sound_groups, sound_tags}
 use Rattle.drill_command.specs.Drills.{IsDrill, IsDrilled, fresh, memory_faults, memory_ticks, memory_trace}
 use Rattle.drill_command.proofs.New.{all_new}
 
 pub promised : (number tags events stops_before stops_now : ℕ) (answer : Result (String Global) Status) (s : Session)
     → IsDrill number tags events stops_before stops_now answer s → IsDrilled number tags events answer s
 promised number tags events stops_before stops_now answer s is =
-    let run = is.run in
+    let run = is.run.held in
     let work = is.work in
-    let opened_as : (IsOfOpening answer → ⊥) → AreOpened is.base fresh s = λ none. record {
-      tags = opened_tags memory_trace memory_ticks memory_faults fresh is.base.tags.items run.opened run.cells s.tags.items
-          run.opening.tags (run.same_tags none) run.over.tags;
-      groups = opened_groups memory_trace memory_ticks memory_faults is.base fresh is.new run.opened run.cells run.opened_books run.books
-          s run.opening.groups (run.same_groups none) run.over;
-    } in
+    let opened_as = held_opened memory_trace memory_ticks memory_faults is.base is.second fresh is.new 0 is.now answer s run in
     record {
       base = is.base;
       devices = is.new;

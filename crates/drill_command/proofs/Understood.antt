@@ -55,8 +55,8 @@ understood number tags events stops_before stops_now session (Ok text) unheld he
 understood number tags events stops_before stops_now None (Err why) unheld held =
     λ same. of_unheld tags (subst (IsUnheld tags) same (unheld refl))
 understood number tags events stops_before stops_now (Some s) (Err why) unheld held =
-    λ same. (let run = held.run in
-    let undone = run.undone in
+    λ same. (let run = held.run.held in
+    let undone = held.run.undone in
     of_both held.first held.second run.opened run.opened_books run.cells run.books s.workers.items
     (subst (IsUndoneOfBoth held.first held.second run.opened run.opened_books run.cells run.books s.workers.items)
     (was_words undone.cause (sym same ∙ undone.told)) undone.undone))

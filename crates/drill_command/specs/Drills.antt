@@ -1,5 +1,5 @@
 -- What a drill comes to: its session, or why it holds none.
-use Rattle.std.specs.Prelude.{◌≡◌, ℕ, ◌/◌, ◌^◌, ◌<◌, List, [], All, length, replicate, slice_index_or, Option, Some, Result, IfErr, IfOk, String, string_bytes}
+use Rattle.std.specs.Prelude.{◌≡◌, ℕ, ◌/◌, ◌<◌, List, [], All, length, replicate, slice_index_or, Option, Some, Result, Ok, Err, IfErr, IfOk, String, string_bytes}
 use Rattle.std.specs.List.{AllZip}
 use Rattle.std.specs.declared.alloc.Global.{Global}
 use Rattle.trend_num.specs.declared.tag_def.TagDef.{TagDef}
@@ -19,14 +19,13 @@ use Rattle.group_book.specs.Told.{Told as Book}
 use Rattle.book_store.specs.Groups.{Devices, parts_of, text_of}
 use Rattle.plant_status.specs.declared.status.Status.{Status}
 use Rattle.plant_status.specs.declared.status.Status.TheVariants.{DeviceFault, WantOfMemory}
-use Rattle.plant_store.specs.Closings.{CountsClosed}
 use Rattle.tape_audit.specs.Agendas.{phase_item}
 use Rattle.session_files.specs.Plans.{IsGoodBase}
 use Rattle.session_report.specs.declared.session.Session.{Session}
 use Rattle.run_command.specs.declared.known.Given.{Given}
 use Rattle.run_command.specs.Headline.{AreGroupsSound, IsDoneSo, IsTagSound}
 use Rattle.run_command.specs.Refusals.{IsOfOpening}
-use Rattle.run_command.specs.Runs.{IsContinued, IsContinuedGroup, IsDone, IsOpen, IsOver, IsUnopened, IsWorkIn}
+use Rattle.run_command.specs.Runs.{IsHeld, IsUnopened, IsWorkIn}
 use Rattle.drill_plant.specs.Plant.{IsDrillGroup, drill_tags}
 use Rattle.drill_plant.specs.Rows.{drill_rows_of}
 use Rattle.drill_command.specs.Phases.{AreNotesOfBoth, IsUndoneOfBoth}
@@ -55,6 +54,10 @@ abbrev pub drill_status : Status → Status
 drill_status (DeviceFault unit) = WantOfMemory
 drill_status why = why
 
+abbrev pub drill_answer : Result (String Global) Status → Result (String Global) Status
+drill_answer (Ok text) = Ok text
+drill_answer (Err why) = Err (drill_status why)
+
 -- ---- the session
 
 -- why it is not done: what one of the phases is refused with
@@ -64,24 +67,14 @@ pub record IsDrillUndone {D : Type 0} (first second : Given) (opened : List (Cel
   pub told : why ≡ drill_status cause
   pub undone : IsUndoneOfBoth first second opened opened_books cells books s.workers.items cause
 
--- A session of two phases over a base, and what came of it: the devices were opened, and are given back; unless an opening is told to
--- be another, each cell and book is the one that was opened; as many workers were stopped as the passes counted; and both phases
--- are done, or there is a cause.
+-- A session of two phases over a base, and what came of it: it was held, and is done with the second; as many workers were stopped as
+-- the passes counted; and both phases are done, or there is a cause.
 pub record IsRunInPhases {D : Type 0} (trace : D → Option Trace) (ticks faults : D → ℕ) (base : Base) (first second : Given)
     (old new : Devices) (before now stops_before stops_now : ℕ) (answer : Result (String Global) Status) (s : Session)
     : Type 0 where
-  pub opened : List (Cell D)
-  pub opened_books : List (Book D)
-  pub cells : List (Cell D)
-  pub books : List (Book D)
-  pub opening : IsOpen trace ticks faults base old opened opened_books
-  pub over : IsOver trace ticks faults base old new cells books s
-  pub counts : before < 2 ^ 64 → CountsClosed faults cells books before now
-  pub same_tags : (IsOfOpening answer → ⊥) → AllZip IsContinued opened cells
-  pub same_groups : (IsOfOpening answer → ⊥) → AllZip IsContinuedGroup opened_books books
+  pub held : IsHeld trace ticks faults base second old new before now answer s
   pub notes : AreNotesOfBoth D first.work second.work stops_before stops_now s.workers.items
-  pub done : IfOk answer (λ text. IsDone base second cells books s (string_bytes text))
-  pub undone : IfErr answer (IsDrillUndone first second opened opened_books cells books s)
+  pub undone : IfErr answer (IsDrillUndone first second held.opened held.opened_books held.cells held.books s)
 
 -- what a device in memory tells: its calls, how many there were, and how many of them have failed
 abbrev pub memory_trace : DiskState → Option Trace

@@ -8,7 +8,7 @@ ghost use Rattle.run_command.specs.Runs.{IsWorkIn};
 ghost use Rattle.drill_command.specs.Drills.{IsDrill, IsDrillBase, IsDrilled, IsRunInPhases, IsUnheld, fresh, memory_faults, memory_ticks, memory_trace};
 
 use crate::plant::{Drill, drill_of};
-use crate::session::{hold_in, refused};
+use crate::session::hold_in;
 use disk_model::MemStore;
 use plant_status::{Passes, Status};
 use run_command::Ran;
@@ -38,7 +38,7 @@ pub fn drill<P: Passes, R: Threads + Wait + Sync>(
 {
     match drill_of(alloc, number, tags, events) {
         Ok(drill) => run_drill(rt, alloc, passes, tags, &drill),
-        Err(_) => refused(Status::WantOfMemory),
+        Err(_) => Ran::refused(Status::WantOfMemory),
     }
 }
 

@@ -8,7 +8,7 @@ ghost use Rattle.plant_store.specs.Shelves.{HasPlacesOf, IsShelfFor};
 ghost use Rattle.session_files.specs.Plans.{IsGoodBase};
 ghost use Rattle.run_command.specs.Runs.{AreDefined, IsOpen};
 ghost use Rattle.run_command.specs.Steps.{AreGivenFor};
-ghost use Rattle.drill_command.specs.Drills.{IsDrillUnopened, IsRunInPhases, drill_status};
+ghost use Rattle.drill_command.specs.Drills.{IsDrillUnopened, IsRunInPhases, drill_answer, drill_status};
 
 use crate::phases::hold_both;
 use disk_model::Store;
@@ -64,18 +64,7 @@ pub(crate) fn hold_in<S: Store, P: Passes, R: Threads + Wait + Sync>(
                 session: Some(session),
             }
         }
-        Err(why) => refused(drill_status(why)),
-    }
-}
-
-// No session is held.
-pub(crate) fn refused(why: Status) -> Ran
-    ensures answer { result.answer ≡ Err why }
-    ensures none { result.session ≡ None }
-{
-    Ran {
-        answer: Err(why),
-        session: None,
+        Err(why) => Ran::refused(drill_status(why)),
     }
 }
 
@@ -113,9 +102,16 @@ fn hold_open<S: Store, P: Passes, R: Threads + Wait + Sync>(
     let OpenPlant { cells, books } = plant;
     let ended = hold_both(rt, alloc, cells, books, board, first, second, passes);
     let (answer, session) = close(alloc, store, base, second, shelf, ended);
+    (drill_answer(answer), session)
+}
+
+// What is answered of a drill that came to this.
+fn drill_answer(answer: Result<String, Status>) -> Result<String, Status>
+    ensures { result ≡ drill_answer answer }
+{
     match answer {
-        Ok(text) => (Ok(text), session),
-        Err(why) => (Err(drill_status(why)), session),
+        Ok(text) => Ok(text),
+        Err(why) => Err(drill_status(why)),
     }
 }
 

@@ -1,5 +1,5 @@
 -- How `frames` ends: what its steps leave of the devices, and which faults were counted.
-use Rattle.std.proofs.Common.{◌≡◌, ◌≢◌, inl, inr, ℕ, ◌^◌, ◌<◌, List, Option, Result, Ok, Err, sym, ap, subst, ◌∙◌}
+use Rattle.std.proofs.Common.{◌≡◌, ◌≢◌, inl, inr, ℕ, ◌^◌, ◌<◌, List, Option, Result, Ok, Err, get_or, sym, ap, subst, ◌∙◌}
 use Rattle.trend_num.specs.declared.archive.Rec.{Rec}
 use Rattle.trend_num.specs.declared.value.CalcValue.{CalcValue}
 use Rattle.disk_model.specs.Calls.{Rose}
@@ -23,8 +23,9 @@ use Rattle.book_store.specs.Refusals as groups
 use Rattle.store_commands.specs.Commands.{CountsDevices}
 use Rattle.store_commands.proofs.Stores.{groups_same, kept_after, names_apart}
 use Rattle.frame_command.specs.Commands.{HaveStayed}
-use Rattle.frame_command.specs.Names.{IsNamed, IsNameRefusal, NoCalculation, NoGroup}
+use Rattle.frame_command.specs.Names.{IsNamed, IsNameRefusal, IsPlaced, NoCalculation, NoGroup}
 use Rattle.frame_command.specs.Rows.{AreRows, IsRowsRefusal, OfCells, OfCopies, OfDamage, OfFault, OfMemory, OfVersion, OfWindows}
+use Rattle.frame_command.proofs.Places.{named_group}
 
 -- ---- devices
 
@@ -49,6 +50,16 @@ have_stayed name group_name calc_name told base g i k old mid new read named tag
   group_stays = subst (λ o. During o (trace_at new g) (StaysSame (text_of g) (parts_of g) o)) (groups_same base.tags.items old mid others g) stays;
   rest = λ n no_tag no_group. rest n no_group ∙ others n no_tag;
 }
+
+-- so it is of the group that is read at its place
+pub stayed_at : (name group_name calc_name : List ℕ) (told : ToldFiles) (base : Base) (g : GroupDef) (i k : ℕ) (old mid new : Devices)
+    → IsBaseFile (told name) base → IsPlaced base.groups.items group_name calc_name i k → g ≡ get_or base.groups.items i g
+    → AllStaySame base.tags.items old mid → AreOthersSame base.tags.items old mid
+    → During (trace_at mid g) (trace_at new g) (StaysSame (text_of g) (parts_of g) (trace_at mid g))
+    → ((n : List ℕ) → n ≢ group.device_name g.name → new n ≡ mid n) → HaveStayed name group_name calc_name told old new
+stayed_at name group_name calc_name told base g i k old mid new read placed is =
+    have_stayed name group_name calc_name told base g i k old mid new read
+    (named_group base.groups.items group_name calc_name i k g placed is)
 
 -- what is said of the rows after the tags were opened is so of the device before
 pub rows_before : (g : GroupDef) (k : ℕ) (recovered : List (List Rec)) (o p : Option Trace) (saved refreshed : List CalcValue) → p ≡ o

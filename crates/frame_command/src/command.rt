@@ -16,7 +16,7 @@ use disk_model::Store;
 use plant_files::base_of;
 use plant_status::Status;
 use std::alloc::Global;
-use tag_store::open_tags;
+use store_commands::open_base;
 
 /// What `frames` prints of the calculation `calc` of the group `group`, over the base in the file `name`: what became of
 /// the frames of its saved row by one refresh from all records of the tags, and then the frames there are; those of at
@@ -45,11 +45,11 @@ pub fn frames<F: Files, S: Store>(
         → CountsDevices result (S.fault_count store.old) (S.fault_count store.new) }
 {
     let base = base_of(alloc, files, name)?;
-    let place = place_of(&base.groups, group, calc)?;
+    let place = place_of(&base, group, calc)?;
     let Ok(names) = device_names(alloc, &base.groups) else {
         return Err(Status::WantOfMemory);
     };
-    let cores = open_tags(alloc, store, &base.tags)?;
+    let cores = open_base(alloc, store, &base)?;
     let (group, device) = (&base.groups[place.group], names[place.group].as_str());
     let rows = rows_of(alloc, store, place, group, device, &cores)?;
     match tell_frames(alloc, group, least, &rows.saved, &rows.refreshed) {

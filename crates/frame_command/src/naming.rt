@@ -6,7 +6,7 @@ ghost use Rattle.frame_command.specs.Names.{IsNameRefusal, IsPlaced};
 
 use calc_check::CalcDef;
 use plant_status::Status;
-use tag_base::GroupDef;
+use tag_base::{Base, GroupDef};
 
 // Where a calculation is.
 #[derive(Clone, Copy)]
@@ -19,7 +19,15 @@ pub(crate) struct CalcPlace {
 
 // Where the calculation of this name is in the group of this name. Of a name that stands for nothing the word of the
 // command is told, counted from 1: the group's is word 3, the calculation's word 4.
-pub(crate) fn place_of(groups: &[GroupDef], group: &str, calc: &str) -> Result<CalcPlace, Status>
+pub(crate) fn place_of(base: &Base, group: &str, calc: &str) -> Result<CalcPlace, Status>
+    ensures placed { IfOk result (λ place. IsPlaced base.now.groups.items group.now calc.now place.group place.calc) }
+    ensures refused { IfErr result (IsNameRefusal base.now.groups.items group.now calc.now) }
+{
+    place_in(&base.groups, group, calc)
+}
+
+// The same, of these groups.
+fn place_in(groups: &[GroupDef], group: &str, calc: &str) -> Result<CalcPlace, Status>
     ensures placed { IfOk result (λ place. IsPlaced groups.now group.now calc.now place.group place.calc) }
     ensures refused { IfErr result (IsNameRefusal groups.now group.now calc.now) }
 {

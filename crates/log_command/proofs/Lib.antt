@@ -1,6 +1,4 @@
-pub mod Faults
 pub mod Texts
-pub mod Stopped
 pub mod Rows
 pub mod Found
 pub mod Counting

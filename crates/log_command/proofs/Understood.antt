@@ -7,6 +7,7 @@ use Rattle.tag_base.specs.declared.definition.Base.{Base}
 use Rattle.value_rows.specs.declared.raw.RawRow.{RawRow}
 use Rattle.plant_files.specs.Reading.{faults_after, faults_told}
 use Rattle.plant_files.specs.RowFiles.{ToldFiles}
+use Rattle.session_files.specs.Plans as plans
 use Rattle.plant_status.specs.declared.file.FileId.{FileId}
 use Rattle.plant_status.specs.declared.status.Status.{Status}
 use Rattle.plant_status.specs.declared.status.Status.TheVariants.{BadWords, Done, ReadFault, WantOfMemory, WriteFault}
@@ -19,26 +20,26 @@ use Rattle.log_command.specs.declared.known.Known.{Known}
 use Rattle.log_command.specs.Headline.{IsOfOthers, IsRun, IsUndone, IsUnopened, OfReport, OfSettling}
 use Rattle.log_command.specs.Making.{total_rows}
 use Rattle.log_command.specs.Openings.{Devices, IsOpeningRefusal, status_of}
-use Rattle.log_command.specs.Plans as plans
 use Rattle.log_command.specs.Refusals.{IsSettlingRefusal, OfCommit, OfFinding, OfMemory, OfOpening, OfPut, OfRest, OfStop}
 use Rattle.log_command.specs.Texts.{log_name, plant_text}
 
 -- no file is refused so
-pub no_file : (name plan_name : List ℕ) (told : ToldFiles) (why : Status) → plans.IsPlanningRefusal name plan_name told why
+no_read : (name plan_name : List ℕ) (told : ToldFiles) (why : Status) → plans.IsReadRefusal name plan_name told why → IsOfOthers why → ⊥
+no_read name plan_name told Done (plans.OfBase is) of = is
+no_read name plan_name told Done (plans.OfPlan base read is) of = is
+no_read name plan_name told Done (plans.OfCollector base plan read planned is) of = (is (λ same. cc same)).refused
+no_read name plan_name told BadWords (plans.OfBase is) of = is
+no_read name plan_name told BadWords (plans.OfPlan base read is) of = is
+no_read name plan_name told BadWords (plans.OfCollector base plan read planned is) of = (is (λ same. cc same)).refused
+no_read name plan_name told WriteFault (plans.OfBase is) of = is
+no_read name plan_name told WriteFault (plans.OfPlan base read is) of = is
+no_read name plan_name told WriteFault (plans.OfCollector base plan read planned is) of = (is (λ same. cc same)).refused
+no_read name plan_name told other is of = absurd of
+
+pub no_file : (name plan_name : List ℕ) (told : ToldFiles) (why : Status) → plans.IsCollectingRefusal name plan_name told why
     → IsOfOthers why → ⊥
-no_file name plan_name told Done (plans.OfBase is) of = is
-no_file name plan_name told Done (plans.OfPlan base read is) of = is
-no_file name plan_name told Done (plans.OfCollector base plan read planned is) of = (is (λ same. cc same)).refused
-no_file name plan_name told Done (plans.OfRows base plan rows read planned fed is) of = cc (is.told)
-no_file name plan_name told BadWords (plans.OfBase is) of = is
-no_file name plan_name told BadWords (plans.OfPlan base read is) of = is
-no_file name plan_name told BadWords (plans.OfCollector base plan read planned is) of = (is (λ same. cc same)).refused
-no_file name plan_name told BadWords (plans.OfRows base plan rows read planned fed is) of = cc (is.told)
-no_file name plan_name told WriteFault (plans.OfBase is) of = is
-no_file name plan_name told WriteFault (plans.OfPlan base read is) of = is
-no_file name plan_name told WriteFault (plans.OfCollector base plan read planned is) of = (is (λ same. cc same)).refused
-no_file name plan_name told WriteFault (plans.OfRows base plan rows read planned fed is) of = cc (is.told)
-no_file name plan_name told other is of = absurd of
+no_file name plan_name told why (plans.OfReading is) of = no_read name plan_name told why is of
+no_file name plan_name told why (plans.OfMany base plan rows read is) of = subst IsOfOthers is.told of
 
 -- nor is a log
 no_status : (reason : LogNo) → IsOfOthers (status_of reason) → ⊥

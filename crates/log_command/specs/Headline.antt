@@ -10,6 +10,7 @@ use Rattle.plant_status.specs.declared.status.Status.{Status}
 use Rattle.plant_status.specs.declared.status.Status.TheVariants.{BadWords, DeviceFault, Done, WantOfMemory, WriteFault}
 use Rattle.plant_status.specs.declared.unit.Unit.{Unit as Device}
 use Rattle.plant_files.specs.RowFiles.{ToldFiles}
+use Rattle.session_files.specs.Plans.{IsCollected, IsCollectingRefusal}
 use Rattle.commit_log.specs.declared.history.LogHistory.{LogHistory}
 use Rattle.commit_log.specs.Images.{StandsFor}
 use Rattle.commit_log.specs.Tapes.{puts}
@@ -21,7 +22,6 @@ use Rattle.log_command.specs.Finding.{AreWhole}
 use Rattle.log_command.specs.Known.{IsAsKnown}
 use Rattle.log_command.specs.Making.{total_rows}
 use Rattle.log_command.specs.Openings.{AreOthersSame, Devices, IsLogKept, IsLogOpened, IsOpeningRefusal}
-use Rattle.log_command.specs.Plans.{IsPlanned, IsPlanningRefusal}
 use Rattle.log_command.specs.Refusals.{AreNotes, IsMade, IsOfOpening, IsSettlingRefusal}
 use Rattle.log_command.specs.Reports.{IsReportRefusal, IsToldOf, all_rows}
 use Rattle.log_command.specs.Texts.{log_name, plant_text}
@@ -63,9 +63,9 @@ pub record IsUnopened (base : Base) (rows : ℕ) (old new : Devices) (before now
 
 -- why no collector began: a file is refused, and no device has changed; or the log is not opened
 pub data IsUnlogged (name plan_name : List ℕ) (told : ToldFiles) (old new : Devices) (before now : ℕ) (why : Status) : Type 0 where
-  OfFiles : IsPlanningRefusal name plan_name told why → ((n : List ℕ) → new n ≡ old n)
+  OfFiles : IsCollectingRefusal name plan_name told why → ((n : List ℕ) → new n ≡ old n)
       → IsUnlogged name plan_name told old new before now why
-  OfOpening : (base : Base) (plan : Plan) (rows : List (List RawRow)) → IsPlanned name plan_name told base plan rows
+  OfOpening : (base : Base) (plan : Plan) (rows : List (List RawRow)) → IsCollected name plan_name told base plan rows
       → IsUnopened base (total_rows rows) old new before now why → IsUnlogged name plan_name told old new before now why
 
 -- ---- a log
@@ -131,7 +131,7 @@ pub record IsLogged {D : Type 0} (trace : D → Option Trace) (ticks faults : D 
   pub base : Base
   pub plan : Plan
   pub rows : List (List RawRow)
-  pub planned : IsPlanned name plan_name told base plan rows
+  pub collected : IsCollected name plan_name told base plan rows
   pub run : IsRun trace ticks faults base rows old new before now stops_before stops_now answer h
 
 -- what is answered of a log that came to this: the line of each tag, if it is done and they can be told; and else why there is none

@@ -1,4 +1,3 @@
-pub mod Plans
 pub mod Texts
 pub mod Openings
 pub mod Known

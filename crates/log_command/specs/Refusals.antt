@@ -1,5 +1,6 @@
 -- What a log comes to once its workers have ended, and why it is refused.
-use Rattle.std.specs.Prelude.{◌≡◌, ◌≢◌, ℕ, List, All, Any, slice_get, Some, take, Result, Ok, Err, ⊤}
+use Rattle.std.specs.Prelude.{◌≡◌, ◌≢◌, ℕ, ◌<◌, List, All, Any, length, Result, Ok, Err, ⊤}
+use Rattle.std.specs.List.{AllWithin, HoldsAt}
 use Rattle.plant_status.specs.declared.mismatch.Place.TheVariants.{Opening}
 use Rattle.plant_status.specs.declared.status.Status.{Status}
 use Rattle.plant_status.specs.declared.status.Status.TheVariants as status
@@ -20,18 +21,10 @@ pub record AreNotes (D : Type 0) (files : List (List RawRow)) (before now : ℕ)
   pub of_all : AreNotesOf D files notes
   pub stopped : now ≡ stops_with before notes
 
--- this worker is the first that its pass stopped
-pub record IsFirstHalted (notes : List LogNote) (worker : ℕ) : Type 0 where
-  pub place : ℕ
-  pub note : LogNote
-  pub there : slice_get notes place ≡ Some note
-  pub halted : note.ending ≡ Halted
-  pub number : note.worker ≡ worker
-  pub first : All (λ n. n.ending ≢ Halted) (take place notes)
-
--- that is told, or else that a worker found no memory
+-- the first worker that its pass stopped is told, or else that one found no memory
 abbrev pub IsStop : List LogNote → Status → Type 0
-IsStop notes (status.Halted worker) = IsFirstHalted notes worker
+IsStop notes (status.Halted worker) = (place : ℕ) × (place < length notes)
+    × HoldsAt (λ n. (n.worker ≡ worker) × (n.ending ≡ Halted)) notes place × AllWithin (λ n. n.ending ≢ Halted) notes 0 place
 IsStop notes status.WantOfMemory = Any (λ n. n.ending ≡ WantOfMemory) notes
 IsStop notes other = ⊥
 

@@ -4,13 +4,14 @@ ghost use Rattle.std.specs.Option.{IsSome};
 ghost use Rattle.trend_num.specs.Ranges.{TuningInRange};
 ghost use Rattle.commit_log.specs.Blocks.{IsRow};
 ghost use Rattle.plant_files.specs.Collected.{most_rows};
+ghost use Rattle.plant_files.specs.Faults.{IsFaultOfPlanned};
 ghost use Rattle.plant_files.specs.Reading.{faults_after};
+ghost use Rattle.session_files.specs.Plans.{AreRowsOf, IsGoodBase};
 ghost use Rattle.log_pool.specs.Notes.{lists_of};
 ghost use Rattle.log_command.specs.Headline.{IsLogged, IsOfOthers, IsRun, IsTold, IsUnlogged, IsUnopened};
 ghost use Rattle.log_command.specs.Known.{IsAsKnown};
 ghost use Rattle.log_command.specs.Making.{AreRowsFor, total_rows};
 ghost use Rattle.log_command.specs.Openings.{AreOthersSame, CountsOpening, Devices, IsGivenBack, IsLogOpened};
-ghost use Rattle.log_command.specs.Plans.{AreGood, IsFaultOfPlanned};
 ghost use Rattle.log_command.specs.Reports.{all_rows};
 ghost use Rattle.log_command.specs.Texts.{log_name, plant_text};
 
@@ -18,13 +19,13 @@ use crate::known::{Known, known_of};
 use crate::made::row_total;
 use crate::opening::{LOG_NAME, take_log};
 use crate::plant_text::plant_text;
-use crate::reading::{LogFiles, read_files};
 use crate::report::report;
 use crate::session::{Ended, hold};
 use byte_io::Files;
 use commit_log::{Log, LogHistory};
 use disk_model::Store;
 use plant_status::{Passes, Status};
+use session_files::{CollectedFiles, read_collected};
 use std::alloc::Global;
 use std::sync::Wait;
 use std::thread::Threads;
@@ -82,7 +83,7 @@ pub fn log_plan<F: Files, S: Store, P: Passes, R: Threads + Wait + Sync>(
     ensures whose { result.log ≡ None → IfErr result.answer (IsFaultOfPlanned base.now plan.now (F.told files.old)
         (F.failed_name files.new)) }
 {
-    match read_files(alloc, files, base, plan) {
+    match read_collected(alloc, files, base, plan) {
         Ok(read) => log_read(rt, alloc, store, passes, &read),
         Err(why) => Logged::refused(why),
     }
@@ -95,9 +96,10 @@ fn log_read<S: Store, P: Passes, R: Threads + Wait + Sync>(
     alloc: Global,
     store: &mut S,
     passes: &mut P,
-    read: &LogFiles,
+    read: &CollectedFiles,
 ) -> Logged
-    requires good { AreGood read.now.base (lists_of read.now.rows.items) }
+    requires base { IsGoodBase read.now.base }
+    requires rows { AreRowsOf read.now.base (lists_of read.now.rows.items) }
     requires few { total_rows (lists_of read.now.rows.items) ≤ most_rows }
     ensures held { OnOk result.answer (IsSome result.log) }
     ensures run { IfSome result.log (IsRun S.Dev.trace S.Dev.ticks S.Dev.fault_count read.now.base (lists_of read.now.rows.items)
@@ -109,7 +111,7 @@ fn log_read<S: Store, P: Passes, R: Threads + Wait + Sync>(
         → CountsOpening result.answer (S.fault_count store.old) (S.fault_count store.new) }
     ensures unstopped { result.log ≡ None → P.stops passes.new ≡ P.stops passes.old }
 {
-    let LogFiles { base, rows, .. } = read;
+    let CollectedFiles { base, rows, .. } = read;
     let prepared = match prepare(alloc, base, rows) {
         Ok(prepared) => prepared,
         Err(_) => return Logged::refused(Status::WantOfMemory),

@@ -14,7 +14,6 @@ mod known;
 mod made;
 mod opening;
 mod plant_text;
-mod reading;
 mod report;
 mod session;
 mod settling;

@@ -5,11 +5,11 @@ use Rattle.std.specs.declared.alloc.Global.{Global}
 use Rattle.disk_model.specs.Traces.{Trace}
 use Rattle.plant_status.specs.declared.status.Status.{Status}
 use Rattle.plant_status.specs.declared.status.Status.TheVariants.{BadWords}
+use Rattle.plant_files.specs.Faults.{IsFaultOfPlanned}
 use Rattle.plant_files.specs.Reading.{faults_after}
 use Rattle.command_text.specs.Printing.{IsPrintedSo, IsTold}
 use Rattle.log_command.specs.Headline.{IsLogged, IsUnlogged}
 use Rattle.log_command.specs.Openings.{CountsOpening}
-use Rattle.log_command.specs.Plans.{IsFaultOfPlanned}
 use Rattle.plant_more.specs.declared.log_answer.LogOutcome.{LogOutcome}
 use Rattle.plant_more.specs.Endings.{Scene}
 

@@ -3,6 +3,7 @@ use Rattle.std.proofs.Common.{◌≡◌, inl, inr, ℕ, ◌^◌, ◌<◌, List, 
 use Rattle.byte_io.specs.Outside.{CountsNoFault, Outside}
 use Rattle.disk_model.specs.Traces.{Trace}
 use Rattle.plant_files.specs.Asked.{ToldFiles}
+use Rattle.plant_files.proofs.Faults.{of_none}
 use Rattle.store_commands.specs.Commands.{Devices, IsCheckRefusal, IsTrendRefusal, OfBase, OfGroup, OfPlan, OfReader, OfTag, OfMemory}
 use Rattle.disk_model.specs.Calls.{Rose}
 use Rattle.trend_num.specs.declared.archive.Rec.{Rec}
@@ -15,7 +16,6 @@ use Rattle.plant_status.specs.declared.status.Status.TheVariants.{Done, WriteFau
 use Rattle.frame_command.specs.Commands as frame
 use Rattle.frame_command.specs.Names as frame_names
 use Rattle.frame_command.specs.Rows as frame_rows
-use Rattle.plant_files.proofs.Faults.{of_none}
 use Rattle.plant_more.specs.Endings.{EndsOver, IsUnread, Scene}
 use Rattle.plant_run.specs.CommandLine.{Form, Pack, Check, Trend, Shifts, Frames, Unknown, form_of}
 use Rattle.plant_run.specs.Run.{EndsFor, KeepsFor, World}

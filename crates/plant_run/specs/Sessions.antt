@@ -6,8 +6,8 @@ use Rattle.disk_model.specs.Traces.{Trace}
 use Rattle.plant_status.specs.Status.{code_of}
 use Rattle.plant_status.specs.declared.status.Status.{Status}
 use Rattle.plant_status.specs.declared.status.Status.TheVariants.{BadWords, WantOfMemory}
+use Rattle.plant_files.specs.Faults.{IsFaultOfPlanned}
 use Rattle.plant_files.specs.Reading.{faults_after}
-use Rattle.session_files.specs.Plans.{IsFaultOfPlanned}
 use Rattle.drill_command.specs.declared.words.DrillWords.{DrillWords}
 use Rattle.drill_command.specs.Drills.{IsDrill, IsDrilled, IsUnheld as IsUnheldDrill}
 use Rattle.drill_command.specs.Words.{drill_words}

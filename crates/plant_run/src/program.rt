@@ -36,7 +36,7 @@ pub struct Outcome {
 /// once every device is given back. `log BASE PLAN` puts the rows of these collectors into one log of the whole plant
 /// instead. `drill NUMBER TAGS EVENTS` holds the session of a plant that is made up, in memory. All other commands hold
 /// none. Each refusal but that of a write prints its one line instead.
-#[tactic(auto, using(crate::proofs::Words::run_no_log, crate::proofs::Words::run_no_drill))]
+#[tactic(auto, using(crate::proofs::Words::run_no_log, crate::proofs::Words::run_no_drill, crate::proofs::Words::log_no_drill))]
 pub fn run<R: Threads + Wait + Sync, I: Source, F: Files, O: Sink, S: Store, P: Passes>(
     rt: &R,
     alloc: Global,
@@ -91,124 +91,30 @@ pub fn run<R: Threads + Wait + Sync, I: Source, F: Files, O: Sink, S: Store, P: 
     ensures kept { result.status ≡ Status.BadWords → store.new ≡ store.old }
     ensures unstopped { result.status ≡ Status.BadWords → passes.new ≡ passes.old }
 {
-    match plan_words(words) {
-        Some(Planned { base, plan }) => {
-            let Ran { answer, session } = run_plan(rt, alloc, files, store, passes, base, plan);
-            Outcome {
-                status: finish(answer, out),
-                session,
-            }
-        }
-        None => run_other(rt, alloc, words, input, files, out, store, passes),
+    if let Some(Planned { base, plan }) = plan_words(words) {
+        let Ran { answer, session } = run_plan(rt, alloc, files, store, passes, base, plan);
+        let status = finish(answer, out);
+        return Outcome { status, session };
     }
-}
-
-// Does what words ask for that run no plan.
-#[tactic(auto, using(crate::proofs::Words::log_no_drill))]
-fn run_other<R: Threads + Wait + Sync, I: Source, F: Files, O: Sink, S: Store, P: Passes>(
-    rt: &R,
-    alloc: Global,
-    words: &[String],
-    input: &mut I,
-    files: &mut F,
-    out: &mut O,
-    store: &mut S,
-    passes: &mut P,
-) -> Outcome
-    requires { plan_words (map string_bytes words.now) ≡ None }
-    ensures log { (base plan : List ℕ) → log_words (map string_bytes words.now) ≡ Some (base, plan)
-        → IsLogHandedOn S.Dev.trace S.Dev.ticks S.Dev.fault_count base plan
-        (world (I.meaning input.old) (O.meaning out.old) (F.told files.old) (F.fault_count files.old) (F.failed_name files.old)
-        (S.device_at store.old) (S.fault_count store.old))
-        (world (I.meaning input.new) (O.meaning out.new) (F.told files.new) (F.fault_count files.new) (F.failed_name files.new)
-        (S.device_at store.new) (S.fault_count store.new)) (P.stops passes.old) (P.stops passes.new) result }
-    ensures drill { (wanted : DrillWords) → drill_words (map string_bytes words.now) ≡ Some wanted → IsDrillSo wanted
-        (world (I.meaning input.old) (O.meaning out.old) (F.told files.old) (F.fault_count files.old) (F.failed_name files.old)
-        (S.device_at store.old) (S.fault_count store.old))
-        (world (I.meaning input.new) (O.meaning out.new) (F.told files.new) (F.fault_count files.new) (F.failed_name files.new)
-        (S.device_at store.new) (S.fault_count store.new)) (P.stops passes.old) (P.stops passes.new) result }
-    ensures ends { log_words (map string_bytes words.now) ≡ None → drill_words (map string_bytes words.now) ≡ None
-        → EndsIn (map string_bytes words.now)
-        (world (I.meaning input.old) (O.meaning out.old) (F.told files.old) (F.fault_count files.old) (F.failed_name files.old)
-        (S.device_at store.old) (S.fault_count store.old))
-        (world (I.meaning input.new) (O.meaning out.new) (F.told files.new) (F.fault_count files.new) (F.failed_name files.new)
-        (S.device_at store.new) (S.fault_count store.new)) result.status }
-    ensures alone { log_words (map string_bytes words.now) ≡ None → drill_words (map string_bytes words.now) ≡ None
-        → result.session ≡ None }
-    ensures devices { log_words (map string_bytes words.now) ≡ None → drill_words (map string_bytes words.now) ≡ None
-        → KeepsFor (form_of (map string_bytes words.now)) (F.told files.old) (S.device_at store.old) (S.device_at store.new) }
-    ensures files { F.told files.new ≡ F.told files.old }
-    ensures bad_words { log_words (map string_bytes words.now) ≡ None → drill_words (map string_bytes words.now) ≡ None
-        → (result.status ≡ Status.BadWords) ↔ MeansNothing (form_of (map string_bytes words.now)) }
-    ensures untouched { result.status ≡ Status.BadWords → input.new ≡ input.old }
-    ensures unread { result.status ≡ Status.BadWords → files.new ≡ files.old }
-    ensures kept { result.status ≡ Status.BadWords → store.new ≡ store.old }
-    ensures unstopped { result.status ≡ Status.BadWords → passes.new ≡ passes.old }
-{
-    match log_words(words) {
-        Some(_) => {
-            let LogOutcome { status, log } = log(rt, alloc, words, files, out, store, passes);
-            Outcome {
-                status,
-                session: session_of(alloc, log),
-            }
-        }
-        None => run_rest(rt, alloc, words, input, files, out, store, passes),
+    if log_words(words).is_some() {
+        let LogOutcome { status, log } = log(rt, alloc, words, files, out, store, passes);
+        let session = session_of(alloc, log);
+        return Outcome { status, session };
     }
-}
-
-// Does what words ask for that neither run nor log a plan.
-fn run_rest<R: Threads + Wait + Sync, I: Source, F: Files, O: Sink, S: Store, P: Passes>(
-    rt: &R,
-    alloc: Global,
-    words: &[String],
-    input: &mut I,
-    files: &mut F,
-    out: &mut O,
-    store: &mut S,
-    passes: &mut P,
-) -> Outcome
-    requires no_run { plan_words (map string_bytes words.now) ≡ None }
-    requires no_log { log_words (map string_bytes words.now) ≡ None }
-    ensures drill { (wanted : DrillWords) → drill_words (map string_bytes words.now) ≡ Some wanted → IsDrillSo wanted
-        (world (I.meaning input.old) (O.meaning out.old) (F.told files.old) (F.fault_count files.old) (F.failed_name files.old)
-        (S.device_at store.old) (S.fault_count store.old))
-        (world (I.meaning input.new) (O.meaning out.new) (F.told files.new) (F.fault_count files.new) (F.failed_name files.new)
-        (S.device_at store.new) (S.fault_count store.new)) (P.stops passes.old) (P.stops passes.new) result }
-    ensures ends { drill_words (map string_bytes words.now) ≡ None → EndsIn (map string_bytes words.now)
-        (world (I.meaning input.old) (O.meaning out.old) (F.told files.old) (F.fault_count files.old) (F.failed_name files.old)
-        (S.device_at store.old) (S.fault_count store.old))
-        (world (I.meaning input.new) (O.meaning out.new) (F.told files.new) (F.fault_count files.new) (F.failed_name files.new)
-        (S.device_at store.new) (S.fault_count store.new)) result.status }
-    ensures alone { drill_words (map string_bytes words.now) ≡ None → result.session ≡ None }
-    ensures devices { drill_words (map string_bytes words.now) ≡ None
-        → KeepsFor (form_of (map string_bytes words.now)) (F.told files.old) (S.device_at store.old) (S.device_at store.new) }
-    ensures files { F.told files.new ≡ F.told files.old }
-    ensures bad_words { drill_words (map string_bytes words.now) ≡ None
-        → (result.status ≡ Status.BadWords) ↔ MeansNothing (form_of (map string_bytes words.now)) }
-    ensures untouched { result.status ≡ Status.BadWords → input.new ≡ input.old }
-    ensures unread { result.status ≡ Status.BadWords → files.new ≡ files.old }
-    ensures kept { result.status ≡ Status.BadWords → store.new ≡ store.old }
-    ensures unstopped { result.status ≡ Status.BadWords → passes.new ≡ passes.old }
-{
-    match drill_words(words) {
-        Some(
-            DrillWords {
-                number,
-                tags,
-                events,
-            },
-        ) => {
-            let Ran { answer, session } = drill(rt, alloc, passes, number, tags, events);
-            Outcome {
-                status: finish(answer, out),
-                session,
-            }
-        }
-        None => Outcome {
-            status: answer(alloc, words, input, files, out, store),
-            session: None,
-        },
+    if let Some(wanted) = drill_words(words) {
+        let DrillWords {
+            number,
+            tags,
+            events,
+        } = wanted;
+        let Ran { answer, session } = drill(rt, alloc, passes, number, tags, events);
+        let status = finish(answer, out);
+        return Outcome { status, session };
+    }
+    let status = answer(alloc, words, input, files, out, store);
+    Outcome {
+        status,
+        session: None,
     }
 }
 

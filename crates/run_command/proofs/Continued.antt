@@ -1,73 +1,47 @@
 -- Cells and books at the end of a session, beside those that were opened.
-use Rattle.std.proofs.Common.{◌≡◌, ◌∙◌, ◌<◌, ℕ, zero, suc, List, [], ◌∷◌, All, arith, ap, sym, subst, length, map, get_or, refl}
+use Rattle.std.proofs.Common.{◌≡◌, ◌∙◌, ◌<◌, ℕ, List, [], All, arith, ap, sym, subst, length, map, get_or, refl, Vec, vec_len}
 use Rattle.std.proofs.lemmas.List.{get_or-map, length-map}
 use Rattle.std.specs.List.{AllZip}
+use Rattle.std.specs.declared.alloc.Global.{Global}
 use Rattle.tag_base.specs.declared.definition.GroupDef.{GroupDef}
 use Rattle.tag_base.specs.Groups.{IsSound}
 use Rattle.tag_cell.specs.Told.{Told as Cell}
 use Rattle.group_book.specs.Told.{Told as Book}
 use Rattle.plant_session.specs.declared.comparing.Kept.{Kept}
 use Rattle.group_session.specs.declared.comparing.KeptGroup.{KeptGroup}
-use Rattle.group_session.specs.Openings.{AreAsKept as AreGroupsAsKept}
+use Rattle.group_session.specs.Openings.{AreAsKept as AreGroupsAsKept, IsAsKept as IsGroupAsKept}
 use Rattle.group_session.specs.Inputs.{AreInputs, IsInputsOf}
 use Rattle.run_command.specs.Copies.{IsCopied, IsCopiedGroup}
 use Rattle.run_command.specs.Runs.{AreDefined, IsContinued, IsContinuedGroup}
-use Rattle.run_command.specs.Steps.{AreAsKept, AreInputsFor}
+use Rattle.run_command.specs.Steps.{AreAsKept, AreInputsFor, IsAsKept}
 use Rattle.plant_status.proofs.Elements.{element}
+use Rattle.run_command.proofs.Zipped.{zip_at, zip_each, zip_length, zip_on, zip_same}
 
--- lists that are related place by place are as long
-pub zip_length : {A B : Type 0} (R : A → B → Type 0) (xs : List A) (ys : List B) → AllZip R xs ys → length ys ≡ length xs
-zip_length R [] [] zip = refl
-zip_length R [] (y ∷ ys) zip = absurd zip
-zip_length R (x ∷ xs) [] zip = absurd zip
-zip_length R (x ∷ xs) (y ∷ ys) zip = ap suc (zip_length R xs ys zip.1)
-
--- and what is related at one place
-pub zip_at : {A B : Type 0} (R : A → B → Type 0) (xs : List A) (ys : List B) (i : ℕ) (x : A) (y : B) → AllZip R xs ys → i < length ys
-    → R (get_or xs i x) (get_or ys i y)
-zip_at R [] [] i x y zip below = absurd (omega (arith, below))
-zip_at R [] (b ∷ ys) i x y zip below = absurd zip
-zip_at R (a ∷ xs) [] i x y zip below = absurd zip
-zip_at R (a ∷ xs) (b ∷ ys) zero x y zip below = zip.0
-zip_at R (a ∷ xs) (b ∷ ys) (suc i) x y zip below = zip_at R xs ys i x y zip.1 (omega (arith, below))
+-- as many are known as there are at the end, where as many were opened
+pub as_many_known : {A B : Type 0} (opened ended : Vec A Global) (through : List A) (known : Vec B Global) → through ≡ opened.items
+    → vec_len known ≡ length through → vec_len ended ≡ vec_len opened → length known.items ≡ length ended.items
+as_many_known opened ended through known same copied many =
+    omega (arith, ap length same, copied, many, known.ok, ended.ok, opened.ok)
 
 module _ {D : Type 0} where
   -- cells that are as was kept of what was opened are continued
   pub continued : (opened cells : List (Cell D)) (known : List Kept) → length known ≡ length cells → AllZip IsCopied opened known
       → AreAsKept cells known → AllZip IsContinued opened cells
-  continued [] [] known many copied kept = tt
-  continued [] (c ∷ cs) [] many copied kept = absurd (omega (arith, many))
-  continued [] (c ∷ cs) (k ∷ ks) many copied kept = absurd copied
-  continued (o ∷ os) cells [] many copied kept = absurd copied
-  continued (o ∷ os) [] (k ∷ ks) many copied kept = absurd (omega (arith, many))
-  continued (o ∷ os) (c ∷ cs) (k ∷ ks) many copied kept =
-      let same = kept.each 0 c k (omega arith) in
-      let copy = copied.0 in
-      let now : IsContinued o c = record {
+  continued opened cells known many copied kept =
+      zip_on IsCopied (λ k c. IsAsKept c k) IsContinued (λ o k c copy same. record {
         def = same.def ∙ copy.def;
         summary = same.summary ∙ copy.summary;
         records = same.records ∙ copy.records;
         moment = same.moment ∙ copy.moment;
         faults = same.faults ∙ copy.faults;
-      } in (
-        now,
-        continued os cs ks (omega (arith, many)) copied.1 (record {
-          each = λ i a b below. kept.each (suc i) a b (omega (arith, below));
-        }),
-      )
+      }) opened known cells copied (zip_each (λ k c. IsAsKept c k) known cells (sym many)
+      (λ i k c below. kept.each i c k (subst (λ n. i < n) many below)))
 
   -- so are books
   pub groups_continued : (opened books : List (Book D)) (known : List KeptGroup) → length known ≡ length books
       → AllZip IsCopiedGroup opened known → AreGroupsAsKept books known → AllZip IsContinuedGroup opened books
-  groups_continued [] [] known many copied kept = tt
-  groups_continued [] (c ∷ cs) [] many copied kept = absurd (omega (arith, many))
-  groups_continued [] (c ∷ cs) (k ∷ ks) many copied kept = absurd copied
-  groups_continued (o ∷ os) books [] many copied kept = absurd copied
-  groups_continued (o ∷ os) [] (k ∷ ks) many copied kept = absurd (omega (arith, many))
-  groups_continued (o ∷ os) (c ∷ cs) (k ∷ ks) many copied kept =
-      let same = kept.each 0 c k (omega arith) in
-      let copy = copied.0 in
-      let now : IsContinuedGroup o c = record {
+  groups_continued opened books known many copied kept =
+      zip_on IsCopiedGroup (λ k b. IsGroupAsKept b k) IsContinuedGroup (λ o k b copy same. record {
         group = same.defined.group ∙ copy.group;
         def = same.defined.def ∙ copy.def;
         text = same.defined.text ∙ copy.text;
@@ -75,69 +49,44 @@ module _ {D : Type 0} where
         rows = same.opened.rows ∙ copy.rows;
         moment = same.opened.moment ∙ copy.moment;
         faults = same.opened.faults ∙ copy.faults;
-      } in (
-        now,
-        groups_continued os cs ks (omega (arith, many)) copied.1 (record {
-          each = λ i a b below. kept.each (suc i) a b (omega (arith, below));
-        }),
-      )
+      }) opened known books copied (zip_each (λ k b. IsGroupAsKept b k) known books (sym many)
+      (λ i k b below. kept.each i b k (subst (λ n. i < n) many below)))
 
   -- what was opened is continued by itself
   pub still : (cells : List (Cell D)) → AllZip IsContinued cells cells
-  still [] = tt
-  still (c ∷ cs) = (record { def = refl; summary = refl; records = refl; moment = refl; faults = refl }, still cs)
+  still = zip_same IsContinued (λ c. record { def = refl; summary = refl; records = refl; moment = refl; faults = refl })
 
   pub groups_still : (books : List (Book D)) → AllZip IsContinuedGroup books books
-  groups_still [] = tt
-  groups_still (b ∷ bs) = (
-    record {
-      group = refl;
-      def = refl;
-      text = refl;
-      versions = refl;
-      rows = refl;
-      moment = refl;
-      faults = refl;
-    },
-    groups_still bs,
-  )
+  groups_still = zip_same IsContinuedGroup (λ b. record {
+    group = refl;
+    def = refl;
+    text = refl;
+    versions = refl;
+    rows = refl;
+    moment = refl;
+    faults = refl;
+  })
 
   -- what is continued is continued on
   pub cells_on : (a b c : List (Cell D)) → AllZip IsContinued a b → AllZip IsContinued b c → AllZip IsContinued a c
-  cells_on [] [] [] first second = tt
-  cells_on [] [] (z ∷ zs) first second = absurd second
-  cells_on [] (y ∷ ys) c first second = absurd first
-  cells_on (x ∷ xs) [] c first second = absurd first
-  cells_on (x ∷ xs) (y ∷ ys) [] first second = absurd second
-  cells_on (x ∷ xs) (y ∷ ys) (z ∷ zs) first second = (
-    record {
-      def = second.0.def ∙ first.0.def;
-      summary = second.0.summary ∙ first.0.summary;
-      records = second.0.records ∙ first.0.records;
-      moment = second.0.moment ∙ first.0.moment;
-      faults = second.0.faults ∙ first.0.faults;
-    },
-    cells_on xs ys zs first.1 second.1,
-  )
+  cells_on = zip_on IsContinued IsContinued IsContinued (λ x y z first second. record {
+    def = second.def ∙ first.def;
+    summary = second.summary ∙ first.summary;
+    records = second.records ∙ first.records;
+    moment = second.moment ∙ first.moment;
+    faults = second.faults ∙ first.faults;
+  })
 
   pub books_on : (a b c : List (Book D)) → AllZip IsContinuedGroup a b → AllZip IsContinuedGroup b c → AllZip IsContinuedGroup a c
-  books_on [] [] [] first second = tt
-  books_on [] [] (z ∷ zs) first second = absurd second
-  books_on [] (y ∷ ys) c first second = absurd first
-  books_on (x ∷ xs) [] c first second = absurd first
-  books_on (x ∷ xs) (y ∷ ys) [] first second = absurd second
-  books_on (x ∷ xs) (y ∷ ys) (z ∷ zs) first second = (
-    record {
-      group = second.0.group ∙ first.0.group;
-      def = second.0.def ∙ first.0.def;
-      text = second.0.text ∙ first.0.text;
-      versions = second.0.versions ∙ first.0.versions;
-      rows = second.0.rows ∙ first.0.rows;
-      moment = second.0.moment ∙ first.0.moment;
-      faults = second.0.faults ∙ first.0.faults;
-    },
-    books_on xs ys zs first.1 second.1,
-  )
+  books_on = zip_on IsContinuedGroup IsContinuedGroup IsContinuedGroup (λ x y z first second. record {
+    group = second.group ∙ first.group;
+    def = second.def ∙ first.def;
+    text = second.text ∙ first.text;
+    versions = second.versions ∙ first.versions;
+    rows = second.rows ∙ first.rows;
+    moment = second.moment ∙ first.moment;
+    faults = second.faults ∙ first.faults;
+  })
 
   -- ---- the tags of the groups' inputs
 

@@ -60,9 +60,9 @@ use Rattle.session_report.specs.Report.{report}
 use Rattle.run_command.specs.declared.known.Given.{Given}
 use Rattle.run_command.specs.Headline.{AreGroupsSound, AreOpened, IsDoneSo, IsGroupOpened, IsMixed, IsPromised, IsRefreshed, IsTagOpened, IsTagSound, entries, records_of, turns, turns_in}
 use Rattle.run_command.specs.Refusals.{IsOfOpening}
-use Rattle.run_command.specs.Runs.{IsContinued, IsContinuedGroup, IsDone, IsOver, IsSession, IsWorkIn}
+use Rattle.run_command.specs.Runs.{IsContinued, IsContinuedGroup, IsDone, IsHeld, IsOver, IsSession, IsWorkIn}
 use Rattle.run_command.specs.Steps.{IsMade, planned_turn, turn_of}
-use Rattle.run_command.proofs.Continued.{zip_at, zip_length}
+use Rattle.run_command.proofs.Zipped.{zip_at, zip_length}
 use Rattle.run_command.proofs.DeviceFaults.{faults_counted}
 use Rattle.plant_status.proofs.Elements.{element}
 
@@ -90,7 +90,7 @@ sound_tags new (d ∷ ds) (t ∷ ts) is = (sound_tag (trace_of new d) is.0.0 is.
 
 module _ {D : Type 0} (trace : D → Option Trace) (ticks faults : D → ℕ) (old : Devices) where
   -- each was opened as its device stood
-  pub opened_tags : (defs : List TagDef) (first last : List (Cell D)) (ts : List TagHistory)
+  opened_tags : (defs : List TagDef) (first last : List (Cell D)) (ts : List TagHistory)
       → AreCellsOpened trace ticks faults defs old first → AllZip IsContinued first last → AreHistoriesOf trace ticks faults last ts
       → AllZip (λ def t. IsTagOpened def (trace_of old def) t) defs ts
   opened_tags [] [] [] [] was same is = tt
@@ -198,7 +198,7 @@ module _ {D : Type 0} (trace : D → Option Trace) (ticks faults : D → ℕ) (b
       }
 
   -- each was opened as what its device stood for
-  pub opened_groups : (first last_cells : List (Cell D)) (opened last : List (Book D)) (s : Session)
+  opened_groups : (first last_cells : List (Cell D)) (opened last : List (Book D)) (s : Session)
       → AreBooksOpened trace ticks faults base.groups.items (records_in first) old opened → AllZip IsContinuedGroup opened last
       → IsOver trace ticks faults base old new last_cells last s → (i : ℕ) (d : GroupDef) (g : GroupHistory) → i < length s.groups.items
       → IsGroupOpened i (get_or base.groups.items i d) (trace_at old (get_or base.groups.items i d)) (get_or s.groups.items i g)
@@ -380,18 +380,24 @@ pub if_done : {P : Type 0} {X Y : String Global → Type 0} (answer : Result (St
 if_done (Ok text) opened follows x = follows (opened (λ none. none)) text x
 if_done (Err why) opened follows x = tt
 
+-- unless an opening is told to be another, each tag and group of a session that was held was opened as its device stood
+pub held_opened : {D : Type 0} (trace : D → Option Trace) (ticks faults : D → ℕ) (base : Base) (g : Given) (old new : Devices)
+    (before now : ℕ) (answer : Result (String Global) Status) (s : Session) → IsHeld trace ticks faults base g old new before now answer s
+    → (IsOfOpening answer → ⊥) → AreOpened base old s
+held_opened trace ticks faults base g old new before now answer s is none = record {
+  tags = opened_tags trace ticks faults old base.tags.items is.opened is.cells s.tags.items is.opening.tags (is.same_tags none)
+      is.over.tags;
+  groups = opened_groups trace ticks faults base old new is.opened is.cells is.opened_books is.books s is.opening.groups
+      (is.same_groups none) is.over;
+}
+
 pub promised : {D : Type 0} (trace : D → Option Trace) (ticks faults : D → ℕ) (name plan_name : List ℕ) (told : ToldFiles)
     (old new : Devices) (before now stops_before stops_now : ℕ) (answer : Result (String Global) Status) (s : Session)
     → IsSession trace ticks faults name plan_name told old new before now stops_before stops_now answer s
     → IsPromised name plan_name told old new before now answer s
 promised trace ticks faults name plan_name told old new before now stops_before stops_now answer s is =
-    let run = is.run in
-    let opened_as : (IsOfOpening answer → ⊥) → AreOpened is.base old s = λ none. record {
-      tags = opened_tags trace ticks faults old is.base.tags.items run.opened run.cells s.tags.items run.opening.tags (run.same_tags none)
-          run.over.tags;
-      groups = opened_groups trace ticks faults is.base old new run.opened run.cells run.opened_books run.books s run.opening.groups
-          (run.same_groups none) run.over;
-    } in
+    let run = is.run.held in
+    let opened_as = held_opened trace ticks faults is.base is.given old new before now answer s run in
     record {
       base = is.base;
       plan = is.plan;
@@ -409,6 +415,6 @@ promised trace ticks faults name plan_name told old new before now stops_before 
           let counts = run.counts few in (
             counts.later,
             faults_counted trace ticks faults is.base old new before now run.cells run.books s run.over counts is.given run.opened
-                run.opened_books s.workers.items answer run.undone,
+                run.opened_books s.workers.items answer is.run.undone,
           );
     }

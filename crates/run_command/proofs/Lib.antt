@@ -3,7 +3,7 @@ pub mod Results
 pub mod Making
 pub mod Mismatches
 pub mod Notes
-pub mod Copied
+pub mod Zipped
 pub mod Continued
 pub mod Crossing
 pub mod Told

@@ -1,7 +1,9 @@
 -- What is answered of a session, beside what it came to.
 use Rattle.std.proofs.Common.{◌≡◌, ◌<◌, ℕ, List, Option, None, Some, Result, Ok, Err, OnOk, IfErr, IfOk, String, string_bytes, sym, subst}
 use Rattle.std.specs.Prelude.{◌^◌, IfSome}
+use Rattle.std.specs.List.{AllZip}
 use Rattle.std.specs.declared.alloc.Global.{Global}
+use Rattle.disk_model.specs.Traces.{Trace}
 use Rattle.plant_status.specs.declared.status.Status.{Status}
 use Rattle.tag_base.specs.declared.definition.Base.{Base}
 use Rattle.calc_refresh.specs.Lists.{lists_of}
@@ -9,11 +11,13 @@ use Rattle.tag_cell.specs.Told.{Told as Cell}
 use Rattle.group_book.specs.Told.{Told as Book}
 use Rattle.collector_pool.specs.declared.note.WorkerNote.{WorkerNote}
 use Rattle.group_session.specs.Pulls.{ArePulled}
+use Rattle.book_store.specs.Groups.{Devices}
 use Rattle.plant_store.specs.Closings.{CountsClosed}
 use Rattle.session_report.specs.declared.session.Session.{Session}
 use Rattle.run_command.specs.declared.known.Given.{Given}
+use Rattle.run_command.specs.declared.session.Ended.{Ended}
 use Rattle.run_command.specs.Refusals.{IsOfOpening}
-use Rattle.run_command.specs.Runs.{IsDone, IsTold, IsUndone, OfNone}
+use Rattle.run_command.specs.Runs.{IsContinued, IsContinuedGroup, IsDone, IsHeld, IsOpen, IsOver, IsTold, IsUndone, OfNone}
 use Rattle.run_command.specs.Steps.{IsMade}
 
 -- what follows of what is there
@@ -56,3 +60,28 @@ pub counted_since : {D : Type 0} (faults : D → ℕ) (cells : List (Cell D)) (b
     → CountsClosed faults cells books before now
 counted_since faults cells books before opened now same counts few =
     subst (λ n. CountsClosed faults cells books n now) (same few) (counts (subst (λ n. n < 2 ^ 64) (sym (same few)) few))
+
+-- what is told of a session that ended so, whose devices were opened and are given back
+abbrev pub held_told : {D : Type 0} (trace : D → Option Trace) (ticks faults : D → ℕ) (base : Base) (g : Given) (old new : Devices)
+    (before opening now : ℕ) (opened : List (Cell D)) (opened_books : List (Book D)) (e : Ended D) (told : Result (String Global) Status)
+    (s : Session) → IsOpen trace ticks faults base old opened opened_books
+    → IsOver trace ticks faults base old new e.cells.items e.books.items s → (before < 2 ^ 64 → opening ≡ before)
+    → (opening < 2 ^ 64 → CountsClosed faults e.cells.items e.books.items opening now)
+    → ((IsOfOpening e.answer → ⊥) → AllZip IsContinued opened e.cells.items)
+    → ((IsOfOpening e.answer → ⊥) → AllZip IsContinuedGroup opened_books e.books.items)
+    → OnOk e.answer (IsMade g e.cells.items e.books.items)
+    → OnOk e.answer (ArePulled (lists_of g.inputs.items) e.cells.items e.books.items) → IsTold base g s e.answer told
+    → IsHeld trace ticks faults base g old new before now told s
+held_told trace ticks faults base g old new before opening now opened opened_books e told s was over same counts tags groups made pulled is =
+    record {
+      opened = opened;
+      opened_books = opened_books;
+      cells = e.cells.items;
+      books = e.books.items;
+      opening = was;
+      over = over;
+      counts = counted_since faults e.cells.items e.books.items before opening now same counts;
+      same_tags = λ none. tags (λ of. none (opening_told base g s e.answer told is of));
+      same_groups = λ none. groups (λ of. none (opening_told base g s e.answer told is of));
+      done = done_told base g s e.cells.items e.books.items e.answer told is made pulled;
+    }

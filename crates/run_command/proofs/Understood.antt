@@ -26,11 +26,11 @@ use Rattle.run_command.specs.Runs as runs
 
 -- no file is refused so
 of_files : (name plan_name : List ℕ) (told : ToldFiles) → plans.IsPlanningRefusal name plan_name told BadWords → ⊥
-of_files name plan_name told (plans.OfBase is) = is
-of_files name plan_name told (plans.OfPlan base read is) = is
-of_files name plan_name told (plans.OfCollector base plan read planned is) = (is (λ same. cc same)).refused
-of_files name plan_name told (plans.OfReader base plan rows read planned fed is) = (is (λ same. cc same)).first.refused
-of_files name plan_name told (plans.OfRows base plan rows lists read planned fed asked is) = cc (is.told)
+of_files name plan_name told (plans.OfFiles (plans.OfBase is)) = is
+of_files name plan_name told (plans.OfFiles (plans.OfPlan base read is)) = is
+of_files name plan_name told (plans.OfFiles (plans.OfCollector base plan read planned is)) = (is (λ same. cc same)).refused
+of_files name plan_name told (plans.OfReader base plan rows read is) = (is (λ same. cc same)).first.refused
+of_files name plan_name told (plans.OfRows base plan rows lists read asked is) = cc (is.told)
 of_files name plan_name told (plans.OfMemory same) = cc same
 
 -- no device either
@@ -110,7 +110,8 @@ pub understood : {D : Type 0} (trace : D → Option Trace) (ticks faults : D →
 understood trace ticks faults name plan_name told old new before now stops_before stops_now None answer unheld held =
     unheld_understood name plan_name told old new before now answer (unheld refl)
 understood trace ticks faults name plan_name told old new before now stops_before stops_now (Some s) answer unheld held =
-    undone_understood held.given held.run.cells held.run.books held.run.opened held.run.opened_books s.workers.items answer held.run.undone
+    let run = held.run.held in
+    undone_understood held.given run.cells run.books run.opened run.opened_books s.workers.items answer held.run.undone
 
 pub files_understood : (name plan_name : List ℕ) (told : ToldFiles) (why : Status) → plans.IsPlanningRefusal name plan_name told why
     → why ≢ BadWords

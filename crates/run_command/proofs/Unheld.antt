@@ -1,19 +1,16 @@
 -- A session that is not held for its devices has no fault of a file.
-use Rattle.std.proofs.Common.{◌≡◌, ℕ, List, Option, Result, Ok, Err, refl, subst}
+use Rattle.std.proofs.Common.{◌≡◌, ℕ, Result, Ok, Err, refl, subst}
 use Rattle.std.specs.Prelude.{IfErr}
 use Rattle.std.specs.declared.alloc.Global.{Global}
 use Rattle.std.proofs.Common.{String}
-use Rattle.plant_status.specs.declared.file.FileId.TheVariants as file
 use Rattle.plant_status.specs.declared.status.Status.{Status}
 use Rattle.plant_status.specs.declared.status.Status.TheVariants.{Done, BadWords, BadText, BadRow, ReadFault, WriteFault, DeviceFault, Damaged, OtherTag, Limit, Mismatch, Halted, WantOfMemory, OtherPlant, BadName}
 use Rattle.plant_files.specs.Reading.{faults_after, faults_told}
-use Rattle.plant_files.specs.RowFiles.{ToldFiles}
 use Rattle.tag_base.specs.declared.definition.Base.{Base}
 use Rattle.tag_store.specs.Refusals as tags
 use Rattle.book_store.specs.Groups.{Devices}
 use Rattle.book_store.specs.Refusals.{OfDamage, OfFault, OfMemory, OfVersion, OfWindows}
 use Rattle.plant_store.specs.Openings.{OfGroups, OfTags}
-use Rattle.session_files.specs.Plans.{IsFaultOfPlanned}
 use Rattle.run_command.specs.Runs.{IsNoReadFault, IsUnopened, OfPlant, OfWant}
 
 -- no refusal of devices is a read fault
@@ -49,13 +46,3 @@ told_none (BadName word) n other = refl
 pub after_none : (answer : Result (String Global) Status) (n : ℕ) → IfErr answer IsNoReadFault → faults_after answer n ≡ n
 after_none (Ok text) n other = refl
 after_none (Err why) n other = told_none why n other
-
--- and is told of no file
-pub of_none : (name plan_name : List ℕ) (told : ToldFiles) (failed : Option (List ℕ)) (why : Status) → IsNoReadFault why
-    → IsFaultOfPlanned name plan_name told failed why
-of_none name plan_name told failed why other = record {
-  base = λ same. absurd (other file.Base same);
-  plan = λ same. absurd (other file.Plan same);
-  collector = λ place same. absurd (other (file.Collector place) same);
-  reader = λ place same. absurd (other (file.Reader place) same);
-}

@@ -163,11 +163,11 @@ pub record IsTold (base : Base) (g : Given) (s : Session) (came : Result Unit St
   pub want : OnOk came (IfErr told (λ why. why ≡ WantOfMemory))
   pub refused : IfErr came (λ why. told ≡ Err why)
 
--- A session of this work over a base, and what came of it: the devices were opened, and are given back; unless an opening is told
--- to be another, each cell and book is the one that was opened; as many workers were stopped as the passes counted; and it is done,
--- or there is a cause. The store counts the faults of the devices: so many before, and so many now.
-pub record IsRun {D : Type 0} (trace : D → Option Trace) (ticks faults : D → ℕ) (base : Base) (g : Given) (old new : Devices)
-    (before now : ℕ) (stops_before stops_now : ℕ) (answer : Result (String Global) Status) (s : Session) : Type 0 where
+-- A session over a base, and what came of it: the devices were opened, and are given back; unless an opening is told to be another,
+-- each cell and book is the one that was opened; and where there is a text, the session is done. The store counts the faults of the
+-- devices: so many before, and so many now.
+pub record IsHeld {D : Type 0} (trace : D → Option Trace) (ticks faults : D → ℕ) (base : Base) (g : Given) (old new : Devices)
+    (before now : ℕ) (answer : Result (String Global) Status) (s : Session) : Type 0 where
   pub opened : List (Cell D)
   pub opened_books : List (Book D)
   pub cells : List (Cell D)
@@ -177,9 +177,15 @@ pub record IsRun {D : Type 0} (trace : D → Option Trace) (ticks faults : D →
   pub counts : before < 2 ^ 64 → CountsClosed faults cells books before now
   pub same_tags : (IsOfOpening answer → ⊥) → AllZip IsContinued opened cells
   pub same_groups : (IsOfOpening answer → ⊥) → AllZip IsContinuedGroup opened_books books
-  pub notes : AreNotes D g.work stops_before stops_now s.workers.items
   pub done : IfOk answer (λ text. IsDone base g cells books s (string_bytes text))
-  pub undone : IfErr answer (IsUndone g opened opened_books cells books s.workers.items)
+
+-- A session of this work over a base, and what came of it: it was held; as many workers were stopped as the passes counted; and it is
+-- done, or there is a cause.
+pub record IsRun {D : Type 0} (trace : D → Option Trace) (ticks faults : D → ℕ) (base : Base) (g : Given) (old new : Devices)
+    (before now : ℕ) (stops_before stops_now : ℕ) (answer : Result (String Global) Status) (s : Session) : Type 0 where
+  pub held : IsHeld trace ticks faults base g old new before now answer s
+  pub notes : AreNotes D g.work stops_before stops_now s.workers.items
+  pub undone : IfErr answer (IsUndone g held.opened held.opened_books held.cells held.books s.workers.items)
 
 -- a session of the plan in a file over the base in another, and what came of it
 pub record IsSession {D : Type 0} (trace : D → Option Trace) (ticks faults : D → ℕ) (name plan_name : List ℕ) (told : ToldFiles)

@@ -17,6 +17,7 @@ use Rattle.plant_session.specs.Workers.{AreOver, AreTapesFound, AreTapesWhole}
 use Rattle.group_book.specs.Told.{Told as Book}
 use Rattle.group_session.specs.declared.comparing.KeptGroup.{KeptGroup}
 use Rattle.group_session.specs.Books.{tape_of}
+use Rattle.group_session.specs.Inputs.{AreInputs}
 use Rattle.group_session.specs.Refreshing.{AreRefreshed, durable_lists}
 use Rattle.group_session.specs.Tapes.{row_ask_of}
 use Rattle.group_session.specs.Turns.{IsWithinTurns, turns_for}
@@ -64,6 +65,13 @@ pub record AreGivenFor (tags groups : ℕ) (g : Given) : Type 0 where
   pub turns_are : length g.turns.items ≡ groups
   pub turns : (group : ℕ) → group < groups → slice_index g.turns.items group ≡ g.phases + turns_for group g.work.refreshers.items
   pub few_turns : (group : ℕ) → group < groups → slice_index g.turns.items group + 1 < 2 ^ 32
+
+-- no more cells and books than there may be, the work that is given for them, and the tags of each group's inputs
+pub record AreReady {D : Type 0} (g : Given) (cells : List (Cell D)) (books : List (Book D)) : Type 0 where
+  pub few_cells : length cells < 2 ^ 32
+  pub few_books : length books < 2 ^ 32
+  pub given : AreGivenFor (length cells) (length books) g
+  pub inputs : AreInputs (length cells) (lists_of g.inputs.items) books
 
 -- the progress of workers is over their rows: of collectors, of readers at tags, and of readers at groups
 pub record AreOverAll (tags groups : ℕ) (g : Given) (takes asks row_asks : List Reached) : Type 0 where

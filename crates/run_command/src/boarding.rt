@@ -8,16 +8,16 @@ use std::alloc::Global;
 use std::sync::{Arc, Wait};
 use trend_num::WantOfMemory;
 
-/// A board, its posters, and a looker for each reader.
+// A board, its posters, and a looker for each reader.
 #[derive(Drop)]
-pub struct Boarding {
-    pub board: Arc<Board, Global>,
-    pub posters: Vec<Poster>,
-    pub lookers: Vec<Looker>,
+pub(crate) struct Boarding {
+    pub(crate) board: Arc<Board, Global>,
+    pub(crate) posters: Vec<Poster>,
+    pub(crate) lookers: Vec<Looker>,
 }
 
-/// The board of so many tags, for so many readers.
-pub fn boarding_for<R: Wait>(
+// The board of so many tags, for so many readers.
+pub(crate) fn boarding_for<R: Wait>(
     rt: &R,
     alloc: Global,
     tags: u32,

@@ -1,7 +1,7 @@
 // Copies of what cells and books were opened as.
 ghost use Rattle.std.specs.Prelude.{◌≡◌, IfOk, length, vec_len};
+ghost use Rattle.std.specs.List.{AllZip};
 ghost use Rattle.calc_refresh.specs.Lists.{lists_of};
-ghost use Rattle.run_command.specs.Copies.{AreCopied, AreCopiedGroups, IsCopied, IsCopiedGroup};
 
 use calc_refresh::{CalcValue, GroupDefParts};
 use disk_model::Disk;
@@ -12,74 +12,82 @@ use std::alloc::Global;
 use tag_cell::{Cell, TagOpening};
 use trend_num::WantOfMemory;
 
-// What is kept of each cell.
-pub(crate) fn copies_of<D: Disk>(
+// Something of which is kept what it was opened as.
+pub(crate) trait Opened {
+    // What is kept of it.
+    type Kept: Drop;
+
+    // This is kept of it.
+    ghost is_copied: { Self → Self.Kept → Type 0 };
+
+    // Makes what is kept of it.
+    fn copy(&self, alloc: Global) -> Result<Self::Kept, WantOfMemory>
+        ensures { IfOk result (is_copied self.now) };
+}
+
+// What is kept of each.
+pub(crate) fn copies_of<T: Opened>(
     alloc: Global,
-    cells: &[Cell<D>],
-) -> Result<Vec<Kept>, WantOfMemory>
-    ensures as_many { IfOk result (λ known. vec_len known ≡ length cells.now) }
-    ensures copied { IfOk result (λ known. AreCopied cells.now known.items) }
+    opened: &[T],
+) -> Result<Vec<T::Kept>, WantOfMemory>
+    ensures as_many { IfOk result (λ known. vec_len known ≡ length opened.now) }
+    ensures copied { IfOk result (λ known. AllZip T.is_copied opened.now known.items) }
 {
     let mut known = Vec::new(alloc);
-    for cell in cells {
-        known.push(copy_of(alloc, cell)?)?;
+    for one in opened {
+        known.push(one.copy(alloc)?)?;
     }
     Ok(known)
 }
 
-// What is kept of a cell.
-fn copy_of<D: Disk>(alloc: Global, cell: &Cell<D>) -> Result<Kept, WantOfMemory>
-    ensures { IfOk result (IsCopied cell.now) }
-{
-    let opening = cell.opening();
-    let Ok(recs) = Vec::from_slice(alloc, opening.recs.as_slice()) else {
-        return Err(WantOfMemory);
-    };
-    Ok(Kept {
-        def: *cell.def(),
-        opening: TagOpening {
-            recs,
-            summary: opening.summary,
-            moment: opening.moment,
-            faults: opening.faults,
-        },
-    })
-}
+impl<D: Disk> Opened for Cell<D> {
+    ghost use Rattle.run_command.specs.Copies.{IsCopied};
 
-// What is kept of each book.
-pub(crate) fn group_copies_of<D: Disk>(
-    alloc: Global,
-    books: &[Book<D>],
-) -> Result<Vec<KeptGroup>, WantOfMemory>
-    ensures as_many { IfOk result (λ known. vec_len known ≡ length books.now) }
-    ensures copied { IfOk result (λ known. AreCopiedGroups books.now known.items) }
-{
-    let mut known = Vec::new(alloc);
-    for book in books {
-        known.push(group_copy_of(alloc, book)?)?;
+    type Kept = Kept;
+
+    ghost is_copied = { IsCopied };
+
+    fn copy(&self, alloc: Global) -> Result<Kept, WantOfMemory> {
+        let opening = self.opening();
+        let Ok(recs) = Vec::from_slice(alloc, opening.recs.as_slice()) else {
+            return Err(WantOfMemory);
+        };
+        Ok(Kept {
+            def: *self.def(),
+            opening: TagOpening {
+                recs,
+                summary: opening.summary,
+                moment: opening.moment,
+                faults: opening.faults,
+            },
+        })
     }
-    Ok(known)
 }
 
-// What is kept of a book.
-fn group_copy_of<D: Disk>(alloc: Global, book: &Book<D>) -> Result<KeptGroup, WantOfMemory>
-    ensures { IfOk result (IsCopiedGroup book.now) }
-{
-    let def = book.def();
-    let Ok(text) = Vec::from_slice(alloc, book.text()) else {
-        return Err(WantOfMemory);
-    };
-    Ok(KeptGroup {
-        group: book.group(),
-        def: GroupDefParts {
-            inputs: def.inputs,
-            start: def.start,
-            period: def.period,
-            calcs: def.calcs.copy()?,
-        },
-        text,
-        opening: opening_of(alloc, book.opening())?,
-    })
+impl<D: Disk> Opened for Book<D> {
+    ghost use Rattle.run_command.specs.Copies.{IsCopiedGroup};
+
+    type Kept = KeptGroup;
+
+    ghost is_copied = { IsCopiedGroup };
+
+    fn copy(&self, alloc: Global) -> Result<KeptGroup, WantOfMemory> {
+        let def = self.def();
+        let Ok(text) = Vec::from_slice(alloc, self.text()) else {
+            return Err(WantOfMemory);
+        };
+        Ok(KeptGroup {
+            group: self.group(),
+            def: GroupDefParts {
+                inputs: def.inputs,
+                start: def.start,
+                period: def.period,
+                calcs: def.calcs.copy()?,
+            },
+            text,
+            opening: opening_of(alloc, self.opening())?,
+        })
+    }
 }
 
 // The same opening again.

@@ -1,7 +1,7 @@
 // How the workers of a session ended.
-ghost use Rattle.std.specs.Prelude.{◌≡◌, ◌≢◌, All, Any, IfErr, IfSome, MatchBool, None, OnOk};
+ghost use Rattle.std.specs.Prelude.{◌≡◌, ◌≢◌, All, Any, IfErr, MatchBool, OnOk};
 ghost use Rattle.collector_pool.specs.declared.note.Ending.TheVariants.{Halted, WantOfMemory as NoMemory};
-ghost use Rattle.run_command.specs.Endings.{IsFirstHalted, IsStop};
+ghost use Rattle.run_command.specs.Endings.{IsStop};
 
 use collector_pool::{Ending, WorkerNote};
 use plant_status::Status;
@@ -12,26 +12,15 @@ pub(crate) fn check_endings(notes: &[WorkerNote]) -> Result<(), Status>
     ensures all_found { OnOk result (All (λ n. n.ending ≢ NoMemory) notes.now) }
     ensures stopped { IfErr result (IsStop notes.now) }
 {
-    if let Some(worker) = first_halted(notes) {
-        return Err(Status::Halted { worker });
+    if let Some(place) = notes.iter().position(|note| note.ending == Ending::Halted) {
+        return Err(Status::Halted {
+            worker: notes[place].worker,
+        });
     }
     if any_wanted(notes) {
         return Err(Status::WantOfMemory);
     }
     Ok(())
-}
-
-// The first worker that its pass stopped.
-fn first_halted(notes: &[WorkerNote]) -> Option<u32>
-    ensures none { result ≡ None → All (λ n. n.ending ≢ Halted) notes.now }
-    ensures first { IfSome result (IsFirstHalted notes.now) }
-{
-    for place in 0..notes.len() {
-        if let Ending::Halted = notes[place].ending {
-            return Some(notes[place].worker);
-        }
-    }
-    None
 }
 
 // Whether a worker found no memory.

@@ -109,9 +109,7 @@ fn told(
     ensures { IsTold base.now given.now session.now answer result }
 {
     let collectors = given.work.collectors.len();
-    if let Err(why) = answer {
-        return Err(why);
-    }
+    answer?;
     match report(alloc, base, collectors, &given.work.readers, session) {
         Ok(text) => Ok(text),
         Err(_) => Err(Status::WantOfMemory),

@@ -27,7 +27,6 @@ mod steps;
 mod turns;
 mod workers;
 
-pub use boarding::{Boarding, boarding_for};
 pub use given::given_of;
 pub use held::close;
 pub use known::Given;

@@ -31,8 +31,8 @@ pub struct Ran {
 }
 
 impl Ran {
-    // A run without a session.
-    pub(crate) fn refused(why: Status) -> Ran
+    /// A run without a session, and why it has none.
+    pub fn refused(why: Status) -> Ran
         ensures answer { result.answer ≡ Err why }
         ensures none { result.session ≡ None }
     {

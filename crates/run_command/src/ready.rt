@@ -3,7 +3,7 @@ ghost use Rattle.std.specs.Prelude.{◌≡◌, ◌≤◌, [], IfOk, length, vec_
 ghost use Rattle.run_command.specs.Copies.{AreCopied, AreCopiedGroups};
 ghost use Rattle.run_command.specs.Rooms.{HasRoomFor};
 
-use crate::copies::{copies_of, group_copies_of};
+use crate::copies::copies_of;
 use crate::workers::Room;
 use disk_model::Disk;
 use group_book::Book;
@@ -33,7 +33,7 @@ pub(crate) fn make_ready<D: Disk>(
     ensures room { IfOk result (λ r. HasRoomFor (length cells.now) (length books.now) r.room) }
 {
     let tags = copies_of(alloc, cells)?;
-    let groups = group_copies_of(alloc, books)?;
+    let groups = copies_of(alloc, books)?;
     let room = room_for(alloc, cells.len(), books.len())?;
     Ok(Ready { tags, groups, room })
 }

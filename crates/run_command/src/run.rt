@@ -1,9 +1,10 @@
 // The command `run`: the plan of one file over the base of another.
 ghost use Rattle.std.specs.Prelude.{◌≡◌, ◌≢◌, ℕ, List, IfErr, IfSome, None, OnOk, map};
 ghost use Rattle.std.specs.Option.{IsSome};
+ghost use Rattle.plant_files.specs.Faults.{IsFaultOfPlanned};
 ghost use Rattle.plant_files.specs.Reading.{faults_after};
 ghost use Rattle.plant_files.specs.RowFiles.{ToldFiles};
-ghost use Rattle.session_files.specs.Plans.{IsFaultOfPlanned, IsGoodBase, IsGoodPlan, IsPlanned};
+ghost use Rattle.session_files.specs.Plans.{IsGoodBase, IsPlanned};
 ghost use Rattle.run_command.specs.Headline.{IsPromised};
 ghost use Rattle.run_command.specs.Runs.{IsNoReadFault, IsSession, IsUnheld};
 

@@ -1,13 +1,11 @@
 // A session whose workers have ended is brought to its end.
 ghost use Rattle.std.specs.Prelude.{◌≡◌, ◌^◌, ◌<◌, IfErr, OnOk, length};
 ghost use Rattle.calc_refresh.specs.Lists.{lists_of};
-ghost use Rattle.plant_session.specs.Starting.{AreUnfound};
 ghost use Rattle.plant_session.specs.Each.{AreEach};
-ghost use Rattle.group_session.specs.Inputs.{AreInputs};
 ghost use Rattle.group_session.specs.Openings.{AreAsKept as AreGroupsAsKept};
 ghost use Rattle.group_session.specs.Pulls.{ArePulled};
 ghost use Rattle.run_command.specs.Refusals.{IsRefused, IsSettlingRefusal, IsOfOpening, notes_of};
-ghost use Rattle.run_command.specs.Steps.{AreAsKept, AreGivenFor, AreInputsFor, AreOverAll, IsBookKept, IsCellKept, IsMade};
+ghost use Rattle.run_command.specs.Steps.{AreAsKept, AreGivenFor, AreInputsFor, AreReady, IsBookKept, IsCellKept, IsMade};
 
 use crate::known::Given;
 use crate::openings::compare_cells;
@@ -21,10 +19,9 @@ use plant_status::Status;
 use std::alloc::Global;
 use std::marker::Brand;
 use std::sync::Wait;
-use std::sync::ledger::{Blank, Ledger};
+use std::sync::ledger::Blank;
 use tag_cell::Cell;
-use tape_audit::Progress;
-use trend_num::{Steps, WantOfMemory};
+use trend_num::WantOfMemory;
 
 // Compares the cells and books with what was kept of their openings, and then brings them to what their workers had to do.
 pub(crate) fn settle<D: Disk, R: Wait>(
@@ -51,12 +48,8 @@ pub(crate) fn settle<D: Disk, R: Wait>(
     ensures known_groups { (IsOfOpening result → ⊥) → AreGroupsAsKept books.new known_groups.now }
     ensures refused { IfErr result (IsSettlingRefusal given.now (notes_of notes.now) known.now known_groups.now cells.new books.new) }
 {
-    if let Err(why) = compare_cells(cells, known) {
-        return Err(why);
-    }
-    if let Err(why) = compare_books(books, known_groups) {
-        return Err(why);
-    }
+    compare_cells(cells, known)?;
+    compare_books(books, known_groups)?;
     match notes {
         Ok(notes) => complete_all(rt, alloc, cells, books, given, notes),
         Err(_) => Err(Status::WantOfMemory),
@@ -72,10 +65,7 @@ fn complete_all<D: Disk, R: Wait>(
     given: &Given,
     notes: &[WorkerNote],
 ) -> Result<(), Status>
-    requires few_cells { length cells.old < 2 ^ 32 }
-    requires few_books { length books.old < 2 ^ 32 }
-    requires given { AreGivenFor (length cells.old) (length books.old) given.now }
-    requires inputs { AreInputs (length cells.old) (lists_of given.now.inputs.items) books.old }
+    requires ready { AreReady given.now cells.old books.old }
     ensures made { OnOk result (IsMade given.now cells.new books.new) }
     ensures pulled { OnOk result (ArePulled (lists_of given.now.inputs.items) cells.new books.new) }
     ensures cells { AreEach IsCellKept cells.old cells.new }
@@ -93,7 +83,7 @@ fn complete_all<D: Disk, R: Wait>(
     let Ok(mut row_asks) = row_askers_of(alloc, &given.work.readers, groups) else {
         return Err(Status::WantOfMemory);
     };
-    complete_on::<Brand, D, R>(
+    complete::<Brand, D, R>(
         rt,
         alloc,
         cells,
@@ -104,41 +94,5 @@ fn complete_all<D: Disk, R: Wait>(
         &mut asks,
         &mut row_asks,
         Blank::new(1),
-    )
-}
-
-// The same, on the ledger of a blank.
-fn complete_on<L: Ledger, D: Disk, R: Wait>(
-    rt: &R,
-    alloc: Global,
-    cells: &mut [Cell<D>],
-    books: &mut [Book<D>],
-    given: &Given,
-    notes: &[WorkerNote],
-    takes: &mut [Progress<'_>],
-    asks: &mut [Progress<'_>],
-    row_asks: &mut [Progress<'_>],
-    blank: Blank,
-) -> Result<(), Status>
-    requires name { blank.name ≡ L.name }
-    requires parts { blank.parts ≡ L.parts }
-    requires some { 0 < L.parts }
-    requires few_cells { length cells.old < 2 ^ 32 }
-    requires few_books { length books.old < 2 ^ 32 }
-    requires given { AreGivenFor (length cells.old) (length books.old) given.now }
-    requires inputs { AreInputs (length cells.old) (lists_of given.now.inputs.items) books.old }
-    requires over { AreOverAll (length cells.old) (length books.old) given.now takes.old asks.old row_asks.old }
-    requires no_takes { AreUnfound (length cells.old) takes.old }
-    requires no_asks { AreUnfound (length cells.old) asks.old }
-    requires no_row_asks { AreUnfound (length books.old) row_asks.old }
-    ensures made { OnOk result (IsMade given.now cells.new books.new) }
-    ensures pulled { OnOk result (ArePulled (lists_of given.now.inputs.items) cells.new books.new) }
-    ensures cells { AreEach IsCellKept cells.old cells.new }
-    ensures books { AreEach IsBookKept books.old books.new }
-    ensures refused { IfErr result (IsRefused given.now notes.now cells.new books.new) }
-{
-    let mut steps: Steps<L> = Steps::new(blank);
-    complete(
-        rt, alloc, cells, books, given, notes, takes, asks, row_asks, &mut steps,
     )
 }

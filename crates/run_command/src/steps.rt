@@ -1,12 +1,11 @@
 // What is done with the cells and books of a session once its workers have ended and their openings are as they were kept.
-ghost use Rattle.std.specs.Prelude.{◌^◌, ◌<◌, IfErr, OnOk, length};
+ghost use Rattle.std.specs.Prelude.{◌≡◌, ◌<◌, IfErr, OnOk, length};
 ghost use Rattle.calc_refresh.specs.Lists.{lists_of};
-ghost use Rattle.plant_session.specs.Starting.{AreUnfound};
 ghost use Rattle.plant_session.specs.Each.{AreEach};
-ghost use Rattle.group_session.specs.Inputs.{AreInputs};
+ghost use Rattle.plant_session.specs.Starting.{AreUnfound};
 ghost use Rattle.group_session.specs.Pulls.{ArePulled};
 ghost use Rattle.run_command.specs.Refusals.{IsFindingRefusal, IsMakingRefusal, IsRefused};
-ghost use Rattle.run_command.specs.Steps.{AreFoundAll, AreGivenFor, AreOverAll, IsBookKept, IsCellKept, IsMade};
+ghost use Rattle.run_command.specs.Steps.{AreFoundAll, AreOverAll, AreReady, IsBookKept, IsCellKept, IsMade};
 
 use crate::endings::check_endings;
 use crate::known::Given;
@@ -20,14 +19,14 @@ use plant_session::{ask_missing, commit_all, find_all_asks, find_all_takes, take
 use plant_status::Status;
 use std::alloc::Global;
 use std::sync::Wait;
-use std::sync::ledger::Ledger;
+use std::sync::ledger::{Blank, Ledger};
 use tag_cell::Cell;
 use tape_audit::Progress;
 use trend_num::Steps;
 
 // Brings the cells and books to what their workers had to do: compares what the tapes have with it, and does what they lack. It
-// takes no worker's word but that its pass stopped it, or that it found no memory.
-pub(crate) fn complete<D: Disk, R: Wait, L: Ledger>(
+// takes no worker's word but that its pass stopped it, or that it found no memory. Steps are counted on the ledger of the blank.
+pub(crate) fn complete<L: Ledger, D: Disk, R: Wait>(
     rt: &R,
     alloc: Global,
     cells: &mut [Cell<D>],
@@ -37,12 +36,12 @@ pub(crate) fn complete<D: Disk, R: Wait, L: Ledger>(
     takes: &mut [Progress<'_>],
     asks: &mut [Progress<'_>],
     row_asks: &mut [Progress<'_>],
-    steps: &mut Steps<L>,
+    blank: Blank,
 ) -> Result<(), Status>
-    requires few_cells { length cells.old < 2 ^ 32 }
-    requires few_books { length books.old < 2 ^ 32 }
-    requires given { AreGivenFor (length cells.old) (length books.old) given.now }
-    requires inputs { AreInputs (length cells.old) (lists_of given.now.inputs.items) books.old }
+    requires name { blank.name ≡ L.name }
+    requires parts { blank.parts ≡ L.parts }
+    requires some { 0 < L.parts }
+    requires ready { AreReady given.now cells.old books.old }
     requires over { AreOverAll (length cells.old) (length books.old) given.now takes.old asks.old row_asks.old }
     requires no_takes { AreUnfound (length cells.old) takes.old }
     requires no_asks { AreUnfound (length cells.old) asks.old }
@@ -53,15 +52,12 @@ pub(crate) fn complete<D: Disk, R: Wait, L: Ledger>(
     ensures books { AreEach IsBookKept books.old books.new }
     ensures refused { IfErr result (IsRefused given.now notes.now cells.new books.new) }
 {
-    if let Err(why) = find_all(cells, books, given, takes, asks, row_asks) {
-        return Err(why);
-    }
-    if let Err(why) = check_endings(notes) {
-        return Err(why);
-    }
-    if let Err(why) = make_up(rt, alloc, cells, books, given, takes, asks, row_asks, steps) {
-        return Err(why);
-    }
+    let mut steps: Steps<L> = Steps::new(blank);
+    find_all(cells, books, given, takes, asks, row_asks)?;
+    check_endings(notes)?;
+    make_up(
+        rt, alloc, cells, books, given, takes, asks, row_asks, &mut steps,
+    )?;
     compare_pulls(cells, books, &given.inputs)
 }
 
@@ -74,9 +70,7 @@ fn find_all<D: Disk>(
     asks: &mut [Progress<'_>],
     row_asks: &mut [Progress<'_>],
 ) -> Result<(), Status>
-    requires few_cells { length cells.now < 2 ^ 32 }
-    requires few_books { length books.now < 2 ^ 32 }
-    requires given { AreGivenFor (length cells.now) (length books.now) given.now }
+    requires ready { AreReady given.now cells.now books.now }
     requires over { AreOverAll (length cells.now) (length books.now) given.now takes.old asks.old row_asks.old }
     requires no_takes { AreUnfound (length cells.now) takes.old }
     requires no_asks { AreUnfound (length cells.now) asks.old }
@@ -85,15 +79,9 @@ fn find_all<D: Disk>(
     ensures found { OnOk result (AreFoundAll given.now cells.now books.now takes.new asks.new row_asks.new) }
     ensures differs { IfErr result (IsFindingRefusal given.now cells.now books.now) }
 {
-    if let Err(why) = find_all_takes(cells, takes) {
-        return Err(why);
-    }
-    if let Err(why) = find_all_asks(cells, asks) {
-        return Err(why);
-    }
-    if let Err(why) = find_all_row_asks(books, row_asks) {
-        return Err(why);
-    }
+    find_all_takes(cells, takes)?;
+    find_all_asks(cells, asks)?;
+    find_all_row_asks(books, row_asks)?;
     compare_turns(books, &given.turns)
 }
 
@@ -109,10 +97,7 @@ fn make_up<D: Disk, R: Wait, L: Ledger>(
     row_asks: &mut [Progress<'_>],
     steps: &mut Steps<L>,
 ) -> Result<(), Status>
-    requires few_cells { length cells.old < 2 ^ 32 }
-    requires few_books { length books.old < 2 ^ 32 }
-    requires given { AreGivenFor (length cells.old) (length books.old) given.now }
-    requires inputs { AreInputs (length cells.old) (lists_of given.now.inputs.items) books.old }
+    requires ready { AreReady given.now cells.old books.old }
     requires over { AreOverAll (length cells.old) (length books.old) given.now takes.old asks.old row_asks.old }
     requires found { AreFoundAll given.now cells.old books.old takes.old asks.old row_asks.old }
     ensures made { OnOk result (IsMade given.now cells.new books.new) }
@@ -127,17 +112,13 @@ fn make_up<D: Disk, R: Wait, L: Ledger>(
         inputs,
         ..
     } = given;
-    if let Err(why) = take_missing(rt, cells, &work.collectors, work.earlier, rooms, takes) {
-        return Err(why);
-    }
+    take_missing(rt, cells, &work.collectors, work.earlier, rooms, takes)?;
     let (Ok(()), Ok(())) = (
         ask_missing(cells, &work.readers, asks),
         ask_rows_missing(books, &work.readers, row_asks),
     ) else {
         return Err(Status::WantOfMemory);
     };
-    if let Err(why) = commit_all(cells) {
-        return Err(why);
-    }
+    commit_all(cells)?;
     refresh_missing(alloc, cells, books, inputs, turns, steps)
 }

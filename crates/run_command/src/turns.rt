@@ -22,9 +22,7 @@ impl<D: Disk + Send> GroupTurns<D> for Groups<D> {
 
     fn refresh<R: Wait>(&self, rt: &R, group: u32, cells: &[Mutex<Cell<D>>]) -> Result<(), TurnNo> {
         let mut book = self.books[group as usize].lock(rt);
-        if let Err(no) = refresh_on::<Brand, R, D>(rt, &mut book, cells, Blank::new(1)) {
-            return Err(no);
-        }
+        refresh_on::<Brand, R, D>(rt, &mut book, cells, Blank::new(1))?;
         match book.save() {
             Ok(()) => Ok(()),
             Err(no) => Err(turn_of_save(no)),

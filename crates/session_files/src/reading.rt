@@ -1,7 +1,8 @@
 // The files of a session.
 ghost use Rattle.std.specs.Prelude.{◌≡◌, All, IfErr, IfOk, map};
+ghost use Rattle.plant_files.specs.Faults.{IsFaultOfPlanned};
 ghost use Rattle.plant_files.specs.Reading.{faults_after};
-ghost use Rattle.session_files.specs.Plans.{IsFaultOfPlanned, IsGoodBase, IsGoodPlan, IsPlanned, IsPlanningRefusal};
+ghost use Rattle.session_files.specs.Plans.{AreRefreshersOf, AreRowsOf, IsCollected, IsCollectingRefusal, IsGoodBase, IsGoodPlan, IsPlanned, IsPlanningRefusal, IsRead, IsReadRefusal};
 
 use byte_io::Files;
 use plant_files::{ReaderQueries, base_of, check_row_count, plan_of, queries_of, rows_of};
@@ -9,6 +10,15 @@ use plant_status::Status;
 use std::alloc::{AllocError, Global};
 use tag_base::{Base, Plan};
 use value_rows::{Query, RawRow};
+
+/// A base and a plan over it, and the rows of its collectors.
+#[derive(Drop)]
+pub struct CollectedFiles {
+    pub base: Base,
+    pub plan: Plan,
+    /// The rows of each collector, in plan order.
+    pub rows: Vec<Vec<RawRow>>,
+}
 
 /// A base and a plan over it, the rows of its collectors, and the queries of its readers.
 #[derive(Drop)]
@@ -19,6 +29,31 @@ pub struct SessionFiles {
     pub rows: Vec<Vec<RawRow>>,
     /// The queries of each reader, in plan order.
     pub queries: Vec<Vec<Query>>,
+}
+
+/// Reads the base of the first name and the plan of the second, and the files of its collectors. More than 4,000,000 rows are
+/// refused.
+pub fn read_collected<F: Files>(
+    alloc: Global,
+    files: &mut F,
+    name: &str,
+    plan_name: &str,
+) -> Result<CollectedFiles, Status>
+    // What was read is what the files tell, whole and in form.
+    ensures collected { IfOk result (λ s. IsCollected name.now plan_name.now (F.told files.old) s.base s.plan
+        (map (λ list. list.items) s.rows.items)) }
+    ensures base { IfOk result (λ s. IsGoodBase s.base) }
+    ensures rows { IfOk result (λ s. AreRowsOf s.base (map (λ list. list.items) s.rows.items)) }
+
+    // A refusal tells its first cause.
+    ensures refused { IfErr result (IsCollectingRefusal name.now plan_name.now (F.told files.old)) }
+    ensures stays { F.told files.new ≡ F.told files.old }
+    ensures faults { F.fault_count files.new ≡ faults_after result (F.fault_count files.old) }
+    ensures whose { IfErr result (IsFaultOfPlanned name.now plan_name.now (F.told files.old) (F.failed_name files.new)) }
+{
+    let read = read_files(alloc, files, name, plan_name)?;
+    check_row_count(&read.rows)?;
+    Ok(read)
 }
 
 /// Reads the base of the first name and the plan of the second, and the files of its collectors and readers. More than 4,000,000
@@ -42,9 +77,7 @@ pub fn read_session<F: Files>(
     ensures faults { F.fault_count files.new ≡ faults_after result (F.fault_count files.old) }
     ensures whose { IfErr result (IsFaultOfPlanned name.now plan_name.now (F.told files.old) (F.failed_name files.new)) }
 {
-    let base = base_of(alloc, files, name)?;
-    let plan = plan_of(alloc, files, plan_name, &base)?;
-    let rows = rows_of(alloc, files, &plan, &base)?;
+    let CollectedFiles { base, plan, rows } = read_files(alloc, files, name, plan_name)?;
     let readers = queries_of(alloc, files, &plan, &base)?;
     check_row_count(&rows)?;
     match lists_out(alloc, readers) {
@@ -56,6 +89,29 @@ pub fn read_session<F: Files>(
         }),
         Err(_) => Err(Status::WantOfMemory),
     }
+}
+
+// Reads the base of the first name and the plan of the second, and the files of its collectors, however many rows they have.
+fn read_files<F: Files>(
+    alloc: Global,
+    files: &mut F,
+    name: &str,
+    plan_name: &str,
+) -> Result<CollectedFiles, Status>
+    ensures read { IfOk result (λ s. IsRead name.now plan_name.now (F.told files.old) s.base s.plan
+        (map (λ list. list.items) s.rows.items)) }
+    ensures base { IfOk result (λ s. IsGoodBase s.base) }
+    ensures rows { IfOk result (λ s. AreRowsOf s.base (map (λ list. list.items) s.rows.items)) }
+    ensures refreshers { IfOk result (λ s. AreRefreshersOf s.base s.plan) }
+    ensures refused { IfErr result (IsReadRefusal name.now plan_name.now (F.told files.old)) }
+    ensures stays { F.told files.new ≡ F.told files.old }
+    ensures faults { F.fault_count files.new ≡ faults_after result (F.fault_count files.old) }
+    ensures whose { IfErr result (IsFaultOfPlanned name.now plan_name.now (F.told files.old) (F.failed_name files.new)) }
+{
+    let base = base_of(alloc, files, name)?;
+    let plan = plan_of(alloc, files, plan_name, &base)?;
+    let rows = rows_of(alloc, files, &plan, &base)?;
+    Ok(CollectedFiles { base, plan, rows })
 }
 
 // The queries of each reader, moved out.

@@ -8,6 +8,14 @@ use Rattle.frame_command.specs.Steps.{CellsAreOver, CopiesAreOver}
 use Rattle.frame_command.proofs.Cuts.{length-behind, longer-behind}
 use Rattle.frame_command.proofs.Limits.{cells_told, copies_told}
 use Rattle.frame_command.proofs.sheet.refresh.Goals as goal
+use Rattle.frame_command.proofs.sheet.refresh.Goals.{After-apply}
+
+-- the copies with the records behind them are all records
+whole : (c : After-apply) → longer c.args.sheet.now.copies (lists_of c.deref.result.now) ≡ map (λ r. r.now) c.args.records.now
+whole c =
+    ap₂ (λ a b. longer a b) c.requires.copies (ap lists_of c.deref.ensures.value ∙ c.in-Ok.ensures.behind)
+    ∙ longer-behind c.args.versions.now (map (λ r. r.now) c.args.records.now)
+    (length-map c.args.records.now (λ r. r.now) ∙ c.requires.inputs)
 
 pub apply-requires-clause-inputs : goal.apply-requires-clause-inputs
 apply-requires-clause-inputs c =
@@ -18,26 +26,19 @@ apply-requires-clause-inputs c =
 
 pub returns-in-Ok-apply-clause-refreshed : goal.returns-in-Ok-apply-clause-refreshed
 returns-in-Ok-apply-clause-refreshed c =
-    let versions = c.args.versions.now in
-    let recovered = map (λ r. r.now) c.args.records.now in
     let is = c.in-Ok-apply.ensures.refreshed in
     record {
       group = is.group;
       grid = is.grid;
-      copies = is.copies ∙ ap₂ (λ a b. longer a b) c.requires.copies (ap lists_of c.deref.ensures.value ∙ c.in-Ok.ensures.behind)
-          ∙ longer-behind versions recovered (length-map c.args.records.now (λ r. r.now) ∙ c.requires.inputs);
+      copies = is.copies ∙ whole (goal.at.returns-in-Ok-apply-clause-refreshed c).After-apply;
       scratch = is.scratch;
     }
 
 pub returns-in-Err-CellLimit-clause-refused : goal.returns-in-Err-CellLimit-clause-refused
 returns-in-Err-CellLimit-clause-refused c =
-    let versions = c.args.versions.now in
-    let recovered = map (λ r. r.now) c.args.records.now in
     let s = c.args.sheet.now in
     let more = lists_of c.deref.result.now in
-    let whole : longer s.copies more ≡ recovered =
-    ap₂ (λ a b. longer a b) c.requires.copies (ap lists_of c.deref.ensures.value ∙ c.in-Ok.ensures.behind)
-    ∙ longer-behind versions recovered (length-map c.args.records.now (λ r. r.now) ∙ c.requires.inputs) in
+    let whole = whole (goal.at.returns-in-Err-CellLimit-clause-refused c).After-apply in
     let told = cells_told (complete_windows s.grid (longer s.copies more) * length s.group.calcs) (total_length (longer s.copies more))
     c.in-Err-CellLimit.cells
     (subst (IsToldOf (fault_after s more)) c.in-Err-CellLimit.field-0-is c.in-Err-CellLimit.ensures.fault) in
@@ -45,13 +46,9 @@ returns-in-Err-CellLimit-clause-refused c =
 
 pub returns-in-Err-CopyLimit-clause-refused : goal.returns-in-Err-CopyLimit-clause-refused
 returns-in-Err-CopyLimit-clause-refused c =
-    let versions = c.args.versions.now in
-    let recovered = map (λ r. r.now) c.args.records.now in
     let s = c.args.sheet.now in
     let more = lists_of c.deref.result.now in
-    let whole : longer s.copies more ≡ recovered =
-    ap₂ (λ a b. longer a b) c.requires.copies (ap lists_of c.deref.ensures.value ∙ c.in-Ok.ensures.behind)
-    ∙ longer-behind versions recovered (length-map c.args.records.now (λ r. r.now) ∙ c.requires.inputs) in
+    let whole = whole (goal.at.returns-in-Err-CopyLimit-clause-refused c).After-apply in
     let told = copies_told (complete_windows s.grid (longer s.copies more) * length s.group.calcs) (total_length (longer s.copies more))
     c.in-Err-CopyLimit.records
     (subst (IsToldOf (fault_after s more)) c.in-Err-CopyLimit.field-0-is c.in-Err-CopyLimit.ensures.fault) in

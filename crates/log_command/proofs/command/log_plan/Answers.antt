@@ -2,12 +2,12 @@ use Rattle.std.proofs.Common.{◌∙◌, Result, String, ap, refl, subst, sym}
 use Rattle.std.specs.Prelude.{IfErr}
 use Rattle.std.specs.declared.alloc.Global.{Global}
 use Rattle.plant_status.specs.declared.status.Status.{Status}
+use Rattle.plant_files.specs.Faults.{IsFaultOfPlanned}
 use Rattle.plant_files.specs.Reading.{faults_after}
+use Rattle.plant_files.proofs.Faults.{of_none}
 use Rattle.log_pool.specs.Notes.{lists_of}
 use Rattle.log_command.specs.Headline.{IsOfOthers, IsUnlogged, OfFiles, OfOpening}
 use Rattle.log_command.specs.Making.{total_rows}
-use Rattle.log_command.specs.Plans.{IsFaultOfPlanned}
-use Rattle.log_command.proofs.Faults.{of_none}
 use Rattle.log_command.proofs.Understood.{after_unopened, err_weaker, no_file, no_read_fault, some_weaker, understood}
 use Rattle.log_command.proofs.command.log_plan.Goals as goal
 
@@ -31,7 +31,7 @@ returns-in-Err-clause-file_faults g c = λ none.
 pub returns-in-Err-clause-whose : goal.returns-in-Err-clause-whose
 returns-in-Err-clause-whose g c = λ none.
     subst (λ (r : Result (String Global) Status). IfErr r (IsFaultOfPlanned c.args.base.now c.args.plan.now
-    (g.F.Files.told c.args.files.now) (g.F.Files.failed_name c.read_files.new.files))) (sym c.refused.ensures.answer)
+    (g.F.Files.told c.args.files.now) (g.F.Files.failed_name c.read_collected.new.files))) (sym c.refused.ensures.answer)
     c.in-Err.ensures.whose
 
 pub returns-in-Ok-clause-log : goal.returns-in-Ok-clause-log
@@ -40,14 +40,14 @@ returns-in-Ok-clause-log g c =
       base = c.in-Ok.read.base;
       plan = c.in-Ok.read.plan;
       rows = lists_of c.in-Ok.read.rows.items;
-      planned = c.in-Ok.ensures.planned;
+      collected = c.in-Ok.ensures.collected;
       run = run;
     }) c.log_read.ensures.run
 
 pub returns-in-Ok-clause-unlogged : goal.returns-in-Ok-clause-unlogged
 returns-in-Ok-clause-unlogged g c = λ none.
     err_weaker c.log_read.result.answer (λ why is. OfOpening c.in-Ok.read.base c.in-Ok.read.plan (lists_of c.in-Ok.read.rows.items)
-    c.in-Ok.ensures.planned is) (c.log_read.ensures.unopened none)
+    c.in-Ok.ensures.collected is) (c.log_read.ensures.unopened none)
 
 pub returns-in-Ok-clause-understood : goal.returns-in-Ok-clause-understood
 returns-in-Ok-clause-understood g c =
@@ -66,7 +66,7 @@ returns-in-Ok-clause-file_faults g c = λ none.
 pub returns-in-Ok-clause-whose : goal.returns-in-Ok-clause-whose
 returns-in-Ok-clause-whose g c = λ none.
     err_weaker c.log_read.result.answer (λ why is. of_none c.args.base.now c.args.plan.now (g.F.Files.told c.args.files.now)
-    (g.F.Files.failed_name c.read_files.new.files) why
+    (g.F.Files.failed_name c.read_collected.new.files) why
     (λ which same. no_read_fault c.in-Ok.read.base (total_rows (lists_of c.in-Ok.read.rows.items))
     (g.S.Store.device_at c.args.store.now) (g.S.Store.device_at c.log_read.new.store) (g.S.Store.fault_count c.args.store.now)
     (g.S.Store.fault_count c.log_read.new.store) why is which same)) (c.log_read.ensures.unopened none)

@@ -4,7 +4,7 @@ use Rattle.std.proofs.lemmas.List.Elements.{All-map}
 use Rattle.tag_store.specs.Tags as tag
 use Rattle.book_store.specs.Groups as group
 use Rattle.cell_store.specs.Closings.{AreHistoriesAt}
-use Rattle.run_command.proofs.Continued.{zip_length}
+use Rattle.run_command.proofs.Zipped.{zip_length}
 use Rattle.run_command.proofs.GroupDevices.{groups_back}
 use Rattle.run_command.proofs.held.close.Goals as goal
 

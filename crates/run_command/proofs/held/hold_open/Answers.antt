@@ -5,7 +5,7 @@ use Rattle.collector_pool.specs.declared.note.WorkerNote.{WorkerNote}
 use Rattle.run_command.specs.Runs.{IsUndone}
 use Rattle.run_command.specs.Sessions.{AreNotes}
 use Rattle.run_command.proofs.Continued.{inputs_of_base}
-use Rattle.run_command.proofs.Told.{counted_since, done_told, opening_told, undone_told}
+use Rattle.run_command.proofs.Told.{held_told, undone_told}
 use Rattle.run_command.proofs.held.hold_open.Goals as goal
 
 pub hold_phase-ended-requires-clause-inputs : goal.hold_phase-ended-requires-clause-inputs
@@ -16,29 +16,17 @@ hold_phase-ended-requires-clause-inputs g c κs within =
 
 pub returns : goal.returns
 returns g c old before was rest same =
-    let base = c.args.base.now in
     let given = c.args.given.now in
+    let ended = c.hold_phase-ended.result in
+    let end = c.hold_phase-ended.ensures in
+    let closed = c.close.ensures in
     let s = c.close.result.1 in
-    let opened = c.args.plant.cells.items in
-    let opened_books = c.args.plant.books.items in
-    let cells = c.hold_phase-ended.result.cells.items in
-    let books = c.hold_phase-ended.result.books.items in
-    let came = c.hold_phase-ended.result.answer in
-    let told = c.close.ensures.told in
     record {
-      opened = opened;
-      opened_books = opened_books;
-      cells = cells;
-      books = books;
-      opening = was;
-      over = c.close.ensures.over old rest;
-      counts = counted_since g.S.Dev.Disk.fault_count cells books before _ _ same c.close.ensures.counts;
-      same_tags = λ none. c.hold_phase-ended.ensures.same_cells (λ of. none (opening_told base given s came _ told of));
-      same_groups = λ none. c.hold_phase-ended.ensures.same_books (λ of. none (opening_told base given s came _ told of));
+      held = held_told g.S.Dev.Disk.trace g.S.Dev.Disk.ticks g.S.Dev.Disk.fault_count c.args.base.now given old _ before _ _ _ _ ended _ s
+          was (closed.over old rest) same closed.counts end.same_cells end.same_books end.made end.pulled closed.told;
       notes = subst (λ (v : Vec WorkerNote Global). AreNotes g.row.S-Dev.Denot given.work (g.P.Passes.stops c.args.passes.now)
-          (g.P.Passes.stops c.hold_phase-ended.new.passes) v.items) (sym c.close.ensures.notes) c.hold_phase-ended.ensures.notes;
-      done = done_told base given s cells books came _ told c.hold_phase-ended.ensures.made c.hold_phase-ended.ensures.pulled;
-      undone = undone_told base given s cells books opened opened_books s.workers.items came _ told
-          (subst (λ (v : Vec WorkerNote Global). IfErr came (IsUndone given opened opened_books cells books v.items))
-          (sym c.close.ensures.notes) c.hold_phase-ended.ensures.undone);
+          (g.P.Passes.stops c.hold_phase-ended.new.passes) v.items) (sym closed.notes) end.notes;
+      undone = undone_told c.args.base.now given s ended.cells.items ended.books.items _ _ s.workers.items ended.answer _ closed.told
+          (subst (λ (v : Vec WorkerNote Global). IfErr ended.answer (IsUndone given c.args.plant.cells.items c.args.plant.books.items
+          ended.cells.items ended.books.items v.items)) (sym closed.notes) end.undone);
     }

@@ -1,4 +1,4 @@
-use Rattle.std.proofs.Common.{◌≡◌, [], List, Result, Vec, ap, arith, length, refl, subst, sym}
+use Rattle.std.proofs.Common.{◌≡◌, [], List, Result, Vec, length, refl, subst, sym}
 use Rattle.std.specs.Prelude.{IfErr}
 use Rattle.std.specs.List.{AllZip}
 use Rattle.std.specs.declared.alloc.Global.{Global}
@@ -9,7 +9,7 @@ use Rattle.run_command.specs.Copies.{AreCopied, AreCopiedGroups}
 use Rattle.run_command.specs.Runs.{IsContinued, IsContinuedGroup, OfSettling}
 use Rattle.run_command.specs.Sessions.{OfNone}
 use Rattle.run_command.specs.Runs as runs
-use Rattle.run_command.proofs.Continued.{continued, groups_continued, groups_still, inputs_copied, still}
+use Rattle.run_command.proofs.Continued.{as_many_known, continued, groups_continued, groups_still, inputs_copied, still}
 use Rattle.run_command.proofs.Results.{err_weaker}
 use Rattle.run_command.proofs.phase.hold_phase.Goals as goal
 
@@ -21,32 +21,15 @@ hold-requires-clause-inputs g c κs within =
 pub returns-in-Ok-clause-same_cells : goal.returns-in-Ok-clause-same_cells
 returns-in-Ok-clause-same_cells g c = λ none.
     continued c.args.cells.items c.hold.result.cells.items c.in-Ok.ready.tags.items
-    (omega (
-      arith,
-      c.in-Ok.ensures.tags_are,
-      ap length c.deref.ensures.value,
-      c.hold.ensures.cells,
-      c.in-Ok.ready.tags.ok,
-      c.hold.result.cells.ok,
-      c.args.cells.ok,
-      c.deref.ensures.len,
-    ))
+    (as_many_known c.args.cells c.hold.result.cells _ c.in-Ok.ready.tags c.deref.ensures.value c.in-Ok.ensures.tags_are c.hold.ensures.cells)
     (subst (λ (l : List (Cell g.row.D.Denot)). AreCopied l c.in-Ok.ready.tags.items) c.deref.ensures.value c.in-Ok.ensures.tags)
     (c.hold.ensures.known none)
 
 pub returns-in-Ok-clause-same_books : goal.returns-in-Ok-clause-same_books
 returns-in-Ok-clause-same_books g c = λ none.
     groups_continued c.args.books.items c.hold.result.books.items c.in-Ok.ready.groups.items
-    (omega (
-      arith,
-      c.in-Ok.ensures.groups_are,
-      ap length c.deref-2.ensures.value,
-      c.hold.ensures.books,
-      c.in-Ok.ready.groups.ok,
-      c.hold.result.books.ok,
-      c.args.books.ok,
-      c.deref-2.ensures.len,
-    ))
+    (as_many_known c.args.books c.hold.result.books _ c.in-Ok.ready.groups c.deref-2.ensures.value c.in-Ok.ensures.groups_are
+    c.hold.ensures.books)
     (subst (λ (l : List (Book g.row.D.Denot)). AreCopiedGroups l c.in-Ok.ready.groups.items) c.deref-2.ensures.value c.in-Ok.ensures.groups)
     (c.hold.ensures.known_groups none)
 

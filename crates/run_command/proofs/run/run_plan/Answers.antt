@@ -3,14 +3,15 @@ use Rattle.std.specs.Prelude.{◌≢◌, IfErr}
 use Rattle.std.specs.declared.alloc.Global.{Global}
 use Rattle.plant_status.specs.declared.status.Status.{Status}
 use Rattle.plant_status.specs.declared.status.Status.TheVariants.{BadWords}
+use Rattle.plant_files.specs.Faults.{IsFaultOfPlanned}
 use Rattle.plant_files.specs.Reading.{faults_after}
-use Rattle.session_files.specs.Plans.{IsFaultOfPlanned}
+use Rattle.plant_files.proofs.Faults.{of_none}
 use Rattle.run_command.specs.Runs.{IsUnheld, OfFiles}
 use Rattle.run_command.proofs.Results.{err_weaker}
 use Rattle.run_command.proofs.Headline.{promised}
 use Rattle.run_command.proofs.Told.{some_weaker}
 use Rattle.run_command.proofs.Understood.{files_understood, understood}
-use Rattle.run_command.proofs.Unheld.{after_none, of_none}
+use Rattle.run_command.proofs.Unheld.{after_none}
 use Rattle.run_command.proofs.run.run_plan.Goals as goal
 
 pub returns-in-Err-clause-unheld : goal.returns-in-Err-clause-unheld

@@ -10,18 +10,18 @@ use Rattle.run_command.proofs.settling.complete_all.Goals as goal
 pub collectors_of-requires : goal.collectors_of-requires
 collectors_of-requires g c =
     subst (λ (l : List (Vec RawRow Global)). All (λ (rows : Vec RawRow Global). All (IsRowOf (length c.args.cells.now)) rows.items) l)
-    (sym c.deref.ensures.value) c.requires.given.work.rows
+    (sym c.deref.ensures.value) c.requires.ready.given.work.rows
 
 pub readers_of-requires : goal.readers_of-requires
 readers_of-requires g c =
-    known_asks (length c.args.cells.now) (length c.args.books.now) _ _ _ c.deref-2.ensures.value refl c.requires.given.work.queries
+    known_asks (length c.args.cells.now) (length c.args.books.now) _ _ _ c.deref-2.ensures.value refl c.requires.ready.given.work.queries
 
 pub row_askers_of-requires : goal.row_askers_of-requires
 row_askers_of-requires g c =
-    known_row_asks (length c.args.cells.now) (length c.args.books.now) _ _ c.deref-3.ensures.value c.requires.given.work.queries
+    known_row_asks (length c.args.cells.now) (length c.args.books.now) _ _ c.deref-3.ensures.value c.requires.ready.given.work.queries
 
-pub complete_on-requires-clause-over : goal.complete_on-requires-clause-over
-complete_on-requires-clause-over g c = record {
+pub complete-requires-clause-over : goal.complete-requires-clause-over
+complete-requires-clause-over g c = record {
   collectors = over_again (phase_item c.args.given.now.work.earlier) (length c.args.cells.now) _ _ _ _ c.deref.ensures.value c.deref_mut.ensures.value c.in-Ok.ensures.over;
   readers = over_again ask_item (length c.args.cells.now) _ _ _ _ c.deref-2.ensures.value c.deref_mut-2.ensures.value
       c.in-Ok-readers_of.ensures.over;

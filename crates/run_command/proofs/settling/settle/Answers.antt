@@ -1,4 +1,5 @@
 use Rattle.std.proofs.Common.{◌∙◌, List, ap, sym, subst, length}
+use Rattle.std.proofs.lemmas.Result.{err_from_is_err_and}
 use Rattle.collector_pool.specs.declared.note.WorkerNote.{WorkerNote}
 use Rattle.run_command.specs.Refusals.{IsRefused, OfRest, notes_of}
 use Rattle.run_command.proofs.Kept.{books_as_kept, cells_as_kept}
@@ -7,25 +8,36 @@ use Rattle.run_command.proofs.Mismatches.{group_is_opening, tag_is_opening}
 use Rattle.run_command.proofs.Results.{err_weaker}
 use Rattle.run_command.proofs.settling.settle.Goals as goal
 
-pub returns-in-Err-clause-known : goal.returns-in-Err-clause-known
-returns-in-Err-clause-known g c = λ none. absurd (none (tag_is_opening _ _ c.in-Err.why c.in-Err.ensures.differs))
+pub returns-in_err-compare_cells-clause-known : goal.returns-in_err-compare_cells-clause-known
+returns-in_err-compare_cells-clause-known g c =
+    let p = err_from_is_err_and c.from_residual.result c.from_residual.ensures.1 in
+    rw (p.1, p.2) (λ none. absurd (none (tag_is_opening _ _ c.in_err-compare_cells.field-0.0 c.in_err-compare_cells.ensures.differs)))
 
-pub returns-in-Err-clause-known_groups : goal.returns-in-Err-clause-known_groups
-returns-in-Err-clause-known_groups g c = λ none. absurd (none (tag_is_opening _ _ c.in-Err.why c.in-Err.ensures.differs))
+pub returns-in_err-compare_cells-clause-known_groups : goal.returns-in_err-compare_cells-clause-known_groups
+returns-in_err-compare_cells-clause-known_groups g c =
+    let p = err_from_is_err_and c.from_residual.result c.from_residual.ensures.1 in
+    rw (p.1, p.2) (λ none. absurd (none (tag_is_opening _ _ c.in_err-compare_cells.field-0.0 c.in_err-compare_cells.ensures.differs)))
 
-pub returns-in-Err-compare_books-clause-known_groups : goal.returns-in-Err-compare_books-clause-known_groups
-returns-in-Err-compare_books-clause-known_groups g c =
-    λ none. absurd (none (group_is_opening _ _ c.in-Err-compare_books.why c.in-Err-compare_books.ensures.differs))
+pub returns-in_err-compare_books-clause-known_groups : goal.returns-in_err-compare_books-clause-known_groups
+returns-in_err-compare_books-clause-known_groups g c =
+    let p = err_from_is_err_and c.from_residual-in_err-compare_books.result c.from_residual-in_err-compare_books.ensures.1 in
+    rw (p.1, p.2) (λ none. absurd (none (group_is_opening _ _ c.in_err-compare_books.field-0.0 c.in_err-compare_books.ensures.differs)))
 
-pub complete_all-requires-clause-inputs : goal.complete_all-requires-clause-inputs
-complete_all-requires-clause-inputs g c =
-    inputs_of_kept (length c.args.cells.now) _ _ _ c.requires.groups_are c.requires.inputs c.in_default-compare_books.ensures.same
+pub complete_all-requires : goal.complete_all-requires
+complete_all-requires g c = record {
+  ready = record {
+    few_cells = c.requires.few_cells;
+    few_books = c.requires.few_books;
+    given = c.requires.given;
+    inputs = inputs_of_kept (length c.args.cells.now) _ _ _ c.requires.groups_are c.requires.inputs c.in_ok-compare_books.ensures.same;
+  };
+}
 
 pub returns-in-Ok-clause-known : goal.returns-in-Ok-clause-known
-returns-in-Ok-clause-known g c = λ none. cells_as_kept _ _ _ c.complete_all.ensures.cells c.in_default.ensures.same
+returns-in-Ok-clause-known g c = λ none. cells_as_kept _ _ _ c.complete_all.ensures.cells c.in_ok-compare_cells.ensures.same
 
 pub returns-in-Ok-clause-known_groups : goal.returns-in-Ok-clause-known_groups
-returns-in-Ok-clause-known_groups g c = λ none. books_as_kept _ _ _ c.complete_all.ensures.books c.in_default-compare_books.ensures.same
+returns-in-Ok-clause-known_groups g c = λ none. books_as_kept _ _ _ c.complete_all.ensures.books c.in_ok-compare_books.ensures.same
 
 pub returns-in-Ok-clause-refused : goal.returns-in-Ok-clause-refused
 returns-in-Ok-clause-refused g c = err_weaker c.complete_all.result

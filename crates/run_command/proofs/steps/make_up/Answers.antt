@@ -24,50 +24,50 @@ use Rattle.run_command.proofs.steps.make_up.Goals as goal
 pub take_missing-requires-clause-values : goal.take_missing-requires-clause-values
 take_missing-requires-clause-values g c =
     subst (λ (l : List (Vec RawRow Global)). All (λ (rows : Vec RawRow Global). All (IsRowOf (length c.args.cells.now)) rows.items) l)
-    (sym c.deref.ensures.value) c.requires.given.work.rows
+    (sym c.deref.ensures.value) c.requires.ready.given.work.rows
 
 pub take_missing-requires-clause-counted : goal.take_missing-requires-clause-counted
 take_missing-requires-clause-counted g c = λ tag below.
     let rooms = c.deref-2.ensures.value in
     ap (λ (l : List ℕ). slice_index l tag) rooms
-    ∙ c.requires.given.rooms tag (subst (λ n. tag < n) (ap length rooms ∙ c.requires.given.rooms_are) below)
+    ∙ c.requires.ready.given.rooms tag (subst (λ n. tag < n) (ap length rooms ∙ c.requires.ready.given.rooms_are) below)
     ∙ ap (λ (l : List (Vec RawRow Global)). rows_of tag (lists_of l)) (sym c.deref.ensures.value)
 
-pub returns-in-Err-clause-cells : goal.returns-in-Err-clause-cells
-returns-in-Err-clause-cells g c = cells_longer IsTaken _ _ c.take_missing.ensures.longer
+pub returns-in_err-take_missing-clause-cells : goal.returns-in_err-take_missing-clause-cells
+returns-in_err-take_missing-clause-cells g c = cells_longer IsTaken _ _ c.take_missing.ensures.longer
 
 pub ask_missing-requires-clause-queries : goal.ask_missing-requires-clause-queries
 ask_missing-requires-clause-queries g c =
     known_asks (length c.args.cells.now) (length c.args.books.now) _ _ _ c.deref-3.ensures.value c.take_missing.ensures.longer.as_many
-    c.requires.given.work.queries
+    c.requires.ready.given.work.queries
 
 pub ask_missing-requires-clause-found : goal.ask_missing-requires-clause-found
 ask_missing-requires-clause-found g c = c.take_missing.ensures.asks _ c.requires.found.readers
 
 pub ask_rows_missing-requires-clause-queries : goal.ask_rows_missing-requires-clause-queries
 ask_rows_missing-requires-clause-queries g c =
-    known_row_asks (length c.args.cells.now) (length c.args.books.now) _ _ c.deref-4.ensures.value c.requires.given.work.queries
+    known_row_asks (length c.args.cells.now) (length c.args.books.now) _ _ c.deref-4.ensures.value c.requires.ready.given.work.queries
 
-pub returns-in_default-2-clause-cells : goal.returns-in_default-2-clause-cells
-returns-in_default-2-clause-cells g c = cells_joined _ _ _ (cells_longer IsTaken _ _ c.take_missing.ensures.longer)
+pub returns-in_default-clause-cells : goal.returns-in_default-clause-cells
+returns-in_default-clause-cells g c = cells_joined _ _ _ (cells_longer IsTaken _ _ c.take_missing.ensures.longer)
     (cells_longer IsAsked _ _ c.ask_missing.ensures.longer)
 
-pub returns-in_default-2-clause-books : goal.returns-in_default-2-clause-books
-returns-in_default-2-clause-books g c = books_asked _ _ c.ask_rows_missing.ensures.asked
+pub returns-in_default-clause-books : goal.returns-in_default-clause-books
+returns-in_default-clause-books g c = books_asked _ _ c.ask_rows_missing.ensures.asked
 
-pub returns-in-Err-commit_all-clause-cells : goal.returns-in-Err-commit_all-clause-cells
-returns-in-Err-commit_all-clause-cells g c = cells_joined _ _ _ (cells_joined _ _ _
+pub returns-in_err-commit_all-clause-cells : goal.returns-in_err-commit_all-clause-cells
+returns-in_err-commit_all-clause-cells g c = cells_joined _ _ _ (cells_joined _ _ _
     (cells_longer IsTaken _ _ c.take_missing.ensures.longer) (cells_longer IsAsked _ _ c.ask_missing.ensures.longer))
     (cells_longer IsCommitted _ _ c.commit_all.ensures.longer)
 
-pub returns-in-Err-commit_all-clause-books : goal.returns-in-Err-commit_all-clause-books
-returns-in-Err-commit_all-clause-books g c = books_asked _ _ c.ask_rows_missing.ensures.asked
+pub returns-in_err-commit_all-clause-books : goal.returns-in_err-commit_all-clause-books
+returns-in_err-commit_all-clause-books g c = books_asked _ _ c.ask_rows_missing.ensures.asked
 
 pub refresh_missing-requires-clause-inputs : goal.refresh_missing-requires-clause-inputs
 refresh_missing-requires-clause-inputs g c =
     inputs_kept (length c.args.cells.now) _ _ _ _ _
     (c.commit_all.ensures.longer.as_many ∙ c.ask_missing.ensures.longer.as_many ∙ c.take_missing.ensures.longer.as_many)
-    (ap lists_of c.deref-5.ensures.value) (books_asked _ _ c.ask_rows_missing.ensures.asked) c.requires.inputs
+    (ap lists_of c.deref-5.ensures.value) (books_asked _ _ c.ask_rows_missing.ensures.asked) c.requires.ready.inputs
 
 pub refresh_missing-requires-clause-within : goal.refresh_missing-requires-clause-within
 refresh_missing-requires-clause-within g c =
@@ -78,12 +78,12 @@ pub returns-clause-made : goal.returns-clause-made
 returns-clause-made g c = ok_weaker c.refresh_missing.result (λ refreshed. record {
   takes = subst (λ (l : List (Vec RawRow Global)). AreAllShown take_of (phase_item c.args.given.now.work.earlier) (lists_of l) c.refresh_missing.new.cells)
       c.deref.ensures.value
-      (c.refresh_missing.ensures.takes _ _ (c.commit_all.ensures.takes _ _ (c.ask_missing.ensures.takes _ _ c.in_default.ensures.shown)));
+      (c.refresh_missing.ensures.takes _ _ (c.commit_all.ensures.takes _ _ (c.ask_missing.ensures.takes _ _ c.in_ok-take_missing.ensures.shown)));
   asks = subst (λ (l : List (Vec Query Global)). AreAllShown ask_of ask_item (lists_of l) c.refresh_missing.new.cells)
       c.deref-3.ensures.value (c.refresh_missing.ensures.asks _ (c.commit_all.ensures.asks _ c.in-Ok-Ok.ensures.shown));
   row_asks = subst (λ (l : List (Vec Query Global)). AreTapesWhole tape_of row_ask_of row_item (lists_of l) c.refresh_missing.new.books)
       c.deref-4.ensures.value (c.refresh_missing.ensures.questions _ c.in-Ok-Ok.ensures'.shown);
-  none_waits = none_waits _ _ c.refresh_missing.ensures.pulled c.in_default-commit_all.ensures.none_waits;
+  none_waits = none_waits _ _ c.refresh_missing.ensures.pulled c.in_ok-commit_all.ensures.none_waits;
   refreshed = subst (λ (l : List (Vec ℕ Global)). AreRefreshed (durable_lists c.refresh_missing.new.cells) (lists_of l)
       c.args.given.now.turns.items c.refresh_missing.new.books) c.deref-5.ensures.value
       (subst (λ (l : List ℕ). AreRefreshed (durable_lists c.refresh_missing.new.cells) (lists_of c.deref-5.result.now) l

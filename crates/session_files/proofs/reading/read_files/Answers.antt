@@ -1,11 +1,12 @@
-use Rattle.std.proofs.Common.{Err, ◌∙◌, ap, map}
+use Rattle.std.proofs.Common.{Err, ◌∙◌, ap}
 use Rattle.std.proofs.lemmas.List.Elements.{All-map}
 use Rattle.std.specs.Prelude.{All}
 use Rattle.std.proofs.lemmas.Result.{err_from_is_err_and}
 use Rattle.plant_files.specs.Collected.{IsRowOf}
-use Rattle.log_command.specs.Plans.{OfBase, OfCollector, OfPlan, OfRows}
-use Rattle.log_command.proofs.Faults.{of_collector}
-use Rattle.log_command.proofs.reading.read_files.Goals as goal
+use Rattle.plant_files.proofs.Distinct.{distinct_tags}
+use Rattle.plant_files.proofs.Faults.{of_collector}
+use Rattle.session_files.specs.Plans.{OfBase, OfCollector, OfPlan}
+use Rattle.session_files.proofs.reading.read_files.Goals as goal
 
 pub returns-in_err-base-clause-refused : goal.returns-in_err-base-clause-refused
 returns-in_err-base-clause-refused g c =
@@ -32,16 +33,14 @@ returns-in_err-rows-clause-whose g c =
     c.in_ok-base.ensures.base (rw (← c.in_ok-base.ensures.stays) c.in_ok-plan.ensures.plan) (rw (← stays) c.in_err-rows.ensures.refused)
     (λ place same. c.in_err-rows.ensures.whose place (ap Err same)))
 
-pub returns-in_err-check_row_count-clause-refused : goal.returns-in_err-check_row_count-clause-refused
-returns-in_err-check_row_count-clause-refused g c =
-    let stays = c.in_ok-plan.ensures.stays ∙ c.in_ok-base.ensures.stays in
-    let p = err_from_is_err_and c.from_residual-in_err-check_row_count.result c.from_residual-in_err-check_row_count.ensures.1 in
-    rw (p.1, p.2) (OfRows c.in_ok-base.base c.in_ok-plan.plan (map (λ list. list.items) c.in_ok-rows.rows.items) c.in_ok-base.ensures.base
-    (rw (← c.in_ok-base.ensures.stays) c.in_ok-plan.ensures.plan) (rw (← stays) c.in_ok-rows.ensures.rows)
-    (rw (← c.deref.ensures.value) c.in_err-check_row_count.ensures.refused))
-
-pub returns-clause-good : goal.returns-clause-good
-returns-clause-good g c = record {
+pub returns-clause-base : goal.returns-clause-base
+returns-clause-base g c = record {
   tuned = c.in_ok-base.ensures.tuned;
-  rows_of_tags = All-map (All (IsRowOf c.in_ok-base.base)) (λ list. list.items) c.in_ok-rows.rows.items c.in_ok-rows.ensures.in_range;
+  sound = c.in_ok-base.ensures.sound;
+  distinct = distinct_tags c.in_ok-base.base.tags.items c.in_ok-base.ensures.distinct;
+  distinct_groups = c.in_ok-base.ensures.distinct_groups;
 }
+
+pub returns-clause-rows : goal.returns-clause-rows
+returns-clause-rows g c =
+    All-map (All (IsRowOf c.in_ok-base.base)) (λ list. list.items) c.in_ok-rows.rows.items c.in_ok-rows.ensures.in_range
