@@ -11,7 +11,7 @@ use std::marker::Brand;
 use std::process::Abort;
 use std::sync::ledger::{Blank, Ledger};
 use std::test::Fail;
-use trend_num::{Kind, Point, Steps, TagDef, Tuning, in_range, name_from, tuning_ok};
+use trend_num::{Kind, Point, Rec, Steps, TagDef, Tuning, in_range, name_from, tuning_ok};
 
 // How many lane slots there are, and what happens: a tuning's name, with which the device is opened; a value, which is put
 // into the lane or, where that is full, by a checkpoint; and a checkpoint. Then the records, the held point, the raw values
@@ -171,29 +171,35 @@ fn stored(
     Ok((now, start))
 }
 
+// The records of a tag and its held point.
+fn archive_told(alloc: Global, recs: &[Rec], held: Option<Point>) -> Result<String, Fail> {
+    let mut told = String::new(alloc);
+    for rec in recs {
+        let mark = if rec.kind == Kind::Late { "*" } else { "" };
+        write!(told, "{},{}{mark} ", rec.point.t, rec.point.v)?;
+    }
+    match held {
+        None => told.push_str("none")?,
+        Some(p) => write!(told, "held {},{}", p.t, p.v)?,
+    }
+    Ok(told)
+}
+
+// What a story comes to on a device of so many lane slots.
+fn story_told(rt: &impl Abort, alloc: Global, slots: u32, events: &str) -> Result<String, Fail> {
+    let (now, start) = stored(rt, alloc, slots, events)?;
+    let archive = archive_told(alloc, now.core.recs(), now.core.held())?;
+    let (acked, free) = (now.journal.acked(), now.journal.free_slots());
+    let calls = now.journal.clock().saturating_sub(start);
+    Ok(format!(in alloc; "{archive} {acked} {free} {calls}")?)
+}
+
 #[test]
 fn a_device_goes_on(rt: HostRuntime) -> Result<(), Fail> {
-    let alloc = rt.alloc();
     for row in STORIES.lines() {
         let (given, want) = row.split_once(" => ").ok_or("row")?;
         let (slots, events) = given.split_once(' ').ok_or("slots")?;
-        let (now, start) = stored(&rt, alloc, slots.parse::<u32>()?, events)?;
-        let mut told = String::new(alloc);
-        for rec in now.core.recs() {
-            let mark = if rec.kind == Kind::Late { "*" } else { "" };
-            write!(told, "{},{}{mark} ", rec.point.t, rec.point.v)?;
-        }
-        match now.core.held() {
-            None => told.push_str("none")?,
-            Some(p) => write!(told, "held {},{}", p.t, p.v)?,
-        }
-        let calls = now.journal.clock().saturating_sub(start);
-        write!(
-            told,
-            " {} {} {calls}",
-            now.journal.acked(),
-            now.journal.free_slots()
-        )?;
+        let told = story_told(&rt, rt.alloc(), slots.parse::<u32>()?, events)?;
         assert_eq!(rt; told.as_str(), want, "{given}");
     }
     Ok(())
@@ -241,19 +247,23 @@ fn a_damaged_byte_is_told_at_its_field(rt: HostRuntime) -> Result<(), Fail> {
     Ok(())
 }
 
-#[test]
-fn a_summary_of_the_first_version_is_read(rt: HostRuntime) -> Result<(), Fail> {
-    let alloc = rt.alloc();
+// Opens the device of these bytes, makes a checkpoint there, and gives the bytes then.
+fn checked(rt: &impl Abort, alloc: Global, bytes: Vec<u8>) -> Result<Vec<u8>, Fail> {
     let def = tag("plain").ok_or("tag")?;
-    let mut bytes = good(&rt, alloc)?;
-    assert_eq!(rt; bytes.len(), 66_657);
-    bytes[140] = 5;
-    bytes[224..256].fill(0);
     let dev = MemDisk::new(bytes, Vec::new(alloc));
     let mut tag = opened(alloc, dev, &def, 64).ok().ok_or("refused")?;
     assert_eq!(rt; (tag.core.taken(), tag.core.tuning()), (2, def.tuning));
     check(alloc, &mut tag)?;
-    let bytes = tag.journal.into_device().bytes().to_vec(alloc)?;
+    Ok(tag.journal.into_device().bytes().to_vec(alloc)?)
+}
+
+#[test]
+fn a_summary_of_the_first_version_is_read(rt: HostRuntime) -> Result<(), Fail> {
+    let mut bytes = good(&rt, rt.alloc())?;
+    assert_eq!(rt; bytes.len(), 66_657);
+    bytes[140] = 5;
+    bytes[224..256].fill(0);
+    let bytes = checked(&rt, rt.alloc(), bytes)?;
     assert_eq!(rt; bytes.len(), 66_657);
     // The flags of both slots, and the second one's tuning.
     assert_eq!(rt; (bytes[140], bytes[268]), (5, 0x1d));

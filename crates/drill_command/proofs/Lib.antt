@@ -3,3 +3,4 @@ pub mod Promises
 pub mod Understood
 pub mod Lengths
 pub mod Undone
+pub mod Unopened

@@ -21,11 +21,11 @@ use Rattle.run_command.specs.Headline.{AreOpened, IsGroupOpened, IsTagOpened}
 use Rattle.drill_command.specs.Drills.{AreNew, IsGroupNew, IsTagNew, fresh}
 
 -- the origin of a tag that was made so
-abbrev origin_of : TagDef → Origin
+abbrev pub origin_of : TagDef → Origin
 origin_of def = record { tuning = def.tuning; step = def.step }
 
 -- an empty image stands for a history without a value
-empty_stands : (def : TagDef) → ImageStands def (origin_of def) [] []
+pub empty_stands : (def : TagDef) → ImageStands def (origin_of def) [] []
 empty_stands def = record {
   state = nothing_taken def.tuning;
   same_step = refl;
@@ -34,7 +34,7 @@ empty_stands def = record {
 }
 
 -- and what is opened of it too
-opened_nothing : (def : TagDef) (s : State) → StandsOpened def (origin_of def) [] s → Stands (origin_of def) [] s
+pub opened_nothing : (def : TagDef) (s : State) → StandsOpened def (origin_of def) [] s → Stands (origin_of def) [] s
 opened_nothing def s (inl is) = is.1
 opened_nothing def s (inr is) = absurd (is.0 refl)
 
@@ -52,7 +52,7 @@ new_tags (d ∷ ds) (t ∷ ts) is = (
 )
 
 -- an empty image has nothing saved
-saved_nothing : (text : List ℕ) (inputs calcs : ℕ) (versions : List ℕ) (rows : List (List CalcValue))
+pub saved_nothing : (text : List ℕ) (inputs calcs : ℕ) (versions : List ℕ) (rows : List (List CalcValue))
     → StandsFor text inputs calcs [] versions rows → (versions ≡ replicate inputs 0) × (rows ≡ replicate calcs [])
 saved_nothing text inputs calcs versions rows (ByNothing unsaved versions_are rows_are) = (versions_are, rows_are)
 saved_nothing text inputs calcs versions rows (ByBlocks bs saved versions_are) =

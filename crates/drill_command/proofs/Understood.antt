@@ -3,17 +3,13 @@ use Rattle.std.proofs.Common.{◌≡◌, ◌∙◌, ℕ, List, Option, None, Som
 use Rattle.std.specs.Prelude.{◌≢◌, IfErr, IfSome}
 use Rattle.plant_status.specs.declared.status.Status.{Status}
 use Rattle.plant_status.specs.declared.status.Status.TheVariants.{Done, BadWords, BadText, BadRow, ReadFault, WriteFault, DeviceFault, Damaged, OtherTag, Limit, Mismatch, Halted, WantOfMemory, OtherPlant, BadName}
-use Rattle.tag_base.specs.declared.definition.Base.{Base}
-use Rattle.book_store.specs.Groups.{Devices}
 use Rattle.group_book.specs.Told.{Told as Book}
 use Rattle.tag_cell.specs.Told.{Told as Cell}
 use Rattle.collector_pool.specs.declared.note.WorkerNote.{WorkerNote}
 use Rattle.session_report.specs.declared.session.Session.{Session}
 use Rattle.run_command.specs.declared.known.Given.{Given}
-use Rattle.run_command.specs.Runs.{IsUnopened}
-use Rattle.run_command.proofs.Understood.{of_devices, of_undone}
-use Rattle.drill_command.specs.Drills as drills
-use Rattle.drill_command.specs.Drills.{IsDrill, IsDrillUnopened, IsUnheld, drill_status, fresh}
+use Rattle.run_command.proofs.Understood.{of_undone}
+use Rattle.drill_command.specs.Drills.{IsDrill, drill_status}
 use Rattle.drill_command.specs.Phases.{IsUndoneOfBoth, OfFirst, OfSecond}
 
 -- what is told so was that
@@ -40,20 +36,12 @@ of_both first second opened opened_books cells books notes (OfFirst is) = of_und
 of_both first second opened opened_books cells books notes (OfSecond between between_books front made is) =
     of_undone second cells books between between_books is.more is.undone
 
-of_unopened : (base : Base) (new : Devices) (now : ℕ) → IsDrillUnopened base fresh new 0 now BadWords → ⊥
-of_unopened base new now is =
-    of_devices base fresh new 0 now (subst (IsUnopened base fresh new 0 now) (was_words is.cause is.told) is.unopened)
-
-of_unheld : (tags : ℕ) → IsUnheld tags BadWords → ⊥
-of_unheld tags (drills.OfOpening base new now base_is is) = of_unopened base new now is
-of_unheld tags (drills.OfMemory same) = cc same
-
 pub understood : (number tags events stops_before stops_now : ℕ) (session : Option Session) (answer : Result (String Global) Status)
-    → (session ≡ None → IfErr answer (IsUnheld tags))
+    → (session ≡ None → IfErr answer (λ why. why ≡ WantOfMemory))
     → IfSome session (IsDrill number tags events stops_before stops_now answer) → IfErr answer (λ why. why ≢ BadWords)
 understood number tags events stops_before stops_now session (Ok text) unheld held = tt
 understood number tags events stops_before stops_now None (Err why) unheld held =
-    λ same. of_unheld tags (subst (IsUnheld tags) same (unheld refl))
+    λ same. cc (same, unheld refl)
 understood number tags events stops_before stops_now (Some s) (Err why) unheld held =
     λ same. (let run = held.run.held in
     let undone = held.run.undone in

@@ -139,9 +139,3 @@ pub record IsDrillUnopened (base : Base) (old new : Devices) (before now : ℕ) 
   pub cause : Status
   pub told : why ≡ drill_status cause
   pub unopened : IsUnopened base old new before now cause
-
--- why no session is held: the new devices are not opened; or memory is wanting before
-pub data IsUnheld (tags : ℕ) (why : Status) : Type 0 where
-  OfOpening : (base : Base) (new : Devices) (now : ℕ) → IsDrillBase tags base → IsDrillUnopened base fresh new 0 now why
-      → IsUnheld tags why
-  OfMemory : why ≡ WantOfMemory → IsUnheld tags why

@@ -9,7 +9,7 @@ use Rattle.plant_status.specs.declared.status.Status.TheVariants.{BadWords, Want
 use Rattle.plant_files.specs.Faults.{IsFaultOfPlanned}
 use Rattle.plant_files.specs.Reading.{faults_after}
 use Rattle.drill_command.specs.declared.words.DrillWords.{DrillWords}
-use Rattle.drill_command.specs.Drills.{IsDrill, IsDrilled, IsUnheld as IsUnheldDrill}
+use Rattle.drill_command.specs.Drills.{IsDrill, IsDrilled}
 use Rattle.drill_command.specs.Words.{drill_words}
 use Rattle.run_command.specs.Headline.{IsPromised}
 use Rattle.run_command.specs.Runs.{IsSession, IsUnheld}
@@ -74,13 +74,13 @@ pub record IsLogHandedOn {D : Type 0} (trace : D → Option Trace) (ticks faults
   pub input : now.input ≡ before.input
 
 -- A drill: its report is printed, or the line that tells why there is none; nothing else outside has changed. Where its devices were
--- opened there is a session, whatever came of it, and what is promised of one; else there is a cause, which is never the words.
+-- opened there is a session, whatever came of it, and what is promised of one; else memory was wanting. Its words are never told.
 pub record IsDrillSo (wanted : DrillWords) (before now : World) (stops_before stops_now : ℕ) (o : Outcome) : Type 0 where
   pub answer : Result (String Global) Status
   pub held : OnOk answer (IsSome o.session)
   pub session : IfSome o.session (IsDrill wanted.number wanted.tags wanted.events stops_before stops_now answer)
   pub drilled : IfSome o.session (IsDrilled wanted.number wanted.tags wanted.events answer)
-  pub unheld : o.session ≡ None → IfErr answer (IsUnheldDrill wanted.tags)
+  pub unheld : o.session ≡ None → IfErr answer (λ why. why ≡ WantOfMemory)
   pub unstopped : o.session ≡ None → stops_now ≡ stops_before
   pub printed : IfOk answer (λ text. IsPrintedSo (string_bytes text) before.scene.output now.scene.output o.status)
   pub refused : IfErr answer (λ why. (o.status ≡ why) × IsTold before.scene.output now.scene.output why)

@@ -6,6 +6,7 @@ use crate::spelled::{content, number};
 use late_insert::{Content, Kind, Point, Rec};
 use std::alloc::{AllocError, Global};
 use std::fmt::Write;
+use std::process::Abort;
 use std::test::Fail;
 use trend_num::in_range;
 
@@ -48,13 +49,18 @@ fn records_are_listed_in_order_of_time(rt: HostRuntime) -> Result<(), Fail> {
     Ok(())
 }
 
+// What stands around a time.
+fn around_told(alloc: Global, content: &Content, t: u64) -> Result<String, Fail> {
+    let a = content.around(t);
+    Ok(format!(in alloc; "{} {} {:?} {:?}", a.below, a.upto, a.before, a.after)?)
+}
+
 #[test]
 fn the_points_around_a_time_are_found(rt: HostRuntime) -> Result<(), Fail> {
     let content = content(&rt, rt.alloc(), "10,8 0,4")?;
     for row in AROUND.lines() {
         let (given, want) = row.split_once(" => ").ok_or("row")?;
-        let a = content.around(number(&rt, given));
-        let told = format!(in rt.alloc(); "{} {} {:?} {:?}", a.below, a.upto, a.before, a.after)?;
+        let told = around_told(rt.alloc(), &content, number(&rt, given))?;
         assert_eq!(rt; told.as_str(), want, "{given}");
     }
     Ok(())
@@ -87,6 +93,20 @@ fn all_in_range(recs: &[Rec]) -> bool
     true
 }
 
+// Holds the runs of a content of 130,000 points, from the 101st to the 290th, to their rows.
+fn runs_are_told(rt: &impl Abort, alloc: Global, content: &Content) -> Result<(), Fail> {
+    assert!(rt; content.len() == 130_000);
+    let mut runs = content.runs(100, 290);
+    for row in RUNS.lines() {
+        let run = runs.next().ok_or("a run")?;
+        let (first, last) = (run.first().v, run.last().v);
+        let told = format!(in alloc; "{first} {last} {} {}", run.area(false), run.area(true))?;
+        assert_eq!(rt; told.as_str(), row);
+    }
+    assert!(rt; runs.next().is_none());
+    Ok(())
+}
+
 #[test]
 fn many_records_in_order_fill_pages(rt: HostRuntime) -> Result<(), Fail> {
     let recs = rising(rt.alloc(), 130_000)?;
@@ -101,14 +121,5 @@ fn many_records_in_order_fill_pages(rt: HostRuntime) -> Result<(), Fail> {
         })
     );
     assert_eq!(rt; content.below(130_000), 65_000);
-    assert!(rt; content.len() == 130_000);
-    let mut runs = content.runs(100, 290);
-    for row in RUNS.lines() {
-        let run = runs.next().ok_or("a run")?;
-        let (first, last) = (run.first().v, run.last().v);
-        let told = format!(in rt.alloc(); "{first} {last} {} {}", run.area(false), run.area(true))?;
-        assert_eq!(rt; told.as_str(), row);
-    }
-    assert!(rt; runs.next().is_none());
-    Ok(())
+    runs_are_told(&rt, rt.alloc(), &content)
 }

@@ -2,6 +2,8 @@
 use crate::spelled::{content, number};
 use interp_read::{Reading, at, at_step, points};
 use late_insert::{Content, Kind, Point, Rec};
+use std::alloc::Global;
+use std::process::Abort;
 use std::test::Fail;
 
 // Records and a time, and how the line and the stair through the points read there.
@@ -21,18 +23,20 @@ const LISTED: &str = "\
 0 256 => 256 true
 7 6 => 0 false";
 
+// How the line and the stair read at a time.
+fn read_told(alloc: Global, content: &Content, t: u64) -> Result<String, Fail> {
+    let line = at(content, None, t);
+    let stair = at_step(content, None, t);
+    Ok(format!(in alloc; "{line:?} {stair:?}")?)
+}
+
 #[test]
 fn lines_and_stairs_are_read(rt: HostRuntime) -> Result<(), Fail> {
     for row in READ.lines() {
         let (given, want) = row.split_once(" => ").ok_or("row")?;
         let (records, t) = given.split_once(" @ ").ok_or("time")?;
         let content = content(&rt, rt.alloc(), records)?;
-        let t = number(&rt, t);
-        let told = format!(in rt.alloc();
-            "{:?} {:?}",
-            at(&content, None, t),
-            at_step(&content, None, t)
-        )?;
+        let told = read_told(rt.alloc(), &content, number(&rt, t))?;
         assert_eq!(rt; told.as_str(), want, "{given}");
     }
     Ok(())
@@ -52,9 +56,9 @@ fn a_held_point_closes_the_content(rt: HostRuntime) -> Result<(), Fail> {
     Ok(())
 }
 
-#[test]
-fn at_most_256_points_are_listed(rt: HostRuntime) -> Result<(), Fail> {
-    let mut content = Content::new(rt.alloc(), 257)?;
+// The content of a point at each of the times 0 to 256.
+fn each_time(rt: &impl Abort, alloc: Global) -> Result<Content, Fail> {
+    let mut content = Content::new(alloc, 257)?;
     for t in 0..257u64 {
         assert!(rt; content.spare() > 0);
         content.put(Rec {
@@ -62,17 +66,22 @@ fn at_most_256_points_are_listed(rt: HostRuntime) -> Result<(), Fail> {
             point: Point { t, v: 0 },
         });
     }
+    Ok(content)
+}
+
+// How many points are listed from a time to another, and whether there are more.
+fn list_told(alloc: Global, content: &Content, from: u64, to: u64) -> Result<String, Fail> {
+    let found = points(alloc, content, None, from, to)?;
+    Ok(format!(in alloc; "{} {}", found.list.len(), found.more)?)
+}
+
+#[test]
+fn at_most_256_points_are_listed(rt: HostRuntime) -> Result<(), Fail> {
+    let content = each_time(&rt, rt.alloc())?;
     for row in LISTED.lines() {
         let (given, want) = row.split_once(" => ").ok_or("row")?;
         let (from, to) = given.split_once(' ').ok_or("times")?;
-        let found = points(
-            rt.alloc(),
-            &content,
-            None,
-            number(&rt, from),
-            number(&rt, to),
-        )?;
-        let told = format!(in rt.alloc(); "{} {}", found.list.len(), found.more)?;
+        let told = list_told(rt.alloc(), &content, number(&rt, from), number(&rt, to))?;
         assert_eq!(rt; told.as_str(), want, "{given}");
     }
     Ok(())

@@ -41,6 +41,18 @@ line 0 299 => 1789 3 1 0 6 299 0 5
 stair 0 299 => 1784 3 1 0 6 299 0 5
 stair 3 250 => 1484 3 1 0 6 247 3 5";
 
+// A measure of a window, of a stair or of a line.
+fn measure(content: &Content, step: bool, m: Measure, from: u64, to: u64) -> Option<i128>
+    requires order { from < to }
+    requires reach { to ≤ last_time }
+{
+    if step {
+        window_step(content, None, m, from, to)
+    } else {
+        window(content, None, m, from, to)
+    }
+}
+
 // All measures of a window.
 fn measures(
     alloc: Global,
@@ -54,12 +66,7 @@ fn measures(
 {
     let mut told = String::new(alloc);
     for m in MEASURES {
-        let value = if step {
-            window_step(content, None, m, from, to)
-        } else {
-            window(content, None, m, from, to)
-        };
-        match value {
+        match measure(content, step, m, from, to) {
             Some(n) => write!(told, " {n}")?,
             None => told.push_str(" no")?,
         }
@@ -94,9 +101,9 @@ fn a_window_has_each_measure(rt: HostRuntime) -> Result<(), Fail> {
     Ok(())
 }
 
-#[test]
-fn a_window_over_pages_is_that_of_the_points(rt: HostRuntime) -> Result<(), Fail> {
-    let mut content = Content::new(rt.alloc(), 300)?;
+// The content of the points at the times 0 to 299, put in falling order.
+fn falling(rt: &impl Abort, alloc: Global) -> Result<Content, Fail> {
+    let mut content = Content::new(alloc, 300)?;
     for i in 0..300u64 {
         let t = 299 - i;
         assert!(rt; content.spare() > 0);
@@ -108,6 +115,12 @@ fn a_window_over_pages_is_that_of_the_points(rt: HostRuntime) -> Result<(), Fail
             },
         });
     }
+    Ok(content)
+}
+
+#[test]
+fn a_window_over_pages_is_that_of_the_points(rt: HostRuntime) -> Result<(), Fail> {
+    let content = falling(&rt, rt.alloc())?;
     for row in LARGE.lines() {
         let (given, want) = row.split_once(" =>").ok_or("row")?;
         let (kind, field) = given.split_once(' ').ok_or("kind")?;

@@ -4,7 +4,8 @@ use Rattle.std.proofs.Common.{List, Option, Some}
 use Rattle.disk_model.specs.Traces.{Trace}
 use Rattle.run_command.proofs.Results.{err_weaker}
 use Rattle.run_command.proofs.Told.{some_weaker}
-use Rattle.drill_command.specs.Drills.{IsDrillUnopened, IsRunInPhases, OfOpening, memory_faults, memory_ticks, memory_trace}
+use Rattle.drill_command.specs.Drills.{IsDrillUnopened, IsRunInPhases, memory_faults, memory_ticks, memory_trace}
+use Rattle.drill_command.proofs.Unopened.{wants_memory}
 use Rattle.drill_command.proofs.command.run_drill.Goals as goal
 
 pub returns-clause-session : goal.returns-clause-session
@@ -28,7 +29,7 @@ returns-clause-unheld g c = λ no.
     let none : c.new-store.result.devices ≡ [] = c.new-store.ensures.devices ∙ ap named c.new.ensures.items in
     let new : List ℕ → Option Trace = λ n. Some (trace_at c.hold_in.new.store.devices n) in
     err_weaker c.hold_in.result.answer (λ why is.
-    OfOpening c.args.drill.now.base new c.hold_in.new.store.faults c.requires.base
+    wants_memory c.args.drill.now.base new c.hold_in.new.store.faults why
     (subst (λ (ds : Devices). IsDrillUnopened c.args.drill.now.base (λ n. Some (trace_at ds n)) new 0 c.hold_in.new.store.faults why) none
     (subst (λ (n : ℕ). IsDrillUnopened c.args.drill.now.base (λ name. Some (trace_at c.new-store.result.devices name)) new n
     c.hold_in.new.store.faults why) c.new-store.ensures.faults is)))
