@@ -1,5 +1,5 @@
 -- From the verdict on a text's tokens to what is told of the text.
-use Rattle.std.proofs.Common.{◌≡◌, ℕ, ◌-◌, ◌≤◌, List, [], ◌∷◌, ◌++◌, length, drop, get_or, Err, refl, sym, ap, ◌∙◌, subst, arith, length-append}
+use Rattle.std.proofs.Common.{◌≡◌, ℕ, ◌-◌, ◌≤◌, List, [], ◌∷◌, ◌++◌, length, drop, get_or, Err, sym, ap, ◌∙◌, subst, arith, length-append}
 use Rattle.std.proofs.lemmas.List.{append-nil}
 use Rattle.std.proofs.Math.Seq.{drop-append_seam}
 use Rattle.calc_parser.specs.declared.parser.Stop.{Stop}
@@ -7,11 +7,11 @@ use Rattle.calc_parser.specs.declared.parser.Stop.TheVariants as stop
 use Rattle.calc_parser.specs.declared.token.Token.{Token}
 use Rattle.calc_parser.specs.Formulas.{most_bytes, IsFormula, IsSyntax, IsDeep, HasCause, Gives, kind_of}
 use Rattle.calc_parser.specs.Grammar.{formula, words}
-use Rattle.calc_parser.specs.Scan.{whole, scan, Verdict, fine, refused, deep, Spells, Stops, refusal_of}
+use Rattle.calc_parser.specs.Scan.{whole, scan, fine, Spells, Stops, refusal_of}
 use Rattle.calc_parser.specs.Tokens.{tokens_of, places_of}
 use Rattle.calc_parser.specs.Tree.{Tree}
 use Rattle.calc_parser.proofs.Builds.{same_tree}
-use Rattle.calc_parser.proofs.Verdicts.{IsAt, IsStuck, Plunges, PlungesAt, Explains, explains, shallow, cannot_follow, opens_too_deep, deep_in_none, front_begins, deep_begins, all_shallow}
+use Rattle.calc_parser.proofs.Verdicts.{IsAt, IsStuck, PlungesAt, Explains, explains, shallow, cannot_follow, opens_too_deep, deep_in_none, front_begins, deep_begins, all_shallow}
 
 -- tokens that all may stand, and spell a tree, make a formula
 pub is_formula : (text : List ℕ) (tokens : List Token) (t : Tree) → tokens ≡ tokens_of text

@@ -1,5 +1,5 @@
 -- Tokens that lie apart, spelled one after another, are read again.
-use Rattle.std.proofs.Common.{◌≡◌, ℕ, zero, suc, ◌+◌, ◌-◌, ◌^◌, ◌<◌, ◌≤◌, Bool, true, false, ◌&&◌, ◌||◌, cond, pos, List, [], ◌∷◌, ◌++◌, length, take, drop, map, get_or, nat_eq, nat_le, nat_lt, not, Option, None, Some, refl, sym, ap, ◌∙◌, subst, arith, append_assoc, length-append, lit<, codes}
+use Rattle.std.proofs.Common.{◌≡◌, ℕ, zero, suc, ◌+◌, ◌-◌, ◌^◌, ◌<◌, ◌≤◌, Bool, true, false, ◌&&◌, ◌||◌, cond, pos, List, [], ◌∷◌, ◌++◌, length, drop, map, get_or, nat_eq, nat_le, nat_lt, not, None, Some, refl, sym, ap, ◌∙◌, subst, arith, append_assoc, length-append, lit<, codes}
 use Rattle.std.proofs.lemmas.Bool.{false≢true}
 use Rattle.std.proofs.lemmas.Bool.Decides.{nat_tests}
 use Rattle.std.proofs.Math.Seq.{take-append_seam, drop-append_seam}
@@ -19,7 +19,7 @@ use Rattle.calc_parser.specs.declared.token.Token.{Token}
 use Rattle.calc_parser.specs.declared.token.Token.TheVariants.{Number, Quoted, Measuring, Calculation, Absolute, Picking, Choice, Open, Close, Comma, Summing, Multiplying, Comparing, Ill, End}
 use Rattle.calc_parser.specs.declared.refusal.SyntaxKind.TheVariants as kind
 use Rattle.calc_parser.specs.Canonical.{spelling, spelled}
-use Rattle.calc_parser.specs.Tokens.{Piece, Lexeme, ill, is_letter, is_name, largest_number, numeral_of, word_at, word_of, or_ill, name_of, quoted_of, less_of, greater_of, token_at, lexemes, tokens_of}
+use Rattle.calc_parser.specs.Tokens.{ill, is_letter, is_name, largest_number, numeral_of, word_at, or_ill, name_of, quoted_of, token_at, lexemes, tokens_of}
 use Rattle.calc_parser.proofs.Apart.{is_wordy, is_comparing, clash, next_of, Apart}
 use Rattle.calc_parser.proofs.Lexing.{token_first}
 use Rattle.trend_num.proofs.NameText.{both_left, both_right}

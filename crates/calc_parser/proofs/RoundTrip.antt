@@ -1,6 +1,5 @@
 -- The canonical text of a formula's tree is a formula again, with the same tree.
-use Rattle.std.proofs.Common.{◌≡◌, ℕ, ◌≤◌, List, [], length, All, refl, sym, ap, ◌∙◌, subst, arith}
-use Rattle.calc_parser.specs.declared.token.Token.{Token}
+use Rattle.std.proofs.Common.{◌≡◌, ℕ, ◌≤◌, List, length, All, refl, sym, ap, ◌∙◌, subst, arith}
 use Rattle.calc_parser.specs.declared.token.Token.TheVariants.{End}
 use Rattle.calc_parser.specs.Canonical.{canonical, spelled, text_of}
 use Rattle.calc_parser.specs.Formulas.{deepest, most_bytes, IsFormula}

@@ -1,19 +1,18 @@
 -- The canonical text of a formula is no deeper and no longer than any other.
-use Rattle.std.proofs.Common.{◌≡◌, ℕ, ◌+◌, ◌≤◌, max, List, [], ◌∷◌, ◌++◌, length, All, refl, sym, ap, ◌∙◌, arith, length-append}
+use Rattle.std.proofs.Common.{◌≡◌, ℕ, ◌+◌, ◌≤◌, max, List, [], ◌∷◌, ◌++◌, length, All, refl, ap, ◌∙◌, arith, length-append}
 use Rattle.std.proofs.lemmas.Grind.{flat_map-append}
-use Rattle.std.proofs.lemmas.List.Elements.{All-append, All-cons, All-nil, All-from_recursion, recursion_from_All}
+use Rattle.std.proofs.lemmas.List.Elements.{All-from_recursion, recursion_from_All}
 use Rattle.std.specs.Fmt.{signed_decimal}
 use Rattle.std.specs.List.{AllByRecursion}
-use Rattle.calc_parser.specs.declared.tree.Op.{Op}
 use Rattle.calc_parser.specs.declared.token.Sum.TheVariants.{Plus, Minus}
 use Rattle.calc_parser.specs.declared.token.Product.TheVariants.{Times, Over, Modulo}
 use Rattle.calc_parser.specs.declared.token.Pick.TheVariants.{Least, Greatest}
 use Rattle.calc_parser.specs.declared.token.Token.{Token}
-use Rattle.calc_parser.specs.declared.token.Token.TheVariants.{Quoted, Measuring, Calculation, Absolute, Picking, Choice, Open, Close, Comma, Summing, Multiplying, Comparing}
+use Rattle.calc_parser.specs.declared.token.Token.TheVariants.{Quoted, Open, Close, Comma, Summing, Multiplying, Comparing}
 use Rattle.calc_parser.specs.Canonical.{spelling, spelled, measure_word, cmp_sign}
 use Rattle.calc_parser.specs.Grammar.{Level, formula, sums, terms, factor, Reading, plain, compared, one_term, more_terms, one_factor, more_factors, negated, numeral, grouped, measured, calculated, absolute, picked, chosen, words, tree, opens}
-use Rattle.calc_parser.specs.Tree.{Tree, num, window, calc, neg, abs, two, compare, choose}
-use Rattle.calc_parser.proofs.Directs.{own, lift, join, direct}
+use Rattle.calc_parser.specs.Tree.{Tree}
+use Rattle.calc_parser.proofs.Directs.{own, lift, direct}
 
 -- how many levels a derivation opens
 abbrev pub height : {level : Level} → Reading level → ℕ

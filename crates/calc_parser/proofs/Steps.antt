@@ -9,7 +9,7 @@ use Rattle.calc_parser.specs.declared.token.Product.{Product}
 use Rattle.calc_parser.specs.declared.token.Pick.{Pick}
 use Rattle.calc_parser.specs.declared.token.Token.{Token}
 use Rattle.calc_parser.specs.declared.token.Token.TheVariants.{Number, Quoted, Measuring, Calculation, Absolute, Picking, Choice, Open, Close, Comma, Summing, Multiplying, Comparing, End}
-use Rattle.calc_parser.specs.Grammar.{Level, formula, sums, terms, factor, Reading, plain, compared, one_term, more_terms, one_factor, more_factors, negated, numeral, grouped, measured, calculated, absolute, picked, chosen, words, tree, sum_op, product_op, pick_op}
+use Rattle.calc_parser.specs.Grammar.{Level, formula, sums, terms, factor, plain, compared, one_term, more_terms, one_factor, more_factors, negated, numeral, grouped, measured, calculated, absolute, picked, chosen, words, sum_op, product_op, pick_op}
 use Rattle.calc_parser.specs.Tree.{Tree, num, window, calc, neg, abs, two, compare, choose}
 use Rattle.calc_parser.specs.Scan.{head, Stack, operand, more, scan, refused, Spells, SpellsFirst, SpellsNext, SpellsAfter, EndsTerms, EndsSums}
 

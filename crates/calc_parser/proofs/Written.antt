@@ -1,5 +1,5 @@
 -- Which tokens and trees can be written: those that a text has.
-use Rattle.std.proofs.Common.{◌≡◌, ℕ, ◌≤◌, Bool, true, false, cond, nat_lt, ◌+◌, pos, List, [], ◌∷◌, ◌++◌, refl, sym, ap, ◌∙◌}
+use Rattle.std.proofs.Common.{◌≡◌, ℕ, ◌≤◌, Bool, true, false, cond, nat_lt, ◌+◌, pos, List, [], ◌∷◌, ◌++◌}
 use Rattle.trend_num.specs.declared.measure.Measure.TheVariants.{Area}
 use Rattle.calc_parser.specs.declared.tree.Op.{Op}
 use Rattle.calc_parser.specs.declared.tree.Op.TheVariants.{Add, Sub, Mul, Div, Rem, Min, Max}

@@ -1,6 +1,6 @@
 -- What private functions alone cite: what may still come after the tokens so far, as a stack, and where tokens leave
 -- it. It is a means of their proofs, and says of no tree how its parts group.
-use Rattle.std.specs.Prelude.{◌≡◌, ℕ, ◌+◌, ◌≤◌, Bool, true, false, nat_le, List, [], ◌∷◌, ◌++◌, Option, None, Some, Result, Ok, Err, if◌then◌else◌}
+use Rattle.std.specs.Prelude.{◌≡◌, ℕ, ◌+◌, Bool, true, false, nat_le, List, [], ◌∷◌, ◌++◌, Option, None, Some, Result, Ok, Err, if◌then◌else◌}
 use Rattle.calc_parser.specs.declared.token.Sum.TheVariants.{Minus}
 use Rattle.calc_parser.specs.declared.token.Token.{Token}
 use Rattle.calc_parser.specs.declared.token.Token.TheVariants.{Number, Quoted, Measuring, Calculation, Absolute, Picking, Choice, Open, Close, Comma, Summing, Multiplying, Comparing, End}

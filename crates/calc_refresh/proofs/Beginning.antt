@@ -1,22 +1,20 @@
 -- Sheets that begin: saved rows of the right length, and no rows.
-use Rattle.std.proofs.Common.{◌≡◌, ℕ, zero, suc, ◌+◌, ◌-◌, ◌/◌, ◌<◌, ◌≤◌, inl, inr, Bool, true, false, cond, List, [], ◌∷◌, Option, None, Some, length, get_or, map, replicate, All, refl, subst, sym, ap, ◌∙◌, arith}
-use Rattle.std.specs.Prelude.{◌↔◌, IsSome, find, not, nat_eq, min, option_and_then, slice_get, Vec, vec_len}
+use Rattle.std.proofs.Common.{◌≡◌, ℕ, zero, suc, ◌-◌, ◌/◌, ◌<◌, inl, inr, List, [], ◌∷◌, Option, None, Some, length, get_or, replicate, All, refl, subst, sym, ap, ◌∙◌, arith}
+use Rattle.std.specs.Prelude.{◌↔◌, IsSome, option_and_then, slice_get, Vec, vec_len}
 use Rattle.std.specs.declared.alloc.Global.{Global}
 use Rattle.calc_refresh.specs.declared.refusal.SheetNo.{SheetNo}
 use Rattle.calc_refresh.specs.declared.refusal.SheetNo.TheVariants.{Shape, CellLimit, CopyLimit, WantOfMemory}
-use Rattle.std.specs.Option.{option_map}
 use Rattle.std.proofs.lemmas.Bool.{cases_eq, cases_lt, eq-eqb, ne_eqb}
 use Rattle.std.proofs.Math.Nat.{zero-div}
 use Rattle.std.proofs.lemmas.List.{get_or-replicate, length-replicate}
 use Rattle.std.proofs.lemmas.List.Elements.{All-cons, All-head, All-nil}
-use Rattle.trend_num.specs.declared.archive.Rec.{Rec}
 use Rattle.trend_num.specs.declared.value.CalcValue.{CalcValue}
 use Rattle.trend_num.specs.declared.value.Bad.TheVariants.{NoData}
 use Rattle.trend_num.specs.declared.value.CalcValue.TheVariants.{Bad}
 use Rattle.std.proofs.lemmas.Option.{slice_get-get_or, slice_get_past}
 use Rattle.calc_check.specs.Group.{Group}
 use Rattle.sheet_law.specs.declared.grid.Grid.{Grid}
-use Rattle.sheet_law.specs.Windows.{complete_windows, kept_end, least, windows_before}
+use Rattle.sheet_law.specs.Windows.{complete_windows}
 use Rattle.sheet_law.specs.Scratch.{IsScratch}
 use Rattle.calc_refresh.specs.Refreshed.{IsToldOf, shape_fault}
 

@@ -1,5 +1,5 @@
 -- What more records make of a sheet, and when it is refused.
-use Rattle.std.specs.Prelude.{◌≡◌, ℕ, ◌+◌, ◌-◌, ◌*◌, ◌^◌, ◌<◌, ◌≤◌, min, Bool, false, not, ◌==◌, List, length, map, find, Option, None, Some, nat_lt, if◌then◌else◌, All, Vec, vec_len, vec_capacity, slice_index_or}
+use Rattle.std.specs.Prelude.{◌≡◌, ℕ, ◌+◌, ◌-◌, ◌*◌, ◌^◌, ◌<◌, ◌≤◌, min, false, not, ◌==◌, List, length, map, find, Option, None, Some, nat_lt, if◌then◌else◌, All, Vec, vec_len, vec_capacity, slice_index_or}
 use Rattle.std.specs.Option.{option_map}
 use Rattle.std.specs.declared.alloc.Global.{Global}
 use Rattle.trend_num.specs.declared.archive.Rec.{Rec}

@@ -1,5 +1,5 @@
 -- The promise of a session, from its cells and books.
-use Rattle.std.proofs.Common.{◌≡◌, ◌∙◌, ◌<◌, ◌≤◌, ◌+◌, ℕ, zero, suc, Bool, List, [], ◌∷◌, ◌++◌, All, Option, Result, Ok, Err, IfOk, String, arith, ap, sym, subst, refl, length, map, take, get_or}
+use Rattle.std.proofs.Common.{◌≡◌, ◌∙◌, ◌<◌, ◌≤◌, ◌+◌, ℕ, Bool, List, [], ◌∷◌, ◌++◌, All, Option, Result, Ok, Err, IfOk, String, arith, ap, sym, subst, refl, length, map, take, get_or}
 use Rattle.std.specs.Prelude.{◌≢◌, nat_eq, string_bytes, if◌then◌else◌}
 use Rattle.std.specs.List.{AllZip, fold}
 use Rattle.std.specs.declared.alloc.Global.{Global}
@@ -46,7 +46,6 @@ use Rattle.group_session.proofs.Laws.{all_durable, counted, pulls_durable}
 use Rattle.collector_pool.specs.declared.work.Refresh.{Refresh}
 use Rattle.tag_base.specs.declared.definition.Base.{Base}
 use Rattle.tag_base.specs.declared.definition.GroupDef.{GroupDef}
-use Rattle.tag_base.specs.declared.schedule.Plan.{Plan}
 use Rattle.tag_base.specs.declared.schedule.Refresher.{Refresher}
 use Rattle.tag_store.specs.Tags.{trace_of}
 use Rattle.cell_store.specs.Closings.{AreHistoriesAt, AreHistoriesOf, IsHistoryOf}

@@ -1,5 +1,5 @@
 -- The promise of a session: what is so of each of its tags and groups, and of all of it once it is done.
-use Rattle.std.specs.Prelude.{◌≡◌, ◌≢◌, ℕ, ◌+◌, ◌^◌, ◌<◌, ◌≤◌, List, [], All, length, map, nat_eq, slice_get, slice_index, slice_index_or, Option, Some, Result, IfErr, IfOk, String, string_bytes, if◌then◌else◌}
+use Rattle.std.specs.Prelude.{◌≡◌, ◌≢◌, ℕ, ◌+◌, ◌^◌, ◌<◌, ◌≤◌, List, [], All, length, map, nat_eq, slice_index, slice_index_or, Option, Result, IfErr, IfOk, String, string_bytes, if◌then◌else◌}
 use Rattle.std.specs.List.{AllZip, sum_by}
 use Rattle.std.specs.declared.alloc.Global.{Global}
 use Rattle.trend_num.specs.declared.archive.Rec.{Rec}

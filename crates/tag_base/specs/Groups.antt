@@ -1,5 +1,5 @@
 -- What the tables of groups say.
-use Rattle.std.specs.Prelude.{◌≡◌, ◌≢◌, ◌⊎◌, ℕ, Bool, if◌then◌else◌, ◌&&◌, ◌||◌, List, [], ◌∷◌, ◌++◌, length, map, position, slice_get, codes, bytes_eq, string_bytes, nat_eq, Option, None, Some, is_none, option_and_then, Result, Ok, Err, ⊤, ◌<◌, ◌≤◌, All, vec_len}
+use Rattle.std.specs.Prelude.{◌≡◌, ◌≢◌, ◌⊎◌, ℕ, Bool, if◌then◌else◌, ◌||◌, List, [], ◌∷◌, ◌++◌, length, map, position, slice_get, codes, bytes_eq, string_bytes, nat_eq, Option, None, Some, is_none, option_and_then, Result, Ok, Err, ⊤, ◌<◌, ◌≤◌, All, vec_len}
 use Rattle.std.specs.List.{list_any}
 use Rattle.toml.specs.Data.{Items, Members, no_items, item, as_str}
 use Rattle.toml_tables.specs.Tables.{has_keys, string_at, array_at, is_count}

@@ -1,4 +1,3 @@
-use Rattle.std.proofs.Common.{◌≡◌, ◌∙◌, sym, length, drop, take, [], ◌∷◌, ◌++◌}
 use Rattle.calc_parser.proofs.Lexing.{lexed_token}
 use Rattle.calc_parser.proofs.lexer.lexed.Goals as goal
 

@@ -1,5 +1,5 @@
 -- A name is what the library of names takes for one.
-use Rattle.std.proofs.Common.{◌≡◌, ◌∙◌, sym, ap, cond, Some, None}
+use Rattle.std.proofs.Common.{◌∙◌, sym, ap, cond, Some, None}
 use Rattle.calc_parser.specs.declared.token.Token.TheVariants.{Quoted}
 use Rattle.calc_parser.proofs.Names.{name_decides, no_name}
 use Rattle.calc_parser.proofs.lexer.name_of.Goals as goal

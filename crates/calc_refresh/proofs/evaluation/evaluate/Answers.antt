@@ -1,6 +1,4 @@
-use Rattle.std.proofs.Common.{◌≡◌, ℕ, ◌+◌, ◌*◌, ◌<◌, ◌≤◌, inl, inr, Bool, true, false, cond, Some, length, map, take, subst, sym, ap, ap₂, ◌∙◌, arith, vec_len}
-use Rattle.std.specs.Prelude.{count_by}
-use Rattle.std.specs.List.{range_with_len}
+use Rattle.std.proofs.Common.{◌≡◌, ℕ, ◌+◌, ◌*◌, inl, inr, cond, Some, length, map, take, sym, ap, ap₂, ◌∙◌, arith, vec_len}
 use Rattle.std.proofs.lemmas.Bool.{cases_eq, false≢true}
 use Rattle.sheet_law.specs.Value.{points_in, values}
 use Rattle.sheet_law.specs.Windows.{window_from, window_to}

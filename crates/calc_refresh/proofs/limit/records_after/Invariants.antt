@@ -1,4 +1,4 @@
-use Rattle.std.proofs.Common.{◌≡◌, ℕ, ◌*◌, ◌≤◌, take}
+use Rattle.std.proofs.Common.{◌≡◌, ◌*◌, ◌≤◌, take}
 use Rattle.sheet_law.specs.Touched.{longer}
 use Rattle.calc_refresh.specs.Lists.{lists_of, total_length}
 use Rattle.calc_refresh.proofs.limit.records_after.Given as goal

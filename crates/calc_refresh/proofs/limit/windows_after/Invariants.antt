@@ -1,4 +1,4 @@
-use Rattle.std.proofs.Common.{◌≡◌, ℕ, ◌<◌, List, map, take}
+use Rattle.std.proofs.Common.{◌≡◌, List, map, take}
 use Rattle.trend_num.specs.declared.archive.Rec.{Rec}
 use Rattle.sheet_law.specs.Windows.{kept_end, least, windows_before}
 use Rattle.sheet_law.specs.Touched.{longer}

@@ -1,5 +1,5 @@
 use Rattle.std.proofs.Common.{arith}
-use Rattle.calc_refresh.proofs.Marking.{marks_none, marks_span}
+use Rattle.calc_refresh.proofs.Marking.{marks_span}
 use Rattle.calc_refresh.proofs.mark.mark.Goals as goal
 
 pub returns-then-first-marks : goal.returns-then-first-marks

@@ -1,5 +1,5 @@
-use Rattle.std.proofs.Common.{◌≡◌, ◌<◌, ◌≤◌, List, All, length, map, subst, sym, ap, ap₂, ◌∙◌, arith, vec_len}
-use Rattle.std.specs.Prelude.{◌&&◌, ◌||◌, nat_le, nat_lt, slice_index_or}
+use Rattle.std.proofs.Common.{◌≡◌, ◌<◌, List, All, length, map, subst, sym, ap, ap₂, ◌∙◌, arith, vec_len}
+use Rattle.std.specs.Prelude.{◌&&◌, ◌||◌, nat_le, nat_lt}
 use Rattle.std.proofs.lemmas.List.{length-map}
 use Rattle.trend_num.specs.declared.archive.Rec.{Rec}
 use Rattle.trend_model.specs.Contents.{listed}

@@ -1,4 +1,4 @@
-use Rattle.std.proofs.Common.{◌≡◌, ◌<◌, ◌≤◌, length, get_or, ap, ◌∙◌, arith, vec_len, vec_capacity}
+use Rattle.std.proofs.Common.{◌≡◌, ◌≤◌, get_or, ap, ◌∙◌, arith, vec_len, vec_capacity}
 use Rattle.std.proofs.lemmas.List.{get_or_default}
 use Rattle.calc_refresh.proofs.Inputs.{each_set, lists_kept}
 use Rattle.calc_refresh.proofs.room.room_in_rows.Goals as goal

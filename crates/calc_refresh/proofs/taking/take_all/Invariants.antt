@@ -1,4 +1,4 @@
-use Rattle.std.proofs.Common.{◌≡◌, ℕ, ◌+◌, ◌<◌, ◌≤◌, length, get_or, map, take}
+use Rattle.std.proofs.Common.{◌≡◌, ℕ, ◌<◌, ◌≤◌, length, get_or, map, take}
 use Rattle.std.specs.Prelude.{◌||◌, Vec}
 use Rattle.std.specs.declared.alloc.Global.{Global}
 use Rattle.trend_num.specs.declared.archive.Rec.{Rec}

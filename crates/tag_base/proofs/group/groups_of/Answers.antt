@@ -1,11 +1,9 @@
-use Rattle.std.proofs.Common.{◌≡◌, ◌∷◌, ◌++◌, ◌∙◌, [], List, Err, Ok, All, length, map, drop, ap, sym, refl, subst, ◌+◌, rules}
+use Rattle.std.proofs.Common.{◌≡◌, ◌∷◌, ◌++◌, ◌∙◌, [], Err, Ok, All, length, map, drop, ap, sym, refl, subst, ◌+◌, rules}
 use Rattle.std.proofs.lemmas.List.{drop_more}
 use Rattle.std.proofs.lemmas.List.Elements.{All-push}
 use Rattle.std.proofs.lemmas.Result.{err_from_is_err_and}
 use Rattle.toml.specs.View.{table_view}
 use Rattle.tag_base.specs.Groups.{GroupRead, GroupsRead, IsSound}
-use Rattle.tag_base.specs.declared.definition.GroupDef.{GroupDef}
-use Rattle.toml.specs.Data.{Members}
 use Rattle.tag_base.proofs.group.groups_of.Goals as goal
 use Rattle.tag_base.proofs.group.groups_of.Goals.{After-group_of}
 

@@ -1,4 +1,4 @@
-use Rattle.std.proofs.Common.{◌≡◌, [], ◌∙◌, sym}
+use Rattle.std.proofs.Common.{[], ◌∙◌, sym}
 use Rattle.calc_parser.proofs.Steps.{left_over}
 use Rattle.calc_parser.proofs.parser.Parser.all.Goals as goal
 

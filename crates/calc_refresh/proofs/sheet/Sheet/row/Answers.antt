@@ -1,4 +1,4 @@
-use Rattle.std.proofs.Common.{◌≡◌, ◌<◌, All, length, subst, ap, ◌∙◌}
+use Rattle.std.proofs.Common.{◌≡◌, ◌<◌, length, subst, ap, ◌∙◌}
 use Rattle.std.specs.Prelude.{◌↔◌, IsSome, option_and_then, slice_get}
 use Rattle.sheet_law.specs.Windows.{complete_windows}
 use Rattle.calc_refresh.specs.Lists.{lists_of}

@@ -1,4 +1,4 @@
-use Rattle.std.proofs.Common.{◌≡◌, ◌<◌, length, ap, arith}
+use Rattle.std.proofs.Common.{◌<◌, length, ap, arith}
 use Rattle.std.proofs.lemmas.List.{length-map}
 use Rattle.calc_refresh.specs.Sheet.{IsCopy, SheetState}
 use Rattle.calc_refresh.proofs.Inputs.{each_read}
