@@ -1,5 +1,5 @@
 -- How the opening of groups ends.
-use Rattle.std.proofs.Common.{◌≡◌, ◌≢◌, inl, inr, ℕ, ◌+◌, ◌^◌, ◌<◌, ◌≤◌, List, [], ◌∷◌, length, map, get_or, string_bytes, Option, None, Some, IsSome, Result, Ok, Err, refl, sym, ◌∙◌, ap, subst, arith}
+use Rattle.std.proofs.Common.{◌≡◌, inl, inr, ℕ, ◌^◌, ◌<◌, ◌≤◌, List, [], ◌∷◌, length, map, get_or, Option, None, Some, IsSome, Result, Ok, Err, refl, sym, ◌∙◌, ap, subst, arith}
 use Rattle.std.specs.Prelude.{IsErrOf, String}
 use Rattle.std.specs.declared.alloc.Global.{Global}
 use Rattle.std.proofs.lemmas.Bool.{cases_lt}
@@ -9,12 +9,11 @@ use Rattle.disk_model.specs.Calls.{CountsFault, Rose, sum_of_counts}
 use Rattle.disk_model.specs.Moments.{During}
 use Rattle.disk_model.specs.Traces.{Trace}
 use Rattle.tag_base.specs.declared.definition.GroupDef.{GroupDef}
-use Rattle.group_book.specs.declared.history.GroupOpening.{GroupOpening}
 use Rattle.group_book.specs.declared.refusal.LoadNo.{LoadNo}
 use Rattle.group_book.specs.declared.refusal.LoadNo.TheVariants.{DeviceFault, Damaged, Ahead, Shape, WantOfMemory}
-use Rattle.group_book.specs.Openings.{CountsRefusal, IsCause, StaysSame}
+use Rattle.group_book.specs.Openings.{CountsRefusal, StaysSame}
 use Rattle.group_book.specs.Told.{Told, trace_of}
-use Rattle.book_store.specs.Groups.{AllStaySame, AreBooksOpened, AreDistinct, AreNamesOf, AreOpened, AreOthersSame, Devices, IsOpening, device_name, parts_of, records_of, text_of, trace_at}
+use Rattle.book_store.specs.Groups.{AllStaySame, AreBooksOpened, AreDistinct, AreNamesOf, AreOpened, Devices, IsOpening, parts_of, records_of, text_of, trace_at}
 use Rattle.book_store.specs.Refusals.{CountsStore, IsRefusal, IsRefusedAt, OfDamage, OfFault, OfMemory, OfVersion, OfWindows, status_of}
 use Rattle.book_store.specs.Endings.{AreGivenBack, counts_after, trace_after}
 use Rattle.book_store.specs.Steps.{AreOtherNamesSame, IsCauseAt, RestStaysSame}

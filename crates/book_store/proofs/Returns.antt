@@ -3,13 +3,13 @@ use Rattle.std.proofs.Common.{◌≡◌, ◌≢◌, inl, inr, ℕ, zero, suc, �
 use Rattle.std.specs.Prelude.{◌↔◌, String}
 use Rattle.std.specs.declared.alloc.Global.{Global}
 use Rattle.std.proofs.lemmas.Bool.{cases_eq, cases_lt, cases_order}
-use Rattle.std.proofs.lemmas.List.{get_or_append_left, get_or_default, get_or-drop, length-drop}
+use Rattle.std.proofs.lemmas.List.{get_or_append_left, get_or_default, length-drop}
 use Rattle.std.proofs.Math.Seq.{drop-cons, get_or-append_seam}
 use Rattle.disk_model.specs.Traces.{Trace}
 use Rattle.group_book.specs.declared.history.GroupHistory.{GroupHistory}
 use Rattle.group_book.specs.Told.{Told, count_of}
 use Rattle.book_store.specs.Groups.{Devices}
-use Rattle.book_store.specs.Endings.{AreGivenBack, HasRisen, IsHistoryOf, count_after, counts_after, trace_after}
+use Rattle.book_store.specs.Endings.{HasRisen, IsHistoryOf, count_after, counts_after, trace_after}
 use Rattle.book_store.specs.Steps.{AreOtherNamesSame}
 use Rattle.book_store.proofs.Turns.{one_more_name}
 

@@ -1,5 +1,5 @@
 -- Groups that are opened one after the other.
-use Rattle.std.proofs.Common.{◌≡◌, ◌≢◌, ◌⊎◌, inl, inr, ℕ, ◌+◌, ◌<◌, ◌≤◌, List, [], ◌∷◌, ◌++◌, length, length-append, get_or, string_bytes, Option, None, Some, refl, sym, ◌∙◌, ap, subst, arith}
+use Rattle.std.proofs.Common.{◌≡◌, ◌≢◌, inl, inr, ℕ, ◌+◌, ◌<◌, ◌≤◌, List, [], ◌∷◌, ◌++◌, length, length-append, get_or, string_bytes, Option, None, Some, refl, sym, ◌∙◌, ap, subst, arith}
 use Rattle.std.specs.Prelude.{IsSome, String}
 use Rattle.std.specs.declared.alloc.Global.{Global}
 use Rattle.std.proofs.lemmas.Bool.{cases_eq, cases_order}
@@ -12,7 +12,6 @@ use Rattle.tag_base.specs.declared.definition.GroupDef.{GroupDef}
 use Rattle.group_book.specs.declared.refusal.LoadNo.{LoadNo}
 use Rattle.group_book.specs.Openings.{IsCause, StaysSame}
 use Rattle.group_book.specs.Told.{Told, trace_of}
-use Rattle.disk_model.specs.Images.{MayLeave}
 use Rattle.disk_model.proofs.Moments.{started}
 use Rattle.book_store.specs.Groups.{AreBooksOpened, AreDistinct, AreNamesOf, AreOthersSame, Devices, IsBookOpened, device_name, parts_of, records_of, text_of, trace_at}
 use Rattle.book_store.specs.Steps.{AreOtherNamesSame, IsCauseAt, RestStaysSame, StaysSameOf}

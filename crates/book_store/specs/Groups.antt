@@ -1,5 +1,5 @@
 -- The groups of a base, opened as books over a store of devices.
-use Rattle.std.specs.Prelude.{◌≡◌, ◌≢◌, ℕ, ◌<◌, List, [], ◌++◌, length, map, codes, string_bytes, slice_index_or, Option, Some, IsSome, false, All, AllPairs, String}
+use Rattle.std.specs.Prelude.{◌≡◌, ◌≢◌, ℕ, ◌<◌, List, [], ◌++◌, length, map, codes, string_bytes, slice_index_or, Option, IsSome, false, All, AllPairs, String}
 use Rattle.std.specs.declared.alloc.Global.{Global}
 use Rattle.trend_num.specs.declared.archive.Rec.{Rec}
 use Rattle.disk_model.specs.Calls.{Shows}

@@ -5,7 +5,7 @@ use Rattle.value_rows.specs.declared.asked.Query.{Query}
 use Rattle.value_rows.specs.declared.raw.RawRow.{RawRow}
 use Rattle.tape_audit.specs.declared.agenda.Agenda.{Agenda}
 use Rattle.tape_audit.specs.declared.agenda.Rows.TheVariants.{Takes, Asks, RowAsks}
-use Rattle.tape_audit.specs.Agendas.{ask_item, items_in, items_of, number_in, numbered, phase_item, row_item, take_item}
+use Rattle.tape_audit.specs.Agendas.{ask_item, items_in, items_of, number_in, numbered, phase_item, row_item}
 
 -- there are as many
 pub length-numbered : {A B : Type 0} (f : ℕ → A → B) (n : ℕ) (rows : List A)

@@ -1,4 +1,4 @@
-use Rattle.std.proofs.Common.{◌≡◌, ◌<◌, ◌≤◌, ◌+◌, ℕ, List, drop, length}
+use Rattle.std.proofs.Common.{◌≡◌, ◌+◌, ℕ, List, drop, length}
 use Rattle.std.specs.Prelude.{IsTrue}
 use Rattle.std.specs.Vec.Iter.{into_iter_items, into_iter_len}
 use Rattle.book_store.specs.Endings.{counts_after}

@@ -3,7 +3,7 @@ use Rattle.std.proofs.lemmas.Result.{err_from_is_err_and}
 use Rattle.group_book.specs.Told.{Told}
 use Rattle.book_store.proofs.Causes.{counted_since}
 use Rattle.book_store.proofs.Names.{as_many, one_place}
-use Rattle.book_store.proofs.Turns.{IsSoFar, at_place, begun, cause_at, next_at, others_at, others_same, rest_at, rest_untouched}
+use Rattle.book_store.proofs.Turns.{IsSoFar, at_place, cause_at, next_at, others_at, others_same, rest_at}
 use Rattle.book_store.proofs.opening.open_all.Goals as goal
 
 pub loop-place-preserved : goal.loop-place-preserved

@@ -1,5 +1,4 @@
-use Rattle.std.proofs.Common.{◌≡◌, ◌∙◌, ◌^◌, ◌<◌, Err, ap, arith, get_or, length, map, subst, sym}
-use Rattle.std.specs.declared.alloc.Global.{Global}
+use Rattle.std.proofs.Common.{◌≡◌, ◌∙◌, Err, ap, arith, get_or, length, map, subst, sym}
 use Rattle.disk_model.specs.Calls.{CountsFault, Rose}
 use Rattle.group_book.specs.declared.refusal.LoadNo.TheVariants.{DeviceFault}
 use Rattle.book_store.specs.Refusals.{CountsStore, IsRefusal, status_of}

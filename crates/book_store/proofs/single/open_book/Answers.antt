@@ -1,5 +1,4 @@
 use Rattle.std.proofs.Common.{◌≡◌, ◌∙◌, List, ℕ, Option, ap, length, map, sym, subst}
-use Rattle.trend_num.specs.declared.archive.Rec.{Rec}
 use Rattle.disk_model.specs.Calls.{Shows}
 use Rattle.disk_model.specs.Moments.{During}
 use Rattle.disk_model.specs.Traces.{Trace}
@@ -7,7 +6,7 @@ use Rattle.calc_refresh.specs.declared.definition.GroupDefParts.{GroupDefParts}
 use Rattle.calc_refresh.specs.Lists.{lists_of}
 use Rattle.group_book.specs.Openings.{StandsForGroup, StaysSame}
 use Rattle.group_book.specs.Tapes.{cut}
-use Rattle.group_book.specs.Told.{count_of, trace_of}
+use Rattle.group_book.specs.Told.{trace_of}
 use Rattle.book_store.specs.Groups.{parts_of, records_of, text_of}
 use Rattle.book_store.proofs.Turns.{same_of, still, untouched}
 use Rattle.book_store.proofs.single.open_book.Goals as goal

@@ -1,4 +1,4 @@
-use Rattle.std.proofs.Common.{◌≡◌, ◌≢◌, ap, arith, length, string_bytes, subst, sym}
+use Rattle.std.proofs.Common.{◌≢◌, ap, arith, length, string_bytes, subst, sym}
 use Rattle.std.specs.Prelude.{AllPairs, IsTrue, String}
 use Rattle.std.specs.declared.alloc.Global.{Global}
 use Rattle.std.proofs.lemmas.List.Elements.{All-weaker}
