@@ -1,12 +1,12 @@
 -- The points of the tags whose snapshots are asked.
 use Rattle.std.proofs.Common.{◌≡◌, ℕ, ◌+◌, ◌<◌, List, [], length, get_or, refl, sym, ap, ◌∙◌, arith}
-use Rattle.std.proofs.Common.{Option, None, Some, true, false, cond, ◌||◌, Vec, ◌∷◌, ◌++◌, take, ap₂, suc}
+use Rattle.std.proofs.Common.{Option, None, Some, true, cond, Vec, ◌∷◌, suc}
 use Rattle.std.specs.declared.alloc.Global.{Global}
-use Rattle.std.proofs.lemmas.List.{length-map, map_push, take_more}
+use Rattle.std.proofs.lemmas.List.{length-map}
 use Rattle.std.specs.List.{list_any, slice_get}
 use Rattle.std.specs.Option.{option_map, option_map_or, unwrap_or}
 use Rattle.std.proofs.lemmas.Bool.{eq-eqb}
-use Rattle.std.proofs.lemmas.List.Folds.{list_any-append, list_any_at}
+use Rattle.std.proofs.lemmas.List.Folds.{list_any_at}
 use Rattle.std.proofs.lemmas.Option.{unwrap_or-slice_get}
 use Rattle.trend_num.specs.declared.point.Point.{Point}
 use Rattle.value_rows.specs.declared.asked.Query.{Query}
@@ -16,7 +16,6 @@ use Rattle.session_report.specs.Places.{IsHeldFor, held_lists, is_snap, is_snapp
 use Rattle.session_report.specs.Report.{placed}
 use Rattle.session_report.specs.Snaps.{held_points}
 use Rattle.calc_refresh.specs.Lists.{lists_of}
-use Rattle.session_report.proofs.Keeping.{list_at}
 use Rattle.session_report.proofs.Placed.{placed_get}
 
 -- the query at a place of a reader asks a snapshot, so that is asked
