@@ -154,9 +154,9 @@ fits text def recovered windows size is =
     let calcs = length def.calcs.calcs in
     let none = saved_nothing text def.inputs calcs is.versions is.rows is.stands in
     let empty : complete_windows w (cut is.versions recovered) ≡ 0 =
-      ap (λ (vs : List ℕ). complete_windows w (cut vs recovered)) none.0 ∙ none_complete w def.inputs recovered in
+    ap (λ (vs : List ℕ). complete_windows w (cut vs recovered)) none.0 ∙ none_complete w def.inputs recovered in
     let no_fault : shape_fault (complete_windows w (cut is.versions recovered)) is.rows ≡ None =
-      ap (λ (n : ℕ). shape_fault n is.rows) empty ∙ (ap (shape_fault 0) none.1 ∙ no_shape calcs) in
+    ap (λ (n : ℕ). shape_fault n is.rows) empty ∙ (ap (shape_fault 0) none.1 ∙ no_shape calcs) in
     cc (no_fault, is.shape)
 
 of_groups : (defs : List GroupDef) (records : List (List Rec)) (before now : ℕ) (why : Status)
