@@ -2,9 +2,9 @@
 """layers.py: derives the graph of the crates in docs/LAYERS.md from crates.txt.
 
 Writes the text between the two marks in LAYERS.md anew: the crates by layer, highest first, each with its height (how many crates
-stand on one another up to it) and the crates that it stands on directly; then the longest chain, and the same as a picture. A
-crate on which another one below stands too is left out, as is the toolchain. With --check it writes nothing, and fails where the
-text is another one."""
+stand on one another up to it) and the crates that it stands on directly; then the longest chain. A crate on which another one
+below stands too is left out, and so are the suites of tests and the toolchain. With --check it writes nothing, and fails where
+the text differs."""
 import os
 import sys
 
@@ -66,18 +66,6 @@ def rows(layers, named):
             yield line.rstrip()
 
 
-def edges(layers, named):
-    """The lines of the picture, an arrow from each crate to what it stands on."""
-    yield "flowchart TB"
-    for number, (title, crates) in reversed(list(enumerate(layers))):
-        yield f'  subgraph layer{number}["{title}"]'
-        yield "    " + "; ".join(crates)
-        yield "  end"
-    for crate in named:
-        for dep in direct(crate, named):
-            yield f"  {crate} --> {dep}"
-
-
 def derived(layers):
     """The text between the marks."""
     everything = {name: deps for _, crates in layers for name, deps in crates.items()}
@@ -86,12 +74,9 @@ def derived(layers):
     kept = [(title, {name: code[name] for name in crates if name in code}) for title, crates in layers]
     kept = [(title, crates) for title, crates in kept if crates]
     longest = max((chain(name, code) for name in code), key=len)
-    tests = [name for name in named if name not in code]
     text = ["```", *rows(kept, code), "```", ""]
     text.append(f"The longest chain has {len(longest)} crates: {', '.join(f'`{name}`' for name in longest)}.")
-    if tests:
-        text.append(f"Tests stand beside, in {', '.join(f'`{name}`' for name in tests)}.")
-    return "\n".join(text + ["", "```mermaid", *edges(kept, code), "```"])
+    return "\n".join(text)
 
 
 def main():

@@ -1,9 +1,14 @@
 #!/usr/bin/env python3
-"""make_days.py: writes the collectors' files of the plant into the working folder, from a fixed seed.
+"""make_days.py [--iso]: writes the collectors' files of the plant into the working folder, from a fixed seed.
 
 Two times 24 hours from 2024-03-30 00:00 on, in the zone of the calendar, where 2024-03-31 has 23. `flow1.csv` and
 `unit1.csv` are the
-first day, `flow2.csv` and `unit2.csv` the second; `buffer.csv` is what a logger had buffered of the first and hands over late."""
+first day, `flow2.csv` and `unit2.csv` the second; `buffer.csv` is what a logger had buffered of the first and hands over late.
+
+With --iso it writes the same values as loggers would, for `tools/feed.py`: the flow a value a line with offsets in its times, the unit
+as a wide file in UTC, the buffer on the local clock without an offset; temperature and level are decimals."""
+import datetime
+import sys
 
 DAY = 86_400_000
 FIRST = 1_711_753_200_000  # 2024-03-30 00:00 on the local clock
@@ -77,13 +82,65 @@ def write(name, rows):
             out.write(row + "\n")
 
 
+SCALES = {"TIC201.PV": 100, "LIC301.PV": 10}
+CHANGE = 1_711_846_800_000  # 2024-03-31 02:00 on the local clock, which then shows 03:00
+
+
+def plain(tag, value):
+    """A value as its instrument shows it."""
+    scale = SCALES.get(tag, 1)
+    return "%d.%0*d" % (value // scale, len(str(scale)) - 1, value % scale) if scale > 1 else str(value)
+
+
+def iso(t, hours=0, offset="Z"):
+    """A time so many hours ahead of UTC."""
+    moment = datetime.datetime.fromtimestamp(t // 1000, datetime.timezone.utc) + datetime.timedelta(hours=hours)
+    return moment.strftime("%Y-%m-%dT%H:%M:%S") + offset
+
+
+def parted(rows):
+    """Time, tag and value of rows, in order of time."""
+    for _, row in sorted(rows, key=lambda row: row[0]):
+        tag, t, v = row.split(",")
+        yield int(t), tag, int(v)
+
+
+def write_lines(name, rows, time):
+    """A file of one value a line."""
+    with open(name, "w") as out:
+        out.write("tag,time,value\n")
+        out.writelines("%s,%s,%s\n" % (tag, time(t), plain(tag, v)) for t, tag, v in parted(rows))
+
+
+def write_wide(name, rows, tags):
+    """A file of one time a line, with a column for each tag."""
+    table = {}
+    for t, tag, v in parted(rows):
+        table.setdefault(t, {})[tag] = plain(tag, v)
+    with open(name, "w") as out:
+        out.write("time,%s\n" % ",".join(tags))
+        out.writelines("%s,%s\n" % (iso(t), ",".join(values.get(tag, "") for tag in tags)) for t, values in table.items())
+
+
+def with_offset(t):
+    return iso(t, 1, "+01:00") if t < CHANGE else iso(t, 2, "+02:00")
+
+
 def main():
     missing = (60_000 * 640, 60_000 * 700)
-    write("flow1.csv", flow_rows(FIRST, Noise(11)))
-    write("unit1.csv", unit_rows(FIRST, Noise(12), missing))
-    write("flow2.csv", flow_rows(SECOND, Noise(13)))
-    write("unit2.csv", unit_rows(SECOND, Noise(14), None))
-    write("buffer.csv", buffered(FIRST, missing))
+    days = [(FIRST, 11, 12, missing), (SECOND, 13, 14, None)]
+    for number, (begin, flow, unit, gap) in enumerate(days, 1):
+        flow, unit = flow_rows(begin, Noise(flow)), unit_rows(begin, Noise(unit), gap)
+        if "--iso" in sys.argv:
+            write_lines("flow%d.csv" % number, flow, with_offset)
+            write_wide("unit%d.csv" % number, unit, ("TIC201.PV", "LIC301.PV", "PIC401.PV"))
+        else:
+            write("flow%d.csv" % number, flow)
+            write("unit%d.csv" % number, unit)
+    if "--iso" in sys.argv:
+        write_lines("buffer.csv", buffered(FIRST, missing), lambda t: iso(t, 1, ""))
+    else:
+        write("buffer.csv", buffered(FIRST, missing))
 
 
 main()

@@ -4,3 +4,9 @@ mod Parts
 pub mod Joins
 pub mod Logs
 pub mod Spellings
+pub mod Beginnings
+pub mod FieldLaws
+pub mod PlacedBytes
+pub mod ReadImages
+pub mod LayoutSpellings
+pub mod TextHeads

@@ -2,3 +2,5 @@ pub mod Fields
 pub mod Records
 pub mod Summaries
 pub mod Places
+pub mod LayoutFields
+pub mod TextHeads

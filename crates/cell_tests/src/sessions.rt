@@ -6,11 +6,11 @@ use crate::cells::{filled, tag};
 use crate::workers::{letters, rows_of};
 use collector_pool::Work;
 use disk_model::MemDisk;
-use plant_session::{
-    Kept, Status, ask_missing, collectors_of, commit_all, compare_openings, find_all_asks,
-    find_all_takes, readers_of, rooms_of, take_missing,
-};
 use plant_status::Seen;
+use session_audit::{
+    Kept, Opened, Status, ask_missing, collectors_of, commit_cells, find_all_asks, find_all_takes,
+    readers_of, rooms_of, take_missing,
+};
 use std::alloc::Global;
 use std::sync::Wait;
 use std::test::Fail;
@@ -37,7 +37,7 @@ fn work_of(alloc: Global, files: &str) -> Option<Work> {
 }
 
 // Does what the tape of the one cell lacks.
-#[tactic(auto, using(plant_session::proofs::Files::known_asks_of))]
+#[tactic(auto, using(session_audit::proofs::Files::known_asks_of))]
 fn make_up(
     rt: &impl Wait,
     alloc: Global,
@@ -62,7 +62,7 @@ fn make_up(
     let Ok(()) = ask_missing(cells, &work.readers, &mut asks) else {
         return Err(Status::WantOfMemory);
     };
-    commit_all(cells)
+    commit_cells(cells)
 }
 
 // A cell that has taken the first row of collector 0, `0,0`, with room for so many takes.
@@ -124,7 +124,7 @@ fn an_opening_is_compared_with_what_was_kept(rt: HostRuntime) -> Result<(), Fail
     };
     let def = tag(false, 0).ok_or("name")?;
     let known = Kept { def, opening };
-    let differs = compare_openings(&cell, &known).err().ok_or("same")?;
+    let differs = cell.compare(&known).err().ok_or("same")?;
     assert_eq!(rt; differs.kept, Seen::Number(0));
     assert_eq!(rt; differs.told, Seen::Number(7));
     Ok(())

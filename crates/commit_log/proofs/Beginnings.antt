@@ -8,8 +8,8 @@ use Rattle.disk_model.specs.Gates.{IsNew}
 use Rattle.disk_model.proofs.Moments.{started, weaker}
 use Rattle.commit_log.specs.declared.row.LogRow.{LogRow}
 use Rattle.commit_log.specs.Blocks.{block_image, block_size, row_image, rows_image}
-use Rattle.layout_fields.specs.TextHeads.{IsLeftOrBegun}
-use Rattle.layout_fields.proofs.ReadImages.{shown_now}
+use Rattle.archive_file.specs.TextHeads.{IsLeftOrBegun}
+use Rattle.archive_file.proofs.ReadImages.{shown_now}
 use Rattle.commit_log.specs.Images.{LogsNothing, letters}
 
 -- ---- a device is begun

@@ -4,11 +4,11 @@ use Rattle.std.proofs.lemmas.Bool.{cases_eq}
 use Rattle.disk_model.specs.Gates.{IsGuarded, IsOpen, IsShut, open_byte}
 use Rattle.commit_log.specs.declared.row.LogRow.{LogRow}
 use Rattle.commit_log.specs.Blocks.{AreBlockRows, HasBlock, HasBlocks, block_image, block_size, end_of, rows_of}
-use Rattle.layout_fields.specs.TextHeads.{IsOfText, blocks_at}
+use Rattle.archive_file.specs.TextHeads.{IsOfText, blocks_at}
 use Rattle.commit_log.specs.Images.{letters}
 use Rattle.commit_log.specs.Openings.{Stores}
-use Rattle.layout_fields.proofs.TextHeads.{head_same}
-use Rattle.layout_fields.proofs.PlacedBytes.{SameFront, guarded_front, holds_left, next_shut, part_same}
+use Rattle.archive_file.proofs.TextHeads.{head_same}
+use Rattle.archive_file.proofs.PlacedBytes.{SameFront, guarded_front, holds_left, next_shut, part_same}
 use Rattle.commit_log.proofs.Beginnings.{length-block_image}
 use Rattle.commit_log.proofs.Walks.{end_of-push, has_push, rows_of-push}
 

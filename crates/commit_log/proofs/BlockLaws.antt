@@ -3,13 +3,13 @@ use Rattle.std.proofs.Common.{◌≡◌, ℕ, ◌+◌, ◌*◌, ◌&&◌, true, 
 use Rattle.std.proofs.lemmas.Bool.{and_parts}
 use Rattle.archive_file.specs.Fields.{number_bytes}
 use Rattle.archive_file.proofs.Points.{IsBytes}
-use Rattle.layout_fields.specs.declared.field.Field.{Field}
+use Rattle.archive_file.specs.declared.layout_field.Field.{Field}
 use Rattle.commit_log.specs.declared.row.LogRow.{LogRow}
-use Rattle.layout_fields.specs.Fields.{Keeps, Spells, long_at, short_at}
+use Rattle.archive_file.specs.LayoutFields.{Keeps, Spells, long_at, short_at}
 use Rattle.commit_log.specs.Blocks.{block_fields, block_image, block_size, most_in_block, rows_fields}
 use Rattle.commit_log.specs.Openings.{AddsBlock, AddsRows}
-use Rattle.layout_fields.proofs.FieldLaws.{KeptUpTo, field_of, kept_more, kept_none, spells_both}
-use Rattle.layout_fields.proofs.Spellings.{spells_long, spells_short}
+use Rattle.archive_file.proofs.FieldLaws.{KeptUpTo, field_of, kept_more, kept_none, spells_both}
+use Rattle.archive_file.proofs.LayoutSpellings.{spells_long, spells_short}
 
 module _ (c : List ℕ) (tags gate number count : ℕ) (count_is : count ≡ short_at c (gate + 9)) where
   -- the fields before the rows, and the last one

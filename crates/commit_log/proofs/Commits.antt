@@ -21,7 +21,7 @@ use Rattle.commit_log.specs.Tapes.{Walk, acked_at, after_turn, puts, start, walk
 use Rattle.commit_log.specs.Writes.{IsBlockOf}
 use Rattle.commit_log.specs.Histories.{FitAll, IsLegal, IsSafe, StandsForPart}
 use Rattle.commit_log.specs.Told.{HasRoom, IsKept, IsReady, Waits}
-use Rattle.layout_fields.proofs.PlacedBytes.{written_byte}
+use Rattle.archive_file.proofs.PlacedBytes.{written_byte}
 use Rattle.commit_log.proofs.BlockAdded.{block_either, block_opened}
 use Rattle.commit_log.proofs.Tapes.{acked_at-commit, acked_at-most, fit-push, fit_rows, middle_rows, puts-append, puts_parts, walked-push, walked-rows}
 

@@ -11,7 +11,7 @@ use Rattle.disk_model.proofs.Moments.{in_turn, weaker}
 use Rattle.commit_log.specs.declared.block_reader.Stored.{Stored}
 use Rattle.commit_log.specs.declared.row.LogRow.{LogRow}
 use Rattle.commit_log.specs.Blocks.{HasBlocks, IsRow, block_size, rows_of}
-use Rattle.layout_fields.specs.TextHeads.{IsEmpty, blocks_at}
+use Rattle.archive_file.specs.TextHeads.{IsEmpty, blocks_at}
 use Rattle.commit_log.specs.Images.{ByBlocks, ByNothing, LogsNothing, StandsFor, letters}
 use Rattle.commit_log.specs.Openings.{IsFound, IsLeftOrSame, IsLeftOrStands, IsTooMany, ListsRows}
 use Rattle.commit_log.specs.Told.{IsReady}

@@ -16,7 +16,7 @@ use Rattle.commit_log.specs.Openings.{IsCause, IsTooMany, most_rows}
 use Rattle.commit_log.specs.Histories.{IsLegal, IsSafe}
 use Rattle.commit_log.specs.Told.{HasRoom, IsKept, IsReady, Waits}
 use Rattle.commit_log.proofs.Commits.{ready_stands}
-use Rattle.layout_fields.proofs.ReadImages.{shown_before}
+use Rattle.archive_file.proofs.ReadImages.{shown_before}
 
 -- ---- through an answer
 

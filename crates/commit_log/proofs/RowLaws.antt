@@ -3,13 +3,13 @@ use Rattle.std.proofs.Common.{◌≡◌, ℕ, suc, ◌+◌, ◌-◌, ◌*◌, �
 use Rattle.std.proofs.lemmas.List.Elements.{All-push}
 use Rattle.archive_file.proofs.Joins.{images_push}
 use Rattle.archive_file.proofs.Points.{IsBytes}
-use Rattle.layout_fields.specs.declared.field.Field.{Field}
+use Rattle.archive_file.specs.declared.layout_field.Field.{Field}
 use Rattle.commit_log.specs.declared.row.LogRow.{LogRow}
-use Rattle.layout_fields.specs.Fields.{BreaksFirst, Keeps, Spells}
+use Rattle.archive_file.specs.LayoutFields.{BreaksFirst, Keeps, Spells}
 use Rattle.commit_log.specs.Blocks.{IsRow, row_at, row_fields, row_image, rows_fields, rows_image}
 use Rattle.commit_log.specs.Openings.{AddsRows}
-use Rattle.layout_fields.proofs.FieldLaws.{KeptUpTo, breaks_after, breaks_within, kept_more, spells_both}
-use Rattle.layout_fields.proofs.Spellings.{ends_value, then_long, then_short}
+use Rattle.archive_file.proofs.FieldLaws.{KeptUpTo, breaks_after, breaks_within, kept_more, spells_both}
+use Rattle.archive_file.proofs.LayoutSpellings.{ends_value, then_long, then_short}
 
 -- no field
 abbrev none : Field

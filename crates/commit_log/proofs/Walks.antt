@@ -3,7 +3,7 @@ use Rattle.std.proofs.Common.{◌≡◌, ◌≢◌, ℕ, ◌+◌, ◌<◌, List,
 use Rattle.std.proofs.lemmas.List.{append-nil}
 use Rattle.disk_model.specs.Gates.{IsOpen, open_byte}
 use Rattle.commit_log.specs.declared.row.LogRow.{LogRow}
-use Rattle.layout_fields.specs.Fields.{BreaksFirst}
+use Rattle.archive_file.specs.LayoutFields.{BreaksFirst}
 use Rattle.commit_log.specs.Blocks.{HasBlock, HasBlocks, IsBlockDamage, block_fields, block_size, end_of, rows_of}
 use Rattle.commit_log.specs.Openings.{AddsBlock, ListsRows}
 

@@ -5,8 +5,8 @@ use Rattle.trend_num.specs.Ranges.{InRange, last_time, largest_value}
 use Rattle.disk_model.specs.Gates.{IsOpen, IsShut, Holds}
 use Rattle.archive_file.specs.Fields.{number_bytes, point_bytes}
 use Rattle.commit_log.specs.declared.row.LogRow.{LogRow}
-use Rattle.layout_fields.specs.declared.field.Field.{Field}
-use Rattle.layout_fields.specs.Fields.{BreaksFirst, long_at, short_at}
+use Rattle.archive_file.specs.declared.layout_field.Field.{Field}
+use Rattle.archive_file.specs.LayoutFields.{BreaksFirst, long_at, short_at}
 
 -- ---- its bytes
 

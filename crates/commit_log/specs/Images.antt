@@ -3,8 +3,8 @@ use Rattle.std.specs.Prelude.{◌≡◌, ◌≢◌, ◌⊎◌, ℕ, ◌<◌, Lis
 use Rattle.trend_num.specs.declared.point.Point.{Point}
 use Rattle.disk_model.specs.Gates.{IsBegun, IsNew}
 use Rattle.commit_log.specs.declared.row.LogRow.{LogRow}
-use Rattle.layout_fields.specs.Fields.{BreaksFirst}
-use Rattle.layout_fields.specs.TextHeads.{HasHead, IsEmpty, IsOfText, blocks_at, head_fields, text_in}
+use Rattle.archive_file.specs.LayoutFields.{BreaksFirst}
+use Rattle.archive_file.specs.TextHeads.{HasHead, IsEmpty, IsOfText, blocks_at, head_fields, text_in}
 use Rattle.commit_log.specs.Blocks.{AreBlocks, IsBlockDamage, rows_of}
 
 -- the letters behind the gate of the layout

@@ -10,8 +10,8 @@ use Rattle.commit_log.specs.declared.block_reader.Stored.{Stored}
 use Rattle.commit_log.specs.declared.refusal.LogNo.{LogNo}
 use Rattle.commit_log.specs.declared.refusal.LogNo.TheVariants.{DeviceFault, Damaged, OtherPlant, TooMany, WantOfMemory}
 use Rattle.commit_log.specs.declared.row.LogRow.{LogRow}
-use Rattle.layout_fields.specs.Fields.{Spells}
-use Rattle.layout_fields.specs.TextHeads.{IsOfText, blocks_at}
+use Rattle.archive_file.specs.LayoutFields.{Spells}
+use Rattle.archive_file.specs.TextHeads.{IsOfText, blocks_at}
 use Rattle.commit_log.specs.Blocks.{AreBlockRows, AreBlocks, IsRow, block_image, block_size, end_of, rows_image, rows_of}
 use Rattle.commit_log.specs.Images.{IsLogDamage, IsOfOther, StandsFor, letters}
 

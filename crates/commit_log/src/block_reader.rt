@@ -1,16 +1,15 @@
 // Reading the blocks of an image that is in memory.
 ghost use Rattle.std.specs.Prelude.{◌≡◌, ℕ, ◌+◌, ◌^◌, ◌<◌, ◌&&◌, Option, IfOk, IsErrOf, length, nat_le};
 ghost use Rattle.archive_file.specs.declared.failure.ScanNo.TheVariants.{Damaged, DeviceFault};
-ghost use Rattle.layout_fields.specs.Fields.{BreaksFirst};
+ghost use Rattle.archive_file.specs.LayoutFields.{BreaksFirst};
 ghost use Rattle.commit_log.specs.Blocks.{IsBlockDamage, block_fields, most_in_block};
 ghost use Rattle.commit_log.specs.Openings.{AddsBlock, ListsRows};
 
 use crate::row::LogRow;
 use crate::row_reader::read_rows;
 use crate::writer::{HEAD_LEN, MOST_IN_BLOCK, ROW_LEN};
-use archive_file::ScanNo;
+use archive_file::{Field, ScanNo, byte_at, check, long_at, short_at};
 use disk_model::OPEN;
-use layout_fields::{Field, byte_at, check, long_at, short_at};
 use std::alloc::Global;
 
 /// The rows on a device.

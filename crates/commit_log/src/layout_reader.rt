@@ -8,8 +8,8 @@ ghost use Rattle.commit_log.specs.Openings.{HasRowsOf, IsFound};
 use crate::block_reader::{Stored, parse_blocks};
 use crate::difference::first_difference;
 use crate::refusal::LogNo;
+use archive_file::{read_all, read_head};
 use disk_model::Disk;
-use layout_fields::{read_all, read_head};
 use std::alloc::Global;
 
 // The letters behind the gate of the layout.

@@ -3,7 +3,7 @@
 //! The device begins with the plant's text, which is the names of its tags; behind it stand blocks, one for each commit, each
 //! behind a gate. A block has the number of its first row and some rows. An image stands for rows (`specs/Images.antt`): for none
 //! where it is new, and else for what its blocks list, in order. Where a device breaks the format is defined over the list of its
-//! fields, as the first that does not keep its rule (`layout_fields`).
+//! fields, as the first that does not keep its rule (`archive_file`).
 //!
 //! A log is seen as its opening, the rows that stood on the device, and its tape: each put leaves its row there, and each commit
 //! what is acknowledged since. What is found under a lock is known by its type alone, so the type keeps that the history is legal

@@ -16,9 +16,8 @@ use crate::layout_reader::{LETTERS, read_log};
 use crate::log::Log;
 use crate::refusal::{LogFail, LogNo};
 use crate::row::LogRow;
-use archive_file::PutNo;
+use archive_file::{PutNo, begin_layout};
 use disk_model::Disk;
-use layout_fields::begin_layout;
 use std::alloc::Global;
 
 // How many rows a log holds at most, with those that it has room for.

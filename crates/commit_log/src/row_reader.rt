@@ -2,14 +2,13 @@
 ghost use Rattle.std.specs.Prelude.{◌≡◌, ℕ, ◌+◌, ◌*◌, ◌^◌, ◌<◌, ◌≤◌, All, Option, IfOk, IsErrOf, OnOk, length, nat_le, unsigned_abs};
 ghost use Rattle.trend_num.specs.Ranges.{largest_value};
 ghost use Rattle.archive_file.specs.declared.failure.ScanNo.TheVariants.{Damaged, DeviceFault, WantOfMemory};
-ghost use Rattle.layout_fields.specs.Fields.{BreaksFirst, Keeps, Spells};
+ghost use Rattle.archive_file.specs.LayoutFields.{BreaksFirst, Keeps, Spells};
 ghost use Rattle.commit_log.specs.Blocks.{IsRow, row_at, row_fields, row_image, rows_fields};
 ghost use Rattle.commit_log.specs.Openings.{AddsRows};
 
 use crate::row::LogRow;
 use crate::writer::ROW_LEN;
-use archive_file::ScanNo;
-use layout_fields::{Field, check, long_at, short_at};
+use archive_file::{Field, ScanNo, check, long_at, short_at};
 use trend_num::{MAX_DEV, MAX_T, Point};
 
 // Adds so many rows from a place on, each of one of so many tags.

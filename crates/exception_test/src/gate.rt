@@ -1,5 +1,5 @@
 // The gate of a tag's exception test.
-ghost use Rattle.std.specs.Prelude.{◌≡◌, ◌↔◌, IsTrue, List, [], ◌∷◌, ◌++◌, None};
+ghost use Rattle.std.specs.Prelude.{◌≡◌, List, [], ◌∷◌, ◌++◌, None};
 ghost use Rattle.std.specs.Option.{option_or};
 ghost use Rattle.trend_num.specs.declared.tuning.Tuning.{Tuning};
 ghost use Rattle.trend_model.specs.History.{Event, Origin, Raw, Tune, Tuned, in_force, is_far, sent};
@@ -125,20 +125,6 @@ impl Gate {
             second: None,
         }
     }
-}
-
-/// Whether two gates have the same two places, by `==`.
-pub fn same_gate(a: &Gate, b: &Gate) -> bool
-    ensures { IsTrue result ↔ (a.now ≡ b.now) }
-{
-    a == b
-}
-
-/// Whether the same is handed on twice, by `==`.
-pub fn same_sent(a: &Sent, b: &Sent) -> bool
-    ensures { IsTrue result ↔ (a.now ≡ b.now) }
-{
-    a == b
 }
 
 // A gate whose last value is this one, with nothing pending.

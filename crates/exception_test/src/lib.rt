@@ -9,5 +9,5 @@
 
 mod gate;
 
-pub use gate::{Gate, Sent, same_gate, same_sent};
+pub use gate::{Gate, Sent};
 pub use trend_num::{Point, Sending, Tuning};

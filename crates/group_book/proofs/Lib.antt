@@ -7,3 +7,4 @@ pub mod Pulls
 pub mod Causes
 pub mod Saving
 pub mod Loaded
+pub mod InputLists

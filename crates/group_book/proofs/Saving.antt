@@ -27,10 +27,10 @@ use Rattle.sheet_law.specs.Touched.{longer}
 use Rattle.sheet_law.specs.Windows.{complete_windows, window_from, window_to}
 use Rattle.sheet_law.proofs.Complete.{complete_grow}
 use Rattle.group_layout.specs.Blocks.{MayFollow, Parts, block_image, block_size, last_of, unsaved}
-use Rattle.layout_fields.specs.TextHeads.{blocks_at}
+use Rattle.archive_file.specs.TextHeads.{blocks_at}
 use Rattle.group_layout.specs.Images.{ByBlocks, StandsFor}
 use Rattle.group_layout.specs.Rows.{AreRowsOf}
-use Rattle.layout_fields.proofs.PlacedBytes.{written_byte}
+use Rattle.archive_file.proofs.PlacedBytes.{written_byte}
 use Rattle.group_layout.proofs.BlockAdded.{block_closed, block_opened}
 use Rattle.group_layout.proofs.RowsAdded.{IsAddedAt, rows_more}
 use Rattle.group_layout.proofs.Walks.{end_of-push, last_of-push}

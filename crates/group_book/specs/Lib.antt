@@ -4,4 +4,5 @@ pub mod Crashes
 pub mod Told
 pub mod Saves
 pub mod Refusals
+pub mod InputLists
 pub mod Openings

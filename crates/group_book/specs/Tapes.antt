@@ -1,5 +1,5 @@
 -- What a group's tape says: which versions its refreshes reached, and what its saves left.
-use Rattle.std.specs.Prelude.{ℕ, List, [], ◌∷◌, ◌++◌, take, Option, None, Some, nat_le, if◌then◌else◌}
+use Rattle.std.specs.Prelude.{ℕ, List, [], ◌∷◌, ◌++◌, drop, take, Option, None, Some, nat_le, if◌then◌else◌}
 use Rattle.trend_num.specs.declared.archive.Rec.{Rec}
 use Rattle.group_book.specs.declared.turn.Turn.{Turn}
 use Rattle.group_book.specs.declared.turn.Turn.TheVariants.{Refresh, Ask, Save}
@@ -39,6 +39,12 @@ abbrev pub cut : List ℕ → List (List Rec) → List (List Rec)
 cut [] rss = []
 cut (v ∷ vs) [] = []
 cut (v ∷ vs) (rs ∷ rss) = take v rs ∷ cut vs rss
+
+-- the records of each input behind those
+abbrev pub uncut : List ℕ → List (List Rec) → List (List Rec)
+uncut [] rss = []
+uncut (v ∷ vs) [] = []
+uncut (v ∷ vs) (rs ∷ rss) = drop v rs ∷ uncut vs rss
 
 -- The versions at the last save at a moment or before it, and those of each refresh since. These are the versions at the place
 -- where one is, and those since the last such save so far; where there was none, since the opening.

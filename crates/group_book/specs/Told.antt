@@ -15,7 +15,7 @@ use Rattle.calc_refresh.specs.Refreshed.{IsRefreshed}
 use Rattle.calc_refresh.specs.Sheet.{IsGrid, IsGroup, SheetState, grid_of}
 use Rattle.sheet_law.specs.Scratch.{IsScratch}
 use Rattle.group_layout.specs.Blocks.{Parts, end_of, last_of, unsaved}
-use Rattle.layout_fields.specs.TextHeads.{blocks_at}
+use Rattle.archive_file.specs.TextHeads.{blocks_at}
 use Rattle.group_layout.specs.Images.{HasSaved}
 use Rattle.group_layout.specs.Rows.{cell_of}
 use Rattle.group_book.specs.declared.history.GroupHistory.{GroupHistory}

@@ -82,6 +82,14 @@ impl<D: Disk> Book<D> {
         self.versions[input as usize]
     }
 
+    /// Of each input how many records are taken into account.
+    pub fn versions(&self) -> &[u32]
+        ensures versions { result.now ≡ versions_of self.now }
+        ensures inputs { length result.now ≡ self.now.def.inputs }
+    {
+        &self.versions
+    }
+
     /// Of an input the records that are taken into account, the oldest first.
     pub fn copied(&self, input: u32) -> &[Rec]
         requires { input < self.now.def.inputs }

@@ -9,8 +9,9 @@
 //! Answers, rows and what a crash leaves are said of a book whose opening is right, as that of a new one is.
 //!
 //! [`Book::refresh`] pulls from the cell of each input under its lock, in the order of the inputs, and [`Book::publish`]
-//! takes what was pulled into account. [`load`] opens a book over the device of its group, and [`Book::save`] adds the rows
-//! that changed since the last save to it, as one block. A refused call changes nothing of the book, but that a save whose
+//! takes what was pulled into account. [`Book::refresh_from`] takes the records of lists instead, one for each tag: the one
+//! refresh from records, for an archive that has no cells. [`load`] opens a book over the device of its group, and
+//! [`Book::save`] adds the rows that changed since the last save to it, as one block. A refused call changes nothing of the book, but that a save whose
 //! device failed leaves it broken, for saves alone. [`new_book`] makes one without a device, whose saves do nothing and
 //! leave no turn. [`Book::into_history`] hands out the whole of what the type keeps.
 #![tactic(auto)]
@@ -19,6 +20,7 @@ mod ask;
 mod book;
 mod changes;
 mod history;
+mod lists;
 mod loading;
 mod making;
 mod publish;

@@ -11,8 +11,8 @@ use Rattle.group_layout.specs.declared.block.BlockRow.{BlockRow}
 use Rattle.group_layout.specs.Blocks.{Parts, block_image, block_size, row_image, rows_image, versions_image}
 use Rattle.group_layout.specs.Images.{IsUnsaved, letters}
 use Rattle.group_layout.specs.Readings.{SavesNothing}
-use Rattle.layout_fields.specs.TextHeads.{IsLeftOrBegun}
-use Rattle.layout_fields.proofs.ReadImages.{shown_now}
+use Rattle.archive_file.specs.TextHeads.{IsLeftOrBegun}
+use Rattle.archive_file.proofs.ReadImages.{shown_now}
 
 -- ---- a device is begun
 

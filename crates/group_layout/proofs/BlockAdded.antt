@@ -10,11 +10,11 @@ use Rattle.disk_model.proofs.Images.{present}
 use Rattle.disk_model.proofs.Moments.{during_now}
 use Rattle.disk_model.specs.Gates.{IsGuarded, IsOpen, IsShut, open_byte}
 use Rattle.group_layout.specs.Blocks.{HasBlock, HasBlocks, MayFollow, Parts, block_image, block_size, end_of, last_of, unsaved}
-use Rattle.layout_fields.specs.TextHeads.{IsOfText, blocks_at}
+use Rattle.archive_file.specs.TextHeads.{IsOfText, blocks_at}
 use Rattle.group_layout.specs.Images.{HasSaved, letters}
 use Rattle.group_layout.specs.Rows.{AreRowsOf}
-use Rattle.layout_fields.proofs.TextHeads.{head_same}
-use Rattle.layout_fields.proofs.PlacedBytes.{SameFront, guarded_front, holds_left, next_shut, part_same, written_byte}
+use Rattle.archive_file.proofs.TextHeads.{head_same}
+use Rattle.archive_file.proofs.PlacedBytes.{SameFront, guarded_front, holds_left, next_shut, part_same, written_byte}
 use Rattle.group_layout.proofs.Beginnings.{length-block_image}
 use Rattle.group_layout.proofs.Walks.{end_of-push, has_push, last_of-push}
 

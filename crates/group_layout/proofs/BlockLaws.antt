@@ -3,11 +3,11 @@ use Rattle.std.proofs.Common.{◌≡◌, ℕ, ◌+◌, ◌*◌, ◌<◌, ◌≤�
 use Rattle.archive_file.specs.Fields.{number_bytes}
 use Rattle.archive_file.proofs.Points.{IsBytes}
 use Rattle.group_layout.specs.declared.block.BlockRow.{BlockRow}
-use Rattle.layout_fields.specs.declared.field.Field.{Field}
-use Rattle.layout_fields.specs.Fields.{Keeps, Spells, long_at, short_at}
+use Rattle.archive_file.specs.declared.layout_field.Field.{Field}
+use Rattle.archive_file.specs.LayoutFields.{Keeps, Spells, long_at, short_at}
 use Rattle.group_layout.specs.Blocks.{Parts, AreRows, MayFollow, block_fields, block_image, block_size, rows_fields, rows_image, version_fields, versions_image}
-use Rattle.layout_fields.proofs.FieldLaws.{KeptUpTo, field_of, kept_more, kept_none, spells_both}
-use Rattle.layout_fields.proofs.Spellings.{spells_long, spells_short}
+use Rattle.archive_file.proofs.FieldLaws.{KeptUpTo, field_of, kept_more, kept_none, spells_both}
+use Rattle.archive_file.proofs.LayoutSpellings.{spells_long, spells_short}
 
 module _ (c : List ℕ) (calcs gate : ℕ) (before : Parts) (number at windows count : ℕ) (vs : List ℕ)
     (vs_is : vs ≡ before.versions) (number_is : number ≡ long_at c (gate + 1)) (at_is : at ≡ gate + 9 + 4 * length vs)

@@ -12,7 +12,7 @@ use Rattle.group_layout.specs.declared.layout_reader.Found.{Found}
 use Rattle.group_layout.specs.declared.layout_reader.Found.TheVariants.{New, Other, Saved}
 use Rattle.group_layout.specs.declared.layout_reader.SavedGroup.{SavedGroup}
 use Rattle.group_layout.specs.Blocks.{HasBlocks, Parts, block_size, last_of, parts_of, unsaved}
-use Rattle.layout_fields.specs.TextHeads.{IsEmpty, blocks_at}
+use Rattle.archive_file.specs.TextHeads.{IsEmpty, blocks_at}
 use Rattle.group_layout.specs.Images.{ByBlocks, ByNothing, HasSaved, IsUnsaved, StandsFor, letters}
 use Rattle.group_layout.specs.Readings.{HasShape, IsFound, IsLeftOrSame, IsReadOf, IsShaped, SavesNothing, StandsSame}
 use Rattle.group_layout.specs.Rows.{AreRowsOf, lists_of}

@@ -6,11 +6,11 @@ use Rattle.std.proofs.lemmas.Bool.Decides.{nat_tests}
 use Rattle.std.proofs.lemmas.List.Quantifiers.{all_pairs_push}
 use Rattle.archive_file.proofs.Points.{IsBytes}
 use Rattle.group_layout.specs.declared.block.BlockRow.{BlockRow}
-use Rattle.layout_fields.specs.declared.field.Field.{Field}
-use Rattle.layout_fields.specs.Fields.{BreaksFirst, Keeps, Spells}
+use Rattle.archive_file.specs.declared.layout_field.Field.{Field}
+use Rattle.archive_file.specs.LayoutFields.{BreaksFirst, Keeps, Spells}
 use Rattle.group_layout.specs.Blocks.{IsBefore, IsRow, comes_before, is_in_order, row_at, row_fields, row_image, rows_fields}
-use Rattle.layout_fields.proofs.FieldLaws.{KeptUpTo, breaks_after, breaks_within, kept_more}
-use Rattle.layout_fields.proofs.Spellings.{ends_value, then_byte, then_short}
+use Rattle.archive_file.proofs.FieldLaws.{KeptUpTo, breaks_after, breaks_within, kept_more}
+use Rattle.archive_file.proofs.LayoutSpellings.{ends_value, then_byte, then_short}
 
 -- no field
 abbrev none : Field

@@ -2,7 +2,7 @@
 use Rattle.std.proofs.Common.{◌≡◌, inr, ℕ, suc, ◌+◌, ◌-◌, ◌<◌, ◌≤◌, List, [], ◌∷◌, ◌++◌, map, length, get_or, Option, refl, sym, ap, ◌∙◌, subst, arith}
 use Rattle.disk_model.specs.Gates.{IsOpen}
 use Rattle.group_layout.specs.declared.block.Block.{Block}
-use Rattle.layout_fields.specs.Fields.{BreaksFirst, Spells}
+use Rattle.archive_file.specs.LayoutFields.{BreaksFirst, Spells}
 use Rattle.group_layout.specs.Blocks.{Parts, AreDamaged, HasBlock, HasBlocks, MayFollow, block_fields, block_image, block_size, end_of, last_of, parts_of, unsaved}
 
 -- the last of blocks and one more is that one

@@ -6,8 +6,8 @@ use Rattle.disk_model.specs.Gates.{IsOpen, IsShut, Holds}
 use Rattle.archive_file.specs.Fields.{number_bytes, value_bytes}
 use Rattle.group_layout.specs.declared.block.BlockRow.{BlockRow}
 use Rattle.group_layout.specs.declared.block.Block.{Block}
-use Rattle.layout_fields.specs.declared.field.Field.{Field}
-use Rattle.layout_fields.specs.Fields.{BreaksFirst, EndsIn, long_at, short_at}
+use Rattle.archive_file.specs.declared.layout_field.Field.{Field}
+use Rattle.archive_file.specs.LayoutFields.{BreaksFirst, EndsIn, long_at, short_at}
 
 -- what a block says: its number, the versions of the inputs, how many windows are complete, and the rows that changed
 pub record Parts : Type 0 where

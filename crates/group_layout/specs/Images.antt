@@ -2,8 +2,8 @@
 use Rattle.std.specs.Prelude.{◌≡◌, ◌≢◌, ◌⊎◌, ℕ, List, [], codes, length, replicate, Option}
 use Rattle.trend_num.specs.declared.value.CalcValue.{CalcValue}
 use Rattle.disk_model.specs.Gates.{IsBegun, IsNew}
-use Rattle.layout_fields.specs.Fields.{BreaksFirst}
-use Rattle.layout_fields.specs.TextHeads.{HasHead, IsOfText, blocks_at, head_fields, text_in}
+use Rattle.archive_file.specs.LayoutFields.{BreaksFirst}
+use Rattle.archive_file.specs.TextHeads.{HasHead, IsOfText, blocks_at, head_fields, text_in}
 use Rattle.group_layout.specs.Blocks.{Parts, AreBlocks, AreDamaged, unsaved, last_of}
 use Rattle.group_layout.specs.Rows.{AreRowsOf, IsIncomplete}
 

@@ -4,7 +4,7 @@ use Rattle.trend_num.specs.declared.value.CalcValue.{CalcValue}
 use Rattle.disk_model.specs.Gates.{IsNew}
 use Rattle.disk_model.specs.Images.{MayLeave}
 use Rattle.disk_model.specs.Traces.{Trace, seen}
-use Rattle.layout_fields.specs.TextHeads.{IsEmpty, blocks_at}
+use Rattle.archive_file.specs.TextHeads.{IsEmpty, blocks_at}
 use Rattle.group_layout.specs.declared.layout_reader.Found.{Found}
 use Rattle.group_layout.specs.declared.layout_reader.Found.TheVariants.{New, Other, Saved}
 use Rattle.group_layout.specs.declared.layout_reader.SavedGroup.{SavedGroup}

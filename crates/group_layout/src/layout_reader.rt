@@ -11,9 +11,8 @@ use crate::block::Blocks;
 use crate::making::LETTERS;
 use crate::reader::{last_or, parse_blocks, size_of_block, unsaved_block};
 use crate::saved::rows_of;
-use archive_file::ScanNo;
+use archive_file::{ScanNo, read_all, read_head};
 use disk_model::{Disk, OPEN};
-use layout_fields::{read_all, read_head};
 use std::alloc::Global;
 use trend_num::CalcValue;
 

@@ -4,7 +4,7 @@
 //! lists the versions of the inputs, how many windows are complete, and the rows that changed. An image stands for versions and
 //! rows (`specs/Images.antt`): for version 0 and no rows where it is new or holds another text, and else for what its blocks give
 //! in order. Where a device breaks the format is defined over the list of its fields, as the first that does not keep its rule
-//! (`layout_fields`).
+//! (`archive_file`).
 //!
 //! [`read_group`] tells a new device, that of another text, and that of the wanted one, whose rows it gathers; [`make_group`]
 //! begins a device anew, and a crash at any moment leaves one that has nothing saved for this text; [`open_group`] does one

@@ -9,13 +9,12 @@ ghost use Rattle.archive_file.specs.declared.failure.PutNo.TheVariants.{DeviceFa
 ghost use Rattle.group_layout.specs.Blocks.{block_image, block_size, parts_of};
 ghost use Rattle.group_layout.specs.Images.{IsUnsaved, letters};
 ghost use Rattle.group_layout.specs.Readings.{SavesNothing};
-ghost use Rattle.layout_fields.specs.TextHeads.{IsEmpty, blocks_at};
+ghost use Rattle.archive_file.specs.TextHeads.{IsEmpty, blocks_at};
 
 use crate::block::Block;
 use crate::writer::block_bytes;
-use archive_file::PutNo;
+use archive_file::{PutNo, begin_layout};
 use disk_model::{Disk, write_guarded};
-use layout_fields::begin_layout;
 use std::alloc::Global;
 
 // The letters behind the gate of the layout.

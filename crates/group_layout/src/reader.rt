@@ -1,15 +1,14 @@
 // Reading the blocks of an image that is in memory.
 ghost use Rattle.std.specs.Prelude.{◌≡◌, ℕ, ◌+◌, ◌*◌, ◌^◌, ◌<◌, ◌≤◌, All, Option, IfOk, IsErrOf, OnOk, length, map, slice_index, nat_eq, vec_len};
 ghost use Rattle.archive_file.specs.declared.failure.ScanNo.TheVariants.{Damaged, DeviceFault};
-ghost use Rattle.layout_fields.specs.Fields.{BreaksFirst, Keeps, Spells};
+ghost use Rattle.archive_file.specs.LayoutFields.{BreaksFirst, Keeps, Spells};
 ghost use Rattle.group_layout.specs.Blocks.{AreBlocks, AreDamaged, MayFollow, block_fields, block_image, block_size, end_of, last_of, parts_of, unsaved, version_fields, versions_image};
 
 use crate::block::{Block, Blocks};
 use crate::row_reader::read_rows;
 use crate::writer::ROW_LEN;
-use archive_file::ScanNo;
+use archive_file::{Field, ScanNo, byte_at, check, long_at, short_at};
 use disk_model::OPEN;
-use layout_fields::{Field, byte_at, check, long_at, short_at};
 use std::alloc::Global;
 
 // Reads the blocks from the gate at a place on, of a group with so many inputs and calculations.

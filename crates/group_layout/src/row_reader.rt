@@ -2,13 +2,12 @@
 ghost use Rattle.std.specs.Prelude.{◌≡◌, ℕ, ◌+◌, ◌*◌, ◌^◌, ◌<◌, ◌≤◌, true, ◌&&◌, All, Option, None, IfOk, IsErrOf, OnOk, length, nat_le, nat_lt, vec_len};
 ghost use Rattle.archive_file.specs.declared.failure.ScanNo.TheVariants.{Damaged, DeviceFault, WantOfMemory};
 ghost use Rattle.group_layout.specs.declared.block.BlockRow.{BlockRow};
-ghost use Rattle.layout_fields.specs.Fields.{BreaksFirst, Keeps, Spells};
+ghost use Rattle.archive_file.specs.LayoutFields.{BreaksFirst, Keeps, Spells};
 ghost use Rattle.group_layout.specs.Blocks.{AreRows, IsRow, is_calc_in_order, is_in_order, is_value_ok, row_at, row_fields, row_image, rows_fields, rows_image};
 
 use crate::block::BlockRow;
 use crate::writer::ROW_LEN;
-use archive_file::ScanNo;
-use layout_fields::{Field, byte_at, check, long_at, short_at};
+use archive_file::{Field, ScanNo, byte_at, check, long_at, short_at};
 use std::alloc::Global;
 
 // The largest kind of a row.

@@ -1,6 +1,5 @@
 // The fields of a layout in memory.
-use archive_file::ScanNo;
-use layout_fields::{Field, byte_at, check, long_at, short_at};
+use archive_file::{Field, ScanNo, byte_at, check, long_at, short_at};
 use std::alloc::Global;
 use std::process::Abort;
 use std::test::Fail;

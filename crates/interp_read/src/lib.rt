@@ -14,5 +14,5 @@ mod read;
 pub use closing::{Neighbours, neighbours_at};
 pub use list::{MOST_LISTED, PointList, points};
 pub use query::Reply;
-pub use read::{at, at_step, reading_of};
+pub use read::{at, at_step, read_at, reading_of};
 pub use trend_num::{Reading, TagQuery};

@@ -13,31 +13,10 @@ use crate::closing::{Neighbours, neighbours_at};
 use late_insert::Content;
 use trend_num::{Point, Reading, line_at};
 
-/// What the line of a tag reads at t: the value of a point there, between two points that of the line between
-/// them, after the last point its value, and nothing before the first. The held point is not before a point
-/// of the content.
-pub fn at(content: &Content, held: Option<Point>, t: u64) -> Reading
-    requires range { IfThere InRange held }
-    requires last { IfThere (IsNotBefore content.now.records) held }
-    ensures value { result ≡ read_at false (points_closed_by held content.now.records) t }
-    ensures readable { IsReadable result }
-{
-    read(content, held, false, t)
-}
-
-/// What the stair of a step tag reads at t: the value of a point there, else that of the last point before
-/// it, and nothing before the first. The held point is not before a point of the content.
-pub fn at_step(content: &Content, held: Option<Point>, t: u64) -> Reading
-    requires range { IfThere InRange held }
-    requires last { IfThere (IsNotBefore content.now.records) held }
-    ensures value { result ≡ read_at true (points_closed_by held content.now.records) t }
-    ensures readable { IsReadable result }
-{
-    read(content, held, true, t)
-}
-
-// What a line or a stair reads at t.
-fn read(content: &Content, held: Option<Point>, step: bool, t: u64) -> Reading
+/// What a tag reads at t, by its line or, of a step tag, by its stair: the value of a point there, else that of the line
+/// between the points next to t, or of the point before it on a stair; after the last point its value, and nothing before the
+/// first. The held point is not before a point of the content.
+pub fn read_at(content: &Content, held: Option<Point>, step: bool, t: u64) -> Reading
     requires range { IfThere InRange held }
     requires last { IfThere (IsNotBefore content.now.records) held }
     ensures value { result ≡ read_at step (points_closed_by held content.now.records) t }
@@ -46,6 +25,26 @@ fn read(content: &Content, held: Option<Point>, step: bool, t: u64) -> Reading
     // Called for its clauses: the points rise, and are in range.
     let _len = content.len();
     reading_of(neighbours_at(content, held, t), step, t)
+}
+
+/// [`read_at`] of a line.
+pub fn at(content: &Content, held: Option<Point>, t: u64) -> Reading
+    requires range { IfThere InRange held }
+    requires last { IfThere (IsNotBefore content.now.records) held }
+    ensures value { result ≡ read_at false (points_closed_by held content.now.records) t }
+    ensures readable { IsReadable result }
+{
+    read_at(content, held, false, t)
+}
+
+/// [`read_at`] of a step tag.
+pub fn at_step(content: &Content, held: Option<Point>, t: u64) -> Reading
+    requires range { IfThere InRange held }
+    requires last { IfThere (IsNotBefore content.now.records) held }
+    ensures value { result ≡ read_at true (points_closed_by held content.now.records) t }
+    ensures readable { IsReadable result }
+{
+    read_at(content, held, true, t)
 }
 
 /// What a line or a stair reads at t, by the points next to t.

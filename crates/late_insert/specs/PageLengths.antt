@@ -1,14 +1,9 @@
 -- How many records stand on each page of a content, in order, and what a put makes of these numbers.
 use Rattle.std.specs.Prelude.{◌≡◌, ℕ, ◌+◌, ◌-◌, ◌<◌, ◌≤◌, ◌⊎◌, List, ◌∷◌, [], ◌++◌, All, length, take, sum, count_by, nat_lt}
 use Rattle.trend_num.specs.declared.archive.Rec.{Rec}
+use Rattle.page_pool.specs.Pool.{full_page}
 use Rattle.late_insert.specs.declared.content.PageTotals.{PageTotals}
-
--- so many records a page has room for, and half of them
-abbrev pub full_page : ℕ
-full_page = 128
-
-abbrev pub half_page : ℕ
-half_page = 64
+use Rattle.late_insert.specs.Pages.{half_page}
 
 -- all records of l are before the time t
 abbrev pub AreBefore : List Rec → ℕ → Type 0

@@ -9,13 +9,17 @@ use Rattle.trend_num.specs.declared.archive.Kind.{Kind}
 use Rattle.trend_num.specs.declared.archive.Kind.TheVariants.{Kept, Late}
 use Rattle.trend_num.specs.Ranges.{InRange}
 use Rattle.page_pool.specs.declared.frame.Frame.{Frame}
-use Rattle.page_pool.specs.Pool.{frame_at, spare_of}
+use Rattle.page_pool.specs.Pool.{frame_at, full_page, spare_of}
 use Rattle.late_insert.specs.declared.directory.Page.{Page}
 use Rattle.trend_model.specs.Contents.{IsRising, points_of}
 use Rattle.trend_model.specs.Windows.{area}
 use Rattle.late_insert.specs.Totals.{least_of, greatest_of}
 
 -- ---- a page in a frame
+
+-- a page has room for as many records as its frame for points; half of them
+abbrev pub half_page : ℕ
+half_page = 64
 
 -- the kind that a mark stands for
 abbrev pub kind_of : ℕ → Kind
@@ -35,9 +39,9 @@ records_in f = map (rec_in f) (range_with_len 0 f.len)
 
 -- a frame that holds records
 pub record IsRecorded (f : Frame) : Type 0 where
-  pub few : f.len ≤ 128
-  pub times : length f.times ≡ 128
-  pub values : length f.values ≡ 128
+  pub few : f.len ≤ full_page
+  pub times : length f.times ≡ full_page
+  pub values : length f.values ≡ full_page
   pub marks : f.late < 2 ^ f.len
   pub range : All (λ r. InRange r.point) (records_in f)
 
@@ -94,7 +98,7 @@ ids_of pages = map (λ p. p.id) pages
 -- of several pages each but the last is at least half full
 abbrev pub AreHalves : List (Option Frame) → List Page → Type 0
 AreHalves pool [] = Unit {0}
-AreHalves pool (p ∷ ps) = (0 < length ps → 64 ≤ length (page_in pool p)) × AreHalves pool ps
+AreHalves pool (p ∷ ps) = (0 < length ps → half_page ≤ length (page_in pool p)) × AreHalves pool ps
 
 -- pages that hold a rising list
 pub record ArePages (pool : List (Option Frame)) (pages : List Page) : Type 0 where
@@ -147,7 +151,7 @@ pub record IsKept (pool : List (Option Frame)) (pages : List Page) (places len r
   pub within : len ≤ room
   pub few : room < 2 ^ 32
   -- a frame is spare for each page that may be split
-  pub frames : room + 65 ≤ 64 * (length pages + spare_of pool)
+  pub frames : room + half_page + 1 ≤ half_page * (length pages + spare_of pool)
   pub reserved : length pages + spare_of pool ≤ places
   -- and the list of pages has as many places as were made for this room, so that it never grows
-  pub exact : places ≡ room / 64 + 2
+  pub exact : places ≡ room / half_page + 2

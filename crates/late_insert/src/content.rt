@@ -7,13 +7,14 @@ ghost use Rattle.trend_num.specs.Ranges.{InRange};
 ghost use Rattle.trend_model.specs.Content.{is_late_record, late_at};
 ghost use Rattle.trend_model.specs.Parts.{last_point};
 ghost use Rattle.trend_model.specs.Contents.{IsCeil, IsContentOf, IsFloor, IsRising, listed, placed, points_of};
+ghost use Rattle.page_pool.specs.Pool.{full_page};
 ghost use Rattle.late_insert.specs.Places.{StandsAt};
 ghost use Rattle.late_insert.specs.PageTotals.{IsPageOf};
-ghost use Rattle.late_insert.specs.PageLengths.{AreBefore, AreFull, IsFilled, IsOneOf, IsPutAmong, full_page, place_in};
+ghost use Rattle.late_insert.specs.PageLengths.{AreBefore, AreFull, IsFilled, IsOneOf, IsPutAmong, place_in};
 
 use crate::directory::Directory;
 use crate::gap::{Around, around_in, gap_in, rec_in};
-use crate::page::run_len;
+use crate::page::{HALF, run_len};
 use crate::shelf::{first_page, is_full_before, make_room, open_page, put_at};
 use crate::walk::{Runs, runs_in};
 use page_pool::Pool;
@@ -69,7 +70,8 @@ impl Content {
         ensures spare { IfOk result (λ content. content.spare ≡ points) }
         ensures pages { IfOk result (λ content. content.pages ≡ 0 ∷ []) }
     {
-        let frames = points / 64 + 2;
+        // No more pages than this, since each but the last is at least half full, and a frame for the upper half of one.
+        let frames = points / HALF + 2;
         let mut pool = Pool::reserve(alloc, frames).map_err(|_| WantOfMemory)?;
         let mut pages = Directory::with_capacity(alloc, frames)?;
         first_page(&mut pool, &mut pages);

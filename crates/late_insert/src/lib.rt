@@ -6,7 +6,7 @@
 //! it. A put takes room for a new time alone. `page` tells the totals of the page that has a place, and `runs` goes over
 //! all points of a range in order.
 //!
-//! A page has up to 128 records (`specs/PageLengths.antt`). A record behind all others goes on the last page, or on a
+//! A page has up to 128 records, as many as a frame has room for (`specs/PageLengths.antt`). A record behind all others goes on the last page, or on a
 //! fresh one where that is full, so records in order fill page after page. Any other goes on the page of its place, which
 //! is split into two halves before where it is full.
 //!

@@ -1,13 +1,14 @@
 // Marks of a page's records: a bit for each, set where the record is Late.
 ghost use Rattle.std.specs.Prelude.{◌≡◌, ℕ, ◌+◌, ◌-◌, ◌^◌, ◌<◌, ◌≤◌, ◌↔◌, IsTrue};
 ghost use Rattle.std.specs.Int.{bit_at};
+ghost use Rattle.page_pool.specs.Pool.{full_page};
 ghost use Rattle.late_insert.specs.Pages.{kind_of};
 
 use trend_num::Kind;
 
 // The kind of the record at a place.
 pub(crate) fn kind_at(marks: u128, i: usize) -> Kind
-    requires { i < 128 }
+    requires { i < full_page }
     ensures { result ≡ kind_of (bit_at marks i) }
 {
     if (marks >> i) & 1 == 0 {
@@ -30,7 +31,7 @@ fn bit_of(kind: Kind) -> u128
 
 // The marks of `n` records, with one for a record that is inserted at a place among them.
 pub(crate) fn mark_inserted(marks: u128, n: usize, i: usize, kind: Kind) -> u128
-    requires few { n < 128 }
+    requires few { n < full_page }
     requires within { i ≤ n }
     requires marks { marks < 2 ^ n }
     ensures marks { result < 2 ^ (n + 1) }
@@ -45,7 +46,7 @@ pub(crate) fn mark_inserted(marks: u128, n: usize, i: usize, kind: Kind) -> u128
 
 // The marks of `n` records, where the one at a place is now of this kind. A Late one stays Late.
 pub(crate) fn mark_put(marks: u128, n: usize, i: usize, kind: Kind) -> u128
-    requires few { n ≤ 128 }
+    requires few { n ≤ full_page }
     requires within { i < n }
     requires marks { marks < 2 ^ n }
     requires stays { kind ≡ Kind.Kept → kind_of (bit_at marks i) ≡ Kind.Kept }

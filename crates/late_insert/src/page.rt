@@ -4,23 +4,30 @@ ghost use Rattle.std.specs.Prelude.{◌++◌, ◌∷◌, [], insert, slice_set, 
 ghost use Rattle.trend_num.specs.Ranges.{InRange};
 ghost use Rattle.trend_model.specs.Contents.{IsRising, over, placed, points_of};
 ghost use Rattle.trend_model.specs.Windows.{area};
-ghost use Rattle.late_insert.specs.Pages.{IsPage, IsRecorded, rec_in, records_in};
+ghost use Rattle.page_pool.specs.Pool.{full_page};
+ghost use Rattle.late_insert.specs.Pages.{IsPage, IsRecorded, half_page, rec_in, records_in};
 
 use crate::array::{count_below, insert_at, rotate};
 use crate::mark::{kind_at, mark_inserted, mark_put};
 use crate::total::{piece, point_at, refresh};
-use page_pool::Frame;
+use page_pool::{Frame, PAGE};
 use trend_num::{Kind, Rec};
+
+// Half of what a page has room for.
+pub(crate) const HALF: u32 = PAGE as u32 / 2;
+
+// The marks of the lower half of a page.
+const LOWER_MARKS: u128 = (1 << HALF) - 1;
 
 // How many of these records, the first ones, make a run that rises in time and fits a page.
 pub(crate) fn run_len(recs: &[Rec]) -> usize
     requires some { 0 < length recs.now }
     ensures some { 0 < result }
     ensures within { result ≤ length recs.now }
-    ensures few { result ≤ 128 }
+    ensures few { result ≤ full_page }
     ensures rising { IsRising (take result recs.now) }
 {
-    let most = recs.len().min(128);
+    let most = recs.len().min(PAGE);
     for i in 1..most {
         if recs[i].point.t <= recs[i - 1].point.t {
             return i;
@@ -62,7 +69,7 @@ pub(crate) fn rec_at(frame: &Frame, i: usize) -> Rec
 fn append(frame: &mut Frame, stair: i128, rec: Rec) -> i128
     requires page { IsPage frame.old }
     requires some { 0 < frame.old.len }
-    requires room { frame.old.len < 128 }
+    requires room { frame.old.len < full_page }
     requires stair { stair ≡ area true (points_of (records_in frame.old)) }
     requires range { InRange rec.point }
     ensures page { IsPage frame.new }
@@ -81,7 +88,7 @@ fn append(frame: &mut Frame, stair: i128, rec: Rec) -> i128
 // Stores a record at the place i among the others of a page, and leaves the totals.
 fn store(frame: &mut Frame, i: usize, rec: Rec)
     requires recorded { IsRecorded frame.old }
-    requires room { frame.old.len < 128 }
+    requires room { frame.old.len < full_page }
     requires within { i ≤ frame.old.len }
     requires range { InRange rec.point }
     ensures recorded { IsRecorded frame.new }
@@ -100,7 +107,7 @@ fn store(frame: &mut Frame, i: usize, rec: Rec)
 // Stores records of their own in a page, in place of what is there, and leaves the totals.
 pub(crate) fn store_run(frame: &mut Frame, run: &[Rec])
     requires recorded { IsRecorded frame.old }
-    requires few { length run.now ≤ 128 }
+    requires few { length run.now ≤ full_page }
     requires range { All (λ r. InRange r.point) run.now }
     ensures recorded { IsRecorded frame.new }
     ensures records { records_in frame.new ≡ run.now }
@@ -154,7 +161,7 @@ fn replace(frame: &mut Frame, i: usize, rec: Rec) -> i128
 // stair.
 pub(crate) fn push(frame: &mut Frame, stair: i128, rec: Rec) -> i128
     requires page { IsPage frame.old }
-    requires room { frame.old.len < 128 }
+    requires room { frame.old.len < full_page }
     requires stair { stair ≡ area true (points_of (records_in frame.old)) }
     requires range { InRange rec.point }
     ensures page { IsPage frame.new }
@@ -181,7 +188,7 @@ pub(crate) struct Grown {
 pub(crate) fn put_rec(frame: &mut Frame, stair: i128, rec: Rec) -> Grown
     requires page { IsPage frame.old }
     requires rising { IsRising (records_in frame.old) }
-    requires room { frame.old.len < 128 }
+    requires room { frame.old.len < full_page }
     requires stair { stair ≡ area true (points_of (records_in frame.old)) }
     requires range { InRange rec.point }
     ensures page { IsPage frame.new }
@@ -215,22 +222,22 @@ pub(crate) struct Halves {
 // Takes the upper half of a full page out of it.
 pub(crate) fn cut(frame: &mut Frame) -> Halves
     requires page { IsPage frame.old }
-    requires full { frame.old.len ≡ 128 }
+    requires full { frame.old.len ≡ full_page }
     ensures lower { IsPage frame.new }
     ensures upper { IsPage result.upper }
-    ensures lower_records { records_in frame.new ≡ take 64 (records_in frame.old) }
-    ensures upper_records { records_in result.upper ≡ drop 64 (records_in frame.old) }
+    ensures lower_records { records_in frame.new ≡ take half_page (records_in frame.old) }
+    ensures upper_records { records_in result.upper ≡ drop half_page (records_in frame.old) }
     ensures lower_stair { result.lower_stair ≡ area true (points_of (records_in frame.new)) }
     ensures upper_stair { result.upper_stair ≡ area true (points_of (records_in result.upper)) }
 {
     let mut upper = *frame;
-    rotate(&mut upper.times, 64);
-    rotate(&mut upper.values, 64);
-    upper.late = frame.late >> 64;
-    upper.len = 64;
+    rotate(&mut upper.times, HALF as usize);
+    rotate(&mut upper.values, HALF as usize);
+    upper.late = frame.late >> HALF;
+    upper.len = HALF;
     let upper_stair = refresh(&mut upper);
-    frame.late &= 0xffff_ffff_ffff_ffff;
-    frame.len = 64;
+    frame.late &= LOWER_MARKS;
+    frame.len = HALF;
     let lower_stair = refresh(frame);
     Halves {
         upper,

@@ -3,16 +3,16 @@
 ghost use Rattle.std.specs.Prelude.{◌≡◌, ℕ, ◌+◌, ◌-◌, ◌^◌, ◌<◌, ◌≤◌, ◌⊎◌, [], ◌∷◌, ◌++◌, IsTrue, IsFalse, length};
 ghost use Rattle.std.specs.Prelude.{slice_index_or, take, drop, All};
 ghost use Rattle.trend_num.specs.Ranges.{InRange};
-ghost use Rattle.page_pool.specs.Pool.{spare_of};
+ghost use Rattle.page_pool.specs.Pool.{full_page, spare_of};
 ghost use Rattle.late_insert.specs.declared.directory.Page.{Page};
 ghost use Rattle.trend_model.specs.Contents.{IsRising, placed};
-ghost use Rattle.late_insert.specs.Pages.{ArePages, IsFor, IsSplit, lengths_of, page_in, records_of};
+ghost use Rattle.late_insert.specs.Pages.{ArePages, IsFor, IsSplit, half_page, lengths_of, page_in, records_of};
 ghost use Rattle.late_insert.specs.PageLengths.{AreBefore, IsGrown, IsHalved, place_in};
 
 use crate::directory::{Directory, Page};
-use crate::page::{cut, put_rec, store_run};
+use crate::page::{HALF, cut, put_rec, store_run};
 use crate::total::refresh;
-use page_pool::Pool;
+use page_pool::{PAGE, Pool};
 use trend_num::Rec;
 
 // Takes the first page, which is empty.
@@ -41,12 +41,12 @@ pub(crate) fn is_full_before(pool: &Pool, pages: &Directory, t: u64) -> bool
     requires pages { ArePages pool.now pages.now.items }
     ensures before { IsTrue result → All (λ r. r.point.t < t) (records_of pool.now pages.now.items) }
     ensures full { IsTrue result → (d : Page)
-        → length (page_in pool.now (slice_index_or pages.now.items (length pages.now.items - 1) d)) ≡ 128 }
+        → length (page_in pool.now (slice_index_or pages.now.items (length pages.now.items - 1) d)) ≡ full_page }
     ensures room { IsFalse result → AreBefore (records_of pool.now pages.now.items) t → (d : Page)
-        → length (page_in pool.now (slice_index_or pages.now.items (length pages.now.items - 1) d)) < 128 }
+        → length (page_in pool.now (slice_index_or pages.now.items (length pages.now.items - 1) d)) < full_page }
 {
     let frame = pool.frame(pages.id(pages.len() - 1));
-    frame.len == 128 && frame.times[127] < t
+    frame.len as usize == PAGE && frame.times[PAGE - 1] < t
 }
 
 // Puts a run of records behind all others, in a page of its own. So pages that are filled in order are full.
@@ -54,11 +54,11 @@ pub(crate) fn open_page(pool: &mut Pool, pages: &mut Directory, len: u32, run: &
     requires pages { ArePages pool.old pages.old.items }
     requires counted { len ≡ length (records_of pool.old pages.old.items) }
     requires full { (d : Page)
-        → length (page_in pool.old (slice_index_or pages.old.items (length pages.old.items - 1) d)) ≡ 128 }
+        → length (page_in pool.old (slice_index_or pages.old.items (length pages.old.items - 1) d)) ≡ full_page }
     requires spare { 0 < spare_of pool.old }
     requires room { length pages.old.items < pages.old.places }
     requires some { 0 < length run.now }
-    requires few { length run.now ≤ 128 }
+    requires few { length run.now ≤ full_page }
     requires range { All (λ r. InRange r.point) run.now }
     requires rising { IsRising (records_of pool.old pages.old.items ++ run.now) }
     ensures pages { ArePages pool.new pages.new.items }
@@ -94,10 +94,10 @@ pub(crate) fn make_room(pool: &mut Pool, pages: &mut Directory, t: u64) -> usize
     ensures frames { length pages.new.items + spare_of pool.new ≡ length pages.old.items + spare_of pool.old }
     ensures capacity { pages.new.places ≡ pages.old.places }
     ensures found { IsFor pool.new pages.new.items result t }
-    ensures not_full { (d : Page) → length (page_in pool.new (slice_index_or pages.new.items result d)) < 128 }
+    ensures not_full { (d : Page) → length (page_in pool.new (slice_index_or pages.new.items result d)) < full_page }
 {
     let k = pages.page_for(t);
-    if pool.frame(pages.id(k)).len < 128 {
+    if (pool.frame(pages.id(k)).len as usize) < PAGE {
         return k;
     }
     split(pool, pages, k);
@@ -110,21 +110,21 @@ fn split(pool: &mut Pool, pages: &mut Directory, k: usize)
     requires spare { 0 < spare_of pool.old }
     requires room { length pages.old.items < pages.old.places }
     requires within { k < length pages.old.items }
-    requires full { (d : Page) → length (page_in pool.old (slice_index_or pages.old.items k d)) ≡ 128 }
+    requires full { (d : Page) → length (page_in pool.old (slice_index_or pages.old.items k d)) ≡ full_page }
     requires few { length (records_of pool.old pages.old.items) < 2 ^ 32 }
     ensures pages { ArePages pool.new pages.new.items }
     ensures records { records_of pool.new pages.new.items ≡ records_of pool.old pages.old.items }
     ensures list { IsSplit pages.old.items pages.new.items k }
     ensures lengths { lengths_of pool.new pages.new.items ≡ lengths_of pool.old (take k pages.old.items)
-        ++ 64 ∷ 64 ∷ lengths_of pool.old (drop (k + 1) pages.old.items) }
-    ensures lower { (d : Page) → length (page_in pool.new (slice_index_or pages.new.items k d)) ≡ 64 }
-    ensures upper { (d : Page) → length (page_in pool.new (slice_index_or pages.new.items (k + 1) d)) ≡ 64 }
+        ++ half_page ∷ half_page ∷ lengths_of pool.old (drop (k + 1) pages.old.items) }
+    ensures lower { (d : Page) → length (page_in pool.new (slice_index_or pages.new.items k d)) ≡ half_page }
+    ensures upper { (d : Page) → length (page_in pool.new (slice_index_or pages.new.items (k + 1) d)) ≡ half_page }
     ensures frames { spare_of pool.new + 1 ≡ spare_of pool.old }
     ensures capacity { pages.new.places ≡ pages.old.places }
 {
     let halves = cut(pool.frame_mut(pages.id(k)));
     let start = pages.start(k);
-    let first = pages.first(k) + 64;
+    let first = pages.first(k) + HALF;
     pages.write(k, start, halves.lower_stair);
     let id = pool.take_frame().unwrap();
     *pool.frame_mut(&id) = halves.upper;
@@ -141,7 +141,7 @@ fn split(pool: &mut Pool, pages: &mut Directory, k: usize)
 pub(crate) fn put_at(pool: &mut Pool, pages: &mut Directory, k: usize, rec: Rec) -> u32
     requires pages { ArePages pool.old pages.old.items }
     requires page { IsFor pool.old pages.old.items k rec.point.t }
-    requires room { (d : Page) → length (page_in pool.old (slice_index_or pages.old.items k d)) < 128 }
+    requires room { (d : Page) → length (page_in pool.old (slice_index_or pages.old.items k d)) < full_page }
     requires few { length (records_of pool.old pages.old.items) + 1 < 2 ^ 32 }
     requires range { InRange rec.point }
     ensures pages { ArePages pool.new pages.new.items }

@@ -1,3 +1,3 @@
 pub mod Pool
-pub mod Slots
+pub mod PooledFrames
 pub mod Lending

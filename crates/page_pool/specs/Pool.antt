@@ -2,12 +2,16 @@
 use Rattle.std.specs.Prelude.{◌≡◌, ℕ, ◌<◌, pos, List, Option, Some, None, IsSome, is_none, length, replicate, count_by, slice_index_or, slice_set}
 use Rattle.page_pool.specs.declared.frame.Frame.{Frame}
 
+-- so many points a frame has room for
+abbrev pub full_page : ℕ
+full_page = 128
+
 -- a frame of no points
 unfoldable pub empty_frame : Frame
 empty_frame = record {
   len = 0;
-  times = replicate 128 0;
-  values = replicate 128 (pos 0);
+  times = replicate full_page 0;
+  values = replicate full_page (pos 0);
   late = 0;
   area = pos 0;
   low = pos 0;

@@ -2,16 +2,19 @@
 ghost use Rattle.std.specs.Prelude.{◌≡◌};
 ghost use Rattle.page_pool.specs.Pool.{empty_frame};
 
-/// A page of up to 128 points: the first `len` places of two arrays, a mark for each point, and totals over them. The
+/// How many points a frame has room for.
+pub const PAGE: usize = 128;
+
+/// A page of up to [`PAGE`] points: the first `len` places of two arrays, a mark for each point, and totals over them. The
 /// pool does not look at what is in it.
 #[derive(Clone, Copy, Debug, PartialEq, Eq)]
 pub struct Frame {
     /// How many points there are.
     pub len: u32,
     /// The time of each point, in milliseconds from 1970.
-    pub times: [u64; 128],
+    pub times: [u64; PAGE],
     /// The value of each point, in value units.
-    pub values: [i64; 128],
+    pub values: [i64; PAGE],
     /// A bit for each point, the first one the lowest: set where the point came late.
     pub late: u128,
     /// Twice the area under the line through the points, in value units times milliseconds.
@@ -28,8 +31,8 @@ pub(crate) fn empty() -> Frame
 {
     Frame {
         len: 0,
-        times: [0; 128],
-        values: [0; 128],
+        times: [0; PAGE],
+        values: [0; PAGE],
         late: 0,
         area: 0,
         low: 0,

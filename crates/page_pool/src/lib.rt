@@ -8,5 +8,5 @@
 mod frame;
 mod pool;
 
-pub use frame::Frame;
+pub use frame::{Frame, PAGE};
 pub use pool::{FrameId, NoFrame, Pool, WantOfMemory};

@@ -1,4 +1,4 @@
-// The pool: its slots, and the ids that were given back.
+// The pool: its frames, and the ids that were given back.
 ghost use Rattle.std.specs.Prelude.{◌≡◌, ◌↔◌, ◌+◌, IfOk, OnOk, OnErr, IsErr, Some, None, replicate};
 ghost use Rattle.std.specs.Borrow.{sem};
 ghost use Rattle.page_pool.specs.Pool.{Gives, IsHeld, Takes, frame_at, spare_of};
@@ -41,9 +41,9 @@ impl Model for FrameId {
     ghost invariant = { λ id. id.place < 2 ^ 32 };
 }
 
-// A place that was taken once, and whether it is taken now.
+// The frame at a place that was taken once, and whether it is taken now.
 #[derive(Drop)]
-struct Slot {
+struct PooledFrame {
     held: bool,
     frame: Frame,
 }
@@ -51,8 +51,8 @@ struct Slot {
 /// A region of frames.
 #[derive(Drop)]
 pub struct Pool {
-    // The places that were taken once. The memory of the others is not touched yet.
-    slots: Vec<Slot>,
+    // The frames at the places that were taken once. The memory of the others is not touched yet.
+    frames: Vec<PooledFrame>,
     // The ids that were given back.
     free: Vec<FrameId>,
     size: u32,
@@ -64,11 +64,11 @@ impl Model for Pool {
 
     ghost Value = { List (Option Frame) };
 
-    ghost use Rattle.page_pool.specs.Slots.{IsStored, places_of};
+    ghost use Rattle.page_pool.specs.PooledFrames.{IsStored, places_of};
 
-    ghost view = { λ p. places_of p.slots.items p.size };
+    ghost view = { λ p. places_of p.frames.items p.size };
 
-    ghost invariant = { λ p. IsStored p.slots.items p.free.items p.size (vec_capacity p.slots) (vec_capacity p.free) };
+    ghost invariant = { λ p. IsStored p.frames.items p.free.items p.size (vec_capacity p.frames) (vec_capacity p.free) };
 }
 
 impl Pool {
@@ -77,10 +77,10 @@ impl Pool {
         ensures value { IfOk result (λ pool. pool ≡ replicate frames None) }
         ensures spare { IfOk result (λ pool. spare_of pool ≡ frames) }
     {
-        let slots = Vec::with_capacity(alloc, frames as usize)?;
+        let pooled = Vec::with_capacity(alloc, frames as usize)?;
         let free = Vec::with_capacity(alloc, frames as usize)?;
         Ok(Pool {
-            slots,
+            frames: pooled,
             free,
             size: frames,
         })
@@ -95,19 +95,19 @@ impl Pool {
         ensures none_spare { IsErr result ↔ (spare_of self.old ≡ 0) }
         ensures unchanged { OnErr result (self.new ≡ self.old) }
     {
-        let slot = Slot {
+        let pooled = PooledFrame {
             held: true,
             frame: empty(),
         };
         if let Some(id) = self.free.pop() {
-            self.slots[id.place as usize] = slot;
+            self.frames[id.place as usize] = pooled;
             return Ok(id);
         }
-        let place = self.slots.len() as u32;
+        let place = self.frames.len() as u32;
         if place == self.size {
             return Err(NoFrame);
         }
-        self.slots.push_reserved(slot);
+        self.frames.push_reserved(pooled);
         Ok(FrameId { place })
     }
 
@@ -117,7 +117,7 @@ impl Pool {
         ensures given { Gives self.old id self.new }
         ensures spare { spare_of self.new ≡ spare_of self.old + 1 }
     {
-        self.slots[id.place as usize].held = false;
+        self.frames[id.place as usize].held = false;
         self.free.push_reserved(id);
     }
 
@@ -125,7 +125,7 @@ impl Pool {
     pub fn spare(&self) -> u32
         ensures { result ≡ spare_of self.now }
     {
-        self.size - self.slots.len() as u32 + self.free.len() as u32
+        self.size - self.frames.len() as u32 + self.free.len() as u32
     }
 
     /// The frame of this id.
@@ -133,7 +133,7 @@ impl Pool {
         requires { IsHeld self.now id.now }
         ensures { frame_at self.now id.now ≡ Some result.now }
     {
-        &self.slots[id.place as usize].frame
+        &self.frames[id.place as usize].frame
     }
 
     /// The frame of this id, to be written into.
@@ -142,6 +142,6 @@ impl Pool {
         ensures* writes_back { sem 𝓛 (LendsFrame self.entry id.now result) }
         ensures value { frame_at self.old id.now ≡ Some result.now }
     {
-        &mut self.slots[id.place as usize].frame
+        &mut self.frames[id.place as usize].frame
     }
 }

@@ -11,7 +11,7 @@ use Rattle.plant_status.specs.declared.status.Status.{Status}
 use Rattle.plant_status.specs.declared.status.Status.TheVariants.{Limit, ReadFault, WantOfMemory}
 use Rattle.trend_num.specs.declared.refusal.What.TheVariants.{Rows}
 use Rattle.plant_files.specs.Asked.{IsQueriesRefusal}
-use Rattle.plant_files.specs.Collected.{AreRowsTooMany, IsRowsRefusal, most_rows}
+use Rattle.plant_files.specs.Collected.{AreRowsTooMany, IsRowsRefusal, most_collector_rows}
 use Rattle.plant_files.specs.Faults.{IsFaultOfPlanned}
 use Rattle.plant_files.specs.Reading.{IsFaultAt}
 use Rattle.plant_files.specs.RowFiles.{ToldFiles}
@@ -73,7 +73,7 @@ module _ (name plan_name : List ℕ) (told : ToldFiles) (failed : Option (List �
 
   -- too many rows are none
   pub of_rows : (rows : ℕ) → AreRowsTooMany rows why → IsFaultOfPlanned name plan_name told failed why
-  of_rows rows many = of_none (λ which same. limit_is_no_fault (most_rows + 1) which (sym many.told ∙ same))
+  of_rows rows many = of_none (λ which same. limit_is_no_fault (most_collector_rows + 1) which (sym many.told ∙ same))
 
   -- the refusal of a base tells of the base
   pub of_base : (t : FileTold) → IsBaseRefusal t why → ((which : FileId) → why ≡ ReadFault which → IsFaultOf failed name)

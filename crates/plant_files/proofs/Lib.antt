@@ -4,3 +4,4 @@ pub mod InOrder
 pub mod Distinct
 pub mod DistinctGroups
 pub mod Faults
+pub mod Printing

@@ -14,8 +14,8 @@ use Rattle.value_rows.specs.declared.asked.GroupNames.{GroupNames}
 use Rattle.value_rows.specs.declared.asked.Query.{Query}
 use Rattle.value_rows.specs.declared.asked.Query.TheVariants.{Tag, Snap, Row}
 use Rattle.plant_files.specs.Texts.{tag_names}
-use Rattle.plant_files.specs.Asked.{IsNamed, AreNamed, IsQueryOf, calcs_at}
-use Rattle.plant_files.specs.Collected.{IsRowOf}
+use Rattle.plant_files.specs.Asked.{IsNamed, AreNamed, IsQueryOfBase, calcs_at}
+use Rattle.plant_files.specs.Collected.{IsRowOfBase}
 
 -- the names of what definitions define
 pub names_of_defs : (defs : List CalcDef) → map (λ d. d.name) defs ≡ names_of (map calculation defs)
@@ -47,7 +47,7 @@ many_calcs (g ∷ gs) (n ∷ ns) (suc place) named = many_calcs gs ns place name
 
 -- a query over the names of a base is one of the base
 IsQueryOf-named : (base : Base) (names : List GroupNames) (query : Query) → AreNamed base.groups.items names
-    → IsQuery (tag_names base.tags.items) names query → IsQueryOf base query
+    → IsQuery (tag_names base.tags.items) names query → IsQueryOfBase base query
 IsQueryOf-named base names (Tag tag query) named asked =
     (subst (λ n. tag < n) (length-map base.tags.items (λ t. t.name)) asked.0, asked.1)
 IsQueryOf-named base names (Snap tag) named asked = subst (λ n. tag < n) (length-map base.tags.items (λ t. t.name)) asked
@@ -58,13 +58,13 @@ IsQueryOf-named base names (Row group calc k) named asked = (
 )
 
 -- the same of lists of queries
-pub queries_of_base : (base : Base) (names : List GroupNames) (lists : List (List Query)) → AreNamed base.groups.items names
-    → All (All (IsQuery (tag_names base.tags.items) names)) lists → All (All (IsQueryOf base)) lists
+pub queries_of_base : {Z : Type 0} (base : Base) (names : List GroupNames) (lists : List (Vec Query Z)) → AreNamed base.groups.items names
+    → All (λ q. All (IsQuery (tag_names base.tags.items) names) q.items) lists → All (λ q. All (IsQueryOfBase base) q.items) lists
 queries_of_base base names lists named asked i d below j e within =
-    IsQueryOf-named base names (slice_index_or (slice_index_or lists i d) j e) named (asked i d below j e within)
+    IsQueryOf-named base names (slice_index_or (slice_index_or lists i d).items j e) named (asked i d below j e within)
 
 -- a row over the names of a base is one of the base
-IsRowOf-named : (base : Base) (row : RawRow) → IsRawRow (tag_names base.tags.items) row → IsRowOf base row
+IsRowOf-named : (base : Base) (row : RawRow) → IsRawRow (tag_names base.tags.items) row → IsRowOfBase base row
 IsRowOf-named base row is = record {
   tag = subst (λ n. row.tag < n) (length-map base.tags.items (λ t. t.name)) is.tag;
   point = is.point;
@@ -72,6 +72,6 @@ IsRowOf-named base row is = record {
 
 -- the same of lists of rows
 pub rows_of_base : {Z : Type 0} (base : Base) (lists : List (Vec RawRow Z)) → All (λ rows. All (IsRawRow (tag_names base.tags.items)) rows.items) lists
-    → All (λ rows. All (IsRowOf base) rows.items) lists
+    → All (λ rows. All (IsRowOfBase base) rows.items) lists
 rows_of_base base lists read i d below j e within =
     IsRowOf-named base (slice_index_or (slice_index_or lists i d).items j e) (read i d below j e within)

@@ -8,7 +8,7 @@ use Rattle.point_text.specs.declared.failure.RowNo.{RowNo}
 use Rattle.point_text.specs.declared.failure.RowNo.TheVariants as row_no
 use Rattle.value_rows.specs.Reading.{records_of, rows_of_text, AreRefusedFor}
 use Rattle.plant_status.specs.declared.file.FileId.{FileId}
-use Rattle.plant_files.specs.Reading.{IsRead}
+use Rattle.plant_files.specs.Reading.{IsReadWhole}
 use Rattle.plant_files.specs.RowFiles.{IsRowRefusal, most_file_bytes, row_status}
 
 -- rows that are too many are told as one more than there may be
@@ -30,7 +30,7 @@ too_many row_of most bytes number e =
 
 -- the bytes of a file are refused as rows
 pub rows_refused : {R : Type 0} (kind : What) (most : ℕ) (row_of : List (List ℕ) → Result R Reason) (file : FileId) (told : FileTold)
-    (bytes : List ℕ) (why : RowNo) → IsRead told most_file_bytes bytes → AreRefusedFor (rows_of_text row_of most bytes) why
+    (bytes : List ℕ) (why : RowNo) → IsReadWhole told most_file_bytes bytes → AreRefusedFor (rows_of_text row_of most bytes) why
     → IsRowRefusal kind most (rows_of_text row_of most) file told (row_status kind file why)
 rows_refused kind most row_of file told bytes (row_no.BadRow row reason) read refused =
     (refl, record { bytes = bytes; read = read; so = refused })

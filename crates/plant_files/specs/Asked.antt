@@ -41,10 +41,10 @@ abbrev pub calcs_at : List GroupDef → ℕ → List Calculation
 calcs_at groups place = option_map_or (λ g. g.calcs.calcs) (slice_get groups place) []
 
 -- a query of a tag of a base, or of one of its groups and one of that group's calculations
-abbrev pub IsQueryOf : Base → Query → Type 0
-IsQueryOf base (Tag tag query) = (tag < length base.tags.items) × IsTagQuery query
-IsQueryOf base (Snap tag) = tag < length base.tags.items
-IsQueryOf base (Row group calc k) = (group < length base.groups.items)
+abbrev pub IsQueryOfBase : Base → Query → Type 0
+IsQueryOfBase base (Tag tag query) = (tag < length base.tags.items) × IsTagQuery query
+IsQueryOfBase base (Snap tag) = tag < length base.tags.items
+IsQueryOfBase base (Row group calc k) = (group < length base.groups.items)
     × (calc < length (calcs_at base.groups.items group)) × (k ≤ last_window)
 
 -- ---- one file

@@ -14,11 +14,11 @@ use Rattle.plant_files.specs.RowFiles.{AreRowFiles, IsFirstRefused, IsRowFile, I
 use Rattle.plant_files.specs.Texts.{tag_names}
 
 -- the most rows of a collector, and of all collectors together
-abbrev pub most_rows : ℕ
-most_rows = 4000000
+abbrev pub most_collector_rows : ℕ
+most_collector_rows = 4000000
 
 -- a row of a tag of a base, with a point in range
-pub record IsRowOf (base : Base) (row : RawRow) : Type 0 where
+pub record IsRowOfBase (base : Base) (row : RawRow) : Type 0 where
   pub tag : row.tag < length base.tags.items
   pub point : InRange row.point
 
@@ -26,11 +26,11 @@ pub record IsRowOf (base : Base) (row : RawRow) : Type 0 where
 
 -- the rows of a file over these names of tags
 abbrev pub IsCollectorFile : List (List ℕ) → FileTold → List RawRow → Type 0
-IsCollectorFile tags told rows = IsRowFile (raw_rows tags most_rows) told rows
+IsCollectorFile tags told rows = IsRowFile (raw_rows tags most_collector_rows) told rows
 
 -- why the rows of a file are not read, by the status
 abbrev pub IsCollectorRefusal : List (List ℕ) → FileId → FileTold → Status → Type 0
-IsCollectorRefusal tags file told why = IsRowRefusal Rows most_rows (raw_rows tags most_rows) file told why
+IsCollectorRefusal tags file told why = IsRowRefusal Rows most_collector_rows (raw_rows tags most_collector_rows) file told why
 
 -- ---- the files of all collectors
 
@@ -65,5 +65,5 @@ row_count lists = sum_by length lists
 
 -- so many rows are more than there may be, and this is told of it
 pub record AreRowsTooMany (rows : ℕ) (why : Status) : Type 0 where
-  pub more : most_rows < rows
-  pub told : why ≡ Limit Rows (most_rows + 1)
+  pub more : most_collector_rows < rows
+  pub told : why ≡ Limit Rows (most_collector_rows + 1)

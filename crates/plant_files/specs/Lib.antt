@@ -4,3 +4,6 @@ pub mod RowFiles
 pub mod Asked
 pub mod Collected
 pub mod Faults
+pub mod PlanRows
+pub mod NumberWords
+pub mod Printing

@@ -8,14 +8,14 @@ use Rattle.plant_status.specs.declared.status.Status.{Status}
 use Rattle.plant_status.specs.declared.status.Status.TheVariants.{ReadFault, Limit, WantOfMemory}
 
 -- these are the bytes of a file of which this is told, and no more than so many
-pub record IsRead (told : FileTold) (most : ℕ) (bytes : List ℕ) : Type 0 where
+pub record IsReadWhole (told : FileTold) (most : ℕ) (bytes : List ℕ) : Type 0 where
   pub whole : IsWhole told bytes
   pub within : length bytes ≤ most
 
 -- the file was read whole, and its bytes are so
-pub record IsReadAs (told : FileTold) (most : ℕ) (IsSo : List ℕ → Type 0) : Type 0 where
+pub record IsReadWholeAs (told : FileTold) (most : ℕ) (IsSo : List ℕ → Type 0) : Type 0 where
   pub bytes : List ℕ
-  pub read : IsRead told most bytes
+  pub read : IsReadWhole told most bytes
   pub so : IsSo bytes
 
 -- the file has more bytes than it may, and this is told of it: the quantity, and one more than the limit

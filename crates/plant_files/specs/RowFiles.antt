@@ -8,7 +8,7 @@ use Rattle.point_text.specs.declared.failure.RowNo.TheVariants as row_no
 use Rattle.plant_status.specs.declared.file.FileId.{FileId}
 use Rattle.plant_status.specs.declared.status.Status.{Status}
 use Rattle.plant_status.specs.declared.status.Status.TheVariants.{ReadFault, Limit, BadRow, WantOfMemory}
-use Rattle.plant_files.specs.Reading.{IsReadAs, IsTooLong}
+use Rattle.plant_files.specs.Reading.{IsReadWholeAs, IsTooLong}
 
 -- the most bytes of a file of rows
 abbrev pub most_file_bytes : ℕ
@@ -26,11 +26,11 @@ Reads R = List ℕ → Result (List R) RowNo
 
 -- the rows of a file
 abbrev pub IsRowFile : {R : Type 0} → Reads R → FileTold → List R → Type 0
-IsRowFile reads told rows = IsReadAs told most_file_bytes (λ bytes. reads bytes ≡ Ok rows)
+IsRowFile reads told rows = IsReadWholeAs told most_file_bytes (λ bytes. reads bytes ≡ Ok rows)
 
 -- its rows are refused for this
 abbrev pub IsRefusedFile : {R : Type 0} → Reads R → FileTold → RowNo → Type 0
-IsRefusedFile reads told why = IsReadAs told most_file_bytes (λ bytes. reads bytes ≡ Err why)
+IsRefusedFile reads told why = IsReadWholeAs told most_file_bytes (λ bytes. reads bytes ≡ Err why)
 
 -- the status of a file whose rows are refused for this; its rows are of this quantity
 abbrev pub row_status : What → FileId → RowNo → Status

@@ -15,7 +15,7 @@ use Rattle.plant_status.specs.declared.file.FileId.{FileId}
 use Rattle.plant_status.specs.declared.file.FileId.TheVariants as file_id
 use Rattle.plant_status.specs.declared.status.Status.{Status}
 use Rattle.plant_status.specs.declared.status.Status.TheVariants.{ReadFault, Limit, BadText, WantOfMemory}
-use Rattle.plant_files.specs.Reading.{IsReadAs, IsTooLong}
+use Rattle.plant_files.specs.Reading.{IsReadWholeAs, IsTooLong}
 
 -- the most bytes of a base or a plan
 abbrev pub most_text_bytes : ℕ
@@ -33,9 +33,9 @@ text_status file text_no.WantOfMemory = WantOfMemory
 abbrev pub IsTextRefusal : FileId → (List ℕ → TextNo → Type 0) → FileTold → Status → Type 0
 IsTextRefusal file IsRefused told (ReadFault which) = which ≡ file
 IsTextRefusal file IsRefused told (Limit what number) = IsTooLong TextBytes most_text_bytes told what number
-    ⊎ IsReadAs told most_text_bytes (λ bytes. IsRefused bytes (text_no.Limit what number))
+    ⊎ IsReadWholeAs told most_text_bytes (λ bytes. IsRefused bytes (text_no.Limit what number))
 IsTextRefusal file IsRefused told (BadText which rule place at) =
-    (which ≡ file) × IsReadAs told most_text_bytes (λ bytes. IsRefused bytes (text_no.BadText rule place at))
+    (which ≡ file) × IsReadWholeAs told most_text_bytes (λ bytes. IsRefused bytes (text_no.BadText rule place at))
 IsTextRefusal file IsRefused told WantOfMemory = ⊤
 IsTextRefusal file IsRefused told other = ⊥
 
@@ -47,7 +47,7 @@ tag_names tags = map (λ t. t.name) tags
 
 -- the base that a file spells
 abbrev pub IsBaseFile : FileTold → Base → Type 0
-IsBaseFile told base = IsReadAs told most_text_bytes (λ bytes. BaseRead bytes (Ok base))
+IsBaseFile told base = IsReadWholeAs told most_text_bytes (λ bytes. BaseRead bytes (Ok base))
 
 -- why a base is not read
 abbrev pub IsBaseRefusal : FileTold → Status → Type 0
@@ -58,7 +58,7 @@ IsBaseRefusal told why = IsTextRefusal file_id.Base (λ bytes no. BaseRead bytes
 -- the plan that a file spells over the groups of a base
 abbrev pub IsPlanFile : List GroupDef → FileTold → Plan → Type 0
 IsPlanFile groups told plan =
-    IsReadAs told most_text_bytes (λ bytes. plan_read groups bytes ≡ Ok (plan_parts plan))
+    IsReadWholeAs told most_text_bytes (λ bytes. plan_read groups bytes ≡ Ok (plan_parts plan))
 
 -- why a plan is not read
 abbrev pub IsPlanRefusal : List GroupDef → FileTold → Status → Type 0

@@ -1,20 +1,20 @@
 // What the readers of a plan ask.
-ghost use Rattle.std.specs.Prelude.{◌≡◌, ◌≢◌, ◌<◌, ◌^◌, ℕ, All, length, vec_len, IfOk, IfErr, IsErrOf};
+ghost use Rattle.std.specs.Prelude.{◌≡◌, ◌≢◌, ◌<◌, ◌^◌, ℕ, All, length, map, vec_len, IfOk, IfErr, IsErrOf};
 ghost use Rattle.plant_status.specs.declared.file.FileId.TheVariants.{Reader};
 ghost use Rattle.plant_status.specs.declared.status.Status.TheVariants.{ReadFault, WantOfMemory};
 ghost use Rattle.tag_base.specs.Groups.{IsSound};
 ghost use Rattle.value_rows.specs.Asked.{IsQuery};
 ghost use Rattle.plant_files.specs.Reading.{IsFaultAt, faults_after};
-ghost use Rattle.plant_files.specs.Asked.{AreReaderFiles, AreQueries, IsQueryOf, IsQueriesRefusal, IsReaderRefused};
+ghost use Rattle.plant_files.specs.Asked.{AreReaderFiles, AreQueries, IsQueryOfBase, IsQueriesRefusal, IsReaderRefused};
 
 use crate::names::{names_of_groups, names_of_tags};
-use crate::reader_file::{ReaderQueries, queries_in, reader_at};
+use crate::reader_file::{queries_in, reader_at};
 use byte_io::Files;
 use plant_status::Status;
 use std::alloc::Global;
 use tag_base::{Base, FileName, Plan};
 use trend_num::Name;
-use value_rows::GroupNames;
+use value_rows::{GroupNames, Query};
 
 // The queries of readers' files over these names, or the first refusal.
 fn queries_over<F: Files>(
@@ -23,14 +23,15 @@ fn queries_over<F: Files>(
     readers: &[FileName],
     tags: &[Name],
     groups: &[GroupNames],
-) -> Result<Vec<ReaderQueries>, Status>
+) -> Result<Vec<Vec<Query>>, Status>
     requires few_readers { length readers.now < 2 ^ 32 }
     requires few_tags { length tags.now < 2 ^ 32 }
     requires few_groups { length groups.now < 2 ^ 32 }
     requires few_calcs { All (λ g. vec_len g.calcs < 2 ^ 32) groups.now }
     ensures queries { IfOk result (λ lists.
-        AreReaderFiles tags.now groups.now (F.told files.old) readers.now lists.items) }
-    ensures in_range { IfOk result (λ lists. All (All (IsQuery tags.now groups.now)) lists.items) }
+        AreReaderFiles tags.now groups.now (F.told files.old) readers.now
+        (map (λ queries. queries.items) lists.items)) }
+    ensures in_range { IfOk result (λ lists. All (λ queries. All (IsQuery tags.now groups.now) queries.items) lists.items) }
     ensures refused { IfErr result (λ why. why ≢ WantOfMemory →
         IsReaderRefused tags.now groups.now (F.told files.old) readers.now why) }
     ensures stays { F.told files.new ≡ F.told files.old }
@@ -56,11 +57,11 @@ pub fn queries_of<F: Files>(
     files: &mut F,
     plan: &Plan,
     base: &Base,
-) -> Result<Vec<ReaderQueries>, Status>
+) -> Result<Vec<Vec<Query>>, Status>
     requires { All (IsSound (length base.now.tags.items)) base.now.groups.items }
     ensures queries { IfOk result (λ lists.
-        AreQueries base.now (F.told files.old) plan.now.readers.items lists.items) }
-    ensures in_range { IfOk result (λ lists. All (All (IsQueryOf base.now)) lists.items) }
+        AreQueries base.now (F.told files.old) plan.now.readers.items (map (λ queries. queries.items) lists.items)) }
+    ensures in_range { IfOk result (λ lists. All (λ queries. All (IsQueryOfBase base.now) queries.items) lists.items) }
     ensures refused { IfErr result (IsQueriesRefusal base.now (F.told files.old) plan.now.readers.items) }
     ensures stays { F.told files.new ≡ F.told files.old }
     ensures faults { F.fault_count files.new ≡ faults_after result (F.fault_count files.old) }

@@ -12,44 +12,12 @@ use crate::whole::whole_of;
 use byte_io::Files;
 use plant_status::{FileId, Status, What};
 use std::alloc::Global;
-use std::marker::Model;
 use tag_base::FileName;
 use trend_num::Name;
 use value_rows::{GroupNames, Query, query_rows};
 
 // The most queries of a reader.
 const MAX_QUERIES: u64 = 4096;
-
-/// The queries of a reader's file, in order. It is seen as their list.
-#[derive(Drop)]
-pub struct ReaderQueries {
-    rows: Vec<Query>,
-}
-
-impl Model for ReaderQueries {
-    ghost use Rattle.std.specs.Prelude.{List};
-    ghost use Rattle.value_rows.specs.declared.asked.Query.{Query};
-
-    ghost Value = { List Query };
-
-    ghost view = { λ q. q.rows.items };
-}
-
-impl ReaderQueries {
-    /// The queries in order.
-    pub fn rows(&self) -> &[Query]
-        ensures { result.now ≡ self.now }
-    {
-        self.rows.as_slice()
-    }
-
-    /// The queries in order, moved out.
-    pub fn into_rows(self) -> Vec<Query>
-        ensures { result.items ≡ self }
-    {
-        self.rows
-    }
-}
 
 // The file of the reader at a place. The number stays at the end of its type.
 pub(crate) fn reader_at(place: usize) -> FileId
@@ -66,12 +34,12 @@ pub(crate) fn queries_in<F: Files>(
     file: FileId,
     tags: &[Name],
     groups: &[GroupNames],
-) -> Result<ReaderQueries, Status>
+) -> Result<Vec<Query>, Status>
     requires few_tags { length tags.now < 2 ^ 32 }
     requires few_groups { length groups.now < 2 ^ 32 }
     requires few_calcs { All (λ g. vec_len g.calcs < 2 ^ 32) groups.now }
-    ensures queries { IfOk result (IsReaderFile tags.now groups.now (F.told files.old name.now)) }
-    ensures in_range { IfOk result (All (IsQuery tags.now groups.now)) }
+    ensures queries { IfOk result (λ queries. IsReaderFile tags.now groups.now (F.told files.old name.now) queries.items) }
+    ensures in_range { IfOk result (λ queries. All (IsQuery tags.now groups.now) queries.items) }
     ensures refused { IfErr result (IsReaderRefusal tags.now groups.now file (F.told files.old name.now)) }
     ensures stays { F.told files.new ≡ F.told files.old }
     ensures faults { F.fault_count files.new ≡ faults_after result (F.fault_count files.old) }
@@ -80,7 +48,7 @@ pub(crate) fn queries_in<F: Files>(
     let name = name.text();
     match whole_of(alloc, files, name, file, What::FileBytes, MAX_FILE_BYTES) {
         Ok(bytes) => match query_rows(alloc, &bytes, tags, groups, MAX_QUERIES) {
-            Ok(rows) => Ok(ReaderQueries { rows }),
+            Ok(queries) => Ok(queries),
             Err(why) => Err(row_status(What::Queries, file, why)),
         },
         Err(why) => Err(why),

@@ -4,7 +4,7 @@ ghost use Rattle.plant_status.specs.declared.file.FileId.TheVariants.{Collector}
 ghost use Rattle.plant_status.specs.declared.status.Status.TheVariants.{ReadFault, WantOfMemory};
 ghost use Rattle.value_rows.specs.Raw.{IsRawRow};
 ghost use Rattle.plant_files.specs.Reading.{IsFaultAt, faults_after};
-ghost use Rattle.plant_files.specs.Collected.{AreCollectorFiles, AreRows, AreRowsTooMany, IsCollectorRefused, IsRowOf, IsRowsRefusal, most_rows, row_count};
+ghost use Rattle.plant_files.specs.Collected.{AreCollectorFiles, AreRows, AreRowsTooMany, IsCollectorRefused, IsRowOfBase, IsRowsRefusal, most_collector_rows, row_count};
 
 use crate::collector_file::{MAX_ROWS, collector_at, rows_in};
 use crate::names::names_of_tags;
@@ -55,7 +55,7 @@ pub fn rows_of<F: Files>(
 ) -> Result<Vec<Vec<RawRow>>, Status>
     ensures rows { IfOk result (λ lists.
         AreRows base.now (F.told files.old) plan.now.collectors.items (map (λ rows. rows.items) lists.items)) }
-    ensures in_range { IfOk result (λ lists. All (λ rows. All (IsRowOf base.now) rows.items) lists.items) }
+    ensures in_range { IfOk result (λ lists. All (λ rows. All (IsRowOfBase base.now) rows.items) lists.items) }
     ensures refused { IfErr result (IsRowsRefusal base.now (F.told files.old) plan.now.collectors.items) }
     ensures stays { F.told files.new ≡ F.told files.old }
     ensures faults { F.fault_count files.new ≡ faults_after result (F.fault_count files.old) }
@@ -71,7 +71,7 @@ pub fn rows_of<F: Files>(
 /// Looks whether the collectors have at most 4,000,000 rows together. Where they have more, `Limit` tells 4,000,001,
 /// however many there are.
 pub fn check_row_count(collectors: &[Vec<RawRow>]) -> Result<(), Status>
-    ensures few { OnOk result (row_count (map (λ rows. rows.items) collectors.now) ≤ most_rows) }
+    ensures few { OnOk result (row_count (map (λ rows. rows.items) collectors.now) ≤ most_collector_rows) }
     ensures refused { IfErr result (AreRowsTooMany (row_count (map (λ rows. rows.items) collectors.now))) }
 {
     let mut count = 0;

@@ -3,7 +3,7 @@ ghost use Rattle.std.specs.Prelude.{◌≡◌, ◌+◌, ◌<◌, ◌^◌, IfOk, 
 ghost use Rattle.byte_io.specs.Files.{IsFaultOf};
 ghost use Rattle.plant_status.specs.declared.file.FileId.{FileId};
 ghost use Rattle.plant_status.specs.declared.status.Status.TheVariants.{ReadFault};
-ghost use Rattle.plant_files.specs.Reading.{IsRead, IsReadRefusal, faults_after};
+ghost use Rattle.plant_files.specs.Reading.{IsReadWhole, IsReadRefusal, faults_after};
 
 use byte_io::{Files, ReadNo, read_file};
 use plant_status::{FileId, Status, What};
@@ -19,7 +19,7 @@ pub(crate) fn whole_of<F: Files>(
     most: u64,
 ) -> Result<Vec<u8>, Status>
     requires { most + 1 < 2 ^ 64 }
-    ensures read { IfOk result (λ v. IsRead (F.told files.old name.now) most v.items) }
+    ensures read { IfOk result (λ v. IsReadWhole (F.told files.old name.now) most v.items) }
     ensures refused { IfErr result (IsReadRefusal file what most (F.told files.old name.now)) }
     ensures stays { F.told files.new ≡ F.told files.old }
     ensures faults { F.fault_count files.new ≡ faults_after result (F.fault_count files.old) }

@@ -2,7 +2,7 @@
 use Rattle.std.proofs.Common.{◌≡◌, Option, subst}
 use Rattle.plant_status.specs.declared.status.Status.{Status}
 use Rattle.plant_files.specs.Asked.{ToldFiles}
-use Rattle.store_commands.specs.Commands.{Devices}
+use Rattle.plant_store.specs.Groups.{Devices}
 use Rattle.plant_more.specs.Endings.{EndsOfShifts, KeepsForShifts, Scene}
 use Rattle.plant_more.specs.Words.{AskedShifts}
 

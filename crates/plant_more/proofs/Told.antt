@@ -8,9 +8,10 @@ use Rattle.plant_status.specs.declared.status.Status.{Status}
 use Rattle.plant_status.specs.declared.status.Status.TheVariants.{Done, BadWords, BadText, BadRow, ReadFault, WriteFault, DeviceFault, Damaged, OtherTag, Limit, Mismatch, Halted, WantOfMemory, OtherPlant, BadName}
 use Rattle.plant_files.specs.Asked.{ToldFiles}
 use Rattle.plant_files.specs.Reading.{faults_after, faults_told}
-use Rattle.command_text.specs.Printing.{IsPrintedSo, IsTold}
-use Rattle.store_commands.specs.Commands.{CountsDevices, Devices}
-use Rattle.shift_command.specs.Shifts.{IsShiftsRefusal, OfBase, OfCalendar, OfTag, OfMemory}
+use Rattle.plant_files.specs.Printing.{IsPrintedSo, IsTold}
+use Rattle.plant_store.specs.OpenedBases.{CountsDevices}
+use Rattle.plant_store.specs.Groups.{Devices}
+use Rattle.plant_more.specs.Shifts.{IsShiftsRefusal, OfBase, OfCalendar, OfTag, OfMemory}
 use Rattle.plant_more.specs.Endings.{CountsFor}
 
 -- the faults of files that an answer tells are those that its status tells, once it was printed

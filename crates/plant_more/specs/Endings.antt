@@ -6,10 +6,11 @@ use Rattle.plant_status.specs.declared.status.Status.{Status}
 use Rattle.plant_status.specs.declared.status.Status.TheVariants.{BadWords, DeviceFault}
 use Rattle.plant_files.specs.Asked.{ToldFiles}
 use Rattle.plant_files.specs.Reading.{faults_told}
-use Rattle.command_text.specs.Printing.{IsTold, PrintsSo, WhereDone}
-use Rattle.store_commands.specs.Commands.{AreKept, Devices, IsDurable}
+use Rattle.plant_files.specs.Printing.{IsTold, PrintsSo, WhereDone}
+use Rattle.plant_store.specs.OpenedBases.{AreKept, IsDurable}
+use Rattle.plant_store.specs.Groups.{Devices}
 use Rattle.shift_calendar.specs.Days.{IsDayWord, IsFirstDay}
-use Rattle.shift_command.specs.Shifts.{IsFaultOfRead, IsShifts, IsShiftsRefusal}
+use Rattle.plant_more.specs.Shifts.{IsFaultOfRead, IsShifts, IsShiftsRefusal}
 use Rattle.plant_more.specs.Words.{AskedShifts}
 
 -- what a command finds outside: the meaning of the output, what is told of files by name and how often a read of them has failed, and

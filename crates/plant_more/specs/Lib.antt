@@ -1,3 +1,19 @@
 pub mod Words
 pub mod Endings
 pub mod Logs
+pub mod LogTexts
+pub mod LogOpenings
+pub mod LogKnown
+pub mod LogFinding
+pub mod LogMaking
+pub mod LogRefusals
+pub mod LogReports
+pub mod LogHeadline
+pub mod LogTurns
+pub mod LogNotes
+-- what private functions alone cite
+pub mod LogCrew
+pub mod CalendarFile
+pub mod ShiftLines
+pub mod Shifts
+pub mod ShiftTags

@@ -1,5 +1,5 @@
 -- What `log` comes to: what is printed, and the log.
-use Rattle.std.specs.Prelude.{◌≡◌, ◌≢◌, ℕ, ◌^◌, ◌<◌, List, None, Option, Result, String, IfErr, IfOk, IfSome, OnOk, string_bytes}
+use Rattle.std.specs.Prelude.{◌≡◌, ◌≢◌, ℕ, ◌^◌, ◌<◌, List, None, Some, Option, Result, String, IfErr, IfOk, IfSome, OnOk, string_bytes}
 use Rattle.std.specs.Option.{IsSome}
 use Rattle.std.specs.declared.alloc.Global.{Global}
 use Rattle.disk_model.specs.Traces.{Trace}
@@ -7,11 +7,11 @@ use Rattle.plant_status.specs.declared.status.Status.{Status}
 use Rattle.plant_status.specs.declared.status.Status.TheVariants.{BadWords}
 use Rattle.plant_files.specs.Faults.{IsFaultOfPlanned}
 use Rattle.plant_files.specs.Reading.{faults_after}
-use Rattle.command_text.specs.Printing.{IsPrintedSo, IsTold}
-use Rattle.log_command.specs.Headline.{IsLogged, IsUnlogged}
-use Rattle.log_command.specs.Openings.{CountsOpening}
-use Rattle.plant_more.specs.declared.log_answer.LogOutcome.{LogOutcome}
-use Rattle.plant_more.specs.Endings.{Scene}
+use Rattle.plant_files.specs.Printing.{IsPrintedSo, IsTold}
+use Rattle.plant_more.specs.LogHeadline.{IsLogged, IsUnlogged}
+use Rattle.plant_more.specs.LogOpenings.{CountsOpening}
+use Rattle.plant_more.specs.declared.log_command.LogOutcome.{LogOutcome}
+use Rattle.plant_more.specs.Endings.{IsUnread, Scene}
 
 -- The logging of the plan in a file over the base in another: a line of each tag is printed, or the line that tells why there is none.
 -- Where collectors were started there is a log, whatever came of it; else none was stopped, and there is a cause, which is never the
@@ -32,3 +32,17 @@ pub record IsLogSo {D : Type 0} (trace : D → Option Trace) (ticks faults : D �
   pub printed : IfOk answer (λ text. IsPrintedSo (string_bytes text) before.output now.output o.status)
   pub refused : IfErr answer (λ why. (o.status ≡ why) × IsTold before.output now.output why)
   pub understood : o.status ≢ BadWords
+
+-- no plan is named: the line of that is told, nothing is read, and no worker is begun
+pub record IsNoPlan (before now : Scene) (stops_before stops_now : ℕ) (o : LogOutcome) : Type 0 where
+  pub status : o.status ≡ BadWords
+  pub unread : IsUnread before now BadWords
+  pub none : o.log ≡ None
+  pub unstopped : stops_now ≡ stops_before
+
+-- `log` comes to this, of words that name this base and this plan, or none
+abbrev pub EndsOfLog : {D : Type 0} → (D → Option Trace) → (D → ℕ) → (D → ℕ) → Option (List ℕ × List ℕ) → Scene → Scene → ℕ → ℕ
+    → LogOutcome → Type 0
+EndsOfLog trace ticks faults None before now stops_before stops_now o = IsNoPlan before now stops_before stops_now o
+EndsOfLog trace ticks faults (Some named) before now stops_before stops_now o =
+    IsLogSo trace ticks faults named.0 named.1 before now stops_before stops_now o

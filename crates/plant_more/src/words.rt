@@ -2,29 +2,29 @@
 ghost use Rattle.std.specs.Prelude.{◌≡◌, ◌≤◌, map, string_bytes, IfSome, option_map};
 ghost use Rattle.plant_more.specs.Words.{asked, log_words, most_days, named, over_days, shift_words};
 
-use command_text::count_upto;
+use plant_files::count_upto;
 
-/// The files of a base and of a plan over it.
+// The files of a base and of a plan over it.
 #[derive(Clone, Copy)]
-pub struct Planned<'w> {
-    pub base: &'w str,
-    pub plan: &'w str,
+pub(crate) struct Planned<'w> {
+    pub(crate) base: &'w str,
+    pub(crate) plan: &'w str,
 }
 
-/// The files of a base and of a calendar over its tags, the word of the first day, and of how many days shifts are told.
+// The files of a base and of a calendar over its tags, the word of the first day, and of how many days shifts are told.
 #[derive(Clone, Copy)]
-pub struct ShiftWords<'w> {
-    pub base: &'w str,
-    pub calendar: &'w str,
-    pub day: &'w str,
-    pub days: u32,
+pub(crate) struct ShiftWords<'w> {
+    pub(crate) base: &'w str,
+    pub(crate) calendar: &'w str,
+    pub(crate) day: &'w str,
+    pub(crate) days: u32,
 }
 
 // Of how many days shifts are told at most.
 const MOST_DAYS: u32 = 366;
 
-/// The files whose collectors these words ask to log, if they are `log BASE PLAN`.
-pub fn log_words(words: &[String]) -> Option<Planned<'_>>
+// The files whose collectors these words ask to log, if they are `log BASE PLAN`.
+pub(crate) fn log_words(words: &[String]) -> Option<Planned<'_>>
     ensures { option_map named result ≡ log_words (map string_bytes words.now) }
 {
     match words {
@@ -36,8 +36,8 @@ pub fn log_words(words: &[String]) -> Option<Planned<'_>>
     }
 }
 
-/// What shifts these words ask to tell, if they are `shifts BASE CALENDAR DAY DAYS`, DAYS being a number from 1 to 366. DAY is any word.
-pub fn shift_words(words: &[String]) -> Option<ShiftWords<'_>>
+// What shifts these words ask to tell, if they are `shifts BASE CALENDAR DAY DAYS`, DAYS being a number from 1 to 366. DAY is any word.
+pub(crate) fn shift_words(words: &[String]) -> Option<ShiftWords<'_>>
     ensures words { option_map asked result ≡ shift_words (map string_bytes words.now) }
     ensures days { IfSome result (λ w. (1 ≤ w.days) × (w.days ≤ most_days)) }
 {

@@ -1,25 +1,19 @@
--- Refusals of the commands are told as they are, and so is want of memory for the words.
-use Rattle.std.proofs.Common.{◌≡◌, inl, inr, ℕ, ◌^◌, ◌<◌, List, ◌≢◌, Option, ap, refl, subst, sym}
-use Rattle.byte_io.specs.Outside.{CountsNoFault, Outside}
-use Rattle.disk_model.specs.Traces.{Trace}
+-- Refusals of the commands are told as they are.
+use Rattle.std.proofs.Common.{inl, inr, ℕ, ◌^◌, ◌<◌, List, ◌≢◌}
 use Rattle.plant_files.specs.Asked.{ToldFiles}
-use Rattle.plant_files.proofs.Faults.{of_none}
-use Rattle.store_commands.specs.Commands.{Devices, IsCheckRefusal, IsTrendRefusal, OfBase, OfGroup, OfPlan, OfReader, OfTag, OfMemory}
+use Rattle.store_commands.specs.Commands.{IsCheckRefusal, IsTrendRefusal, OfBase, OfGroup, OfPlan, OfReader, OfTag, OfMemory}
+use Rattle.plant_store.specs.Groups.{Devices}
 use Rattle.disk_model.specs.Calls.{Rose}
 use Rattle.trend_num.specs.declared.archive.Rec.{Rec}
 use Rattle.tag_base.specs.declared.definition.GroupDef.{GroupDef}
-use Rattle.book_store.specs.Refusals as group
+use Rattle.plant_store.specs.BookRefusals as group
 use Rattle.store_commands.specs.GroupRows.{IsRowsRefusal, OfCells, OfCopies, OfOpening, OfWant}
 use Rattle.plant_status.specs.declared.unit.Unit.{Unit}
 use Rattle.plant_status.specs.declared.unit.Unit.TheVariants.{Tag, Group, Log}
 use Rattle.plant_status.specs.declared.status.Status.TheVariants.{Done, WriteFault, DeviceFault, WantOfMemory}
-use Rattle.frame_command.specs.Commands as frame
-use Rattle.frame_command.specs.Names as frame_names
-use Rattle.frame_command.specs.Rows as frame_rows
-use Rattle.plant_more.specs.Endings.{EndsOver, IsUnread, Scene}
-use Rattle.plant_run.specs.CommandLine.{Form, Pack, Check, Trend, Shifts, Frames, Unknown, form_of}
-use Rattle.plant_run.specs.Run.{EndsFor, KeepsFor, World}
-use Rattle.plant_run.specs.Sessions.{ComesOf, IsUnrun}
+use Rattle.store_commands.specs.FrameCommands as frame
+use Rattle.store_commands.specs.FrameNames as frame_names
+use Rattle.store_commands.specs.FrameRows as frame_rows
 
 -- ---- a refusal is not Done, and no fault of the output
 
@@ -154,62 +148,3 @@ module _ (name group calc : List ℕ) (told : ToldFiles) (old new : Devices) (be
   frames_rose few unit (frame.OfGroup base g i k cores opened named (frame_rows.OfCopies number is many above)) = cc
   frames_rose few unit (frame.OfGroup base g i k cores opened named (frame_rows.OfMemory is)) = cc
   frames_rose few unit (frame.OfMemory is) = cc
-
--- ---- a run for whose words no memory was found
-
--- what it leaves of files and devices is as it was
-none_over : (base : List ℕ) (before now : Scene) → now ≡ record before { output = now.output } → EndsOver base before now WantOfMemory
-none_over base before now rest = record {
-  durable = tt;
-  file_faults = ap (λ (s : Scene). s.file_faults) rest;
-  device_faults = λ few. ap (λ (s : Scene). s.device_faults) rest;
-}
-
-memory_ends : (form : Form) (before now : World) → CountsNoFault before.input now.input → IsUnread before.scene now.scene WantOfMemory
-    → now.input ≡ before.input → EndsFor form before now WantOfMemory
-memory_ends (Pack tuning) before now same is left = ((same, is.told), is.rest)
-memory_ends (Check base) before now same is left =
-    (((inr (inr refl), is.told), none_over base before.scene now.scene is.rest, λ which same. cc), left)
-memory_ends (Trend base plan) before now same is left = (
-  (
-    (OfMemory refl, is.told),
-    none_over base before.scene now.scene is.rest,
-    of_none base plan before.scene.files now.scene.failed_name WantOfMemory (λ which same. cc),
-  ),
-  left,
-)
-memory_ends (Shifts asked) before now same is left = (inr ((inr refl, is), λ same. cc), left)
-memory_ends (Frames base group calc least) before now same is left =
-    (((frame.OfMemory refl, is.told), none_over base before.scene now.scene is.rest, λ which same. cc), left)
-memory_ends Unknown before now same is left = ((inr refl, is), left)
-
--- devices that are as they were are kept
-same_kept : (form : Form) (told : ToldFiles) (devices : Devices) → KeepsFor form told devices devices
-same_kept (Pack tuning) told devices = refl
-same_kept (Check base) told devices = inl (λ n. refl)
-same_kept (Trend base plan) told devices = inl (λ n. refl)
-same_kept (Shifts asked) told devices = inl (λ n. refl)
-same_kept (Frames base group calc least) told devices = inl (λ n. refl)
-same_kept Unknown told devices = refl
-
--- that is what comes then of any words
-pub unrun_comes : {D : Type 0} (trace : D → Option Trace) (ticks faults : D → ℕ) (words : List (List ℕ)) (before now : World)
-    (stops_before stops_now code : ℕ) → IsUnrun WantOfMemory before now stops_before stops_now code
-    → ComesOf trace ticks faults words before now stops_before stops_now code
-unrun_comes trace ticks faults words before now stops_before stops_now code unrun = record {
-  ends = λ none. (
-    WantOfMemory,
-    unrun.exit,
-    memory_ends (form_of words) before now (ap (λ (o : Outside). o.faults) unrun.input)
-        (record {
-          told = unrun.told;
-          rest = unrun.rest;
-        }) unrun.input,
-  );
-  session = λ base plan is. inr unrun;
-  log = λ base plan is. inr unrun;
-  drill = λ wanted is. inr unrun;
-  bad_words = λ none nothing. inr unrun.exit;
-  devices = λ none. subst (KeepsFor (form_of words) before.scene.files before.scene.devices)
-      (sym (ap (λ (s : Scene). s.devices) unrun.rest)) (same_kept (form_of words) before.scene.files before.scene.devices);
-}

@@ -1,47 +1,20 @@
--- Words that run a plan log none.
-use Rattle.std.proofs.Common.{◌≡◌, ℕ, Bool, true, false, ◌≤◌, List, [], ◌∷◌, length, None, Some, arith, refl, sym, subst}
-use Rattle.std.specs.Prelude.{codes, if◌then◌else◌}
+-- Words that are more than any command has.
+use Rattle.std.proofs.Common.{◌≡◌, ℕ, ◌≤◌, List, [], ◌∷◌, length, map, get_or, false, arith, refl, subst, ap, ◌∙◌, String, string_bytes}
+use Rattle.std.specs.Prelude.{codes}
 use Rattle.std.specs.Str.{bytes_eq}
-use Rattle.std.proofs.lemmas.Slice.Eq.{bytes_eq-Decides}
-use Rattle.plant_more.specs.Words.{log_words}
-use Rattle.drill_command.specs.Words.{drill_words}
-use Rattle.plant_run.specs.CommandLine.{Unknown, other_form, plan_words}
+use Rattle.plant_run.specs.CommandLine.{Unknown, form_of}
 
-pub run_no_log : (words : List (List ℕ)) (named : List ℕ × List ℕ) → plan_words words ≡ Some named → log_words words ≡ None
-run_no_log [] named is = refl
-run_no_log (verb ∷ []) named is = refl
-run_no_log (verb ∷ base ∷ []) named is = refl
-run_no_log (verb ∷ base ∷ plan ∷ []) named is = by (bytes_eq verb (codes "run")) refl
-  where
-    by : (b : Bool) → bytes_eq verb (codes "run") ≡ b → log_words (verb ∷ base ∷ plan ∷ []) ≡ None
-    by true same = subst (λ v. log_words (v ∷ base ∷ plan ∷ []) ≡ None) (sym ((bytes_eq-Decides verb (codes "run")).0 same)) refl
-    by false same =
-        let no : None ≡ Some named = subst (λ b. (if b then Some (base, plan) else None) ≡ Some named) same is in
-        absurd (cc (no))
-run_no_log (verb ∷ base ∷ plan ∷ more ∷ rest) named is = refl
-
--- nor do they ask for a drill, and words that log a plan do not either
-pub run_no_drill : (words : List (List ℕ)) (named : List ℕ × List ℕ) → plan_words words ≡ Some named → drill_words words ≡ None
-run_no_drill [] named is = refl
-run_no_drill (a ∷ []) named is = refl
-run_no_drill (a ∷ b ∷ []) named is = refl
-run_no_drill (a ∷ b ∷ c ∷ []) named is = refl
-run_no_drill (a ∷ b ∷ c ∷ d ∷ rest) named is = absurd (cc is)
-
-pub log_no_drill : (words : List (List ℕ)) (named : List ℕ × List ℕ) → log_words words ≡ Some named → drill_words words ≡ None
-log_no_drill [] named is = refl
-log_no_drill (a ∷ []) named is = refl
-log_no_drill (a ∷ b ∷ []) named is = refl
-log_no_drill (a ∷ b ∷ c ∷ []) named is = refl
-log_no_drill (a ∷ b ∷ c ∷ d ∷ rest) named is = absurd (cc is)
-
--- words that are more than any command has ask for nothing
-pub of_many : (words : List (List ℕ)) → 7 ≤ length words → Unknown ≡ other_form words
-of_many [] many = absurd (omega arith)
-of_many (a ∷ []) many = absurd (omega arith)
-of_many (a ∷ b ∷ []) many = absurd (omega arith)
-of_many (a ∷ b ∷ c ∷ []) many = absurd (omega arith)
-of_many (a ∷ b ∷ c ∷ d ∷ []) many = absurd (omega arith)
-of_many (a ∷ b ∷ c ∷ d ∷ e ∷ []) many = absurd (omega arith)
-of_many (a ∷ b ∷ c ∷ d ∷ e ∷ f ∷ []) many = absurd (omega arith)
-of_many (a ∷ b ∷ c ∷ d ∷ e ∷ f ∷ g ∷ rest) many = refl
+-- words of a verb that is neither `log` nor `shifts`, and more than any other command has, ask for nothing
+pub of_many : {Z : Type 0} (words : List (String Z)) (verb : String Z) → 7 ≤ length words → get_or words 0 verb ≡ verb
+    → bytes_eq (string_bytes verb) (codes "log") ≡ false → bytes_eq (string_bytes verb) (codes "shifts") ≡ false
+    → Unknown ≡ form_of (map string_bytes words)
+of_many [] verb many is no_log no_shifts = absurd (omega arith)
+of_many (v ∷ []) verb many is no_log no_shifts = absurd (omega arith)
+of_many (v ∷ a ∷ []) verb many is no_log no_shifts = absurd (omega arith)
+of_many (v ∷ a ∷ b ∷ []) verb many is no_log no_shifts = absurd (omega arith)
+of_many (v ∷ a ∷ b ∷ c ∷ []) verb many is no_log no_shifts = absurd (omega arith)
+of_many (v ∷ a ∷ b ∷ c ∷ d ∷ []) verb many is no_log no_shifts = absurd (omega arith)
+of_many (v ∷ a ∷ b ∷ c ∷ d ∷ e ∷ []) verb many is no_log no_shifts = absurd (omega arith)
+of_many (v ∷ a ∷ b ∷ c ∷ d ∷ e ∷ f ∷ rest) verb many is no_log no_shifts =
+    rw (ap (λ w. bytes_eq (string_bytes w) (codes "log")) is ∙ no_log, ap (λ w. bytes_eq (string_bytes w) (codes "shifts")) is ∙ no_shifts)
+    refl

@@ -1,10 +1,10 @@
--- What the words of a command line mean.
-use Rattle.std.specs.Prelude.{ℕ, ◌≤◌, List, [], ◌∷◌, Option, None, Some, codes, option_and_then, if◌then◌else◌}
+-- What the words of a command line ask for.
+use Rattle.std.specs.Prelude.{ℕ, ◌≤◌, ◌*◌, List, [], ◌∷◌, Option, None, Some, codes, map, nat_le, option_and_then, string_bytes, if◌then◌else◌}
 use Rattle.std.specs.Str.{bytes_eq}
 use Rattle.trend_num.specs.declared.tuning.Tuning.{Tuning}
 use Rattle.trend_num.specs.Ranges.{TuningInRange, last_time, largest_value}
-use Rattle.command_text.specs.Numbers.{count_upto, number_upto}
-use Rattle.plant_more.specs.Words.{AskedShifts, shift_words}
+use Rattle.plant_files.specs.NumberWords.{count_upto, number_upto}
+use Rattle.plant_more.specs.Words.{AskedShifts, log_words, shift_words}
 use Rattle.plant_run.specs.declared.command_line.Form.{Form as FormOfWords}
 use Rattle.plant_run.specs.declared.command_line.Form.TheVariants as form
 
@@ -23,14 +23,18 @@ tuning_of exc_dev exc_max comp_dev comp_min comp_max = do
   comp_max' ← number_upto last_time comp_max
   Some (record { exc_dev = exc_dev'; exc_max = exc_max'; comp_dev = comp_dev'; comp_min = comp_min'; comp_max = comp_max' })
 
--- what a command line asks for: to pack with a tuning; to check the tags of a base; to answer the readers of a plan; to tell
--- shifts; to tell the frames of a group's calculation that have at least so many windows; or nothing that there is
+-- What a command line asks for: to pack with a tuning; to check the tags of a base; to answer the readers of a plan over it; to run a
+-- plan; to log a plan, or no plan that is named; to tell shifts, or none that there are; to tell the frames of a group's calculation
+-- that have at least so many windows; to run a drill by its number, of so many tags and so many events of each; or nothing that there is
 pub data Form : Type 0 where
   Pack : Tuning → Form
   Check : List ℕ → Form
   Trend : List ℕ → List ℕ → Form
-  Shifts : AskedShifts → Form
+  Run : List ℕ → List ℕ → Form
+  Log : Option (List ℕ × List ℕ) → Form
+  Shifts : Option AskedShifts → Form
   Frames : List ℕ → List ℕ → List ℕ → ℕ → Form
+  Drill : ℕ → ℕ → ℕ → Form
   Unknown : Form
 
 -- what the code's form asks for
@@ -38,7 +42,11 @@ abbrev pub asked : FormOfWords → Form
 asked (form.Pack tuning) = Pack tuning
 asked (form.Check base) = Check base.now
 asked (form.Trend base plan) = Trend base.now plan.now
+asked (form.Run base plan) = Run base.now plan.now
+asked (form.Log words) = Log (log_words (map string_bytes words.now))
+asked (form.Shifts words) = Shifts (shift_words (map string_bytes words.now))
 asked (form.Frames base group calc least) = Frames base.now group.now calc.now least
+asked (form.Drill number tags events) = Drill number tags events
 asked form.Unknown = Unknown
 
 -- to pack with a tuning, where there is one
@@ -55,36 +63,48 @@ abbrev pub framing : List ℕ → List ℕ → List ℕ → Option ℕ → Form
 framing base group calc None = Unknown
 framing base group calc (Some least) = Frames base group calc least
 
--- the files of a base and a plan that a command line asks to run: `run BASE PLAN`
-abbrev pub plan_words : List (List ℕ) → Option (List ℕ × List ℕ)
-plan_words (verb ∷ base ∷ plan ∷ []) = if bytes_eq verb (codes "run") then Some (base, plan) else None
-plan_words words = None
+-- the highest number of a drill, and how many tags and, of all its tags together, how many events it has at most
+abbrev pub most_number : ℕ
+most_number = 2147483647
 
--- what any other command line asks for, unless it asks for shifts: `check BASE`, `trend BASE PLAN`, `frames BASE GROUP CALC LEAST`, or
--- `pack EXCDEV EXCMAX COMPDEV COMPMIN COMPMAX`
+abbrev pub most_tags : ℕ
+most_tags = 64
+
+abbrev pub most_events : ℕ
+most_events = 4000000
+
+-- to run the drill of these numbers, where they are numbers, and its events not too many
+abbrev pub drilling : Option ℕ → Option ℕ → Option ℕ → Form
+drilling (Some number) (Some tags) (Some events) = if nat_le (tags * events) most_events then Drill number tags events else Unknown
+drilling number tags events = Unknown
+
+-- what any words ask for but those of `log` and `shifts`: `check BASE`, `trend BASE PLAN`, `run BASE PLAN`, `drill NUMBER TAGS EVENTS`,
+-- `frames BASE GROUP CALC LEAST`, or `pack EXCDEV EXCMAX COMPDEV COMPMIN COMPMAX`
 abbrev pub other_form : List (List ℕ) → Form
 other_form (verb ∷ base ∷ []) = if bytes_eq verb (codes "check") then Check base else Unknown
-other_form (verb ∷ base ∷ plan ∷ []) = if bytes_eq verb (codes "trend") then Trend base plan else Unknown
+other_form (verb ∷ base ∷ plan ∷ []) =
+    if bytes_eq verb (codes "trend") then Trend base plan
+    else if bytes_eq verb (codes "run") then Run base plan
+    else Unknown
+other_form (verb ∷ number ∷ tags ∷ events ∷ []) = if bytes_eq verb (codes "drill")
+    then drilling (number_upto most_number number) (count_upto most_tags tags) (number_upto most_events events) else Unknown
 other_form (verb ∷ base ∷ group ∷ calc ∷ number ∷ []) =
     if bytes_eq verb (codes "frames") then framing base group calc (count_upto most_least number) else Unknown
 other_form (verb ∷ exc_dev ∷ exc_max ∷ comp_dev ∷ comp_min ∷ comp_max ∷ []) =
     if bytes_eq verb (codes "pack") then packing (tuning_of exc_dev exc_max comp_dev comp_min comp_max) else Unknown
 other_form words = Unknown
 
--- to tell shifts, where words ask for them, or else what they ask for beside
-abbrev pub shifting : Option AskedShifts → Form → Form
-shifting None other = other
-shifting (Some asked) other = Shifts asked
-
--- what a command line asks for that neither runs a plan nor logs one, and asks for no drill
+-- what a command line asks for: `log` and `shifts` name by their verb alone what is read of the words behind it
 abbrev pub form_of : List (List ℕ) → Form
-form_of words = shifting (shift_words words) (other_form words)
+form_of [] = Unknown
+form_of (verb ∷ words) =
+    if bytes_eq verb (codes "log") then Log (log_words (verb ∷ words))
+    else if bytes_eq verb (codes "shifts") then Shifts (shift_words (verb ∷ words))
+    else other_form (verb ∷ words)
 
--- a form whose tuning or windows, if it has them, are in range
+-- a form whose numbers, if it has them, are in range
 abbrev pub FormInRange : Form → Type 0
 FormInRange (Pack tuning) = TuningInRange tuning
-FormInRange (Check base) = Unit {0}
-FormInRange (Trend base plan) = Unit {0}
-FormInRange (Shifts asked) = Unit {0}
 FormInRange (Frames base group calc least) = (1 ≤ least) × (least ≤ most_least)
-FormInRange Unknown = Unit {0}
+FormInRange (Drill number tags events) = (1 ≤ tags) × (tags ≤ most_tags)
+FormInRange other = Unit {0}

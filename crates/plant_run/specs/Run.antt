@@ -1,5 +1,5 @@
--- How a run of the program ends: what it has read and printed, and what became of the devices, in each status.
-use Rattle.std.specs.Prelude.{◌≡◌, ◌⊎◌, ℕ, ℤ, List, Option, None}
+-- How a command that holds no session ends: what it has read and printed, and what became of the devices, in each status.
+use Rattle.std.specs.Prelude.{◌≡◌, ℕ, List, Option, None}
 use Rattle.trend_num.specs.declared.point.Point.{Point}
 use Rattle.trend_num.specs.declared.tuning.Tuning.{Tuning}
 use Rattle.trend_model.specs.Walk.{records, held}
@@ -7,18 +7,19 @@ use Rattle.trend_model.specs.Bound.{IsBounded}
 use Rattle.byte_io.specs.Outside.{Outside, CountsNoFault}
 use Rattle.byte_io.specs.Files.{IsFaultOf}
 use Rattle.point_text.specs.Text.{archive_text}
-use Rattle.plant_status.specs.Status.{code_of}
 use Rattle.plant_status.specs.declared.file.FileId.{FileId}
 use Rattle.plant_status.specs.declared.status.Status.{Status}
 use Rattle.plant_status.specs.declared.status.Status.TheVariants.{BadWords, ReadFault, WantOfMemory}
 use Rattle.plant_files.specs.Asked.{ToldFiles}
 use Rattle.plant_files.specs.Faults.{IsFaultOfPlanned}
 use Rattle.pack_command.specs.Pack.{IsRead, IsPackRefusal, first_full, history_of, origin_of}
-use Rattle.command_text.specs.Printing.{PrintsSo}
-use Rattle.store_commands.specs.Commands.{Devices, IsChecked, IsCheckRefusal, IsTrend, IsTrendRefusal, AreAllKept, AreKept}
-use Rattle.frame_command.specs.Commands.{AreFramesKept, IsFrames, IsFramesRefusal}
-use Rattle.plant_more.specs.Endings.{EndsFrom, EndsOver, IsNoDay, IsUnread, Scene, scene}
-use Rattle.plant_run.specs.CommandLine.{Form, Pack, Check, Trend, Shifts, Frames, Unknown, form_of}
+use Rattle.plant_files.specs.Printing.{PrintsSo}
+use Rattle.store_commands.specs.Commands.{IsChecked, IsCheckRefusal, IsTrend, IsTrendRefusal, AreAllKept}
+use Rattle.plant_store.specs.Groups.{Devices}
+use Rattle.plant_store.specs.OpenedBases.{AreKept}
+use Rattle.store_commands.specs.FrameCommands.{AreFramesKept, IsFrames, IsFramesRefusal}
+use Rattle.plant_more.specs.Endings.{AsksForNone, EndsOfShifts, EndsOver, IsUnread, KeepsForShifts, Scene, scene}
+use Rattle.plant_run.specs.CommandLine.{Form, Pack, Check, Trend, Log, Shifts, Frames, Unknown}
 
 -- all of the input was read, and this is the text of what its history keeps. That is near all values of the history.
 pub record IsPacked (tuning : Tuning) (before now : Outside) (text : List ℕ) : Type 0 where
@@ -46,17 +47,13 @@ world input output files file_faults failed_name devices device_faults = record 
 
 -- words of this form ask for nothing that there is
 abbrev pub MeansNothing : Form → Type 0
-MeansNothing (Shifts asked) = IsNoDay asked.day
+MeansNothing (Log named) = named ≡ None
+MeansNothing (Shifts asked) = AsksForNone asked
 MeansNothing Unknown = Unit {0}
 MeansNothing other = ⊥
 
--- a run that read nothing, since its words ask for nothing, or no memory was found for them
-abbrev pub EndsUnread : Scene → Scene → Status → Type 0
-EndsUnread before now status = ((status ≡ BadWords) ⊎ (status ≡ WantOfMemory)) × IsUnread before now status
-
--- a run of words of this form that leaves the input alone ends in this status. No memory may be found for the words themselves
+-- a command of this form that leaves the input alone and holds no session ends in this status
 abbrev pub EndsAround : Form → Scene → Scene → Status → Type 0
-EndsAround (Pack tuning) before now status = ⊥
 EndsAround (Check base) before now status =
     PrintsSo (IsChecked base before.files before.devices)
     (IsCheckRefusal base before.files before.devices now.devices before.device_faults now.device_faults)
@@ -69,17 +66,17 @@ EndsAround (Trend base plan) before now status =
     before.output now.output status
     × EndsOver base before now status
     × IsFaultOfPlanned base plan before.files now.failed_name status
-EndsAround (Shifts asked) before now status = ((day : ℤ) × EndsFrom asked day before now status)
-    ⊎ (EndsUnread before now status × (status ≡ BadWords → IsNoDay asked.day))
+EndsAround (Shifts asked) before now status = EndsOfShifts asked before now status
 EndsAround (Frames base group calc least) before now status =
     PrintsSo (IsFrames base group calc least before.files before.devices)
     (IsFramesRefusal base group calc before.files before.devices now.devices before.device_faults now.device_faults)
     before.output now.output status
     × EndsOver base before now status
     × ((which : FileId) → status ≡ ReadFault which → IsFaultOf now.failed_name base)
-EndsAround Unknown before now status = EndsUnread before now status
+EndsAround Unknown before now status = (status ≡ BadWords) × IsUnread before now status
+EndsAround other before now status = ⊥
 
--- a run of words of this form ends in this status; `pack` alone reads the input, and it reads nothing else
+-- a command of this form that holds no session ends in this status; `pack` alone reads the input, and it reads nothing else
 abbrev pub EndsFor : Form → World → World → Status → Type 0
 EndsFor (Pack tuning) before now status =
     PrintsSo (IsPacked tuning before.input now.input) (IsNotPacked tuning before.input now.input)
@@ -87,18 +84,10 @@ EndsFor (Pack tuning) before now status =
     × (now.scene ≡ record before.scene { output = now.scene.output })
 EndsFor form before now status = EndsAround form before.scene now.scene status × (now.input ≡ before.input)
 
--- a run of these words ends in this status
-abbrev pub EndsIn : List (List ℕ) → World → World → Status → Type 0
-EndsIn words = EndsFor (form_of words)
-
--- the devices after a run of words of this form: a command over stored archives keeps them, and any other leaves them alone
+-- the devices after it: a command over stored archives keeps them, and any other leaves them alone
 abbrev pub KeepsFor : Form → ToldFiles → Devices → Devices → Type 0
 KeepsFor (Check base) files old new = AreKept base files old new
 KeepsFor (Trend base plan) files old new = AreAllKept base files old new
-KeepsFor (Shifts asked) files old new = AreKept asked.base files old new
+KeepsFor (Shifts asked) files old new = KeepsForShifts asked files old new
 KeepsFor (Frames base group calc least) files old new = AreFramesKept base group calc files old new
 KeepsFor form files old new = new ≡ old
-
--- it ends in a status of this exit code
-abbrev pub EndsWithCode : List (List ℕ) → World → World → ℕ → Type 0
-EndsWithCode words before now code = (status : Status) × (code ≡ code_of status) × EndsIn words before now status

@@ -4,15 +4,15 @@ ghost use Rattle.std.specs.IoError.{error_kind};
 ghost use Rattle.std.specs.Process.{exit_status};
 ghost use Rattle.std.specs.Vec.Iter.{into_iter_items};
 ghost use Rattle.plant_status.specs.Status.{code_of};
-ghost use Rattle.command_text.specs.Printing.{IsTold};
+ghost use Rattle.plant_files.specs.Printing.{IsTold};
 ghost use Rattle.plant_run.specs.Argument.{status_of_args};
 ghost use Rattle.plant_run.specs.Run.{world};
-ghost use Rattle.plant_run.specs.Sessions.{ComesOf};
+ghost use Rattle.plant_run.specs.Sessions.{ComesWithCode};
 
 use crate::program::run;
 use byte_io::{Files, Sink, Source};
-use command_text::refuse;
 use disk_model::Store;
+use plant_files::refuse;
 use plant_status::{Passes, Status, code};
 use std::alloc::{AllocError, Global};
 use std::env::Args;
@@ -35,7 +35,7 @@ pub fn run_args<R: Threads + Wait + Sync, I: Source, F: Files, O: Sink, S: Store
     passes: &mut P,
 ) -> ExitCode
     // The words are the arguments after the first.
-    ensures comes { IfOk args (λ given. ComesOf S.Dev.trace S.Dev.ticks S.Dev.fault_count
+    ensures comes { IfOk args (λ given. ComesWithCode S.Dev.trace S.Dev.ticks S.Dev.fault_count
         (map string_bytes (drop 1 (into_iter_items given)))
         (world (I.meaning input.old) (O.meaning out.old) (F.told files.old) (F.fault_count files.old) (F.failed_name files.old)
         (S.device_at store.old) (S.fault_count store.old))

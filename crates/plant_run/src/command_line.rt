@@ -1,14 +1,12 @@
-// The words of a command line.
-ghost use Rattle.std.specs.Prelude.{◌≡◌, ◌≤◌, map, string_bytes, IfSome, option_map};
+// What the words of a command line ask for.
+ghost use Rattle.std.specs.Prelude.{◌≡◌, ◌<◌, ◌≤◌, ◌^◌, map, string_bytes, IfSome};
 ghost use Rattle.trend_num.specs.Ranges.{TuningInRange};
-ghost use Rattle.plant_more.specs.Words.{named};
-ghost use Rattle.plant_run.specs.CommandLine.{FormInRange, asked, framing, most_least, other_form, packing, plan_words, tuning_of};
+ghost use Rattle.plant_run.specs.CommandLine.{FormInRange, asked, drilling, form_of, framing, most_events, most_least, most_tags, packing, tuning_of};
 
-use command_text::{count_upto, number_upto};
-use plant_more::Planned;
+use plant_files::{count_upto, number_upto};
 use trend_num::{MAX_DEV, MAX_T, Tuning};
 
-// What a command line asks for, unless that is to run or to log a plan, to run a drill, or to tell shifts.
+// What a command line asks for.
 #[derive(Clone, Copy)]
 pub(crate) enum Form<'w> {
     /// To pack the input with this tuning.
@@ -22,12 +20,27 @@ pub(crate) enum Form<'w> {
         base: &'w str,
         plan: &'w str,
     },
+    /// To run the plan in this file.
+    Run {
+        base: &'w str,
+        plan: &'w str,
+    },
+    /// To log a plan: `log` reads the rest of these words.
+    Log(&'w [String]),
+    /// To tell shifts: `shifts` reads the rest of these words.
+    Shifts(&'w [String]),
     /// To tell the frames of a calculation of a group of the base that have at least so many windows.
     Frames {
         base: &'w str,
         group: &'w str,
         calc: &'w str,
         least: u32,
+    },
+    /// To run the drill of this number, of so many tags and so many events of each.
+    Drill {
+        number: u32,
+        tags: u32,
+        events: u32,
     },
     /// Nothing that there is.
     Unknown,
@@ -36,25 +49,23 @@ pub(crate) enum Form<'w> {
 // The most windows that frames may be asked to have at least.
 const MOST_LEAST: u32 = 1_000_000;
 
-// The files that these words ask to run, if they are `run BASE PLAN`.
-pub(crate) fn plan_words(words: &[String]) -> Option<Planned<'_>>
-    ensures { option_map named result ≡ plan_words (map string_bytes words.now) }
-{
-    match words {
-        [verb, base, plan] if verb.as_str() == "run" => Some(Planned {
-            base: base.as_str(),
-            plan: plan.as_str(),
-        }),
-        _ => None,
-    }
-}
+// The highest number of a drill.
+const MOST_NUMBER: u64 = (1 << 31) - 1;
 
-// What these words ask for, unless that is to run or to log a plan, to run a drill, or to tell shifts.
-pub(crate) fn other_form(words: &[String]) -> Form<'_>
-    ensures form { asked result ≡ other_form (map string_bytes words.now) }
-    ensures tuned { FormInRange (asked result) }
+// How many tags a drill has at most.
+const MOST_TAGS: u32 = 64;
+
+// How many events a drill has at most, of all its tags together.
+const MOST_EVENTS: u64 = 4_000_000;
+
+// What these words ask for. Words that begin with `log` or `shifts` are handed on whole, to the command that reads the rest.
+pub(crate) fn form_of(words: &[String]) -> Form<'_>
+    ensures form { asked result ≡ form_of (map string_bytes words.now) }
+    ensures ranged { FormInRange (asked result) }
 {
     match words {
+        [verb, ..] if verb.as_str() == "log" => Form::Log(words),
+        [verb, ..] if verb.as_str() == "shifts" => Form::Shifts(words),
         [verb, base] if verb.as_str() == "check" => Form::Check {
             base: base.as_str(),
         },
@@ -62,6 +73,15 @@ pub(crate) fn other_form(words: &[String]) -> Form<'_>
             base: base.as_str(),
             plan: plan.as_str(),
         },
+        [verb, base, plan] if verb.as_str() == "run" => Form::Run {
+            base: base.as_str(),
+            plan: plan.as_str(),
+        },
+        [verb, number, tags, events] if verb.as_str() == "drill" => drilling(
+            number_upto(MOST_NUMBER, number.as_bytes()),
+            count_upto(MOST_TAGS, tags.as_bytes()),
+            number_upto(MOST_EVENTS, events.as_bytes()),
+        ),
         [verb, base, group, calc, least] if verb.as_str() == "frames" => framing(
             base.as_str(),
             group.as_str(),
@@ -84,7 +104,7 @@ pub(crate) fn other_form(words: &[String]) -> Form<'_>
 fn packing<'w>(tuning: Option<Tuning>) -> Form<'w>
     requires { IfSome tuning TuningInRange }
     ensures form { asked result ≡ packing tuning }
-    ensures tuned { FormInRange (asked result) }
+    ensures ranged { FormInRange (asked result) }
 {
     match tuning {
         Some(tuning) => Form::Pack(tuning),
@@ -96,7 +116,7 @@ fn packing<'w>(tuning: Option<Tuning>) -> Form<'w>
 fn framing<'w>(base: &'w str, group: &'w str, calc: &'w str, least: Option<u32>) -> Form<'w>
     requires { IfSome least (λ n. (1 ≤ n) × (n ≤ most_least)) }
     ensures form { asked result ≡ framing base.now group.now calc.now least }
-    ensures tuned { FormInRange (asked result) }
+    ensures ranged { FormInRange (asked result) }
 {
     match least {
         Some(least) => Form::Frames {
@@ -106,6 +126,26 @@ fn framing<'w>(base: &'w str, group: &'w str, calc: &'w str, least: Option<u32>)
             least,
         },
         None => Form::Unknown,
+    }
+}
+
+// To run the drill of these numbers, where they are numbers, and its events not too many.
+fn drilling<'w>(number: Option<u64>, tags: Option<u32>, events: Option<u64>) -> Form<'w>
+    requires number { IfSome number (λ n. n < 2 ^ 31) }
+    requires tags { IfSome tags (λ n. (1 ≤ n) × (n ≤ most_tags)) }
+    requires events { IfSome events (λ n. n ≤ most_events) }
+    ensures form { asked result ≡ drilling number tags events }
+    ensures ranged { FormInRange (asked result) }
+{
+    match (number, tags, events) {
+        (Some(number), Some(tags), Some(events)) if u64::from(tags) * events <= MOST_EVENTS => {
+            Form::Drill {
+                number: number as u32,
+                tags,
+                events: events as u32,
+            }
+        }
+        _ => Form::Unknown,
     }
 }
 
@@ -119,7 +159,7 @@ fn tuning_of(
     comp_max: &[u8],
 ) -> Option<Tuning>
     ensures value { result ≡ tuning_of exc_dev.now exc_max.now comp_dev.now comp_min.now comp_max.now }
-    ensures tuned { IfSome result TuningInRange }
+    ensures ranged { IfSome result TuningInRange }
 {
     Some(Tuning {
         exc_dev: number_upto(MAX_DEV, exc_dev)?,

@@ -1,26 +1,26 @@
 // The top call.
-ghost use Rattle.std.specs.Prelude.{◌≡◌, ◌↔◌, ℕ, List, None, Some, map, string_bytes};
-ghost use Rattle.plant_more.specs.Words.{log_words};
-ghost use Rattle.plant_run.specs.CommandLine.{form_of, plan_words};
-ghost use Rattle.plant_run.specs.Run.{EndsIn, KeepsFor, MeansNothing, world};
-ghost use Rattle.drill_command.specs.declared.words.DrillWords.{DrillWords};
-ghost use Rattle.drill_command.specs.Words.{drill_words};
-ghost use Rattle.plant_run.specs.Sessions.{IsDrillSo, HoldsNone, IsHandedOn, IsLogHandedOn, IsRunSo};
+ghost use Rattle.std.specs.Prelude.{◌≡◌, ◌↔◌, ◌≢◌, IfErr, IfOk, None, map, string_bytes};
+ghost use Rattle.trend_num.specs.Ranges.{TuningInRange};
+ghost use Rattle.plant_files.specs.Printing.{IsPrintedSo, IsTold, PrintsSo};
+ghost use Rattle.plant_run.specs.CommandLine.{form_of};
+ghost use Rattle.plant_run.specs.Run.{IsNotPacked, IsPacked, MeansNothing, world};
+ghost use Rattle.plant_run.specs.Sessions.{ComesOf, IsHandedOn};
 
-use crate::command_line::plan_words;
-use crate::top_call::answer;
+use crate::command_line::{Form, form_of};
 use byte_io::{Files, Sink, Source};
-use command_text::finish;
 use commit_log::LogHistory;
 use disk_model::Store;
-use drill_command::{DrillWords, drill, drill_words};
-use plant_more::{LogOutcome, Planned, log, log_words};
+use pack_command::pack;
+use plant_files::{finish, printed, refuse};
+use plant_more::{LogOutcome, log, shifts};
 use plant_status::{Passes, Status};
-use run_command::{Ran, run_plan};
+use run_command::{Ran, drill, run_plan};
 use session_report::Session;
 use std::alloc::Global;
 use std::sync::Wait;
 use std::thread::Threads;
+use store_commands::{check, frames, trend};
+use trend_num::Tuning;
 
 /// How a run of the program ended.
 #[derive(Drop)]
@@ -31,12 +31,20 @@ pub struct Outcome {
     pub session: Option<Session>,
 }
 
-/// Does what the words of a command line ask for, and tells how it went. `run BASE PLAN` holds the session of a plan: its
-/// collectors feed the tags of the base, its readers ask, its refreshers bring the groups up to date; the report is printed
-/// once every device is given back. `log BASE PLAN` puts the rows of these collectors into one log of the whole plant
-/// instead. `drill NUMBER TAGS EVENTS` holds the session of a plant that is made up, in memory. All other commands hold
-/// none. Each refusal but that of a write prints its one line instead.
-#[tactic(auto, using(crate::proofs::Words::run_no_log, crate::proofs::Words::run_no_drill, crate::proofs::Words::log_no_drill))]
+/// Does what the words of a command line ask for, and tells how it went.
+///
+/// | words | what is done |
+/// |---|---|
+/// | `pack EXCDEV EXCMAX COMPDEV COMPMIN COMPMAX` | lines `TIME,VALUE` are read from `input` to its end, and the records that the archive of one tag keeps of them are printed, and the point that it holds |
+/// | `check BASE` | the tags of a base are opened, and a line of each is printed |
+/// | `trend BASE PLAN` | the tags are opened, and the queries of the plan's readers answered |
+/// | `run BASE PLAN` | the session of a plan: its collectors feed the tags of the base, its readers ask, its refreshers bring the groups up to date; the report is printed once every device is given back |
+/// | `log BASE PLAN` | the rows of the plan's collectors are put into one log of the whole plant |
+/// | `shifts BASE CALENDAR DAY DAYS` | the figures of the calendar's shifts on these days are told |
+/// | `frames BASE GROUP CALC LEAST` | when a calculation stayed true, as it was saved and as it is by now |
+/// | `drill NUMBER TAGS EVENTS` | the session of a plant that is made up, in memory |
+///
+/// Each refusal but that of a write prints its one line instead.
 pub fn run<R: Threads + Wait + Sync, I: Source, F: Files, O: Sink, S: Store, P: Passes>(
     rt: &R,
     alloc: Global,
@@ -47,74 +55,79 @@ pub fn run<R: Threads + Wait + Sync, I: Source, F: Files, O: Sink, S: Store, P: 
     store: &mut S,
     passes: &mut P,
 ) -> Outcome
-    // The run of a plan: its session, and what is printed of it.
-    ensures session { (base plan : List ℕ) → plan_words (map string_bytes words.now) ≡ Some (base, plan)
-        → IsRunSo S.Dev.trace S.Dev.ticks S.Dev.fault_count base plan
+    // What the words ask for has come of them.
+    ensures comes { ComesOf S.Dev.trace S.Dev.ticks S.Dev.fault_count (form_of (map string_bytes words.now))
         (world (I.meaning input.old) (O.meaning out.old) (F.told files.old) (F.fault_count files.old) (F.failed_name files.old)
         (S.device_at store.old) (S.fault_count store.old))
         (world (I.meaning input.new) (O.meaning out.new) (F.told files.new) (F.fault_count files.new) (F.failed_name files.new)
         (S.device_at store.new) (S.fault_count store.new)) (P.stops passes.old) (P.stops passes.new) result }
-
-    // The logging of a plan: its session, and what is printed of it.
-    ensures log { (base plan : List ℕ) → log_words (map string_bytes words.now) ≡ Some (base, plan)
-        → IsLogHandedOn S.Dev.trace S.Dev.ticks S.Dev.fault_count base plan
-        (world (I.meaning input.old) (O.meaning out.old) (F.told files.old) (F.fault_count files.old) (F.failed_name files.old)
-        (S.device_at store.old) (S.fault_count store.old))
-        (world (I.meaning input.new) (O.meaning out.new) (F.told files.new) (F.fault_count files.new) (F.failed_name files.new)
-        (S.device_at store.new) (S.fault_count store.new)) (P.stops passes.old) (P.stops passes.new) result }
-
-    // A drill: its session, and what is printed of it.
-    ensures drill { (wanted : DrillWords) → drill_words (map string_bytes words.now) ≡ Some wanted → IsDrillSo wanted
-        (world (I.meaning input.old) (O.meaning out.old) (F.told files.old) (F.fault_count files.old) (F.failed_name files.old)
-        (S.device_at store.old) (S.fault_count store.old))
-        (world (I.meaning input.new) (O.meaning out.new) (F.told files.new) (F.fault_count files.new) (F.failed_name files.new)
-        (S.device_at store.new) (S.fault_count store.new)) (P.stops passes.old) (P.stops passes.new) result }
-
-    // Any other words: what was read and printed in this status. Want of memory is the one refusal that has no cause here.
-    ensures ends { HoldsNone (map string_bytes words.now) → EndsIn (map string_bytes words.now)
-        (world (I.meaning input.old) (O.meaning out.old) (F.told files.old) (F.fault_count files.old) (F.failed_name files.old)
-        (S.device_at store.old) (S.fault_count store.old))
-        (world (I.meaning input.new) (O.meaning out.new) (F.told files.new) (F.fault_count files.new) (F.failed_name files.new)
-        (S.device_at store.new) (S.fault_count store.new)) result.status }
-    ensures alone { HoldsNone (map string_bytes words.now) → result.session ≡ None }
-
-    // What a crash at any moment leaves of the devices.
-    ensures devices { HoldsNone (map string_bytes words.now)
-        → KeepsFor (form_of (map string_bytes words.now)) (F.told files.old) (S.device_at store.old) (S.device_at store.new) }
     ensures files { F.told files.new ≡ F.told files.old }
 
     // Words that ask for nothing are refused as such, and nothing but the output changes then.
-    ensures bad_words { HoldsNone (map string_bytes words.now)
-        → (result.status ≡ Status.BadWords) ↔ MeansNothing (form_of (map string_bytes words.now)) }
+    ensures bad_words { (result.status ≡ Status.BadWords) ↔ MeansNothing (form_of (map string_bytes words.now)) }
     ensures untouched { result.status ≡ Status.BadWords → input.new ≡ input.old }
     ensures unread { result.status ≡ Status.BadWords → files.new ≡ files.old }
     ensures kept { result.status ≡ Status.BadWords → store.new ≡ store.old }
     ensures unstopped { result.status ≡ Status.BadWords → passes.new ≡ passes.old }
 {
-    if let Some(Planned { base, plan }) = plan_words(words) {
-        let Ran { answer, session } = run_plan(rt, alloc, files, store, passes, base, plan);
-        let status = finish(answer, out);
-        return Outcome { status, session };
-    }
-    if log_words(words).is_some() {
-        let LogOutcome { status, log } = log(rt, alloc, words, files, out, store, passes);
-        let session = session_of(alloc, log);
-        return Outcome { status, session };
-    }
-    if let Some(wanted) = drill_words(words) {
-        let DrillWords {
+    match form_of(words) {
+        Form::Pack(tuning) => alone(run_pack(alloc, tuning, input, out)),
+        Form::Check { base } => alone(finish(check(alloc, files, store, base), out)),
+        Form::Trend { base, plan } => alone(finish(trend(alloc, files, store, base, plan), out)),
+        Form::Run { base, plan } => {
+            reported(run_plan(rt, alloc, files, store, passes, base, plan), out)
+        }
+        Form::Log(words) => handed_on(alloc, log(rt, alloc, words, files, out, store, passes)),
+        Form::Shifts(words) => alone(shifts(alloc, words, files, out, store)),
+        Form::Frames {
+            base,
+            group,
+            calc,
+            least,
+        } => alone(finish(frames(alloc, files, store, base, group, calc, least), out)),
+        Form::Drill {
             number,
             tags,
             events,
-        } = wanted;
-        let Ran { answer, session } = drill(rt, alloc, passes, number, tags, events);
-        let status = finish(answer, out);
-        return Outcome { status, session };
+        } => reported(drill(rt, alloc, passes, number, tags, events), out),
+        Form::Unknown => alone(refuse(Status::BadWords, out)),
     }
-    let status = answer(alloc, words, input, files, out, store);
+}
+
+// A command that holds no session ended so.
+fn alone(status: Status) -> Outcome
+    ensures status { result.status ≡ status }
+    ensures alone { result.session ≡ None }
+{
     Outcome {
         status,
         session: None,
+    }
+}
+
+// Prints the report of a session, or the line of its refusal.
+fn reported<O: Sink>(ran: Ran, out: &mut O) -> Outcome
+    ensures text { IfOk ran.answer (λ text. IsPrintedSo (string_bytes text) (O.meaning out.old) (O.meaning out.new) result.status) }
+    ensures refused { IfErr ran.answer (λ why. (result.status ≡ why) × IsTold (O.meaning out.old) (O.meaning out.new) why) }
+    ensures known { IfErr ran.answer (λ why. why ≢ Status.BadWords) → result.status ≢ Status.BadWords }
+    ensures session { result.session ≡ ran.session }
+{
+    let Ran { answer, session } = ran;
+    Outcome {
+        status: finish(answer, out),
+        session,
+    }
+}
+
+// How `log` ended, with the log in a session.
+fn handed_on(alloc: Global, came: LogOutcome) -> Outcome
+    ensures status { result.status ≡ came.status }
+    ensures session { IsHandedOn came.log result.session }
+{
+    let LogOutcome { status, log } = came;
+    Outcome {
+        status,
+        session: session_of(alloc, log),
     }
 }
 
@@ -129,4 +142,17 @@ fn session_of(alloc: Global, log: Option<LogHistory>) -> Option<Session>
         workers: Vec::new(alloc),
         log: Some(log),
     })
+}
+
+// Packs the input, and prints what it keeps.
+fn run_pack<I: Source, O: Sink>(alloc: Global, tuning: Tuning, input: &mut I, out: &mut O) -> Status
+    requires { TuningInRange tuning }
+    ensures ends { PrintsSo (IsPacked tuning (I.meaning input.old) (I.meaning input.new))
+        (IsNotPacked tuning (I.meaning input.old) (I.meaning input.new)) (O.meaning out.old) (O.meaning out.new) result }
+    ensures known { result ≢ Status.BadWords }
+{
+    match pack(alloc, tuning, input) {
+        Ok(text) => printed(text.print(out)),
+        Err(status) => refuse(status, out),
+    }
 }

@@ -7,12 +7,12 @@ use Rattle.std.proofs.lemmas.List.Elements.{All-weaker}
 use Rattle.disk_model.specs.Traces.{Trace}
 use Rattle.tag_cell.specs.Told.{Told as Cell}
 use Rattle.group_book.specs.Told.{Told as Book, count_of}
-use Rattle.cell_store.specs.Closings.{AreGivenBack, CountsCells, HasRisen}
-use Rattle.cell_store.specs.Names.{texts}
-use Rattle.book_store.specs.Endings.{AreGivenBack as AreBooksBack, counts_after}
-use Rattle.book_store.specs.Groups.{Devices}
-use Rattle.book_store.specs.Steps.{AreOtherNamesSame}
-use Rattle.book_store.proofs.Returns.{counts_small}
+use Rattle.plant_store.specs.CellClosings.{AreGivenBack, CountsCells, HasRisen}
+use Rattle.plant_store.specs.CellNames.{texts}
+use Rattle.plant_store.specs.BookEndings.{AreGivenBack as AreBooksBack, counts_after}
+use Rattle.plant_store.specs.Groups.{Devices}
+use Rattle.plant_store.specs.BookSteps.{AreOtherNamesSame}
+use Rattle.plant_store.proofs.BookReturns.{counts_small}
 use Rattle.plant_store.specs.declared.shelf.Shelf.{Shelf}
 use Rattle.plant_store.specs.Closings.{AreDevicesBack, CountsClosed}
 use Rattle.plant_store.specs.Shelves.{IsShelf}

@@ -12,18 +12,18 @@ use Rattle.plant_status.specs.declared.status.Status.{Status}
 use Rattle.plant_status.specs.declared.unit.Unit.TheVariants.{Tag, Group}
 use Rattle.tag_base.specs.declared.definition.Base.{Base}
 use Rattle.tag_cell.specs.Told.{Told}
-use Rattle.tag_store.specs.Refusals as tags
-use Rattle.tag_store.specs.Tags as tag
-use Rattle.cell_store.specs.Closings.{AreGivenBack, CountsCells}
-use Rattle.cell_store.specs.Names.{names_of, texts}
-use Rattle.cell_store.specs.Openings.{AreCellsOpened, IsCellOpened, core_of}
-use Rattle.cell_store.proofs.Halts.{all_faultless}
-use Rattle.cell_store.proofs.Labels.{none_named}
-use Rattle.cell_store.proofs.Lists.{zip_as, zip_both, zip_seen}
-use Rattle.book_store.specs.Groups as group
-use Rattle.book_store.specs.Groups.{Devices}
-use Rattle.book_store.specs.Refusals as groups
-use Rattle.book_store.proofs.Devices.{refusal_before, same_before}
+use Rattle.plant_store.specs.TagRefusals as tags
+use Rattle.plant_store.specs.Tags as tag
+use Rattle.plant_store.specs.CellClosings.{AreGivenBack, CountsCells}
+use Rattle.plant_store.specs.CellNames.{names_of, texts}
+use Rattle.plant_store.specs.CellOpenings.{AreCellsOpened, IsCellOpened, core_of}
+use Rattle.plant_store.proofs.CellHalts.{all_faultless}
+use Rattle.plant_store.proofs.CellLabels.{none_named}
+use Rattle.plant_store.proofs.CellLists.{zip_as, zip_both, zip_seen}
+use Rattle.plant_store.specs.Groups as group
+use Rattle.plant_store.specs.Groups.{Devices}
+use Rattle.plant_store.specs.BookRefusals as groups
+use Rattle.plant_store.proofs.BookDevices.{refusal_before, same_before}
 use Rattle.plant_store.specs.Openings.{AreRestSame, CountsPlant, IsPlantRefusal, OfGroups, records_in, records_of}
 use Rattle.plant_store.proofs.Labels.{groups_same}
 

@@ -7,12 +7,12 @@ use Rattle.std.proofs.lemmas.List.Elements.{All-map}
 use Rattle.trend_num.specs.declared.tag_def.TagDef.{TagDef}
 use Rattle.tag_base.specs.declared.definition.Base.{Base}
 use Rattle.tag_base.specs.declared.definition.GroupDef.{GroupDef}
-use Rattle.tag_store.specs.Tags as tag
-use Rattle.book_store.specs.Groups as group
-use Rattle.book_store.specs.Groups.{Devices, trace_at}
-use Rattle.cell_store.specs.Names.{AreApart, names_of, texts}
-use Rattle.cell_store.proofs.Labels.{as_many_names}
-use Rattle.book_store.proofs.Names.{as_many, names_differ}
+use Rattle.plant_store.specs.Tags as tag
+use Rattle.plant_store.specs.Groups as group
+use Rattle.plant_store.specs.Groups.{Devices, trace_at}
+use Rattle.plant_store.specs.CellNames.{AreApart, names_of, texts}
+use Rattle.plant_store.proofs.CellLabels.{as_many_names}
+use Rattle.plant_store.proofs.BookNames.{as_many, names_differ}
 use Rattle.plant_store.specs.declared.shelf.Shelf.{Shelf}
 use Rattle.plant_store.specs.Shelves.{IsShelfFor}
 

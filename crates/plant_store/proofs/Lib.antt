@@ -1,3 +1,17 @@
 pub mod Labels
 pub mod Endings
 pub mod Backs
+pub mod TagDevices
+pub mod TagTurns
+pub mod TagEndings
+pub mod OpenedBases
+pub mod CellLists
+pub mod CellLabels
+pub mod CellBacks
+pub mod CellFronts
+pub mod CellHalts
+pub mod BookNames
+pub mod BookTurns
+pub mod BookCauses
+pub mod BookReturns
+pub mod BookDevices

@@ -4,10 +4,10 @@ use Rattle.std.specs.List.{AllZip}
 use Rattle.disk_model.specs.Traces.{Trace}
 use Rattle.tag_cell.specs.Told.{Told as Cell}
 use Rattle.group_book.specs.Told.{Told as Book, count_of}
-use Rattle.cell_store.specs.Closings.{HasRisen}
-use Rattle.cell_store.specs.Names.{texts}
-use Rattle.book_store.specs.Endings.{AreGivenBack}
-use Rattle.book_store.specs.Groups.{Devices}
+use Rattle.plant_store.specs.CellClosings.{HasRisen}
+use Rattle.plant_store.specs.CellNames.{texts}
+use Rattle.plant_store.specs.BookEndings.{AreGivenBack}
+use Rattle.plant_store.specs.Groups.{Devices}
 use Rattle.plant_store.specs.declared.shelf.Shelf.{Shelf}
 
 -- under the name of each tag is the device of its cell, under that of each group the device of its book, where it has one; and any

@@ -8,11 +8,11 @@ use Rattle.plant_status.specs.declared.status.Status.TheVariants.{DeviceFault}
 use Rattle.plant_status.specs.declared.unit.Unit.{Unit as Device}
 use Rattle.tag_base.specs.declared.definition.Base.{Base}
 use Rattle.tag_cell.specs.Told.{Told}
-use Rattle.tag_store.specs.Refusals as tags
-use Rattle.tag_store.specs.Tags as tag
-use Rattle.book_store.specs.Groups as group
-use Rattle.book_store.specs.Groups.{Devices}
-use Rattle.book_store.specs.Refusals as groups
+use Rattle.plant_store.specs.TagRefusals as tags
+use Rattle.plant_store.specs.Tags as tag
+use Rattle.plant_store.specs.Groups as group
+use Rattle.plant_store.specs.Groups.{Devices}
+use Rattle.plant_store.specs.BookRefusals as groups
 
 -- the records of each cell
 abbrev pub records_in : {D : Type 0} → List (Told D) → List (List Rec)

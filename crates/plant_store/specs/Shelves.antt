@@ -1,9 +1,9 @@
 -- What giving a plant's devices back needs.
 use Rattle.std.specs.Prelude.{◌≡◌, ◌≢◌, ◌≤◌, ℕ, Bool, List, [], length, All, AllPairs, string_bytes, vec_capacity}
 use Rattle.tag_base.specs.declared.definition.Base.{Base}
-use Rattle.cell_store.specs.Names.{AreApart, HasPlaces, names_of, texts}
-use Rattle.book_store.specs.Groups.{AreNamesOf}
-use Rattle.book_store.specs.Steps.{HavePlaces}
+use Rattle.plant_store.specs.CellNames.{AreApart, HasPlaces, names_of, texts}
+use Rattle.plant_store.specs.Groups.{AreNamesOf}
+use Rattle.plant_store.specs.BookSteps.{HavePlaces}
 use Rattle.plant_store.specs.declared.shelf.Shelf.{Shelf}
 
 -- no two names of devices are the same, of one kind or of two; and the lists of histories are empty, with room for one for each

@@ -1,15 +1,15 @@
 // A plant's devices are given back.
 ghost use Rattle.std.specs.Prelude.{◌≡◌, ◌^◌, ◌<◌, length, vec_len};
-ghost use Rattle.cell_store.specs.Closings.{AreHistoriesAt, AreHistoriesOf};
-ghost use Rattle.cell_store.specs.Names.{texts};
-ghost use Rattle.book_store.specs.Endings.{AreHistoriesOf as AreGroupHistoriesOf};
+ghost use Rattle.plant_store.specs.CellClosings.{AreHistoriesAt, AreHistoriesOf};
+ghost use Rattle.plant_store.specs.CellNames.{texts};
+ghost use Rattle.plant_store.specs.BookEndings.{AreHistoriesOf as AreGroupHistoriesOf};
 ghost use Rattle.plant_store.specs.Closings.{AreDevicesBack, CountsClosed};
 ghost use Rattle.plant_store.specs.Shelves.{HasPlacesOf, IsShelf};
 
+use crate::book_closing::close_books;
+use crate::cell_closing::close_cells;
 use crate::opening::OpenPlant;
 use crate::shelf::Shelf;
-use book_store::close_books;
-use cell_store::close_cells;
 use disk_model::Store;
 use group_book::GroupHistory;
 use tag_cell::TagHistory;

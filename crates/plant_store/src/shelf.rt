@@ -1,9 +1,11 @@
 // What giving a plant's devices back needs.
 ghost use Rattle.std.specs.Prelude.{◌≡◌, ◌≤◌, [], IfOk, vec_capacity};
-ghost use Rattle.tag_store.specs.Tags.{AreDistinct};
-ghost use Rattle.book_store.specs.Groups.{AreDistinct as AreDistinctGroups};
+ghost use Rattle.plant_store.specs.Tags.{AreDistinct};
+ghost use Rattle.plant_store.specs.Groups.{AreDistinct as AreDistinctGroups};
 ghost use Rattle.plant_store.specs.Shelves.{IsShelfFor};
 
+use crate::cell_naming::tag_device_names;
+use crate::group_parts::group_device_names;
 use group_book::GroupHistory;
 use std::alloc::Global;
 use tag_base::Base;
@@ -26,8 +28,8 @@ pub fn shelf_for(alloc: Global, base: &Base) -> Result<Shelf, WantOfMemory>
     requires distinct_groups { AreDistinctGroups base.now.groups.items }
     ensures { IfOk result (IsShelfFor base.now) }
 {
-    let tag_names = cell_store::device_names(alloc, &base.tags)?;
-    let group_names = book_store::device_names(alloc, &base.groups)?;
+    let tag_names = tag_device_names(alloc, &base.tags)?;
+    let group_names = group_device_names(alloc, &base.groups)?;
     let tags = list_for(alloc, base.tags.len())?;
     let groups = list_for(alloc, base.groups.len())?;
     Ok(Shelf {

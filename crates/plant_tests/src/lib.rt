@@ -1,4 +1,4 @@
-//! Tests of whole runs of the program, over a source, files, a sink and devices in memory.
+//! Tests of whole runs of the program, over a source, files, a sink and devices in memory; of the log of a plant, and of its shifts.
 #![tactic(auto)]
 
 #[cfg(test)]
@@ -10,9 +10,19 @@ mod gates;
 #[cfg(test)]
 mod held;
 #[cfg(test)]
+mod log_device;
+#[cfg(test)]
+mod log_stops;
+#[cfg(test)]
 mod plants;
 #[cfg(test)]
 mod runs;
+#[cfg(test)]
+mod shift_calendars;
+#[cfg(test)]
+mod shift_windows;
+#[cfg(test)]
+mod shift_words;
 #[cfg(test)]
 mod stops;
 #[cfg(test)]

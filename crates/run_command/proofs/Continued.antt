@@ -7,13 +7,16 @@ use Rattle.tag_base.specs.declared.definition.GroupDef.{GroupDef}
 use Rattle.tag_base.specs.Groups.{IsSound}
 use Rattle.tag_cell.specs.Told.{Told as Cell}
 use Rattle.group_book.specs.Told.{Told as Book}
-use Rattle.plant_session.specs.declared.comparing.Kept.{Kept}
-use Rattle.group_session.specs.declared.comparing.KeptGroup.{KeptGroup}
-use Rattle.group_session.specs.Openings.{AreAsKept as AreGroupsAsKept, IsAsKept as IsGroupAsKept}
-use Rattle.group_session.specs.Inputs.{AreInputs, IsInputsOf}
-use Rattle.run_command.specs.Copies.{IsCopied, IsCopiedGroup}
+use Rattle.session_audit.specs.declared.cell_opening.Kept.{Kept}
+use Rattle.session_audit.specs.declared.book_opening.KeptGroup.{KeptGroup}
+use Rattle.session_audit.specs.Openings.{AreAsKept}
+use Rattle.session_audit.specs.BookOpenings.{IsBookAsKept}
+use Rattle.session_audit.specs.Inputs.{AreInputs, IsInputsOf}
+use Rattle.session_audit.specs.CellOpenings.{IsCellCopied}
+use Rattle.session_audit.specs.BookOpenings.{IsBookCopied}
 use Rattle.run_command.specs.Runs.{AreDefined, IsContinued, IsContinuedGroup}
-use Rattle.run_command.specs.Steps.{AreAsKept, AreInputsFor, IsAsKept}
+use Rattle.run_command.specs.Steps.{AreInputsFor}
+use Rattle.session_audit.specs.CellOpenings.{IsCellAsKept}
 use Rattle.plant_status.proofs.Elements.{element}
 use Rattle.run_command.proofs.Zipped.{zip_at, zip_each, zip_length, zip_on, zip_same}
 
@@ -25,23 +28,23 @@ as_many_known opened ended through known same copied many =
 
 module _ {D : Type 0} where
   -- cells that are as was kept of what was opened are continued
-  pub continued : (opened cells : List (Cell D)) (known : List Kept) → length known ≡ length cells → AllZip IsCopied opened known
-      → AreAsKept cells known → AllZip IsContinued opened cells
+  pub continued : (opened cells : List (Cell D)) (known : List Kept) → length known ≡ length cells → AllZip IsCellCopied opened known
+      → AreAsKept IsCellAsKept cells known → AllZip IsContinued opened cells
   continued opened cells known many copied kept =
-      zip_on IsCopied (λ k c. IsAsKept c k) IsContinued (λ o k c copy same. record {
+      zip_on IsCellCopied (λ k c. IsCellAsKept c k) IsContinued (λ o k c copy same. record {
         def = same.def ∙ copy.def;
         summary = same.summary ∙ copy.summary;
         records = same.records ∙ copy.records;
         moment = same.moment ∙ copy.moment;
         faults = same.faults ∙ copy.faults;
-      }) opened known cells copied (zip_each (λ k c. IsAsKept c k) known cells (sym many)
+      }) opened known cells copied (zip_each (λ k c. IsCellAsKept c k) known cells (sym many)
       (λ i k c below. kept.each i c k (subst (λ n. i < n) many below)))
 
   -- so are books
   pub groups_continued : (opened books : List (Book D)) (known : List KeptGroup) → length known ≡ length books
-      → AllZip IsCopiedGroup opened known → AreGroupsAsKept books known → AllZip IsContinuedGroup opened books
+      → AllZip IsBookCopied opened known → AreAsKept IsBookAsKept books known → AllZip IsContinuedGroup opened books
   groups_continued opened books known many copied kept =
-      zip_on IsCopiedGroup (λ k b. IsGroupAsKept b k) IsContinuedGroup (λ o k b copy same. record {
+      zip_on IsBookCopied (λ k b. IsBookAsKept b k) IsContinuedGroup (λ o k b copy same. record {
         group = same.defined.group ∙ copy.group;
         def = same.defined.def ∙ copy.def;
         text = same.defined.text ∙ copy.text;
@@ -49,7 +52,7 @@ module _ {D : Type 0} where
         rows = same.opened.rows ∙ copy.rows;
         moment = same.opened.moment ∙ copy.moment;
         faults = same.opened.faults ∙ copy.faults;
-      }) opened known books copied (zip_each (λ k b. IsGroupAsKept b k) known books (sym many)
+      }) opened known books copied (zip_each (λ k b. IsBookAsKept b k) known books (sym many)
       (λ i k b below. kept.each i b k (subst (λ n. i < n) many below)))
 
   -- what was opened is continued by itself
@@ -112,15 +115,15 @@ module _ {D : Type 0} where
 
   -- those of books are those of their copies
   pub inputs_copied : (many : ℕ) (inputs : List (List ℕ)) (books : List (Book D)) (known : List KeptGroup) → AreInputs many inputs books
-      → AllZip IsCopiedGroup books known → AreInputsFor many inputs known
+      → AllZip IsBookCopied books known → AreInputsFor many inputs known
   inputs_copied many inputs books known are copied = record {
-    as_many = are.as_many ∙ sym (zip_length IsCopiedGroup books known copied);
+    as_many = are.as_many ∙ sym (zip_length IsBookCopied books known copied);
     each = λ i k below.
-        let there : i < length books = omega (arith, below, zip_length IsCopiedGroup books known copied) in
+        let there : i < length books = omega (arith, below, zip_length IsBookCopied books known copied) in
         let b = element books i there in
         let it = are.each i b there in
         record {
-          same = it.same ∙ sym (ap (λ d. d.inputs) (zip_at IsCopiedGroup books known i b k copied below).def);
+          same = it.same ∙ sym (ap (λ d. d.inputs) (zip_at IsBookCopied books known i b k copied below).def);
           few = it.few;
           known = it.known;
         };

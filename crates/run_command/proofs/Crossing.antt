@@ -31,7 +31,7 @@ use Rattle.group_book.specs.contracts.history.GroupOpening as GroupOpening
 use Rattle.group_book.specs.contracts.turn.Turn as Turn
 use Rattle.group_book.specs.contracts.book.Book as Book
 use Rattle.group_book.specs.contracts.book.Book.TheInside as Inside
-use Rattle.run_command.specs.contracts.turns.Groups as Groups
+use Rattle.run_command.specs.contracts.groups.Groups as Groups
 
 box_keyless : (H : RattleType) (a : H.Denot) → ((vs : List Val) → Keyless (H.own_val a vs)) → (p : Ptr)
     → Keyless (lies_at H full_share p a)

@@ -8,25 +8,25 @@ use Rattle.plant_status.specs.declared.status.Status.{Status}
 use Rattle.plant_status.specs.declared.status.Status.TheVariants.{DeviceFault}
 use Rattle.plant_status.specs.declared.unit.Unit.{Unit as Device}
 use Rattle.plant_status.specs.declared.unit.Unit.TheVariants.{Tag, Group, Log}
-use Rattle.tape_audit.proofs.Walking.{at_place}
+use Rattle.session_audit.proofs.Walking.{at_place}
 use Rattle.group_book.specs.Told.{Told as Book}
 use Rattle.group_book.specs.declared.refusal.RefreshNo.TheVariants as refresh
 use Rattle.group_book.specs.declared.refusal.SaveNo.{SaveNo}
 use Rattle.group_book.specs.declared.refusal.SaveNo.TheVariants as save
 use Rattle.trend_num.specs.declared.archive.Rec.{Rec}
-use Rattle.group_session.specs.Refreshing.{durable_lists}
-use Rattle.group_session.specs.Refusals.{IsBookRefusal, IsSaveCause, OfRefresh, OfSave, save_status}
-use Rattle.cell_store.specs.Closings.{HasRisen}
-use Rattle.book_store.specs.Groups.{Devices}
+use Rattle.session_audit.specs.Refreshing.{durable_lists}
+use Rattle.session_audit.specs.BookRefusals.{IsBookRefusal, IsSaveCause, OfRefresh, OfSave, save_status}
+use Rattle.plant_store.specs.CellClosings.{HasRisen}
+use Rattle.plant_store.specs.Groups.{Devices}
 use Rattle.plant_store.specs.Closings.{CountsClosed}
 use Rattle.session_report.specs.declared.session.Session.{Session}
 use Rattle.tag_base.specs.declared.definition.Base.{Base}
-use Rattle.run_command.specs.declared.known.Given.{Given}
+use Rattle.run_command.specs.declared.work.Given.{Given}
 use Rattle.run_command.specs.Refusals.{IsMakingRefusal, IsRefused, OfAsk, OfCommit, OfFinding, OfGroup, OfMaking, OfMemory, OfPull, OfRefresh as OfRefreshing, OfRest, OfRowAsk, OfStop, OfTag, OfTake, OfTaking, OfTurns}
 use Rattle.run_command.specs.Runs.{IsOver, IsUndone, OfNone, OfSettling}
 use Rattle.run_command.specs.Headline.{IsFaultCounted}
 use Rattle.plant_status.proofs.Elements.{element}
-use Rattle.plant_session.specs.Refusals.{IsSo}
+use Rattle.session_audit.specs.CellRefusals.{IsSo}
 use Rattle.collector_pool.specs.declared.note.WorkerNote.{WorkerNote}
 
 -- what is counted once more is not zero

@@ -7,8 +7,8 @@ use Rattle.disk_model.specs.Traces.{Trace}
 use Rattle.group_book.specs.declared.history.GroupHistory.{GroupHistory}
 use Rattle.group_book.specs.Told.{IsHistory, Told as Book, count_of, trace_of}
 use Rattle.tag_base.specs.declared.definition.GroupDef.{GroupDef}
-use Rattle.book_store.specs.Endings.{AreGivenBack, AreHistoriesOf, trace_after}
-use Rattle.book_store.specs.Groups.{AreNamesOf, Devices, device_name, trace_at}
+use Rattle.plant_store.specs.BookEndings.{AreGivenBack, AreHistoriesOf, trace_after}
+use Rattle.plant_store.specs.Groups.{AreNamesOf, Devices, device_name, trace_at}
 use Rattle.plant_status.proofs.Elements.{element}
 use Rattle.run_command.specs.Runs.{AreGroupHistoriesAt}
 

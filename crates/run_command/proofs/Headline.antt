@@ -31,32 +31,32 @@ use Rattle.value_rows.specs.declared.asked.Query.{Query}
 use Rattle.value_rows.specs.declared.raw.RawRow.{RawRow}
 use Rattle.plant_status.specs.declared.status.Status.{Status}
 use Rattle.plant_files.specs.RowFiles.{ToldFiles}
-use Rattle.tape_audit.specs.declared.agenda.Item.{Item}
-use Rattle.tape_audit.specs.declared.kind.Shown.{Shown as ShownBy}
-use Rattle.tape_audit.specs.Agendas.{ask_item, phase_item, row_item, take_item}
-use Rattle.tape_audit.specs.Found.{shown_by}
-use Rattle.tape_audit.specs.Tapes.{ask_of, take_of}
-use Rattle.plant_session.specs.Workers.{AreTapesWhole, file_due}
-use Rattle.group_session.specs.Durable.{durable_in}
-use Rattle.group_session.specs.Pulls.{ArePulled}
-use Rattle.group_session.specs.Refreshing.{EndsInSave, durable_lists, durable_numbers}
-use Rattle.group_session.specs.Tapes.{pulled as pulls_of, reached, refreshes, row_ask_of}
-use Rattle.group_session.specs.Turns.{turns_for}
-use Rattle.group_session.proofs.Laws.{all_durable, counted, pulls_durable}
+use Rattle.session_audit.specs.declared.agenda.Item.{Item}
+use Rattle.session_audit.specs.declared.kind.Shown.{Shown as ShownBy}
+use Rattle.session_audit.specs.Agendas.{ask_item, phase_item, row_item, take_item}
+use Rattle.session_audit.specs.Found.{tape_shows}
+use Rattle.session_audit.specs.Tapes.{ask_of, take_of}
+use Rattle.session_audit.specs.Workers.{AreTapesWhole, file_due}
+use Rattle.session_audit.specs.Durable.{durable_in}
+use Rattle.session_audit.specs.Pulls.{ArePulled}
+use Rattle.session_audit.specs.Refreshing.{EndsInSave, durable_lists, durable_numbers}
+use Rattle.session_audit.specs.GroupTapes.{pulled as pulls_of, reached, refreshes, row_ask_of}
+use Rattle.session_audit.specs.GroupTurns.{turns_for}
+use Rattle.session_audit.proofs.DurableLaws.{all_durable, counted, pulls_durable}
 use Rattle.collector_pool.specs.declared.work.Refresh.{Refresh}
 use Rattle.tag_base.specs.declared.definition.Base.{Base}
 use Rattle.tag_base.specs.declared.definition.GroupDef.{GroupDef}
 use Rattle.tag_base.specs.declared.schedule.Refresher.{Refresher}
-use Rattle.tag_store.specs.Tags.{trace_of}
-use Rattle.cell_store.specs.Closings.{AreHistoriesAt, AreHistoriesOf, IsHistoryOf}
-use Rattle.cell_store.specs.Names.{names_of}
-use Rattle.cell_store.specs.Openings.{AreCellsOpened}
-use Rattle.book_store.specs.Groups.{AreBooksOpened, Devices, parts_of, text_of, trace_at}
+use Rattle.plant_store.specs.Tags.{trace_of}
+use Rattle.plant_store.specs.CellClosings.{AreHistoriesAt, AreHistoriesOf, IsHistoryOf}
+use Rattle.plant_store.specs.CellNames.{names_of}
+use Rattle.plant_store.specs.CellOpenings.{AreCellsOpened}
+use Rattle.plant_store.specs.Groups.{AreBooksOpened, Devices, parts_of, text_of, trace_at}
 use Rattle.plant_store.specs.Openings.{records_in}
-use Rattle.session_files.specs.Plans.{IsGoodBase}
+use Rattle.plant_files.specs.PlanRows.{IsGoodBase}
 use Rattle.session_report.specs.declared.session.Session.{Session}
 use Rattle.session_report.specs.Report.{report}
-use Rattle.run_command.specs.declared.known.Given.{Given}
+use Rattle.run_command.specs.declared.work.Given.{Given}
 use Rattle.run_command.specs.Headline.{AreGroupsSound, AreOpened, IsDoneSo, IsGroupOpened, IsMixed, IsPromised, IsRefreshed, IsTagOpened, IsTagSound, entries, records_of, turns, turns_in}
 use Rattle.run_command.specs.Refusals.{IsOfOpening}
 use Rattle.run_command.specs.Runs.{IsContinued, IsContinuedGroup, IsDone, IsHeld, IsOver, IsSession, IsWorkIn}
@@ -150,7 +150,7 @@ module _ {C T E A : Type 0} (tape_of : C → List E) (told_of : T → List E) (w
     each = λ unit worker t below.
         let there : unit < length cs = omega (arith, many, below) in
         let c = element cs unit there in
-        subst (λ l. shown_by work worker l ≡ file_due item_of files worker unit) (sym (same unit c t below)) (whole.each unit worker c there);
+        subst (λ l. tape_shows work worker l ≡ file_due item_of files worker unit) (sym (same unit c t below)) (whole.each unit worker c there);
   }
 
 -- the records of a cell whose history has all acknowledged are such as no crash takes away

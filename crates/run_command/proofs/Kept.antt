@@ -2,19 +2,21 @@
 use Rattle.std.proofs.Common.{◌≡◌, ◌∙◌, ◌<◌, List, All, ap, sym, subst, get_or}
 use Rattle.tag_cell.specs.declared.entry.Entry.{Entry}
 use Rattle.tag_cell.specs.Told.{Told as Cell, waits}
-use Rattle.plant_session.specs.Cells.{AreLonger}
+use Rattle.session_audit.specs.Cells.{AreLonger}
 use Rattle.group_book.specs.Told.{Told as Book}
-use Rattle.plant_session.specs.Each.{AreEach}
-use Rattle.group_session.specs.Books.{IsAskedMore, IsRefreshedMore}
-use Rattle.group_session.specs.Refreshing.{IsPulledMore}
-use Rattle.plant_session.proofs.Each.{each_trans}
-use Rattle.plant_session.specs.declared.comparing.Kept.{Kept}
+use Rattle.session_audit.specs.Each.{AreEach}
+use Rattle.session_audit.specs.Books.{IsAskedMore, IsRefreshedMore}
+use Rattle.session_audit.specs.Refreshing.{IsPulledMore}
+use Rattle.session_audit.proofs.Each.{each_trans}
+use Rattle.session_audit.specs.declared.cell_opening.Kept.{Kept}
 use Rattle.tag_cell.specs.declared.history.TagOpening.{TagOpening}
 use Rattle.group_book.specs.declared.history.GroupOpening.{GroupOpening}
-use Rattle.group_session.specs.declared.comparing.KeptGroup.{KeptGroup}
-use Rattle.group_session.specs.Openings.{IsSameOpening}
-use Rattle.group_session.specs.Openings.{AreAsKept as AreGroupsAsKept}
-use Rattle.run_command.specs.Steps.{AreAsKept, IsBookKept, IsCellKept}
+use Rattle.session_audit.specs.declared.book_opening.KeptGroup.{KeptGroup}
+use Rattle.session_audit.specs.BookOpenings.{IsSameOpening}
+use Rattle.session_audit.specs.Openings.{AreAsKept}
+use Rattle.session_audit.specs.BookOpenings.{IsBookAsKept}
+use Rattle.run_command.specs.Steps.{IsBookKept, IsCellKept}
+use Rattle.session_audit.specs.CellOpenings.{IsCellAsKept}
 
 -- what is related place by place is related so by what follows from it
 pub each_weaker : {C : Type 0} (R S : C → C → Type 0) → ((a b : C) → R a b → S a b) → (old new : List C) → AreEach R old new
@@ -76,8 +78,8 @@ module _ {D : Type 0} where
       ap waits (pulled.each i d).changed ∙ none i d (subst (λ n. i < n) pulled.as_many below)
 
   -- cells that keep their openings are as was kept of them
-  pub cells_as_kept : (old new : List (Cell D)) (known : List Kept) → AreEach IsCellKept old new → AreAsKept old known
-      → AreAsKept new known
+  pub cells_as_kept : (old new : List (Cell D)) (known : List Kept) → AreEach IsCellKept old new → AreAsKept IsCellAsKept old known
+      → AreAsKept IsCellAsKept new known
   cells_as_kept old new known each kept = record {
     each = λ tag c k below.
         let was = kept.each tag c k (subst (λ n. tag < n) each.as_many below) in
@@ -92,8 +94,8 @@ module _ {D : Type 0} where
   }
 
   -- and so are books
-  pub books_as_kept : (old new : List (Book D)) (known : List KeptGroup) → AreEach IsBookKept old new → AreGroupsAsKept old known
-      → AreGroupsAsKept new known
+  pub books_as_kept : (old new : List (Book D)) (known : List KeptGroup) → AreEach IsBookKept old new → AreAsKept IsBookAsKept old known
+      → AreAsKept IsBookAsKept new known
   books_as_kept old new known each kept = record {
     each = λ group b k below.
         let was = kept.each group b k (subst (λ n. group < n) each.as_many below) in

@@ -12,3 +12,12 @@ pub mod GroupDevices
 pub mod DeviceFaults
 pub mod Headline
 pub mod Understood
+pub mod DrillNew
+pub mod DrillPromises
+pub mod DrillUnderstood
+pub mod DrillUndone
+pub mod DrillUnopened
+pub mod DrillNaming
+pub mod DrillGrowing
+pub mod DrillSound
+pub mod DrillFormulas

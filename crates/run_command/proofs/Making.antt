@@ -4,21 +4,22 @@ use Rattle.std.specs.declared.alloc.Global.{Global}
 use Rattle.value_rows.specs.declared.asked.Query.{Query}
 use Rattle.value_rows.specs.declared.asked.Query.TheVariants.{Tag, Snap, Row}
 use Rattle.calc_refresh.specs.Lists.{lists_of}
-use Rattle.tape_audit.specs.declared.agenda.Item.{Item}
-use Rattle.tape_audit.specs.Found.{Reached}
-use Rattle.plant_session.specs.Workers.{AreOver}
+use Rattle.session_audit.specs.declared.agenda.Item.{Item}
+use Rattle.session_audit.specs.Found.{Reached}
+use Rattle.session_audit.specs.Workers.{AreOver}
 use Rattle.collector_pool.specs.Work.{IsQueryOf}
-use Rattle.plant_session.specs.Cells.{IsKnownAsk}
+use Rattle.session_audit.specs.Cells.{IsKnownAsk}
 use Rattle.group_book.specs.Told.{Told as Book}
-use Rattle.plant_session.specs.Each.{AreEach}
-use Rattle.group_session.specs.Books.{IsKnownRowAsk}
-use Rattle.group_session.specs.Inputs.{AreInputs}
-use Rattle.group_session.specs.declared.comparing.KeptGroup.{KeptGroup}
-use Rattle.group_session.specs.Openings.{AreAsKept}
+use Rattle.session_audit.specs.Each.{AreEach}
+use Rattle.session_audit.specs.Books.{IsKnownRowAsk}
+use Rattle.session_audit.specs.Inputs.{AreInputs}
+use Rattle.session_audit.specs.declared.book_opening.KeptGroup.{KeptGroup}
+use Rattle.session_audit.specs.Openings.{AreAsKept}
+use Rattle.session_audit.specs.BookOpenings.{IsBookAsKept}
 use Rattle.trend_num.specs.declared.archive.Rec.{Rec}
-use Rattle.group_session.specs.Refreshing.{AreRefreshed}
-use Rattle.group_session.specs.Tapes.{refreshes}
-use Rattle.run_command.specs.declared.known.Given.{Given}
+use Rattle.session_audit.specs.Refreshing.{AreBooksRefreshed}
+use Rattle.session_audit.specs.GroupTapes.{refreshes}
+use Rattle.run_command.specs.declared.work.Given.{Given}
 use Rattle.run_command.specs.Steps.{AreGivenFor, AreInputsFor, IsBookKept}
 
 -- a query of a tag or a group is one of a tag, if it asks a tag
@@ -62,7 +63,7 @@ module _ {D : Type 0} where
 
   -- those of groups whose openings were kept are those of their books
   pub inputs_of_kept : (many : ℕ) (inputs : List (List ℕ)) (known : List KeptGroup) (books : List (Book D))
-      → length known ≡ length books → AreInputsFor many inputs known → AreAsKept books known → AreInputs many inputs books
+      → length known ≡ length books → AreInputsFor many inputs known → AreAsKept IsBookAsKept books known → AreInputs many inputs books
   inputs_of_kept many inputs [] books same are kept = record {
     as_many = are.as_many ∙ same;
     each = λ group b below. absurd (omega (arith, below, same));
@@ -76,7 +77,7 @@ module _ {D : Type 0} where
 
   -- groups that have made their turns and one more have refreshes that have a number
   pub few_refreshes : (durables : List (List Rec)) (inputs : List (List ℕ)) (books : List (Book D)) (g : Given) (tags groups : ℕ)
-      → length books ≡ groups → AreGivenFor tags groups g → AreRefreshed durables inputs g.turns.items books
+      → length books ≡ groups → AreGivenFor tags groups g → AreBooksRefreshed durables inputs g.turns.items books
       → All (λ (b : Book D). length (refreshes b.tape) < 2 ^ 32) books
   few_refreshes durables inputs books g tags groups same given refreshed i b below =
       subst (λ n. n < 2 ^ 32) (sym (refreshed.each i b below).refreshed)

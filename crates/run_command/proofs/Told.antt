@@ -10,14 +10,14 @@ use Rattle.calc_refresh.specs.Lists.{lists_of}
 use Rattle.tag_cell.specs.Told.{Told as Cell}
 use Rattle.group_book.specs.Told.{Told as Book}
 use Rattle.collector_pool.specs.declared.note.WorkerNote.{WorkerNote}
-use Rattle.group_session.specs.Pulls.{ArePulled}
-use Rattle.book_store.specs.Groups.{Devices}
+use Rattle.session_audit.specs.Pulls.{ArePulled}
+use Rattle.plant_store.specs.Groups.{Devices}
 use Rattle.plant_store.specs.Closings.{CountsClosed}
 use Rattle.session_report.specs.declared.session.Session.{Session}
-use Rattle.run_command.specs.declared.known.Given.{Given}
-use Rattle.run_command.specs.declared.session.Ended.{Ended}
+use Rattle.run_command.specs.declared.work.Given.{Given}
+use Rattle.run_command.specs.declared.phase.EndedPhase.{EndedPhase}
 use Rattle.run_command.specs.Refusals.{IsOfOpening}
-use Rattle.run_command.specs.Runs.{IsContinued, IsContinuedGroup, IsDone, IsHeld, IsOpen, IsOver, IsTold, IsUndone, OfNone}
+use Rattle.run_command.specs.Runs.{IsContinued, IsContinuedGroup, IsDone, IsHeld, IsOpen, IsOver, IsReported, IsUndone, OfNone}
 use Rattle.run_command.specs.Steps.{IsMade}
 
 -- what follows of what is there
@@ -27,14 +27,14 @@ some_weaker (Some x) follows p = follows x p
 
 module _ (base : Base) (g : Given) (s : Session) where
   -- a refused opening is told as one
-  pub opening_told : (came : Result (Unit {0}) Status) (told : Result (String Global) Status) → IsTold base g s came told
+  pub opening_told : (came : Result (Unit {0}) Status) (told : Result (String Global) Status) → IsReported base g s came told
       → IsOfOpening came → IsOfOpening told
   opening_told (Ok x) told is of = absurd of
   opening_told (Err why) told is of = subst (λ (r : Result (String Global) Status). IsOfOpening r) (sym is.refused) of
 
   module _ {D : Type 0} (cells : List (Cell D)) (books : List (Book D)) where
     -- a text is told of a session that is done
-    pub done_told : (came : Result (Unit {0}) Status) (told : Result (String Global) Status) → IsTold base g s came told
+    pub done_told : (came : Result (Unit {0}) Status) (told : Result (String Global) Status) → IsReported base g s came told
         → OnOk came (IsMade g cells books) → OnOk came (ArePulled (lists_of g.inputs.items) cells books)
         → IfOk told (λ text. IsDone base g cells books s (string_bytes text))
     done_told (Ok x) (Ok text) is made pulled = record { made = made; pulled = pulled; same = is.text }
@@ -44,7 +44,7 @@ module _ (base : Base) (g : Given) (s : Session) where
 
     module _ (opened : List (Cell D)) (opened_books : List (Book D)) (notes : List WorkerNote) where
       -- and a cause of one that is not
-      pub undone_told : (came : Result (Unit {0}) Status) (told : Result (String Global) Status) → IsTold base g s came told
+      pub undone_told : (came : Result (Unit {0}) Status) (told : Result (String Global) Status) → IsReported base g s came told
           → IfErr came (IsUndone g opened opened_books cells books notes)
           → IfErr told (IsUndone g opened opened_books cells books notes)
       undone_told (Ok x) (Ok text) is undone = tt
@@ -63,14 +63,14 @@ counted_since faults cells books before opened now same counts few =
 
 -- what is told of a session that ended so, whose devices were opened and are given back
 abbrev pub held_told : {D : Type 0} (trace : D → Option Trace) (ticks faults : D → ℕ) (base : Base) (g : Given) (old new : Devices)
-    (before opening now : ℕ) (opened : List (Cell D)) (opened_books : List (Book D)) (e : Ended D) (told : Result (String Global) Status)
+    (before opening now : ℕ) (opened : List (Cell D)) (opened_books : List (Book D)) (e : EndedPhase D) (told : Result (String Global) Status)
     (s : Session) → IsOpen trace ticks faults base old opened opened_books
     → IsOver trace ticks faults base old new e.cells.items e.books.items s → (before < 2 ^ 64 → opening ≡ before)
     → (opening < 2 ^ 64 → CountsClosed faults e.cells.items e.books.items opening now)
     → ((IsOfOpening e.answer → ⊥) → AllZip IsContinued opened e.cells.items)
     → ((IsOfOpening e.answer → ⊥) → AllZip IsContinuedGroup opened_books e.books.items)
     → OnOk e.answer (IsMade g e.cells.items e.books.items)
-    → OnOk e.answer (ArePulled (lists_of g.inputs.items) e.cells.items e.books.items) → IsTold base g s e.answer told
+    → OnOk e.answer (ArePulled (lists_of g.inputs.items) e.cells.items e.books.items) → IsReported base g s e.answer told
     → IsHeld trace ticks faults base g old new before now told s
 held_told trace ticks faults base g old new before opening now opened opened_books e told s was over same counts tags groups made pulled is =
     record {

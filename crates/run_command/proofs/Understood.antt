@@ -13,14 +13,14 @@ use Rattle.group_book.specs.Told.{Told as Book}
 use Rattle.group_book.specs.declared.refusal.RefreshNo.TheVariants as refresh
 use Rattle.group_book.specs.declared.refusal.SaveNo.{SaveNo}
 use Rattle.group_book.specs.declared.refusal.SaveNo.TheVariants as save
-use Rattle.group_session.specs.Refusals.{IsBookRefusal, OfRefresh, OfSave, save_status}
+use Rattle.session_audit.specs.BookRefusals.{IsBookRefusal, OfRefresh, OfSave, save_status}
 use Rattle.collector_pool.specs.declared.note.WorkerNote.{WorkerNote}
-use Rattle.book_store.specs.Groups.{Devices}
-use Rattle.book_store.specs.Refusals.{OfDamage, OfFault, OfMemory, OfVersion, OfWindows}
+use Rattle.plant_store.specs.Groups.{Devices}
+use Rattle.plant_store.specs.BookRefusals.{OfDamage, OfFault, OfMemory, OfVersion, OfWindows}
 use Rattle.plant_store.specs.Openings.{IsPlantRefusal, OfGroups, OfTags}
-use Rattle.session_files.specs.Plans as plans
+use Rattle.plant_files.specs.PlanRows as plans
 use Rattle.session_report.specs.declared.session.Session.{Session}
-use Rattle.run_command.specs.declared.known.Given.{Given}
+use Rattle.run_command.specs.declared.work.Given.{Given}
 use Rattle.run_command.specs.Refusals.{IsRefused, OfAsk, OfCommit, OfFinding, OfGroup, OfMaking, OfMemory as OfWanting, OfPull, OfRefresh as OfRefreshing, OfRest, OfRowAsk, OfStop, OfTag, OfTake, OfTaking, OfTurns}
 use Rattle.run_command.specs.Runs as runs
 

@@ -7,9 +7,9 @@ use Rattle.plant_status.specs.declared.status.Status.{Status}
 use Rattle.plant_status.specs.declared.status.Status.TheVariants.{Done, BadWords, BadText, BadRow, ReadFault, WriteFault, DeviceFault, Damaged, OtherTag, Limit, Mismatch, Halted, WantOfMemory, OtherPlant, BadName}
 use Rattle.plant_files.specs.Reading.{faults_after, faults_told}
 use Rattle.tag_base.specs.declared.definition.Base.{Base}
-use Rattle.tag_store.specs.Refusals as tags
-use Rattle.book_store.specs.Groups.{Devices}
-use Rattle.book_store.specs.Refusals.{OfDamage, OfFault, OfMemory, OfVersion, OfWindows}
+use Rattle.plant_store.specs.TagRefusals as tags
+use Rattle.plant_store.specs.Groups.{Devices}
+use Rattle.plant_store.specs.BookRefusals.{OfDamage, OfFault, OfMemory, OfVersion, OfWindows}
 use Rattle.plant_store.specs.Openings.{OfGroups, OfTags}
 use Rattle.run_command.specs.Runs.{IsNoReadFault, IsUnopened, OfPlant, OfWant}
 

@@ -24,27 +24,27 @@ use Rattle.group_book.specs.declared.turn.Turn.{Turn}
 use Rattle.group_book.specs.Crashes.{IsSafe as IsGroupSafe}
 use Rattle.group_book.specs.Histories.{IsLegal as IsGroupLegal}
 use Rattle.group_book.specs.Openings.{StandsForGroup}
-use Rattle.book_store.specs.Groups.{Devices, parts_of, text_of, trace_at}
+use Rattle.plant_store.specs.Groups.{Devices, parts_of, text_of, trace_at}
 use Rattle.tag_base.specs.declared.definition.Base.{Base}
 use Rattle.tag_base.specs.declared.definition.GroupDef.{GroupDef}
 use Rattle.tag_base.specs.declared.schedule.Plan.{Plan}
 use Rattle.tag_base.specs.declared.schedule.Refresher.{Refresher}
-use Rattle.tag_store.specs.Tags.{trace_of}
+use Rattle.plant_store.specs.Tags.{trace_of}
 use Rattle.value_rows.specs.declared.asked.Query.{Query}
 use Rattle.value_rows.specs.declared.raw.RawRow.{RawRow}
 use Rattle.plant_status.specs.declared.status.Status.{Status}
 use Rattle.plant_status.specs.declared.status.Status.TheVariants.{DeviceFault}
 use Rattle.plant_status.specs.declared.unit.Unit.{Unit as Device}
-use Rattle.cell_store.specs.Closings.{HasRisen}
+use Rattle.plant_store.specs.CellClosings.{HasRisen}
 use Rattle.plant_files.specs.RowFiles.{ToldFiles}
-use Rattle.tape_audit.specs.declared.agenda.Item.{Item}
-use Rattle.tape_audit.specs.Agendas.{ask_item, row_item, take_item}
-use Rattle.tape_audit.specs.Tapes.{ask_of, take_of}
-use Rattle.plant_session.specs.Workers.{AreTapesWhole}
-use Rattle.group_session.specs.Refreshing.{EndsInSave}
-use Rattle.group_session.specs.Durable.{ArePullsDurable}
-use Rattle.group_session.specs.Tapes.{pulled, reached, refreshes, row_ask_of}
-use Rattle.session_files.specs.Plans.{IsPlanned}
+use Rattle.session_audit.specs.declared.agenda.Item.{Item}
+use Rattle.session_audit.specs.Agendas.{ask_item, row_item, take_item}
+use Rattle.session_audit.specs.Tapes.{ask_of, take_of}
+use Rattle.session_audit.specs.Workers.{AreTapesWhole}
+use Rattle.session_audit.specs.Refreshing.{EndsInSave}
+use Rattle.session_audit.specs.Durable.{ArePullsDurable}
+use Rattle.session_audit.specs.GroupTapes.{pulled, reached, refreshes, row_ask_of}
+use Rattle.plant_files.specs.PlanRows.{IsPlanned}
 use Rattle.session_report.specs.declared.session.Session.{Session}
 use Rattle.session_report.specs.Report.{report}
 use Rattle.run_command.specs.Refusals.{IsOfOpening}

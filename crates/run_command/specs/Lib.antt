@@ -1,4 +1,3 @@
-pub mod Copies
 pub mod Endings
 pub mod Refusals
 pub mod Rooms
@@ -6,3 +5,7 @@ pub mod Headline
 pub mod Runs
 pub mod Sessions
 pub mod Steps
+pub mod Drills
+pub mod DrillPhases
+pub mod DrillPlant
+pub mod DrillRows

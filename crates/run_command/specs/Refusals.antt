@@ -5,27 +5,27 @@ use Rattle.trend_num.specs.declared.refusal.WantOfMemory.{WantOfMemory as NoMemo
 use Rattle.plant_status.specs.declared.status.Status.{Status}
 use Rattle.plant_status.specs.declared.mismatch.Place.TheVariants.{Opening}
 use Rattle.plant_status.specs.declared.status.Status.TheVariants.{Mismatch, WantOfMemory}
-use Rattle.tape_audit.specs.Agendas.{ask_item, phase_item, row_item}
-use Rattle.tape_audit.specs.Found.{Reached}
+use Rattle.session_audit.specs.Agendas.{ask_item, phase_item, row_item}
+use Rattle.session_audit.specs.Found.{Reached}
 use Rattle.calc_refresh.specs.Lists.{lists_of}
 use Rattle.tag_cell.specs.Told.{Told as Cell}
 use Rattle.collector_pool.specs.declared.note.WorkerNote.{WorkerNote}
-use Rattle.plant_session.specs.declared.comparing.Kept.{Kept}
-use Rattle.plant_session.specs.Finding.{IsAskMismatch, IsTakeMismatch}
-use Rattle.plant_session.specs.Refusals.{AreUnlike, IsCommitRefusal, IsTakeRefusal}
-use Rattle.plant_session.specs.Starting.{AreUnfound}
-use Rattle.plant_session.specs.Workers.{AreOver}
+use Rattle.session_audit.specs.declared.cell_opening.Kept.{Kept}
+use Rattle.session_audit.specs.Finding.{IsAskMismatch, IsRowAskMismatch, IsTakeMismatch}
+use Rattle.session_audit.specs.CellRefusals.{AreUnlike, IsCellRefusal, IsTakeRefusal}
+use Rattle.session_audit.specs.Starting.{AreUnfound}
+use Rattle.session_audit.specs.Workers.{AreOver}
 use Rattle.group_book.specs.Told.{Told as Book}
-use Rattle.group_session.specs.declared.comparing.KeptGroup.{KeptGroup}
-use Rattle.group_session.specs.Finding.{IsRowAskMismatch}
-use Rattle.group_session.specs.Openings.{IsGroupMismatch}
-use Rattle.group_session.specs.Pulls.{IsPullMismatch}
-use Rattle.group_session.specs.Refreshing.{durable_lists}
-use Rattle.group_session.specs.Refusals.{IsRefreshRefusal}
-use Rattle.group_session.specs.Turns.{IsTurnsMismatch}
-use Rattle.run_command.specs.declared.known.Given.{Given}
+use Rattle.session_audit.specs.declared.book_opening.KeptGroup.{KeptGroup}
+use Rattle.session_audit.specs.BookOpenings.{IsGroupMismatch}
+use Rattle.session_audit.specs.Pulls.{IsPullMismatch}
+use Rattle.session_audit.specs.Refreshing.{durable_lists}
+use Rattle.session_audit.specs.BookRefusals.{IsRefreshRefusal}
+use Rattle.session_audit.specs.GroupTurns.{IsTurnsMismatch}
+use Rattle.run_command.specs.declared.work.Given.{Given}
 use Rattle.run_command.specs.Endings.{IsStop}
-use Rattle.run_command.specs.Steps.{AreAsKept, IsTagMismatch}
+use Rattle.session_audit.specs.CellOpenings.{IsCellAsKept, IsTagMismatch}
+use Rattle.session_audit.specs.Openings.{AreAsKept}
 
 -- what tapes have is not what the workers have to do: a take is not its collector's next row there, a question is not its reader's
 -- next one there, or a group was refreshed more often than it has turns
@@ -41,7 +41,7 @@ pub data IsFindingRefusal {D : Type 0} (g : Given) (cells : List (Cell D)) (book
 -- what tapes lack is not done: a row is not taken, a commit or a refresh is refused, or no memory is found
 pub data IsMakingRefusal {D : Type 0} (g : Given) (cells : List (Cell D)) (books : List (Book D)) (s : Status) : Type 0 where
   OfTaking : IsTakeRefusal g.rooms.items cells s → AreUnlike s → IsMakingRefusal g cells books s
-  OfCommit : IsCommitRefusal cells s → IsMakingRefusal g cells books s
+  OfCommit : IsCellRefusal cells s → IsMakingRefusal g cells books s
   OfRefresh : IsRefreshRefusal (durable_lists cells) (lists_of g.inputs.items) books s → IsMakingRefusal g cells books s
   OfMemory : s ≡ WantOfMemory → IsMakingRefusal g cells books s
 
@@ -73,5 +73,5 @@ notes_of (Err why) = []
 pub data IsSettlingRefusal {D : Type 0} (g : Given) (notes : List WorkerNote) (known : List Kept) (known_groups : List KeptGroup)
     (cells : List (Cell D)) (books : List (Book D)) (s : Status) : Type 0 where
   OfTag : IsTagMismatch cells known s → IsSettlingRefusal g notes known known_groups cells books s
-  OfGroup : AreAsKept cells known → IsGroupMismatch books known_groups s → IsSettlingRefusal g notes known known_groups cells books s
+  OfGroup : AreAsKept IsCellAsKept cells known → IsGroupMismatch books known_groups s → IsSettlingRefusal g notes known known_groups cells books s
   OfRest : IsRefused g notes cells books s → IsSettlingRefusal g notes known known_groups cells books s

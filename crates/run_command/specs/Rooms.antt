@@ -1,6 +1,6 @@
 -- Room for the cells and books of a session.
 use Rattle.std.specs.Prelude.{◌≡◌, ℕ, ◌≤◌, [], vec_capacity}
-use Rattle.run_command.specs.declared.workers.Room.{Room}
+use Rattle.run_command.specs.declared.phase.Room.{Room}
 
 -- each list is empty, and has room for so many cells or books
 pub record HasRoomFor {D : Type 0} (cells books : ℕ) (r : Room D) : Type 0 where

@@ -13,27 +13,28 @@ use Rattle.plant_status.specs.declared.status.Status.{Status}
 use Rattle.plant_status.specs.declared.file.FileId.{FileId}
 use Rattle.plant_status.specs.declared.status.Status.TheVariants.{ReadFault, WantOfMemory}
 use Rattle.plant_files.specs.RowFiles.{ToldFiles}
-use Rattle.session_files.specs.Plans.{IsGoodBase, IsPlanned, IsPlanningRefusal}
+use Rattle.plant_files.specs.PlanRows.{IsGoodBase, IsPlanned, IsPlanningRefusal}
 use Rattle.calc_refresh.specs.Lists.{lists_of}
 use Rattle.tag_cell.specs.Told.{Told as Cell}
 use Rattle.group_book.specs.declared.history.GroupHistory.{GroupHistory}
 use Rattle.group_book.specs.Told.{IsHistory as IsGroupHistory, Told as Book}
 use Rattle.collector_pool.specs.declared.note.WorkerNote.{WorkerNote}
-use Rattle.plant_session.specs.declared.comparing.Kept.{Kept}
-use Rattle.group_session.specs.declared.comparing.KeptGroup.{KeptGroup}
-use Rattle.group_session.specs.Pulls.{ArePulled}
-use Rattle.cell_store.specs.Openings.{AreCellsOpened}
-use Rattle.cell_store.specs.Closings.{AreHistoriesAt, AreHistoriesOf}
-use Rattle.cell_store.specs.Names.{names_of}
-use Rattle.tag_store.specs.Tags.{AllStaySame}
-use Rattle.book_store.specs.Groups.{AllStaySame as AllGroupsStaySame, AreBooksOpened, Devices, parts_of, trace_at}
-use Rattle.book_store.specs.Endings.{AreHistoriesOf as AreGroupHistoriesOf}
+use Rattle.session_audit.specs.declared.cell_opening.Kept.{Kept}
+use Rattle.session_audit.specs.declared.book_opening.KeptGroup.{KeptGroup}
+use Rattle.session_audit.specs.Pulls.{ArePulled}
+use Rattle.plant_store.specs.CellOpenings.{AreCellsOpened}
+use Rattle.plant_store.specs.CellClosings.{AreHistoriesAt, AreHistoriesOf}
+use Rattle.plant_store.specs.CellNames.{names_of}
+use Rattle.plant_store.specs.Tags.{AllStaySame}
+use Rattle.plant_store.specs.Groups.{AllStaySame as AllGroupsStaySame, AreBooksOpened, Devices, parts_of, trace_at}
+use Rattle.plant_store.specs.BookEndings.{AreHistoriesOf as AreGroupHistoriesOf}
 use Rattle.plant_store.specs.Closings.{CountsClosed}
 use Rattle.plant_store.specs.Openings.{AreRestSame, IsPlantRefusal, records_in}
 use Rattle.session_report.specs.declared.session.Session.{Session}
 use Rattle.session_report.specs.Report.{report}
-use Rattle.run_command.specs.declared.known.Given.{Given}
-use Rattle.run_command.specs.Copies.{AreCopied, AreCopiedGroups}
+use Rattle.run_command.specs.declared.work.Given.{Given}
+use Rattle.session_audit.specs.CellOpenings.{IsCellCopied}
+use Rattle.session_audit.specs.BookOpenings.{IsBookCopied}
 use Rattle.run_command.specs.Refusals.{IsOfOpening, IsSettlingRefusal}
 use Rattle.run_command.specs.Sessions.{AreNotes}
 use Rattle.run_command.specs.Steps.{AreGivenFor, IsMade, planned_turn, turn_of}
@@ -151,13 +152,13 @@ pub record IsDone {D : Type 0} (base : Base) (g : Given) (cells : List (Cell D))
 -- why a session is not done: what its workers left is refused beside copies of what was opened, or memory is wanting
 pub data IsUndone {D : Type 0} (g : Given) (opened : List (Cell D)) (opened_books : List (Book D)) (cells : List (Cell D))
     (books : List (Book D)) (notes : List WorkerNote) (why : Status) : Type 0 where
-  OfSettling : (known : List Kept) (known_groups : List KeptGroup) → AreCopied opened known → AreCopiedGroups opened_books known_groups
+  OfSettling : (known : List Kept) (known_groups : List KeptGroup) → AllZip IsCellCopied opened known → AllZip IsBookCopied opened_books known_groups
       → IsSettlingRefusal g notes known known_groups cells books why
       → IsUndone g opened opened_books cells books notes why
   OfNone : why ≡ WantOfMemory → IsUndone g opened opened_books cells books notes why
 
 -- what is answered of a session that came to this: its report, if it is done and there is memory for it; and else why there is none
-pub record IsTold (base : Base) (g : Given) (s : Session) (came : Result Unit Status) (told : Result (String Global) Status) : Type 0 where
+pub record IsReported (base : Base) (g : Given) (s : Session) (came : Result Unit Status) (told : Result (String Global) Status) : Type 0 where
   pub text : OnOk came (IfOk told (λ text. string_bytes text
       ≡ report base (length g.work.collectors.items) (lists_of g.work.readers.items) s))
   pub want : OnOk came (IfErr told (λ why. why ≡ WantOfMemory))

@@ -1,58 +1,24 @@
--- A session once its workers have ended: what its cells and books were opened as, and what they are once all is done.
-use Rattle.std.specs.Prelude.{◌≡◌, ℕ, ◌+◌, ◌^◌, ◌<◌, ◌≤◌, List, [], All, length, slice_get, slice_index, slice_index_or, Some}
-use Rattle.plant_status.specs.declared.unit.Unit.TheVariants.{Tag}
-use Rattle.plant_status.specs.declared.mismatch.Place.TheVariants.{Opening}
-use Rattle.plant_status.specs.declared.mismatch.Seen.{Seen}
-use Rattle.plant_status.specs.declared.status.Status.{Status}
-use Rattle.plant_status.specs.declared.status.Status.TheVariants.{Mismatch}
-use Rattle.tape_audit.specs.Agendas.{ask_item, phase_item, row_item}
-use Rattle.tape_audit.specs.Found.{Reached}
-use Rattle.tape_audit.specs.Tapes.{ask_of, take_of}
+-- A session once its workers have ended, and what its cells and books are once all is done.
+use Rattle.std.specs.Prelude.{◌≡◌, ℕ, ◌+◌, ◌^◌, ◌<◌, ◌≤◌, List, [], All, length, slice_index, slice_index_or}
+use Rattle.session_audit.specs.Agendas.{ask_item, phase_item, row_item}
+use Rattle.session_audit.specs.Found.{Reached}
+use Rattle.session_audit.specs.Tapes.{ask_of, take_of}
 use Rattle.tag_cell.specs.Told.{Told as Cell, waits}
-use Rattle.plant_session.specs.declared.comparing.Kept.{Kept}
-use Rattle.plant_session.specs.Cells.{AreAllFound, AreAllShown}
-use Rattle.plant_session.specs.Openings.{IsOpeningDifference}
-use Rattle.plant_session.specs.Refusals.{rows_of}
-use Rattle.plant_session.specs.Workers.{AreOver, AreTapesFound, AreTapesWhole}
+use Rattle.session_audit.specs.Cells.{AreAllFound, AreAllShown}
+use Rattle.session_audit.specs.CellRefusals.{tag_rows}
+use Rattle.session_audit.specs.Workers.{AreOver, AreTapesFound, AreTapesWhole}
 use Rattle.group_book.specs.Told.{Told as Book}
-use Rattle.group_session.specs.declared.comparing.KeptGroup.{KeptGroup}
-use Rattle.group_session.specs.Books.{tape_of}
-use Rattle.group_session.specs.Inputs.{AreInputs}
-use Rattle.group_session.specs.Refreshing.{AreRefreshed, durable_lists}
-use Rattle.group_session.specs.Tapes.{row_ask_of}
-use Rattle.group_session.specs.Turns.{IsWithinTurns, turns_for}
+use Rattle.session_audit.specs.declared.book_opening.KeptGroup.{KeptGroup}
+use Rattle.session_audit.specs.Books.{book_tape}
+use Rattle.session_audit.specs.Inputs.{AreInputs}
+use Rattle.session_audit.specs.Refreshing.{AreBooksRefreshed, durable_lists}
+use Rattle.session_audit.specs.GroupTapes.{row_ask_of}
+use Rattle.session_audit.specs.GroupTurns.{IsWithinTurns, turns_for}
 use Rattle.calc_refresh.specs.Lists.{lists_of}
 use Rattle.collector_pool.specs.declared.work.Refresh.{Refresh}
 use Rattle.collector_pool.specs.Work.{IsWorkOf}
 use Rattle.tag_base.specs.declared.schedule.Refresher.{Refresher}
-use Rattle.run_command.specs.declared.known.Given.{Given}
-
--- ---- openings
-
--- a cell is of the definition that was kept, and was opened so
-pub record IsAsKept {D : Type 0} (c : Cell D) (k : Kept) : Type 0 where
-  pub def : c.def ≡ k.def
-  pub summary : c.opening.summary ≡ k.opening.summary
-  pub records : c.opening.recs.items ≡ k.opening.recs.items
-  pub moment : c.opening.moment ≡ k.opening.moment
-  pub faults : c.opening.faults ≡ k.opening.faults
-
--- so is each
-pub record AreAsKept {D : Type 0} (cells : List (Cell D)) (known : List Kept) : Type 0 where
-  pub each : (tag : ℕ) (c : Cell D) (k : Kept) → tag < length cells
-      → IsAsKept (slice_index_or cells tag c) (slice_index_or known tag k)
-
--- the cell of this tag differs from what was kept of it
-pub record IsMismatchOf {D : Type 0} (cells : List (Cell D)) (known : List Kept) (tag : ℕ) (kept told : Seen) : Type 0 where
-  pub cell : Cell D
-  pub copy : Kept
-  pub there : slice_get cells tag ≡ Some cell
-  pub copy_there : slice_get known tag ≡ Some copy
-  pub differs : IsOpeningDifference cell.def cell.opening copy.def copy.opening kept told
-
-abbrev pub IsTagMismatch : {D : Type 0} → List (Cell D) → List Kept → Status → Type 0
-IsTagMismatch cells known (Mismatch (Opening (Tag tag)) kept told) = IsMismatchOf cells known tag kept told
-IsTagMismatch cells known other = ⊥
+use Rattle.run_command.specs.declared.work.Given.{Given}
 
 -- ---- what a session is held against
 
@@ -61,7 +27,7 @@ IsTagMismatch cells known other = ⊥
 pub record AreGivenFor (tags groups : ℕ) (g : Given) : Type 0 where
   pub work : IsWorkOf tags groups g.work
   pub rooms_are : length g.rooms.items ≡ tags
-  pub rooms : (tag : ℕ) → tag < tags → slice_index g.rooms.items tag ≡ rows_of tag (lists_of g.work.collectors.items)
+  pub rooms : (tag : ℕ) → tag < tags → slice_index g.rooms.items tag ≡ tag_rows tag (lists_of g.work.collectors.items)
   pub turns_are : length g.turns.items ≡ groups
   pub turns : (group : ℕ) → group < groups → slice_index g.turns.items group ≡ g.phases + turns_for group g.work.refreshers.items
   pub few_turns : (group : ℕ) → group < groups → slice_index g.turns.items group + 1 < 2 ^ 32
@@ -84,7 +50,7 @@ pub record AreFoundAll {D : Type 0} (g : Given) (cells : List (Cell D)) (books :
     : Type 0 where
   pub collectors : AreAllFound take_of cells takes
   pub readers : AreAllFound ask_of cells asks
-  pub row_readers : AreTapesFound tape_of row_ask_of books row_asks
+  pub row_readers : AreTapesFound book_tape row_ask_of books row_asks
   pub turns : IsWithinTurns g.turns.items books
 
 -- Each tape shows of each worker all its rows that are due there, and of no other worker any; all takes are acknowledged; each
@@ -92,9 +58,9 @@ pub record AreFoundAll {D : Type 0} (g : Given) (cells : List (Cell D)) (books :
 pub record IsMade {D : Type 0} (g : Given) (cells : List (Cell D)) (books : List (Book D)) : Type 0 where
   pub takes : AreAllShown take_of (phase_item g.work.earlier) (lists_of g.work.collectors.items) cells
   pub asks : AreAllShown ask_of ask_item (lists_of g.work.readers.items) cells
-  pub row_asks : AreTapesWhole tape_of row_ask_of row_item (lists_of g.work.readers.items) books
+  pub row_asks : AreTapesWhole book_tape row_ask_of row_item (lists_of g.work.readers.items) books
   pub none_waits : All (λ c. waits c ≡ 0) cells
-  pub refreshed : AreRefreshed (durable_lists cells) (lists_of g.inputs.items) g.turns.items books
+  pub refreshed : AreBooksRefreshed (durable_lists cells) (lists_of g.inputs.items) g.turns.items books
 
 -- a cell keeps its definition and its opening
 pub record IsCellKept {D : Type 0} (old new : Cell D) : Type 0 where

@@ -1,22 +1,54 @@
-// The command `run`: the plan of one file over the base of another.
-ghost use Rattle.std.specs.Prelude.{◌≡◌, ◌≢◌, ℕ, List, IfErr, IfSome, None, OnOk, map};
-ghost use Rattle.std.specs.Option.{IsSome};
+// The command `run`: the plan of one file over the base of another, as a session of one phase.
+ghost use Rattle.calc_refresh.specs.Lists.{lists_of};
 ghost use Rattle.plant_files.specs.Faults.{IsFaultOfPlanned};
+ghost use Rattle.plant_files.specs.PlanRows.{IsGoodBase, IsPlanned};
 ghost use Rattle.plant_files.specs.Reading.{faults_after};
 ghost use Rattle.plant_files.specs.RowFiles.{ToldFiles};
-ghost use Rattle.session_files.specs.Plans.{IsGoodBase, IsPlanned};
+ghost use Rattle.plant_store.specs.Groups.{Devices};
+ghost use Rattle.plant_store.specs.Openings.{AreRestSame};
+ghost use Rattle.plant_store.specs.Shelves.{HasPlacesOf, IsShelfFor};
 ghost use Rattle.run_command.specs.Headline.{IsPromised};
-ghost use Rattle.run_command.specs.Runs.{IsNoReadFault, IsSession, IsUnheld};
+ghost use Rattle.run_command.specs.Runs.{AreDefined, IsNoReadFault, IsOpen, IsRun, IsSession, IsUnheld, IsUnopened};
+ghost use Rattle.run_command.specs.Steps.{AreGivenFor};
+ghost use Rattle.snapshot_table.specs.Boards.{LooksAt};
+ghost use Rattle.std.specs.Arc.{arc_value};
+ghost use Rattle.std.specs.Option.{IsSome};
+ghost use Rattle.std.specs.Prelude.{All, Err, IfErr, IfSome, List, None, OnOk, length, map, vec_len, ℕ, ◌<◌, ◌^◌, ◌≡◌, ◌≢◌, ◌≤◌};
 
-use crate::given::given_of;
-use crate::plant::{Ran, run_given};
+use crate::close::close;
+use crate::opening::{OpenSession, open_session};
+use crate::phase::hold_phase;
+use crate::work::{Given, given_of};
 use byte_io::Files;
 use disk_model::Store;
+use plant_files::{SessionFiles, read_session};
 use plant_status::{Passes, Status};
-use session_files::{SessionFiles, read_session};
+use plant_store::OpenPlant;
+use session_report::Session;
 use std::alloc::Global;
 use std::sync::Wait;
 use std::thread::Threads;
+use tag_base::Base;
+
+/// What a run comes to: its report, or why there is none; and its session, if one was held.
+#[derive(Drop)]
+pub struct Ran {
+    pub answer: Result<String, Status>,
+    pub session: Option<Session>,
+}
+
+impl Ran {
+    /// A run without a session, and why it has none.
+    pub fn refused(why: Status) -> Ran
+        ensures answer { result.answer ≡ Err why }
+        ensures none { result.session ≡ None }
+    {
+        Ran {
+            answer: Err(why),
+            session: None,
+        }
+    }
+}
 
 /// Runs the plan in the file of the second name over the base in the file of the first: its collectors feed the tags, its
 /// readers ask, its refreshers bring the groups up to date, beside each other; what they left is made up, and reported. Every
@@ -53,7 +85,7 @@ pub fn run_plan<F: Files, S: Store, P: Passes, R: Threads + Wait + Sync>(
     }
 }
 
-// Runs what was read of the files of a session.
+// Makes the work of what was read of the files, and runs it.
 fn run_read<S: Store, P: Passes, R: Threads + Wait + Sync>(
     rt: &R,
     alloc: Global,
@@ -84,4 +116,74 @@ fn run_read<S: Store, P: Passes, R: Threads + Wait + Sync>(
         Ok(given) => run_given(rt, alloc, store, passes, &base, &given),
         Err(_) => Ran::refused(Status::WantOfMemory),
     }
+}
+
+// Opens the devices of a base, and holds the session of this work over them.
+fn run_given<S: Store, P: Passes, R: Threads + Wait + Sync>(
+    rt: &R,
+    alloc: Global,
+    store: &mut S,
+    passes: &mut P,
+    base: &Base,
+    given: &Given,
+) -> Ran
+    requires good { IsGoodBase base.now }
+    requires given { AreGivenFor (length base.now.tags.items) (length base.now.groups.items) given.now }
+    requires inputs { lists_of given.now.inputs.items ≡ map (λ d. d.inputs.items) base.now.groups.items }
+    ensures held { OnOk result.answer (IsSome result.session) }
+    ensures session { IfSome result.session (IsRun S.Dev.trace S.Dev.ticks S.Dev.fault_count base.now given.now
+        (S.device_at store.old) (S.device_at store.new) (S.fault_count store.old) (S.fault_count store.new) (P.stops passes.old)
+        (P.stops passes.new) result.answer) }
+    ensures unheld { result.session ≡ None → IfErr result.answer (IsUnopened base.now (S.device_at store.old)
+        (S.device_at store.new) (S.fault_count store.old) (S.fault_count store.new)) }
+    ensures other { result.session ≡ None → IfErr result.answer IsNoReadFault }
+{
+    let readers = given.work.readers.len() as u32;
+    match open_session(rt, alloc, store, base, &given.rooms, readers) {
+        Ok(opened) => {
+            let (answer, session) = hold_open(rt, alloc, store, passes, base, given, opened);
+            Ran {
+                answer,
+                session: Some(session),
+            }
+        }
+        Err(why) => Ran::refused(why),
+    }
+}
+
+// Holds the session of a plant that is open, and gives its devices back.
+fn hold_open<S: Store, P: Passes, R: Threads + Wait + Sync>(
+    rt: &R,
+    alloc: Global,
+    store: &mut S,
+    passes: &mut P,
+    base: &Base,
+    given: &Given,
+    opened: OpenSession<S::Dev>,
+) -> (Result<String, Status>, Session)
+    requires good { IsGoodBase base.now }
+    requires given { AreGivenFor (length base.now.tags.items) (length base.now.groups.items) given.now }
+    requires inputs { lists_of given.now.inputs.items ≡ map (λ d. d.inputs.items) base.now.groups.items }
+    requires shelf { IsShelfFor base.now opened.shelf }
+    requires places { HasPlacesOf opened.shelf (S.has_place store.old) }
+    requires cells { vec_len opened.plant.cells ≡ length base.now.tags.items }
+    requires books { vec_len opened.plant.books ≡ length base.now.groups.items }
+    requires defined { AreDefined base.now.groups.items opened.plant.books.items }
+    requires board { vec_len opened.plant.cells ≤ length (arc_value opened.board) }
+    requires lookers { vec_len opened.lookers ≡ vec_len given.now.work.readers }
+    requires looks { All (LooksAt (arc_value opened.board)) opened.lookers.items }
+    ensures { (old : Devices) (before : ℕ) → IsOpen S.Dev.trace S.Dev.ticks S.Dev.fault_count base.now old
+        opened.plant.cells.items opened.plant.books.items → AreRestSame base.now old (S.device_at store.old) → (before < 2 ^ 64 → S.fault_count store.old ≡ before)
+        → IsRun S.Dev.trace S.Dev.ticks S.Dev.fault_count base.now given.now old (S.device_at store.new)
+        before (S.fault_count store.new) (P.stops passes.old) (P.stops passes.new) result.0 result.1 }
+{
+    let OpenSession {
+        shelf,
+        board,
+        lookers,
+        plant,
+    } = opened;
+    let OpenPlant { cells, books } = plant;
+    let ended = hold_phase(rt, alloc, cells, books, &board, lookers, given, passes);
+    close(alloc, store, base, given, shelf, ended)
 }

@@ -1,5 +1,5 @@
 -- Books that are opened, refreshed once, and closed.
-use Rattle.std.proofs.Common.{◌≡◌, inl, inr, ℕ, ◌+◌, ◌<◌, ◌≤◌, List, [], ◌∷◌, All, length, map, get_or, set, string_bytes, Option, Result, Ok, Err, refl, sym, ap, subst, ◌∙◌, arith}
+use Rattle.std.proofs.Common.{◌≡◌, inl, inr, ℕ, ◌+◌, ◌<◌, ◌≤◌, List, [], ◌∷◌, All, length, map, get_or, set, string_bytes, Option, Result, Ok, Err, refl, sym, ap, ap₂, subst, ◌∙◌, arith}
 use Rattle.std.specs.Prelude.{IfErr, IfOk, OnOk, String}
 use Rattle.std.specs.Result.{result_and}
 use Rattle.std.specs.declared.alloc.Global.{Global}
@@ -13,7 +13,6 @@ use Rattle.calc_refresh.specs.Lists.{lists_of}
 use Rattle.calc_refresh.specs.Sheet.{grid_of}
 use Rattle.sheet_law.specs.Scratch.{IsScratch}
 use Rattle.tag_base.specs.declared.definition.GroupDef.{GroupDef}
-use Rattle.tag_base.specs.Groups.{IsSound}
 use Rattle.plant_status.specs.declared.status.Status.{Status}
 use Rattle.group_book.specs.declared.history.GroupHistory.{GroupHistory}
 use Rattle.group_book.specs.declared.history.GroupOpening.{GroupOpening}
@@ -22,33 +21,27 @@ use Rattle.group_book.specs.declared.refusal.RefreshNo.TheVariants.{Ahead, CellL
 use Rattle.group_book.specs.Histories.{IsRight}
 use Rattle.group_book.specs.Openings.{StaysSame}
 use Rattle.group_book.specs.Told.{Told, count_of, trace_of}
-use Rattle.group_session.specs.Inputs.{IsInputsOf}
-use Rattle.book_store.specs.Endings.{AreGivenBack, AreHistoriesOf, IsHistoryOf, trace_after}
-use Rattle.book_store.specs.Groups.{AllStaySame, AreBooksOpened, AreNamesOf, Devices, IsBookOpened, parts_of, records_of, text_of, trace_at}
-use Rattle.book_store.specs.Refusals.{CountsStore}
-use Rattle.book_store.proofs.Causes.{back_is, front_of}
-use Rattle.book_store.proofs.Names.{as_many, named_at}
-use Rattle.trend_command.specs.Replies.{Rows, rows_in}
+use Rattle.group_book.specs.InputLists.{lists_at}
+use Rattle.group_book.specs.Tapes.{cut}
+use Rattle.plant_store.specs.BookEndings.{AreGivenBack, AreHistoriesOf, IsHistoryOf, trace_after}
+use Rattle.plant_store.specs.Groups.{AllStaySame, AreBooksOpened, AreNamesOf, Devices, IsBookOpened, parts_of, records_of, text_of, trace_at}
+use Rattle.plant_store.specs.BookRefusals.{CountsStore}
+use Rattle.plant_store.proofs.BookCauses.{back_is, front_of}
+use Rattle.plant_store.proofs.BookNames.{as_many, named_at}
+use Rattle.store_commands.specs.Replies.{Rows, rows_in}
 use Rattle.store_commands.specs.GroupRows.{AreGroupsTold, IsGroupTold, IsRowsRefusal, IsTooMuchAt, OfCells, OfCopies, OfWant}
-use Rattle.store_commands.specs.Refreshing.{AreCutBooks, AreRefreshedOnce, HaveDevicesOf, IsOverIn, IsOverSome, IsRefreshedOnce, lists_at, refresh_status}
+use Rattle.store_commands.specs.Refreshing.{AreCutBooks, AreRefreshedOnce, HaveDevicesOf, IsOverIn, IsOverSome, IsRefreshedOnce, refresh_status}
 
 -- books that were opened have the first records of their tags
 pub cut_books : {D : Type 0} (trace : D → Option Trace) (ticks faults : D → ℕ) (groups : List GroupDef) (records : List (List Rec))
     (old : Devices) (books : List (Told D)) → length books ≡ length groups
-    → AreBooksOpened trace ticks faults groups records old books → AreCutBooks groups records books
-cut_books trace ticks faults groups records old books many opened i g b below =
-    let book = opened.each i g b (omega (arith, below, many)) in
-    (book.def, record { copies = book.copies; versions = book.versions })
+    → AreBooksOpened trace ticks faults groups records old books → AreCutBooks records books
+cut_books trace ticks faults [] records old books many opened i b below = absurd (omega (arith, below, many))
+cut_books trace ticks faults (g ∷ gs) records old books many opened i b below =
+    let book = opened.each i g b below in
+    record { copies = book.copies ∙ ap₂ cut book.versions (ap (lists_at records) (sym book.tags)) }
 
 -- ---- one refresh after the other
-
--- the inputs of a group are those of its book
-pub inputs_of : {D : Type 0} (tags : ℕ) (g : GroupDef) (b : Told D) → IsSound tags g → b.def ≡ parts_of g → IsInputsOf tags g.inputs.items b
-inputs_of tags g b sound def = record {
-  same = sym (ap (λ d. d.inputs) def);
-  few = sound.few_inputs;
-  known = sound.inputs_are_tags;
-}
 
 pub devices_refl : {D : Type 0} (books : List (Told D)) → HaveDevicesOf books books
 devices_refl books = record { as_many = refl; each = λ i b. refl }
@@ -67,42 +60,31 @@ devices_set first now at b d within same before = record {
 }
 
 -- the first books are refreshed, and the others are as they were
-pub record AreRefreshedTo {D : Type 0} (groups : List GroupDef) (records : List (List Rec)) (upto : ℕ) (old now : List (Told D))
-    : Type 0 where
+pub record AreRefreshedTo {D : Type 0} (records : List (List Rec)) (upto : ℕ) (old now : List (Told D)) : Type 0 where
   pub devices : HaveDevicesOf old now
-  pub done : (i : ℕ) (g : GroupDef) (b : Told D) → i < upto
-      → IsRefreshedOnce (lists_at records (get_or groups i g).inputs.items) (get_or old i b) (get_or now i b)
+  pub done : (i : ℕ) (b : Told D) → i < upto → IsRefreshedOnce records (get_or old i b) (get_or now i b)
   pub to_come : (i : ℕ) (b : Told D) → upto ≤ i → get_or now i b ≡ get_or old i b
 
-pub none_refreshed : {D : Type 0} (groups : List GroupDef) (records : List (List Rec)) (books : List (Told D))
-    → AreRefreshedTo groups records 0 books books
-none_refreshed groups records books = record {
+pub none_refreshed : {D : Type 0} (records : List (List Rec)) (books : List (Told D)) → AreRefreshedTo records 0 books books
+none_refreshed records books = record {
   devices = devices_refl books;
-  done = λ i g b below. absurd (omega (arith, below));
+  done = λ i b below. absurd (omega (arith, below));
   to_come = λ i b from. refl;
 }
 
--- a book that is refreshed has the device that it had
-pub same_device : {D : Type 0} (recovered : List (List Rec)) (old new : Told D) → IsRefreshedOnce recovered old new → new.dev ≡ old.dev
-same_device recovered old new is = ap (λ b. b.dev) is.changed
-
 -- one more
-pub one_refreshed : {D : Type 0} (groups : List GroupDef) (records : List (List Rec)) (at : ℕ) (old now : List (Told D)) (g : GroupDef)
-    (b d : Told D) → at < length now → at < length groups → g ≡ get_or groups at g → d ≡ get_or now at d
-    → IsRefreshedOnce (lists_at records g.inputs.items) d b → AreRefreshedTo groups records at old now
-    → AreRefreshedTo groups records (at + 1) old (set now at b)
-one_refreshed groups records at old now g b d within there is is_book one before = record {
-  devices = devices_set old now at b d within (same_device _ d b one ∙ ap (λ x. x.dev) is_book) before.devices;
-  done = λ i e f below. elim (cases_eq i at) [
-    | inl same ↦ subst (λ n. IsRefreshedOnce (lists_at records (get_or groups n e).inputs.items) (get_or old n f) (get_or (set now at b) n f))
-        (sym same)
-        (subst (λ x. IsRefreshedOnce (lists_at records (get_or groups at e).inputs.items) (get_or old at f) x)
-        (sym (get_or-set_same now at b f within))
-        (subst (λ x. IsRefreshedOnce (lists_at records (get_or groups at e).inputs.items) x b)
-        (is_book ∙ get_or_default now at d f within ∙ before.to_come at f (omega arith))
-        (subst (λ (x : GroupDef). IsRefreshedOnce (lists_at records x.inputs.items) d b) (is ∙ get_or_default groups at g e there) one)))
-    | inr differ ↦ subst (λ x. IsRefreshedOnce (lists_at records (get_or groups i e).inputs.items) (get_or old i f) x)
-        (sym (get_or-set_other now at i b f differ)) (before.done i e f (omega (arith, below, differ)))
+pub one_refreshed : {D : Type 0} (records : List (List Rec)) (at : ℕ) (old now : List (Told D)) (b d : Told D) → at < length now
+    → d ≡ get_or now at d → IsRefreshedOnce records d b → AreRefreshedTo records at old now
+    → AreRefreshedTo records (at + 1) old (set now at b)
+one_refreshed records at old now b d within is_book one before = record {
+  devices = devices_set old now at b d within (ap (λ b. b.dev) one.changed ∙ ap (λ x. x.dev) is_book) before.devices;
+  done = λ i f below. elim (cases_eq i at) [
+    | inl same ↦ subst (λ n. IsRefreshedOnce records (get_or old n f) (get_or (set now at b) n f)) (sym same)
+        (subst (λ x. IsRefreshedOnce records (get_or old at f) x) (sym (get_or-set_same now at b f within))
+        (subst (λ x. IsRefreshedOnce records x b)
+        (is_book ∙ get_or_default now at d f within ∙ before.to_come at f (omega arith)) one))
+    | inr differ ↦ subst (λ x. IsRefreshedOnce records (get_or old i f) x)
+        (sym (get_or-set_other now at i b f differ)) (before.done i f (omega (arith, below, differ)))
   ];
   to_come = λ i f from. get_or-set_other now at i b f (λ same. omega (arith, from, same)) ∙ before.to_come i f (omega (arith, from));
 }
@@ -111,27 +93,28 @@ one_refreshed groups records at old now g b d within there is is_book one before
 
 -- one group
 group_told : {D : Type 0} (trace : D → Option Trace) (ticks faults : D → ℕ) (i : ℕ) (g : GroupDef) (recovered : List (List Rec))
-    (o : Option Trace) (b c : Told D) (h : GroupHistory) → IsBookOpened trace ticks faults i g recovered o b → IsRefreshedOnce recovered b c
+    (o : Option Trace) (b c : Told D) (h : GroupHistory) → IsBookOpened trace ticks faults i g recovered o b → c.sheet.copies ≡ recovered
+    → c ≡ record b { tape = c.tape; sheet = c.sheet }
     → IsHistoryOf trace ticks faults c h → IsGroupTold g recovered o (lists_of h.rows.items)
-group_told trace ticks faults i g recovered o b c h book once told = record {
+group_told trace ticks faults i g recovered o b c h book copies changed told = record {
   opening = b.opening;
   opened = book.opening;
   scratch = subst (λ (d : GroupDefParts). IsRight d.calcs (grid_of d.start d.period) b.opening recovered
       → IsScratch d.calcs (grid_of d.start d.period) recovered (lists_of h.rows.items))
-      (told.def ∙ ap (λ x. x.def) once.changed ∙ book.def)
+      (told.def ∙ ap (λ x. x.def) changed ∙ book.def)
       (subst (λ (x : GroupOpening). IsRight h.def.calcs (grid_of h.def.start h.def.period) x recovered
       → IsScratch h.def.calcs (grid_of h.def.start h.def.period) recovered (lists_of h.rows.items))
-      (told.opening ∙ ap (λ x. x.opening) once.changed)
+      (told.opening ∙ ap (λ x. x.opening) changed)
       (subst (λ (l : List (List Rec)). IsRight h.def.calcs (grid_of h.def.start h.def.period) h.opening l
       → IsScratch h.def.calcs (grid_of h.def.start h.def.period) l (lists_of h.rows.items))
-      (told.copies ∙ once.copies) told.history.legal.scratch));
+      (told.copies ∙ copies) told.history.legal.scratch));
 }
 
 -- all groups
 pub all_told : {D : Type 0} (trace : D → Option Trace) (ticks faults : D → ℕ) (groups : List GroupDef) (records : List (List Rec))
     (old : Devices) (books closed : List (Told D)) (hs : List GroupHistory) → length books ≡ length groups
     → AreBooksOpened trace ticks faults groups records old books → HaveDevicesOf books closed
-    → AreRefreshedOnce groups records books closed → AreHistoriesOf trace ticks faults closed hs
+    → AreRefreshedOnce records books closed → AreHistoriesOf trace ticks faults closed hs
     → AreGroupsTold groups records old (rows_in hs)
 all_told {D} trace ticks faults groups records old books closed hs many opened devices once told = record {
   as_many = length-map hs rows_of ∙ told.as_many ∙ devices.as_many ∙ many;
@@ -146,10 +129,12 @@ all_told {D} trace ticks faults groups records old books closed hs many opened d
     by i g r below [] all is same = absurd (omega (arith, below, many, ap length is))
     by i g r below (b ∷ bs) [] is same = absurd (omega (arith, below, many, devices.as_many, told.as_many, ap length same))
     by i g r below (b ∷ bs) (h ∷ all) is same =
+        let book = opened.each i g b (omega (arith, below, many)) in
+        let one = once i b (omega (arith, below, many)) in
         subst (λ x. IsGroupTold (get_or groups i g) (records_of records (get_or groups i g)) (trace_at old (get_or groups i g)) x)
         (sym (get_or-map rows_of hs i h r (omega (arith, below, many, devices.as_many, told.as_many))))
         (group_told trace ticks faults i (get_or groups i g) (records_of records (get_or groups i g)) (trace_at old (get_or groups i g))
-        (get_or books i b) (get_or closed i b) (get_or hs i h) (opened.each i g b (omega (arith, below, many))) (once i g b below)
+        (get_or books i b) (get_or closed i b) (get_or hs i h) book (one.copies ∙ ap (lists_at records) book.tags) one.changed
         (told.each i b h (omega (arith, below, many, devices.as_many))))
 
 -- the device of each is back, and stays the same
@@ -200,22 +185,24 @@ err_and P Q (Err e) x s same follows p = subst (λ v. IfErr v Q) (sym same) (fol
 
 pub over_some : {D : Type 0} (trace : D → Option Trace) (ticks faults : D → ℕ) (groups : List GroupDef) (records : List (List Rec))
     (old : Devices) (books : List (Told D)) (before now : ℕ) (s : Status) → length books ≡ length groups
-    → AreBooksOpened trace ticks faults groups records old books → IsOverSome groups records s
+    → AreBooksOpened trace ticks faults groups records old books → IsOverSome records books s
     → IsRowsRefusal groups records old before now s
-over_some trace ticks faults [] records old books before now s many opened over = absurd (omega (arith, over.there))
-over_some {D} trace ticks faults (g ∷ gs) records old books before now s many opened over = by over.why (over.over g) over.told
+over_some trace ticks faults [] records old books before now s many opened over = absurd (omega (arith, over.there, many))
+over_some trace ticks faults (g ∷ gs) records old [] before now s many opened over = absurd (omega (arith, many))
+over_some {D} trace ticks faults (g ∷ gs) records old (b ∷ bs) before now s many opened over =
+    by over.why (subst (λ l. IsOverIn (lists_at records l) over.why) (opened.each over.i g b over.there).tags (over.over b)) over.told
   where
     much : (P : List (List Rec) → Type 0) → P (records_of records (get_or (g ∷ gs) over.i g)) → IsTooMuchAt (g ∷ gs) records old over.i P
     much P p = record {
       g = get_or (g ∷ gs) over.i g;
-      openings = map (λ b. b.opening) books;
-      there = over.there;
-      is_group = get_or_default (g ∷ gs) over.i (get_or (g ∷ gs) over.i g) g over.there;
-      opened = λ k d x below. front_of trace ticks faults (g ∷ gs) records old books opened k d x (omega (arith, below, many));
+      openings = map (λ b. b.opening) (b ∷ bs);
+      there = omega (arith, over.there, many);
+      is_group = get_or_default (g ∷ gs) over.i (get_or (g ∷ gs) over.i g) g (omega (arith, over.there, many));
+      opened = λ k d x below. front_of trace ticks faults (g ∷ gs) records old (b ∷ bs) opened k d x (omega (arith, below, many));
       over = p;
     }
 
-    by : (why : RefreshNo) → IsOverIn (lists_at records (get_or (g ∷ gs) over.i g).inputs.items) why
+    by : (why : RefreshNo) → IsOverIn (records_of records (get_or (g ∷ gs) over.i g)) why
         → s ≡ refresh_status why → IsRowsRefusal (g ∷ gs) records old before now s
     by (Ahead input version found) is told = absurd is
     by (CellLimit n) is told = OfCells over.i n told (much _ is)

@@ -1,29 +1,21 @@
 -- What the commands over stored archives need of a base and of its queries.
-use Rattle.std.proofs.Common.{◌≡◌, ℕ, ◌^◌, ◌<◌, ◌≤◌, List, [], All, length, map, refl, subst, arith, ap}
+use Rattle.std.proofs.Common.{◌≡◌, ℕ, List, [], All, length, map, refl, subst, arith, ap}
 use Rattle.std.proofs.lemmas.List.{get_or-map, length-map}
-use Rattle.std.proofs.lemmas.List.Sums.{get_or-le-sum_by}
 use Rattle.std.proofs.lemmas.List.Elements.{All-weaker}
-use Rattle.trend_num.specs.declared.tag_def.TagDef.{TagDef}
 use Rattle.trend_num.specs.declared.archive.Rec.{Rec}
-use Rattle.trend_num.specs.Limits.{most_stored}
-use Rattle.tag_core.specs.Core.{Core}
 use Rattle.tag_base.specs.declared.definition.Base.{Base}
 use Rattle.tag_base.specs.declared.definition.GroupDef.{GroupDef}
 use Rattle.value_rows.specs.declared.asked.Query.{Query}
 use Rattle.value_rows.specs.declared.asked.Query.TheVariants.{Tag, Snap, Row}
-use Rattle.plant_files.specs.Asked.{IsQueryOf, ToldFiles, AreReaderFiles}
+use Rattle.plant_files.specs.Asked.{IsQueryOfBase, ToldFiles, AreReaderFiles}
 use Rattle.value_rows.specs.declared.asked.GroupNames.{GroupNames}
 use Rattle.plant_status.specs.declared.status.Status.{Status}
-use Rattle.plant_status.specs.declared.status.Status.TheVariants.{Done, BadWords, BadText, BadRow, ReadFault, WriteFault, DeviceFault}
-use Rattle.plant_status.specs.declared.status.Status.TheVariants.{Damaged, OtherTag, Limit, Mismatch, Halted, WantOfMemory, OtherPlant, BadName}
 use Rattle.plant_files.specs.Reading.{faults_told}
 use Rattle.disk_model.specs.Traces.{Trace}
-use Rattle.tag_store.specs.Tags.{records_in}
-use Rattle.tag_store.specs.Refusals.{IsRefusal}
-use Rattle.book_store.specs.Refusals.{OfDamage, OfFault, OfMemory, OfVersion, OfWindows}
-use Rattle.trend_command.specs.Replies.{IsAsked}
+use Rattle.plant_store.specs.BookRefusals.{OfDamage, OfFault, OfMemory, OfVersion, OfWindows}
+use Rattle.store_commands.specs.Replies.{IsAsked}
 use Rattle.store_commands.specs.GroupRows.{IsRowsRefusal, OfCells, OfCopies, OfOpening, OfWant}
-use Rattle.std.proofs.Common.{Option, Result, Ok, Err, IfErr, ◌∷◌}
+use Rattle.std.proofs.Common.{Option, ◌∷◌}
 
 -- a fact of each image of a list is one of each element
 pub all_of_map : {X Y : Type 0} (f : X → Y) (P : Y → Type 0) (xs : List X) → All P (map f xs) → All (λ x. P (f x)) xs
@@ -31,38 +23,19 @@ all_of_map f P xs all k d below =
     subst P (get_or-map f xs k d (f d) below) (all k (f d) (omega (arith, below, length-map xs f)))
 
 -- a query of a base is asked of one of its tags or of one of its groups
-asked_one : (base : Base) (n m : ℕ) → n ≡ length base.tags.items → m ≡ length base.groups.items → (q : Query) → IsQueryOf base q
+asked_one : (base : Base) (n m : ℕ) → n ≡ length base.tags.items → m ≡ length base.groups.items → (q : Query) → IsQueryOfBase base q
     → IsAsked n m q
 asked_one base n m tags groups (Tag tag query) is = (omega (arith, is.0, tags), is.1)
 asked_one base n m tags groups (Snap tag) is = omega (arith, is, tags)
 asked_one base n m tags groups (Row group calc k) is = omega (arith, groups, is.0)
 
 pub asked_lists : (base : Base) (n m : ℕ) (lists : List (List Query)) → n ≡ length base.tags.items → m ≡ length base.groups.items
-    → All (All (IsQueryOf base)) lists → All (All (IsAsked n m)) lists
+    → All (All (IsQueryOfBase base)) lists → All (All (IsAsked n m)) lists
 asked_lists base n m lists tags groups all =
-    All-weaker (All (IsQueryOf base)) (All (IsAsked n m))
-    (λ qs each. All-weaker (IsQueryOf base) (IsAsked n m) (asked_one base n m tags groups) qs each) lists all
+    All-weaker (All (IsQueryOfBase base)) (All (IsAsked n m))
+    (λ qs each. All-weaker (IsQueryOfBase base) (IsAsked n m) (asked_one base n m tags groups) qs each) lists all
 
--- the refusal of a tag is no fault of a file
-pub no_file_fault : (tags : List TagDef) (old new : List ℕ → Option Trace) (before now : ℕ) (why : Status)
-    → IsRefusal tags old new before now why → (n : ℕ) → faults_told why n ≡ n
-no_file_fault tags old new before now Done is n = refl
-no_file_fault tags old new before now BadWords is n = refl
-no_file_fault tags old new before now (BadText file rule place at) is n = refl
-no_file_fault tags old new before now (BadRow file row reason) is n = refl
-no_file_fault tags old new before now (ReadFault file) is n = absurd is
-no_file_fault tags old new before now WriteFault is n = refl
-no_file_fault tags old new before now (DeviceFault unit) is n = refl
-no_file_fault tags old new before now (Damaged unit at byte) is n = refl
-no_file_fault tags old new before now (OtherTag tag found wanted) is n = refl
-no_file_fault tags old new before now (Limit what number) is n = refl
-no_file_fault tags old new before now (Mismatch place kept told) is n = refl
-no_file_fault tags old new before now (Halted worker) is n = refl
-no_file_fault tags old new before now WantOfMemory is n = refl
-no_file_fault tags old new before now (OtherPlant at) is n = refl
-no_file_fault tags old new before now (BadName word) is n = refl
-
--- nor is that of a group
+-- the refusal of a group is no fault of a file
 pub rows_no_fault : (groups : List GroupDef) (records : List (List Rec)) (old : List ℕ → Option Trace) (before now : ℕ) (why : Status)
     → IsRowsRefusal groups records old before now why → (n : ℕ) → faults_told why n ≡ n
 rows_no_fault groups records old before now why (OfOpening (OfFault i is at)) n = ap (λ s. faults_told s n) is
@@ -73,16 +46,6 @@ rows_no_fault groups records old before now why (OfOpening (OfMemory is)) n = ap
 rows_no_fault groups records old before now why (OfCells i number is at) n = ap (λ s. faults_told s n) is
 rows_no_fault groups records old before now why (OfCopies i number is at) n = ap (λ s. faults_told s n) is
 rows_no_fault groups records old before now why (OfWant is) n = ap (λ s. faults_told s n) is
-
--- each of these is one of fewer than all
-pub few_each : (cores : List Core) → records_in cores ≤ most_stored → All (λ core. length core.state.records < 2 ^ 32) cores
-few_each cores few k d below =
-    let one = get_or-le-sum_by (λ (core : Core). length core.state.records) cores k d below in omega (arith, few, one)
-
--- a fact of a refusal follows from another
-pub if_err : {T E : Type 0} (r : Result T E) (P Q : E → Type 0) → ((e : E) → P e → Q e) → IfErr r P → IfErr r Q
-if_err (Ok x) P Q follows p = tt
-if_err (Err e) P Q follows p = follows e p
 
 -- there is one list of queries for each file
 pub as_many_lists : (tags : List (List ℕ)) (groups : List GroupNames) (told : ToldFiles) (files : List (List ℕ))

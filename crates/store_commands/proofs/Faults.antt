@@ -1,23 +1,16 @@
 -- The refusal of a device is no read fault.
-use Rattle.std.proofs.Common.{ℕ, List, Option, subst}
+use Rattle.std.proofs.Common.{ℕ, List, Option}
 use Rattle.std.specs.Prelude.{◌≢◌}
 use Rattle.trend_num.specs.declared.archive.Rec.{Rec}
-use Rattle.trend_num.specs.declared.tag_def.TagDef.{TagDef}
 use Rattle.disk_model.specs.Traces.{Trace}
 use Rattle.tag_base.specs.declared.definition.GroupDef.{GroupDef}
 use Rattle.plant_status.specs.declared.file.FileId.{FileId}
 use Rattle.plant_status.specs.declared.status.Status.{Status}
 use Rattle.plant_status.specs.declared.status.Status.TheVariants.{ReadFault}
-use Rattle.tag_store.specs.Refusals.{IsRefusal}
-use Rattle.book_store.specs.Refusals.{OfDamage, OfFault, OfMemory, OfVersion, OfWindows}
+use Rattle.plant_store.specs.BookRefusals.{OfDamage, OfFault, OfMemory, OfVersion, OfWindows}
 use Rattle.store_commands.specs.GroupRows.{IsRowsRefusal, OfCells, OfCopies, OfOpening, OfWant}
 
--- the refusal of a tag is no read fault
-pub tag_is_no_fault : (tags : List TagDef) (old new : List ℕ → Option Trace) (before now : ℕ) (why : Status)
-    → IsRefusal tags old new before now why → (which : FileId) → why ≢ ReadFault which
-tag_is_no_fault tags old new before now why is which same = subst (IsRefusal tags old new before now) same is
-
--- nor is that of a group
+-- the refusal of a group is no read fault
 pub group_is_no_fault : (groups : List GroupDef) (records : List (List Rec)) (old : List ℕ → Option Trace) (before now : ℕ) (why : Status)
     → IsRowsRefusal groups records old before now why → (which : FileId) → why ≢ ReadFault which
 group_is_no_fault groups records old before now why (OfOpening (OfFault i is at)) which same = cc

@@ -1,5 +1,5 @@
 -- The devices of tags and of groups, which are opened one after the other.
-use Rattle.std.proofs.Common.{◌≡◌, ◌≢◌, inl, inr, ℕ, ◌+◌, ◌^◌, ◌<◌, List, [], ◌∷◌, ◌++◌, length, length-append, get_or, codes, Result, Ok, Err, refl, sym, ap, subst, ◌∙◌, arith}
+use Rattle.std.proofs.Common.{◌≡◌, ◌≢◌, inr, ℕ, ◌+◌, ◌^◌, ◌<◌, List, [], ◌∷◌, ◌++◌, length, length-append, get_or, codes, refl, sym, ap, subst, ◌∙◌, arith}
 use Rattle.std.proofs.lemmas.List.{get_or-append-add}
 use Rattle.trend_num.specs.declared.archive.Rec.{Rec}
 use Rattle.trend_num.specs.declared.tag_def.TagDef.{TagDef}
@@ -7,19 +7,17 @@ use Rattle.tag_core.specs.Core.{Core}
 use Rattle.disk_model.specs.Calls.{Rose}
 use Rattle.crash_recovery.specs.Opening.{StaysSame as TagStaysSame}
 use Rattle.plant_status.specs.declared.status.Status.{Status}
-use Rattle.plant_status.specs.declared.unit.Unit.TheVariants.{Tag}
 use Rattle.tag_base.specs.declared.definition.Base.{Base}
 use Rattle.tag_base.specs.declared.definition.GroupDef.{GroupDef}
 use Rattle.plant_files.specs.RowFiles.{ToldFiles}
 use Rattle.plant_files.specs.Texts.{IsBaseFile}
-use Rattle.tag_store.specs.Refusals as tags
-use Rattle.tag_store.specs.Tags as tag
-use Rattle.book_store.specs.Groups as group
-use Rattle.book_store.specs.Groups.{Devices, records_of, trace_at}
-use Rattle.book_store.specs.Refusals.{IsRefusal}
-use Rattle.book_store.proofs.Devices as book
-use Rattle.trend_command.specs.Replies.{Rows}
-use Rattle.store_commands.specs.Commands.{AreAllKept, AreRestSame, CountsDevices}
+use Rattle.plant_store.specs.Tags as tag
+use Rattle.plant_store.specs.Groups as group
+use Rattle.plant_store.specs.Groups.{Devices, records_of, trace_at}
+use Rattle.plant_store.specs.BookRefusals.{IsRefusal}
+use Rattle.plant_store.proofs.BookDevices as book
+use Rattle.store_commands.specs.Replies.{Rows}
+use Rattle.store_commands.specs.Commands.{AreAllKept, AreRestSame}
 use Rattle.store_commands.specs.GroupRows.{AreGroupsTold, IsGroupTold, IsRowsRefusal, IsTooMuchAt, OfCells, OfCopies, OfOpening, OfWant}
 
 -- no group's device is called as a tag's
@@ -117,10 +115,3 @@ all_kept name told base gs old mid new are read tags_stay first stay second =
           (subst (λ l. group.AllStaySame l mid new) are stay),
       rest_same base old mid new first others,
     )
-
--- ---- faults
-
-pub of_tags : {T : Type 0} (r : Result T Status) (before now : ℕ) → tags.CountsStore r before now → CountsDevices r before now
-of_tags (Ok x) before now same = same
-of_tags (Err why) before now (inl same) = inl same
-of_tags (Err why) before now (inr fault) = inr (Tag fault.0, fault.1, fault.2)

@@ -1,35 +1,21 @@
 -- What the commands over stored archives print, and why they print nothing.
-use Rattle.std.specs.Prelude.{◌≡◌, ◌≢◌, ◌⊎◌, ℕ, List, All, Option, Result, Ok, Err}
-use Rattle.disk_model.specs.Calls.{Rose}
-use Rattle.disk_model.specs.Traces.{Trace}
+use Rattle.std.specs.Prelude.{◌≡◌, ◌≢◌, ◌⊎◌, ℕ, List, All}
 use Rattle.tag_core.specs.Core.{Core}
 use Rattle.tag_base.specs.declared.definition.Base.{Base}
 use Rattle.tag_base.specs.declared.schedule.Plan.{Plan}
 use Rattle.value_rows.specs.declared.asked.Query.{Query}
 use Rattle.plant_status.specs.declared.status.Status.{Status}
-use Rattle.plant_status.specs.declared.status.Status.TheVariants.{DeviceFault, WantOfMemory}
-use Rattle.plant_status.specs.declared.unit.Unit.{Unit}
+use Rattle.plant_status.specs.declared.status.Status.TheVariants.{WantOfMemory}
 use Rattle.plant_files.specs.Texts.{IsBaseFile, IsBaseRefusal, IsPlanFile, IsPlanRefusal}
 use Rattle.plant_files.specs.Asked.{ToldFiles, AreQueries, IsQueriesRefusal}
-use Rattle.tag_store.specs.Tags.{AreOpened, AreLeft, AllStaySame, AreOthersSame, device_name}
-use Rattle.store_commands.specs.Lines.{check_text}
-use Rattle.tag_store.specs.Refusals.{IsRefusal}
-use Rattle.book_store.specs.Groups as group
-use Rattle.trend_command.specs.Replies.{Rows, trend_text}
+use Rattle.plant_store.specs.Tags.{AllStaySame, device_name}
+use Rattle.trend_report.specs.CheckLines.{check_text}
+use Rattle.plant_store.specs.TagRefusals.{IsRefusal}
+use Rattle.plant_store.specs.Groups as group
+use Rattle.plant_store.specs.Groups.{Devices}
+use Rattle.plant_store.specs.OpenedBases.{AreUntouched, IsOpenedBase}
+use Rattle.store_commands.specs.Replies.{Rows, trend_text}
 use Rattle.store_commands.specs.GroupRows.{AreGroupsTold, IsRowsRefusal, tag_records}
-
--- the traces of a store's devices by name
-abbrev pub Devices : Type 0
-Devices = List ℕ → Option Trace
-
--- no device has changed
-abbrev pub AreUntouched : Devices → Devices → Type 0
-AreUntouched old new = (n : List ℕ) → new n ≡ old n
-
--- the base was read of the file of this name, and its tags are opened as these cores
-pub record IsOpenedBase (name : List ℕ) (told : ToldFiles) (old : Devices) (base : Base) (cores : List Core) : Type 0 where
-  pub read : IsBaseFile (told name) base
-  pub opened : AreOpened base.tags.items old cores
 
 -- ---- check
 
@@ -45,16 +31,6 @@ abbrev pub IsCheckRefusal : List ℕ → ToldFiles → Devices → Devices → �
 IsCheckRefusal name told old new before now why = (IsBaseRefusal (told name) why × AreUntouched old new)
     ⊎ (((base : Base) × IsBaseFile (told name) base × IsRefusal base.tags.items old new before now why)
     ⊎ (why ≡ WantOfMemory))
-
--- ---- what a command that is done leaves
-
--- a base was read and opened, and a crash now leaves of each device what recovers its tag as it is opened; a device that was new
--- has a whole layout
-pub record IsDurable (name : List ℕ) (told : ToldFiles) (old new : Devices) : Type 0 where
-  pub base : Base
-  pub cores : List Core
-  pub opened : IsOpenedBase name told old base cores
-  pub left : AreLeft base.tags.items old new cores
 
 -- ---- trend
 
@@ -92,12 +68,6 @@ pub data IsTrendRefusal (name plan_name : List ℕ) (told : ToldFiles) (old new 
 
 -- ---- devices
 
--- no device has changed; or those of the base's tags alone have, and a crash at any moment since leaves of each an image that one
--- before might have left, or that recovers the same, or that as it is opened
-abbrev pub AreKept : List ℕ → ToldFiles → Devices → Devices → Type 0
-AreKept name told old new = AreUntouched old new
-    ⊎ ((base : Base) × IsBaseFile (told name) base × AllStaySame base.tags.items old new × AreOthersSame base.tags.items old new)
-
 -- each device but those of these tags and groups is as it was
 abbrev pub AreRestSame : Base → Devices → Devices → Type 0
 AreRestSame base old new = (n : List ℕ) → All (λ def. n ≢ device_name def.name) base.tags.items
@@ -109,10 +79,3 @@ abbrev pub AreAllKept : List ℕ → ToldFiles → Devices → Devices → Type 
 AreAllKept name told old new = AreUntouched old new
     ⊎ ((base : Base) × IsBaseFile (told name) base × AllStaySame base.tags.items old new
     × group.AllStaySame base.groups.items old new × AreRestSame base old new)
-
--- ---- faults of devices
-
--- one fault of the store is counted where a call of a device has failed, which is told then; and else none
-abbrev pub CountsDevices : {T : Type 0} → Result T Status → ℕ → ℕ → Type 0
-CountsDevices (Ok x) before now = now ≡ before
-CountsDevices (Err why) before now = (now ≡ before) ⊎ ((unit : Unit) × (why ≡ DeviceFault unit) × Rose before now)

@@ -13,9 +13,9 @@ use Rattle.group_book.specs.declared.history.GroupOpening.{GroupOpening}
 use Rattle.group_book.specs.Histories.{IsRight}
 use Rattle.plant_status.specs.declared.status.Status.{Status}
 use Rattle.plant_status.specs.declared.status.Status.TheVariants.{Limit, WantOfMemory}
-use Rattle.book_store.specs.Groups.{AreOpened, Devices, IsOpening, records_of, trace_at}
-use Rattle.book_store.specs.Refusals.{IsRefusal}
-use Rattle.trend_command.specs.Replies.{Rows}
+use Rattle.plant_store.specs.Groups.{AreOpened, Devices, IsOpening, records_of, trace_at}
+use Rattle.plant_store.specs.BookRefusals.{IsRefusal}
+use Rattle.store_commands.specs.Replies.{Rows}
 
 -- the records of each tag
 abbrev pub tag_records : List Core → List (List Rec)

@@ -1,47 +1,34 @@
 -- Books that are refreshed once from lists of records.
-use Rattle.std.specs.Prelude.{◌≡◌, ℕ, ◌<◌, ◌≤◌, List, [], length, map, slice_index, slice_index_or}
+use Rattle.std.specs.Prelude.{◌≡◌, ℕ, ◌<◌, List, length, slice_index_or}
 use Rattle.trend_num.specs.declared.archive.Rec.{Rec}
 use Rattle.trend_num.specs.declared.refusal.What.TheVariants.{Cells, Copies}
 use Rattle.calc_refresh.specs.Lists.{total_length}
 use Rattle.calc_refresh.specs.Refreshed.{most_cells, most_copies}
-use Rattle.tag_base.specs.declared.definition.GroupDef.{GroupDef}
 use Rattle.group_book.specs.declared.refusal.RefreshNo.{RefreshNo}
 use Rattle.group_book.specs.declared.refusal.RefreshNo.TheVariants.{Ahead, CellLimit, CopyLimit, WantOfMemory}
+use Rattle.group_book.specs.InputLists.{lists_at}
 use Rattle.group_book.specs.Tapes.{cut}
 use Rattle.group_book.specs.Told.{Told as Book, versions_of}
 use Rattle.plant_status.specs.declared.status.Status.{Status}
 use Rattle.plant_status.specs.declared.status.Status.TheVariants as status
-use Rattle.book_store.specs.Groups.{parts_of}
 
--- the lists of these tags
-abbrev pub lists_at : List (List Rec) → List ℕ → List (List Rec)
-lists_at records tags = map (λ tag. slice_index_or records tag []) tags
+-- a book has the first records of its tags, as many as its versions say
+pub record IsCutBook {D : Type 0} (records : List (List Rec)) (b : Book D) : Type 0 where
+  pub copies : b.sheet.copies ≡ cut (versions_of b) (lists_at records b.tags)
 
--- no copy has more records than its tag
-abbrev pub IsWithin : List (List Rec) → List ℕ → List (List Rec) → Type 0
-IsWithin records tags copies = (i : ℕ) → i < length tags
-    → length (slice_index_or copies i []) ≤ length (slice_index_or records (slice_index tags i) [])
+-- so has each
+abbrev pub AreCutBooks : {D : Type 0} → List (List Rec) → List (Book D) → Type 0
+AreCutBooks records books = (i : ℕ) (b : Book _) → i < length books → IsCutBook records (slice_index_or books i b)
 
--- a book has the first records of these lists, as many as its versions say
-pub record IsCutBook {D : Type 0} (recovered : List (List Rec)) (b : Book D) : Type 0 where
-  pub copies : b.sheet.copies ≡ cut b.opening.versions.items recovered
-  pub versions : b.opening.versions.items ≡ versions_of b
-
--- each book is made with the definition of its group, and has the first records of its tags
-abbrev pub AreCutBooks : {D : Type 0} → List GroupDef → List (List Rec) → List (Book D) → Type 0
-AreCutBooks groups records books = (i : ℕ) (g : GroupDef) (b : Book _) → i < length groups
-    → ((slice_index_or books i b).def ≡ parts_of (slice_index_or groups i g))
-    × IsCutBook (lists_at records (slice_index_or groups i g).inputs.items) (slice_index_or books i b)
-
--- a book has the whole of these lists, and nothing has changed but its sheet and its tape
-pub record IsRefreshedOnce {D : Type 0} (recovered : List (List Rec)) (old new : Book D) : Type 0 where
-  pub copies : new.sheet.copies ≡ recovered
+-- a book has all records of its tags, and nothing has changed but its sheet and its tape
+pub record IsRefreshedOnce {D : Type 0} (records : List (List Rec)) (old new : Book D) : Type 0 where
+  pub copies : new.sheet.copies ≡ lists_at records old.tags
   pub changed : new ≡ record old { tape = new.tape; sheet = new.sheet }
 
--- so has each, of the lists of its tags
-abbrev pub AreRefreshedOnce : {D : Type 0} → List GroupDef → List (List Rec) → List (Book D) → List (Book D) → Type 0
-AreRefreshedOnce groups records old new = (i : ℕ) (g : GroupDef) (b : Book _) → i < length groups
-    → IsRefreshedOnce (lists_at records (slice_index_or groups i g).inputs.items) (slice_index_or old i b) (slice_index_or new i b)
+-- so has each
+abbrev pub AreRefreshedOnce : {D : Type 0} → List (List Rec) → List (Book D) → List (Book D) → Type 0
+AreRefreshedOnce records old new = (i : ℕ) (b : Book _) → i < length old
+    → IsRefreshedOnce records (slice_index_or old i b) (slice_index_or new i b)
 
 -- each has the device that it had
 pub record HaveDevicesOf {D : Type 0} (old new : List (Book D)) : Type 0 where
@@ -62,10 +49,10 @@ refresh_status (CellLimit cells) = status.Limit Cells cells
 refresh_status (CopyLimit records) = status.Limit Copies records
 refresh_status WantOfMemory = status.WantOfMemory
 
--- a group is refused so
-pub record IsOverSome (groups : List GroupDef) (records : List (List Rec)) (s : Status) : Type 0 where
+-- a book is refused so
+pub record IsOverSome {D : Type 0} (records : List (List Rec)) (books : List (Book D)) (s : Status) : Type 0 where
   pub i : ℕ
   pub why : RefreshNo
-  pub there : i < length groups
-  pub over : (g : GroupDef) → IsOverIn (lists_at records (slice_index_or groups i g).inputs.items) why
+  pub there : i < length books
+  pub over : (b : Book D) → IsOverIn (lists_at records (slice_index_or books i b).tags) why
   pub told : s ≡ refresh_status why

@@ -1,22 +1,18 @@
 // The command `trend`.
-ghost use Rattle.std.specs.Prelude.{◌^◌, ◌<◌, ◌≤◌, ◌≡◌, length, map, string_bytes, All, IfOk, IfErr, OnOk};
-ghost use Rattle.trend_command.specs.Replies.{IsAsked, rows_in, trend_text};
+ghost use Rattle.std.specs.Prelude.{◌^◌, ◌<◌, ◌≡◌, string_bytes, IfOk, IfErr, OnOk};
 ghost use Rattle.plant_files.specs.Faults.{IsFaultOfPlanned};
 ghost use Rattle.plant_files.specs.Reading.{faults_after};
-ghost use Rattle.store_commands.specs.Commands.{AreAllKept, CountsDevices, IsDurable, IsTrend, IsTrendRefusal};
+ghost use Rattle.store_commands.specs.Commands.{AreAllKept, IsTrend, IsTrendRefusal};
+ghost use Rattle.plant_store.specs.OpenedBases.{CountsDevices, IsDurable};
 
 use crate::groups::histories_of;
-use crate::opened::open_base;
+use crate::trend_lines::trend_text;
 use byte_io::Files;
 use disk_model::Store;
-use group_book::GroupHistory;
-use plant_files::{ReaderQueries, base_of, plan_of, queries_of};
+use plant_files::{base_of, plan_of, queries_of};
 use plant_status::Status;
-use std::alloc::{AllocError, Global};
-use tag_core::TagCore;
-use trend_command::trend_text;
-use trend_num::WantOfMemory;
-use value_rows::Query;
+use plant_store::open_base;
+use std::alloc::Global;
 
 /// What `trend` prints: the answers to the queries of the readers of the plan in the file `plan_name`, over the base in the
 /// file `name`. The device of each tag and of each group is opened, and made where there is none. A group is answered after
@@ -45,34 +41,8 @@ pub fn trend<F: Files, S: Store>(
     let readers = queries_of(alloc, files, &plan, &base)?;
     let cores = open_base(alloc, store, &base)?;
     let groups = histories_of(alloc, store, &base.groups, &cores)?;
-    match replies(alloc, &cores, &groups, &readers) {
+    match trend_text(alloc, &cores, &groups, &readers) {
         Ok(text) => Ok(text),
         Err(_) => Err(Status::WantOfMemory),
     }
-}
-
-// The answers to the queries of these readers.
-fn replies(
-    alloc: Global,
-    cores: &[TagCore],
-    groups: &[GroupHistory],
-    readers: &[ReaderQueries],
-) -> Result<String, WantOfMemory>
-    requires asked { All (All (IsAsked (length cores.now) (length groups.now))) readers.now }
-    requires few { length readers.now < 2 ^ 32 }
-    ensures { IfOk result (λ text. string_bytes text ≡ trend_text cores.now (rows_in groups.now) readers.now) }
-{
-    let lists = lists_of(alloc, readers)?;
-    trend_text(alloc, cores, groups, &lists)
-}
-
-// The queries of each reader.
-fn lists_of(alloc: Global, readers: &[ReaderQueries]) -> Result<Vec<Vec<Query>>, AllocError>
-    ensures lists { IfOk result (λ lists. map (λ list. list.items) lists.items ≡ readers.now) }
-{
-    let mut lists = Vec::with_capacity(alloc, readers.len())?;
-    for reader in readers {
-        lists.push(reader.rows().to_vec(alloc)?)?;
-    }
-    Ok(lists)
 }

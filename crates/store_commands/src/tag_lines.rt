@@ -4,16 +4,17 @@ ghost use Rattle.byte_io.specs.Files.{IsFaultOf};
 ghost use Rattle.plant_status.specs.declared.file.FileId.{FileId};
 ghost use Rattle.plant_status.specs.declared.status.Status.TheVariants.{ReadFault};
 ghost use Rattle.plant_files.specs.Reading.{faults_after};
-ghost use Rattle.store_commands.specs.Commands.{AreKept, IsCheckRefusal, IsChecked, IsDurable};
-ghost use Rattle.tag_store.specs.Refusals.{CountsStore};
+ghost use Rattle.store_commands.specs.Commands.{IsCheckRefusal, IsChecked};
+ghost use Rattle.plant_store.specs.OpenedBases.{AreKept, IsDurable};
+ghost use Rattle.plant_store.specs.TagRefusals.{CountsStore};
 
-use crate::line::check_text;
-use crate::opened::open_base;
 use byte_io::Files;
 use disk_model::Store;
 use plant_files::base_of;
 use plant_status::Status;
+use plant_store::open_base;
 use std::alloc::Global;
+use trend_report::check_text;
 
 /// What `check` prints: a line for each tag of the base that the file of this name holds. The device of each tag is opened,
 /// and made where there is none.

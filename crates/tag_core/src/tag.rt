@@ -12,6 +12,7 @@ ghost use Rattle.trend_model.specs.Parts.{ArePartsOk};
 ghost use Rattle.trend_model.specs.State.{Stands, after, nothing_taken};
 ghost use Rattle.tag_core.specs.Compressed.{HangAt, lower_of, upper_of};
 ghost use Rattle.tag_core.specs.Core.{IsCore, comparisons};
+ghost use Rattle.tag_core.specs.OneEvent.{IsOneEvent};
 
 use crate::compressor::Compressor;
 use door_slopes::Doors;
@@ -166,19 +167,9 @@ impl TagCore {
         ensures after { OnOk result (self.new.state ≡ after self.old.step self.old.state (Raw p)) }
         ensures stands { (o : Origin) (h : List Event) → o.step ≡ self.old.step → Stands o h self.old.state
             → OnOk result (Stands o (Raw p ∷ h) self.new.state) }
-        ensures step { self.new.step ≡ self.old.step }
-        ensures counted { OnOk result (self.new.state.summary.taken ≡ self.old.state.summary.taken + 1) }
 
-        // It adds two records at most, in the memory that was there.
-        ensures grows { (more : List Rec) × (self.new.state.records ≡ self.old.state.records ++ more) }
-        ensures added { IfOk result (λ took. length self.new.state.records ≡ length self.old.state.records + took.added) }
-        ensures few { IfOk result (λ took. took.added ≤ 2) }
-        ensures room { self.new.spare + length self.new.state.records ≡ self.old.spare + length self.old.state.records }
-
-        // Refused, and unchanged, exactly where two more records would be too many.
-        ensures full { IsErr result ↔ (most_records < length self.old.state.records + 2) }
-        ensures full_records { IfErr result (λ full. full.records ≡ length self.old.state.records) }
-        ensures unchanged { OnErr result (self.new ≡ self.old) }
+        // It adds two records at most, in the memory that was there; or it is refused where these would be too many.
+        ensures one { IsOneEvent self.old self.new result }
         ensures uncounted { OnErr result (steps.new ≡ steps.old) }
 
         // Two values are sent in order at most, and each is compared with two doors, which it then may swing. A step tag
@@ -208,19 +199,9 @@ impl TagCore {
         ensures after { OnOk result (self.new.state ≡ after self.old.step self.old.state (Tune tuning)) }
         ensures stands { (o : Origin) (h : List Event) → o.step ≡ self.old.step → Stands o h self.old.state
             → OnOk result (Stands o (Tune tuning ∷ h) self.new.state) }
-        ensures step { self.new.step ≡ self.old.step }
-        ensures counted { OnOk result (self.new.state.summary.taken ≡ self.old.state.summary.taken + 1) }
 
-        // It adds two records at most, in the memory that was there.
-        ensures grows { (more : List Rec) × (self.new.state.records ≡ self.old.state.records ++ more) }
-        ensures added { IfOk result (λ took. length self.new.state.records ≡ length self.old.state.records + took.added) }
-        ensures few { IfOk result (λ took. took.added ≤ 2) }
-        ensures room { self.new.spare + length self.new.state.records ≡ self.old.spare + length self.old.state.records }
-
-        // Refused, and unchanged, exactly where two more records would be too many.
-        ensures full { IsErr result ↔ (most_records < length self.old.state.records + 2) }
-        ensures full_records { IfErr result (λ full. full.records ≡ length self.old.state.records) }
-        ensures unchanged { OnErr result (self.new ≡ self.old) }
+        // It adds two records at most, in the memory that was there; or it is refused where these would be too many.
+        ensures one { IsOneEvent self.old self.new result }
         ensures uncounted { OnErr result (steps.new ≡ steps.old) }
 
         // A pending value is compared as one that is sent in order; nothing else is compared.

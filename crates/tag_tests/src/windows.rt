@@ -9,7 +9,7 @@ use std::fmt::Write;
 use std::process::Abort;
 use std::test::Fail;
 use trend_num::{MAX_T, Measure};
-use weighted_total::{window, window_step};
+use weighted_total::{window, window_step, window_value};
 
 const MEASURES: [Measure; 8] = [
     Measure::Area,
@@ -41,18 +41,6 @@ line 0 299 => 1789 3 1 0 6 299 0 5
 stair 0 299 => 1784 3 1 0 6 299 0 5
 stair 3 250 => 1484 3 1 0 6 247 3 5";
 
-// A measure of a window, of a stair or of a line.
-fn measure(content: &Content, step: bool, m: Measure, from: u64, to: u64) -> Option<i128>
-    requires order { from < to }
-    requires reach { to ≤ last_time }
-{
-    if step {
-        window_step(content, None, m, from, to)
-    } else {
-        window(content, None, m, from, to)
-    }
-}
-
 // All measures of a window.
 fn measures(
     alloc: Global,
@@ -66,7 +54,7 @@ fn measures(
 {
     let mut told = String::new(alloc);
     for m in MEASURES {
-        match measure(content, step, m, from, to) {
+        match window_value(content, None, step, m, from, to) {
             Some(n) => write!(told, " {n}")?,
             None => told.push_str(" no")?,
         }

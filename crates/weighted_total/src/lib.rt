@@ -17,5 +17,5 @@ mod measure;
 mod reply;
 mod shape;
 
-pub use measure::{window, window_step};
+pub use measure::{window, window_step, window_value};
 pub use reply::answer;

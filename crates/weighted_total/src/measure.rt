@@ -14,46 +14,10 @@ use crate::shape::{Ends, ends_of};
 use late_insert::{Content, piece};
 use trend_num::{Measure, Point, round_half_up};
 
-/// A measure of the window of a line from one time to a later one: none exactly where the window starts
-/// before the first point, or ends after the last, or there is no point. The held point is not before a point
-/// of the content.
-pub fn window(
-    content: &Content,
-    held: Option<Point>,
-    measure: Measure,
-    from: u64,
-    to: u64,
-) -> Option<i128>
-    requires range { IfThere InRange held }
-    requires last { IfThere (IsNotBefore content.now.records) held }
-    requires order { from < to }
-    requires reach { to ≤ last_time }
-    ensures { result ≡ window_value false measure (points_closed_by held content.now.records) from to }
-{
-    value(content, held, false, measure, from, to)
-}
-
-/// A measure of the window of a step tag's stair from one time to a later one: none exactly where the window
-/// starts before the first point, or ends after the last, or there is no point. The held point is not before
-/// a point of the content.
-pub fn window_step(
-    content: &Content,
-    held: Option<Point>,
-    measure: Measure,
-    from: u64,
-    to: u64,
-) -> Option<i128>
-    requires range { IfThere InRange held }
-    requires last { IfThere (IsNotBefore content.now.records) held }
-    requires order { from < to }
-    requires reach { to ≤ last_time }
-    ensures { result ≡ window_value true measure (points_closed_by held content.now.records) from to }
-{
-    value(content, held, true, measure, from, to)
-}
-
-// A measure of the window of a line or a stair.
-pub(crate) fn value(
+/// A measure of a tag's window from one time to a later one, by the tag's line or, of a step tag, by its stair: none exactly
+/// where the window starts before the first point, or ends after the last, or there is no point. The held point is not
+/// before a point of the content.
+pub fn window_value(
     content: &Content,
     held: Option<Point>,
     step: bool,
@@ -69,6 +33,40 @@ pub(crate) fn value(
 {
     let ends = ends_of(content, held, step, from, to)?;
     Some(value_between(content, step, measure, from, to, ends))
+}
+
+/// [`window_value`] of a line.
+pub fn window(
+    content: &Content,
+    held: Option<Point>,
+    measure: Measure,
+    from: u64,
+    to: u64,
+) -> Option<i128>
+    requires range { IfThere InRange held }
+    requires last { IfThere (IsNotBefore content.now.records) held }
+    requires order { from < to }
+    requires reach { to ≤ last_time }
+    ensures { result ≡ window_value false measure (points_closed_by held content.now.records) from to }
+{
+    window_value(content, held, false, measure, from, to)
+}
+
+/// [`window_value`] of a step tag.
+pub fn window_step(
+    content: &Content,
+    held: Option<Point>,
+    measure: Measure,
+    from: u64,
+    to: u64,
+) -> Option<i128>
+    requires range { IfThere InRange held }
+    requires last { IfThere (IsNotBefore content.now.records) held }
+    requires order { from < to }
+    requires reach { to ≤ last_time }
+    ensures { result ≡ window_value true measure (points_closed_by held content.now.records) from to }
+{
+    window_value(content, held, true, measure, from, to)
 }
 
 // A measure of the points between the ends of a window, and of these.

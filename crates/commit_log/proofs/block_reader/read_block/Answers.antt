@@ -1,7 +1,7 @@
 use Rattle.std.proofs.Common.{◌≡◌, ◌+◌, ◌*◌, ◌≤◌, ◌∷◌, [], true, All, length, nat_eq, refl, ap, ◌∙◌, subst, arith, lit<}
 use Rattle.std.proofs.lemmas.Result.{err_from_is_err_and}
-use Rattle.layout_fields.specs.Fields.{BreaksFirst, Keeps, long_at}
-use Rattle.layout_fields.proofs.FieldLaws.{breaks_part, field_of, told_through}
+use Rattle.archive_file.specs.LayoutFields.{BreaksFirst, Keeps, long_at}
+use Rattle.archive_file.proofs.FieldLaws.{breaks_part, field_of, told_through}
 use Rattle.commit_log.proofs.BlockLaws.{at_first, at_gate, at_rows, block_added, first_fields}
 use Rattle.commit_log.proofs.block_reader.read_block.Goals as goal
 use Rattle.commit_log.proofs.block_reader.read_block.Goals.{After-check, After-read_rows}

@@ -6,7 +6,7 @@ use Rattle.disk_model.specs.Traces.{seen}
 use Rattle.commit_log.specs.declared.row.LogRow.{LogRow}
 use Rattle.commit_log.specs.Images.{LogsNothing, StandsFor}
 use Rattle.commit_log.specs.Openings.{IsCause, IsLeftOrSame, IsLeftOrStands, IsTooMany, StandsSame}
-use Rattle.layout_fields.proofs.ReadImages.{during_same, left_synced, shown_before}
+use Rattle.archive_file.proofs.ReadImages.{during_same, left_synced, shown_before}
 use Rattle.commit_log.proofs.Opened.{begun_same, begun_stands, found_many, found_new, found_stands}
 use Rattle.commit_log.proofs.Openings.{ok_rows, on_err, parts_cause, read_cause}
 use Rattle.commit_log.proofs.opening.open_parts.Given as given

@@ -1,7 +1,7 @@
 use Rattle.std.proofs.Common.{◌≡◌, ◌∷◌, [], All, OnOk, ap, ◌∙◌, ◌+◌, subst}
-use Rattle.layout_fields.specs.Fields.{Keeps}
+use Rattle.archive_file.specs.LayoutFields.{Keeps}
 use Rattle.commit_log.specs.Blocks.{row_fields}
-use Rattle.layout_fields.proofs.FieldLaws.{field_of}
+use Rattle.archive_file.proofs.FieldLaws.{field_of}
 use Rattle.commit_log.proofs.row_reader.check_row.Goals as goal
 
 pub returns-clause-kept : goal.returns-clause-kept

@@ -1,5 +1,5 @@
 use Rattle.std.proofs.Common.{All, subst, arith}
-use Rattle.layout_fields.specs.Fields.{Keeps}
+use Rattle.archive_file.specs.LayoutFields.{Keeps}
 use Rattle.commit_log.specs.Blocks.{row_fields}
 use Rattle.commit_log.proofs.RowLaws.{row_found, row_spelled}
 use Rattle.commit_log.proofs.row_reader.read_row.Goals as goal

@@ -1,6 +1,6 @@
 use Rattle.std.proofs.Common.{arith}
 use Rattle.std.proofs.lemmas.Result.{err_from_is_err_and}
-use Rattle.layout_fields.proofs.FieldLaws.{told_through}
+use Rattle.archive_file.proofs.FieldLaws.{told_through}
 use Rattle.commit_log.proofs.RowLaws.{adds_more, row_breaks, row_more}
 use Rattle.commit_log.proofs.row_reader.read_rows.Goals as goal
 

@@ -1,7 +1,7 @@
 use Rattle.std.proofs.Common.{◌≡◌, ◌+◌, ◌-◌, ◌*◌, ◌≤◌, length}
 use Rattle.commit_log.specs.Blocks.{rows_fields}
 use Rattle.commit_log.specs.Openings.{AddsRows}
-use Rattle.layout_fields.proofs.FieldLaws.{KeptUpTo}
+use Rattle.archive_file.proofs.FieldLaws.{KeptUpTo}
 use Rattle.commit_log.proofs.row_reader.read_rows.Given as goal
 
 abbrev pub invariant-loop : goal.invariant-loop

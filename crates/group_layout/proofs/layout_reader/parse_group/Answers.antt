@@ -1,7 +1,7 @@
 use Rattle.std.proofs.Common.{rules, ◌≡◌, subst}
 use Rattle.std.proofs.lemmas.Result.{err_from_is_err_and}
-use Rattle.layout_fields.specs.TextHeads.{IsOfText}
-use Rattle.layout_fields.proofs.FieldLaws.{told_through}
+use Rattle.archive_file.specs.TextHeads.{IsOfText}
+use Rattle.archive_file.proofs.FieldLaws.{told_through}
 use Rattle.group_layout.specs.Images.{letters}
 use Rattle.group_layout.specs.Images.IsGroupDamage.{BadRows}
 use Rattle.group_layout.proofs.layout_reader.parse_group.Goals as goal

@@ -1,6 +1,6 @@
 use Rattle.std.proofs.Common.{subst}
 use Rattle.group_layout.specs.Images.{IsGroupDamage}
-use Rattle.layout_fields.proofs.ReadImages.{shows_at}
+use Rattle.archive_file.proofs.ReadImages.{shows_at}
 use Rattle.group_layout.proofs.Openings.{found_shapes}
 use Rattle.group_layout.proofs.layout_reader.read_group.Goals as goal
 

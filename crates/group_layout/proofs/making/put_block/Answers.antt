@@ -7,7 +7,7 @@ use Rattle.disk_model.specs.Moments.{During}
 use Rattle.disk_model.specs.Traces.{seen, written}
 use Rattle.group_layout.proofs.BlockAdded.{block_ready}
 use Rattle.group_layout.proofs.Beginnings.{length-block_image, shut_guarded}
-use Rattle.layout_fields.proofs.ReadImages.{shut_reached}
+use Rattle.archive_file.proofs.ReadImages.{shut_reached}
 use Rattle.group_layout.proofs.making.put_block.Goals as goal
 
 pub returns-in_default-clause-any_moment : goal.returns-in_default-clause-any_moment

@@ -4,7 +4,7 @@ use Rattle.group_layout.specs.declared.block.Block.{Block}
 use Rattle.group_layout.specs.Blocks.{last_of, parts_of, unsaved}
 use Rattle.group_layout.specs.Rows.{AreRowsOf, lists_of}
 use Rattle.group_layout.proofs.Beginnings.{nothing_yet}
-use Rattle.layout_fields.proofs.FieldLaws.{told_through}
+use Rattle.archive_file.proofs.FieldLaws.{told_through}
 use Rattle.group_layout.proofs.Openings.{no_rows, none_shape}
 use Rattle.group_layout.proofs.opening.begin.Goals as goal
 

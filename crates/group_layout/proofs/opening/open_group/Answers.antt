@@ -5,8 +5,8 @@ use Rattle.disk_model.specs.Traces.{seen}
 use Rattle.group_layout.specs.Images.{IsGroupDamage, IsUnsaved, StandsFor}
 use Rattle.group_layout.specs.Readings.{IsLeftOrSame, SavesNothing, StandsSame}
 use Rattle.group_layout.specs.Rows.{lists_of}
-use Rattle.layout_fields.proofs.FieldLaws.{told_through}
-use Rattle.layout_fields.proofs.ReadImages.{during_same, left_synced, shown_before}
+use Rattle.archive_file.proofs.FieldLaws.{told_through}
+use Rattle.archive_file.proofs.ReadImages.{during_same, left_synced, shown_before}
 use Rattle.group_layout.proofs.Openings.{found_unsaved, left_begun, read_stands, unsaved_stands}
 use Rattle.group_layout.proofs.opening.open_group.Goals as goal
 

@@ -1,8 +1,8 @@
 use Rattle.std.proofs.Common.{◌+◌, ◌∷◌, [], inl, map, sym, ap, ◌∙◌, subst, arith}
 use Rattle.std.proofs.lemmas.Result.{err_from_is_err_and}
-use Rattle.layout_fields.specs.Fields.{BreaksFirst}
+use Rattle.archive_file.specs.LayoutFields.{BreaksFirst}
 use Rattle.group_layout.specs.Blocks.{HasBlocks, block_size, end_of, last_of, parts_of, unsaved}
-use Rattle.layout_fields.proofs.FieldLaws.{only_ends, told_through}
+use Rattle.archive_file.proofs.FieldLaws.{only_ends, told_through}
 use Rattle.group_layout.proofs.Walks.{end_of-push, parts-push, walk_breaks, walk_on}
 use Rattle.group_layout.proofs.reader.parse_blocks.Goals as goal
 

@@ -1,8 +1,8 @@
 use Rattle.std.proofs.Common.{◌≡◌, ◌+◌, ◌*◌, ◌≤◌, ◌∷◌, [], true, All, length, nat_eq, nat_le, refl, ap, ◌∙◌, subst, arith, lit<}
 use Rattle.std.proofs.lemmas.Result.{err_from_is_err_and}
-use Rattle.layout_fields.specs.Fields.{BreaksFirst, Keeps, short_at}
+use Rattle.archive_file.specs.LayoutFields.{BreaksFirst, Keeps, short_at}
 use Rattle.group_layout.specs.Blocks.{parts_of}
-use Rattle.layout_fields.proofs.FieldLaws.{breaks_part, field_of, told_through}
+use Rattle.archive_file.proofs.FieldLaws.{breaks_part, field_of, told_through}
 use Rattle.group_layout.proofs.BlockLaws.{at_number, at_versions, at_counts, at_rows, at_gate, block_follows, block_spelled}
 use Rattle.group_layout.proofs.reader.read_block.Goals as goal
 use Rattle.group_layout.proofs.reader.read_block.Goals.{After-check, After-read_versions, After-read_rows}

@@ -1,7 +1,7 @@
 use Rattle.std.proofs.Common.{◌≡◌, ℕ, ◌+◌, ◌*◌, ◌<◌, ◌≤◌, drop, get_or, length}
-use Rattle.layout_fields.specs.Fields.{Spells}
+use Rattle.archive_file.specs.LayoutFields.{Spells}
 use Rattle.group_layout.specs.Blocks.{version_fields, versions_image}
-use Rattle.layout_fields.proofs.FieldLaws.{KeptUpTo}
+use Rattle.archive_file.proofs.FieldLaws.{KeptUpTo}
 use Rattle.group_layout.proofs.reader.read_versions.Given as goal
 
 abbrev pub invariant-loop-least : goal.invariant-loop-least

@@ -1,5 +1,5 @@
 use Rattle.std.proofs.Common.{All, subst, arith}
-use Rattle.layout_fields.specs.Fields.{Keeps}
+use Rattle.archive_file.specs.LayoutFields.{Keeps}
 use Rattle.group_layout.specs.Blocks.{row_fields}
 use Rattle.group_layout.proofs.RowLaws.{row_found, row_ordered, row_spelled}
 use Rattle.group_layout.proofs.row_reader.read_row.Goals as goal

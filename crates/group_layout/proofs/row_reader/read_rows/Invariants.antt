@@ -1,7 +1,7 @@
 use Rattle.std.proofs.Common.{◌≡◌, ◌+◌, ◌-◌, ◌*◌, ◌≤◌, All, AllPairs, None, length}
-use Rattle.layout_fields.specs.Fields.{Spells}
+use Rattle.archive_file.specs.LayoutFields.{Spells}
 use Rattle.group_layout.specs.Blocks.{IsBefore, IsRow, rows_fields, rows_image}
-use Rattle.layout_fields.proofs.FieldLaws.{KeptUpTo}
+use Rattle.archive_file.proofs.FieldLaws.{KeptUpTo}
 use Rattle.group_layout.proofs.RowLaws.{IsLastOf}
 use Rattle.group_layout.proofs.row_reader.read_rows.Given as goal
 

@@ -25,17 +25,17 @@ pub split-requires-clause-full : goal.split-requires-clause-full
 split-requires-clause-full c = λ d.
     let is = read (goal.at.split-requires-clause-full c).After-frame in
     let page = frame_page _ _ _ _ _ is in
-    omega (arith, page_len _ _ _ _ _ is d, page.recorded.few, c.if-frame-lt128.false)
+    omega (arith, page_len _ _ _ _ _ is d, page.recorded.few, c.if-frame-lt-PAGE.false)
 
-pub returns-then-frame-lt128-clause-found : goal.returns-then-frame-lt128-clause-found
-returns-then-frame-lt128-clause-found c =
+pub returns-then-frame-lt-PAGE-clause-found : goal.returns-then-frame-lt-PAGE-clause-found
+returns-then-frame-lt-PAGE-clause-found c =
     found_for c.args.pool.now c.args.pages.now.items c.page_for-k.result c.args.t c.requires.pages
     c.page_for-k.ensures.within c.page_for-k.ensures.last
 
-pub returns-then-frame-lt128-clause-not_full : goal.returns-then-frame-lt128-clause-not_full
-returns-then-frame-lt128-clause-not_full c = λ d.
-    let is = read (goal.at.returns-then-frame-lt128-clause-not_full c).After-frame in
-    omega (arith, page_len _ _ _ _ _ is d, c.if-frame-lt128.true)
+pub returns-then-frame-lt-PAGE-clause-not_full : goal.returns-then-frame-lt-PAGE-clause-not_full
+returns-then-frame-lt-PAGE-clause-not_full c = λ d.
+    let is = read (goal.at.returns-then-frame-lt-PAGE-clause-not_full c).After-frame in
+    omega (arith, page_len _ _ _ _ _ is d, c.if-frame-lt-PAGE.true)
 
 pub start-requires : goal.start-requires
 start-requires c =
@@ -47,7 +47,7 @@ returns-then-start-t-clause-lengths c =
     let is = read (goal.at.returns-then-start-t-clause-lengths c).After-frame in
     let found = found_for c.args.pool.now c.args.pages.now.items c.page_for-k.result c.args.t c.requires.pages
     c.page_for-k.ensures.within c.page_for-k.ensures.last in
-    inr (halved_at _ _ _ c.args.t _ _ is found c.if-frame-lt128.false _ c.split.ensures.lengths)
+    inr (halved_at _ _ _ c.args.t _ _ is found c.if-frame-lt-PAGE.false _ c.split.ensures.lengths)
 
 pub returns-then-start-t-clause-found : goal.returns-then-start-t-clause-found
 returns-then-start-t-clause-found c =
@@ -64,7 +64,7 @@ returns-else-start-t-clause-lengths c =
     let is = read (goal.at.returns-else-start-t-clause-lengths c).After-frame in
     let found = found_for c.args.pool.now c.args.pages.now.items c.page_for-k.result c.args.t c.requires.pages
     c.page_for-k.ensures.within c.page_for-k.ensures.last in
-    inr (halved_at _ _ _ c.args.t _ _ is found c.if-frame-lt128.false _ c.split.ensures.lengths)
+    inr (halved_at _ _ _ c.args.t _ _ is found c.if-frame-lt-PAGE.false _ c.split.ensures.lengths)
 
 pub returns-else-start-t-clause-found : goal.returns-else-start-t-clause-found
 returns-else-start-t-clause-found c =

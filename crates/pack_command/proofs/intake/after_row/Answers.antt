@@ -11,15 +11,15 @@ returns-in-Ok-take-clause-come g c = λ further o bytes rest after come next.
     subst (HasCome further o bytes rest c.args.core.now c.args.rows) c.in-Taken.is come in
     let taken = c.in-Ok-take.ensures in
     row_taken further o bytes rest after c.args.core.now c.take.new.self c.args.rows c.args.read c.in-Ok.p was next c.requires.ready.few
-    (sym c.point_of_row.ensures ∙ c.in-Ok.is) taken.step (λ h kind stands. taken.stands o h kind stands)
-    (λ full. absurd (false≢true (taken.full.1 full)))
+    (sym c.point_of_row.ensures ∙ c.in-Ok.is) taken.one.step (λ h kind stands. taken.stands o h kind stands)
+    (λ full. absurd (false≢true (taken.one.full.1 full)))
 
 pub returns-in-Err-take-clause-come : goal.returns-in-Err-take-clause-come
 returns-in-Err-take-clause-come g c = λ further o bytes rest after come next.
     let was : HasCome further o bytes rest c.args.core.now c.args.rows Taken =
     subst (HasCome further o bytes rest c.args.core.now c.args.rows) c.in-Taken.is come in
     row_full further o bytes rest after c.args.core.now c.take.new.self c.args.rows c.args.read c.in-Ok.p c.in-Err-take.full.records was next
-    c.requires.ready.few (sym c.point_of_row.ensures ∙ c.in-Ok.is) (c.in-Err-take.ensures.full.0 refl) c.in-Err-take.ensures.full_records
+    c.requires.ready.few (sym c.point_of_row.ensures ∙ c.in-Ok.is) (c.in-Err-take.ensures.one.full.0 refl) c.in-Err-take.ensures.one.full_records
 
 pub returns-in-Err-clause-come : goal.returns-in-Err-clause-come
 returns-in-Err-clause-come g c = λ further o bytes rest after come next.

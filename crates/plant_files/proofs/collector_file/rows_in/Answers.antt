@@ -1,9 +1,9 @@
 use Rattle.std.proofs.Common.{sym, subst}
-use Rattle.plant_files.specs.Reading.{IsRead}
+use Rattle.plant_files.specs.Reading.{IsReadWhole}
 use Rattle.trend_num.specs.declared.refusal.What.TheVariants.{Rows}
 use Rattle.value_rows.specs.Raw.{raw_row}
 use Rattle.plant_files.specs.RowFiles.{most_file_bytes}
-use Rattle.plant_files.specs.Collected.{IsCollectorRefusal, most_rows}
+use Rattle.plant_files.specs.Collected.{IsCollectorRefusal, most_collector_rows}
 use Rattle.plant_files.proofs.Refusals.{rows_refused}
 use Rattle.plant_files.proofs.collector_file.rows_in.Goals as goal
 
@@ -13,8 +13,8 @@ returns-in-Ok-clause-refused g c =
     let told = g.F.Files.told c.args.files.now in
     let name = c.args.name.now in
     let bytes = c.deref.result.now in
-    let read : IsRead (told name) most_file_bytes bytes =
-    subst (λ n. IsRead (told n) most_file_bytes bytes) c.text-name.ensures.same
-    (subst (IsRead (told c.text-name.result.now) most_file_bytes) (sym c.deref.ensures.value) c.in-Ok.ensures.read) in
+    let read : IsReadWhole (told name) most_file_bytes bytes =
+    subst (λ n. IsReadWhole (told n) most_file_bytes bytes) c.text-name.ensures.same
+    (subst (IsReadWhole (told c.text-name.result.now) most_file_bytes) (sym c.deref.ensures.value) c.in-Ok.ensures.read) in
     subst (IsCollectorRefusal tags c.args.file (told name)) (sym c.row_status.ensures)
-    (rows_refused Rows most_rows (raw_row tags) c.args.file (told name) bytes c.in-Err-raw_rows.why read c.in-Err-raw_rows.ensures.refused)
+    (rows_refused Rows most_collector_rows (raw_row tags) c.args.file (told name) bytes c.in-Err-raw_rows.why read c.in-Err-raw_rows.ensures.refused)

@@ -4,7 +4,7 @@ use Rattle.std.proofs.lemmas.Result.{IfOk-weaker, IfErr-weaker}
 use Rattle.value_rows.specs.Asked.{IsQuery}
 use Rattle.plant_status.specs.declared.status.Status.TheVariants.{WantOfMemory}
 use Rattle.plant_files.specs.Texts.{tag_names}
-use Rattle.plant_files.specs.Asked.{AreNamed, IsReaderRefused, IsQueriesRefusal, IsQueryOf}
+use Rattle.plant_files.specs.Asked.{AreNamed, IsReaderRefused, IsQueriesRefusal, IsQueryOfBase}
 use Rattle.plant_files.proofs.Named.{queries_of_base}
 use Rattle.plant_files.proofs.queries.queries_of.Goals as goal
 
@@ -16,9 +16,10 @@ returns-clause-in_range g c =
     c.deref-4.ensures.value ∙ c.in-Ok.ensures.names ∙ ap tag_names c.deref.ensures.value in
     let named : AreNamed base.groups.items groups = subst (AreNamed base.groups.items) (sym c.deref-5.ensures.value)
     (subst (λ gs. AreNamed gs c.in-Ok-names_of_groups.groups.items) c.deref-2.ensures.value c.in-Ok-names_of_groups.ensures.named) in
-    IfOk-weaker c.queries_over.result (λ lists. All (All (IsQuery c.deref-4.result.now groups)) lists.items)
-    (λ lists. All (All (IsQueryOf base)) lists.items)
-    (λ lists asked. queries_of_base base groups lists.items named (subst (λ ts. All (All (IsQuery ts groups)) lists.items) tags asked))
+    IfOk-weaker c.queries_over.result (λ lists. All (λ q. All (IsQuery c.deref-4.result.now groups) q.items) lists.items)
+    (λ lists. All (λ q. All (IsQueryOfBase base) q.items) lists.items)
+    (λ lists asked. queries_of_base base groups lists.items named
+    (subst (λ ts. All (λ q. All (IsQuery ts groups) q.items) lists.items) tags asked))
     c.queries_over.ensures.in_range
 
 pub returns-clause-refused : goal.returns-clause-refused

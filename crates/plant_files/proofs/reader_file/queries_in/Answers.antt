@@ -1,5 +1,5 @@
 use Rattle.std.proofs.Common.{sym, subst}
-use Rattle.plant_files.specs.Reading.{IsRead}
+use Rattle.plant_files.specs.Reading.{IsReadWhole}
 use Rattle.trend_num.specs.declared.refusal.What.TheVariants.{Queries}
 use Rattle.value_rows.specs.Asked.{query_row}
 use Rattle.plant_files.specs.RowFiles.{most_file_bytes}
@@ -14,8 +14,8 @@ returns-in-Ok-clause-refused g c =
     let told = g.F.Files.told c.args.files.now in
     let name = c.args.name.now in
     let bytes = c.deref.result.now in
-    let read : IsRead (told name) most_file_bytes bytes =
-    subst (λ n. IsRead (told n) most_file_bytes bytes) c.text-name.ensures.same
-    (subst (IsRead (told c.text-name.result.now) most_file_bytes) (sym c.deref.ensures.value) c.in-Ok.ensures.read) in
+    let read : IsReadWhole (told name) most_file_bytes bytes =
+    subst (λ n. IsReadWhole (told n) most_file_bytes bytes) c.text-name.ensures.same
+    (subst (IsReadWhole (told c.text-name.result.now) most_file_bytes) (sym c.deref.ensures.value) c.in-Ok.ensures.read) in
     subst (IsReaderRefusal tags groups c.args.file (told name)) (sym c.row_status.ensures)
     (rows_refused Queries most_queries (query_row tags groups) c.args.file (told name) bytes c.in-Err-query_rows.why read c.in-Err-query_rows.ensures.refused)

@@ -4,7 +4,7 @@ use Rattle.std.proofs.lemmas.Result.{IfOk-weaker, IfErr-weaker}
 use Rattle.value_rows.specs.Raw.{IsRawRow}
 use Rattle.plant_status.specs.declared.status.Status.TheVariants.{WantOfMemory}
 use Rattle.plant_files.specs.Texts.{tag_names}
-use Rattle.plant_files.specs.Collected.{AreCollectorFiles, AreRows, IsCollectorRefused, IsRowOf, IsRowsRefusal}
+use Rattle.plant_files.specs.Collected.{AreCollectorFiles, AreRows, IsCollectorRefused, IsRowOfBase, IsRowsRefusal}
 use Rattle.plant_files.proofs.Named.{rows_of_base}
 use Rattle.plant_files.proofs.rows.rows_of.Goals as goal
 
@@ -30,7 +30,7 @@ returns-clause-in_range g c =
     let tags : c.deref-3.result.now ≡ tag_names base.tags.items =
     c.deref-3.ensures.value ∙ c.in-Ok.ensures.names ∙ ap tag_names c.deref.ensures.value in
     IfOk-weaker c.rows_over.result (λ lists. All (λ rows. All (IsRawRow c.deref-3.result.now) rows.items) lists.items)
-    (λ lists. All (λ rows. All (IsRowOf base) rows.items) lists.items)
+    (λ lists. All (λ rows. All (IsRowOfBase base) rows.items) lists.items)
     (λ lists read. rows_of_base base lists.items (subst (λ ts. All (λ rows. All (IsRawRow ts) rows.items) lists.items) tags read))
     c.rows_over.ensures.in_range
 

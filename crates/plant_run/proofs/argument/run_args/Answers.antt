@@ -1,7 +1,6 @@
-use Rattle.std.proofs.Common.{◌≡◌, drop, inl, map, string_bytes, ap, refl, ◌∙◌}
+use Rattle.std.proofs.Common.{◌≡◌, drop, inl, inr, ap, refl, ◌∙◌}
 use Rattle.std.specs.Vec.Iter.{into_iter_items}
 use Rattle.plant_status.specs.Status.{code_of}
-use Rattle.plant_run.proofs.Refusals.{unrun_comes}
 use Rattle.plant_run.proofs.argument.run_args.Goals as goal
 use Rattle.plant_run.proofs.argument.run_args.Goals.{in-Ok+in-Ok-words_of, in-Ok+in-Err-words_of, in-Err}
 
@@ -12,19 +11,12 @@ returns-clause-comes g c =
       | in-Ok+in-Ok-words_of w ↦
           let words : w.as_slice.result.now ≡ drop 1 (into_iter_items w.in-Ok.given) =
           w.as_slice.ensures.value ∙ w.in-Ok-words_of.ensures in
-          let run = w.run.ensures in
           let exit = code ∙ ap code_of w.status-is in
-          rw w.in-Ok.is (rw (w.input-is, w.files-is, w.out-is, w.store-is, w.passes-is, ← words) (record {
-            ends = λ none. (w.run.result.status, exit, run.ends none);
-            session = λ base plan is. inl (w.run.result, exit, run.session base plan is);
-            log = λ base plan is. inl (w.run.result, exit, run.log base plan is);
-            drill = λ wanted is. inl (w.run.result, exit, run.drill wanted is);
-            bad_words = λ none nothing. inl (exit ∙ ap code_of ((run.bad_words none).1 nothing));
-            devices = run.devices;
-          }))
+          rw w.in-Ok.is (rw (w.input-is, w.files-is, w.out-is, w.store-is, w.passes-is, ← words)
+          (inl (w.run.result, exit, w.run.ensures.comes)))
       | in-Ok+in-Err-words_of w ↦
           rw w.in-Ok.is (rw (w.input-is, w.files-is, w.out-is, w.store-is, w.passes-is)
-          (unrun_comes _ _ _ (map string_bytes (drop 1 (into_iter_items w.in-Ok.given))) _ _ _ _ _ (record {
+          (inr (record {
             exit = code ∙ ap code_of (w.status-is ∙ w.refuse.ensures.same);
             told = w.refuse.ensures.line;
             input = refl;

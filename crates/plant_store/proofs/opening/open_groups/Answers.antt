@@ -4,11 +4,11 @@ use Rattle.std.proofs.lemmas.List.{length-map}
 use Rattle.trend_num.specs.declared.archive.Rec.{Rec}
 use Rattle.calc_refresh.specs.Sheet.{IsCopy}
 use Rattle.tag_base.specs.Groups.{IsSound}
-use Rattle.book_store.specs.Groups as group
-use Rattle.book_store.specs.Refusals as groups
-use Rattle.book_store.specs.Refusals.{OfMemory}
-use Rattle.book_store.specs.Steps.{HavePlaces}
-use Rattle.book_store.proofs.Turns.{still}
+use Rattle.plant_store.specs.Groups as group
+use Rattle.plant_store.specs.BookRefusals as groups
+use Rattle.plant_store.specs.BookRefusals.{OfMemory}
+use Rattle.plant_store.specs.BookSteps.{HavePlaces}
+use Rattle.plant_store.proofs.BookTurns.{still}
 use Rattle.plant_store.specs.Openings.{records_in}
 use Rattle.plant_store.proofs.opening.open_groups.Goals as goal
 

@@ -6,17 +6,17 @@ use Rattle.std.proofs.lemmas.Result.{err_from_is_err_and}
 use Rattle.trend_num.specs.declared.tag_def.TagDef.{TagDef}
 use Rattle.tag_base.specs.Groups.{IsSound}
 use Rattle.tag_cell.specs.Told.{Told}
-use Rattle.tag_store.specs.Refusals as tags
-use Rattle.tag_store.specs.Tags as tag
-use Rattle.tag_store.proofs.Devices.{still}
-use Rattle.cell_store.specs.Closings.{AreGivenBack}
-use Rattle.cell_store.specs.Names.{AreApart, HasPlaces, names_of, texts}
-use Rattle.cell_store.specs.Openings.{AreCellsOpened}
-use Rattle.book_store.specs.Groups as group
-use Rattle.book_store.specs.Refusals as groups
-use Rattle.book_store.specs.Steps.{HavePlaces}
-use Rattle.book_store.proofs.Devices.{books_before, same_untouched}
-use Rattle.book_store.proofs.Turns.{still as still_group}
+use Rattle.plant_store.specs.TagRefusals as tags
+use Rattle.plant_store.specs.Tags as tag
+use Rattle.plant_store.proofs.TagDevices.{still}
+use Rattle.plant_store.specs.CellClosings.{AreGivenBack}
+use Rattle.plant_store.specs.CellNames.{AreApart, HasPlaces, names_of, texts}
+use Rattle.plant_store.specs.CellOpenings.{AreCellsOpened}
+use Rattle.plant_store.specs.Groups as group
+use Rattle.plant_store.specs.BookRefusals as groups
+use Rattle.plant_store.specs.BookSteps.{HavePlaces}
+use Rattle.plant_store.proofs.BookDevices.{books_before, same_untouched}
+use Rattle.plant_store.proofs.BookTurns.{still as still_group}
 use Rattle.plant_store.specs.Openings.{OfTags, records_in}
 use Rattle.plant_store.proofs.Endings.{count_kept, given_up_counts, given_up_groups, given_up_refused, others_kept, rest_same, tags_count, tags_kept}
 use Rattle.plant_store.proofs.Labels.{groups_same}

@@ -1,7 +1,7 @@
 use Rattle.std.proofs.Common.{◌∙◌, ap, arith, subst, sym}
-use Rattle.tag_store.specs.Tags.{AreDistinct}
-use Rattle.cell_store.specs.Names.{names_of}
-use Rattle.book_store.specs.Groups.{AreNamesOf}
+use Rattle.plant_store.specs.Tags.{AreDistinct}
+use Rattle.plant_store.specs.CellNames.{names_of}
+use Rattle.plant_store.specs.Groups.{AreNamesOf}
 use Rattle.plant_store.proofs.Labels.{shelf_is}
 use Rattle.plant_store.proofs.shelf.shelf_for.Goals as goal
 

@@ -5,7 +5,8 @@ use Rattle.std.specs.declared.alloc.Global.{Global}
 use Rattle.tag_cell.specs.Told.{Told as Cell}
 use Rattle.group_book.specs.Told.{Told as Book}
 use Rattle.plant_status.specs.declared.status.Status.{Status}
-use Rattle.run_command.specs.Copies.{AreCopied, AreCopiedGroups}
+use Rattle.session_audit.specs.CellOpenings.{IsCellCopied}
+use Rattle.session_audit.specs.BookOpenings.{IsBookCopied}
 use Rattle.run_command.specs.Runs.{IsContinued, IsContinuedGroup, OfSettling}
 use Rattle.run_command.specs.Sessions.{OfNone}
 use Rattle.run_command.specs.Runs as runs
@@ -16,13 +17,13 @@ use Rattle.run_command.proofs.phase.hold_phase.Goals as goal
 pub hold-requires-clause-inputs : goal.hold-requires-clause-inputs
 hold-requires-clause-inputs g c κs within =
     inputs_copied _ _ c.args.books.items c.in-Ok.ready.groups.items c.requires.inputs
-    (subst (λ (l : List (Book g.row.D.Denot)). AreCopiedGroups l c.in-Ok.ready.groups.items) c.deref-2.ensures.value c.in-Ok.ensures.groups)
+    (subst (λ (l : List (Book g.row.D.Denot)). AllZip IsBookCopied l c.in-Ok.ready.groups.items) c.deref-2.ensures.value c.in-Ok.ensures.groups)
 
 pub returns-in-Ok-clause-same_cells : goal.returns-in-Ok-clause-same_cells
 returns-in-Ok-clause-same_cells g c = λ none.
     continued c.args.cells.items c.hold.result.cells.items c.in-Ok.ready.tags.items
     (as_many_known c.args.cells c.hold.result.cells _ c.in-Ok.ready.tags c.deref.ensures.value c.in-Ok.ensures.tags_are c.hold.ensures.cells)
-    (subst (λ (l : List (Cell g.row.D.Denot)). AreCopied l c.in-Ok.ready.tags.items) c.deref.ensures.value c.in-Ok.ensures.tags)
+    (subst (λ (l : List (Cell g.row.D.Denot)). AllZip IsCellCopied l c.in-Ok.ready.tags.items) c.deref.ensures.value c.in-Ok.ensures.tags)
     (c.hold.ensures.known none)
 
 pub returns-in-Ok-clause-same_books : goal.returns-in-Ok-clause-same_books
@@ -30,14 +31,14 @@ returns-in-Ok-clause-same_books g c = λ none.
     groups_continued c.args.books.items c.hold.result.books.items c.in-Ok.ready.groups.items
     (as_many_known c.args.books c.hold.result.books _ c.in-Ok.ready.groups c.deref-2.ensures.value c.in-Ok.ensures.groups_are
     c.hold.ensures.books)
-    (subst (λ (l : List (Book g.row.D.Denot)). AreCopiedGroups l c.in-Ok.ready.groups.items) c.deref-2.ensures.value c.in-Ok.ensures.groups)
+    (subst (λ (l : List (Book g.row.D.Denot)). AllZip IsBookCopied l c.in-Ok.ready.groups.items) c.deref-2.ensures.value c.in-Ok.ensures.groups)
     (c.hold.ensures.known_groups none)
 
 pub returns-in-Ok-clause-undone : goal.returns-in-Ok-clause-undone
 returns-in-Ok-clause-undone g c = err_weaker c.hold.result.answer
     (λ why is. OfSettling c.in-Ok.ready.tags.items c.in-Ok.ready.groups.items
-    (subst (λ (l : List (Cell g.row.D.Denot)). AreCopied l c.in-Ok.ready.tags.items) c.deref.ensures.value c.in-Ok.ensures.tags)
-    (subst (λ (l : List (Book g.row.D.Denot)). AreCopiedGroups l c.in-Ok.ready.groups.items) c.deref-2.ensures.value c.in-Ok.ensures.groups)
+    (subst (λ (l : List (Cell g.row.D.Denot)). AllZip IsCellCopied l c.in-Ok.ready.tags.items) c.deref.ensures.value c.in-Ok.ensures.tags)
+    (subst (λ (l : List (Book g.row.D.Denot)). AllZip IsBookCopied l c.in-Ok.ready.groups.items) c.deref-2.ensures.value c.in-Ok.ensures.groups)
     is)
     c.hold.ensures.refused
 

@@ -1,17 +1,14 @@
-use Rattle.std.proofs.Common.{◌≡◌, ◌<◌, ◌^◌, ◌∙◌, All, List, ap, arith, get_or, length, map, subst, sym}
+use Rattle.std.proofs.Common.{◌<◌, ◌^◌, ◌∙◌, All, ap, arith, get_or, length, map, subst, sym}
 use Rattle.std.specs.Prelude.{String}
 use Rattle.std.specs.declared.alloc.Global.{Global}
-use Rattle.std.proofs.lemmas.List.{length-map}
 use Rattle.std.proofs.lemmas.Result.{IfErr-weaker, err_from_is_err_and}
-use Rattle.trend_num.specs.declared.archive.Rec.{Rec}
 use Rattle.calc_refresh.specs.Sheet.{IsCopy}
-use Rattle.tag_base.specs.Groups.{IsSound}
-use Rattle.book_store.specs.Endings.{AreGivenBack}
-use Rattle.book_store.specs.Groups.{AreBooksOpened, AreNamesOf}
-use Rattle.book_store.specs.Refusals.{IsRefusal}
-use Rattle.book_store.specs.Steps.{HavePlaces}
-use Rattle.book_store.proofs.Names.{as_many, names_differ}
-use Rattle.book_store.proofs.Turns.{others_same, still}
+use Rattle.plant_store.specs.BookEndings.{AreGivenBack}
+use Rattle.plant_store.specs.Groups.{AreBooksOpened, AreNamesOf}
+use Rattle.plant_store.specs.BookRefusals.{IsRefusal}
+use Rattle.plant_store.specs.BookSteps.{HavePlaces}
+use Rattle.plant_store.proofs.BookNames.{as_many, names_differ}
+use Rattle.plant_store.proofs.BookTurns.{others_same, still}
 use Rattle.store_commands.specs.GroupRows.{OfOpening, tag_records}
 use Rattle.store_commands.specs.Refreshing.{AreRefreshedOnce, IsOverSome}
 use Rattle.store_commands.proofs.Books.{all_back, all_told, counts_same, cut_books, err_and, none_counted, ok_and, over_some}
@@ -34,14 +31,6 @@ returns-in_err-books-clause-refused g c =
     rw (p.1, p.2) (OfOpening (subst (λ l. IsRefusal c.args.groups.now l (g.S.Store.device_at c.args.store.now)
     (g.S.Store.fault_count c.args.store.now) (g.S.Store.fault_count c.open_books.new.store) c.in_err-books.field-0.0) lists
     c.in_err-books.ensures.refused))
-
-pub refresh_all-refreshed-requires-clause-sound : goal.refresh_all-refreshed-requires-clause-sound
-refresh_all-refreshed-requires-clause-sound g c =
-    let lists = ap (map (λ r. r.now)) c.deref-3.ensures.value ∙ c.in-Ok-records_of.ensures.records in
-    let many : length c.args.cores.now ≡ length c.deref-3.result.now =
-    sym (length-map c.args.cores.now (λ core. core.state.records)) ∙ sym (ap (length {A = List Rec}) lists)
-    ∙ length-map c.deref-3.result.now (λ r. r.now) in
-    subst (λ n. All (IsSound n) c.args.groups.now) many c.requires.sound
 
 pub refresh_all-refreshed-requires-clause-copied : goal.refresh_all-refreshed-requires-clause-copied
 refresh_all-refreshed-requires-clause-copied g c =
@@ -94,7 +83,7 @@ returns-clause-told g c =
     all_told D.trace D.ticks D.fault_count groups (tag_records c.args.cores.now) old books closed c.close_books.new.histories.items
     c.in_ok-books.ensures.as_many
     (subst (λ l. AreBooksOpened D.trace D.ticks D.fault_count groups l old books) lists c.in_ok-books.ensures.opened)
-    c.refresh_all-refreshed.ensures.same (subst (λ l. AreRefreshedOnce groups l books closed) lists_then once) c.close_books.ensures.closed)
+    c.refresh_all-refreshed.ensures.same (subst (λ l. AreRefreshedOnce l books closed) lists_then once) c.close_books.ensures.closed)
     c.refresh_all-refreshed.ensures.refreshed
 
 pub returns-clause-refused : goal.returns-clause-refused
@@ -108,7 +97,7 @@ returns-clause-refused g c =
     err_and _ _ c.refresh_all-refreshed.result c.close_books.new.histories c.and.result c.and.ensures (λ why over.
     over_some D.trace D.ticks D.fault_count groups (tag_records c.args.cores.now) old books _ _ why c.in_ok-books.ensures.as_many
     (subst (λ l. AreBooksOpened D.trace D.ticks D.fault_count groups l old books) lists c.in_ok-books.ensures.opened)
-    (subst (λ l. IsOverSome groups l why) lists_then over)) c.refresh_all-refreshed.ensures.refused
+    (subst (λ l. IsOverSome l books why) lists_then over)) c.refresh_all-refreshed.ensures.refused
 
 pub returns-in_err-books-clause-no_file_fault : goal.returns-in_err-books-clause-no_file_fault
 returns-in_err-books-clause-no_file_fault g c =

@@ -1,13 +1,15 @@
-use Rattle.std.proofs.Common.{Err, [], inr, refl, ◌∙◌, ap, arith, length, subst}
+use Rattle.std.proofs.Common.{Err, [], inr, refl, ◌∙◌, ap, arith, length, map, subst}
+use Rattle.std.proofs.lemmas.List.{length-map}
 use Rattle.std.proofs.lemmas.Result.{err_from_is_err_and}
 use Rattle.plant_files.proofs.Faults.{of_base, of_none, of_plan, of_reader}
-use Rattle.book_store.specs.Groups as group
-use Rattle.book_store.proofs.Devices.{same_untouched}
-use Rattle.trend_command.specs.Replies.{rows_in, trend_text}
+use Rattle.plant_store.specs.Groups as group
+use Rattle.plant_store.proofs.BookDevices.{same_untouched}
+use Rattle.store_commands.specs.Replies.{rows_in, trend_text}
 use Rattle.store_commands.specs.Commands.{OfGroup, OfPlan, OfReader, OfTag}
 use Rattle.store_commands.specs.GroupRows.{AreGroupsTold, IsRowsRefusal, tag_records}
 use Rattle.store_commands.proofs.Commands.{as_many_lists}
-use Rattle.store_commands.proofs.Faults.{group_is_no_fault, tag_is_no_fault}
+use Rattle.store_commands.proofs.Faults.{group_is_no_fault}
+use Rattle.plant_store.proofs.OpenedBases.{tag_is_no_fault}
 use Rattle.store_commands.proofs.Stores.{all_kept, groups_same, left_after, rows_before, tags_same, told_before}
 use Rattle.store_commands.proofs.replies.trend.Goals as goal
 
@@ -32,7 +34,7 @@ returns-in_err-cores-clause-refused g c =
     let plan = c.in_ok-plan.plan in
     let stays = c.in_ok-plan.ensures.stays ∙ c.in_ok-base.ensures.stays in
     let p = err_from_is_err_and c.from_residual-in_err-cores.result c.from_residual-in_err-cores.ensures.1 in
-    rw (p.1, p.2) (OfTag base plan c.in_ok-readers.readers.items c.in_ok-base.ensures.base
+    rw (p.1, p.2) (OfTag base plan (map (λ list. list.items) c.in_ok-readers.readers.items) c.in_ok-base.ensures.base
     (rw (← c.in_ok-base.ensures.stays) c.in_ok-plan.ensures.plan) (rw (← stays) c.in_ok-readers.ensures.queries)
     c.in_err-cores.ensures.refused)
 
@@ -50,7 +52,7 @@ returns-in_err-groups-clause-refused g c =
     let refused_cores = subst (λ l. IsRowsRefusal base.groups.items (tag_records l) mid (g.S.Store.fault_count c.open_base.new.store)
     (g.S.Store.fault_count c.histories_of.new.store) c.in_err-groups.field-0.0) c.deref-2.ensures.value refused in
     let p = err_from_is_err_and c.from_residual-in_err-groups.result c.from_residual-in_err-groups.ensures.1 in
-    rw (p.1, p.2) (OfGroup base plan c.in_ok-readers.readers.items cores
+    rw (p.1, p.2) (OfGroup base plan (map (λ list. list.items) c.in_ok-readers.readers.items) cores
     (record { read = c.in_ok-base.ensures.base; opened = c.in_ok-cores.ensures.opened })
     (rw (← c.in_ok-base.ensures.stays) c.in_ok-plan.ensures.plan) (rw (← stays) c.in_ok-readers.ensures.queries)
     (rows_before base.groups.items (tag_records cores) old mid (groups_same base.tags.items old mid c.open_base.ensures.others) _ _ _
@@ -85,7 +87,7 @@ returns-in-Ok-clause-text g c =
     record {
       base = base;
       plan = c.in_ok-plan.plan;
-      lists = c.in_ok-readers.readers.items;
+      lists = map (λ list. list.items) c.in_ok-readers.readers.items;
       cores = cores;
       groups = rows_in groups;
       opened = record { read = c.in_ok-base.ensures.base; opened = c.in_ok-cores.ensures.opened };
@@ -96,9 +98,10 @@ returns-in-Ok-clause-text g c =
           (subst (λ l. AreGroupsTold base.groups.items (tag_records l) mid (rows_in groups)) c.deref-2.ensures.value
           (subst (λ l. AreGroupsTold l (tag_records c.deref-2.result.now) mid (rows_in groups)) c.deref.ensures.value
           c.in_ok-groups.ensures.told));
-      same = c.in-Ok.ensures ∙ ap (λ l. trend_text l (rows_in c.deref-4.result.now) c.deref-5.result.now) c.deref-3.ensures.value
-          ∙ ap (λ l. trend_text cores (rows_in l) c.deref-5.result.now) c.deref-4.ensures.value
-          ∙ ap (trend_text cores (rows_in groups)) c.deref-5.ensures.value;
+      same = c.in-Ok.ensures
+          ∙ ap (λ l. trend_text l (rows_in c.deref-4.result.now) (map (λ list. list.items) c.deref-5.result.now)) c.deref-3.ensures.value
+          ∙ ap (λ l. trend_text cores (rows_in l) (map (λ list. list.items) c.deref-5.result.now)) c.deref-4.ensures.value
+          ∙ ap (λ l. trend_text cores (rows_in groups) (map (λ list. list.items) l)) c.deref-5.ensures.value;
     }
 
 pub returns-in-Ok-clause-kept : goal.returns-in-Ok-clause-kept
@@ -123,13 +126,14 @@ returns-in-Ok-clause-durable g c = record {
       c.in_ok-cores.ensures.left;
 }
 
-pub replies-requires-clause-few : goal.replies-requires-clause-few
-replies-requires-clause-few g c =
+pub trend_text-requires-clause-few_readers : goal.trend_text-requires-clause-few_readers
+trend_text-requires-clause-few_readers g c =
     let plan = c.in_ok-plan.plan in
     let asked = c.in_ok-readers.ensures.queries.asked in
     omega (
       arith,
       ap length c.deref-5.ensures.value,
+      length-map c.in_ok-readers.readers.items (λ list. list.items),
       as_many_lists _ _ _ _ _ asked,
       plan.few_readers,
       plan.readers.ok,

@@ -1,7 +1,7 @@
 use Rattle.std.proofs.Common.{inl, inr, ◌∙◌, ap}
 use Rattle.std.proofs.lemmas.Result.{err_from_is_err_and}
-use Rattle.store_commands.specs.Lines.{check_text}
-use Rattle.store_commands.proofs.Faults.{tag_is_no_fault}
+use Rattle.trend_report.specs.CheckLines.{check_text}
+use Rattle.plant_store.proofs.OpenedBases.{tag_is_no_fault}
 use Rattle.store_commands.proofs.tag_lines.check.Goals as goal
 
 pub returns-in_err-cores-clause-refused : goal.returns-in_err-cores-clause-refused

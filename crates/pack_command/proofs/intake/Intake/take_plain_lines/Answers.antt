@@ -23,14 +23,14 @@ loop-left-preserved g c =
     record {
       few = omega (arith, here.few);
       ready = subst (IsReady new) count
-          (ready_more old new rows _ here.ready other taken.counted taken.added taken.few (λ full. absurd (false≢true (taken.full.1 full))) taken.room);
+          (ready_more old new rows _ here.ready other taken.one.counted taken.one.added taken.one.few (λ full. absurd (false≢true (taken.one.full.1 full))) taken.one.room);
       standing = here.standing;
       within = omega (arith, here.within, c.in-Some.ensures.shorter);
       end = end_more c.args.text.now c.loop-left.rest.now first.line c.in-Some.after.now here.end here.within first.cut;
       come = λ o bytes was. subst (λ (n : ℕ). HasCome true o bytes c.in-Some.after.now new n Taken) count
           (row_taken true o bytes c.loop-left.rest.now c.in-Some.after.now old new rows (Ok c.in-Some.point) c.in-Some.point (here.come o bytes was)
           (next_fed true c.loop-left.rest.now c.in-Some.after.now (Ok c.in-Some.point) first) here.ready.few (row_here rows c.in-Some.point other)
-          taken.step (λ h kind stands. taken.stands o h kind stands) (λ full. absurd (false≢true (taken.full.1 full))));
+          taken.one.step (λ h kind stands. taken.stands o h kind stands) (λ full. absurd (false≢true (taken.one.full.1 full))));
     }
 
 -- what has come to an intake that takes each value has come to the same intake
@@ -52,5 +52,5 @@ returns-clause-come g c = λ o bytes was.
       | then-loop-left-test+in-None-1 w ↦ come_same_intake o bytes rest rows self _ w.self-is c.loop-left.invariant.standing come
       | then-loop-left-test+in-Some+in-Err w ↦
           come_same_intake o bytes rest rows (record self { core = w.take.new.self }) _ w.self-is c.loop-left.invariant.standing
-          (subst (λ (k : Core). HasCome true o bytes rest k rows Taken) (sym w.in-Err.ensures.unchanged) come)
+          (subst (λ (k : Core). HasCome true o bytes rest k rows Taken) (sym w.in-Err.ensures.one.unchanged) come)
     ]

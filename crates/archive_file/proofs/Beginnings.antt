@@ -1,0 +1,109 @@
+-- What a crash leaves while a layout with a text is begun.
+use Rattle.std.proofs.Common.{◌≡◌, inl, inr, ℕ, zero, suc, ◌^◌, ◌<◌, ◌≤◌, List, [], ◌∷◌, length, get_or, Option, None, Some, Result, sym, ◌∙◌, ap, subst, arith}
+use Rattle.std.proofs.lemmas.Bool.{cases_eq}
+use Rattle.std.proofs.lemmas.Grind.{same_number_lists}
+use Rattle.disk_model.specs.Calls.{IsNoted, HasLength, Sees, Shows}
+use Rattle.disk_model.specs.Gates.{Holds, IsClosing, IsGuarded, IsOpen, IsShut, open_byte}
+use Rattle.disk_model.specs.Images.{MayLeave, Now, FromOld, IsSettled}
+use Rattle.disk_model.specs.Moments.{During}
+use Rattle.disk_model.specs.Traces.{Wrote, WroteInPart, Synced, Idle, Trace, seen, written}
+use Rattle.disk_model.proofs.Images.{present, wrote_now, synced_now}
+use Rattle.disk_model.proofs.Moments.{started, during_now, weaker, in_turn, goes_on}
+use Rattle.archive_file.specs.TextHeads.{IsEmpty, IsLeftOrBegun, IsLeftOrNew, blocks_at, head_image}
+use Rattle.archive_file.proofs.TextHeads.{head_is}
+
+-- ---- the gate of the layout is closed
+
+-- nothing was called
+pub left_kept : (o o1 : Option Trace) → o1 ≡ o → During o o1 (IsLeftOrNew o)
+left_kept o o1 same =
+    subst (λ x. During o x (IsLeftOrNew o)) (sym same) (started o (IsLeftOrNew o) (record { each = λ c may. inl may }))
+
+-- an image of an empty device is short
+short_now : (o : Option Trace) (c : List ℕ) → IsSettled o → HasLength o 0 → MayLeave o c → length c ≡ 0
+short_now None c settled empty may = absurd may.image
+short_now (Some t) c settled empty may = ap length (settled.each c may) ∙ empty
+
+-- an empty device was begun by one byte
+pub left_wrote : {E : Type 0} (r : Result (Unit {0}) E) (o o1 o2 : Option Trace) (n : ℕ) → IsSettled o → o1 ≡ o
+    → HasLength o n → n ≤ 0 → IsNoted (Wrote 0 (0 ∷ [])) (WroteInPart 0 (0 ∷ [])) r o1 o2 → During o o2 (IsLeftOrNew o)
+left_wrote r o o1 o2 n settled same long none wrote =
+    let zero_long : n ≡ 0 = omega arith in
+    let empty : HasLength o 0 = subst (HasLength o) zero_long long in
+    let short : (c : List ℕ) → MayLeave o2 c → IsLeftOrNew o c =
+    λ c may.
+    let from = wrote_now r o1 o2 0 (0 ∷ []) c wrote may in
+    let old = short_now o from.0 settled empty (subst (λ x. MayLeave x from.0) same from.1) in
+    inr (inl (omega (arith, from.2.no_longer, old))) in
+    goes_on (Wrote 0 (0 ∷ [])) (WroteInPart 0 (0 ∷ [])) r o o1 o2 (IsLeftOrNew o) (left_kept o o1 same) wrote (record { each = short })
+
+-- and synced
+pub left_then_synced : {E : Type 0} (q : Result (Unit {0}) E) (o o2 o3 : Option Trace) → During o o2 (IsLeftOrNew o)
+    → IsNoted Synced Idle q o2 o3 → During o o3 (IsLeftOrNew o)
+left_then_synced q o o2 o3 so_far synced =
+    goes_on Synced Idle q o o2 o3 (IsLeftOrNew o) so_far synced
+    (record { each = λ c may. (during_now o o2 (IsLeftOrNew o) so_far).each c (synced_now q o2 o3 c synced may) })
+
+-- an image in which the gate alone may be torn: it is closed, or all is as it was
+left_torn : (o : Option Trace) (d c : List ℕ) → MayLeave o d → IsClosing 0 1 d c → IsLeftOrNew o c
+left_torn o d c may torn = elim (cases_eq (get_or c 0 0) open_byte) [
+  | inr shut ↦ inr (inr shut)
+  | inl opened ↦ inl (subst (MayLeave o) (same_image opened) may)
+]
+  where
+    each : (k : ℕ) → get_or c 0 0 ≡ open_byte → get_or d k 0 ≡ get_or c k 0
+    each zero opened = elim (cases_eq (get_or d 0 0) open_byte) [
+      | inl was ↦ was ∙ sym opened
+      | inr shut ↦ sym (torn.same 0 (inr shut))
+    ]
+    each (suc k) opened = sym (torn.same (suc k) (inl (inr (omega arith))))
+
+    same_image : get_or c 0 0 ≡ open_byte → d ≡ c
+    same_image opened = same_number_lists d c (sym torn.same_length) (λ k low. each k opened)
+
+-- gates are closed
+pub left_closed : (o o1 o2 : Option Trace) → o1 ≡ o → During o1 o2 (FromOld o1 (IsClosing 0 1)) → During o o2 (IsLeftOrNew o)
+left_closed o o1 o2 same closing =
+    weaker o o2 (FromOld o (IsClosing 0 1)) (IsLeftOrNew o) (λ c from. left_torn o from.0 c from.1 from.2)
+    (subst (λ x. During x o2 (FromOld x (IsClosing 0 1))) same closing)
+
+-- ---- the head is written behind it
+
+-- the layout is not begun yet
+pub not_begun : (letters text : List ℕ) (o o1 : Option Trace) → During o o1 (IsLeftOrNew o) → During o o1 (IsLeftOrBegun letters text o)
+not_begun letters text o o1 closed = weaker o o1 (IsLeftOrNew o) (IsLeftOrBegun letters text o) (λ c is. inl is) closed
+
+module _ (letters text bytes : List ℕ) (four : length letters ≡ 4) (small : length text < 2 ^ 32) (is : bytes ≡ head_image letters text)
+    (o o1 : Option Trace) (closed : During o o1 (IsLeftOrNew o)) where
+  -- behind the open gate they are a layout
+  begun : (d c : List ℕ) → IsGuarded 1 bytes 0 d c → IsOpen 0 c → IsEmpty letters text c
+  begun d c guarded opened = head_is letters text c four small opened (subst (λ b. Holds 1 b c) is (guarded.whole opened))
+
+  -- at each moment
+  pub head_written : (o2 : Option Trace) → During o1 o2 (FromOld o1 (IsGuarded 1 bytes 0)) → During o o2 (IsLeftOrBegun letters text o)
+  head_written o2 guarded =
+      in_turn o o1 o2 (IsLeftOrBegun letters text o) (not_begun letters text o o1 closed)
+      (weaker o1 o2 (FromOld o1 (IsGuarded 1 bytes 0)) (IsLeftOrBegun letters text o) either guarded)
+    where
+      either : (c : List ℕ) → FromOld o1 (IsGuarded 1 bytes 0) c → IsLeftOrBegun letters text o c
+      either c from = elim (cases_eq (get_or c 0 0) open_byte) [
+        | inl opened ↦ inr (begun from.0 c from.2 opened)
+        | inr shut ↦ inl (inr (inr shut))
+      ]
+
+  -- in the end the layout is there
+  pub layout_begun : (o2 : Option Trace) → During o1 o2 (FromOld o1 (IsGuarded 1 bytes 0))
+      → Sees o2 (written (written (seen o1) 1 bytes) 0 (open_byte ∷ [])) → Shows o2 (IsEmpty letters text)
+  layout_begun None guarded sees = tt
+  layout_begun (Some t) guarded sees =
+      let left = during_now o1 (Some t) (FromOld o1 (IsGuarded 1 bytes 0)) guarded in
+      let from = left.each (seen (Some t)) (present t) in
+      begun from.0 (seen (Some t)) from.2 (ap (λ l. get_or l 0 0) sees)
+
+-- behind a layout that was begun there is room for the first block
+pub layout_ready : (letters text : List ℕ) (o : Option Trace) → Shows o (IsEmpty letters text) → IsSettled o
+    → Now o (IsShut (blocks_at (length text)))
+layout_ready letters text None made settled = record { each = λ c may. absurd may.image }
+layout_ready letters text (Some t) made settled = record {
+  each = λ c may. subst (IsShut (blocks_at (length text))) (sym (settled.each c may)) made.shut;
+}

@@ -1,0 +1,141 @@
+-- Fields one behind the other: those that are kept, and the first that is not.
+use Rattle.std.proofs.Common.{◌≡◌, inl, inr, ℕ, ◌≤◌, Bool, true, All, List, [], ◌∷◌, ◌++◌, length, take, drop, Option, Result, Err, IsErrOf, refl, sym, ap, ◌∙◌, subst, arith, append_assoc, length-append}
+use Rattle.std.proofs.Math.Seq.{take-add}
+use Rattle.std.proofs.lemmas.List.{append-nil, drop-drop}
+use Rattle.std.proofs.lemmas.List.Elements.{All-append, All-cons, All-nil}
+use Rattle.archive_file.specs.declared.failure.ScanNo.{ScanNo}
+use Rattle.archive_file.specs.declared.failure.ScanNo.TheVariants.{Damaged}
+use Rattle.archive_file.specs.declared.layout_field.Field.{Field}
+use Rattle.archive_file.specs.LayoutFields.{Spells, Keeps, EndsIn, Breaks, BreaksFirst}
+
+-- a field at a place, and whether it is kept
+abbrev pub field_of : ℕ → ℕ → Bool → Field
+field_of place size is_kept = record { place = place; size = size; is_kept = is_kept }
+
+-- ---- what was read
+
+-- nothing stands at a place
+pub spells_none : (c : List ℕ) (at : ℕ) → at ≤ length c → Spells c at [] at
+spells_none c at within = record { spelled = refl; ends = omega arith; within = within }
+
+-- two pieces, one behind the other
+pub spells_both : (c : List ℕ) (at mid end : ℕ) (xs ys : List ℕ) → Spells c at xs mid → Spells c mid ys end
+    → Spells c at (xs ++ ys) end
+spells_both c at mid end xs ys first second = record {
+  spelled = ap (λ n. take n (drop at c)) (length-append xs ys) ∙ take-add (length xs) (length ys) (drop at c)
+      ∙ ap (λ l. l ++ take (length ys) (drop (length xs) (drop at c))) first.spelled
+      ∙ ap (λ l. xs ++ take (length ys) l) (drop-drop (length xs) at c)
+      ∙ ap (λ n. xs ++ take (length ys) (drop n c)) (sym first.ends)
+      ∙ ap (λ l. xs ++ l) second.spelled;
+  ends = omega (arith, first.ends, second.ends, length-append xs ys);
+  within = second.within;
+}
+
+-- ---- all are kept
+
+-- six fields that are kept
+pub all_six : (c : List ℕ) (f g h i j k : Field) → Keeps c f → Keeps c g → Keeps c h → Keeps c i → Keeps c j → Keeps c k
+    → All (Keeps c) (f ∷ g ∷ h ∷ i ∷ j ∷ k ∷ [])
+all_six c f g h i j k kf kg kh ki kj kk =
+    All-cons (Keeps c) f (g ∷ h ∷ i ∷ j ∷ k ∷ []) kf (All-cons (Keeps c) g (h ∷ i ∷ j ∷ k ∷ []) kg
+    (All-cons (Keeps c) h (i ∷ j ∷ k ∷ []) kh (All-cons (Keeps c) i (j ∷ k ∷ []) ki
+    (All-cons (Keeps c) j (k ∷ []) kj (All-cons (Keeps c) k [] kk (All-nil (Keeps c)))))))
+
+-- ---- the first field that breaks
+
+pub breaks_here : (c : List ℕ) (f : Field) (fs : List Field) (a : ℕ) (byte : Option ℕ) → Breaks c f a byte
+    → BreaksFirst c (f ∷ fs) a byte
+breaks_here c f fs a byte breaks = record { before = []; field = f; behind = fs; are = refl; kept = All-nil (Keeps c); breaks = breaks }
+
+-- behind fields that are kept
+pub breaks_behind : (c : List ℕ) (fs gs : List Field) (a : ℕ) (byte : Option ℕ) → All (Keeps c) fs
+    → BreaksFirst c gs a byte → BreaksFirst c (fs ++ gs) a byte
+breaks_behind c fs gs a byte kept first = record {
+  before = fs ++ first.before;
+  field = first.field;
+  behind = first.behind;
+  are = ap (λ l. fs ++ l) first.are ∙ sym (append_assoc fs first.before (first.field ∷ first.behind));
+  kept = All-append (Keeps c) fs first.before kept first.kept;
+  breaks = first.breaks;
+}
+
+-- behind one
+pub breaks_next : (c : List ℕ) (f : Field) (fs : List Field) (a : ℕ) (byte : Option ℕ) → Keeps c f
+    → BreaksFirst c fs a byte → BreaksFirst c (f ∷ fs) a byte
+breaks_next c f fs a byte kept first = breaks_behind c (f ∷ []) fs a byte (All-cons (Keeps c) f [] kept (All-nil (Keeps c))) first
+
+-- with others behind
+pub breaks_within : (c : List ℕ) (fs gs : List Field) (a : ℕ) (byte : Option ℕ) → BreaksFirst c fs a byte
+    → BreaksFirst c (fs ++ gs) a byte
+breaks_within c fs gs a byte first = record {
+  before = first.before;
+  field = first.field;
+  behind = first.behind ++ gs;
+  are = ap (λ l. l ++ gs) first.are ∙ append_assoc first.before (first.field ∷ first.behind) gs;
+  kept = first.kept;
+  breaks = first.breaks;
+}
+
+-- ---- up to a place
+
+-- all fields are kept up to these last ones
+pub record KeptUpTo (c : List ℕ) (fields rest : List Field) : Type 0 where
+  pub done : List Field
+  pub are : fields ≡ done ++ rest
+  pub kept : All (Keeps c) done
+
+pub kept_none : (c : List ℕ) (fields : List Field) → KeptUpTo c fields fields
+kept_none c fields = record { done = []; are = refl; kept = All-nil (Keeps c) }
+
+pub kept_more : (c : List ℕ) (fields fs rest : List Field) → KeptUpTo c fields (fs ++ rest) → All (Keeps c) fs
+    → KeptUpTo c fields rest
+kept_more c fields fs rest before kept = record {
+  done = before.done ++ fs;
+  are = before.are ∙ sym (append_assoc before.done fs rest);
+  kept = All-append (Keeps c) before.done fs before.kept kept;
+}
+
+pub kept_all : (c : List ℕ) (fields : List Field) → KeptUpTo c fields [] → All (Keeps c) fields
+kept_all c fields before =
+    subst (All (Keeps c)) (sym (before.are ∙ append-nil before.done)) before.kept
+
+pub breaks_after : (c : List ℕ) (fields rest : List Field) (a : ℕ) (byte : Option ℕ) → KeptUpTo c fields rest
+    → BreaksFirst c rest a byte → BreaksFirst c fields a byte
+breaks_after c fields rest a byte before first =
+    subst (λ fs. BreaksFirst c fs a byte) (sym before.are) (breaks_behind c before.done rest a byte before.kept first)
+
+-- ---- through a `?`
+
+-- an error that is passed on
+pub told_through : {T U : Type 0} (r : Result T ScanNo) (y e : ScanNo) (a : ℕ) (byte : Option ℕ) → r ≡ Err y → y ≡ e
+    → r ≡ Err (Damaged a byte) → IsErrOf {T = U} (Err e) (Damaged a byte)
+told_through r y e a byte is same told =
+    let inner : e ≡ Damaged a byte = cc in
+    ap Err inner
+
+-- ---- in a part
+
+-- the first field of the next part that breaks
+pub breaks_part : (c : List ℕ) (fields fs rest : List Field) (a : ℕ) (byte : Option ℕ) → KeptUpTo c fields (fs ++ rest)
+    → BreaksFirst c fs a byte → BreaksFirst c fields a byte
+breaks_part c fields fs rest a byte so_far breaks =
+    breaks_after c fields (fs ++ rest) a byte so_far (breaks_within c fs rest a byte breaks)
+
+-- a single field with no rule breaks where the image ends in it
+one_breaks : (c : List ℕ) (f field : Field) (before behind : List Field) (a : ℕ) (byte : Option ℕ)
+    → f ∷ [] ≡ before ++ field ∷ behind → Breaks c field a byte → Breaks c f a byte
+one_breaks c f field [] behind a byte are breaks =
+    subst (λ x. Breaks c x a byte) (sym (head_is f field behind are)) breaks
+  where
+    head_is : (x y : Field) (ys : List Field) → x ∷ [] ≡ y ∷ ys → x ≡ y
+    head_is x y ys e = cc
+one_breaks c f field (x ∷ before) behind a byte are breaks =
+    absurd (omega (arith, ap length are, length-append before (field ∷ behind)))
+
+pub only_ends : (c : List ℕ) (at n a : ℕ) (byte : Option ℕ) → BreaksFirst c (field_of at n true ∷ []) a byte
+    → EndsIn c (field_of at n true) a byte
+only_ends c at n a byte first =
+    elim (one_breaks c (field_of at n true) first.field first.before first.behind a byte first.are first.breaks) [
+      | inl ends ↦ ends
+      | inr broken ↦ absurd (cc (broken.broken))
+    ]

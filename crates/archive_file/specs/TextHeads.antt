@@ -1,0 +1,58 @@
+-- A layout that begins with four letters and a text: its head, and where its blocks begin.
+use Rattle.std.specs.Prelude.{◌≡◌, ◌⊎◌, ℕ, ◌+◌, true, List, [], ◌∷◌, ◌++◌, All, length, take, drop, slice_index, nat_eq, Option}
+use Rattle.disk_model.specs.Gates.{IsBegun, IsNew, IsShut}
+use Rattle.disk_model.specs.Images.{MayLeave}
+use Rattle.disk_model.specs.Traces.{Trace}
+use Rattle.archive_file.specs.Fields.{number_bytes}
+use Rattle.archive_file.specs.declared.layout_field.Field.{Field}
+use Rattle.archive_file.specs.LayoutFields.{Keeps, short_at}
+
+-- one letter
+abbrev pub letter_field : List ℕ → ℕ → ℕ → Field
+letter_field c at letter = record { place = at; size = 1; is_kept = nat_eq (slice_index c at) letter }
+
+-- behind the gate of the layout: the four letters, the length of the text, and the text with the gate behind it
+abbrev pub head_fields : List ℕ → List ℕ → List Field
+head_fields letters c =
+    letter_field c 1 (slice_index letters 0) ∷ letter_field c 2 (slice_index letters 1)
+    ∷ letter_field c 3 (slice_index letters 2) ∷ letter_field c 4 (slice_index letters 3)
+    ∷ record { place = 5; size = 4; is_kept = true }
+    ∷ record { place = 9; size = short_at c 5 + 1; is_kept = true }
+    ∷ []
+
+-- where the gate of the first block is, behind a text of so many bytes
+abbrev pub blocks_at : ℕ → ℕ
+blocks_at size = 9 + size
+
+-- the text
+abbrev pub text_in : List ℕ → List ℕ
+text_in c = take (short_at c 5) (drop 9 c)
+
+-- a layout is there, and its head is whole
+pub record HasHead (letters c : List ℕ) : Type 0 where
+  pub begun : IsBegun c
+  pub fields : All (Keeps c) (head_fields letters c)
+
+-- it is that of this text
+pub record IsOfText (letters text c : List ℕ) : Type 0 where
+  pub head : HasHead letters c
+  pub same : text_in c ≡ text
+
+-- ---- a layout that is begun
+
+-- what stands behind the gate of the layout, up to the first block's gate, which is closed
+abbrev pub head_image : List ℕ → List ℕ → List ℕ
+head_image letters text = letters ++ (number_bytes 4 (length text) ++ (text ++ 0 ∷ []))
+
+-- a layout of this text without blocks
+pub record IsEmpty (letters text c : List ℕ) : Type 0 where
+  pub of_text : IsOfText letters text c
+  pub shut : IsShut (blocks_at (length text)) c
+
+-- an image is one that a crash might have left before, or has no finished layout
+abbrev pub IsLeftOrNew : Option Trace → List ℕ → Type 0
+IsLeftOrNew o c = MayLeave o c ⊎ IsNew c
+
+-- or it is the layout of this text without blocks
+abbrev pub IsLeftOrBegun : List ℕ → List ℕ → Option Trace → List ℕ → Type 0
+IsLeftOrBegun letters text o c = IsLeftOrNew o c ⊎ IsEmpty letters text c

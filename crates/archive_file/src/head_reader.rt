@@ -1,0 +1,88 @@
+// The head of a layout with a text, read of an image in memory.
+ghost use Rattle.std.specs.Prelude.{◌≡◌, ℕ, ◌+◌, ◌^◌, ◌<◌, ◌≤◌, All, Option, IfNone, IfOk, IfSome, IsErrOf, OnOk, length};
+ghost use Rattle.disk_model.specs.Calls.{CountsFault, Shows};
+ghost use Rattle.disk_model.specs.Gates.{IsBegun, IsNew};
+ghost use Rattle.archive_file.specs.declared.failure.ScanNo.TheVariants.{Damaged, DeviceFault};
+ghost use Rattle.archive_file.specs.LayoutFields.{BreaksFirst, Keeps, short_at};
+ghost use Rattle.archive_file.specs.TextHeads.{IsOfText, head_fields, letter_field, text_in};
+
+use crate::failure::ScanNo;
+use crate::layout_field::{Field, byte_at, check, short_at};
+use crate::log::read_bytes;
+use disk_model::{Disk, OPEN};
+use std::alloc::Global;
+
+/// All bytes of a device.
+pub fn read_all<D: Disk>(alloc: Global, dev: &mut D) -> Result<Vec<u8>, ScanNo>
+    ensures all { IfOk result (λ v. Shows (D.trace dev.old) (λ c. v.items ≡ c)) }
+    ensures undamaged { (a : ℕ) (byte : Option ℕ) → IsErrOf result (Damaged a byte) → ⊥ }
+    ensures cause { CountsFault result DeviceFault (D.fault_count dev.old) (D.fault_count dev.new) }
+    ensures same { D.trace dev.new ≡ D.trace dev.old }
+    ensures untimed { D.ticks dev.new ≡ D.ticks dev.old }
+{
+    let Ok(len) = dev.len() else {
+        return Err(ScanNo::DeviceFault);
+    };
+    read_bytes(alloc, dev, 0, len as usize)
+}
+
+/// The text of a layout that begins with these letters; none where no layout was finished. Refuses the first field of the head
+/// that is not there or breaks its rule.
+pub fn read_head(c: &[u8], letters: [u8; 4]) -> Result<Option<&[u8]>, ScanNo>
+    ensures new { IfOk result (λ found. IfNone found (IsNew c.now)) }
+    ensures text { IfOk result (λ found. IfSome found (λ text. IsOfText letters text.now c.now)) }
+    ensures room { IfOk result (λ found. IfSome found (λ text. 9 + length text.now < length c.now)) }
+    ensures small { IfOk result (λ found. IfSome found (λ text. length text.now < 2 ^ 32)) }
+    ensures begun { (a : ℕ) (byte : Option ℕ) → IsErrOf result (Damaged a byte) → IsBegun c.now }
+    ensures damaged { (a : ℕ) (byte : Option ℕ) → IsErrOf result (Damaged a byte)
+        → BreaksFirst c.now (head_fields letters c.now) a byte }
+    ensures no_fault { IsErrOf result DeviceFault → ⊥ }
+{
+    if c.len() <= 1 || byte_at(c, 0) != OPEN {
+        return Ok(None);
+    }
+    let size = short_at(c, 5);
+    check_head(c, letters, size)?;
+    Ok(Some(text_in(c, size as usize)))
+}
+
+// Refuses the head of a layout with a text of so many bytes, in the first field that is not there or breaks its rule.
+fn check_head(c: &[u8], letters: [u8; 4], size: u32) -> Result<(), ScanNo>
+    requires { size ≡ short_at c.now 5 }
+    ensures kept { OnOk result (All (Keeps c.now) (head_fields letters c.now)) }
+    ensures damaged { (a : ℕ) (byte : Option ℕ) → IsErrOf result (Damaged a byte)
+        → BreaksFirst c.now (head_fields letters c.now) a byte }
+    ensures no_fault { IsErrOf result DeviceFault → ⊥ }
+    ensures long { OnOk result (9 + (size + 1) ≤ length c.now) }
+{
+    check(
+        c,
+        &[
+            letter_field(c, 1, letters[0]),
+            letter_field(c, 2, letters[1]),
+            letter_field(c, 3, letters[2]),
+            letter_field(c, 4, letters[3]),
+            Field::new(5, 4, true),
+            Field::new(9, size as usize + 1, true),
+        ],
+    )
+}
+
+// The text, which has so many bytes.
+fn text_in(c: &[u8], size: usize) -> &[u8]
+    requires there { 9 + size ≤ length c.now }
+    requires size { size ≡ short_at c.now 5 }
+    ensures text { result.now ≡ text_in c.now }
+    ensures len { length result.now ≡ size }
+{
+    let (_, rest) = c.split_at(9);
+    let (text, _) = rest.split_at(size);
+    text
+}
+
+// One letter of the head.
+fn letter_field(c: &[u8], at: usize, letter: u8) -> Field
+    ensures { result ≡ letter_field c.now at letter }
+{
+    Field::new(at, 1, byte_at(c, at) == letter)
+}

@@ -1,0 +1,84 @@
+// A layout with a text is begun on a device.
+ghost use Rattle.std.specs.Prelude.{◌≡◌, ℕ, ◌+◌, ◌≤◌, IfOk, IsErrOf, OnOk, length};
+ghost use Rattle.disk_model.specs.Calls.{CountsFault, HasCause, Shows};
+ghost use Rattle.disk_model.specs.Gates.{IsShut};
+ghost use Rattle.disk_model.specs.Images.{IsSettled, Now};
+ghost use Rattle.disk_model.specs.Moments.{During};
+ghost use Rattle.archive_file.specs.declared.failure.PutNo.TheVariants.{DeviceFault, WantOfMemory as NoMemory};
+ghost use Rattle.archive_file.specs.TextHeads.{IsEmpty, IsLeftOrBegun, IsLeftOrNew, blocks_at, head_image};
+
+use crate::failure::PutNo;
+use disk_model::{Disk, Failed, close_gates, write_guarded};
+use std::alloc::{AllocError, Global};
+
+// Where the gate of the layout is.
+const GATE: u64 = 0;
+
+// The byte of a closed gate.
+const CLOSED: u8 = 0;
+
+/// Begins a layout with these letters and this text: closes the gate of the layout, writes the head and a closed gate behind it,
+/// and opens it. A crash at any moment leaves what it might have left before, or no finished layout, or this one without blocks.
+/// Want of memory, which is also answered for a text of 2^32 bytes or more, comes before any call.
+pub fn begin_layout<D: Disk>(
+    alloc: Global,
+    dev: &mut D,
+    letters: [u8; 4],
+    text: &[u8],
+) -> Result<(), PutNo>
+    requires settled { IsSettled (D.trace dev.old) }
+    ensures any_moment { During (D.trace dev.old) (D.trace dev.new) (IsLeftOrBegun letters text.now (D.trace dev.old)) }
+    ensures made { OnOk result (Shows (D.trace dev.new) (IsEmpty letters text.now)) }
+    ensures settled { OnOk result (IsSettled (D.trace dev.new)) }
+    ensures ready { OnOk result (Now (D.trace dev.new) (IsShut (blocks_at (length text.now)))) }
+    ensures no_memory { IsErrOf result NoMemory → dev.new ≡ dev.old }
+    ensures cause { CountsFault result DeviceFault (D.fault_count dev.old) (D.fault_count dev.new) }
+    ensures later { D.ticks dev.old ≤ D.ticks dev.new }
+{
+    let Ok(size) = u32::try_from(text.len()) else {
+        return Err(PutNo::WantOfMemory);
+    };
+    let Ok(bytes) = head_bytes(alloc, letters, text, size) else {
+        return Err(PutNo::WantOfMemory);
+    };
+    let Ok(()) = close_layout(dev) else {
+        return Err(PutNo::DeviceFault);
+    };
+    let Ok(()) = write_guarded(dev, GATE + 1, &bytes, GATE) else {
+        return Err(PutNo::DeviceFault);
+    };
+    Ok(())
+}
+
+// The bytes behind the gate of the layout, of a text of so many bytes.
+fn head_bytes(
+    alloc: Global,
+    letters: [u8; 4],
+    text: &[u8],
+    size: u32,
+) -> Result<Vec<u8>, AllocError>
+    requires { size ≡ length text.now }
+    ensures { IfOk result (λ v. v.items ≡ head_image letters text.now) }
+{
+    let mut bytes = Vec::new(alloc);
+    bytes.extend_from_slice(&letters)?;
+    bytes.extend_from_slice(&size.to_be_bytes())?;
+    bytes.extend_from_slice(text)?;
+    bytes.push(CLOSED)?;
+    Ok(bytes)
+}
+
+// Sees to it that the gate of the layout is closed, and syncs. A device of length 0 begins with it.
+fn close_layout<D: Disk>(dev: &mut D) -> Result<(), Failed>
+    requires settled { IsSettled (D.trace dev.old) }
+    ensures any_moment { During (D.trace dev.old) (D.trace dev.new) (IsLeftOrNew (D.trace dev.old)) }
+    ensures shut { OnOk result (Now (D.trace dev.new) (IsShut 0)) }
+    ensures later { D.ticks dev.old ≤ D.ticks dev.new }
+    ensures cause { HasCause (D.fault_count dev.old) (D.fault_count dev.new) result }
+{
+    if dev.len()? > 0 {
+        return close_gates(dev, GATE, 1);
+    }
+    dev.write_at(GATE, &[CLOSED])?;
+    dev.sync()
+}

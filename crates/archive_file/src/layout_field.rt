@@ -1,0 +1,111 @@
+// Fields of an image that is in memory.
+ghost use Rattle.std.specs.Prelude.{◌≡◌, ℕ, ◌+◌, All, Option, IfOk, IsErrOf, OnOk, slice_index};
+ghost use Rattle.archive_file.specs.declared.failure.ScanNo.TheVariants.{Damaged, DeviceFault, WantOfMemory};
+ghost use Rattle.archive_file.specs.LayoutFields.{Breaks, BreaksFirst, Keeps, long_at, short_at};
+
+use crate::failure::ScanNo;
+
+/// So many bytes at a place, and whether they keep the rule of their field.
+#[derive(Clone, Copy)]
+pub struct Field {
+    /// Where it begins, in bytes from the start of the image.
+    pub place: usize,
+    /// How many bytes it has.
+    pub size: usize,
+    /// Whether these bytes keep its rule; of no meaning where they are not there.
+    pub is_kept: bool,
+}
+
+impl Field {
+    /// The field of so many bytes at a place.
+    pub fn new(place: usize, size: usize, is_kept: bool) -> Field
+        ensures { result ≡ record { place = place; size = size; is_kept = is_kept } }
+    {
+        Field {
+            place,
+            size,
+            is_kept,
+        }
+    }
+
+    // Refuses a field that is not there, or that breaks its rule.
+    fn check(self, c: &[u8]) -> Result<(), ScanNo>
+        ensures kept { OnOk result (Keeps c.now self) }
+        ensures damaged { (a : ℕ) (byte : Option ℕ) → IsErrOf result (Damaged a byte) → Breaks c.now self a byte }
+        ensures no_fault { IsErrOf result DeviceFault → ⊥ }
+        ensures no_want { IsErrOf result WantOfMemory → ⊥ }
+    {
+        if self.place > c.len() || self.size > c.len() - self.place {
+            return Err(ScanNo::Damaged {
+                at: c.len() as u64,
+                byte: None,
+            });
+        }
+        if self.is_kept {
+            return Ok(());
+        }
+        Err(ScanNo::Damaged {
+            at: self.place as u64,
+            byte: Some(byte_at(c, self.place)),
+        })
+    }
+}
+
+/// Refuses the first of some fields that is not there, or that breaks its rule.
+pub fn check(c: &[u8], fields: &[Field]) -> Result<(), ScanNo>
+    ensures kept { OnOk result (All (Keeps c.now) fields.now) }
+    ensures damaged { (a : ℕ) (byte : Option ℕ) → IsErrOf result (Damaged a byte) → BreaksFirst c.now fields.now a byte }
+    ensures no_fault { IsErrOf result DeviceFault → ⊥ }
+    ensures no_want { IsErrOf result WantOfMemory → ⊥ }
+{
+    for field in fields {
+        field.check(c)?;
+    }
+    Ok(())
+}
+
+/// The byte at a place; 0 where the image ends before it.
+pub fn byte_at(c: &[u8], at: usize) -> u8
+    ensures { result ≡ slice_index c.now at }
+{
+    byte_behind(c, at, 0)
+}
+
+// The byte so far behind a place.
+fn byte_behind(c: &[u8], at: usize, i: usize) -> u8
+    ensures { result ≡ slice_index c.now (at + i) }
+{
+    if at < c.len() && i < c.len() - at {
+        c[at + i]
+    } else {
+        0
+    }
+}
+
+/// The number of 4 bytes from a place on, the highest first; what is not there counts as zeros.
+pub fn short_at(c: &[u8], at: usize) -> u32
+    ensures { result ≡ short_at c.now at }
+{
+    u32::from_be_bytes([
+        byte_behind(c, at, 0),
+        byte_behind(c, at, 1),
+        byte_behind(c, at, 2),
+        byte_behind(c, at, 3),
+    ])
+}
+
+/// The number of 8 bytes from a place on, the highest first; what is not there counts as zeros.
+pub fn long_at(c: &[u8], at: usize) -> u64
+    ensures { result ≡ long_at c.now at }
+{
+    u64::from_be_bytes([
+        byte_behind(c, at, 0),
+        byte_behind(c, at, 1),
+        byte_behind(c, at, 2),
+        byte_behind(c, at, 3),
+        byte_behind(c, at, 4),
+        byte_behind(c, at, 5),
+        byte_behind(c, at, 6),
+        byte_behind(c, at, 7),
+    ])
+}

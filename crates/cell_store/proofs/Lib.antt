@@ -1,5 +1,0 @@
-pub mod Lists
-pub mod Labels
-pub mod Backs
-pub mod Fronts
-pub mod Halts

@@ -1,4 +1,0 @@
-pub mod Names
-pub mod Openings
-pub mod Closings
-pub mod Stops

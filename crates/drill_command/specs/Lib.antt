@@ -1,3 +1,0 @@
-pub mod Drills
-pub mod Phases
-pub mod Words

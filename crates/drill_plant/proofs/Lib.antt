@@ -1,4 +1,0 @@
-pub mod Naming
-pub mod Growing
-pub mod Sound
-pub mod Formulas

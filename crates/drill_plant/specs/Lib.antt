@@ -1,2 +1,0 @@
-pub mod Plant
-pub mod Rows

@@ -1,9 +1,0 @@
-pub mod Places
-pub mod Columns
-pub mod Changing
-pub mod Cuts
-pub mod Limits
-pub mod Timing
-pub mod Scans
-pub mod Bringing
-pub mod Ends

@@ -1,5 +1,0 @@
-use Rattle.frame_tests.proofs.Checked.{AreChecked}
-use Rattle.frame_tests.proofs.spelled.are_changes.Given as goal
-
-abbrev pub invariant-loop-i : goal.invariant-loop-i
-invariant-loop-i l = AreChecked l.windows l.changes l.i

@@ -1,0 +1,124 @@
+-- Lists of records, one for each input, that are taken into account one after the other.
+use Rattle.std.proofs.Common.{◌≡◌, ℕ, zero, suc, ◌+◌, ◌<◌, ◌≤◌, List, [], ◌∷◌, ◌++◌, All, length, map, get_or, take, drop, refl, sym, ap, ap₂, subst, ◌∙◌, arith}
+use Rattle.std.proofs.lemmas.List.{get_or-map, get_or-take, length-take, length_push, map-append, take-append-drop, take_all, take_more}
+use Rattle.std.proofs.lemmas.List.Elements.{All-push}
+use Rattle.trend_num.specs.declared.archive.Rec.{Rec}
+use Rattle.tag_cell.specs.declared.entry.Pulled.{Pulled}
+use Rattle.calc_refresh.specs.Refreshed.{fault_after}
+use Rattle.calc_refresh.specs.Sheet.{IsCopy}
+use Rattle.sheet_law.specs.Touched.{longer}
+use Rattle.group_book.specs.declared.refusal.RefreshNo.{RefreshNo}
+use Rattle.group_book.specs.declared.refusal.RefreshNo.TheVariants.{Ahead, CellLimit, CopyLimit, WantOfMemory}
+use Rattle.group_book.specs.InputLists.{ArePullsOf, IsListsRefusal, IsPullAhead, IsPullOf, IsPullRefusal, lists_at}
+use Rattle.group_book.specs.Refusals.{IsToldOf}
+use Rattle.group_book.specs.Tapes.{cut, uncut}
+use Rattle.group_book.specs.Told.{GoesOn, Told, pulled_records, versions_of}
+use Rattle.group_book.proofs.Causes.{goes_from, goes_more}
+
+-- ---- what is behind the first records
+
+-- one input more
+uncut_more : (vs : List ℕ) (rss : List (List Rec)) (i : ℕ) → length rss ≡ length vs → i < length vs
+    → uncut (take (i + 1) vs) (take (i + 1) rss) ≡ uncut (take i vs) (take i rss) ++ drop (get_or vs i 0) (get_or rss i []) ∷ []
+uncut_more [] rss i same below = absurd (omega (arith, below))
+uncut_more (v ∷ vs) [] i same below = absurd (omega (arith, same))
+uncut_more (v ∷ vs) (rs ∷ rss) zero same below = refl
+uncut_more (v ∷ vs) (rs ∷ rss) (suc i) same below =
+    let next : suc (i + 1) ≡ suc i + 1 = omega arith in
+    subst (λ n. uncut (take n (v ∷ vs)) (take n (rs ∷ rss))
+    ≡ (drop v rs ∷ uncut (take i vs) (take i rss)) ++ drop (get_or vs i 0) (get_or rss i []) ∷ []) next
+    (ap (λ l. drop v rs ∷ l) (uncut_more vs rss i (omega (arith, same)) (omega (arith, below))))
+
+-- both together are the lists
+pub longer-uncut : (vs : List ℕ) (rss : List (List Rec)) → length rss ≡ length vs → longer (cut vs rss) (uncut vs rss) ≡ rss
+longer-uncut [] [] same = refl
+longer-uncut [] (rs ∷ rss) same = absurd (omega (arith, same))
+longer-uncut (v ∷ vs) [] same = absurd (omega (arith, same))
+longer-uncut (v ∷ vs) (rs ∷ rss) same =
+    ap₂ (λ x y. x ∷ y) (take-append-drop v rs) (longer-uncut vs rss (omega (arith, same)))
+
+-- ---- what was pulled of the first lists
+
+-- of none
+pub pulls_none : (lists : List (List Rec)) (versions : List ℕ) → ArePullsOf (take 0 lists) (take 0 versions) []
+pulls_none lists versions = record {
+  as_many = refl;
+  records = refl;
+  ends = refl;
+  copied = λ k d below. absurd (omega (arith, below));
+  goes_on = λ i p below. absurd (omega (arith, below));
+}
+
+-- of one more
+pub pulls_more : (lists : List (List Rec)) (versions : List ℕ) (i : ℕ) (ps : List Pulled) (one : Pulled) → length lists ≡ length versions
+    → i < length lists → IsPullOf (get_or lists i []) (get_or versions i 0) one → ArePullsOf (take i lists) (take i versions) ps
+    → ArePullsOf (take (i + 1) lists) (take (i + 1) versions) (ps ++ one ∷ [])
+pulls_more lists versions i ps one same within is before = record {
+  as_many = omega (arith, length_push ps one, many, length-take (i + 1) lists, within);
+  records = map-append (λ p. p.recs.items) ps (one ∷ [])
+      ∙ ap₂ (λ l rs. l ++ rs ∷ []) before.records is.records
+      ∙ sym (uncut_more versions lists i same (omega (arith, within, same)));
+  ends = map-append (λ p. p.upto) ps (one ∷ [])
+      ∙ ap₂ (λ l n. l ++ n ∷ []) before.ends is.ends
+      ∙ sym (ap (map length) (take_more lists i [] within) ∙ map-append length (take i lists) (get_or lists i [] ∷ []));
+  copied = subst (All IsCopy) (sym (map-append (λ p. p.recs.items) ps (one ∷ [])))
+      (All-push IsCopy (pulled_records ps) one.recs.items before.copied is.copied);
+  goes_on = goes_more (take (i + 1) versions) ps one (λ k p below.
+      before.goes_on k p below
+      ∙ ap (λ n. n + length (get_or ps k p).recs.items)
+      (get_or-take i versions k 0 (omega (arith, below, many)) ∙ sym (get_or-take (i + 1) versions k 0 (omega (arith, below, many)))))
+      (is.goes_on ∙ ap (λ n. n + length one.recs.items)
+      (sym (ap (λ k. get_or (take (i + 1) versions) k 0) many ∙ get_or-take (i + 1) versions i 0 (omega arith))));
+}
+  where
+    many : length ps ≡ i
+    many = omega (arith, before.as_many, length-take i lists, within)
+
+-- of all
+pub pulls_all : (lists : List (List Rec)) (versions : List ℕ) (i : ℕ) (ps : List Pulled) → length lists ≡ length versions
+    → length lists ≤ i → ArePullsOf (take i lists) (take i versions) ps → ArePullsOf lists versions ps
+pulls_all lists versions i ps same end so =
+    subst (λ l. ArePullsOf l versions ps) (take_all i lists end)
+    (subst (λ l. ArePullsOf (take i lists) l ps) (take_all i versions (omega (arith, end, same))) so)
+
+-- it goes on from the copies
+pub pulls_go_on : (lists : List (List Rec)) (versions : List ℕ) (copies : List (List Rec)) (ps : List Pulled) → versions ≡ map length copies
+    → length lists ≡ length copies → ArePullsOf lists versions ps → GoesOn copies ps
+pulls_go_on lists versions copies ps are same so = goes_from versions copies ps are (so.as_many ∙ same) so.goes_on
+
+-- the list of an input
+pub list_at : (records : List (List Rec)) (tags : List ℕ) (i : ℕ) → i < length tags
+    → get_or (lists_at records tags) i [] ≡ get_or records (get_or tags i 0) []
+list_at records tags i within = get_or-map (λ tag. get_or records tag []) tags i 0 [] within
+
+-- ---- refusals
+
+-- one list that is too short refuses all
+pub list_ahead : (lists : List (List Rec)) (versions : List ℕ) (i : ℕ) (why : RefreshNo) → i < length lists
+    → IsPullRefusal (get_or lists i []) i (get_or versions i 0) why → IsPullAhead lists versions why
+list_ahead lists versions i (Ahead input version records) within is =
+    let same : i ≡ input = sym is.0 in (
+      omega (arith, within, is.0),
+      is.1 ∙ ap (λ n. get_or versions n 0) same,
+      is.2 ∙ ap (λ n. length (get_or lists n [])) same,
+      omega (arith, is.3, is.1),
+    )
+list_ahead lists versions i (CellLimit cells) within is = absurd is
+list_ahead lists versions i (CopyLimit records) within is = absurd is
+list_ahead lists versions i WantOfMemory within is = tt
+
+-- and refuses the book
+pub ahead_refuses : {D : Type 0} (lists : List (List Rec)) (book : Told D) (why : RefreshNo) → IsPullAhead lists (versions_of book) why
+    → IsListsRefusal lists book why
+ahead_refuses lists book (Ahead input version records) is = is
+ahead_refuses lists book (CellLimit cells) is = absurd is
+ahead_refuses lists book (CopyLimit records) is = absurd is
+ahead_refuses lists book WantOfMemory is = tt
+
+-- so does a sheet that would be too large
+pub sheet_refuses_lists : {D : Type 0} (lists : List (List Rec)) (book : Told D) (mores : List (List Rec)) (why : RefreshNo)
+    → mores ≡ uncut (versions_of book) lists → IsToldOf (fault_after book.sheet mores) why → IsListsRefusal lists book why
+sheet_refuses_lists lists book mores (Ahead input version records) is told = absurd told
+sheet_refuses_lists lists book mores (CellLimit cells) is told = ap (fault_after book.sheet) (sym is) ∙ told
+sheet_refuses_lists lists book mores (CopyLimit records) is told = ap (fault_after book.sheet) (sym is) ∙ told
+sheet_refuses_lists lists book mores WantOfMemory is told = tt

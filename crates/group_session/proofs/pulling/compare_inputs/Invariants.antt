@@ -1,8 +1,0 @@
-use Rattle.std.proofs.Common.{◌<◌, ℕ, get_or}
-use Rattle.tag_cell.specs.Told.{Told as Cell}
-use Rattle.group_session.specs.Pulls.{IsPulledFrom}
-use Rattle.group_session.proofs.pulling.compare_inputs.Given as goal
-
-abbrev pub invariant-loop-input : goal.invariant-loop-input
-invariant-loop-input g l =
-    (k : ℕ) (c : Cell g.row.C.Denot) → k < l.input → IsPulledFrom l.group k (get_or l.cells (get_or l.tags k 0) c) l.book

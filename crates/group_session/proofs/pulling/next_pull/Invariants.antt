@@ -1,9 +1,0 @@
-use Rattle.std.proofs.Common.{◌≡◌, ◌≤◌, drop}
-use Rattle.group_session.specs.Tapes.{pulled}
-use Rattle.group_session.proofs.pulling.next_pull.Given as goal
-
-abbrev pub invariant-loop-place : goal.invariant-loop-place
-invariant-loop-place l = record {
-  from : l.from ≤ l.place;
-  same : pulled l.group (drop l.from l.tape) ≡ pulled l.group (drop l.place l.tape);
-}

@@ -1,9 +1,0 @@
-use Rattle.std.proofs.Common.{◌≡◌, ◌≤◌, drop}
-use Rattle.group_session.specs.Tapes.{reached}
-use Rattle.group_session.proofs.pulling.next_version.Given as goal
-
-abbrev pub invariant-loop-place : goal.invariant-loop-place
-invariant-loop-place l = record {
-  from : l.from ≤ l.place;
-  same : reached l.input (drop l.from l.tape) ≡ reached l.input (drop l.place l.tape);
-}

@@ -1,0 +1,5 @@
+use Rattle.group_tests.proofs.books.refresh.Given as goal
+
+-- the ledger is that of the blank
+abbrev pub ghosts-refresh_on : goal.ghosts-refresh_on
+ghosts-refresh_on g a = record { name = a.blank.name; parts = a.blank.parts }

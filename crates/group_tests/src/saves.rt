@@ -1,0 +1,287 @@
+// Books over devices: what is saved, and what is there when the device is opened again.
+ghost use Rattle.std.specs.Prelude.{IfOk};
+ghost use Rattle.calc_refresh.specs.Sheet.{IsCopy};
+
+use crate::book_groups::means;
+use crate::books::{answers, cell_of, cell_with, refresh, take_all};
+use disk_model::{MemDisk, Pick};
+use group_book::{Book, LoadFail, Turn, load};
+use group_layout::definition_text;
+use std::alloc::{AllocError, Global};
+use std::fmt::Write;
+use std::process::Abort;
+use std::sync::{Mutex, Wait};
+use std::test::Fail;
+use tag_cell::Cell;
+use trend_num::{Rec, name_from};
+
+// The definition texts of two groups of one tag and one calculation.
+const TEXT: &[u8; 23] = b"g,0,1000,T1\nm=avg('T1')";
+
+const OTHER: &[u8; 23] = b"h,0,1000,T1\nm=avg('T1')";
+
+// Sessions on one device in turn, parted by `/`: the group, a place of the device and the value that its byte gets before, or a
+// `-`, and all values that the tag has taken. Behind `=>` the version and the rows that were saved; then, after `:`, the rows
+// once the book was refreshed and saved, how many values were evaluated, and the length of the device; or why the device is
+// not opened.
+const SESSIONS: &str = "\
+g - 0,0 3000,0 4000,9 1500,60 commit => 0 : 20 50 20 e3 105 / \
+g - 0,0 3000,0 4000,9 1500,60 commit => 3 20 50 20 : 20 50 20 e0 126 / \
+g - 0,0 3000,0 4000,9 1500,60 2000,40 2500,40 commit => 3 20 50 20 : 20 50 30 e2 164 / \
+g - 0,0 3000,0 4000,9 1500,60 2000,40 2500,40 commit => 5 20 50 30 : 20 50 30 e0 185
+g - 0,0 3000,0 4000,9 1500,60 commit => 0 : 20 50 20 e3 105 / \
+g 44=5 0,0 3000,0 4000,9 1500,60 commit => Ahead { input: 0, version: 5, records: 3 } / \
+g 44=3 0,0 3000,0 4000,9 commit => Ahead { input: 0, version: 3, records: 2 } / \
+g 44=1 0,0 3000,0 4000,9 1500,60 commit => Shape { windows: 0, rows: 3 } / \
+g 33=1 0,0 3000,0 4000,9 1500,60 commit => Damaged { at: 33, byte: Some(1) } / \
+h 33=0 0,0 3000,0 4000,9 commit => 0 : 0 0 0 e3 105 / \
+g 32=0 0,0 3000,0 4000,9 commit => 0 : 0 0 0 e3 105";
+
+// The device of the first group once three records and the rows 20, 50, 20 were saved, in digits of base sixteen: the gate, the
+// letters and the text behind its length; the gate of the block, its number, the version, the windows and how many rows; the
+// rows; the next gate.
+const FIRST: &str = "\
+a55048473100000017672c302c313030302c54310a6d3d617667282754312729\
+a50000000000000001000000030000000300000003\
+0000000000000000000000000000000014\
+0000000000000001000000000000000032\
+0000000000000002000000000000000014\
+00";
+
+// A device with another byte at a place, where a text tells one.
+fn changed(alloc: Global, dev: MemDisk, change: &str) -> Option<MemDisk> {
+    let Some((at, byte)) = change.split_once('=') else {
+        return Some(dev);
+    };
+    let at = at.parse::<usize>().ok()?;
+    let mut bytes = Vec::from_slice(alloc, dev.bytes()).ok()?;
+    *bytes.get_mut(at)? = byte.parse::<u8>().ok()?;
+    Some(MemDisk::new(bytes, Vec::new(alloc)))
+}
+
+// The records of a cell.
+fn copy_of(alloc: Global, cell: &Cell<MemDisk>) -> Result<Vec<Rec>, AllocError>
+    ensures { IfOk result (λ copy. IsCopy copy.items) }
+{
+    Vec::from_slice(alloc, cell.recs())
+}
+
+// The book of a group over a device, whose tag recovered the records of a cell; or the device, and why it is not opened.
+fn loaded(
+    alloc: Global,
+    dev: MemDisk,
+    text: &[u8],
+    cell: &Cell<MemDisk>,
+) -> Option<Result<Book<MemDisk>, LoadFail<MemDisk>>> {
+    let def = means(alloc)?;
+    let tags = vec![in alloc; 0; 1].ok()?;
+    let recovered = [copy_of(alloc, cell).ok()?];
+    Some(load(alloc, dev, 0, &def, text, tags, &recovered))
+}
+
+// The version that a book was opened with.
+fn version_of(book: &Book<MemDisk>) -> Option<u32> {
+    book.opening().versions.first().copied()
+}
+
+// The device of a book and how many values it evaluated.
+fn device_of(book: Book<MemDisk>) -> Option<(MemDisk, u64)> {
+    let (dev, history) = book.into_history();
+    Some((dev?, history.evals))
+}
+
+// Whether a book is saved.
+fn is_saved(book: &mut Book<MemDisk>) -> bool {
+    book.save().is_ok()
+}
+
+// Refreshes and saves a book. Tells what was there before and is now.
+fn renew<R: Wait>(
+    rt: &R,
+    alloc: Global,
+    book: &mut Book<MemDisk>,
+    cell: Mutex<Cell<MemDisk>>,
+) -> Option<String> {
+    let version = version_of(book)?;
+    let before = answers(alloc, book)?;
+    refresh(rt, book, &[cell]).ok()?;
+    let after = answers(alloc, book)?;
+    if !is_saved(book) {
+        return None;
+    }
+    format!(in alloc; "{version} {before}: {after}").ok()
+}
+
+// Does so, and tells how many values were evaluated and how long the device is.
+fn renewed<R: Wait>(
+    rt: &R,
+    alloc: Global,
+    mut book: Book<MemDisk>,
+    cell: Mutex<Cell<MemDisk>>,
+) -> Option<(MemDisk, String)> {
+    let told = renew(rt, alloc, &mut book, cell)?;
+    let (dev, evals) = device_of(book)?;
+    let len = dev.bytes().len();
+    let told = format!(in alloc; "{told}e{evals} {len}").ok()?;
+    Some((dev, told))
+}
+
+// A session on a device.
+fn session<R: Wait>(rt: &R, alloc: Global, dev: MemDisk, words: &str) -> Option<(MemDisk, String)> {
+    let (group, rest) = words.split_once(' ')?;
+    let (change, values) = rest.split_once(' ')?;
+    let cell = cell_with(rt, alloc, values)?;
+    let dev = changed(alloc, dev, change)?;
+    let text = if group == "g" { TEXT } else { OTHER };
+    let opened = loaded(alloc, dev, text, &cell.lock(rt))?;
+    match opened {
+        Ok(book) => renewed(rt, alloc, book, cell),
+        Err(LoadFail { dev, why }) => Some((dev, format!(in alloc; "{why:?}").ok()?)),
+    }
+}
+
+#[test]
+fn what_was_saved_is_there_again(rt: HostRuntime) -> Result<(), Fail> {
+    for line in SESSIONS.lines() {
+        let mut dev = MemDisk::new(Vec::new(rt.alloc()), Vec::new(rt.alloc()));
+        for step in line.split(" / ") {
+            let (words, want) = step.split_once(" => ").ok_or("an arrow")?;
+            let (next, told) = session(&rt, rt.alloc(), dev, words).ok_or("no session")?;
+            assert_eq!(&rt; told.as_str(), want, "{step}");
+            dev = next;
+        }
+    }
+    Ok(())
+}
+
+// Takes values, refreshes a book and saves it. Tells whether it was saved.
+fn saves(
+    rt: &impl Wait,
+    book: &mut Book<MemDisk>,
+    cells: &[Mutex<Cell<MemDisk>>],
+    values: &str,
+) -> Option<bool> {
+    let cell = cells.first()?;
+    take_all(rt, &mut cell.lock(rt), values)?;
+    refresh(rt, book, cells).ok()?;
+    Some(is_saved(book))
+}
+
+// Tries two saves of a book, up to the first that fails. Tells the last version that was saved, and the one that was being
+// saved.
+fn two_saves(rt: &impl Wait, book: &mut Book<MemDisk>, cell: Cell<MemDisk>) -> Option<(u32, u32)> {
+    let cells = [Mutex::new(cell)];
+    if !saves(rt, book, &cells, "0,0 3000,0 4000,9 commit")? {
+        return Some((0, 2));
+    }
+    if !saves(rt, book, &cells, "1500,60 commit")? {
+        return Some((2, 3));
+    }
+    Some((3, 3))
+}
+
+// A device once two saves were tried on it: the last version that was saved, and the one that was being saved.
+fn after_saves(rt: &impl Wait, alloc: Global, dev: MemDisk) -> Option<(MemDisk, u32, u32)> {
+    let cell = cell_of(rt, alloc)?;
+    match loaded(alloc, dev, TEXT, &cell)? {
+        Ok(mut book) => {
+            let (saved, saving) = two_saves(rt, &mut book, cell)?;
+            let (dev, _) = device_of(book)?;
+            Some((dev, saved, saving))
+        }
+        Err(LoadFail { dev, .. }) => Some((dev, 0, 0)),
+    }
+}
+
+// The version that a crash leaves.
+fn left(rt: &impl Wait, alloc: Global, dev: &MemDisk, pick: Pick) -> Option<u32> {
+    let cell = cell_with(rt, alloc, "0,0 3000,0 4000,9 1500,60 commit")?;
+    let image = dev.crash(pick).ok()?;
+    let book = loaded(alloc, image, TEXT, &cell.lock(rt))?.ok()?;
+    version_of(&book)
+}
+
+// Tries two saves on a device and crashes it. Tells whether both were saved.
+fn crashes<R: Abort + Wait>(rt: &R, alloc: Global, dev: MemDisk) -> Option<bool> {
+    let (dev, saved, saving) = after_saves(rt, alloc, dev)?;
+    for pick in [Pick::Old, Pick::New, Pick::Fill(0), Pick::Fill(0xa5)] {
+        let version = left(rt, alloc, &dev, pick)?;
+        assert!(rt; version == saved || version == saving);
+    }
+    Some(saved == 3)
+}
+
+// Does so on a device that stops for good after so many calls, and on one of which that call alone fails. Tells whether both
+// were saved, where that is the same on each.
+fn both_crash<R: Abort + Wait>(rt: &R, alloc: Global, calls: u64) -> Option<bool> {
+    let mut stops = MemDisk::new(Vec::new(alloc), Vec::new(alloc));
+    stops.stop_after(calls);
+    let fails = MemDisk::new(Vec::new(alloc), vec![in alloc; calls].ok()?);
+    let done = crashes(rt, alloc, stops)?;
+    assert!(rt; crashes(rt, alloc, fails)? == done);
+    Some(done)
+}
+
+#[test]
+fn a_crash_leaves_the_last_save_or_the_next(rt: HostRuntime) -> Result<(), Fail> {
+    for calls in 0..100 {
+        if both_crash(&rt, rt.alloc(), calls).ok_or("not opened")? {
+            assert!(&rt; calls > 10);
+            return Ok(());
+        }
+    }
+    Err("two saves took more than 100 calls".into())
+}
+
+// The definition text of the first group.
+fn text_of(alloc: Global) -> Option<Vec<u8>> {
+    let name = name_from(b"g")?;
+    let def = means(alloc)?;
+    definition_text(alloc, &name, 0, 1000, &def.calcs).ok()
+}
+
+// The bytes that a first save leaves, in digits of base sixteen.
+fn first(rt: &impl Wait, alloc: Global) -> Option<String> {
+    let dev = MemDisk::new(Vec::new(alloc), Vec::new(alloc));
+    let (dev, _) = session(rt, alloc, dev, "g - 0,0 3000,0 4000,9 1500,60 commit")?;
+    let mut told = String::new(alloc);
+    for b in dev.bytes() {
+        write!(told, "{b:02x}").ok()?;
+    }
+    Some(told)
+}
+
+#[test]
+fn a_first_save_has_these_bytes(rt: HostRuntime) -> Result<(), Fail> {
+    let text = text_of(rt.alloc()).ok_or("no text")?;
+    assert!(&rt; text.as_slice() == TEXT.as_slice());
+    let told = first(&rt, rt.alloc()).ok_or("no session")?;
+    assert_eq!(rt; told.as_str(), FIRST);
+    Ok(())
+}
+
+// The number of the one save of a book, and how many writes and syncs there were from its opening to that.
+fn save_of(book: &Book<MemDisk>) -> Option<(u64, u64)> {
+    match book.tape() {
+        [Turn::Save { number, moment }] => {
+            Some((*number, moment.saturating_sub(book.opening().moment)))
+        }
+        _ => None,
+    }
+}
+
+// Saves the book of a new device, and tells of that.
+fn first_save(rt: &impl Wait, alloc: Global) -> Option<(u64, u64)> {
+    let cell = cell_with(rt, alloc, "0,0 3000,0 4000,9 1500,60 commit")?;
+    let dev = MemDisk::new(Vec::new(alloc), Vec::new(alloc));
+    let mut book = loaded(alloc, dev, TEXT, &cell.lock(rt))?.ok()?;
+    if !is_saved(&mut book) {
+        return None;
+    }
+    save_of(&book)
+}
+
+#[test]
+fn a_save_leaves_its_number_and_moment(rt: HostRuntime) {
+    assert_eq!(&rt; first_save(&rt, rt.alloc()), Some((1, 4)));
+}

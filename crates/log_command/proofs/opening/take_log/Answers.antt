@@ -1,5 +1,0 @@
-use Rattle.log_command.proofs.Kept.{untouched}
-use Rattle.log_command.proofs.opening.take_log.Goals as goal
-
-pub returns-in_default-clause-kept : goal.returns-in_default-clause-kept
-returns-in_default-clause-kept g c = untouched c.args.plant.now c.args.tags _ _ c.in_default.ensures.unchanged

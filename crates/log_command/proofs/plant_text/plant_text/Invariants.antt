@@ -1,6 +1,0 @@
-use Rattle.std.proofs.Common.{◌≡◌, take}
-use Rattle.log_command.specs.Texts.{plant_text}
-use Rattle.log_command.proofs.plant_text.plant_text.Given as goal
-
-abbrev pub invariant-loop-place : goal.invariant-loop-place
-invariant-loop-place l = l.text.items ≡ plant_text (take l.place l.tags)

@@ -1,4 +1,0 @@
-use Rattle.log_command.proofs.report.take_all.Given as goal
-
-abbrev pub ghosts-take_on : goal.ghosts-take_on
-ghosts-take_on a = record { name = a.blank.name; parts = a.blank.parts }

@@ -1,8 +1,0 @@
-pub mod Texts
-pub mod Openings
-pub mod Known
-pub mod Finding
-pub mod Making
-pub mod Refusals
-pub mod Reports
-pub mod Headline

@@ -1,3 +1,0 @@
-pub mod Committing
-pub mod Puts
-pub mod Seats

@@ -1,9 +1,0 @@
-use Rattle.commit_log.specs.Told.{waits}
-use Rattle.log_pool.specs.Turns.{IsCommitted}
-use Rattle.log_pool.proofs.commit.commit_all.Given as goal
-
-abbrev pub invariant-loop-done : goal.invariant-loop-done
-invariant-loop-done g l = IsCommitted l.fn.log l.log
-
-abbrev pub decreases-loop-done : goal.decreases-loop-done
-decreases-loop-done g l = waits l.log

@@ -1,0 +1,19 @@
+use Rattle.std.proofs.Common.{◌≡◌, refl, rules}
+use Rattle.plant_more.proofs.LogReports.{row_full, row_taken, taken_count}
+use Rattle.plant_more.proofs.log_report.take_row.Goals as goal
+
+pub take-requires-clause-countable : goal.take-requires-clause-countable
+take-requires-clause-countable g c =
+    taken_count c.args.tags.now c.args.rows.now c.args.cores.now c.args.place _ _ c.requires.rows c.requires.within c.requires.standing
+    c.requires.countable
+
+pub returns-in-Ok-clause-standing : goal.returns-in-Ok-clause-standing
+returns-in-Ok-clause-standing g c =
+    row_taken c.args.tags.now c.args.rows.now c.args.cores.now c.args.place _ _ c.take.new.self c.requires.rows c.requires.within
+    c.requires.standing c.take.ensures.one.step c.in-Ok.ensures.stands
+
+pub returns-in-Err-clause-refused : goal.returns-in-Err-clause-refused
+returns-in-Err-clause-refused g c =
+    let same : c.from.result ≡ c.in-Err.full.records = search rules in
+    row_full c.args.tags.now c.args.rows.now c.args.cores.now c.args.place _ _ c.from.result c.in-Err.full.records c.requires.rows
+    c.requires.within c.requires.standing same c.in-Err.ensures.one.full_records (c.in-Err.ensures.one.full.0 refl)

@@ -1,0 +1,66 @@
+-- What a log comes to once its workers have ended, and why it is refused.
+use Rattle.std.specs.Prelude.{◌≡◌, ◌≢◌, ℕ, ◌<◌, List, All, Any, length, Result, Ok, Err, ⊤}
+use Rattle.std.specs.List.{AllWithin, HoldsAt}
+use Rattle.plant_status.specs.declared.mismatch.Place.TheVariants.{Opening}
+use Rattle.plant_status.specs.declared.status.Status.{Status}
+use Rattle.plant_status.specs.declared.status.Status.TheVariants as status
+use Rattle.value_rows.specs.declared.raw.RawRow.{RawRow}
+use Rattle.commit_log.specs.Told.{Told, waits}
+use Rattle.plant_more.specs.declared.log_note.LogEnding.TheVariants.{Halted, WantOfMemory}
+use Rattle.plant_more.specs.declared.log_note.LogNote.{LogNote}
+use Rattle.plant_more.specs.LogNotes.{AreLogNotesOf, log_stops_with}
+use Rattle.plant_more.specs.declared.log_known.KnownLog.{KnownLog}
+use Rattle.plant_more.specs.LogFinding.{AreWhole, IsPutMismatch}
+use Rattle.plant_more.specs.LogKnown.{IsAsKnown, IsLogMismatch}
+use Rattle.plant_more.specs.LogMaking.{IsCommitRefusal, IsPutRefusal, total_rows}
+
+-- ---- the notes of workers
+
+-- these are the notes of all workers, of whom as many were stopped as the passes have counted more
+pub record AreNotes (D : Type 0) (files : List (List RawRow)) (before now : ℕ) (notes : List LogNote) : Type 0 where
+  pub of_all : AreLogNotesOf D files notes
+  pub stopped : now ≡ log_stops_with before notes
+
+-- the first worker that its pass stopped is told, or else that one found no memory
+abbrev pub IsStop : List LogNote → Status → Type 0
+IsStop notes (status.Halted worker) = (place : ℕ) × (place < length notes)
+    × HoldsAt (λ n. (n.worker ≡ worker) × (n.ending ≡ Halted)) notes place × AllWithin (λ n. n.ending ≢ Halted) notes 0 place
+IsStop notes status.WantOfMemory = Any (λ n. n.ending ≡ WantOfMemory) notes
+IsStop notes other = ⊥
+
+-- ---- what is done, and why it is not
+
+-- of each collector all rows were put, in their order, each once, and no others; and all rows are acknowledged
+pub record IsMade {D : Type 0} (files : List (List RawRow)) (l : Told D) : Type 0 where
+  pub whole : AreWhole files l.tape
+  pub none_waits : waits l ≡ 0
+
+-- no worker was stopped, and each found memory
+pub record AreUnstopped (notes : List LogNote) : Type 0 where
+  pub none_halted : All (λ n. n.ending ≢ Halted) notes
+  pub all_found : All (λ n. n.ending ≢ WantOfMemory) notes
+
+-- the refusals, in their order: a worker was stopped, or found no memory; a row is not put; rows are not acknowledged
+pub data IsRestRefusal {D : Type 0} (faults : D → ℕ) (files : List (List RawRow)) (notes : List LogNote) (l : Told D) (why : Status)
+    : Type 0 where
+  OfStop : IsStop notes why → IsRestRefusal faults files notes l why
+  OfPut : AreUnstopped notes → IsPutRefusal faults (total_rows files) l why → IsRestRefusal faults files notes l why
+  OfCommit : AreUnstopped notes → IsCommitRefusal faults l why → IsRestRefusal faults files notes l why
+
+-- the refusals, in their order: the log is not as it was kept; a put is not its collector's next row; one of the refusals above. No
+-- memory may be found at any time
+pub data IsSettlingRefusal {D : Type 0} (faults : D → ℕ) (files : List (List RawRow)) (notes : List LogNote) (known : KnownLog)
+    (l : Told D) (why : Status) : Type 0 where
+  OfOpening : IsLogMismatch l known why → IsSettlingRefusal faults files notes known l why
+  OfFinding : IsAsKnown l known → IsPutMismatch files l.tape why → IsSettlingRefusal faults files notes known l why
+  OfRest : IsAsKnown l known → IsRestRefusal faults files notes l why → IsSettlingRefusal faults files notes known l why
+  OfMemory : why ≡ status.WantOfMemory → IsSettlingRefusal faults files notes known l why
+
+-- a refusal is told of an opening that is not as it was kept
+abbrev pub IsOpening : Status → Type 0
+IsOpening (status.Mismatch (Opening unit) kept told) = ⊤
+IsOpening other = ⊥
+
+abbrev pub IsOfOpening : {T : Type 0} → Result T Status → Type 0
+IsOfOpening (Ok x) = ⊥
+IsOfOpening (Err why) = IsOpening why

@@ -1,0 +1,55 @@
+-- What the command prints, and why it prints nothing.
+use Rattle.std.specs.Prelude.{◌≡◌, ◌≢◌, ℕ, ℤ, List, Option}
+use Rattle.byte_io.specs.Files.{IsFaultOf}
+use Rattle.tag_core.specs.Core.{Core}
+use Rattle.tag_base.specs.declared.definition.Base.{Base}
+use Rattle.plant_status.specs.declared.status.Status.{Status}
+use Rattle.plant_status.specs.declared.status.Status.TheVariants.{BadWords, Done, ReadFault, WantOfMemory, WriteFault}
+use Rattle.plant_status.specs.declared.file.FileId.TheVariants as file
+use Rattle.plant_files.specs.Asked.{ToldFiles}
+use Rattle.plant_files.specs.Texts.{IsBaseFile, IsBaseRefusal, tag_names}
+use Rattle.plant_store.specs.TagRefusals.{IsRefusal}
+use Rattle.plant_store.specs.OpenedBases.{AreUntouched, IsOpenedBase}
+use Rattle.plant_store.specs.Groups.{Devices}
+use Rattle.shift_calendar.specs.Calendars.{Parts}
+use Rattle.shift_calendar.specs.Windows.{AreWindows, shifts_over}
+use Rattle.shift_calendar.specs.declared.window.ShiftWindow.{ShiftWindow}
+use Rattle.plant_more.specs.CalendarFile.{IsCalendarFile, IsCalendarRefusal}
+use Rattle.plant_more.specs.ShiftLines.{AreShiftLines}
+
+-- a base was read and opened, the calendar was read of the file of its name, these are the windows of the shifts of so many days from
+-- a day on, and the text is their lines
+pub record IsShifts (name calendar_name : List ℕ) (day : ℤ) (days : ℕ) (told : ToldFiles) (old : Devices) (text : List ℕ)
+    : Type 0 where
+  pub base : Base
+  pub cal : Parts
+  pub cores : List Core
+  pub windows : List ShiftWindow
+  pub opened : IsOpenedBase name told old base cores
+  pub calendar : IsCalendarFile (tag_names base.tags.items) (told calendar_name) cal
+  pub shifts : AreWindows cal.zone (shifts_over cal.starts day days) windows
+  pub lines : AreShiftLines base.tags.items cores cal windows text
+
+-- the refusals, in their order: of the base, of the calendar, of a tag. Before that of a tag no device has changed. No memory may be
+-- found at any time
+pub data IsShiftsRefusal (name calendar_name : List ℕ) (told : ToldFiles) (old new : Devices) (before now : ℕ) (why : Status)
+    : Type 0 where
+  OfBase : IsBaseRefusal (told name) why → AreUntouched old new → IsShiftsRefusal name calendar_name told old new before now why
+  OfCalendar : (base : Base) → IsBaseFile (told name) base
+      → IsCalendarRefusal (tag_names base.tags.items) (told calendar_name) why → AreUntouched old new
+      → IsShiftsRefusal name calendar_name told old new before now why
+  OfTag : (base : Base) (cal : Parts) → IsBaseFile (told name) base
+      → IsCalendarFile (tag_names base.tags.items) (told calendar_name) cal → IsRefusal base.tags.items old new before now why
+      → IsShiftsRefusal name calendar_name told old new before now why
+  OfMemory : why ≡ WantOfMemory → IsShiftsRefusal name calendar_name told old new before now why
+
+-- where a read fault is told, and it is told whose read failed last, that is the file that is told of
+pub record IsFaultOfRead (name calendar_name : List ℕ) (failed : Option (List ℕ)) (why : Status) : Type 0 where
+  pub base : why ≡ ReadFault file.Base → IsFaultOf failed name
+  pub calendar : why ≡ ReadFault file.Calendar → IsFaultOf failed calendar_name
+
+-- a status that a command is refused with: the words are good, and nothing was printed yet
+pub record IsCommandRefusal (why : Status) : Type 0 where
+  pub no_end : why ≢ Done
+  pub no_words : why ≢ BadWords
+  pub no_write : why ≢ WriteFault

@@ -1,0 +1,112 @@
+// The log of a plant is compared with what was kept of it as it was opened.
+ghost use Rattle.std.specs.Prelude.{◌≡◌, ◌≤◌, IfErr, IfOk, OnOk, length};
+ghost use Rattle.plant_more.specs.LogKnown.{FirstDiffer, IsAsKnown, IsCommon, IsLogMismatch};
+
+use commit_log::{Log, LogRow};
+use disk_model::Disk;
+use plant_status::{Place, Seen, Status, Unit};
+use std::alloc::Global;
+use trend_num::WantOfMemory;
+
+// What is kept of a log as it was opened: the plant's text and its number of tags, and the faults, the moment and the rows of the
+// opening.
+#[derive(Drop)]
+pub(crate) struct KnownLog {
+    pub(crate) plant: Vec<u8>,
+    pub(crate) tags: u32,
+    pub(crate) faults: u64,
+    pub(crate) moment: u64,
+    pub(crate) rows: Vec<LogRow>,
+}
+
+// Keeps that of a log which was opened for a plant of this text.
+pub(crate) fn known_of<D: Disk>(
+    alloc: Global,
+    log: &Log<D>,
+    plant: Vec<u8>,
+    tags: u32,
+) -> Result<KnownLog, WantOfMemory>
+    ensures plant { IfOk result (λ k. k.plant ≡ plant) }
+    ensures tags { IfOk result (λ k. k.tags ≡ tags) }
+    ensures faults { IfOk result (λ k. k.faults ≡ log.now.faults) }
+    ensures moment { IfOk result (λ k. k.moment ≡ log.now.moment) }
+    ensures rows { IfOk result (λ k. k.rows.items ≡ log.now.opening) }
+{
+    Ok(KnownLog {
+        plant,
+        tags,
+        faults: log.faults(),
+        moment: log.moment(),
+        rows: Vec::from_slice(alloc, log.opening())?,
+    })
+}
+
+// Compares a log with what was kept of it. It ends at the first thing that differs.
+pub(crate) fn compare_log<D: Disk>(log: &Log<D>, known: &KnownLog) -> Result<(), Status>
+    ensures same { OnOk result (IsAsKnown log.now known.now) }
+    ensures differs { IfErr result (IsLogMismatch log.now known.now) }
+{
+    let (plant, rows) = (log.plant(), log.opening());
+    let found = [
+        u64::from(log.tags()),
+        plant.len() as u64,
+        common_bytes(plant, &known.plant) as u64,
+        log.faults(),
+        log.moment(),
+        rows.len() as u64,
+        common_rows(rows, &known.rows) as u64,
+    ];
+    let wanted = [
+        u64::from(known.tags),
+        known.plant.len() as u64,
+        known.plant.len() as u64,
+        known.faults,
+        known.moment,
+        known.rows.len() as u64,
+        known.rows.len() as u64,
+    ];
+    compare_numbers(&found, &wanted)
+}
+
+// The first of these that differ, as they are told.
+fn compare_numbers(found: &[u64; 7], wanted: &[u64; 7]) -> Result<(), Status>
+    ensures same { OnOk result (found.now ≡ wanted.now) }
+    ensures differs { IfErr result (FirstDiffer found.now wanted.now) }
+{
+    for i in 0..7 {
+        if found[i] != wanted[i] {
+            return Err(Status::Mismatch {
+                place: Place::Opening { unit: Unit::Log },
+                kept: Seen::Number(found[i]),
+                told: Seen::Number(wanted[i]),
+            });
+        }
+    }
+    Ok(())
+}
+
+// How many bytes two texts have in common at their beginning.
+fn common_bytes(xs: &[u8], ys: &[u8]) -> usize
+    ensures { IsCommon xs.now ys.now result }
+{
+    let shorter = xs.len().min(ys.len());
+    for i in 0..shorter {
+        if xs[i] != ys[i] {
+            return i;
+        }
+    }
+    shorter
+}
+
+// How many rows two lists have in common at their beginning.
+fn common_rows(xs: &[LogRow], ys: &[LogRow]) -> usize
+    ensures { IsCommon xs.now ys.now result }
+{
+    let shorter = xs.len().min(ys.len());
+    for i in 0..shorter {
+        if xs[i] != ys[i] {
+            return i;
+        }
+    }
+    shorter
+}

@@ -1,0 +1,62 @@
+// The log of a plant is opened on its device.
+ghost use Rattle.std.specs.Prelude.{◌≡◌, ◌≢◌, ◌^◌, ◌<◌, IfErr, IfOk, IsTrue, OnErr, OnOk, ℕ, List};
+ghost use Rattle.plant_more.specs.LogOpenings.{IsLogOpened, IsLogKept, IsOpeningRefusal, CountsOpening, status_of};
+ghost use Rattle.plant_more.specs.LogTexts.{log_name};
+
+use commit_log::{Log, LogFail, LogNo, open_log};
+use disk_model::Store;
+use plant_status::{Status, Unit, What};
+use std::alloc::Global;
+
+// What the device of the log is called.
+pub(crate) const LOG_NAME: &str = "plant.log";
+
+// Takes the device of the log out of a store, and opens it for a plant of this text and so many tags, with room for so many puts. A
+// device that is not opened is given back.
+pub(crate) fn take_log<S: Store>(
+    alloc: Global,
+    store: &mut S,
+    plant: &[u8],
+    tags: u32,
+    room: u32,
+) -> Result<Log<S::Dev>, Status>
+    ensures opened { IfOk result (IsLogOpened S.Dev.trace S.Dev.ticks S.Dev.fault_count plant.now tags (S.device_at store.old log_name)) }
+    ensures place { OnOk result (IsTrue (S.has_place store.new log_name)) }
+    ensures refused { IfErr result (IsOpeningRefusal plant.now tags room (S.device_at store.old log_name)
+        (S.fault_count store.old) (S.fault_count store.new)) }
+    ensures kept { OnErr result (IsLogKept plant.now tags (S.device_at store.old) (S.device_at store.new)) }
+    ensures others { (n : List ℕ) → n ≢ log_name → S.device_at store.new n ≡ S.device_at store.old n }
+    ensures faultless { OnOk result (S.fault_count store.new ≡ S.fault_count store.old) }
+    ensures counts { S.fault_count store.old < 2 ^ 64 → CountsOpening result (S.fault_count store.old) (S.fault_count store.new) }
+{
+    let Ok(dev) = store.device(LOG_NAME) else {
+        return Err(Status::DeviceFault { unit: Unit::Log });
+    };
+    match open_log(alloc, dev, plant, tags, room) {
+        Ok(log) => Ok(log),
+        Err(LogFail { dev, why }) => {
+            store.give_back(LOG_NAME, dev);
+            Err(status_of(why))
+        }
+    }
+}
+
+// What a log that is not opened is answered with.
+fn status_of(why: LogNo) -> Status
+    ensures { result ≡ status_of why }
+{
+    match why {
+        LogNo::DeviceFault => Status::DeviceFault { unit: Unit::Log },
+        LogNo::Damaged { at, byte } => Status::Damaged {
+            unit: Unit::Log,
+            at,
+            byte,
+        },
+        LogNo::OtherPlant { at } => Status::OtherPlant { at },
+        LogNo::TooMany { rows } => Status::Limit {
+            what: What::Rows,
+            number: rows,
+        },
+        LogNo::WantOfMemory => Status::WantOfMemory,
+    }
+}

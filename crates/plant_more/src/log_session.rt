@@ -1,0 +1,55 @@
+// The collectors of a plan at an open log, and what is done once they have ended.
+ghost use Rattle.std.specs.Prelude.{◌≡◌, ◌^◌, ◌<◌, IfErr, IfOk, OnErr, length};
+ghost use Rattle.plant_more.specs.LogNotes.{lists_of};
+ghost use Rattle.plant_more.specs.LogMaking.{AreRowsFor, total_rows};
+ghost use Rattle.plant_more.specs.LogHeadline.{IsEnded};
+
+use crate::log_known::KnownLog;
+use crate::log_pool::{CollectedLog, run_collectors};
+use crate::log_settling::settle;
+use commit_log::{Log, LogHistory};
+use disk_model::Disk;
+use plant_status::{Passes, Status};
+use std::alloc::Global;
+use std::sync::Wait;
+use std::thread::Threads;
+use value_rows::RawRow;
+
+// A log at its end: its device, what happened to it, and how it went.
+pub(crate) struct EndedLog<D: Disk> {
+    pub(crate) dev: D,
+    pub(crate) history: LogHistory,
+    pub(crate) answer: Result<(), Status>,
+}
+
+// Lets the collectors put their rows into a log, and brings it to its end. Where there is no memory for their workers none begins, and
+// the log is given back as it was.
+pub(crate) fn hold<D: Disk + Send, P: Passes, R: Threads + Wait + Sync>(
+    rt: &R,
+    alloc: Global,
+    log: Log<D>,
+    known: &KnownLog,
+    files: &[Vec<RawRow>],
+    passes: &mut P,
+) -> Result<EndedLog<D>, Log<D>>
+    requires few { length files.now < 2 ^ 32 }
+    requires rows { AreRowsFor known.now.tags (lists_of files.now) }
+    requires small { total_rows (lists_of files.now) < 2 ^ 64 }
+    ensures ended { IfOk result (IsEnded D.trace D.ticks D.fault_count (lists_of files.now) known.now
+        (P.stops passes.old) (P.stops passes.new)) }
+    ensures unbegun { OnErr result (P.stops passes.new ≡ P.stops passes.old) }
+    ensures unchanged { IfErr result (λ back. back ≡ log) }
+{
+    match run_collectors(rt, alloc, log, files, passes) {
+        Ok(CollectedLog { mut log, notes }) => {
+            let answer = settle(alloc, &mut log, known, files, &notes);
+            let (dev, history) = log.into_history();
+            Ok(EndedLog {
+                dev,
+                history,
+                answer,
+            })
+        }
+        Err(log) => Err(log),
+    }
+}

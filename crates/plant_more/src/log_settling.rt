@@ -1,0 +1,63 @@
+// A log whose workers have ended is brought to its end.
+ghost use Rattle.std.specs.Prelude.{◌≡◌, ◌^◌, ◌<◌, IfErr, OnOk, length};
+ghost use Rattle.plant_more.specs.LogNotes.{lists_of};
+ghost use Rattle.plant_more.specs.LogTurns.{IsSameLog};
+ghost use Rattle.plant_more.specs.LogFinding.{AreFound};
+ghost use Rattle.plant_more.specs.LogKnown.{IsAsKnown};
+ghost use Rattle.plant_more.specs.LogMaking.{AreRowsFor, total_rows};
+ghost use Rattle.plant_more.specs.LogRefusals.{IsMade, IsOfOpening, IsRestRefusal, IsSettlingRefusal};
+
+use crate::log_endings::check_endings;
+use crate::log_finding::{find_puts, none_found};
+use crate::log_known::{KnownLog, compare_log};
+use crate::log_made::{commit_rest, put_missing};
+use crate::log_note::LogNote;
+use commit_log::Log;
+use disk_model::Disk;
+use plant_status::Status;
+use std::alloc::Global;
+use value_rows::RawRow;
+
+// Compares a log with what was kept of it, and its tape with the rows of the collectors' files, and does what the tape lacks. It
+// takes no worker's word but that its pass stopped it, or that it found no memory.
+pub(crate) fn settle<D: Disk>(
+    alloc: Global,
+    log: &mut Log<D>,
+    known: &KnownLog,
+    files: &[Vec<RawRow>],
+    notes: &[LogNote],
+) -> Result<(), Status>
+    requires few { length files.now < 2 ^ 32 }
+    requires rows { AreRowsFor known.now.tags (lists_of files.now) }
+    requires small { total_rows (lists_of files.now) < 2 ^ 64 }
+    ensures made { OnOk result (IsMade (lists_of files.now) log.new) }
+    ensures known { (IsOfOpening result → ⊥) → IsAsKnown log.new known.now }
+    ensures refused { IfErr result (IsSettlingRefusal D.fault_count (lists_of files.now) notes.now known.now log.new) }
+{
+    compare_log(log, known)?;
+    let Ok(mut next) = none_found(alloc, files.len()) else {
+        return Err(Status::WantOfMemory);
+    };
+    find_puts(log.tape(), files, &mut next)?;
+    complete(log, files, &mut next, notes)
+}
+
+// Does what the tape of a log lacks, where no worker was stopped and each found memory.
+fn complete<D: Disk>(
+    log: &mut Log<D>,
+    files: &[Vec<RawRow>],
+    next: &mut [usize],
+    notes: &[LogNote],
+) -> Result<(), Status>
+    requires few { length files.now < 2 ^ 32 }
+    requires rows { AreRowsFor log.old.tags (lists_of files.now) }
+    requires small { total_rows (lists_of files.now) < 2 ^ 64 }
+    requires found { AreFound (lists_of files.now) log.old.tape next.old }
+    ensures made { OnOk result (IsMade (lists_of files.now) log.new) }
+    ensures same { IsSameLog log.old log.new }
+    ensures refused { IfErr result (IsRestRefusal D.fault_count (lists_of files.now) notes.now log.new) }
+{
+    check_endings(notes)?;
+    put_missing(log, files, next)?;
+    commit_rest(log)
+}

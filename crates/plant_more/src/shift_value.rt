@@ -1,0 +1,21 @@
+// The value of a tag in a window.
+ghost use Rattle.std.specs.Prelude.{◌≡◌, ◌≤◌};
+ghost use Rattle.trend_num.specs.Ranges.{last_time};
+ghost use Rattle.plant_more.specs.ShiftTags.{value_of};
+
+use crate::shift_tag::ShiftTag;
+use shift_calendar::{Measure, ShiftWindow};
+use weighted_total::window_value;
+
+// The measure of a window: by the line of a tag, or by its stair. None where the window does not end after its start, or has no
+// value.
+pub(crate) fn value_of(tag: &ShiftTag, measure: Measure, shift: &ShiftWindow) -> Option<i128>
+    requires { shift.now.to ≤ last_time }
+    ensures { result ≡ value_of measure shift.now tag.now }
+{
+    let ShiftWindow { from, to, .. } = *shift;
+    if to <= from {
+        return None;
+    }
+    window_value(&tag.content, tag.held, tag.step, measure, from, to)
+}

@@ -1,0 +1,192 @@
+-- How the opening of groups ends.
+use Rattle.std.proofs.Common.{◌≡◌, inl, inr, ℕ, ◌^◌, ◌<◌, ◌≤◌, List, [], ◌∷◌, length, map, get_or, Option, None, Some, IsSome, Result, Ok, Err, refl, sym, ◌∙◌, ap, subst, arith}
+use Rattle.std.specs.Prelude.{IsErrOf, String}
+use Rattle.std.specs.declared.alloc.Global.{Global}
+use Rattle.std.proofs.lemmas.Bool.{cases_lt}
+use Rattle.std.proofs.lemmas.List.{get_or_default, get_or-map, length-map}
+use Rattle.trend_num.specs.declared.archive.Rec.{Rec}
+use Rattle.disk_model.specs.Calls.{CountsFault, Rose, sum_of_counts}
+use Rattle.disk_model.specs.Moments.{During}
+use Rattle.disk_model.specs.Traces.{Trace}
+use Rattle.tag_base.specs.declared.definition.GroupDef.{GroupDef}
+use Rattle.group_book.specs.declared.refusal.LoadNo.{LoadNo}
+use Rattle.group_book.specs.declared.refusal.LoadNo.TheVariants.{DeviceFault, Damaged, Ahead, Shape, WantOfMemory}
+use Rattle.group_book.specs.Openings.{CountsRefusal, StaysSame}
+use Rattle.group_book.specs.Told.{Told, trace_of}
+use Rattle.plant_store.specs.Groups.{AllStaySame, AreBooksOpened, AreDistinct, AreNamesOf, AreOpened, Devices, IsOpening, parts_of, records_of, text_of, trace_at}
+use Rattle.plant_store.specs.BookRefusals.{CountsStore, IsRefusal, IsRefusedAt, OfDamage, OfFault, OfMemory, OfVersion, OfWindows, status_of}
+use Rattle.plant_store.specs.BookEndings.{AreGivenBack, counts_after, trace_after}
+use Rattle.plant_store.specs.BookSteps.{AreOtherNamesSame, IsCauseAt, RestStaysSame}
+use Rattle.plant_store.proofs.BookNames.{as_many, named_at}
+use Rattle.plant_store.proofs.BookReturns.{counts_none}
+use Rattle.plant_store.proofs.BookTurns.{unreached}
+
+-- ---- a refusal
+
+-- the groups before it are opened
+pub front_of : {D : Type 0} (trace : D → Option Trace) (ticks faults : D → ℕ) (groups : List GroupDef) (records : List (List Rec))
+    (old : Devices) (books : List (Told D)) → AreBooksOpened trace ticks faults groups records old books
+    → AreOpened (length books) groups records old (map (λ b. b.opening) books)
+front_of trace ticks faults groups records old [] opened k d x below = absurd (omega (arith, below))
+front_of trace ticks faults groups records old (b ∷ bs) opened k d x below =
+    subst (λ o. IsOpening (get_or groups k d) (records_of records (get_or groups k d)) (trace_at old (get_or groups k d)) o)
+    (sym (get_or-map (λ b. b.opening) (b ∷ bs) k b x below)) (opened.each k d b below).opening
+
+refused_at : {D : Type 0} (trace : D → Option Trace) (ticks faults : D → ℕ) (groups : List GroupDef) (records : List (List Rec))
+    (old : Devices) (books : List (Told D)) (g : GroupDef) (P : GroupDef → List (List Rec) → Option Trace → Type 0)
+    → AreBooksOpened trace ticks faults groups records old books → length books < length groups
+    → P (get_or groups (length books) g) (records_of records (get_or groups (length books) g)) (trace_at old (get_or groups (length books) g))
+    → IsRefusedAt groups records old (length books) P
+refused_at trace ticks faults groups records old books g P opened below cause = record {
+  g = get_or groups (length books) g;
+  openings = map (λ b. b.opening) books;
+  there = below;
+  is_group = get_or_default groups (length books) (get_or groups (length books) g) g below;
+  as_many = length-map books (λ b. b.opening);
+  front = front_of trace ticks faults groups records old books opened;
+  cause = cause;
+}
+
+-- its cause is told
+told : {D : Type 0} (trace : D → Option Trace) (ticks faults : D → ℕ) (groups : List GroupDef) (records : List (List Rec))
+    (old : Devices) (books : List (Told D)) (before now : ℕ) (why : LoadNo) (g : GroupDef)
+    → AreBooksOpened trace ticks faults groups records old books → length books < length groups
+    → IsCauseAt (length books) groups records old why → (before < 2 ^ 64 → why ≡ DeviceFault → Rose before now)
+    → IsRefusal groups records old before now (status_of (length books) why)
+told trace ticks faults groups records old books before now DeviceFault g opened below cause rose =
+    OfFault (length books) refl
+    (refused_at trace ticks faults groups records old books g _ opened below (λ small. rose small refl))
+told trace ticks faults groups records old books before now (Damaged at byte) g opened below cause rose =
+    OfDamage (length books) at byte refl
+    (refused_at trace ticks faults groups records old books g _ opened below (cause g))
+told trace ticks faults groups records old books before now (Ahead input version found) g opened below cause rose =
+    OfVersion (length books) input found version refl
+    (refused_at trace ticks faults groups records old books g _ opened below (cause g))
+told trace ticks faults groups records old books before now (Shape windows rows) g opened below cause rose =
+    OfWindows (length books) windows rows refl
+    (refused_at trace ticks faults groups records old books g _ opened below (cause g))
+told trace ticks faults groups records old books before now WantOfMemory g opened below cause rose = OfMemory refl
+
+pub told_all : {D : Type 0} (trace : D → Option Trace) (ticks faults : D → ℕ) (groups : List GroupDef) (records : List (List Rec))
+    (old : Devices) (books : List (Told D)) (before now : ℕ) (why : LoadNo)
+    → AreBooksOpened trace ticks faults groups records old books → length books < length groups
+    → IsCauseAt (length books) groups records old why → (before < 2 ^ 64 → why ≡ DeviceFault → Rose before now)
+    → IsRefusal groups records old before now (status_of (length books) why)
+told_all trace ticks faults [] records old books before now why opened below cause rose = absurd (omega (arith, below))
+told_all trace ticks faults (g ∷ gs) records old books before now why opened below cause rose =
+    told trace ticks faults (g ∷ gs) records old books before now why g opened below cause rose
+
+-- ---- faults
+
+-- why a group is not opened
+abbrev why_of : {T : Type 0} → Result T LoadNo → LoadNo
+why_of (Ok x) = WantOfMemory
+why_of (Err why) = why
+
+-- a call of its device has failed
+pub fails : {T : Type 0} (why : LoadNo) (before now : ℕ) → CountsFault {T = T} (Err why) DeviceFault before now → why ≡ DeviceFault
+    → Rose before now
+fails why before now counts is = counts.failed (ap Err is)
+
+-- the faults of a refusal, whatever would have been opened
+pub counts_of : {T : Type 0} (why : LoadNo) (before now : ℕ) → CountsRefusal why before now
+    → CountsFault {T = T} (Err why) DeviceFault before now
+counts_of why before now counts = record {
+  later = counts.later;
+  passed = tt;
+  failed = λ is. counts.failed (ap Err (ap why_of is));
+  refused = λ other. counts.refused (λ is. other (ap Err (ap why_of is)));
+}
+
+-- those of a device that had none count for the store that it is given back to
+pub given_back : {T : Type 0} (why : LoadNo) (last before mid now : ℕ) → CountsRefusal why 0 last → mid ≡ before
+    → now ≡ sum_of_counts mid last → before < 2 ^ 64 → CountsFault {T = T} (Err why) DeviceFault before now
+given_back why last before mid now counts same sum small = record {
+  later = omega (arith, sum, same, small);
+  passed = tt;
+  failed = λ is. let rose = counts.failed (ap Err (ap why_of is)) in omega (arith, sum, same, small, rose);
+  refused = λ other. let kept = counts.refused (λ is. other (ap Err (ap why_of is))) in omega (arith, sum, same, small, kept);
+}
+
+-- the faults that were counted until a group is refused
+pub counted : {T : Type 0} (U : Type 0) (i before now : ℕ) (why : LoadNo) → CountsFault {T = T} (Err why) DeviceFault before now
+    → CountsStore {T = U} (Err (status_of i why)) before now
+counted U i before now DeviceFault counts = inr (i, refl, counts.failed refl)
+counted U i before now (Damaged at byte) counts = inl (counts.refused (λ is. absurd (cc (is))))
+counted U i before now (Ahead input version found) counts = inl (counts.refused (λ is. absurd (cc (is))))
+counted U i before now (Shape windows rows) counts = inl (counts.refused (λ is. absurd (cc (is))))
+counted U i before now WantOfMemory counts = inl (counts.refused (λ is. absurd (cc (is))))
+
+-- an error is the one that is told
+error_is : {T : Type 0} (why told : LoadNo) → IsErrOf {T = T} (Err why) told → why ≡ told
+error_is why told is = cc (is)
+
+-- the faults of a refusal are counted from the first call on, whatever would have been made
+pub counted_since : {T U : Type 0} (before now after : ℕ) (why : LoadNo) → now ≡ before → before < 2 ^ 64
+    → (now < 2 ^ 64 → CountsFault {T = T} (Err why) DeviceFault now after) → CountsFault {T = U} (Err why) DeviceFault before after
+counted_since before now after why same small counts =
+    let one = counts (subst (λ n. n < 2 ^ 64) (sym same) small) in
+    record {
+      later = subst (λ n. n ≤ after) same one.later;
+      passed = tt;
+      failed = λ is. subst (λ n. Rose n after) same (fails why now after one (error_is why DeviceFault is));
+      refused = λ other. one.refused (λ is. other (ap Err (error_is why DeviceFault is))) ∙ same;
+    }
+
+-- and a count stays in its type
+pub stays_small : {T : Type 0} (why : LoadNo) (before now : ℕ) → before < 2 ^ 64
+    → CountsFault {T = T} (Err why) DeviceFault before now → now < 2 ^ 64
+stays_small DeviceFault before now small counts = let rose = counts.failed refl in omega (arith, rose)
+stays_small (Damaged at byte) before now small counts =
+    let kept = counts.refused (λ is. absurd (cc (is))) in omega (arith, kept, small)
+stays_small (Ahead input version found) before now small counts =
+    let kept = counts.refused (λ is. absurd (cc (is))) in omega (arith, kept, small)
+stays_small (Shape windows rows) before now small counts =
+    let kept = counts.refused (λ is. absurd (cc (is))) in omega (arith, kept, small)
+stays_small WantOfMemory before now small counts =
+    let kept = counts.refused (λ is. absurd (cc (is))) in omega (arith, kept, small)
+
+-- ---- all devices are back
+
+-- a book that has a device gives it back
+pub back_is : {D : Type 0} (trace : D → Option Trace) (dev : Option D) (o : Option Trace) → IsSome dev
+    → trace_after trace dev o ≡ trace_of trace dev
+back_is trace None o there = absurd (cc (there))
+back_is trace (Some dev) o there = refl
+
+-- each device stays the same: those of the books that were opened, and the rest
+pub all_same : {D : Type 0} (trace : D → Option Trace) (ticks faults : D → ℕ) (groups : List GroupDef) (names : List (String Global))
+    (records : List (List Rec)) (old mid new : Devices) (books : List (Told D)) → AreNamesOf groups names → AreDistinct groups → length books ≤ length groups
+    → AreBooksOpened trace ticks faults groups records old books → RestStaysSame (length books) groups old mid
+    → AreGivenBack trace names books mid new → AreOtherNamesSame (length books) names mid new → AllStaySame groups old new
+all_same trace ticks faults groups names records old mid new [] are distinct few opened rest given others i g below =
+    let is = unreached groups names 0 i g mid new are distinct (omega arith) below others in
+    subst (λ o. During (trace_at old (get_or groups i g)) o
+    (StaysSame (text_of (get_or groups i g)) (parts_of (get_or groups i g)) (trace_at old (get_or groups i g)))) (sym is)
+    (rest i g (omega arith) below)
+all_same trace ticks faults groups [] records old mid new (b ∷ bs) are distinct few opened rest given others i g below =
+    absurd (omega (arith, few, as_many groups [] are))
+all_same trace ticks faults groups (s ∷ ss) records old mid new (b ∷ bs) are distinct few opened rest given others i g below =
+    elim (cases_lt i (length (b ∷ bs))) [
+      | inl before ↦
+          let book = opened.each i g b before in
+          let is : trace_at new (get_or groups i g) ≡ trace_of trace (get_or (b ∷ bs) i b).dev =
+          ap new (sym (named_at groups (s ∷ ss) i g s are below)) ∙ given i b s before
+          ∙ back_is trace (get_or (b ∷ bs) i b).dev _ book.device in
+          subst (λ o. During (trace_at old (get_or groups i g)) o
+          (StaysSame (text_of (get_or groups i g)) (parts_of (get_or groups i g)) (trace_at old (get_or groups i g)))) (sym is) book.same
+      | inr behind ↦
+          let is = unreached groups (s ∷ ss) (length (b ∷ bs)) i g mid new are distinct behind below others in
+          subst (λ o. During (trace_at old (get_or groups i g)) o
+          (StaysSame (text_of (get_or groups i g)) (parts_of (get_or groups i g)) (trace_at old (get_or groups i g)))) (sym is)
+          (rest i g behind below)
+    ]
+
+-- the books that were opened have counted no fault
+pub all_faultless : {D : Type 0} (trace : D → Option Trace) (ticks faults : D → ℕ) (groups : List GroupDef) (records : List (List Rec))
+    (old : Devices) (books : List (Told D)) (before : ℕ) → length books ≤ length groups
+    → AreBooksOpened trace ticks faults groups records old books → before < 2 ^ 64 → counts_after faults books before ≡ before
+all_faultless trace ticks faults [] records old [] before few opened small = refl
+all_faultless trace ticks faults [] records old (b ∷ bs) before few opened small = absurd (omega (arith, few))
+all_faultless trace ticks faults (g ∷ gs) records old books before few opened small =
+    counts_none faults books before small (λ i b below. (opened.each i g b below).faultless)

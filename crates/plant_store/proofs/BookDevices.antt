@@ -1,0 +1,70 @@
+-- What is said of groups over some traces, where others are the same at the devices of groups.
+use Rattle.std.proofs.Common.{◌≡◌, ℕ, ◌^◌, ◌<◌, List, get_or, Option, sym, subst}
+use Rattle.trend_num.specs.declared.archive.Rec.{Rec}
+use Rattle.disk_model.specs.Calls.{Rose}
+use Rattle.disk_model.specs.Moments.{During}
+use Rattle.disk_model.specs.Traces.{Trace}
+use Rattle.plant_status.specs.declared.status.Status.{Status}
+use Rattle.tag_base.specs.declared.definition.GroupDef.{GroupDef}
+use Rattle.group_book.specs.declared.history.GroupOpening.{GroupOpening}
+use Rattle.group_book.specs.Openings.{StaysSame}
+use Rattle.group_book.specs.Told.{Told}
+use Rattle.plant_store.specs.Groups.{AllStaySame, AreBooksOpened, AreOpened, Devices, IsBookOpened, IsOpening, parts_of, records_of, text_of, trace_at}
+use Rattle.plant_store.specs.BookRefusals.{IsRefusal, IsRefusedAt, OfDamage, OfFault, OfMemory, OfVersion, OfWindows}
+use Rattle.plant_store.proofs.BookTurns.{untouched}
+
+-- `mid` are the traces over which something is said, and `old` those before
+module _ (gs : List GroupDef) (records : List (List Rec)) (old mid : Devices) (same : (g : GroupDef) → trace_at mid g ≡ trace_at old g) where
+  -- books are opened so over the traces before
+  pub books_before : {D : Type 0} (trace : D → Option Trace) (ticks faults : D → ℕ) (books : List (Told D))
+      → AreBooksOpened trace ticks faults gs records mid books → AreBooksOpened trace ticks faults gs records old books
+  books_before trace ticks faults books opened = record {
+    each = λ i g b below. subst (λ o. IsBookOpened trace ticks faults i (get_or gs i g) (records_of records (get_or gs i g)) o
+        (get_or books i b)) (same (get_or gs i g)) (opened.each i g b below);
+  }
+
+  -- and groups
+  pub opened_before : (many : ℕ) (openings : List GroupOpening) → AreOpened many gs records mid openings
+      → AreOpened many gs records old openings
+  opened_before many openings opened k g x below =
+      subst (λ o. IsOpening (get_or gs k g) (records_of records (get_or gs k g)) o (get_or openings k x)) (same (get_or gs k g))
+      (opened k g x below)
+
+  -- a group is the first that is refused so
+  at_before : (i : ℕ) (P Q : GroupDef → List (List Rec) → Option Trace → Type 0)
+      → ((g : GroupDef) (recovered : List (List Rec)) (o : Option Trace) → P g recovered o → Q g recovered o)
+      → IsRefusedAt gs records mid i P → IsRefusedAt gs records old i Q
+  at_before i P Q follows at = record {
+    g = at.g;
+    openings = at.openings;
+    there = at.there;
+    is_group = at.is_group;
+    as_many = at.as_many;
+    front = opened_before i at.openings at.front;
+    cause = subst (Q at.g (records_of records at.g)) (same at.g) (follows at.g (records_of records at.g) (trace_at mid at.g) at.cause);
+  }
+
+  -- the refusal is one over the traces before, whatever has counted faults since, as long as a fault that was counted is
+  pub refusal_before : (before now first last : ℕ) (why : Status)
+      → ((first < 2 ^ 64 → Rose first last) → before < 2 ^ 64 → Rose before now)
+      → IsRefusal gs records mid first last why → IsRefusal gs records old before now why
+  refusal_before before now first last why rose (OfFault i is at) = OfFault i is (at_before i _ _ (λ g recovered o was. rose was) at)
+  refusal_before before now first last why rose (OfDamage i a byte is at) = OfDamage i a byte is (at_before i _ _ (λ g recovered o p. p) at)
+  refusal_before before now first last why rose (OfVersion i input found version is at) =
+      OfVersion i input found version is (at_before i _ _ (λ g recovered o p. p) at)
+  refusal_before before now first last why rose (OfWindows i windows rows is at) =
+      OfWindows i windows rows is (at_before i _ _ (λ g recovered o p. p) at)
+  refusal_before before now first last why rose (OfMemory is) = OfMemory is
+
+  -- devices stay the same over the traces before, also where traces after are those that they stay the same in
+  pub same_before : (after new : Devices) → ((g : GroupDef) → trace_at new g ≡ trace_at after g) → AllStaySame gs mid after
+      → AllStaySame gs old new
+  same_before after new still kept i g below =
+      subst (λ o. During (trace_at old (get_or gs i g)) o
+      (StaysSame (text_of (get_or gs i g)) (parts_of (get_or gs i g)) (trace_at old (get_or gs i g)))) (sym (still (get_or gs i g)))
+      (subst (λ o. During o (trace_at after (get_or gs i g)) (StaysSame (text_of (get_or gs i g)) (parts_of (get_or gs i g)) o))
+      (same (get_or gs i g)) (kept i g below))
+
+  -- groups that were not opened stay the same
+  pub same_untouched : AllStaySame gs old mid
+  same_untouched i g below = untouched (get_or gs i g) _ _ (same (get_or gs i g))

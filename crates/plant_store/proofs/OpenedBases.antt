@@ -1,0 +1,52 @@
+-- The refusal of a base's tags, and how many records these have.
+use Rattle.std.proofs.Common.{◌≡◌, inl, inr, ℕ, ◌^◌, ◌<◌, ◌≤◌, List, All, length, Option, Result, Ok, Err, refl, subst, arith}
+use Rattle.std.specs.Prelude.{◌≢◌}
+use Rattle.std.proofs.lemmas.List.Sums.{get_or-le-sum_by}
+use Rattle.trend_num.specs.Limits.{most_stored}
+use Rattle.trend_num.specs.declared.tag_def.TagDef.{TagDef}
+use Rattle.tag_core.specs.Core.{Core}
+use Rattle.disk_model.specs.Traces.{Trace}
+use Rattle.plant_status.specs.declared.file.FileId.{FileId}
+use Rattle.plant_status.specs.declared.status.Status.{Status}
+use Rattle.plant_status.specs.declared.status.Status.TheVariants.{Done, BadWords, BadText, BadRow, ReadFault, WriteFault, DeviceFault}
+use Rattle.plant_status.specs.declared.status.Status.TheVariants.{Damaged, OtherTag, Limit, Mismatch, Halted, WantOfMemory, OtherPlant, BadName}
+use Rattle.plant_status.specs.declared.unit.Unit.TheVariants.{Tag}
+use Rattle.plant_files.specs.Reading.{faults_told}
+use Rattle.plant_store.specs.OpenedBases.{CountsDevices}
+use Rattle.plant_store.specs.Tags.{records_in}
+use Rattle.plant_store.specs.TagRefusals.{CountsStore, IsRefusal}
+
+-- the refusal of a tag is no fault of a file
+pub no_file_fault : (tags : List TagDef) (old new : List ℕ → Option Trace) (before now : ℕ) (why : Status)
+    → IsRefusal tags old new before now why → (n : ℕ) → faults_told why n ≡ n
+no_file_fault tags old new before now Done is n = refl
+no_file_fault tags old new before now BadWords is n = refl
+no_file_fault tags old new before now (BadText file rule place at) is n = refl
+no_file_fault tags old new before now (BadRow file row reason) is n = refl
+no_file_fault tags old new before now (ReadFault file) is n = absurd is
+no_file_fault tags old new before now WriteFault is n = refl
+no_file_fault tags old new before now (DeviceFault unit) is n = refl
+no_file_fault tags old new before now (Damaged unit at byte) is n = refl
+no_file_fault tags old new before now (OtherTag tag found wanted) is n = refl
+no_file_fault tags old new before now (Limit what number) is n = refl
+no_file_fault tags old new before now (Mismatch place kept told) is n = refl
+no_file_fault tags old new before now (Halted worker) is n = refl
+no_file_fault tags old new before now WantOfMemory is n = refl
+no_file_fault tags old new before now (OtherPlant at) is n = refl
+no_file_fault tags old new before now (BadName word) is n = refl
+
+-- the refusal of a tag is no read fault
+pub tag_is_no_fault : (tags : List TagDef) (old new : List ℕ → Option Trace) (before now : ℕ) (why : Status)
+    → IsRefusal tags old new before now why → (which : FileId) → why ≢ ReadFault which
+tag_is_no_fault tags old new before now why is which same = subst (IsRefusal tags old new before now) same is
+
+-- each of these is one of fewer than all
+pub few_each : (cores : List Core) → records_in cores ≤ most_stored → All (λ core. length core.state.records < 2 ^ 32) cores
+few_each cores few k d below =
+    let one = get_or-le-sum_by (λ (core : Core). length core.state.records) cores k d below in omega (arith, few, one)
+
+-- the faults that opening tags counts are those of devices
+pub of_tags : {T : Type 0} (r : Result T Status) (before now : ℕ) → CountsStore r before now → CountsDevices r before now
+of_tags (Ok x) before now same = same
+of_tags (Err why) before now (inl same) = inl same
+of_tags (Err why) before now (inr fault) = inr (Tag fault.0, fault.1, fault.2)

@@ -1,0 +1,69 @@
+-- What the opening of one device does to a store, and for which histories the opened tag stands.
+use Rattle.std.proofs.Common.{◌≡◌, ℕ, ◌^◌, ◌<◌, inl, Option, None, Some, Result, Ok, Err, ap, subst, sym, arith}
+use Rattle.disk_model.specs.Calls.{CountsFault, sum_of_counts}
+use Rattle.device_layout.specs.declared.failure.OpenNo.{OpenNo}
+use Rattle.device_layout.specs.declared.failure.OpenNo.TheVariants.{DeviceFault, WantOfMemory}
+use Rattle.device_layout.specs.Readings.{CountsRefusal}
+use Rattle.trend_num.specs.declared.tag_def.TagDef.{TagDef}
+use Rattle.disk_model.specs.Traces.{Trace}
+use Rattle.disk_model.proofs.Moments.{started}
+use Rattle.trend_model.specs.State.{State}
+use Rattle.tag_core.specs.Core.{Core}
+use Rattle.device_layout.specs.Recovery.{Recovers}
+use Rattle.disk_model.specs.Calls.{Shows}
+use Rattle.crash_recovery.specs.Opening.{IsOpenedAs, StaysSame}
+use Rattle.crash_recovery.proofs.Openings.{opened_stands}
+use Rattle.plant_store.specs.Tags.{IsOpened}
+
+-- of a device that is as it was a crash leaves what one before might have left
+pub still : (def : TagDef) (o : Option Trace) → StaysSame def o o
+still def None = tt
+still def (Some t) = λ countable. started (Some t) _ (record { each = λ x may. inl may })
+
+pub untouched : (def : TagDef) (old new : Option Trace) → new ≡ old → StaysSame def old new
+untouched def old new same = subst (λ o. StaysSame def old o) (sym same) (still def old)
+
+-- what is opened of a device stands for each history for which the device stood
+pub opened_of : (def : TagDef) (o : Option Trace) (core : Core)
+    → Shows o (λ c. (s : State) × Recovers def c s × IsOpenedAs def s core.state) → core.step ≡ def.step
+    → IsOpened def o core
+opened_of def None core state step = record { state = state; stands = λ p h. tt; step = step }
+opened_of def (Some t) core state step = record {
+  state = state;
+  stands = λ p h image. opened_stands def p h _ state.0 core.state image state.1 state.2;
+  step = step;
+}
+
+-- ---- faults
+
+-- why a device is not opened
+abbrev why_of : {T : Type 0} → Result T OpenNo → OpenNo
+why_of (Ok x) = WantOfMemory
+why_of (Err why) = why
+
+-- the faults of a refusal, whatever would have been opened
+pub counts_of : {T : Type 0} (why : OpenNo) (before now : ℕ) → CountsRefusal why before now
+    → CountsFault {T = T} (Err why) DeviceFault before now
+counts_of why before now counts = record {
+  later = counts.later;
+  passed = tt;
+  failed = λ is. counts.failed (ap Err (ap why_of is));
+  refused = λ other. counts.refused (λ is. other (ap Err (ap why_of is)));
+}
+
+-- those of a device that had none count for the store that it is given back to
+pub given_back : {T : Type 0} (r : Result T OpenNo) (first last before mid now : ℕ) → first ≡ 0
+    → CountsFault r DeviceFault first last → mid ≡ before → now ≡ sum_of_counts mid last → before < 2 ^ 64
+    → CountsFault r DeviceFault before now
+given_back (Ok x) first last before mid now none counts same sum small = record {
+  later = omega (arith, sum, same, small);
+  passed = omega (arith, sum, same, small, none, counts.passed);
+  failed = λ is. absurd (cc (is));
+  refused = tt;
+}
+given_back (Err why) first last before mid now none counts same sum small = record {
+  later = omega (arith, sum, same, small);
+  passed = tt;
+  failed = λ is. let rose = counts.failed is in omega (arith, sum, same, small, none, rose);
+  refused = λ other. let kept = counts.refused other in omega (arith, sum, same, small, none, kept);
+}

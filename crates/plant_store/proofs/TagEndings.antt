@@ -1,0 +1,100 @@
+-- How the opening of tags ends.
+use Rattle.std.proofs.Common.{◌≡◌, ◌≢◌, inl, inr, ℕ, ◌+◌, ◌^◌, ◌<◌, ◌≤◌, List, length, get_or, take, Option, Err}
+use Rattle.std.proofs.Common.{refl, sym, subst}
+use Rattle.std.proofs.lemmas.List.{take_all}
+use Rattle.std.proofs.lemmas.List.Elements.{All-take}
+use Rattle.trend_num.specs.declared.tag_def.TagDef.{TagDef}
+use Rattle.tag_core.specs.Core.{Core}
+use Rattle.disk_model.specs.Traces.{Trace}
+use Rattle.crash_recovery.specs.Opening.{StaysSame}
+use Rattle.device_layout.specs.declared.failure.OpenNo.{OpenNo}
+use Rattle.device_layout.specs.declared.failure.OpenNo.TheVariants.{DeviceFault, Damaged, OtherTag, Full}
+use Rattle.device_layout.specs.declared.failure.OpenNo.TheVariants.{WantOfMemory}
+use Rattle.device_layout.specs.Readings.{IsCause}
+use Rattle.trend_num.specs.Limits.{most_stored}
+use Rattle.disk_model.specs.Calls.{CountsFault, Rose}
+use Rattle.plant_store.specs.Tags.{device_name, trace_of, AllStaySame, AreDistinct, AreOpened, AreLeft, AreOthersSame, records_in}
+use Rattle.plant_store.specs.TagRefusals.{status_of, IsRefusedAt, IsRefusal, CountsStore}
+use Rattle.plant_store.proofs.TagTurns.{IsSoFar, IsTag, IsTurn, all_same, unreached, touched}
+
+-- what no tag has, none of the first has
+pub of_all : (tags : List TagDef) (i : ℕ) (old new : List ℕ → Option Trace)
+    → AreOthersSame (take i tags) old new → AreOthersSame tags old new
+of_all tags i old new others n none =
+    others n (All-take (λ (def : TagDef). n ≢ device_name def.name) i tags none)
+
+-- where it ends at the next tag, whose device alone was touched, each device stays the same, and no other one has changed
+pub ends_at : (tags : List TagDef) (i : ℕ) (def : TagDef) (old now new : List ℕ → Option Trace) (cores : List Core)
+    → IsSoFar tags i old now cores → i < length tags → def ≡ get_or tags i def
+    → ((n : List ℕ) → n ≢ device_name def.name → new n ≡ now n) → StaysSame def (trace_of now def) (trace_of new def)
+    → (AreDistinct tags → AllStaySame tags old new) × AreOthersSame tags old new
+ends_at tags i def old now new cores so_far there is others same =
+    let tag : IsTag tags i def = record { there = there; is = is } in
+    let turn : IsTurn def now new = record { others = others; same = same } in (
+      λ distinct. all_same tags i def old now new cores so_far distinct tag turn,
+      of_all tags (i + 1) old new (touched tags i def old now new so_far.others tag turn),
+    )
+
+-- all tags are opened
+pub all_opened : (tags : List TagDef) (i : ℕ) (old : List ℕ → Option Trace) (cores : List Core)
+    → length tags ≤ i
+    → AreOpened (take i tags) old cores → AreOpened tags old cores
+all_opened tags i old cores end opened =
+    subst (λ (l : List TagDef). AreOpened l old cores) (take_all i tags end) opened
+
+-- the next tag is the first that is refused
+pub refused_at : (tags : List TagDef) (i : ℕ) (def : TagDef) (old now new : List ℕ → Option Trace)
+    (cores : List Core)
+    (P : List Core → TagDef → Option Trace → Type 0) → IsSoFar tags i old now cores
+    → records_in cores ≤ most_stored
+    → AreDistinct tags → IsTag tags i def → IsTurn def now new → P cores def (trace_of now def)
+    → IsRefusedAt tags old new i P
+refused_at tags i def old now new cores P so_far few distinct tag turn cause = record {
+  def = def;
+  cores = cores;
+  there = tag.there;
+  is_tag = sym tag.is;
+  front = so_far.opened distinct;
+  few = few;
+  cause = subst (λ (o : Option Trace). P cores def o)
+      (unreached tags i def old now cores so_far distinct tag) cause;
+  rest = touched tags i def old now new so_far.others tag turn;
+}
+
+-- all devices are left
+pub all_left : (tags : List TagDef) (i : ℕ) (old now : List ℕ → Option Trace) (cores : List Core)
+    → length tags ≤ i
+    → AreLeft (take i tags) old now cores → AreLeft tags old now cores
+all_left tags i old now cores end left =
+    subst (λ (l : List TagDef). AreLeft l old now cores) (take_all i tags end) left
+
+-- the cause of its refusal is told
+pub told : (tags : List TagDef) (i : ℕ) (def : TagDef) (old now new : List ℕ → Option Trace)
+    (cores : List Core)
+    (before after : ℕ) (why : OpenNo) → IsSoFar tags i old now cores
+    → records_in cores ≤ most_stored
+    → AreDistinct tags → IsTag tags i def → IsTurn def now new
+    → (before < 2 ^ 64 → why ≡ DeviceFault → Rose before after)
+    → IsCause def (trace_of now def) why → IsRefusal tags old new before after (status_of i why)
+told tags i def old now new cores before after DeviceFault so_far few distinct tag turn rose cause =
+    refused_at tags i def old now new cores _ so_far few distinct tag turn (λ small. rose small refl)
+told tags i def old now new cores before after
+    (Damaged at byte) so_far few distinct tag turn rose cause =
+    refused_at tags i def old now new cores _ so_far few distinct tag turn cause
+told tags i def old now new cores before after
+    (OtherTag found wanted) so_far few distinct tag turn rose cause =
+    refused_at tags i def old now new cores _ so_far few distinct tag turn cause
+told tags i def old now new cores before after
+    (Full records) so_far few distinct tag turn rose cause =
+    (i, refused_at tags i def old now new cores _ so_far few distinct tag turn cause)
+told tags i def old now new cores before after WantOfMemory so_far few distinct tag turn rose cause =
+    tt
+
+-- the faults that were counted until a tag is refused
+pub counted : {T : Type 0} (U : Type 0) (i before after : ℕ) (why : OpenNo)
+    → CountsFault {T = T} (Err why) DeviceFault before after → CountsStore {T = U} (Err (status_of i why)) before after
+counted U i before after DeviceFault counts = inr (i, refl, counts.failed refl)
+counted U i before after (Damaged at byte) counts = inl (counts.refused (λ is. absurd (cc (is))))
+counted U i before after (OtherTag found wanted) counts = inl (counts.refused (λ is. absurd (cc (is))))
+counted U i before after (Full records) counts = inl (counts.refused (λ is. absurd (cc (is))))
+counted U i before after WantOfMemory counts = inl (counts.refused (λ is. absurd (cc (is))))

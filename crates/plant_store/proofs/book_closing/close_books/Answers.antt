@@ -1,0 +1,66 @@
+use Rattle.std.proofs.Common.{◌≡◌, ◌∙◌, ◌≤◌, ◌∷◌, [], ap, arith, get_or, length, length-append, subst, sym}
+use Rattle.std.specs.Vec.Iter.{into_iter_items}
+use Rattle.group_book.specs.declared.history.GroupHistory.{GroupHistory}
+use Rattle.group_book.specs.Told.{Told}
+use Rattle.plant_store.specs.BookEndings.{HasRisen, IsHistoryOf, counts_after}
+use Rattle.plant_store.proofs.BookReturns.{AreTold, counted_all, counts_later, counts_none, counts_rose, one_back_at, one_told, taken_is, taken_rest}
+use Rattle.plant_store.proofs.book_closing.close_books.Goals as goal
+
+pub loop-book-preserved : goal.loop-book-preserved
+loop-book-preserved g c =
+    let D = g.S.Dev.Disk in
+    let before = c.loop-book.invariant in
+    let is : into_iter_items c.loop-book.rest ≡ c.in-Some.book ∷ into_iter_items c.next.new.self = c.in-Some.ensures.items in
+    let many = ap (length {A = Told g.row.S-Dev.Denot}) is in
+    let left = before.rest ∙ is in
+    record {
+      rest = taken_rest c.args.books.items c.loop-book.place c.in-Some.book _ left;
+      count = omega (arith, many, c.in-Some.ensures.len, before.count);
+      taken = omega (arith, c.in-Some.ensures.len, before.taken);
+      room = omega (arith, before.room, c.in-Some.ensures.len, c.push_reserved.ensures.capacity, c.push_reserved.ensures.len);
+      told = subst (λ l. AreTold D.trace D.ticks D.fault_count c.args.books.items l) (sym c.push_reserved.ensures.items)
+          (one_told D.trace D.ticks D.fault_count c.args.books.items c.loop-book.histories.items c.close_book-history.result before.told
+          (λ b. subst (λ k. IsHistoryOf D.trace D.ticks D.fault_count (get_or c.args.books.items k b) c.close_book-history.result)
+          (sym before.as_many)
+          (subst (λ x. IsHistoryOf D.trace D.ticks D.fault_count x c.close_book-history.result)
+          (sym (taken_is c.args.books.items c.loop-book.place c.in-Some.book b _ left)) c.close_book-history.ensures.history)));
+      as_many = omega (
+        arith,
+        ap (length {A = GroupHistory}) c.push_reserved.ensures.items,
+        length-append c.loop-book.histories.items (c.close_book-history.result ∷ []),
+        before.as_many,
+      );
+      back = one_back_at D.trace c.args.names.now c.args.books.items c.loop-book.place _ _ _ c.in-Some.book c.index-names-place.result
+          c.as_str.result.now _ c.requires.distinct
+          (omega (arith, c.requires.as_many, before.taken, c.in-Some.ensures.len, c.args.books.ok)) left before.back
+          c.index-names-place.is c.as_str.ensures.value c.close_book-history.ensures.given c.close_book-history.ensures.others;
+      places = λ i s below. c.close_book-history.ensures.places _ (before.places i s below);
+      kept_places = λ n was. c.close_book-history.ensures.places n (before.kept_places n was);
+      faults = before.faults
+          ∙ (ap (λ l. counts_after D.fault_count l (g.S.Store.fault_count c.loop-book.store)) is
+          ∙ ap (counts_after D.fault_count (into_iter_items c.next.new.self)) (sym c.close_book-history.ensures.counted));
+    }
+
+pub returns-clause-later : goal.returns-clause-later
+returns-clause-later g c = λ small.
+    let fault_count = g.S.Dev.Disk.fault_count in
+    let first = g.S.Store.fault_count c.args.store.now in
+    let last = counted_all fault_count c.args.books.items (into_iter_items c.loop-book.rest) first
+    (g.S.Store.fault_count c.loop-book.store) _ c.in_default.ensures.variant c.loop-book.invariant.count c.loop-book.invariant.faults in
+    subst (λ n. first ≤ n) (sym last) (counts_later fault_count c.args.books.items first small)
+
+pub returns-clause-rose : goal.returns-clause-rose
+returns-clause-rose g c = λ small i b below some.
+    let fault_count = g.S.Dev.Disk.fault_count in
+    let first = g.S.Store.fault_count c.args.store.now in
+    let last = counted_all fault_count c.args.books.items (into_iter_items c.loop-book.rest) first
+    (g.S.Store.fault_count c.loop-book.store) _ c.in_default.ensures.variant c.loop-book.invariant.count c.loop-book.invariant.faults in
+    subst (HasRisen first) (sym last) (counts_rose fault_count c.args.books.items first i b small below some)
+
+pub returns-clause-faultless : goal.returns-clause-faultless
+returns-clause-faultless g c = λ small none.
+    let fault_count = g.S.Dev.Disk.fault_count in
+    let first = g.S.Store.fault_count c.args.store.now in
+    counted_all fault_count c.args.books.items (into_iter_items c.loop-book.rest) first
+    (g.S.Store.fault_count c.loop-book.store) _ c.in_default.ensures.variant c.loop-book.invariant.count c.loop-book.invariant.faults
+    ∙ counts_none fault_count c.args.books.items first small none

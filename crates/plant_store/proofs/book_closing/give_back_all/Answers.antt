@@ -1,0 +1,28 @@
+use Rattle.std.proofs.Common.{◌≡◌, ◌∙◌, ◌∷◌, ap, arith, length, sym}
+use Rattle.std.specs.Vec.Iter.{into_iter_items}
+use Rattle.group_book.specs.Told.{Told}
+use Rattle.plant_store.specs.BookEndings.{counts_after}
+use Rattle.plant_store.proofs.BookReturns.{one_back_at, taken_rest}
+use Rattle.plant_store.proofs.book_closing.give_back_all.Goals as goal
+
+pub loop-book-preserved : goal.loop-book-preserved
+loop-book-preserved g c =
+    let D = g.S.Dev.Disk in
+    let before = c.loop-book.invariant in
+    let is : into_iter_items c.loop-book.rest ≡ c.in-Some.book ∷ into_iter_items c.next.new.self = c.in-Some.ensures.items in
+    let many = ap (length {A = Told g.row.S-Dev.Denot}) is in
+    let left = before.rest ∙ is in
+    record {
+      rest = taken_rest c.args.books.items c.loop-book.place c.in-Some.book _ left;
+      count = omega (arith, many, c.in-Some.ensures.len, before.count);
+      taken = omega (arith, c.in-Some.ensures.len, before.taken);
+      back = one_back_at D.trace c.args.names.now c.args.books.items c.loop-book.place _ _ _ c.in-Some.book c.index-names-place.result
+          c.as_str.result.now _ c.requires.distinct
+          (omega (arith, c.requires.named, before.taken, c.in-Some.ensures.len, c.args.books.ok)) left before.back
+          c.index-names-place.is c.as_str.ensures.value c.close_book.ensures.given c.close_book.ensures.others;
+      places = λ i s below. c.close_book.ensures.places _ (before.places i s below);
+      kept_places = λ n was. c.close_book.ensures.places n (before.kept_places n was);
+      faults = before.faults
+          ∙ (ap (λ l. counts_after D.fault_count l (g.S.Store.fault_count c.loop-book.store)) is
+          ∙ ap (counts_after D.fault_count (into_iter_items c.next.new.self)) (sym c.close_book.ensures.counted));
+    }

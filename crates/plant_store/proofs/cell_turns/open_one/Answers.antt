@@ -1,0 +1,34 @@
+use Rattle.std.proofs.Common.{◌∙◌, ap, subst}
+use Rattle.trend_num.specs.declared.tag_def.TagDef.{TagDef}
+use Rattle.plant_store.proofs.TagDevices.{opened_of, still, untouched}
+use Rattle.plant_store.specs.CellOpenings.{core_of, IsCellOpened}
+use Rattle.plant_store.proofs.cell_turns.open_one.Goals as goal
+
+pub returns-in_default-clause-same : goal.returns-in_default-clause-same
+returns-in_default-clause-same g c = still _ _
+
+pub returns-in_default-device-clause-same : goal.returns-in_default-device-clause-same
+returns-in_default-device-clause-same g c = untouched _ _ _ (c.in_default-device.ensures.unchanged _)
+
+pub returns-in-Ok-open_cell-clause-opened : goal.returns-in-Ok-open_cell-clause-opened
+returns-in-Ok-open_cell-clause-opened g c =
+    let cell = c.in-Ok-open_cell.cell in
+    let is = c.in-Ok-open_cell.ensures in
+    let faultless = is.faultless ∙ c.in-Ok-device.ensures.faultless in
+    subst (λ o. IsCellOpened c.args.def.now o (g.S.Dev.Disk.trace cell.journal.dev) (g.S.Dev.Disk.ticks cell.journal.dev)
+    (g.S.Dev.Disk.fault_count cell.journal.dev) cell) c.in-Ok-device.ensures.told (record {
+      def_is = is.def;
+      found = opened_of c.args.def.now (g.S.Dev.Disk.trace c.in-Ok-device.dev) (core_of cell) is.opened
+          (ap (λ (d : TagDef). d.step) is.def);
+      left = record { recovers = is.recovers; made = is.made; synced = is.synced };
+      same = is.any_moment;
+      slots = is.slots;
+      free = is.free;
+      state_is = is.state;
+      tape_is = is.tape;
+      acked_is = is.acked;
+      usable = is.usable;
+      moment_is = is.moment;
+      opened_faultless = is.faults_told ∙ faultless;
+      faultless = faultless;
+    })

@@ -1,0 +1,68 @@
+-- Why the tags of a base are not opened.
+use Rattle.std.specs.Prelude.{◌≡◌, ◌⊎◌, ℕ, ◌+◌, ◌^◌, ◌<◌, ◌≤◌, List, length, take, slice_index_or, Option, Result, Ok, Err}
+use Rattle.trend_num.specs.declared.tag_def.TagDef.{TagDef}
+use Rattle.trend_num.specs.declared.refusal.What.TheVariants.{Records, StoreRecords}
+use Rattle.trend_model.specs.State.{State}
+use Rattle.tag_core.specs.Core.{Core}
+use Rattle.disk_model.specs.Traces.{Trace}
+use Rattle.disk_model.specs.Calls.{Rose}
+use Rattle.device_layout.specs.declared.failure.OpenNo.{OpenNo}
+use Rattle.device_layout.specs.declared.failure.OpenNo.TheVariants as no
+use Rattle.device_layout.specs.Damages.{IsTagDamage}
+use Rattle.disk_model.specs.Calls.{Shows}
+use Rattle.device_layout.specs.Readings.{IsOther, IsFull}
+use Rattle.plant_status.specs.declared.unit.Unit.TheVariants.{Tag}
+use Rattle.plant_status.specs.declared.status.Status.{Status}
+use Rattle.plant_status.specs.declared.status.Status.TheVariants.{DeviceFault, Damaged, OtherTag, Limit}
+use Rattle.plant_status.specs.declared.status.Status.TheVariants.{WantOfMemory}
+use Rattle.trend_num.specs.Limits.{most_stored}
+use Rattle.plant_store.specs.Tags.{trace_of, IsOpened, AreOpened, AreOthersSame, records_in}
+
+-- what a tag that is not opened is answered with
+abbrev pub status_of : ℕ → OpenNo → Status
+status_of tag no.DeviceFault = DeviceFault (Tag tag)
+status_of tag (no.Damaged at byte) = Damaged (Tag tag) at byte
+status_of tag (no.OtherTag found wanted) = OtherTag tag found wanted
+status_of tag (no.Full records) = Limit Records records
+status_of tag no.WantOfMemory = WantOfMemory
+
+-- tag i is the first that is refused: those before it are opened, and have not too many records; of them, of
+-- it, and of the trace of its device P holds; and no device but theirs and its own has changed
+pub record IsRefusedAt (tags : List TagDef) (old new : List ℕ → Option Trace) (i : ℕ)
+    (P : List Core → TagDef → Option Trace → Type 0) : Type 0 where
+  pub def : TagDef
+  pub cores : List Core
+  pub there : i < length tags
+  pub is_tag : slice_index_or tags i def ≡ def
+  pub front : AreOpened (take i tags) old cores
+  pub few : records_in cores ≤ most_stored
+  pub cause : P cores def (trace_of old def)
+  pub rest : AreOthersSame (take (i + 1) tags) old new
+
+-- a tag is opened, and with the records of these there are too many
+pub record IsTooMuch (number : ℕ) (cores : List Core) (def : TagDef) (o : Option Trace) : Type 0 where
+  pub core : Core
+  pub opened : IsOpened def o core
+  pub number_is : number ≡ records_in cores + length core.state.records
+  pub many : most_stored < number
+
+-- why the tags are not opened, where the store counted so many faults before and so many now
+abbrev pub IsRefusal : List TagDef → (List ℕ → Option Trace) → (List ℕ → Option Trace) → ℕ → ℕ → Status
+    → Type 0
+IsRefusal tags old new before now (DeviceFault (Tag i)) =
+    IsRefusedAt tags old new i (λ cores def o. before < 2 ^ 64 → Rose before now)
+IsRefusal tags old new before now (Damaged (Tag i) at byte) =
+    IsRefusedAt tags old new i (λ cores def o. Shows o (λ c. IsTagDamage def c at byte))
+IsRefusal tags old new before now (OtherTag i found wanted) =
+    IsRefusedAt tags old new i (λ cores def o. Shows o (λ c. IsOther def c found wanted))
+IsRefusal tags old new before now (Limit Records number) =
+    (i : ℕ) × IsRefusedAt tags old new i (λ cores def o. Shows o (λ c. (s : State) × IsFull def c number s))
+IsRefusal tags old new before now (Limit StoreRecords number) =
+    (i : ℕ) × IsRefusedAt tags old new i (IsTooMuch number)
+IsRefusal tags old new before now WantOfMemory = Unit {0}
+IsRefusal tags old new before now other = ⊥
+
+-- one fault of the store is counted where a call of a tag's device has failed, which is told then; and else none
+abbrev pub CountsStore : {T : Type 0} → Result T Status → ℕ → ℕ → Type 0
+CountsStore (Ok x) before now = now ≡ before
+CountsStore (Err why) before now = (now ≡ before) ⊎ ((i : ℕ) × (why ≡ DeviceFault (Tag i)) × Rose before now)

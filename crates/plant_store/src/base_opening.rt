@@ -1,0 +1,41 @@
+// The tags of a base, opened.
+ghost use Rattle.std.specs.Prelude.{◌≡◌, ◌≢◌, ◌^◌, ◌<◌, ℕ, All, AllPairs, length, IfOk, IfErr};
+ghost use Rattle.trend_num.specs.Ranges.{TuningInRange};
+ghost use Rattle.plant_files.specs.Reading.{faults_told};
+ghost use Rattle.plant_files.specs.Texts.{tag_names};
+ghost use Rattle.plant_store.specs.Tags.{AllStaySame, AreLeft, AreOpened, AreOthersSame};
+ghost use Rattle.plant_store.specs.TagRefusals.{CountsStore, IsRefusal};
+
+use crate::tag_opening::open_tags;
+use disk_model::Store;
+use plant_status::Status;
+use std::alloc::Global;
+use tag_base::Base;
+use tag_core::TagCore;
+
+/// Opens the tags of a base that was read, each over the device of its name, which is made where there is none. No two of them
+/// have one name, so each device is opened once. A refusal is that of the first tag that does not open: a device that fails, is
+/// damaged or is of another tag, too many records, or want of memory.
+pub fn open_base<S: Store>(
+    alloc: Global,
+    store: &mut S,
+    base: &Base,
+) -> Result<Vec<TagCore>, Status>
+    requires tuned { All (λ tag. TuningInRange tag.tuning) base.now.tags.items }
+    requires distinct { AllPairs (λ x y. x ≢ y) (tag_names base.now.tags.items) }
+    requires few { length base.now.tags.items < 2 ^ 32 }
+    ensures opened { IfOk result (λ cores. AreOpened base.now.tags.items (S.device_at store.old) cores.items) }
+    ensures left { IfOk result (λ cores. AreLeft base.now.tags.items (S.device_at store.old)
+        (S.device_at store.new) cores.items) }
+    ensures as_many { IfOk result (λ cores. length cores.items ≡ length base.now.tags.items) }
+    ensures short { IfOk result (λ cores. All (λ core. length core.state.records < 2 ^ 32) cores.items) }
+    ensures refused { IfErr result (IsRefusal base.now.tags.items (S.device_at store.old) (S.device_at store.new)
+        (S.fault_count store.old) (S.fault_count store.new)) }
+    ensures no_file_fault { IfErr result (λ why. (n : ℕ) → faults_told why n ≡ n) }
+    ensures same { AllStaySame base.now.tags.items (S.device_at store.old) (S.device_at store.new) }
+    ensures others { AreOthersSame base.now.tags.items (S.device_at store.old) (S.device_at store.new) }
+    ensures counts { S.fault_count store.old < 2 ^ 64
+        → CountsStore result (S.fault_count store.old) (S.fault_count store.new) }
+{
+    open_tags(alloc, store, &base.tags)
+}

@@ -1,0 +1,68 @@
+// The devices of books are given back.
+ghost use Rattle.std.specs.Prelude.{◌≡◌, ◌≢◌, ℕ, ◌+◌, ◌-◌, ◌^◌, ◌<◌, ◌≤◌, List, [], All, AllPairs, IsTrue, length, slice_index_or, string_bytes, vec_capacity, vec_len};
+ghost use Rattle.group_book.specs.Told.{Told, count_of};
+ghost use Rattle.plant_store.specs.BookEndings.{AreGivenBack, AreHistoriesOf, HasRisen, counts_after};
+ghost use Rattle.plant_store.specs.BookSteps.{AreOtherNamesSame, HavePlaces};
+
+use crate::single_book::close_book;
+use disk_model::Store;
+use group_book::{Book, GroupHistory};
+
+/// Gives the device of each book back under its name, and adds what happened to its group to the histories, in order. It takes no
+/// memory.
+pub fn close_books<S: Store>(
+    store: &mut S,
+    names: &[String],
+    books: Vec<Book<S::Dev>>,
+    histories: &mut Vec<GroupHistory>,
+)
+    requires as_many { length names.now ≡ vec_len books }
+    requires none { histories.old.items ≡ [] }
+    requires room { vec_len books ≤ vec_capacity histories.old }
+    requires places { HavePlaces (length names.now) names.now (S.has_place store.old) }
+    requires distinct { AllPairs (λ a b. string_bytes a ≢ string_bytes b) names.now }
+
+    // There is one history for each book, in its place. Its device is back, and no other one has changed.
+    ensures closed { AreHistoriesOf S.Dev.trace S.Dev.ticks S.Dev.fault_count books.items histories.new.items }
+    ensures given { AreGivenBack S.Dev.trace names.now books.items (S.device_at store.old) (S.device_at store.new) }
+    ensures others { AreOtherNamesSame (length names.now) names.now (S.device_at store.old) (S.device_at store.new) }
+    ensures kept_places { (n : List ℕ) → IsTrue (S.has_place store.old n) → IsTrue (S.has_place store.new n) }
+
+    // The faults of the devices are added to the store's, whose count is not below what it was. It rose where a device has counted
+    // one, and is as it was where none has.
+    ensures counted { S.fault_count store.new ≡ counts_after S.Dev.fault_count books.items (S.fault_count store.old) }
+    ensures later { S.fault_count store.old < 2 ^ 64 → S.fault_count store.old ≤ S.fault_count store.new }
+    ensures rose { S.fault_count store.old < 2 ^ 64 → (i : ℕ) (b : Told S.Dev) → i < length books.items
+        → 0 < count_of S.Dev.fault_count (slice_index_or books.items i b).dev
+        → HasRisen (S.fault_count store.old) (S.fault_count store.new) }
+    ensures faultless { S.fault_count store.old < 2 ^ 64
+        → All (λ b. count_of S.Dev.fault_count b.dev ≡ 0) books.items → S.fault_count store.new ≡ S.fault_count store.old }
+{
+    let mut rest = books.into_iter();
+    let mut place = 0;
+    while let Some(book) = rest.next() {
+        let history = close_book(store, names[place].as_str(), book);
+        histories.push_reserved(history);
+        place += 1;
+    }
+    rest.destroy_empty();
+}
+
+// Gives the device of each of the first books back under its name.
+pub(crate) fn give_back_all<S: Store>(store: &mut S, names: &[String], books: Vec<Book<S::Dev>>)
+    requires named { vec_len books ≤ length names.now }
+    requires places { HavePlaces (vec_len books) names.now (S.has_place store.old) }
+    requires distinct { AllPairs (λ a b. string_bytes a ≢ string_bytes b) names.now }
+    ensures given { AreGivenBack S.Dev.trace names.now books.items (S.device_at store.old) (S.device_at store.new) }
+    ensures others { AreOtherNamesSame (vec_len books) names.now (S.device_at store.old) (S.device_at store.new) }
+    ensures kept_places { (n : List ℕ) → IsTrue (S.has_place store.old n) → IsTrue (S.has_place store.new n) }
+    ensures counted { S.fault_count store.new ≡ counts_after S.Dev.fault_count books.items (S.fault_count store.old) }
+{
+    let mut rest = books.into_iter();
+    let mut place = 0;
+    while let Some(book) = rest.next() {
+        drop(close_book(store, names[place].as_str(), book));
+        place += 1;
+    }
+    rest.destroy_empty();
+}

@@ -1,0 +1,54 @@
+// Cells are given back.
+ghost use Rattle.std.specs.Prelude.{◌≡◌, ◌≢◌, ℕ, ◌^◌, ◌<◌, ◌≤◌, List, [], IsTrue, true, vec_len, vec_capacity, length};
+ghost use Rattle.disk_model.specs.Calls.{sum_of_counts};
+ghost use Rattle.plant_store.specs.CellClosings.{AreGivenBack, AreHistoriesAt, AreHistoriesOf, CountsCells, IsHistoryOf};
+ghost use Rattle.plant_store.specs.CellNames.{AreApart, HasPlaces, texts};
+
+use disk_model::{Disk, Store};
+use tag_cell::{Cell, TagHistory};
+
+/// Gives the device of each cell back under its name, and adds what happened to its tag to the histories, in order. It takes
+/// no memory.
+pub fn close_cells<S: Store>(
+    store: &mut S,
+    names: &[String],
+    cells: Vec<Cell<S::Dev>>,
+    histories: &mut Vec<TagHistory>,
+)
+    requires as_many { length names.now ≡ vec_len cells }
+    requires none { histories.old.items ≡ [] }
+    requires room { vec_len cells ≤ vec_capacity histories.old }
+    requires apart { AreApart (texts names.now) }
+    requires places { HasPlaces (S.has_place store.old) (texts names.now) }
+    ensures histories { AreHistoriesOf S.Dev.trace S.Dev.ticks S.Dev.fault_count cells.items histories.new.items }
+    ensures devices { AreHistoriesAt (S.device_at store.new) (texts names.now) histories.new.items }
+    ensures given_back { AreGivenBack S.Dev.trace (texts names.now) cells.items (S.device_at store.old) (S.device_at store.new) }
+    ensures kept_places { (n : List ℕ) → IsTrue (S.has_place store.old n) → IsTrue (S.has_place store.new n) }
+    ensures counts { S.fault_count store.old < 2 ^ 64
+        → CountsCells S.Dev.fault_count cells.items (S.fault_count store.old) (S.fault_count store.new) }
+{
+    let mut rest = cells.into_iter();
+    while let Some(cell) = rest.next() {
+        let history = close_cell(store, names[histories.len()].as_str(), cell);
+        histories.push_reserved(history);
+    }
+    rest.destroy_empty();
+}
+
+// Gives the device of a cell back.
+pub(crate) fn close_cell<S: Store>(store: &mut S, name: &str, cell: Cell<S::Dev>) -> TagHistory
+    requires { IsTrue (S.has_place store.old name.now) }
+    ensures history { IsHistoryOf (S.Dev.trace cell.journal.dev) (S.Dev.ticks cell.journal.dev)
+        (S.Dev.fault_count cell.journal.dev) cell result }
+    ensures told { S.device_at store.new name.now ≡ S.Dev.trace cell.journal.dev }
+    ensures others { (n : List ℕ) → n ≢ name.now → S.device_at store.new n ≡ S.device_at store.old n }
+    ensures places { (n : List ℕ) → IsTrue (S.has_place store.old n) → IsTrue (S.has_place store.new n) }
+    ensures counted { S.fault_count store.new ≡ sum_of_counts (S.fault_count store.old) (S.Dev.fault_count cell.journal.dev) }
+    ensures faulty { cell.journal.failed ≡ true → 1 ≤ S.Dev.fault_count cell.journal.dev }
+{
+    // The device of a broken cell has counted a fault.
+    let _broken = cell.broken();
+    let (dev, history) = cell.into_history();
+    store.give_back(name, dev);
+    history
+}

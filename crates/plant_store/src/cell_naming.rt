@@ -1,0 +1,21 @@
+// What the devices of tags are called.
+ghost use Rattle.std.specs.Prelude.{◌≡◌, IfOk};
+ghost use Rattle.plant_store.specs.CellNames.{AreApart, names_of, texts};
+ghost use Rattle.plant_store.specs.Tags.{AreDistinct};
+
+use crate::tag_device::device_name;
+use std::alloc::Global;
+use trend_num::{TagDef, WantOfMemory};
+
+/// What the devices of tags are called, in order.
+pub fn tag_device_names(alloc: Global, tags: &[TagDef]) -> Result<Vec<String>, WantOfMemory>
+    ensures names { IfOk result (λ names. texts names.items ≡ names_of tags.now) }
+    ensures apart { AreDistinct tags.now → IfOk result (λ names. AreApart (texts names.items)) }
+{
+    let mut names = Vec::new(alloc);
+    for def in tags {
+        let name = device_name(alloc, &def.name)?;
+        names.push(name)?;
+    }
+    Ok(names)
+}

@@ -1,0 +1,97 @@
+// What a group's device is called, and what its book is made with.
+ghost use Rattle.std.specs.Prelude.{◌≡◌, ◌^◌, ◌<◌, [], All, IfOk, length, map, slice_index_or, string_bytes, vec_len};
+ghost use Rattle.calc_refresh.specs.Lists.{lists_of};
+ghost use Rattle.calc_refresh.specs.Sheet.{IsCopy, IsGrid, IsGroup, grid_of};
+ghost use Rattle.tag_base.specs.Groups.{IsSound};
+ghost use Rattle.plant_store.specs.Groups.{AreNamesOf, device_name, parts_of, records_of, text_of};
+
+use calc_refresh::GroupDefParts;
+use group_layout::definition_text;
+use std::alloc::Global;
+use tag_base::GroupDef;
+use trend_num::{Name, Rec, WantOfMemory};
+
+/// What the devices of groups are called, in order: the name of each, and `.grp`.
+pub fn group_device_names(alloc: Global, groups: &[GroupDef]) -> Result<Vec<String>, WantOfMemory>
+    ensures names { IfOk result (λ names. AreNamesOf groups.now names.items) }
+{
+    let mut names = Vec::new(alloc);
+    for group in groups {
+        let name = device_name(alloc, &group.name)?;
+        names.push(name)?;
+    }
+    Ok(names)
+}
+
+// What a group's device is called.
+fn device_name(alloc: Global, name: &Name) -> Result<String, WantOfMemory>
+    ensures { IfOk result (λ text. string_bytes text ≡ device_name name.now) }
+{
+    let name = name.text();
+    Ok(format!(in alloc; "{name}.grp")?)
+}
+
+/// The definition of a group, as its book is made with it.
+pub fn parts_of(group: &GroupDef) -> Result<GroupDefParts, WantOfMemory>
+    requires few { vec_len group.now.inputs < 2 ^ 32 }
+    ensures parts { IfOk result (λ parts. parts ≡ parts_of group.now) }
+{
+    Ok(GroupDefParts {
+        inputs: group.inputs.len() as u32,
+        start: group.start,
+        period: group.period,
+        calcs: group.calcs.copy()?,
+    })
+}
+
+// What a book is opened with beside its device: its definition, the text of it, its tags, and the records of each.
+#[derive(Drop)]
+pub(crate) struct Prepared {
+    pub def: GroupDefParts,
+    pub text: Vec<u8>,
+    pub tags: Vec<u32>,
+    pub recovered: Vec<Vec<Rec>>,
+}
+
+// Makes that of a group, where each tag of the base has these records.
+pub(crate) fn prepare(
+    alloc: Global,
+    group: &GroupDef,
+    records: &[&[Rec]],
+) -> Result<Prepared, WantOfMemory>
+    requires sound { IsSound (length records.now) group.now }
+    requires copied { All (λ r. IsCopy r.now) records.now }
+    ensures def { IfOk result (λ p. p.def ≡ parts_of group.now) }
+    ensures text { IfOk result (λ p. p.text.items ≡ text_of group.now) }
+    ensures tags { IfOk result (λ p. p.tags.items ≡ group.now.inputs.items) }
+    ensures recovered { IfOk result (λ p. lists_of p.recovered.items ≡ records_of (map (λ r. r.now) records.now) group.now) }
+    ensures copied { IfOk result (λ p. All IsCopy (lists_of p.recovered.items)) }
+    ensures group { IfOk result (λ p. IsGroup p.def.inputs p.def.calcs) }
+    ensures grid { IfOk result (λ p. IsGrid (grid_of p.def.start p.def.period)) }
+{
+    Ok(Prepared {
+        def: parts_of(group)?,
+        text: definition_text(alloc, &group.name, group.start, group.period, &group.calcs)?,
+        tags: Vec::from_slice(alloc, &group.inputs)?,
+        recovered: records_of(alloc, &group.inputs, records)?,
+    })
+}
+
+// Of each of these tags its records.
+fn records_of(
+    alloc: Global,
+    tags: &[u32],
+    records: &[&[Rec]],
+) -> Result<Vec<Vec<Rec>>, WantOfMemory>
+    requires known { All (λ tag. tag < length records.now) tags.now }
+    requires copied { All (λ r. IsCopy r.now) records.now }
+    ensures lists { IfOk result (λ v. lists_of v.items ≡ map (λ tag. slice_index_or (map (λ r. r.now) records.now) tag []) tags.now) }
+    ensures copied { IfOk result (λ v. All IsCopy (lists_of v.items)) }
+{
+    let mut lists = Vec::new(alloc);
+    for tag in tags {
+        let list = Vec::from_slice(alloc, records[*tag as usize])?;
+        lists.push(list)?;
+    }
+    Ok(lists)
+}

@@ -1,0 +1,76 @@
+// One group: its book is opened, and its device given back.
+ghost use Rattle.std.specs.Prelude.{◌≡◌, ◌≢◌, ℕ, ◌^◌, ◌<◌, List, All, IfErr, IfOk, IsTrue, OnErr, OnOk, length, map};
+ghost use Rattle.calc_refresh.specs.Sheet.{IsCopy};
+ghost use Rattle.disk_model.specs.Calls.{CountsFault};
+ghost use Rattle.tag_base.specs.Groups.{IsSound};
+ghost use Rattle.group_book.specs.declared.refusal.LoadNo.TheVariants.{DeviceFault};
+ghost use Rattle.group_book.specs.Openings.{IsCause};
+ghost use Rattle.plant_store.specs.Groups.{IsBookOpened, parts_of, records_of, text_of};
+ghost use Rattle.plant_store.specs.BookEndings.{IsHistoryOf, count_after, trace_after};
+ghost use Rattle.plant_store.specs.BookSteps.{StaysSameOf};
+
+use crate::group_parts::{Prepared, prepare};
+use disk_model::Store;
+use group_book::{Book, GroupHistory, LoadFail, LoadNo, load};
+use std::alloc::Global;
+use tag_base::GroupDef;
+use trend_num::Rec;
+
+// Opens the group at this place of a base over the device of this name. Where it is not opened the device is given back.
+pub(crate) fn open_book<S: Store>(
+    alloc: Global,
+    store: &mut S,
+    place: u32,
+    group: &GroupDef,
+    name: &str,
+    records: &[&[Rec]],
+) -> Result<Book<S::Dev>, LoadNo>
+    requires sound { IsSound (length records.now) group.now }
+    requires copied { All (λ r. IsCopy r.now) records.now }
+    ensures opened { IfOk result (IsBookOpened S.Dev.trace S.Dev.ticks S.Dev.fault_count place group.now
+        (records_of (map (λ r. r.now) records.now) group.now) (S.device_at store.old name.now)) }
+    ensures same { OnErr result (StaysSameOf name.now group.now (S.device_at store.old) (S.device_at store.new)) }
+    ensures cause { IfErr result (IsCause (text_of group.now) (parts_of group.now)
+        (records_of (map (λ r. r.now) records.now) group.now) (S.device_at store.old name.now)) }
+    ensures place { OnOk result (IsTrue (S.has_place store.new name.now)) }
+    ensures places { (n : List ℕ) → IsTrue (S.has_place store.old n) → IsTrue (S.has_place store.new n) }
+    ensures others { (n : List ℕ) → n ≢ name.now → S.device_at store.new n ≡ S.device_at store.old n }
+    ensures counts { S.fault_count store.old < 2 ^ 64
+        → CountsFault result DeviceFault (S.fault_count store.old) (S.fault_count store.new) }
+{
+    let Ok(prepared) = prepare(alloc, group, records) else {
+        return Err(LoadNo::WantOfMemory);
+    };
+    let Ok(dev) = store.device(name) else {
+        return Err(LoadNo::DeviceFault);
+    };
+    let Prepared {
+        def,
+        text,
+        tags,
+        recovered,
+    } = prepared;
+    match load(alloc, dev, place, &def, &text, tags, &recovered) {
+        Ok(book) => Ok(book),
+        Err(LoadFail { dev, why }) => {
+            store.give_back(name, dev);
+            Err(why)
+        }
+    }
+}
+
+// Gives the device of a book back under this name, and hands out what happened to its group.
+pub(crate) fn close_book<S: Store>(store: &mut S, name: &str, book: Book<S::Dev>) -> GroupHistory
+    requires place { IsTrue (S.has_place store.old name.now) }
+    ensures history { IsHistoryOf S.Dev.trace S.Dev.ticks S.Dev.fault_count book result }
+    ensures given { S.device_at store.new name.now ≡ trace_after S.Dev.trace book.dev (S.device_at store.old name.now) }
+    ensures places { (n : List ℕ) → IsTrue (S.has_place store.old n) → IsTrue (S.has_place store.new n) }
+    ensures others { (n : List ℕ) → n ≢ name.now → S.device_at store.new n ≡ S.device_at store.old n }
+    ensures counted { S.fault_count store.new ≡ count_after S.Dev.fault_count book.dev (S.fault_count store.old) }
+{
+    let (dev, history) = book.into_history();
+    if let Some(dev) = dev {
+        store.give_back(name, dev);
+    }
+    history
+}

@@ -1,0 +1,69 @@
+// The device of one tag.
+ghost use Rattle.std.specs.Prelude.{◌≡◌, ◌≢◌, ◌^◌, ◌<◌, ℕ, List, IfOk, IfErr, string_bytes};
+ghost use Rattle.trend_num.specs.Ranges.{TuningInRange};
+ghost use Rattle.disk_model.specs.Calls.{CountsFault};
+ghost use Rattle.device_layout.specs.declared.failure.OpenNo.TheVariants.{DeviceFault};
+ghost use Rattle.device_layout.specs.Readings.{IsCause};
+ghost use Rattle.crash_recovery.specs.Opening.{StaysSame};
+ghost use Rattle.plant_store.specs.Tags.{device_name, trace_of, IsOpened, IsLeft};
+
+use crash_recovery::{OpenFail, OpenNo, Opened, open_tag};
+use disk_model::{Disk, Store};
+use std::alloc::{AllocError, Global};
+use tag_core::TagCore;
+use trend_num::{Name, TagDef};
+
+/// How many lane slots a new device gets.
+pub const LANE_SLOTS: u32 = 64;
+
+// Opens the device of a tag, which is made where it is not there, and gives it back whatever came.
+pub(crate) fn open_device<S: Store>(
+    alloc: Global,
+    store: &mut S,
+    def: &TagDef,
+) -> Result<TagCore, OpenNo>
+    requires tuned { TuningInRange def.now.tuning }
+    ensures same { StaysSame def.now (trace_of (S.device_at store.old) def.now)
+        (trace_of (S.device_at store.new) def.now) }
+    ensures opened { IfOk result (IsOpened def.now (trace_of (S.device_at store.old) def.now)) }
+    ensures left { IfOk result (IsLeft def.now (trace_of (S.device_at store.old) def.now)
+        (trace_of (S.device_at store.new) def.now)) }
+    ensures cause { IfErr result (IsCause def.now (trace_of (S.device_at store.old) def.now)) }
+    ensures others { (n : List ℕ) → n ≢ device_name def.now.name
+        → S.device_at store.new n ≡ S.device_at store.old n }
+    ensures counts { S.fault_count store.old < 2 ^ 64
+        → CountsFault result DeviceFault (S.fault_count store.old) (S.fault_count store.new) }
+{
+    let Ok(name) = device_name(alloc, &def.name) else {
+        return Err(OpenNo::WantOfMemory);
+    };
+    let Ok(dev) = store.device(name.as_str()) else {
+        return Err(OpenNo::DeviceFault);
+    };
+    let (dev, opened) = open_core(alloc, dev, def);
+    store.give_back(name.as_str(), dev);
+    opened
+}
+
+/// What a tag's device is called.
+pub fn device_name(alloc: Global, name: &Name) -> Result<String, AllocError>
+    ensures { IfOk result (λ text. string_bytes text ≡ device_name name.now) }
+{
+    let name = name.text();
+    format!(in alloc; "{name}.tag")
+}
+
+// The tag that a device holds, or why it is not opened; and the device.
+fn open_core<D: Disk>(alloc: Global, dev: D, def: &TagDef) -> (D, Result<TagCore, OpenNo>)
+    requires tuned { TuningInRange def.now.tuning }
+    ensures same { StaysSame def.now (D.trace dev) (D.trace result.0) }
+    ensures opened { IfOk result.1 (IsOpened def.now (D.trace dev)) }
+    ensures left { IfOk result.1 (IsLeft def.now (D.trace dev) (D.trace result.0)) }
+    ensures cause { IfErr result.1 (IsCause def.now (D.trace dev)) }
+    ensures counts { CountsFault result.1 DeviceFault (D.fault_count dev) (D.fault_count result.0) }
+{
+    match open_tag(alloc, dev, def, LANE_SLOTS, 0) {
+        Ok(Opened { journal, core }) => (journal.into_device(), Ok(core)),
+        Err(OpenFail { dev, why }) => (dev, Err(why)),
+    }
+}

@@ -1,0 +1,78 @@
+-- What is opened over devices that hold nothing.
+use Rattle.std.proofs.Common.{◌≡◌, ℕ, List, [], ◌∷◌, inl, inr, refl, arith, length, replicate, get_or}
+use Rattle.std.specs.List.{AllZip}
+use Rattle.trend_num.specs.declared.tag_def.TagDef.{TagDef}
+use Rattle.trend_num.specs.declared.value.CalcValue.{CalcValue}
+use Rattle.trend_model.specs.History.{Origin}
+use Rattle.trend_model.specs.State.{Stands, State, nothing_taken}
+use Rattle.trend_model.proofs.StateLaw.{nothing_stands}
+use Rattle.crash_recovery.specs.TagImages.{ImageStands, StandsOpened}
+use Rattle.group_layout.specs.Images.{ByBlocks, ByNothing, StandsFor}
+use Rattle.tag_base.specs.declared.definition.Base.{Base}
+use Rattle.tag_base.specs.declared.definition.GroupDef.{GroupDef}
+use Rattle.tag_cell.specs.declared.history.TagHistory.{TagHistory}
+use Rattle.tag_cell.specs.Tapes.{opened}
+use Rattle.plant_store.specs.Tags.{trace_of}
+use Rattle.plant_store.specs.Groups.{parts_of, text_of, trace_at}
+use Rattle.group_book.specs.declared.history.GroupHistory.{GroupHistory}
+use Rattle.calc_refresh.specs.Lists.{lists_of}
+use Rattle.session_report.specs.declared.session.Session.{Session}
+use Rattle.run_command.specs.Headline.{AreOpened, IsGroupOpened, IsTagOpened}
+use Rattle.run_command.specs.Drills.{AreNew, IsGroupNew, IsTagNew, fresh}
+
+-- the origin of a tag that was made so
+abbrev pub origin_of : TagDef → Origin
+origin_of def = record { tuning = def.tuning; step = def.step }
+
+-- an empty image stands for a history without a value
+pub empty_stands : (def : TagDef) → ImageStands def (origin_of def) [] []
+empty_stands def = record {
+  state = nothing_taken def.tuning;
+  same_step = refl;
+  recovered = inl (inl (omega arith), refl);
+  stands = nothing_stands (origin_of def);
+}
+
+-- and what is opened of it too
+pub opened_nothing : (def : TagDef) (s : State) → StandsOpened def (origin_of def) [] s → Stands (origin_of def) [] s
+opened_nothing def s (inl is) = is.1
+opened_nothing def s (inr is) = absurd (is.0 refl)
+
+new_tags : (defs : List TagDef) (ts : List TagHistory) → AllZip (λ def t. IsTagOpened def (trace_of fresh def) t) defs ts
+    → AllZip IsTagNew defs ts
+new_tags [] [] is = tt
+new_tags [] (t ∷ ts) is = absurd is
+new_tags (d ∷ ds) [] is = absurd is
+new_tags (d ∷ ds) (t ∷ ts) is = (
+  record {
+    def_is = is.0.def_is;
+    nothing = opened_nothing d (opened t.opening) (is.0.opening (origin_of d) [] (empty_stands d));
+  },
+  new_tags ds ts is.1,
+)
+
+-- an empty image has nothing saved
+pub saved_nothing : (text : List ℕ) (inputs calcs : ℕ) (versions : List ℕ) (rows : List (List CalcValue))
+    → StandsFor text inputs calcs [] versions rows → (versions ≡ replicate inputs 0) × (rows ≡ replicate calcs [])
+saved_nothing text inputs calcs versions rows (ByNothing unsaved versions_are rows_are) = (versions_are, rows_are)
+saved_nothing text inputs calcs versions rows (ByBlocks bs saved versions_are) =
+    let long = saved.of_text.head.begun.long in
+    absurd (omega (arith, long))
+
+new_group : (i : ℕ) (d : GroupDef) (g : GroupHistory) → IsGroupOpened i d (trace_at fresh d) g → IsGroupNew i d g
+new_group i d g is =
+    let none = saved_nothing (text_of d) (parts_of d).inputs (length (parts_of d).calcs.calcs) g.opening.versions.items
+    (lists_of g.opening.rows.items) is.opening in
+    record {
+      number = is.number;
+      def_is = is.def_is;
+      text = is.text;
+      versions = none.0;
+      rows = none.1;
+    }
+
+pub all_new : (base : Base) (s : Session) → AreOpened base fresh s → AreNew base s
+all_new base s is = record {
+  tags = new_tags base.tags.items s.tags.items is.tags;
+  groups = λ i d g below. new_group i (get_or base.groups.items i d) (get_or s.groups.items i g) (is.groups i d g below);
+}

@@ -1,0 +1,89 @@
+-- What the phases of a drill come to, and what is told of it.
+use Rattle.std.proofs.Common.{◌≡◌, ◌≤◌, ℕ, List, false, Option, Result, Ok, Err, OnOk, IfErr, String, Global, arith, ap, length, refl, sym, subst}
+use Rattle.std.specs.Result.{is_err}
+use Rattle.disk_model.specs.Traces.{Trace}
+use Rattle.plant_status.specs.declared.status.Status.{Status}
+use Rattle.plant_status.specs.declared.status.Status.TheVariants.{Done, BadWords, BadText, BadRow, ReadFault, WriteFault, DeviceFault, Damaged, OtherTag, Limit, Mismatch, Halted, WantOfMemory, OtherPlant, BadName}
+use Rattle.tag_base.specs.declared.definition.Base.{Base}
+use Rattle.tag_cell.specs.Told.{Told as Cell}
+use Rattle.group_book.specs.Told.{Told as Book}
+use Rattle.plant_store.specs.Groups.{Devices}
+use Rattle.collector_pool.specs.declared.note.WorkerNote.{WorkerNote}
+use Rattle.collector_pool.specs.declared.work.Work.{Work}
+use Rattle.collector_pool.specs.Work.{worker_count}
+use Rattle.session_report.specs.declared.session.Session.{Session}
+use Rattle.run_command.specs.declared.work.Given.{Given}
+use Rattle.run_command.specs.Refusals.{IsOpening}
+use Rattle.run_command.specs.Runs.{IsHeld, IsReported}
+use Rattle.run_command.specs.Runs as runs
+use Rattle.run_command.specs.Sessions.{AreNotes, OfAll, OfNone}
+use Rattle.run_command.specs.Drills.{IsRunInPhases, drill_answer, drill_status}
+use Rattle.run_command.specs.DrillPhases.{AreNotesOfBoth, IsUndoneOfBoth, OfFirst}
+
+-- what is so where a call succeeds
+pub where_ok : {T E P : Type 0} (r : Result T E) → is_err r ≡ false → OnOk r P → P
+where_ok (Ok x) fine p = p
+where_ok (Err e) fine p = absurd (cc fine)
+
+-- no more workers have notes than there are
+pub few_notes : (D : Type 0) (w : Work) (before now : ℕ) (notes : List WorkerNote) → AreNotes D w before now notes
+    → length notes ≤ worker_count w
+few_notes D w before now notes (OfAll are stops) = omega (arith, are.count)
+few_notes D w before now notes (OfNone none stops) = omega (arith, ap length none)
+
+-- a refused opening is told as one
+opening_kept : (why : Status) → IsOpening why → IsOpening (drill_status why)
+opening_kept Done is = is
+opening_kept BadWords is = is
+opening_kept (BadText file rule place at) is = is
+opening_kept (BadRow file row reason) is = is
+opening_kept (ReadFault file) is = is
+opening_kept WriteFault is = is
+opening_kept (DeviceFault unit) is = absurd is
+opening_kept (Damaged unit at byte) is = is
+opening_kept (OtherTag tag found wanted) is = is
+opening_kept (Limit what number) is = is
+opening_kept (Mismatch place kept told) is = is
+opening_kept (Halted worker) is = is
+opening_kept WantOfMemory is = is
+opening_kept (OtherPlant at) is = is
+opening_kept (BadName word) is = is
+
+-- a cause is told of phases that are not done, or that no memory was found for the report
+pub both_told : {D : Type 0} (base : Base) (first second : Given) (s : Session) (opened : List (Cell D)) (opened_books : List (Book D))
+    (cells : List (Cell D)) (books : List (Book D)) (notes : List WorkerNote) (came : Result (Unit {0}) Status)
+    (told : Result (String Global) Status) → IsReported base second s came told
+    → IfErr came (IsUndoneOfBoth first second opened opened_books cells books notes)
+    → IfErr told (IsUndoneOfBoth first second opened opened_books cells books notes)
+both_told base first second s opened opened_books cells books notes (Ok x) (Ok text) is undone = tt
+both_told base first second s opened opened_books cells books notes (Ok x) (Err why) is undone = OfFirst (runs.OfNone is.want)
+both_told base first second s opened opened_books cells books notes (Err why) (Ok text) is undone = tt
+both_told base first second s opened opened_books cells books notes (Err why) (Err e) is undone =
+    let same : e ≡ why = cc (is.refused) in
+    subst (IsUndoneOfBoth first second opened opened_books cells books notes) (sym same) undone
+
+-- what a drill comes to that was held so
+pub phases_told : {D : Type 0} (trace : D → Option Trace) (ticks faults : D → ℕ) (base : Base) (first second : Given) (old new : Devices)
+    (before now stops_before stops_now : ℕ) (told : Result (String Global) Status) (s : Session)
+    → (held : IsHeld trace ticks faults base second old new before now told s)
+    → AreNotesOfBoth D first.work second.work stops_before stops_now s.workers.items
+    → IfErr told (IsUndoneOfBoth first second held.opened held.opened_books held.cells held.books s.workers.items)
+    → IsRunInPhases trace ticks faults base first second old new before now stops_before stops_now (drill_answer told) s
+phases_told trace ticks faults base first second old new before now stops_before stops_now (Ok text) s held notes undone =
+    record { held = held; notes = notes; undone = tt }
+phases_told trace ticks faults base first second old new before now stops_before stops_now (Err why) s held notes undone = record {
+  held = record {
+    opened = held.opened;
+    opened_books = held.opened_books;
+    cells = held.cells;
+    books = held.books;
+    opening = held.opening;
+    over = held.over;
+    counts = held.counts;
+    same_tags = λ none. held.same_tags (λ of. none (opening_kept why of));
+    same_groups = λ none. held.same_groups (λ of. none (opening_kept why of));
+    done = tt;
+  };
+  notes = notes;
+  undone = record { cause = why; told = refl; undone = undone };
+}

@@ -1,6 +1,0 @@
-use Rattle.std.proofs.Common.{◌≡◌, take}
-use Rattle.calc_refresh.specs.Lists.{lists_of}
-use Rattle.run_command.proofs.copies.rows_of.Given as goal
-
-abbrev pub invariant-loop-row : goal.invariant-loop-row
-invariant-loop-row l = lists_of l.list.items ≡ lists_of (take l.row-index l.rows)

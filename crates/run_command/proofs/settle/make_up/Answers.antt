@@ -1,0 +1,105 @@
+use Rattle.std.proofs.Common.{◌∙◌, ◌<◌, ℕ, List, Vec, ap, sym, subst, length, slice_index}
+use Rattle.std.specs.Prelude.{All}
+use Rattle.std.specs.declared.alloc.Global.{Global}
+use Rattle.calc_refresh.specs.Lists.{lists_of}
+use Rattle.value_rows.specs.declared.asked.Query.{Query}
+use Rattle.value_rows.specs.declared.raw.RawRow.{RawRow}
+use Rattle.session_audit.specs.Agendas.{ask_item, row_item, phase_item}
+use Rattle.session_audit.specs.Tapes.{ask_of, take_of}
+use Rattle.collector_pool.specs.Work.{IsRowOf}
+use Rattle.session_audit.specs.Cells.{AreAllShown, IsAskEntry, IsCommitEntry, IsTakeEntry}
+use Rattle.session_audit.specs.CellRefusals.{tag_rows}
+use Rattle.session_audit.specs.Workers.{AreTapesWhole}
+use Rattle.session_audit.specs.Books.{book_tape}
+use Rattle.session_audit.specs.Refreshing.{AreBooksRefreshed, durable_lists}
+use Rattle.session_audit.specs.BookRefusals.{IsRefreshRefusal}
+use Rattle.session_audit.specs.GroupTapes.{row_ask_of}
+use Rattle.session_audit.specs.GroupTurns.{IsWithinTurns}
+use Rattle.run_command.specs.Refusals.{OfRefresh}
+use Rattle.run_command.proofs.Kept.{books_asked, books_joined, books_refreshed, cells_joined, cells_longer, cells_pulled, none_waits}
+use Rattle.run_command.proofs.Making.{inputs_kept, known_asks, known_row_asks}
+use Rattle.run_command.proofs.Results.{err_weaker, ok_weaker}
+use Rattle.run_command.proofs.settle.make_up.Goals as goal
+
+pub take_missing-requires-clause-values : goal.take_missing-requires-clause-values
+take_missing-requires-clause-values g c =
+    subst (λ (l : List (Vec RawRow Global)). All (λ (rows : Vec RawRow Global). All (IsRowOf (length c.args.cells.now)) rows.items) l)
+    (sym c.deref.ensures.value) c.requires.ready.given.work.rows
+
+pub take_missing-requires-clause-counted : goal.take_missing-requires-clause-counted
+take_missing-requires-clause-counted g c = λ tag below.
+    let rooms = c.deref-2.ensures.value in
+    ap (λ (l : List ℕ). slice_index l tag) rooms
+    ∙ c.requires.ready.given.rooms tag (subst (λ n. tag < n) (ap length rooms ∙ c.requires.ready.given.rooms_are) below)
+    ∙ ap (λ (l : List (Vec RawRow Global)). tag_rows tag (lists_of l)) (sym c.deref.ensures.value)
+
+pub returns-in_err-take_missing-clause-cells : goal.returns-in_err-take_missing-clause-cells
+returns-in_err-take_missing-clause-cells g c = cells_longer IsTakeEntry _ _ c.take_missing.ensures.longer
+
+pub ask_missing-requires-clause-queries : goal.ask_missing-requires-clause-queries
+ask_missing-requires-clause-queries g c =
+    known_asks (length c.args.cells.now) (length c.args.books.now) _ _ _ c.deref-3.ensures.value c.take_missing.ensures.longer.as_many
+    c.requires.ready.given.work.queries
+
+pub ask_missing-requires-clause-found : goal.ask_missing-requires-clause-found
+ask_missing-requires-clause-found g c = c.take_missing.ensures.asks _ c.requires.found.readers
+
+pub ask_rows_missing-requires-clause-queries : goal.ask_rows_missing-requires-clause-queries
+ask_rows_missing-requires-clause-queries g c =
+    known_row_asks (length c.args.cells.now) (length c.args.books.now) _ _ c.deref-4.ensures.value c.requires.ready.given.work.queries
+
+pub returns-in_default-clause-cells : goal.returns-in_default-clause-cells
+returns-in_default-clause-cells g c = cells_joined _ _ _ (cells_longer IsTakeEntry _ _ c.take_missing.ensures.longer)
+    (cells_longer IsAskEntry _ _ c.ask_missing.ensures.longer)
+
+pub returns-in_default-clause-books : goal.returns-in_default-clause-books
+returns-in_default-clause-books g c = books_asked _ _ c.ask_rows_missing.ensures.asked
+
+pub returns-in_err-commit_cells-clause-cells : goal.returns-in_err-commit_cells-clause-cells
+returns-in_err-commit_cells-clause-cells g c = cells_joined _ _ _ (cells_joined _ _ _
+    (cells_longer IsTakeEntry _ _ c.take_missing.ensures.longer) (cells_longer IsAskEntry _ _ c.ask_missing.ensures.longer))
+    (cells_longer IsCommitEntry _ _ c.commit_cells.ensures.longer)
+
+pub returns-in_err-commit_cells-clause-books : goal.returns-in_err-commit_cells-clause-books
+returns-in_err-commit_cells-clause-books g c = books_asked _ _ c.ask_rows_missing.ensures.asked
+
+pub refresh_missing-requires-clause-inputs : goal.refresh_missing-requires-clause-inputs
+refresh_missing-requires-clause-inputs g c =
+    inputs_kept (length c.args.cells.now) _ _ _ _ _
+    (c.commit_cells.ensures.longer.as_many ∙ c.ask_missing.ensures.longer.as_many ∙ c.take_missing.ensures.longer.as_many)
+    (ap lists_of c.deref-5.ensures.value) (books_asked _ _ c.ask_rows_missing.ensures.asked) c.requires.ready.inputs
+
+pub refresh_missing-requires-clause-within : goal.refresh_missing-requires-clause-within
+refresh_missing-requires-clause-within g c =
+    subst (λ (l : List ℕ). IsWithinTurns l c.ask_rows_missing.new.books) (sym c.deref-6.ensures.value)
+    (c.ask_rows_missing.ensures.turns _ c.requires.found.turns)
+
+pub returns-clause-made : goal.returns-clause-made
+returns-clause-made g c = ok_weaker c.refresh_missing.result (λ refreshed. record {
+  takes = subst (λ (l : List (Vec RawRow Global)). AreAllShown take_of (phase_item c.args.given.now.work.earlier) (lists_of l) c.refresh_missing.new.cells)
+      c.deref.ensures.value
+      (c.refresh_missing.ensures.takes _ _ (c.commit_cells.ensures.takes _ _ (c.ask_missing.ensures.takes _ _ c.in_ok-take_missing.ensures.shown)));
+  asks = subst (λ (l : List (Vec Query Global)). AreAllShown ask_of ask_item (lists_of l) c.refresh_missing.new.cells)
+      c.deref-3.ensures.value (c.refresh_missing.ensures.asks _ (c.commit_cells.ensures.asks _ c.in-Ok-Ok.ensures.shown));
+  row_asks = subst (λ (l : List (Vec Query Global)). AreTapesWhole book_tape row_ask_of row_item (lists_of l) c.refresh_missing.new.books)
+      c.deref-4.ensures.value (c.refresh_missing.ensures.questions _ c.in-Ok-Ok.ensures'.shown);
+  none_waits = none_waits _ _ c.refresh_missing.ensures.pulled c.in_ok-commit_cells.ensures.none_waits;
+  refreshed = subst (λ (l : List (Vec ℕ Global)). AreBooksRefreshed (durable_lists c.refresh_missing.new.cells) (lists_of l)
+      c.args.given.now.turns.items c.refresh_missing.new.books) c.deref-5.ensures.value
+      (subst (λ (l : List ℕ). AreBooksRefreshed (durable_lists c.refresh_missing.new.cells) (lists_of c.deref-5.result.now) l
+      c.refresh_missing.new.books) c.deref-6.ensures.value refreshed);
+}) c.refresh_missing.ensures.refreshed
+
+pub returns-clause-cells : goal.returns-clause-cells
+returns-clause-cells g c = cells_joined _ _ _ (cells_joined _ _ _ (cells_joined _ _ _
+    (cells_longer IsTakeEntry _ _ c.take_missing.ensures.longer) (cells_longer IsAskEntry _ _ c.ask_missing.ensures.longer))
+    (cells_longer IsCommitEntry _ _ c.commit_cells.ensures.longer)) (cells_pulled _ _ c.refresh_missing.ensures.pulled)
+
+pub returns-clause-books : goal.returns-clause-books
+returns-clause-books g c = books_joined _ _ _ (books_asked _ _ c.ask_rows_missing.ensures.asked)
+    (books_refreshed _ _ c.refresh_missing.ensures.gained)
+
+pub returns-clause-refused : goal.returns-clause-refused
+returns-clause-refused g c = err_weaker c.refresh_missing.result
+    (λ why is. OfRefresh (subst (λ (l : List (Vec ℕ Global)). IsRefreshRefusal (durable_lists c.refresh_missing.new.cells) (lists_of l)
+    c.refresh_missing.new.books why) c.deref-5.ensures.value is)) c.refresh_missing.ensures.refused

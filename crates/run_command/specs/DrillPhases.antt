@@ -1,0 +1,40 @@
+-- What two phases of a session come to.
+use Rattle.std.specs.Prelude.{◌≡◌, ℕ, List, ◌++◌}
+use Rattle.plant_status.specs.declared.status.Status.{Status}
+use Rattle.collector_pool.specs.declared.note.WorkerNote.{WorkerNote}
+use Rattle.collector_pool.specs.declared.work.Work.{Work}
+use Rattle.group_book.specs.Told.{Told as Book}
+use Rattle.tag_cell.specs.Told.{Told as Cell}
+use Rattle.run_command.specs.declared.work.Given.{Given}
+use Rattle.run_command.specs.Runs.{IsUndone}
+use Rattle.run_command.specs.Sessions.{AreNotes}
+use Rattle.run_command.specs.Steps.{IsMade}
+
+-- the notes of a phase stand behind those that were there; of its workers as many were stopped as the passes have counted more
+pub record AreNotesBehind (D : Type 0) (work : Work) (before now : ℕ) (front notes : List WorkerNote) : Type 0 where
+  pub more : List WorkerNote
+  pub behind : notes ≡ front ++ more
+  pub are : AreNotes D work before now more
+
+-- the notes of the first phase, and behind them those of the second, if it was held
+pub record AreNotesOfBoth (D : Type 0) (first second : Work) (before now : ℕ) (notes : List WorkerNote) : Type 0 where
+  pub between : ℕ
+  pub front : List WorkerNote
+  pub are_first : AreNotes D first before between front
+  pub are_second : AreNotesBehind D second between now front notes
+
+-- why a phase is not done that goes on from these cells, books and notes
+pub record IsUndoneBehind {D : Type 0} (g : Given) (cells : List (Cell D)) (books : List (Book D)) (front : List WorkerNote)
+    (last : List (Cell D)) (last_books : List (Book D)) (notes : List WorkerNote) (why : Status) : Type 0 where
+  pub more : List WorkerNote
+  pub behind : notes ≡ front ++ more
+  pub undone : IsUndone g cells books last last_books more why
+
+-- why two phases are not done: the first is not; or it is, with these cells, books and notes, and the second is not
+pub data IsUndoneOfBoth {D : Type 0} (first second : Given) (opened : List (Cell D)) (opened_books : List (Book D))
+    (cells : List (Cell D)) (books : List (Book D)) (notes : List WorkerNote) (why : Status) : Type 0 where
+  OfFirst : IsUndone first opened opened_books cells books notes why
+      → IsUndoneOfBoth first second opened opened_books cells books notes why
+  OfSecond : (between : List (Cell D)) (between_books : List (Book D)) (front : List WorkerNote)
+      → IsMade first between between_books → IsUndoneBehind second between between_books front cells books notes why
+      → IsUndoneOfBoth first second opened opened_books cells books notes why

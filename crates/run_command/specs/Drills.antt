@@ -1,0 +1,141 @@
+-- What a drill comes to: its session, or why it holds none.
+use Rattle.std.specs.Prelude.{◌≡◌, ℕ, ◌/◌, ◌<◌, List, [], All, length, replicate, slice_index_or, Option, Some, Result, Ok, Err, IfErr, IfOk, String, string_bytes}
+use Rattle.std.specs.List.{AllZip}
+use Rattle.std.specs.declared.alloc.Global.{Global}
+use Rattle.trend_num.specs.declared.tag_def.TagDef.{TagDef}
+use Rattle.trend_model.specs.State.{Stands}
+use Rattle.disk_model.specs.Memory.{DiskState}
+use Rattle.disk_model.specs.Stores.{empty_trace}
+use Rattle.disk_model.specs.Traces.{Trace}
+use Rattle.tag_base.specs.declared.definition.Base.{Base}
+use Rattle.tag_base.specs.declared.definition.GroupDef.{GroupDef}
+use Rattle.tag_cell.specs.declared.history.TagHistory.{TagHistory}
+use Rattle.tag_cell.specs.Tapes.{opened as opened_state}
+use Rattle.tag_cell.specs.Told.{Told as Cell}
+use Rattle.plant_store.specs.Tags.{trace_of}
+use Rattle.calc_refresh.specs.Lists.{lists_of}
+use Rattle.group_book.specs.declared.history.GroupHistory.{GroupHistory}
+use Rattle.group_book.specs.Told.{Told as Book}
+use Rattle.plant_store.specs.Groups.{Devices, parts_of, text_of}
+use Rattle.plant_status.specs.declared.status.Status.{Status}
+use Rattle.plant_status.specs.declared.status.Status.TheVariants.{DeviceFault, WantOfMemory}
+use Rattle.session_audit.specs.Agendas.{phase_item}
+use Rattle.plant_files.specs.PlanRows.{IsGoodBase}
+use Rattle.session_report.specs.declared.session.Session.{Session}
+use Rattle.run_command.specs.declared.work.Given.{Given}
+use Rattle.run_command.specs.Headline.{AreGroupsSound, IsDoneSo, IsTagSound}
+use Rattle.run_command.specs.Refusals.{IsOfOpening}
+use Rattle.run_command.specs.Runs.{IsHeld, IsUnopened, IsWorkIn}
+use Rattle.run_command.specs.DrillPlant.{IsDrillGroup, drill_tags}
+use Rattle.run_command.specs.DrillRows.{drill_rows_of}
+use Rattle.run_command.specs.DrillPhases.{AreNotesOfBoth, IsUndoneOfBoth}
+
+-- ---- the plant
+
+-- the base of a drill with so many tags
+pub record IsDrillBase (tags : ℕ) (base : Base) : Type 0 where
+  pub tags_are : base.tags.items ≡ drill_tags tags
+  pub one_group : length base.groups.items ≡ 1
+  pub group : All (IsDrillGroup tags) base.groups.items
+
+-- it and the work of the two phases: each collector has taken the first half of its events before the second
+pub record IsDrillWork (number tags events : ℕ) (base : Base) (first second : Given) : Type 0 where
+  pub base_is : IsDrillBase tags base
+  pub good : IsGoodBase base
+  pub first_is : IsWorkIn base 0 0 (drill_rows_of number tags 0 (events / 2)) [] [] first
+  pub second_is : IsWorkIn base (events / 2) 1 (drill_rows_of number tags 0 events) [] [] second
+
+-- the devices of a store in memory that has none yet: each name has one that holds nothing
+abbrev pub fresh : Devices
+fresh name = Some empty_trace
+
+-- a device in memory fails for want of memory alone, so that is told of it
+abbrev pub drill_status : Status → Status
+drill_status (DeviceFault unit) = WantOfMemory
+drill_status why = why
+
+abbrev pub drill_answer : Result (String Global) Status → Result (String Global) Status
+drill_answer (Ok text) = Ok text
+drill_answer (Err why) = Err (drill_status why)
+
+-- ---- the session
+
+-- why it is not done: what one of the phases is refused with
+pub record IsDrillUndone {D : Type 0} (first second : Given) (opened : List (Cell D)) (opened_books : List (Book D))
+    (cells : List (Cell D)) (books : List (Book D)) (s : Session) (why : Status) : Type 0 where
+  pub cause : Status
+  pub told : why ≡ drill_status cause
+  pub undone : IsUndoneOfBoth first second opened opened_books cells books s.workers.items cause
+
+-- A session of two phases over a base, and what came of it: it was held, and is done with the second; as many workers were stopped as
+-- the passes counted; and both phases are done, or there is a cause.
+pub record IsRunInPhases {D : Type 0} (trace : D → Option Trace) (ticks faults : D → ℕ) (base : Base) (first second : Given)
+    (old new : Devices) (before now stops_before stops_now : ℕ) (answer : Result (String Global) Status) (s : Session)
+    : Type 0 where
+  pub held : IsHeld trace ticks faults base second old new before now answer s
+  pub notes : AreNotesOfBoth D first.work second.work stops_before stops_now s.workers.items
+  pub undone : IfErr answer (IsDrillUndone first second held.opened held.opened_books held.cells held.books s)
+
+-- what a device in memory tells: its calls, how many there were, and how many of them have failed
+abbrev pub memory_trace : DiskState → Option Trace
+memory_trace d = Some d.trace
+
+abbrev pub memory_ticks : DiskState → ℕ
+memory_ticks d = length d.trace.calls
+
+abbrev pub memory_faults : DiskState → ℕ
+memory_faults d = d.faults
+
+-- the session of a drill over devices in memory
+pub record IsDrill (number tags events stops_before stops_now : ℕ) (answer : Result (String Global) Status) (s : Session)
+    : Type 0 where
+  pub base : Base
+  pub first : Given
+  pub second : Given
+  pub new : Devices
+  pub now : ℕ
+  pub work : IsDrillWork number tags events base first second
+  pub run : IsRunInPhases memory_trace memory_ticks memory_faults base first second fresh new 0 now stops_before stops_now
+      answer s
+
+-- ---- what is promised of it
+
+-- a tag is one of the drill's, and was opened as what a new device recovers: that of a tag of which nothing was taken
+pub record IsTagNew (def : TagDef) (t : TagHistory) : Type 0 where
+  pub def_is : t.def ≡ def
+  pub nothing : Stands (record { tuning = def.tuning; step = def.step }) [] (opened_state t.opening)
+
+-- a group is one of the drill's, and was opened with no record of its inputs and no row
+pub record IsGroupNew (i : ℕ) (d : GroupDef) (g : GroupHistory) : Type 0 where
+  pub number : g.group ≡ i
+  pub def_is : g.def ≡ parts_of d
+  pub text : g.text.items ≡ text_of d
+  pub versions : g.opening.versions.items ≡ replicate (length d.inputs.items) 0
+  pub rows : lists_of g.opening.rows.items ≡ replicate (length d.calcs.calcs) []
+
+-- so is each
+pub record AreNew (base : Base) (s : Session) : Type 0 where
+  pub tags : AllZip IsTagNew base.tags.items s.tags.items
+  pub groups : (i : ℕ) (d : GroupDef) (g : GroupHistory) → i < length s.groups.items
+      → IsGroupNew i (slice_index_or base.groups.items i d) (slice_index_or s.groups.items i g)
+
+-- Whatever the answer is, each tag and each group is sound, beside the calls of its device; unless an opening is told to be another,
+-- each was new; and where there is a text, the session is done: each tag has taken of its collector all its events, those of each
+-- phase numbered from 1, all is acknowledged, the group is up to date, was refreshed twice, and saved then; and the text is the report.
+pub record IsDrilled (number tags events : ℕ) (answer : Result (String Global) Status) (s : Session) : Type 0 where
+  pub base : Base
+  pub devices : Devices
+  pub base_is : IsDrillBase tags base
+  pub tags_are : AllZip (λ def t. IsTagSound t (trace_of devices def)) base.tags.items s.tags.items
+  pub groups : AreGroupsSound base.groups.items devices s.groups.items
+  pub new : (IsOfOpening answer → ⊥) → AreNew base s
+  pub done : IfOk answer (λ text. IsDoneSo (phase_item (events / 2)) (λ group. 1) base (drill_rows_of number tags 0 events) [] s
+      (string_bytes text))
+
+-- ---- no session
+
+-- why the devices of a base are not out, as a drill tells it
+pub record IsDrillUnopened (base : Base) (old new : Devices) (before now : ℕ) (why : Status) : Type 0 where
+  pub cause : Status
+  pub told : why ≡ drill_status cause
+  pub unopened : IsUnopened base old new before now cause

@@ -1,0 +1,75 @@
+// A session ends: its devices are given back, and it is reported.
+ghost use Rattle.plant_store.specs.Closings.{CountsClosed};
+ghost use Rattle.plant_store.specs.Groups.{Devices};
+ghost use Rattle.plant_store.specs.Openings.{AreRestSame};
+ghost use Rattle.plant_store.specs.Shelves.{HasPlacesOf, IsShelfFor};
+ghost use Rattle.run_command.specs.Runs.{IsOver, IsReported};
+ghost use Rattle.std.specs.Prelude.{length, vec_len, ◌+◌, ◌<◌, ◌^◌, ◌≡◌};
+
+use crate::phase::EndedPhase;
+use crate::work::Given;
+use disk_model::Store;
+use plant_status::Status;
+use plant_store::{OpenPlant, Shelf, close_plant};
+use session_report::{Session, report};
+use std::alloc::Global;
+use tag_base::Base;
+
+// Gives the devices of a session back whose last phase has ended, and reports it.
+pub(crate) fn close<S: Store>(
+    alloc: Global,
+    store: &mut S,
+    base: &Base,
+    given: &Given,
+    shelf: Shelf,
+    ended: EndedPhase<S::Dev>,
+) -> (Result<String, Status>, Session)
+    requires workers { length given.now.work.collectors.items + length given.now.work.readers.items < 2 ^ 32 }
+    requires shelf { IsShelfFor base.now shelf }
+    requires places { HasPlacesOf shelf (S.has_place store.old) }
+    requires cells { vec_len ended.cells ≡ length base.now.tags.items }
+    requires books { vec_len ended.books ≡ length base.now.groups.items }
+    ensures over { (old : Devices) → AreRestSame base.now old (S.device_at store.old)
+        → IsOver S.Dev.trace S.Dev.ticks S.Dev.fault_count base.now old (S.device_at store.new) ended.cells.items ended.books.items
+        result.1 }
+    ensures counts { S.fault_count store.old < 2 ^ 64 → CountsClosed S.Dev.fault_count ended.cells.items ended.books.items
+        (S.fault_count store.old) (S.fault_count store.new) }
+    ensures notes { result.1.workers ≡ ended.notes }
+    ensures told { IsReported base.now given.now result.1 ended.answer result.0 }
+{
+    let EndedPhase {
+        cells,
+        books,
+        notes,
+        answer,
+    } = ended;
+    let (tags, groups) = close_plant(store, shelf, OpenPlant { cells, books });
+    let session = Session {
+        tags,
+        groups,
+        workers: notes,
+        log: None,
+    };
+    (report_of(alloc, base, given, answer, &session), session)
+}
+
+// The report of a session that is done, or why there is none.
+fn report_of(
+    alloc: Global,
+    base: &Base,
+    given: &Given,
+    answer: Result<(), Status>,
+    session: &Session,
+) -> Result<String, Status>
+    requires workers { length given.now.work.collectors.items + length given.now.work.readers.items < 2 ^ 32 }
+    requires few_tags { length session.now.tags.items < 2 ^ 32 }
+    requires few_groups { length session.now.groups.items < 2 ^ 32 }
+    ensures { IsReported base.now given.now session.now answer result }
+{
+    let collectors = given.work.collectors.len();
+    answer?;
+    match report(alloc, base, collectors, &given.work.readers, session) {
+        Ok(text) => Ok(text),
+        Err(_) => Err(Status::WantOfMemory),
+    }
+}

@@ -1,0 +1,238 @@
+// The command `drill`: a plant that is made up, as a session of two phases.
+ghost use Rattle.calc_refresh.specs.Lists.{lists_of};
+ghost use Rattle.plant_files.specs.PlanRows.{IsGoodBase};
+ghost use Rattle.plant_store.specs.Groups.{Devices};
+ghost use Rattle.plant_store.specs.Openings.{AreRestSame};
+ghost use Rattle.plant_store.specs.Shelves.{HasPlacesOf, IsShelfFor};
+ghost use Rattle.run_command.specs.DrillRows.{drill_rows_of};
+ghost use Rattle.run_command.specs.Drills.{IsDrill, IsDrillBase, IsDrillUnopened, IsDrilled, IsRunInPhases, drill_answer, drill_status, fresh, memory_faults, memory_ticks, memory_trace};
+ghost use Rattle.run_command.specs.Runs.{AreDefined, IsOpen, IsWorkIn};
+ghost use Rattle.run_command.specs.Steps.{AreGivenFor};
+ghost use Rattle.std.specs.Option.{IsSome};
+ghost use Rattle.std.specs.Prelude.{Err, IfErr, IfOk, IfSome, List, None, OnOk, [], length, map, vec_len, ℕ, ◌/◌, ◌<◌, ◌^◌, ◌≡◌, ◌≢◌, ◌≤◌};
+ghost use Rattle.value_rows.specs.declared.raw.RawRow.{RawRow};
+
+use crate::close::close;
+use crate::drill_phases::hold_both;
+use crate::drill_plant::{drill_base, drill_files};
+use crate::opening::{OpenSession, open_session};
+use crate::run::Ran;
+use crate::work::{Given, given_of};
+use disk_model::{MemStore, Store};
+use plant_status::{Passes, Status};
+use plant_store::{OpenPlant, Shelf};
+use session_report::Session;
+use snapshot_table::Board;
+use std::alloc::Global;
+use std::sync::Wait;
+use std::thread::Threads;
+use tag_base::Base;
+use trend_num::WantOfMemory;
+
+/// Runs a drill of so many tags, each with one collector of so many generated events, in two phases over devices in memory: the
+/// first half of each collector's events, rounded down, and then the rest. A session is returned whenever the devices were opened,
+/// and where they were not, memory was wanting. Want of memory is told of a device that fails, since these fail for nothing else.
+pub fn drill<P: Passes, R: Threads + Wait + Sync>(
+    rt: &R,
+    alloc: Global,
+    passes: &mut P,
+    number: u32,
+    tags: u32,
+    events: u32,
+) -> Ran
+    requires some { 1 ≤ tags }
+    requires few { tags ≤ 64 }
+    ensures held { OnOk result.answer (IsSome result.session) }
+    ensures session { IfSome result.session (IsDrill number tags events (P.stops passes.old) (P.stops passes.new) result.answer) }
+    ensures drilled { IfSome result.session (IsDrilled number tags events result.answer) }
+    ensures unheld { result.session ≡ None → IfErr result.answer (λ why. why ≡ Status.WantOfMemory) }
+    ensures unstopped { result.session ≡ None → P.stops passes.new ≡ P.stops passes.old }
+    ensures understood { IfErr result.answer (λ why. why ≢ Status.BadWords) }
+{
+    match drill_of(alloc, number, tags, events) {
+        Ok(drill) => run_drill(rt, alloc, passes, tags, &drill),
+        Err(_) => Ran::refused(Status::WantOfMemory),
+    }
+}
+
+// Opens the devices of a drill in a store that has none yet, and holds its session.
+fn run_drill<P: Passes, R: Threads + Wait + Sync>(
+    rt: &R,
+    alloc: Global,
+    passes: &mut P,
+    tags: u32,
+    drill: &DrillWork,
+) -> Ran
+    requires base { IsDrillBase tags drill.now.base }
+    requires good { IsGoodBase drill.now.base }
+    requires first { (earlier : ℕ) × (rows : List (List RawRow)) × IsWorkIn drill.now.base earlier 0 rows [] [] drill.now.first }
+    requires second { (earlier : ℕ) × (rows : List (List RawRow)) × IsWorkIn drill.now.base earlier 1 rows [] [] drill.now.second }
+    ensures held { OnOk result.answer (IsSome result.session) }
+    ensures session { IfSome result.session (λ s. (new : Devices) × (now : ℕ) × IsRunInPhases memory_trace memory_ticks memory_faults
+        drill.now.base drill.now.first drill.now.second fresh new 0 now (P.stops passes.old) (P.stops passes.new) result.answer s) }
+    ensures unheld { result.session ≡ None → IfErr result.answer (λ why. why ≡ Status.WantOfMemory) }
+    ensures unstopped { result.session ≡ None → P.stops passes.new ≡ P.stops passes.old }
+{
+    let mut store = MemStore::new(Vec::new(alloc));
+    hold_in(
+        rt,
+        alloc,
+        &mut store,
+        passes,
+        &drill.base,
+        &drill.first,
+        &drill.second,
+    )
+}
+
+// The base of a drill, and the work of each phase.
+#[derive(Drop)]
+pub(crate) struct DrillWork {
+    pub(crate) base: Base,
+    pub(crate) first: Given,
+    pub(crate) second: Given,
+}
+
+// Makes that of so many tags, each with so many events.
+pub(crate) fn drill_of(
+    alloc: Global,
+    number: u32,
+    tags: u32,
+    events: u32,
+) -> Result<DrillWork, WantOfMemory>
+    requires some { 1 ≤ tags }
+    requires few { tags ≤ 64 }
+    ensures base { IfOk result (λ d. IsDrillBase tags d.base) }
+    ensures good { IfOk result (λ d. IsGoodBase d.base) }
+    ensures first { IfOk result (λ d. IsWorkIn d.base 0 0 (drill_rows_of number tags 0 (events / 2)) [] [] d.first) }
+    ensures second { IfOk result (λ d. IsWorkIn d.base (events / 2) 1 (drill_rows_of number tags 0 events) [] [] d.second) }
+{
+    let base = drill_base(alloc, tags)?;
+    let half = events / 2;
+    let first = phase_of(alloc, &base, number, tags, half, 0, 0)?;
+    let second = phase_of(alloc, &base, number, tags, events, half, 1)?;
+    Ok(DrillWork {
+        base,
+        first,
+        second,
+    })
+}
+
+// The work of a phase whose collectors have the first events of a drill, so many, of which they took so many in the phases before.
+fn phase_of(
+    alloc: Global,
+    base: &Base,
+    number: u32,
+    tags: u32,
+    events: u32,
+    earlier: u32,
+    phases: u32,
+) -> Result<Given, WantOfMemory>
+    ensures { IfOk result (IsWorkIn base.now earlier phases (drill_rows_of number tags 0 events) [] []) }
+{
+    let rows = drill_files(alloc, number, tags, 0, events)?;
+    given_of(alloc, base, &[], rows, Vec::new(alloc), earlier, phases)
+}
+
+// Opens the devices of a base in a store, and holds the session of two phases over them.
+pub(crate) fn hold_in<S: Store, P: Passes, R: Threads + Wait + Sync>(
+    rt: &R,
+    alloc: Global,
+    store: &mut S,
+    passes: &mut P,
+    base: &Base,
+    first: &Given,
+    second: &Given,
+) -> Ran
+    requires good { IsGoodBase base.now }
+    requires first { AreGivenFor (length base.now.tags.items) (length base.now.groups.items) first.now }
+    requires second { AreGivenFor (length base.now.tags.items) (length base.now.groups.items) second.now }
+    requires inputs { lists_of first.now.inputs.items ≡ map (λ d. d.inputs.items) base.now.groups.items }
+    requires same_inputs { lists_of second.now.inputs.items ≡ lists_of first.now.inputs.items }
+    requires no_readers { first.now.work.readers.items ≡ [] }
+    requires no_more_readers { second.now.work.readers.items ≡ [] }
+    ensures held { OnOk result.answer (IsSome result.session) }
+    ensures session { IfSome result.session (IsRunInPhases S.Dev.trace S.Dev.ticks S.Dev.fault_count base.now first.now second.now
+        (S.device_at store.old) (S.device_at store.new) (S.fault_count store.old) (S.fault_count store.new)
+        (P.stops passes.old) (P.stops passes.new) result.answer) }
+    ensures unheld { result.session ≡ None → IfErr result.answer (IsDrillUnopened base.now (S.device_at store.old)
+        (S.device_at store.new) (S.fault_count store.old) (S.fault_count store.new)) }
+    ensures unstopped { result.session ≡ None → P.stops passes.new ≡ P.stops passes.old }
+{
+    match open_session(rt, alloc, store, base, &second.rooms, 0) {
+        Ok(
+            OpenSession {
+                shelf,
+                board,
+                lookers: _lookers,
+                plant,
+            },
+        ) => {
+            let (answer, session) = hold_drill(
+                rt, alloc, store, passes, base, first, second, shelf, plant, &board,
+            );
+            Ran {
+                answer,
+                session: Some(session),
+            }
+        }
+        Err(why) => Ran::refused(drill_status(why)),
+    }
+}
+
+// Holds the session of a plant that is open, and gives its devices back.
+fn hold_drill<S: Store, P: Passes, R: Threads + Wait + Sync>(
+    rt: &R,
+    alloc: Global,
+    store: &mut S,
+    passes: &mut P,
+    base: &Base,
+    first: &Given,
+    second: &Given,
+    shelf: Shelf,
+    plant: OpenPlant<S::Dev>,
+    board: &Board,
+) -> (Result<String, Status>, Session)
+    requires good { IsGoodBase base.now }
+    requires first { AreGivenFor (length base.now.tags.items) (length base.now.groups.items) first.now }
+    requires second { AreGivenFor (length base.now.tags.items) (length base.now.groups.items) second.now }
+    requires inputs { lists_of first.now.inputs.items ≡ map (λ d. d.inputs.items) base.now.groups.items }
+    requires same_inputs { lists_of second.now.inputs.items ≡ lists_of first.now.inputs.items }
+    requires no_readers { first.now.work.readers.items ≡ [] }
+    requires no_more_readers { second.now.work.readers.items ≡ [] }
+    requires shelf { IsShelfFor base.now shelf }
+    requires places { HasPlacesOf shelf (S.has_place store.old) }
+    requires cells { vec_len plant.cells ≡ length base.now.tags.items }
+    requires books { vec_len plant.books ≡ length base.now.groups.items }
+    requires defined { AreDefined base.now.groups.items plant.books.items }
+    requires board { vec_len plant.cells ≤ length board.now }
+    ensures { (old : Devices) (before : ℕ) → IsOpen S.Dev.trace S.Dev.ticks S.Dev.fault_count base.now old plant.cells.items
+        plant.books.items → AreRestSame base.now old (S.device_at store.old) → (before < 2 ^ 64 → S.fault_count store.old ≡ before)
+        → IsRunInPhases S.Dev.trace S.Dev.ticks S.Dev.fault_count base.now first.now second.now old (S.device_at store.new)
+        before (S.fault_count store.new) (P.stops passes.old) (P.stops passes.new) result.0 result.1 }
+{
+    let OpenPlant { cells, books } = plant;
+    let ended = hold_both(rt, alloc, cells, books, board, first, second, passes);
+    let (answer, session) = close(alloc, store, base, second, shelf, ended);
+    (drill_answer(answer), session)
+}
+
+// What is answered of a drill that came to this.
+fn drill_answer(answer: Result<String, Status>) -> Result<String, Status>
+    ensures { result ≡ drill_answer answer }
+{
+    match answer {
+        Ok(text) => Ok(text),
+        Err(why) => Err(drill_status(why)),
+    }
+}
+
+// What is told of a refusal of a drill.
+fn drill_status(why: Status) -> Status
+    ensures { result ≡ drill_status why }
+{
+    match why {
+        Status::DeviceFault { .. } => Status::WantOfMemory,
+        why => why,
+    }
+}

@@ -1,0 +1,162 @@
+// Two phases of a session over the same cells and books.
+ghost use Rattle.std.specs.Prelude.{◌≡◌, ◌++◌, [], ◌<◌, ◌≤◌, ◌+◌, ◌^◌, IfErr, OnOk, length, vec_capacity, vec_len};
+ghost use Rattle.std.specs.List.{AllZip};
+ghost use Rattle.calc_refresh.specs.Lists.{lists_of};
+ghost use Rattle.session_audit.specs.Inputs.{AreInputs};
+ghost use Rattle.session_audit.specs.Pulls.{ArePulled};
+ghost use Rattle.run_command.specs.Refusals.{IsOfOpening};
+ghost use Rattle.run_command.specs.Runs.{IsContinued, IsContinuedGroup};
+ghost use Rattle.run_command.specs.Steps.{AreGivenFor, IsMade};
+ghost use Rattle.run_command.specs.DrillPhases.{AreNotesBehind, AreNotesOfBoth, IsUndoneBehind, IsUndoneOfBoth};
+
+use crate::phase::{EndedPhase, hold_phase};
+use crate::work::Given;
+use collector_pool::{Work, WorkerNote};
+use disk_model::Disk;
+use group_book::Book;
+use plant_status::{Passes, Status};
+use snapshot_table::Board;
+use std::alloc::Global;
+use std::sync::Wait;
+use std::thread::Threads;
+use tag_cell::Cell;
+
+// Holds the first phase of a session over cells and books that are open, and the second one where the first is done. Neither has
+// readers. The notes are those of the workers of the first phase, and then those of the second.
+pub(crate) fn hold_both<D: Disk + Send, P: Passes, R: Threads + Wait + Sync>(
+    rt: &R,
+    alloc: Global,
+    cells: Vec<Cell<D>>,
+    books: Vec<Book<D>>,
+    board: &Board,
+    first: &Given,
+    second: &Given,
+    passes: &mut P,
+) -> EndedPhase<D>
+    requires few_cells { vec_len cells < 2 ^ 32 }
+    requires few_books { vec_len books < 2 ^ 32 }
+    requires first { AreGivenFor (vec_len cells) (vec_len books) first.now }
+    requires second { AreGivenFor (vec_len cells) (vec_len books) second.now }
+    requires inputs { AreInputs (vec_len cells) (lists_of first.now.inputs.items) books.items }
+    requires same_inputs { lists_of second.now.inputs.items ≡ lists_of first.now.inputs.items }
+    requires board { vec_len cells ≤ length board.now }
+    requires no_readers { first.now.work.readers.items ≡ [] }
+    requires no_more_readers { second.now.work.readers.items ≡ [] }
+    ensures cells { vec_len result.cells ≡ vec_len cells }
+    ensures books { vec_len result.books ≡ vec_len books }
+    ensures notes { AreNotesOfBoth D first.now.work second.now.work (P.stops passes.old) (P.stops passes.new) result.notes.items }
+
+    // Where all is done.
+    ensures made { OnOk result.answer (IsMade second.now result.cells.items result.books.items) }
+    ensures pulled { OnOk result.answer (ArePulled (lists_of second.now.inputs.items) result.cells.items result.books.items) }
+
+    // Unless an opening is told to be another.
+    ensures same_cells { (IsOfOpening result.answer → ⊥) → AllZip IsContinued cells.items result.cells.items }
+    ensures same_books { (IsOfOpening result.answer → ⊥) → AllZip IsContinuedGroup books.items result.books.items }
+
+    // Why it is not done.
+    ensures undone { IfErr result.answer (IsUndoneOfBoth first.now second.now cells.items books.items result.cells.items
+        result.books.items result.notes.items) }
+{
+    let EndedPhase {
+        cells,
+        books,
+        notes,
+        answer,
+    } = hold_phase(
+        rt,
+        alloc,
+        cells,
+        books,
+        board,
+        Vec::new(alloc),
+        first,
+        passes,
+    );
+    match answer {
+        Ok(()) => go_on(rt, alloc, cells, books, notes, board, second, passes),
+        Err(why) => EndedPhase {
+            cells,
+            books,
+            notes,
+            answer: Err(why),
+        },
+    }
+}
+
+// Holds the second phase, over the cells and books that the first has left. Without memory for the notes of its workers none of these
+// begins.
+fn go_on<D: Disk + Send, P: Passes, R: Threads + Wait + Sync>(
+    rt: &R,
+    alloc: Global,
+    cells: Vec<Cell<D>>,
+    books: Vec<Book<D>>,
+    mut notes: Vec<WorkerNote>,
+    board: &Board,
+    second: &Given,
+    passes: &mut P,
+) -> EndedPhase<D>
+    requires few_cells { vec_len cells < 2 ^ 32 }
+    requires few_books { vec_len books < 2 ^ 32 }
+    requires second { AreGivenFor (vec_len cells) (vec_len books) second.now }
+    requires inputs { AreInputs (vec_len cells) (lists_of second.now.inputs.items) books.items }
+    requires board { vec_len cells ≤ length board.now }
+    requires no_readers { second.now.work.readers.items ≡ [] }
+    ensures cells { vec_len result.cells ≡ vec_len cells }
+    ensures books { vec_len result.books ≡ vec_len books }
+    ensures notes { AreNotesBehind D second.now.work (P.stops passes.old) (P.stops passes.new) notes.items result.notes.items }
+    ensures made { OnOk result.answer (IsMade second.now result.cells.items result.books.items) }
+    ensures pulled { OnOk result.answer (ArePulled (lists_of second.now.inputs.items) result.cells.items result.books.items) }
+    ensures same_cells { (IsOfOpening result.answer → ⊥) → AllZip IsContinued cells.items result.cells.items }
+    ensures same_books { (IsOfOpening result.answer → ⊥) → AllZip IsContinuedGroup books.items result.books.items }
+    ensures undone { IfErr result.answer (IsUndoneBehind second.now cells.items books.items notes.items
+        result.cells.items result.books.items result.notes.items) }
+{
+    let Work {
+        collectors,
+        refreshers,
+        ..
+    } = &second.work;
+    if notes.reserve(collectors.len() + refreshers.len()).is_err() {
+        return EndedPhase {
+            cells,
+            books,
+            notes,
+            answer: Err(Status::WantOfMemory),
+        };
+    }
+    let EndedPhase {
+        cells,
+        books,
+        notes: more,
+        answer,
+    } = hold_phase(
+        rt,
+        alloc,
+        cells,
+        books,
+        board,
+        Vec::new(alloc),
+        second,
+        passes,
+    );
+    join(&mut notes, more);
+    EndedPhase {
+        cells,
+        books,
+        notes,
+        answer,
+    }
+}
+
+// Adds notes behind others, for which there is room.
+fn join(notes: &mut Vec<WorkerNote>, more: Vec<WorkerNote>)
+    requires room { vec_len notes.old + vec_len more ≤ vec_capacity notes.old }
+    ensures { notes.new.items ≡ notes.old.items ++ more.items }
+{
+    let mut rest = more.into_iter();
+    while let Some(note) = rest.next() {
+        notes.push_reserved(note);
+    }
+    rest.destroy_empty();
+}

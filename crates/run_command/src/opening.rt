@@ -1,0 +1,107 @@
+// A session begins: its board is made, and the devices of its base are opened.
+ghost use Rattle.plant_files.specs.PlanRows.{IsGoodBase};
+ghost use Rattle.plant_store.specs.Openings.{AreRestSame};
+ghost use Rattle.plant_store.specs.Shelves.{HasPlacesOf, IsShelfFor};
+ghost use Rattle.run_command.specs.Runs.{AreDefined, IsOpen, IsUnopened};
+ghost use Rattle.snapshot_table.specs.Boards.{LooksAt, new_posters};
+ghost use Rattle.std.specs.Arc.{arc_value};
+ghost use Rattle.std.specs.Prelude.{All, IfErr, IfOk, OnOk, length, vec_len, ◌<◌, ◌^◌, ◌≡◌, ◌≤◌};
+
+use disk_model::{Disk, Store};
+use plant_status::Status;
+use plant_store::{OpenPlant, Shelf, open_plant, shelf_for};
+use snapshot_table::{Board, Looker, Poster, new_board};
+use std::alloc::Global;
+use std::sync::{Arc, Wait};
+use tag_base::Base;
+use trend_num::WantOfMemory;
+
+// A board, its posters, and a looker for each reader.
+#[derive(Drop)]
+pub(crate) struct Boarding {
+    pub(crate) board: Arc<Board, Global>,
+    pub(crate) posters: Vec<Poster>,
+    pub(crate) lookers: Vec<Looker>,
+}
+
+// The board of so many tags, for so many readers.
+pub(crate) fn boarding_for<R: Wait>(
+    rt: &R,
+    alloc: Global,
+    tags: u32,
+    readers: u32,
+) -> Result<Boarding, WantOfMemory>
+    ensures tags { IfOk result (λ b. length (arc_value b.board) ≡ tags) }
+    ensures posters { IfOk result (λ b. b.posters.items ≡ new_posters 0 (arc_value b.board)) }
+    ensures lookers { IfOk result (λ b. vec_len b.lookers ≡ readers) }
+    ensures looks { IfOk result (λ b. All (LooksAt (arc_value b.board)) b.lookers.items) }
+{
+    let (board, posters, lookers) = new_board(rt, alloc, tags, readers)?;
+    let board = Arc::new(alloc, board)?;
+    Ok(Boarding {
+        board,
+        posters,
+        lookers,
+    })
+}
+
+// What a session begins with: the devices of a base, which are out, and what gives them back; its board, and a looker for each
+// reader.
+pub(crate) struct OpenSession<D: Disk> {
+    pub(crate) shelf: Shelf,
+    pub(crate) board: Arc<Board, Global>,
+    pub(crate) lookers: Vec<Looker>,
+    pub(crate) plant: OpenPlant<D>,
+}
+
+// Opens the devices of a base for a session with so many readers, each tag with room for so many takes.
+pub(crate) fn open_session<S: Store, R: Wait>(
+    rt: &R,
+    alloc: Global,
+    store: &mut S,
+    base: &Base,
+    rooms: &[u32],
+    readers: u32,
+) -> Result<OpenSession<S::Dev>, Status>
+    requires good { IsGoodBase base.now }
+    requires rooms { length rooms.now ≡ length base.now.tags.items }
+
+    // The devices are out, and what gives them back is there.
+    ensures opened { IfOk result (λ o. IsOpen S.Dev.trace S.Dev.ticks S.Dev.fault_count base.now (S.device_at store.old)
+        o.plant.cells.items o.plant.books.items) }
+    ensures defined { IfOk result (λ o. AreDefined base.now.groups.items o.plant.books.items) }
+    ensures shelf { IfOk result (λ o. IsShelfFor base.now o.shelf) }
+    ensures places { IfOk result (λ o. HasPlacesOf o.shelf (S.has_place store.new)) }
+
+    // The board has a place for each tag.
+    ensures board { IfOk result (λ o. vec_len o.plant.cells ≤ length (arc_value o.board)) }
+    ensures lookers { IfOk result (λ o. vec_len o.lookers ≡ readers) }
+    ensures looks { IfOk result (λ o. All (LooksAt (arc_value o.board)) o.lookers.items) }
+
+    // A refusal tells its first cause. No other device is changed, and no fault is counted where all are opened.
+    ensures refused { IfErr result (IsUnopened base.now (S.device_at store.old) (S.device_at store.new) (S.fault_count store.old)
+        (S.fault_count store.new)) }
+    ensures others { AreRestSame base.now (S.device_at store.old) (S.device_at store.new) }
+    ensures counts { OnOk result (S.fault_count store.old < 2 ^ 64 → S.fault_count store.new ≡ S.fault_count store.old) }
+{
+    let Ok(shelf) = shelf_for(alloc, base) else {
+        return Err(Status::WantOfMemory);
+    };
+    let Ok(boarding) = boarding_for(rt, alloc, base.tags.len() as u32, readers) else {
+        return Err(Status::WantOfMemory);
+    };
+    let Boarding {
+        board,
+        posters,
+        lookers,
+    } = boarding;
+    match open_plant(rt, alloc, store, base, &shelf, rooms, &board, posters) {
+        Ok(plant) => Ok(OpenSession {
+            shelf,
+            board,
+            lookers,
+            plant,
+        }),
+        Err(why) => Err(why),
+    }
+}

@@ -1,0 +1,134 @@
+-- Rows of a worker that are found one after another in the order of its file.
+use Rattle.std.proofs.Common.{◌≡◌, ◌≢◌, ℕ, ◌+◌, ◌<◌, ◌≤◌, inl, inr, true, false, nat_eq, nat_le, List, length, get_or, Option, None, Some, is_some, refl, sym, ap, ◌∙◌, arith}
+use Rattle.std.proofs.lemmas.Bool.{cases_eq, cases_lt, false≢true}
+use Rattle.std.proofs.lemmas.Bool.Decides.{nat_tests}
+use Rattle.std.proofs.lemmas.List.{get_or-set_same, get_or-set_other, take_all}
+use Rattle.plant_status.specs.declared.mismatch.Seen.{Seen}
+use Rattle.session_audit.specs.declared.agenda.Item.{Item}
+use Rattle.session_audit.specs.Agendas.{IsNext, due, due_at, seen_at}
+use Rattle.session_audit.specs.Found.{IsAdvanced, IsCaughtUp, Reached, found, lacks, next_due, place_at}
+use Rattle.session_audit.proofs.Walking.{due_passed}
+
+-- whether a row lacks, by what it is
+lacks_some : (p : Reached) (i : ℕ) (item : Item) → get_or p.items i None ≡ Some item
+    → lacks p i ≡ nat_le (place_at p item.unit) i
+lacks_some p i item is = rw is refl
+
+pub lacks_none : (p : Reached) (i : ℕ) → get_or p.items i None ≡ None → lacks p i ≡ false
+lacks_none p i none = rw none refl
+
+-- a row that is due somewhere is an item of that unit
+item_due : (unit i : ℕ) (items : List (Option Item)) (o : Option Item) → get_or items i None ≡ o
+    → due_at unit items i ≢ None → (item : Item) × (get_or items i None ≡ Some item) × (item.unit ≡ unit)
+item_due unit i items None is some = absurd (some (ap (seen_at unit) is))
+item_due unit i items (Some item) is some = elim (cases_eq item.unit unit) [
+  | inl same ↦ (item, is, same)
+  | inr differ ↦ absurd (some (ap (seen_at unit) is ∙ other differ))
+]
+  where
+    other : item.unit ≢ unit → seen_at unit (Some item) ≡ None
+    other differ = (let test : nat_eq item.unit unit ≡ false = grind (arith, nat_tests, differ) in rw test refl)
+
+-- ---- a row that lacks
+
+-- where none of the rows before it lacks, it is the one that is due next at its unit
+pub caught_here : (p : Reached) (i : ℕ) (item : Item) → IsCaughtUp i p → i < length p.items
+    → get_or p.items i None ≡ Some item → lacks p i ≡ true
+    → IsNext item.unit p.items (place_at p item.unit) (place_at p item.unit) → place_at p item.unit ≡ i
+caught_here p i item caught within is missing next =
+    let at = place_at p item.unit in
+    let upto : nat_le at i ≡ true = sym (lacks_some p i item is) ∙ missing in
+    elim (cases_lt at i) [
+      | inl before ↦
+          let some = next.there (omega (arith, before, within)) in
+          let other = item_due item.unit at p.items (get_or p.items at None) refl (λ none.
+          false≢true (sym (ap is_some none) ∙ some)) in
+          let lack = lacks_some p at other.0 other.1
+          ∙ (ap (λ u. nat_le (place_at p u) at) other.2 ∙ le_self at) in
+          absurd (false≢true (sym (caught at before) ∙ lack))
+      | inr behind ↦ grind (arith, nat_tests, upto, behind)
+    ]
+  where
+    le_self : (n : ℕ) → nat_le n n ≡ true
+    le_self n = grind (arith, nat_tests)
+
+-- and this is what it leaves
+pub caught_due : (p : Reached) (i : ℕ) (item : Item) → get_or p.items i None ≡ Some item → place_at p item.unit ≡ i
+    → next_due p item.unit ≡ Some item.seen
+caught_due p i item is at =
+    ap (due_at item.unit p.items) at ∙ (ap (seen_at item.unit) is ∙ rw (same item.unit) refl)
+  where
+    same : (n : ℕ) → nat_eq n n ≡ true
+    same n = grind (arith, nat_tests)
+
+-- ---- one row further
+
+-- a row that does not lack
+pub caught_past : (p : Reached) (i : ℕ) → lacks p i ≡ false → IsCaughtUp i p → IsCaughtUp (i + 1) p
+caught_past p i there caught = λ j below. elim (cases_eq j i) [
+  | inl same ↦ ap (lacks p) same ∙ there
+  | inr differ ↦ caught j (omega (arith, below, differ))
+]
+
+-- a row that lacked and was found
+pub caught_more : (old new : Reached) (i : ℕ) (item : Item) → IsCaughtUp i old → get_or old.items i None ≡ Some item
+    → place_at old item.unit ≡ i → item.unit < length old.at → IsAdvanced item.unit old new → IsCaughtUp (i + 1) new
+caught_more old new i item caught is at known step = λ j below. each j below (get_or old.items j None) refl
+  where
+    same_items : new.items ≡ old.items
+    same_items = ap (λ p. p.items) step.changed
+
+    moved : place_at new item.unit ≡ step.place
+    moved = ap (λ p. place_at p item.unit) step.changed ∙ get_or-set_same old.at item.unit step.place 0 known
+
+    others : (u : ℕ) → u ≢ item.unit → place_at new u ≡ place_at old u
+    others u differ = ap (λ p. place_at p u) step.changed ∙ get_or-set_other old.at item.unit u step.place 0 differ
+
+    later : (n j : ℕ) → j < n → nat_le n j ≡ false
+    later n j h = grind (arith, nat_tests, h)
+
+    each : (j : ℕ) → j < i + 1 → (o : Option Item) → get_or old.items j None ≡ o → lacks new j ≡ false
+    each j below None none = lacks_none new j (ap (λ l. get_or l j None) same_items ∙ none)
+    each j below (Some other) there =
+        let now = ap (λ l. get_or l j None) same_items ∙ there in
+        elim (cases_eq other.unit item.unit) [
+          | inl same ↦ lacks_some new j other now ∙ (ap (λ u. nat_le (place_at new u) j) same
+              ∙ later (place_at new item.unit) j (omega (arith, below, moved, at, step.is_next.order)))
+          | inr differ ↦
+              let before : j ≢ i = λ is_i. differ (ap (λ (x : Item). x.unit) (held other item
+              (sym there ∙ (ap (λ n. get_or old.items n None) is_i ∙ is)))) in
+              lacks_some new j other now ∙ (ap (λ n. nat_le n j) (others other.unit differ)
+              ∙ (sym (lacks_some old j other there) ∙ caught j (omega (arith, below, before))))
+        ]
+      where
+        held : {A : Type 0} (x y : A) → Some x ≡ Some y → x ≡ y
+        held x y e = cc
+
+-- ---- at the end
+
+-- where no row lacks, all that are due at a unit were found there
+pub caught_whole : (p : Reached) (unit : ℕ) → IsCaughtUp (length p.items) p → found p unit ≡ due unit p.items
+caught_whole p unit caught = elim (cases_lt (length p.items) (place_at p unit)) [
+  | inl behind ↦ ap (due unit) (take_all (place_at p unit) p.items (omega (arith, behind)))
+  | inr upto ↦ sym (due_passed unit p.items (place_at p unit) (length p.items) (record {
+    order = omega (arith, upto);
+    within = omega arith;
+    none_between = λ i from below. none i from below (due_at unit p.items i) refl;
+    there = λ below. absurd (omega (arith, below));
+  })) ∙ ap (due unit) (take_all (length p.items) p.items (omega arith))
+]
+  where
+    within : (n i : ℕ) → n ≤ i → nat_le n i ≡ true
+    within n i h = grind (arith, nat_tests, h)
+
+    none : (i : ℕ) → place_at p unit ≤ i → i < length p.items → (o : Option Seen) → due_at unit p.items i ≡ o
+        → due_at unit p.items i ≡ None
+    none i from below None is = is
+    none i from below (Some seen) is =
+        let other = item_due unit i p.items (get_or p.items i None) refl (λ gone. some_none seen (sym is ∙ gone)) in
+        let lack = lacks_some p i other.0 other.1 ∙ (ap (λ u. nat_le (place_at p u) i) other.2
+        ∙ within (place_at p unit) i from) in
+        absurd (false≢true (sym (caught i below) ∙ lack))
+      where
+        some_none : (s : Seen) → Some s ≡ None → ⊥
+        some_none s e = cc

@@ -1,0 +1,44 @@
+-- Cells that have gained entries of a kind, one after another.
+use Rattle.std.proofs.Common.{◌≡◌, ◌⊎◌, ℕ, ◌<◌, inl, inr, List, length, get_or, set, Some, true, ap, ◌∙◌, arith}
+use Rattle.std.proofs.lemmas.List.{get_or-set_same, length-set}
+use Rattle.std.proofs.lemmas.Option.{slice_get-get_or}
+use Rattle.tag_cell.specs.declared.entry.Entry.{Entry}
+use Rattle.tag_cell.specs.declared.entry.CommitNo.{CommitNo}
+use Rattle.tag_cell.specs.declared.entry.CommitNo.TheVariants as commit
+use Rattle.tag_cell.specs.Told.{Told}
+use Rattle.session_audit.specs.Cells.{AreLonger, IsLonger}
+use Rattle.session_audit.specs.Gains.{longer_refl, longer_trans}
+use Rattle.session_audit.proofs.Each.{each_refl, each_set, each_trans}
+use Rattle.session_audit.specs.CellRefusals.{IsCellRefusal, IsSo, commit_status}
+
+pub all_longer : {D : Type 0} (IsOf : Entry → Type 0) (cells : List (Told D)) → AreLonger IsOf cells cells
+all_longer IsOf cells = each_refl (IsLonger IsOf) (longer_refl IsOf) cells
+
+pub all_longer_trans : {D : Type 0} (IsOf : Entry → Type 0) (a b c : List (Told D)) → AreLonger IsOf a b → AreLonger IsOf b c
+    → AreLonger IsOf a c
+all_longer_trans IsOf a b c first second = each_trans (IsLonger IsOf) (longer_trans IsOf) a b c first second
+
+-- one of the cells gained entries
+pub longer_set : {D : Type 0} (IsOf : Entry → Type 0) (first now : List (Told D)) (tag : ℕ) (c d : Told D)
+    → tag < length now → IsLonger IsOf (get_or now tag d) c → AreLonger IsOf first now → AreLonger IsOf first (set now tag c)
+longer_set IsOf first now tag c d within step before =
+    each_set (IsLonger IsOf) (longer_trans IsOf) first now tag c d within step before
+
+-- the cell of a tag that was just looked at
+so_here : {D : Type 0} (P : Told D → Type 0) (now : List (Told D)) (tag : ℕ) (c : Told D) → tag < length now → P c
+    → IsSo (set now tag c) tag P
+so_here P now tag c within so = record {
+  cell = c;
+  there = slice_get-get_or (set now tag c) tag c (omega (arith, within, length-set now tag c))
+      ∙ ap Some (get_or-set_same now tag c c within);
+  so = so;
+}
+
+-- why a commit of it was refused
+pub commit_refused : {D : Type 0} (now : List (Told D)) (tag : ℕ) (c : Told D) (no : CommitNo) → tag < length now
+    → (no ≡ commit.WantOfMemory) ⊎ (c.journal.failed ≡ true) → IsCellRefusal (set now tag c) (commit_status tag no)
+commit_refused now tag c commit.Broken within (inl is) = absurd (cc)
+commit_refused now tag c commit.Broken within (inr failed) = so_here (λ x. x.journal.failed ≡ true) now tag c within failed
+commit_refused now tag c commit.DeviceFault within (inl is) = absurd (cc)
+commit_refused now tag c commit.DeviceFault within (inr failed) = so_here (λ x. x.journal.failed ≡ true) now tag c within failed
+commit_refused now tag c commit.WantOfMemory within why = tt

@@ -1,0 +1,51 @@
+-- Why a value was not taken.
+use Rattle.std.proofs.Common.{◌≡◌, ◌⊎◌, ℕ, ◌+◌, ◌<◌, ◌≤◌, inl, inr, Bool, true, false, nat_le, nat_lt, List, length, get_or, None, Some, refl, sym, subst, arith}
+use Rattle.std.specs.Prelude.{if◌then◌else◌}
+use Rattle.std.proofs.lemmas.Bool.Decides.{nat_tests}
+use Rattle.std.proofs.lemmas.Option.{slice_get-get_or, none-some}
+use Rattle.trend_num.specs.Limits.{most_records}
+use Rattle.tag_cell.specs.declared.entry.TakeNo.{TakeNo}
+use Rattle.tag_cell.specs.declared.entry.TakeNo.TheVariants.{Broken, RoomFull, Full}
+use Rattle.tag_cell.specs.Tapes.{taken}
+use Rattle.tag_cell.specs.Told.{Told, take_refusal}
+use Rattle.session_audit.specs.CellRefusals.{IsSo, IsTakeRefusal, take_status}
+
+-- the first of three tests that holds
+first_of : (a b c : Bool) (x y why : TakeNo)
+    → (if a then Some Broken else (if b then Some x else (if c then Some y else None))) ≡ Some why
+    → ((a ≡ true) × (why ≡ Broken)) ⊎ (((b ≡ true) × (why ≡ x)) ⊎ ((c ≡ true) × (why ≡ y)))
+first_of true b c x y why is = inl (refl, cc)
+first_of false true c x y why is = inr (inl (refl, cc))
+first_of false false true x y why is = inr (inr (refl, cc))
+first_of false false false x y why is = absurd (none-some why is)
+
+-- the cell of a tag
+so_at : {D : Type 0} (P : Told D → Type 0) (cells : List (Told D)) (tag : ℕ) (d : Told D) → tag < length cells
+    → P (get_or cells tag d) → IsSo cells tag P
+so_at P cells tag d within so = record {
+  cell = get_or cells tag d;
+  there = slice_get-get_or cells tag d within;
+  so = so;
+}
+
+-- what the status of a refused row tells
+pub take_refused : {D : Type 0} (rooms : List ℕ) (cells : List (Told D)) (tag : ℕ) (d : Told D) (why : TakeNo)
+    → tag < length cells → take_refusal (get_or cells tag d) ≡ Some why
+    → IsTakeRefusal rooms cells (take_status tag (get_or rooms tag 0) why)
+take_refused rooms cells tag d why within is =
+    let c = get_or cells tag d in
+    elim (first_of c.journal.failed (nat_le c.room (length (taken c.tape))) (nat_lt most_records (length c.state.records + 2))
+    (RoomFull c.room) (Full (length c.state.records)) why is) [
+      | inl (failed, broken) ↦ subst (λ x. IsTakeRefusal rooms cells (take_status tag (get_or rooms tag 0) x)) (sym broken)
+          (so_at (λ x. x.journal.failed ≡ true) cells tag d within failed)
+      | inr (inl (full, room)) ↦ subst (λ x. IsTakeRefusal rooms cells (take_status tag (get_or rooms tag 0) x)) (sym room)
+          (so_at _ cells tag d within (refl, at_most c.room (length (taken c.tape)) full, refl))
+      | inr (inr (many, full)) ↦ subst (λ x. IsTakeRefusal rooms cells (take_status tag (get_or rooms tag 0) x)) (sym full)
+          (tag, so_at _ cells tag d within (refl, below most_records (length c.state.records + 2) many))
+    ]
+  where
+    at_most : (a b : ℕ) → nat_le a b ≡ true → a ≤ b
+    at_most a b h = grind (arith, nat_tests, h)
+
+    below : (a b : ℕ) → nat_lt a b ≡ true → a < b
+    below a b h = grind (arith, nat_tests, h)

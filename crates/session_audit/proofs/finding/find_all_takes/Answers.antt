@@ -1,0 +1,11 @@
+use Rattle.session_audit.specs.Agendas.{phase_item}
+use Rattle.session_audit.proofs.FindingTurns.{over_same}
+use Rattle.session_audit.proofs.finding.find_all_takes.Goals as goal
+
+pub returns-in-Err-clause-over : goal.returns-in-Err-clause-over
+returns-in-Err-clause-over g c = λ earlier tags files over.
+    over_same (phase_item earlier) tags files c.args.works.now c.find_all.new.works c.find_all.ensures.same_rows over
+
+pub returns-in-Ok-clause-over : goal.returns-in-Ok-clause-over
+returns-in-Ok-clause-over g c = λ earlier tags files over.
+    over_same (phase_item earlier) tags files c.args.works.now c.find_all.new.works c.find_all.ensures.same_rows over

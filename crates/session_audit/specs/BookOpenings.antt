@@ -1,0 +1,106 @@
+-- What is kept of a group as it was opened, and where its book differs from that.
+use Rattle.std.specs.Prelude.{◌≡◌, ◌↔◌, ℕ, ◌<◌, Bool, true, List, [], ◌∷◌, ◌++◌, length, slice_get, slice_index_or, Some}
+use Rattle.std.specs.List.{count_by}
+use Rattle.trend_num.specs.declared.value.CalcValue.{CalcValue}
+use Rattle.plant_status.specs.declared.unit.Unit.TheVariants.{Group}
+use Rattle.plant_status.specs.declared.mismatch.Seen.{Seen}
+use Rattle.plant_status.specs.declared.mismatch.Seen.TheVariants.{Number}
+use Rattle.plant_status.specs.declared.status.Status.{Status}
+use Rattle.calc_refresh.specs.Lists.{lists_of}
+use Rattle.group_book.specs.declared.history.GroupOpening.{GroupOpening}
+use Rattle.group_book.specs.Told.{Told}
+use Rattle.session_audit.specs.declared.book_opening.KeptGroup.{KeptGroup}
+use Rattle.session_audit.specs.OpeningNumbers.{AreApart}
+use Rattle.session_audit.specs.Openings.{IsOpeningMismatch}
+
+-- of a book its group, its definition and its text are kept, and what it was opened as
+pub record IsBookCopied {D : Type 0} (b : Told D) (k : KeptGroup) : Type 0 where
+  pub group : k.group ≡ b.group
+  pub def : k.def ≡ b.def
+  pub text : k.text.items ≡ b.text
+  pub versions : k.opening.versions.items ≡ b.opening.versions.items
+  pub rows : lists_of k.opening.rows.items ≡ lists_of b.opening.rows.items
+  pub moment : k.opening.moment ≡ b.opening.moment
+  pub faults : k.opening.faults ≡ b.opening.faults
+
+-- ---- the same
+
+-- it was opened so: the same versions and rows, at the same moment, after as many faults
+pub record IsSameOpening (o known : GroupOpening) : Type 0 where
+  pub versions : o.versions.items ≡ known.versions.items
+  pub rows : lists_of o.rows.items ≡ lists_of known.rows.items
+  pub moment : o.moment ≡ known.moment
+  pub faults : o.faults ≡ known.faults
+
+-- a book is of the group, the definition and the text that were kept
+pub record IsDefinedSo {D : Type 0} (b : Told D) (k : KeptGroup) : Type 0 where
+  pub group : b.group ≡ k.group
+  pub def : b.def ≡ k.def
+  pub text : b.text ≡ k.text.items
+
+-- and was opened so
+pub record IsBookAsKept {D : Type 0} (b : Told D) (k : KeptGroup) : Type 0 where
+  pub defined : IsDefinedSo b k
+  pub opened : IsSameOpening b.opening k.opening
+
+-- ---- what is compared in turn
+
+-- the six parts of a definition, each marked if both have the same
+pub record ArePartsOf {D : Type 0} (b : Told D) (k : KeptGroup) (marks : List Bool) : Type 0 where
+  pub six : length marks ≡ 6
+  pub group : (slice_get marks 0 ≡ Some true) ↔ (b.group ≡ k.group)
+  pub inputs : (slice_get marks 1 ≡ Some true) ↔ (b.def.inputs ≡ k.def.inputs)
+  pub start : (slice_get marks 2 ≡ Some true) ↔ (b.def.start ≡ k.def.start)
+  pub period : (slice_get marks 3 ≡ Some true) ↔ (b.def.period ≡ k.def.period)
+  pub calcs : (slice_get marks 4 ≡ Some true) ↔ (b.def.calcs ≡ k.def.calcs)
+  pub text : (slice_get marks 5 ≡ Some true) ↔ (b.text ≡ k.text.items)
+
+-- how many windows rows have
+abbrev pub windows_of : List (List CalcValue) → ℕ
+windows_of rows = length (slice_index_or rows 0 [])
+
+-- the numbers of an opening: the faults, the moment, each version, the windows, and how many rows there are
+abbrev pub items_of : GroupOpening → List ℕ
+items_of o =
+    let rows = lists_of o.rows.items in
+    o.faults ∷ o.moment ∷ o.versions.items ++ windows_of rows ∷ length rows ∷ []
+
+-- of the first places of two lists, each marked if both have the same there, so many are marked
+pub record AgreeIn {A : Type 0} (places : ℕ) (found known : List A) (n : ℕ) : Type 0 where
+  pub marks : List Bool
+  pub as_many : length marks ≡ places
+  pub each : (i : ℕ) → i < places → (slice_get marks i ≡ Some true) ↔ (slice_get found i ≡ slice_get known i)
+  pub count : n ≡ count_by (λ m. m) marks
+
+-- ---- the first difference
+
+-- fewer parts of the definition than six are marked
+pub record PartsDiffer {D : Type 0} (b : Told D) (k : KeptGroup) (kept told : Seen) : Type 0 where
+  pub marks : List Bool
+  pub parts : ArePartsOf b k marks
+  pub fewer : count_by (λ m. m) marks < 6
+  pub kept_is : kept ≡ Number (count_by (λ m. m) marks)
+  pub told_is : told ≡ Number 6
+
+-- fewer rows than are known are the same
+pub record RowsDiffer (found known : List (List CalcValue)) (kept told : Seen) : Type 0 where
+  pub same : ℕ
+  pub agree : AgreeIn (length known) found known same
+  pub fewer : same < length known
+  pub kept_is : kept ≡ Number same
+  pub told_is : told ≡ Number (length known)
+
+-- two openings differ: first in a number, or else in the rows
+pub data DifferSo (o known : GroupOpening) (kept told : Seen) : Type 0 where
+  InNumber : (place : ℕ) → AreApart place (items_of o) (items_of known) kept told → DifferSo o known kept told
+  InRows : items_of o ≡ items_of known → RowsDiffer (lists_of o.rows.items) (lists_of known.rows.items) kept told
+      → DifferSo o known kept told
+
+-- a book differs from what was kept of it: first in its definition, or else in its opening
+pub data IsBookDifference {D : Type 0} (b : Told D) (k : KeptGroup) (kept told : Seen) : Type 0 where
+  OfDefinition : PartsDiffer b k kept told → IsBookDifference b k kept told
+  OfOpening : IsDefinedSo b k → DifferSo b.opening k.opening kept told → IsBookDifference b k kept told
+
+-- the book of a group differs from what was kept of it
+abbrev pub IsGroupMismatch : {D : Type 0} → List (Told D) → List KeptGroup → Status → Type 0
+IsGroupMismatch books known why = IsOpeningMismatch Group IsBookDifference books known why

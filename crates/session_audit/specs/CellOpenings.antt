@@ -1,0 +1,70 @@
+-- What is kept of a cell as it was opened, and where it differs from that.
+use Rattle.std.specs.Prelude.{◌≡◌, ◌≢◌, ℕ, ◌<◌, List, [], ◌∷◌, length, take, slice_get, Some, ⊤}
+use Rattle.trend_num.specs.declared.archive.Rec.{Rec}
+use Rattle.trend_num.specs.declared.tag_def.TagDef.{TagDef}
+use Rattle.plant_status.specs.declared.mismatch.Seen.{Seen}
+use Rattle.plant_status.specs.declared.mismatch.Seen.TheVariants.{Def, Number, Summary}
+use Rattle.plant_status.specs.declared.status.Status.{Status}
+use Rattle.plant_status.specs.declared.unit.Unit.TheVariants.{Tag}
+use Rattle.tag_cell.specs.declared.history.TagOpening.{TagOpening}
+use Rattle.tag_cell.specs.Told.{Told}
+use Rattle.session_audit.specs.declared.cell_opening.Kept.{Kept}
+use Rattle.session_audit.specs.Openings.{IsOpeningMismatch}
+
+-- its definition is kept, and what it was opened as
+pub record IsCellCopied {D : Type 0} (c : Told D) (k : Kept) : Type 0 where
+  pub def : k.def ≡ c.def
+  pub summary : k.opening.summary ≡ c.opening.summary
+  pub records : k.opening.recs.items ≡ c.opening.recs.items
+  pub moment : k.opening.moment ≡ c.opening.moment
+  pub faults : k.opening.faults ≡ c.opening.faults
+
+-- it is of the definition that was kept, and was opened so
+pub record IsCellAsKept {D : Type 0} (c : Told D) (k : Kept) : Type 0 where
+  pub def : c.def ≡ k.def
+  pub summary : c.opening.summary ≡ k.opening.summary
+  pub records : c.opening.recs.items ≡ k.opening.recs.items
+  pub moment : c.opening.moment ≡ k.opening.moment
+  pub faults : c.opening.faults ≡ k.opening.faults
+
+-- ---- the first difference
+
+-- the items that are compared in turn, before the records themselves
+abbrev pub opening_items : TagDef → TagOpening → List Seen
+opening_items def o =
+    Def def ∷ Number o.faults ∷ Number o.moment ∷ Summary o.summary ∷ Number (length o.recs.items) ∷ []
+
+-- one of them
+abbrev pub IsItem : Seen → Type 0
+IsItem (Def def) = ⊤
+IsItem (Number number) = ⊤
+IsItem (Summary summary) = ⊤
+IsItem other = ⊥
+
+-- the first place at which lists of items differ, and what stands there
+pub record FirstDiffer (found known : List Seen) (kept told : Seen) : Type 0 where
+  pub place : ℕ
+  pub before : take place found ≡ take place known
+  pub kept_is : slice_get found place ≡ Some kept
+  pub told_is : slice_get known place ≡ Some told
+  pub differ : kept ≢ told
+
+-- so many records are the same, and then another one was found than the next that is known, or none
+pub record RecordsDiffer (found known : List Rec) (kept told : Seen) : Type 0 where
+  pub same : ℕ
+  pub prefix : take same found ≡ take same known
+  pub next : slice_get found same ≢ slice_get known same
+  pub kept_is : kept ≡ Number same
+  pub told_is : told ≡ Number (length known)
+  pub fewer : same < length known
+
+-- the first item that differs, of the definition, the faults, the moment, the state and the number of records; or else the
+-- records
+pub data IsCellDifference {D : Type 0} (c : Told D) (k : Kept) (kept told : Seen) : Type 0 where
+  OfItem : FirstDiffer (opening_items c.def c.opening) (opening_items k.def k.opening) kept told → IsCellDifference c k kept told
+  OfRecords : opening_items c.def c.opening ≡ opening_items k.def k.opening
+      → RecordsDiffer c.opening.recs.items k.opening.recs.items kept told → IsCellDifference c k kept told
+
+-- the cell of a tag differs from what was kept of it
+abbrev pub IsTagMismatch : {D : Type 0} → List (Told D) → List Kept → Status → Type 0
+IsTagMismatch cells known why = IsOpeningMismatch Tag IsCellDifference cells known why

@@ -1,0 +1,61 @@
+-- Why a step of a session is refused.
+use Rattle.std.specs.Prelude.{◌≡◌, ℕ, ◌+◌, ◌<◌, ◌≤◌, ◌≢◌, List, [], ◌∷◌, length, slice_get, slice_index, Some, true, nat_eq, ⊤}
+use Rattle.trend_num.specs.Limits.{most_records}
+use Rattle.trend_num.specs.declared.refusal.What.TheVariants.{Records}
+use Rattle.std.specs.List.{count_by}
+use Rattle.value_rows.specs.declared.raw.RawRow.{RawRow}
+use Rattle.plant_status.specs.declared.unit.Unit.TheVariants.{Tag}
+use Rattle.plant_status.specs.declared.mismatch.Place.TheVariants.{Takes}
+use Rattle.plant_status.specs.declared.mismatch.Seen.TheVariants.{Number}
+use Rattle.plant_status.specs.declared.status.Status.{Status}
+use Rattle.plant_status.specs.declared.status.Status.TheVariants.{DeviceFault, Limit, Mismatch, WantOfMemory}
+use Rattle.tag_cell.specs.declared.entry.CommitNo.{CommitNo}
+use Rattle.tag_cell.specs.declared.entry.CommitNo.TheVariants as commit
+use Rattle.tag_cell.specs.declared.entry.TakeNo.{TakeNo}
+use Rattle.tag_cell.specs.declared.entry.TakeNo.TheVariants as take_no
+use Rattle.tag_cell.specs.Told.{Told}
+use Rattle.tag_cell.specs.Tapes.{taken}
+
+-- the cell of this tag is so
+pub record IsSo {D : Type 0} (cells : List (Told D)) (tag : ℕ) (P : Told D → Type 0) : Type 0 where
+  pub cell : Told D
+  pub there : slice_get cells tag ≡ Some cell
+  pub so : P cell
+
+-- how many rows of files are of a tag
+abbrev pub tag_rows : ℕ → List (List RawRow) → ℕ
+tag_rows tag [] = 0
+tag_rows tag (rows ∷ files) = count_by (λ r. nat_eq r.tag tag) rows + tag_rows tag files
+
+-- a row is not taken: the tag's device has failed; its tape has as many takes as it has room for, and the number of the tag's
+-- rows is told beside; or it could have too many records
+abbrev pub IsTakeRefusal : {D : Type 0} → List ℕ → List (Told D) → Status → Type 0
+IsTakeRefusal rooms cells (DeviceFault (Tag tag)) = IsSo cells tag (λ c. c.journal.failed ≡ true)
+IsTakeRefusal rooms cells (Mismatch (Takes tag) kept told) = IsSo cells tag (λ c.
+    (kept ≡ Number c.room) × (c.room ≤ length (taken c.tape)) × (told ≡ Number (slice_index rooms tag)))
+IsTakeRefusal rooms cells (Limit Records number) = (tag : ℕ) × IsSo cells tag (λ c.
+    (number ≡ length c.state.records) × (most_records < number + 2))
+IsTakeRefusal rooms cells other = ⊥
+
+-- where a difference is told, the two are not the same
+abbrev pub AreUnlike : Status → Type 0
+AreUnlike (Mismatch place kept told) = kept ≢ told
+AreUnlike other = ⊤
+
+-- what a row of a tag that is refused is answered with; so many rows are of that tag
+abbrev pub take_status : ℕ → ℕ → TakeNo → Status
+take_status tag rows take_no.Broken = DeviceFault (Tag tag)
+take_status tag rows (take_no.RoomFull room) = Mismatch (Takes tag) (Number room) (Number rows)
+take_status tag rows (take_no.Full records) = Limit Records records
+
+-- a commit is refused: the tag's device has failed, or memory is wanting
+abbrev pub IsCellRefusal : {D : Type 0} → List (Told D) → Status → Type 0
+IsCellRefusal cells (DeviceFault (Tag tag)) = IsSo cells tag (λ c. c.journal.failed ≡ true)
+IsCellRefusal cells WantOfMemory = ⊤
+IsCellRefusal cells other = ⊥
+
+-- what a refused commit of a tag is answered with
+abbrev pub commit_status : ℕ → CommitNo → Status
+commit_status tag commit.Broken = DeviceFault (Tag tag)
+commit_status tag commit.DeviceFault = DeviceFault (Tag tag)
+commit_status tag commit.WantOfMemory = WantOfMemory

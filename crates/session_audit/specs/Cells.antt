@@ -1,0 +1,65 @@
+-- Cells that have gained entries.
+use Rattle.std.specs.Prelude.{◌≡◌, ℕ, ◌<◌, List, ◌++◌, All, Option, ⊤}
+use Rattle.trend_num.specs.Queries.{IsTagQuery}
+use Rattle.value_rows.specs.declared.asked.Query.{Query}
+use Rattle.value_rows.specs.declared.asked.Query.TheVariants as query
+use Rattle.tag_cell.specs.declared.entry.Entry.{Entry}
+use Rattle.tag_cell.specs.declared.entry.Entry.TheVariants.{Take, Ask, Commit}
+use Rattle.tag_cell.specs.Told.{Told}
+use Rattle.session_audit.specs.declared.agenda.Item.{Item}
+use Rattle.session_audit.specs.declared.kind.Shown.{Shown}
+use Rattle.session_audit.specs.Found.{Reached}
+use Rattle.session_audit.specs.Each.{AreEach}
+use Rattle.session_audit.specs.Workers.{AreTapesFound, AreTapesWhole}
+
+-- ---- entries by their kind
+
+abbrev pub IsTakeEntry : Entry → Type 0
+IsTakeEntry (Take collector row point held records) = ⊤
+IsTakeEntry other = ⊥
+
+abbrev pub IsAskEntry : Entry → Type 0
+IsAskEntry (Ask reader row asked reply) = ⊤
+IsAskEntry other = ⊥
+
+abbrev pub IsCommitEntry : Entry → Type 0
+IsCommitEntry (Commit moment acked) = ⊤
+IsCommitEntry other = ⊥
+
+-- ---- cells that have gained entries
+
+-- the tape is longer by entries of a kind; the definition and the opening stay
+pub record IsLonger {D : Type 0} (IsOf : Entry → Type 0) (old new : Told D) : Type 0 where
+  pub more : List Entry
+  pub each : All IsOf more
+  pub tape : new.tape ≡ old.tape ++ more
+  pub same_def : new.def ≡ old.def
+  pub same_opening : new.opening ≡ old.opening
+
+-- so it is of each cell
+abbrev pub AreLonger : {D : Type 0} → (Entry → Type 0) → List (Told D) → List (Told D) → Type 0
+AreLonger IsOf old new = AreEach (IsLonger IsOf) old new
+
+-- ---- what their tapes show of workers
+
+abbrev pub cell_tape : {D : Type 0} → Told D → List Entry
+cell_tape c = c.tape
+
+-- how far the rows of workers stand is known of each tape
+abbrev pub AreAllFound : {D : Type 0} → (Entry → Option Shown) → List (Told D) → List Reached → Type 0
+AreAllFound work cells works = AreTapesFound cell_tape work cells works
+
+-- each tape shows of each worker all its rows that are due there, and of no other worker any
+abbrev pub AreAllShown : {D A : Type 0} → (Entry → Option Shown) → (ℕ → ℕ → A → Option Item) → List (List A) → List (Told D)
+    → Type 0
+AreAllShown work item_of files cells = AreTapesWhole cell_tape work item_of files cells
+
+-- a question of one of so many tags, if it is of a tag
+abbrev pub IsKnownAsk : ℕ → Query → Type 0
+IsKnownAsk tags (query.Tag tag asked) = (tag < tags) × IsTagQuery asked
+IsKnownAsk tags other = ⊤
+
+-- a question about a tag whose times are in range, or another one
+abbrev pub IsFitAsk : Query → Type 0
+IsFitAsk (query.Tag tag asked) = IsTagQuery asked
+IsFitAsk other = ⊤

@@ -1,0 +1,47 @@
+-- Cells that gain entries, and books that answer questions, once and once more. What laws of this crate's traits say is proved here.
+use Rattle.std.proofs.Common.{◌++◌, List, [], refl, sym, ap, ◌∙◌, append-nil, append_assoc}
+use Rattle.std.proofs.lemmas.List.Elements.{All-append, All-nil}
+use Rattle.tag_cell.specs.declared.entry.Entry.{Entry}
+use Rattle.tag_cell.specs.Told.{Told as Cell}
+use Rattle.group_book.specs.declared.turn.Turn.{Turn}
+use Rattle.group_book.specs.Told.{Told as Book}
+use Rattle.session_audit.specs.Books.{IsAsk, IsAskedMore}
+use Rattle.session_audit.specs.Cells.{IsLonger}
+
+-- a cell that gained nothing
+pub longer_refl : {D : Type 0} (IsOf : Entry → Type 0) (c : Cell D) → IsLonger IsOf c c
+longer_refl IsOf c = record {
+  more = [];
+  each = All-nil IsOf;
+  tape = sym (append-nil c.tape);
+  same_def = refl;
+  same_opening = refl;
+}
+
+-- a cell that gained entries twice
+pub longer_trans : {D : Type 0} (IsOf : Entry → Type 0) (a b c : Cell D) → IsLonger IsOf a b → IsLonger IsOf b c
+    → IsLonger IsOf a c
+longer_trans IsOf a b c first second = record {
+  more = first.more ++ second.more;
+  each = All-append IsOf first.more second.more first.each second.each;
+  tape = second.tape ∙ (ap (λ l. l ++ second.more) first.tape ∙ append_assoc a.tape first.more second.more);
+  same_def = second.same_def ∙ first.same_def;
+  same_opening = second.same_opening ∙ first.same_opening;
+}
+
+-- a book that answered nothing
+pub asked_refl : {D : Type 0} (b : Book D) → IsAskedMore b b
+asked_refl b = record {
+  more = [];
+  each = All-nil IsAsk;
+  changed = ap (λ (l : List Turn). record b { tape = l }) (sym (append-nil b.tape));
+}
+
+-- a book that answered twice
+pub asked_trans : {D : Type 0} (a b c : Book D) → IsAskedMore a b → IsAskedMore b c → IsAskedMore a c
+asked_trans {D = D} a b c first second = record {
+  more = first.more ++ second.more;
+  each = All-append IsAsk first.more second.more first.each second.each;
+  changed = second.changed ∙ (ap (λ (x : Book D). record x { tape = x.tape ++ second.more }) first.changed
+      ∙ ap (λ (l : List Turn). record a { tape = l }) (append_assoc a.tape first.more second.more));
+}

@@ -1,0 +1,66 @@
+-- What groups pulled of the tags of their inputs, and what they have of them.
+use Rattle.std.specs.Prelude.{◌≡◌, ℕ, ◌<◌, ◌≤◌, List, [], ◌∷◌, drop, length, slice_get, slice_index, slice_index_or, Option, None, Some, take}
+use Rattle.plant_status.specs.declared.mismatch.Place.TheVariants.{Pull, Version}
+use Rattle.plant_status.specs.declared.status.Status.{Status}
+use Rattle.plant_status.specs.declared.status.Status.TheVariants.{Mismatch}
+use Rattle.tag_cell.specs.Told.{Told as Cell}
+use Rattle.session_audit.specs.CellOpenings.{RecordsDiffer}
+use Rattle.group_book.specs.Told.{Told as Book}
+use Rattle.session_audit.specs.declared.group_pulls.Found.{Found}
+use Rattle.session_audit.specs.OpeningNumbers.{AreApart}
+use Rattle.session_audit.specs.GroupTapes.{pulled, reached}
+
+-- ---- the same
+
+-- what a book has of an input is what its group pulled of the tag: each pull ended at the version of the refresh of its
+-- number, and the copy is the first of the tag's records
+pub record IsPulledFrom {C D : Type 0} (group input : ℕ) (cell : Cell C) (book : Book D) : Type 0 where
+  pub ends : pulled group cell.tape ≡ reached input book.tape
+  pub copy : slice_index_or book.sheet.copies input []
+      ≡ take (length (slice_index_or book.sheet.copies input [])) cell.state.records
+
+-- so it is of each input; these are the tags of the inputs
+pub record AreInputsPulled {C D : Type 0} (group : ℕ) (tags : List ℕ) (cells : List (Cell C)) (book : Book D) : Type 0 where
+  pub each : (input : ℕ) (c : Cell C) → input < length tags
+      → IsPulledFrom group input (slice_index_or cells (slice_index tags input) c) book
+
+-- and of each group
+pub record ArePulled {C D : Type 0} (inputs : List (List ℕ)) (cells : List (Cell C)) (books : List (Book D)) : Type 0 where
+  pub each : (group : ℕ) (b : Book D) → group < length books
+      → AreInputsPulled group (slice_index_or inputs group []) cells (slice_index_or books group b)
+
+-- ---- the first difference
+
+-- a pull ended elsewhere than the refresh of its number, or there is but one of the two; or fewer records of the copy are the
+-- first of the tag's than it has
+abbrev pub IsInputMismatch : {C D : Type 0} → ℕ → ℕ → Cell C → Book D → Status → Type 0
+IsInputMismatch group input cell book (Mismatch (Pull its_group its_input turn) kept told) = (its_group ≡ group)
+    × (its_input ≡ input) × AreApart turn (pulled group cell.tape) (reached input book.tape) kept told
+IsInputMismatch group input cell book (Mismatch (Version its_group its_input) kept told) = (its_group ≡ group)
+    × (its_input ≡ input) × RecordsDiffer cell.state.records (slice_index_or book.sheet.copies input []) kept told
+IsInputMismatch group input cell book other = ⊥
+
+-- so it is at one input of a group
+pub record IsMismatchOf {C D : Type 0} (group : ℕ) (tags : List ℕ) (cells : List (Cell C)) (book : Book D) (s : Status)
+    : Type 0 where
+  pub input : ℕ
+  pub cell : Cell C
+  pub within : input < length tags
+  pub there : slice_get cells (slice_index tags input) ≡ Some cell
+  pub differs : IsInputMismatch group input cell book s
+
+-- of one group
+pub record IsPullMismatch {C D : Type 0} (inputs : List (List ℕ)) (cells : List (Cell C)) (books : List (Book D)) (s : Status)
+    : Type 0 where
+  pub group : ℕ
+  pub book : Book D
+  pub there : slice_get books group ≡ Some book
+  pub differs : IsMismatchOf group (slice_index_or inputs group []) cells book s
+
+-- ---- from a place of a tape on
+
+-- the first of the numbers that a tape tells, if it tells one: `numbers` tells those of a tape
+abbrev pub IsNextOf : {E : Type 0} → (List E → List ℕ) → List E → ℕ → Option Found → Type 0
+IsNextOf numbers tape from None = numbers (drop from tape) ≡ []
+IsNextOf numbers tape from (Some f) = (numbers (drop from tape) ≡ f.number ∷ numbers (drop f.past tape))
+    × (from < f.past) × (f.past ≤ length tape)

@@ -1,0 +1,59 @@
+-- Groups that are refreshed from the cells of their inputs.
+use Rattle.std.specs.Prelude.{◌≡◌, ℕ, ◌+◌, ◌<◌, List, [], ◌∷◌, ◌++◌, All, IsSome, length, map, slice_index, slice_index_or, ⊤}
+use Rattle.trend_num.specs.declared.archive.Rec.{Rec}
+use Rattle.tag_cell.specs.declared.entry.Entry.{Entry}
+use Rattle.tag_cell.specs.declared.entry.Entry.TheVariants.{Pull}
+use Rattle.tag_cell.specs.Told.{Told as Cell, durable_records}
+use Rattle.group_book.specs.declared.turn.Turn.{Turn}
+use Rattle.group_book.specs.declared.turn.Turn.TheVariants.{Save}
+use Rattle.group_book.specs.Told.{Told as Book, versions_of}
+use Rattle.session_audit.specs.GroupTapes.{refreshes}
+
+-- ---- records that no crash takes away
+
+-- those of each tag
+abbrev pub durable_lists : {C : Type 0} → List (Cell C) → List (List Rec)
+durable_lists cells = map durable_records cells
+
+-- how many there are of each of these tags
+abbrev pub durable_numbers : List (List Rec) → List ℕ → List ℕ
+durable_numbers durables tags = map (λ tag. length (slice_index_or durables tag [])) tags
+
+-- ---- what a refresh leaves
+
+-- an entry that is a pull
+abbrev pub IsPull : Entry → Type 0
+IsPull (Pull group from upto) = ⊤
+IsPull other = ⊥
+
+-- a cell's tape is longer by pulls, and nothing else has changed
+pub record IsPulledMore {C : Type 0} (old new : Cell C) : Type 0 where
+  pub more : List Entry
+  pub each : All IsPull more
+  pub changed : new ≡ record old { tape = old.tape ++ more }
+
+-- a tape ends in a save
+pub record EndsInSave (tape : List Turn) : Type 0 where
+  pub before : List Turn
+  pub number : ℕ
+  pub moment : ℕ
+  pub is : tape ≡ before ++ Save number moment ∷ []
+
+-- a book was saved, if it has a device
+pub record IsSavedOn {D : Type 0} (old new : Book D) : Type 0 where
+  pub same_refreshes : refreshes new.tape ≡ refreshes old.tape
+  pub same_sheet : new.sheet ≡ old.sheet
+  pub last : IsSome new.dev → EndsInSave new.tape
+
+-- a book has made its turns and one more, has as many records of each input as no crash takes away, and was saved then, if it
+-- has a device
+pub record IsRefreshedTo {D : Type 0} (durables : List (List Rec)) (tags : List ℕ) (turns : ℕ) (book : Book D) : Type 0 where
+  pub refreshed : length (refreshes book.tape) ≡ turns + 1
+  pub versions : versions_of book ≡ durable_numbers durables tags
+  pub saved : IsSome book.dev → EndsInSave book.tape
+
+-- so has each
+pub record AreBooksRefreshed {D : Type 0} (durables : List (List Rec)) (inputs : List (List ℕ)) (turns : List ℕ)
+    (books : List (Book D)) : Type 0 where
+  pub each : (group : ℕ) (b : Book D) → group < length books
+      → IsRefreshedTo durables (slice_index_or inputs group []) (slice_index turns group) (slice_index_or books group b)

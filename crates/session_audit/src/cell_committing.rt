@@ -1,0 +1,60 @@
+// What waits on cells is acknowledged.
+ghost use Rattle.std.specs.Prelude.{ℕ, ◌≡◌, ◌⊎◌, ◌^◌, ◌<◌, List, All, IfErr, OnOk, length, true};
+ghost use Rattle.value_rows.specs.declared.asked.Query.{Query};
+ghost use Rattle.value_rows.specs.declared.raw.RawRow.{RawRow};
+ghost use Rattle.session_audit.specs.Agendas.{ask_item, phase_item};
+ghost use Rattle.session_audit.specs.Tapes.{ask_of, take_of};
+ghost use Rattle.tag_cell.specs.declared.entry.CommitNo.TheVariants.{WantOfMemory as NoMemory};
+ghost use Rattle.tag_cell.specs.Told.{waits};
+ghost use Rattle.session_audit.specs.Cells.{AreAllShown, AreLonger, IsCommitEntry, IsLonger};
+ghost use Rattle.session_audit.specs.CellRefusals.{IsCellRefusal, commit_status};
+
+use disk_model::Disk;
+use plant_status::{Status, Unit};
+use tag_cell::{Cell, CommitNo};
+
+/// Acknowledges what waits, cell by cell, until nothing does. It ends at the first tag whose device has failed, or where memory
+/// is wanting.
+pub fn commit_cells<D: Disk>(cells: &mut [Cell<D>]) -> Result<(), Status>
+    requires few { length cells.old < 2 ^ 32 }
+    ensures none_waits { OnOk result (All (λ c. waits c ≡ 0) cells.new) }
+    ensures takes { (earlier : ℕ) (taken : List (List RawRow)) → AreAllShown take_of (phase_item earlier) taken cells.old
+        → AreAllShown take_of (phase_item earlier) taken cells.new }
+    ensures asks { (asked : List (List Query)) → AreAllShown ask_of ask_item asked cells.old
+        → AreAllShown ask_of ask_item asked cells.new }
+    ensures longer { AreLonger IsCommitEntry cells.old cells.new }
+    ensures refused { IfErr result (IsCellRefusal cells.new) }
+{
+    for tag in 0..cells.len() {
+        if let Err(no) = commit_cell(&mut cells[tag]) {
+            return Err(commit_status(tag as u32, no));
+        }
+    }
+    Ok(())
+}
+
+// Acknowledges what waits on a cell.
+fn commit_cell<D: Disk>(cell: &mut Cell<D>) -> Result<(), CommitNo>
+    ensures none_waits { OnOk result (waits cell.new ≡ 0) }
+    ensures longer { IsLonger IsCommitEntry cell.old cell.new }
+    ensures failed { IfErr result (λ no. (no ≡ NoMemory) ⊎ (cell.new.journal.failed ≡ true)) }
+{
+    loop {
+        let acked = cell.commit()?;
+        if acked.waiting == 0 {
+            return Ok(());
+        }
+    }
+}
+
+// What a commit that is refused is answered with.
+fn commit_status(tag: u32, no: CommitNo) -> Status
+    ensures { result ≡ commit_status tag no }
+{
+    match no {
+        CommitNo::Broken | CommitNo::DeviceFault => Status::DeviceFault {
+            unit: Unit::Tag(tag),
+        },
+        CommitNo::WantOfMemory => Status::WantOfMemory,
+    }
+}

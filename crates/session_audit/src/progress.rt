@@ -1,0 +1,137 @@
+// Which rows of a worker were found, and which are due next.
+ghost use Rattle.std.specs.Prelude.{◌≡◌, ◌<◌, ◌+◌, ◌^◌, ℕ, IfNone, IfOk, IfSome, IsSome, None, false, length, replicate, slice_index_or};
+ghost use Rattle.session_audit.specs.Agendas.{IsNext, items_of};
+ghost use Rattle.session_audit.specs.Adding.{IsLacking};
+ghost use Rattle.session_audit.specs.Found.{AreLinked, IsAdvanced, IsChained, IsUnfound, lacks, next_due, place_at};
+
+use crate::agenda::Agenda;
+use plant_status::Seen;
+use std::alloc::Global;
+use std::marker::Model;
+use trend_num::WantOfMemory;
+
+/// How far the rows of a worker were found, unit by unit: its tags, or its groups.
+#[derive(Drop)]
+pub struct Progress<'a> {
+    agenda: Agenda<'a>,
+    // Of each unit the place of the row that is due next, or the number of rows.
+    at: Vec<u32>,
+    // Of each row the place of the next one of its unit, or the number of rows.
+    next: Vec<u32>,
+}
+
+impl<'a> Model for Progress<'a> {
+    ghost use Rattle.session_audit.specs.Agendas.{items_of};
+    ghost use Rattle.session_audit.specs.Adding.{IsLacking};
+    ghost use Rattle.session_audit.specs.Found.{IsChained, Reached};
+
+    ghost Value = { Reached };
+
+    ghost view = { λ p. record { items = items_of p.agenda; at = p.at.items } };
+
+    ghost invariant = { λ p. IsChained (items_of p.agenda) p.next.items p.at.items };
+}
+
+impl<'a> Progress<'a> {
+    /// Of these rows, which are due at so many units, none is found yet.
+    pub fn new(alloc: Global, agenda: Agenda<'a>, units: u32) -> Result<Progress<'a>, WantOfMemory>
+        requires few { length (items_of agenda) < 2 ^ 32 }
+        requires units { (i : ℕ) → IfSome (slice_index_or (items_of agenda) i None) (λ item. item.unit < units) }
+        ensures items { IfOk result (λ p. p.items ≡ items_of agenda.entry) }
+        ensures units { IfOk result (λ p. length p.at ≡ units) }
+        ensures unfound { IfOk result (λ p. (u : ℕ) → u < units → IsUnfound u p) }
+    {
+        let count = agenda.len();
+        let mut at = table(alloc, count as u32, units as usize)?;
+        let mut next = table(alloc, count as u32, count)?;
+        link_all(&agenda, at.as_mut_slice(), next.as_mut_slice());
+        Ok(Progress { agenda, at, next })
+    }
+
+    /// How many units there are.
+    pub fn units(&self) -> usize
+        ensures units { result ≡ length self.now.at }
+        ensures next { (u : ℕ) → u < length self.now.at → IsNext u self.now.items (place_at self.now u) (place_at self.now u) }
+    {
+        self.at.len()
+    }
+
+    /// The row that is due next at a unit.
+    pub fn next_due(&self, unit: u32) -> Option<Seen>
+        requires { unit < length self.now.at }
+        ensures due { result ≡ next_due self.now unit }
+        ensures next { IsNext unit self.now.items (place_at self.now unit) (place_at self.now unit) }
+    {
+        let place = self.at[unit as usize] as usize;
+        if place < self.agenda.len() {
+            Some(self.agenda.item(place)?.seen)
+        } else {
+            None
+        }
+    }
+
+    /// The unit at which a row is due, where it was not found there yet.
+    pub fn missing(&self, place: usize) -> Option<u32>
+        requires { place < length self.now.items }
+        ensures missing { IfSome result (IsLacking self.now place) }
+        ensures none { IfNone result (lacks self.now place ≡ false) }
+    {
+        match self.agenda.item(place) {
+            Some(item) if self.at[item.unit as usize] as usize <= place => Some(item.unit),
+            _ => None,
+        }
+    }
+
+    /// The row that is due next at a unit is found there.
+    pub fn advance(&mut self, unit: u32)
+        requires known { unit < length self.old.at }
+        requires due { IsSome (next_due self.old unit) }
+        ensures { IsAdvanced unit self.old self.new }
+    {
+        let place = self.at[unit as usize] as usize;
+        self.at[unit as usize] = self.next[place];
+    }
+}
+
+// So many times one number.
+fn table(alloc: Global, number: u32, count: usize) -> Result<Vec<u32>, WantOfMemory>
+    ensures { IfOk result (λ v. v.items ≡ replicate count number) }
+{
+    Ok(vec![in alloc; number; count]?)
+}
+
+// Links each row to the next one of its unit, and each unit to its first row.
+#[tactic(auto, using(crate::proofs::Links::linked_none, crate::proofs::Links::linked_all))]
+fn link_all(agenda: &Agenda<'_>, at: &mut [u32], next: &mut [u32])
+    requires few { length (items_of agenda.now) < 2 ^ 32 }
+    requires units { (i : ℕ) → IfSome (slice_index_or (items_of agenda.now) i None) (λ item. item.unit < length at.old) }
+    requires unlinked { at.old ≡ replicate (length at.old) (length (items_of agenda.now)) }
+    requires as_many { length next.old ≡ length (items_of agenda.now) }
+    ensures chained { IsChained (items_of agenda.now) next.new at.new }
+    ensures units { length at.new ≡ length at.old }
+    ensures unfound { (u : ℕ) → u < length at.new → IsNext u (items_of agenda.now) 0 (slice_index_or at.new u 0) }
+{
+    let mut place = next.len();
+    while place > 0 {
+        place -= 1;
+        link(agenda, at, next, place);
+    }
+}
+
+// Links the row at a place, where those behind it are linked.
+#[tactic(auto, using(crate::proofs::Links::linked_past, crate::proofs::Links::linked_more))]
+fn link(agenda: &Agenda<'_>, at: &mut [u32], next: &mut [u32], place: usize)
+    requires few { length (items_of agenda.now) < 2 ^ 32 }
+    requires within { place < length (items_of agenda.now) }
+    requires units { IfSome (slice_index_or (items_of agenda.now) place None) (λ item. item.unit < length at.old) }
+    requires as_many { length next.old ≡ length (items_of agenda.now) }
+    requires behind { AreLinked (items_of agenda.now) next.old at.old (place + 1) }
+    ensures linked { AreLinked (items_of agenda.now) next.new at.new place }
+    ensures units { length at.new ≡ length at.old }
+    ensures as_many { length next.new ≡ length next.old }
+{
+    if let Some(item) = agenda.item(place) {
+        next[place] = at[item.unit as usize];
+        at[item.unit as usize] = place as u32;
+    }
+}

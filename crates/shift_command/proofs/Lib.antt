@@ -1,3 +1,0 @@
-pub mod Tags
-pub mod Windows
-pub mod Refusals

@@ -1,4 +1,0 @@
-use Rattle.store_commands.proofs.groups.publish_once.Given as goal
-
-abbrev pub ghosts-publish_on : goal.ghosts-publish_on
-ghosts-publish_on g a = record { name = a.blank.name; parts = a.blank.parts }

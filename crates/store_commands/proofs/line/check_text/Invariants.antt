@@ -1,6 +1,0 @@
-use Rattle.std.proofs.Common.{◌≡◌, length, string_bytes}
-use Rattle.store_commands.proofs.Lines.{lines_before}
-use Rattle.store_commands.proofs.line.check_text.Given as goal
-
-abbrev pub invariant-loop-def : goal.invariant-loop-def
-invariant-loop-def l = string_bytes l.text ≡ lines_before l.tags l.cores (length l.yielded)

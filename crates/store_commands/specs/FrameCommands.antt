@@ -1,0 +1,73 @@
+-- What `frames` prints, why it prints nothing, and what it leaves of the devices.
+use Rattle.std.specs.Prelude.{◌≡◌, ◌≢◌, ◌⊎◌, ℕ, List, All}
+use Rattle.disk_model.specs.Moments.{During}
+use Rattle.trend_num.specs.declared.value.CalcValue.{CalcValue}
+use Rattle.tag_core.specs.Core.{Core}
+use Rattle.tag_base.specs.declared.definition.Base.{Base}
+use Rattle.tag_base.specs.declared.definition.GroupDef.{GroupDef}
+use Rattle.plant_status.specs.declared.status.Status.{Status}
+use Rattle.plant_status.specs.declared.status.Status.TheVariants.{WantOfMemory}
+use Rattle.plant_files.specs.Asked.{ToldFiles}
+use Rattle.plant_files.specs.Texts.{IsBaseFile, IsBaseRefusal}
+use Rattle.plant_store.specs.TagRefusals.{IsRefusal}
+use Rattle.plant_store.specs.Tags.{AllStaySame}
+use Rattle.plant_store.specs.Tags as tag
+use Rattle.group_book.specs.Openings.{StaysSame}
+use Rattle.plant_store.specs.Groups.{parts_of, records_of, text_of, trace_at, Devices}
+use Rattle.plant_store.specs.Groups as group
+use Rattle.plant_store.specs.OpenedBases.{AreUntouched, IsOpenedBase}
+use Rattle.store_commands.specs.GroupRows.{tag_records}
+use Rattle.store_commands.specs.FrameLines.{TellsFrames}
+use Rattle.store_commands.specs.FrameNames.{IsNamed, IsNameRefusal}
+use Rattle.store_commands.specs.FrameRows.{AreRows, IsRowsRefusal}
+
+-- a base was read and opened, the names stand for the calculation at place k of the group at place i, these are the saved row of the
+-- calculation and the refreshed one, and the text tells of their frames
+pub record IsFrames (name group_name calc_name : List ℕ) (least : ℕ) (told : ToldFiles) (old : Devices) (text : List ℕ) : Type 0 where
+  pub base : Base
+  pub g : GroupDef
+  pub i : ℕ
+  pub k : ℕ
+  pub cores : List Core
+  pub saved : List CalcValue
+  pub refreshed : List CalcValue
+  pub opened : IsOpenedBase name told old base cores
+  pub named : IsNamed base.groups.items group_name calc_name g i k
+  pub rows : AreRows g k (records_of (tag_records cores) g) (trace_at old g) saved refreshed
+  pub tells : TellsFrames g least saved refreshed text
+
+-- the refusals, in their order: of the base, of the names, of a tag, of the group. Before that of a tag no device has changed. No
+-- memory may be found at any time
+pub data IsFramesRefusal (name group_name calc_name : List ℕ) (told : ToldFiles) (old new : Devices) (before now : ℕ) (why : Status)
+    : Type 0 where
+  OfBase : IsBaseRefusal (told name) why → AreUntouched old new
+      → IsFramesRefusal name group_name calc_name told old new before now why
+  OfName : (base : Base) → IsBaseFile (told name) base → IsNameRefusal base.groups.items group_name calc_name why
+      → AreUntouched old new → IsFramesRefusal name group_name calc_name told old new before now why
+  OfTag : (base : Base) (g : GroupDef) (i k : ℕ) → IsBaseFile (told name) base
+      → IsNamed base.groups.items group_name calc_name g i k → IsRefusal base.tags.items old new before now why
+      → IsFramesRefusal name group_name calc_name told old new before now why
+  OfGroup : (base : Base) (g : GroupDef) (i k : ℕ) (cores : List Core) → IsOpenedBase name told old base cores
+      → IsNamed base.groups.items group_name calc_name g i k
+      → IsRowsRefusal i g (records_of (tag_records cores) g) (trace_at old g) before now why
+      → IsFramesRefusal name group_name calc_name told old new before now why
+  OfMemory : why ≡ WantOfMemory → IsFramesRefusal name group_name calc_name told old new before now why
+
+-- ---- devices
+
+-- those of the base's tags and of the group of this name alone have changed, and a crash at any moment since leaves of each an image
+-- that one before might have left, or that recovers or stands for the same, or, of a tag, that as it is opened
+pub record HaveStayed (name group_name calc_name : List ℕ) (told : ToldFiles) (old new : Devices) : Type 0 where
+  pub base : Base
+  pub g : GroupDef
+  pub i : ℕ
+  pub k : ℕ
+  pub read : IsBaseFile (told name) base
+  pub named : IsNamed base.groups.items group_name calc_name g i k
+  pub tags_stay : AllStaySame base.tags.items old new
+  pub group_stays : During (trace_at old g) (trace_at new g) (StaysSame (text_of g) (parts_of g) (trace_at old g))
+  pub rest : (n : List ℕ) → All (λ def. n ≢ tag.device_name def.name) base.tags.items → n ≢ group.device_name g.name → new n ≡ old n
+
+-- no device has changed; or those of the tags and of the group alone have, which stand for the same
+abbrev pub AreFramesKept : List ℕ → List ℕ → List ℕ → ToldFiles → Devices → Devices → Type 0
+AreFramesKept name group_name calc_name told old new = AreUntouched old new ⊎ HaveStayed name group_name calc_name told old new

@@ -1,0 +1,68 @@
+-- The row of a calculation as its group's device stands for it, and after one refresh; and why there is none.
+use Rattle.std.specs.Prelude.{◌≡◌, ℕ, ◌*◌, ◌^◌, ◌<◌, ◌≤◌, List, length, map, slice_get, Option, Some}
+use Rattle.trend_num.specs.declared.archive.Rec.{Rec}
+use Rattle.trend_num.specs.declared.refusal.What.TheVariants.{Cells, Copies}
+use Rattle.trend_num.specs.declared.value.CalcValue.{CalcValue}
+use Rattle.disk_model.specs.Calls.{Rose, Shows}
+use Rattle.disk_model.specs.Traces.{Trace}
+use Rattle.sheet_law.specs.Scratch.{IsScratch}
+use Rattle.sheet_law.specs.Windows.{complete_windows}
+use Rattle.calc_refresh.specs.Lists.{total_length}
+use Rattle.calc_refresh.specs.Refreshed.{most_cells, most_copies}
+use Rattle.calc_refresh.specs.Sheet.{grid_of}
+use Rattle.group_layout.specs.Images.{IsGroupDamage}
+use Rattle.group_book.specs.Openings.{SavesAhead, SavesShape, StandsForGroup}
+use Rattle.group_book.specs.Tapes.{cut}
+use Rattle.tag_base.specs.declared.definition.GroupDef.{GroupDef}
+use Rattle.plant_status.specs.declared.mismatch.Place.TheVariants.{Version, Windows}
+use Rattle.plant_status.specs.declared.mismatch.Seen.TheVariants.{Number}
+use Rattle.plant_status.specs.declared.status.Status.{Status}
+use Rattle.plant_status.specs.declared.status.Status.TheVariants.{DeviceFault, Damaged, Limit, Mismatch, WantOfMemory}
+use Rattle.plant_status.specs.declared.unit.Unit.TheVariants.{Group}
+use Rattle.plant_store.specs.Groups.{parts_of, text_of}
+
+-- Of calculation k of a group with these saved versions and rows the saved row, and the one after a refresh from all these records
+-- of its tags. Where the saved rows were those from scratch on the first records, as many as the versions say, the rows after the
+-- refresh are those from scratch on all. There is a value for each complete window, of which there are no fewer than before.
+pub record AreRefreshed (g : GroupDef) (k : ℕ) (versions : List ℕ) (rows : List (List CalcValue)) (recovered : List (List Rec))
+    (saved refreshed : List CalcValue) : Type 0 where
+  pub rows_then : List (List CalcValue)
+  pub within : map length (cut versions recovered) ≡ versions
+  pub scratch : IsScratch g.calcs (grid_of g.start g.period) (cut versions recovered) rows
+      → IsScratch g.calcs (grid_of g.start g.period) recovered rows_then
+  pub complete : length refreshed ≡ complete_windows (grid_of g.start g.period) recovered
+  pub grown : length saved ≤ length refreshed
+  pub saved_is : slice_get rows k ≡ Some saved
+  pub refreshed_is : slice_get rows_then k ≡ Some refreshed
+
+-- Of calculation k of a group, whose tags recovered these records, the saved row and the refreshed one. The group's device stood for
+-- the saved versions and rows.
+pub record AreRows (g : GroupDef) (k : ℕ) (recovered : List (List Rec)) (o : Option Trace) (saved refreshed : List CalcValue) : Type 0 where
+  pub versions : List ℕ
+  pub rows : List (List CalcValue)
+  pub stood : Shows o (StandsForGroup (text_of g) (parts_of g) versions rows)
+  pub are : AreRefreshed g k versions rows recovered saved refreshed
+
+-- how many cells a group has of these records
+abbrev pub cells_of : GroupDef → List (List Rec) → ℕ
+cells_of g recovered = complete_windows (grid_of g.start g.period) recovered * length g.calcs.calcs
+
+-- Why there are no rows of the group at place i, where the store counted so many faults before and so many now: a call of its
+-- device has failed; the bytes break its layout; a saved version is above the records of a tag, of which the records are told and
+-- then the version; a saved row has not one value for each complete window, of which the windows are told and then the values;
+-- there would be too many cells, or too many records of its tags; or memory is wanting.
+pub data IsRowsRefusal (i : ℕ) (g : GroupDef) (recovered : List (List Rec)) (o : Option Trace) (before now : ℕ) (why : Status)
+    : Type 0 where
+  OfFault : why ≡ DeviceFault (Group i) → (before < 2 ^ 64 → Rose before now) → IsRowsRefusal i g recovered o before now why
+  OfDamage : (at : ℕ) (byte : Option ℕ) → why ≡ Damaged (Group i) at byte
+      → Shows o (λ c. IsGroupDamage (text_of g) (length g.inputs.items) (length g.calcs.calcs) c at byte)
+      → IsRowsRefusal i g recovered o before now why
+  OfVersion : (input found version : ℕ) → why ≡ Mismatch (Version i input) (Number found) (Number version)
+      → Shows o (SavesAhead (text_of g) (parts_of g) recovered input version found) → IsRowsRefusal i g recovered o before now why
+  OfWindows : (windows rows : ℕ) → why ≡ Mismatch (Windows i) (Number windows) (Number rows)
+      → Shows o (SavesShape (text_of g) (parts_of g) recovered windows rows) → IsRowsRefusal i g recovered o before now why
+  OfCells : (number : ℕ) → why ≡ Limit Cells number → number ≡ cells_of g recovered → most_cells < number
+      → IsRowsRefusal i g recovered o before now why
+  OfCopies : (number : ℕ) → why ≡ Limit Copies number → number ≡ total_length recovered → most_copies < number
+      → IsRowsRefusal i g recovered o before now why
+  OfMemory : why ≡ WantOfMemory → IsRowsRefusal i g recovered o before now why

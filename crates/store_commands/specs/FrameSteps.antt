@@ -1,0 +1,93 @@
+-- What single steps of `frames` leave.
+use Rattle.std.specs.Prelude.{◌≡◌, ℕ, ◌*◌, ◌^◌, ◌<◌, ◌≤◌, List, [], ◌∷◌, drop, length, slice_index, slice_index_or, Option, Some}
+use Rattle.trend_num.specs.Ranges.{last_time}
+use Rattle.trend_num.specs.declared.archive.Rec.{Rec}
+use Rattle.trend_num.specs.declared.refusal.What.TheVariants.{Cells, Copies}
+use Rattle.trend_num.specs.declared.value.CalcValue.{CalcValue}
+use Rattle.archive_file.specs.declared.failure.ScanNo.{ScanNo}
+use Rattle.archive_file.specs.declared.failure.ScanNo.TheVariants as scan
+use Rattle.disk_model.specs.Calls.{Rose, Shows}
+use Rattle.disk_model.specs.Traces.{Trace}
+use Rattle.sheet_law.specs.declared.grid.Grid.{Grid}
+use Rattle.sheet_law.specs.Scratch.{IsScratch}
+use Rattle.sheet_law.specs.Windows.{complete_windows, window_to}
+use Rattle.calc_refresh.specs.declared.refusal.SheetNo.TheVariants as sheet
+use Rattle.calc_refresh.specs.Lists.{total_length}
+use Rattle.calc_refresh.specs.Refreshed.{most_cells, most_copies, shape_fault}
+use Rattle.calc_refresh.specs.Sheet.{SheetState, grid_of}
+use Rattle.group_layout.specs.Images.{IsGroupDamage}
+use Rattle.group_book.specs.Openings.{IsAhead}
+use Rattle.group_book.specs.Tapes.{cut}
+use Rattle.tag_base.specs.declared.definition.GroupDef.{GroupDef}
+use Rattle.plant_status.specs.declared.mismatch.Place.TheVariants.{Version, Windows}
+use Rattle.plant_status.specs.declared.mismatch.Seen.TheVariants.{Number}
+use Rattle.plant_status.specs.declared.status.Status.{Status}
+use Rattle.plant_status.specs.declared.status.Status.TheVariants.{DeviceFault, Damaged, Limit, Mismatch, WantOfMemory}
+use Rattle.plant_status.specs.declared.unit.Unit.TheVariants.{Group}
+use Rattle.plant_store.specs.Groups.{text_of}
+
+-- the records of each input behind the first ones, of which there are as many as its version says
+abbrev pub behind : List ℕ → List (List Rec) → List (List Rec)
+behind [] rss = []
+behind (v ∷ vs) [] = []
+behind (v ∷ vs) (rs ∷ rss) = drop v rs ∷ behind vs rss
+
+-- no version is above the records of its input
+abbrev pub AreWithin : List ℕ → List (List Rec) → Type 0
+AreWithin versions recovered = (i : ℕ) (rs : List Rec) → i < length versions
+    → slice_index versions i ≤ length (slice_index_or recovered i rs)
+
+-- why what a group's device has saved was not read
+pub data IsSavedRefusal (i : ℕ) (g : GroupDef) (o : Option Trace) (before now : ℕ) (why : Status) : Type 0 where
+  DeviceFails : why ≡ DeviceFault (Group i) → (before < 2 ^ 64 → Rose before now) → IsSavedRefusal i g o before now why
+  DeviceIsDamaged : (at : ℕ) (byte : Option ℕ) → why ≡ Damaged (Group i) at byte
+      → Shows o (λ c. IsGroupDamage (text_of g) (length g.inputs.items) (length g.calcs.calcs) c at byte)
+      → IsSavedRefusal i g o before now why
+  OpeningWants : why ≡ WantOfMemory → IsSavedRefusal i g o before now why
+
+-- a version of the group at place i is above the records of its input, or memory is wanting
+pub data IsAheadRefusal (i : ℕ) (versions : List ℕ) (recovered : List (List Rec)) (why : Status) : Type 0 where
+  VersionIsAhead : (input found version : ℕ) → why ≡ Mismatch (Version i input) (Number found) (Number version)
+      → IsAhead versions recovered input version found → IsAheadRefusal i versions recovered why
+  CopyingWants : why ≡ WantOfMemory → IsAheadRefusal i versions recovered why
+
+-- what a group is answered with whose device is not read
+abbrev pub scan_status : ℕ → ScanNo → Status
+scan_status i scan.DeviceFault = DeviceFault (Group i)
+scan_status i (scan.Damaged at byte) = Damaged (Group i) at byte
+scan_status i scan.WantOfMemory = WantOfMemory
+
+-- why what the group at place i saved makes no sheet: a version is too high, or a row has not one value for each complete window
+pub data IsSheetRefusal (i : ℕ) (g : GroupDef) (versions : List ℕ) (rows : List (List CalcValue)) (recovered : List (List Rec))
+    (why : Status) : Type 0 where
+  OfAhead : IsAheadRefusal i versions recovered why → IsSheetRefusal i g versions rows recovered why
+  OfShape : (windows size : ℕ) → why ≡ Mismatch (Windows i) (Number windows) (Number size)
+      → shape_fault (complete_windows (grid_of g.start g.period) (cut versions recovered)) rows ≡ Some (sheet.Shape windows size)
+      → IsSheetRefusal i g versions rows recovered why
+  SheetWants : why ≡ WantOfMemory → IsSheetRefusal i g versions rows recovered why
+
+-- a sheet has all these records, and rows from scratch stayed so
+pub record IsBroughtUp (old new : SheetState) (recovered : List (List Rec)) : Type 0 where
+  pub group : new.group ≡ old.group
+  pub grid : new.grid ≡ old.grid
+  pub copies : new.copies ≡ recovered
+  pub scratch : IsScratch old.group old.grid old.copies old.rows → IsScratch new.group new.grid new.copies new.rows
+
+-- why a sheet with all these records is refused, of so many calculations on this grid
+pub data IsLimitRefusal (grid : Grid) (calcs : ℕ) (recovered : List (List Rec)) (why : Status) : Type 0 where
+  CellsAreOver : (number : ℕ) → why ≡ Limit Cells number → number ≡ complete_windows grid recovered * calcs → most_cells < number
+      → IsLimitRefusal grid calcs recovered why
+  CopiesAreOver : (number : ℕ) → why ≡ Limit Copies number → number ≡ total_length recovered → most_copies < number
+      → IsLimitRefusal grid calcs recovered why
+  RefreshWants : why ≡ WantOfMemory → IsLimitRefusal grid calcs recovered why
+
+-- why what the group at place i saved is not brought up to all these records
+pub data IsBringRefusal (i : ℕ) (g : GroupDef) (versions : List ℕ) (rows : List (List CalcValue)) (recovered : List (List Rec))
+    (why : Status) : Type 0 where
+  OfSheet : IsSheetRefusal i g versions rows recovered why → IsBringRefusal i g versions rows recovered why
+  OfLimit : IsLimitRefusal (grid_of g.start g.period) (length g.calcs.calcs) recovered why
+      → IsBringRefusal i g versions rows recovered why
+
+-- each of the first so many windows of a group ends at a time
+abbrev pub AreTimes : GroupDef → ℕ → Type 0
+AreTimes g windows = (k : ℕ) → k < windows → window_to (grid_of g.start g.period) k ≤ last_time

@@ -1,3 +1,0 @@
-pub mod Devices
-pub mod Turns
-pub mod Endings

@@ -1,4 +1,0 @@
-pub mod Numbers
-pub mod Links
-pub mod Walking
-pub mod Catching

@@ -1,3 +1,0 @@
-pub mod Agendas
-pub mod Found
-pub mod Tapes

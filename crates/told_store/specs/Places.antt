@@ -1,0 +1,38 @@
+-- What a store of files tells at each name.
+use Rattle.std.specs.Prelude.{ℕ, Bool, false, List, Option, None, Some, String, is_some}
+use Rattle.std.specs.BTreeMap.{BTreeMap, get_by_text}
+use Rattle.std.specs.declared.alloc.Global.{Global}
+use Rattle.disk_model.specs.Traces.{Trace}
+use Rattle.disk_model.specs.Stores.{empty_trace}
+use Rattle.told_store.specs.Notes.{IsFresh, told_by}
+use Rattle.told_store.specs.declared.kept.Kept.{Kept}
+
+-- the devices by name
+abbrev pub Places : Type 0
+Places = BTreeMap (String Global) Kept
+
+-- what is told of a device; of one that is not there, that it is empty
+abbrev pub told_of : Option Kept → Trace
+told_of None = empty_trace
+told_of (Some kept) = told_by kept.log.notes
+
+-- what is told of the device of a name
+abbrev pub told_in : Places → List ℕ → Trace
+told_in places name = told_of (get_by_text places name)
+
+-- there is a place for a device of this name
+abbrev pub is_placed : Places → List ℕ → Bool
+is_placed places name = is_some (get_by_text places name)
+
+-- a device is not handed out: it is out, it has failed, or its file is refused
+abbrev pub stops : Option Kept → Bool
+stops None = false
+stops (Some kept) = kept.is_stopped
+
+-- the same of the device of a name
+abbrev pub is_stopped_in : Places → List ℕ → Bool
+is_stopped_in places name = stops (get_by_text places name)
+
+-- there was no call on any of them since it was read
+abbrev pub AllFresh : Places → Type 0
+AllFresh places = (name : List ℕ) → IsFresh (told_in places name)

@@ -1,0 +1,169 @@
+// The folder of devices as a store.
+ghost use Rattle.std.specs.Prelude.{◌≡◌, ◌≢◌, ℕ, List, IfOk, IsErr, OnErr, OnOk, IsTrue, Some};
+ghost use Rattle.disk_model.specs.Stores.{empty_trace};
+ghost use Rattle.told_store.specs.Notes.{IsFresh, told_by};
+ghost use Rattle.told_store.specs.Places.{AllFresh, is_placed, is_stopped_in, told_in};
+
+use crate::folder::{FOLDER, lock_folder, lock_or_make, open_device, read_device};
+use crate::host::Host;
+use crate::kept::Kept;
+use crate::places::{exchange, insert, is_stopped, make_place};
+use crate::told_disk::DirDisk;
+use disk_model::{Failed, Store};
+use std::collections::BTreeMap;
+use std::fs::{self, File};
+use std::io::{self, ErrorKind};
+use std::rt::Files;
+
+/// The files of the folder `historian.d`, which lies in the working folder and is made where it is missing. A device's name is its
+/// file's. A device that is out, one that has failed, and one whose file is refused, is not handed out.
+#[derive(Drop)]
+pub struct DirStore<R> {
+    rt: R,
+    folder: Option<File>,
+    pub(crate) places: BTreeMap<String, Kept>,
+    pub(crate) faults: u64,
+    is_refused: bool,
+}
+
+impl<R: Files<File = File> + AllocGlobal> DirStore<R> {
+    ghost use Rattle.told_store.specs.Folders.{told_at, folder_faults};
+
+    /// The folder, of which nothing is read: each device is told as empty, and refused where its file has a byte.
+    pub fn new(rt: R) -> DirStore<R>
+        ensures told { (n : List ℕ) → told_at result n ≡ empty_trace }
+        ensures faults { folder_faults result ≡ 0 }
+    {
+        let places = BTreeMap::new(rt.alloc());
+        DirStore {
+            rt,
+            folder: None,
+            places,
+            faults: 0,
+            is_refused: false,
+        }
+    }
+
+    /// The folder, locked, with each device as it reads now. Where another process has the folder, or it cannot be read, each device
+    /// is refused.
+    pub fn read(rt: R) -> DirStore<R>
+    where
+        R: Clone + Drop,
+        ensures told { (n : List ℕ) → IsFresh (told_at result n) }
+        ensures faults { folder_faults result ≡ 0 }
+    {
+        let mut store = DirStore::new(rt);
+        store.is_refused = store.read_all().is_err();
+        store
+    }
+
+    // Locks the folder where there is one, and reads its devices.
+    fn read_all(&mut self) -> io::Result<()>
+    where
+        R: Clone + Drop,
+        requires { AllFresh self.old.places }
+        ensures told { AllFresh self.new.places }
+        ensures faults { self.new.faults ≡ self.old.faults }
+    {
+        let Some(folder) = lock_folder(&self.rt)? else {
+            return Ok(());
+        };
+        self.folder = Some(folder);
+        read_devices(&self.rt, &mut self.places)
+    }
+
+    // The device of a name, over its file.
+    fn hand_out(&mut self, name: &str) -> io::Result<DirDisk<Host<File>>>
+        ensures told { IfOk result (λ dev. told_by dev.calls.log.notes ≡ told_in self.old.places name.now) }
+        ensures faultless { IfOk result (λ dev. dev.counts.faults ≡ 0) }
+        ensures place { OnOk result (IsTrue (is_placed self.new.places name.now)) }
+        ensures places { (n : List ℕ) → IsTrue (is_placed self.old.places n) → IsTrue (is_placed self.new.places n) }
+        ensures other_places { (n : List ℕ) → n ≢ name.now → is_placed self.new.places n ≡ is_placed self.old.places n }
+        ensures others { (n : List ℕ) → n ≢ name.now → told_in self.new.places n ≡ told_in self.old.places n }
+        ensures unchanged { OnErr result ((n : List ℕ) → told_in self.new.places n ≡ told_in self.old.places n) }
+        ensures stopped { IsTrue (is_stopped_in self.old.places name.now) → IsErr result }
+        ensures out { OnOk result (IsTrue (is_stopped_in self.new.places name.now)) }
+        ensures faults { self.new.faults ≡ self.old.faults }
+    {
+        if self.is_refused || is_stopped(&self.places, name) {
+            return Err(ErrorKind::ResourceBusy.into());
+        }
+        if self.folder.is_none() {
+            self.folder = Some(lock_or_make(&self.rt)?);
+        }
+        let alloc = self.rt.alloc();
+        make_place(alloc, &mut self.places, name)?;
+        let file = open_device(&self.rt, alloc, &self.folder, self.places.get(name), name)?;
+        match exchange(&mut self.places, name, Kept::stopped(alloc)) {
+            Some(kept) => Ok(kept.over(file)),
+            None => Err(ErrorKind::NotFound.into()),
+        }
+    }
+}
+
+// Reads the devices of the folder.
+fn read_devices<R: Files<File = File> + AllocGlobal + Clone + Drop>(
+    rt: &R,
+    places: &mut BTreeMap<String, Kept>,
+) -> io::Result<()>
+    requires { AllFresh places.old }
+    ensures { AllFresh places.new }
+{
+    for entry in fs::read_dir(rt, FOLDER)? {
+        match entry {
+            Ok(entry) => keep(rt, places, entry.file_name())?,
+            // No device has such a name.
+            Err(error) if error.kind() == ErrorKind::InvalidFilename => {}
+            Err(error) => return Err(error),
+        }
+    }
+    Ok(())
+}
+
+// Reads a file of the folder, if it is a device.
+fn keep<R: Files<File = File> + AllocGlobal>(
+    rt: &R,
+    places: &mut BTreeMap<String, Kept>,
+    name: &str,
+) -> io::Result<()>
+    requires { AllFresh places.old }
+    ensures { AllFresh places.new }
+{
+    if !is_device(name) {
+        return Ok(());
+    }
+    let alloc = rt.alloc();
+    let kept = Kept::of_file(alloc, read_device(rt, alloc, name));
+    insert(alloc, places, name, kept)?;
+    Ok(())
+}
+
+// A tag's device, a group's, or the log of the plant.
+fn is_device(name: &str) -> bool {
+    name.ends_with(".tag") || name.ends_with(".grp") || name == "plant.log"
+}
+
+impl<R: Files<File = File> + AllocGlobal> Store for DirStore<R> {
+    ghost use Rattle.told_store.specs.Folders.{told_at, folder_faults};
+
+    type Dev = DirDisk<Host<File>>;
+
+    ghost device_at = { λ s n. Some (told_at s n) };
+
+    ghost has_place = { λ s n. is_placed s.places n };
+
+    ghost fault_count = { folder_faults };
+
+    fn device(&mut self, name: &str) -> Result<DirDisk<Host<File>>, Failed> {
+        if let Ok(dev) = self.hand_out(name) {
+            return Ok(dev);
+        }
+        self.faults = self.faults.saturating_add(1);
+        Err(Failed)
+    }
+
+    fn give_back(&mut self, name: &str, dev: DirDisk<Host<File>>) {
+        self.faults = self.faults.saturating_add(dev.counts.faults);
+        let _ = exchange(&mut self.places, name, Kept::of(dev));
+    }
+}

@@ -1,0 +1,75 @@
+// A real file. Each method makes the one call that it notes, so these lines are to be read: no clause says that they do.
+ghost use Rattle.std.specs.Prelude.{◌≡◌, is_ok, if◌then◌else◌};
+ghost use Rattle.told_store.specs.Notes.{read_as, told_by};
+
+use crate::calls::Calls;
+use crate::record::Record;
+use std::fs::OpenFile;
+use std::io;
+use std::os::unix::fs::FileExt;
+
+const READ: u64 = 0;
+
+const WRITTEN: u64 = 1;
+
+const WRITTEN_IN_PART: u64 = 2;
+
+const RESIZED: u64 = 3;
+
+const RESIZED_IN_PART: u64 = 4;
+
+const FLUSHED: u64 = 5;
+
+const RESTED: u64 = 6;
+
+/// An open file, and the record of the calls on it.
+#[derive(Drop)]
+pub struct Host<F> {
+    pub(crate) file: F,
+    pub(crate) log: Record,
+}
+
+/// The record of a file of which these bytes were just read, and nothing but these.
+pub(crate) fn record_of(bytes: &[u8]) -> Record
+    ensures { told_by result.notes ≡ read_as bytes.now }
+{
+    let mut log = Record::new();
+    log.note(&[READ, 0], bytes);
+    log
+}
+
+// The kind of a call that was made, or that failed.
+fn kind(answer: &io::Result<()>, made: u64, failed: u64) -> u64
+    ensures { result ≡ (if is_ok answer.now then made else failed) }
+{
+    if answer.is_ok() { made } else { failed }
+}
+
+impl<F: OpenFile + FileExt> Calls for Host<F> {
+    ghost told = { λ h. told_by h.log.notes };
+
+    fn write_all(&mut self, at: u64, bytes: &[u8]) -> io::Result<()> {
+        let answer = self.file.write_all_at(bytes, at);
+        let call = kind(&answer, WRITTEN, WRITTEN_IN_PART);
+        self.log.note(&[call, at], bytes);
+        answer
+    }
+
+    fn resize(&mut self, len: u64) -> io::Result<()> {
+        let answer = self.file.set_len(len);
+        let call = kind(&answer, RESIZED, RESIZED_IN_PART);
+        self.log.note(&[call, len], &[]);
+        answer
+    }
+
+    fn flush(&mut self) -> io::Result<()> {
+        let answer = self.file.sync_data();
+        let call = kind(&answer, FLUSHED, RESTED);
+        self.log.note(&[call, 0], &[]);
+        answer
+    }
+
+    fn rest(&mut self) {
+        self.log.note(&[RESTED, 0], &[]);
+    }
+}

@@ -1,0 +1,34 @@
+// A list of calls that only clauses read.
+ghost use Rattle.std.specs.Prelude.{◌≡◌, List, [], ◌∷◌};
+ghost use Rattle.std.specs.Borrow.{ftrue};
+ghost use Rattle.told_store.specs.Notes.{Note, note_of};
+
+use std::marker::{Model, PhantomData};
+
+/// The calls that were made on a file, the newest first. It takes no memory. Nothing but the code that notes says what it holds, so
+/// that code has to be read.
+#[derive(Drop)]
+pub struct Record {
+    marker: PhantomData<u8>,
+    pub ghost notes: { List Note },
+}
+
+impl Model for Record {
+    ghost also_owns = { λ _. ftrue };
+}
+
+impl Record {
+    /// Of no call.
+    pub(crate) fn new() -> Record
+        ensures { result.notes ≡ [] }
+    {
+        Record {
+            marker: PhantomData,
+        }
+    }
+
+    /// Notes a call: which one it was and its number, and its bytes.
+    pub(crate) fn note(&mut self, _numbers: &[u64], _bytes: &[u8])
+        ensures { self.new.notes ≡ note_of _numbers.now _bytes.now ∷ self.old.notes }
+    {}
+}

@@ -1,0 +1,207 @@
+// A file as a device, which is read from memory.
+ghost use Rattle.std.specs.Prelude.{◌≡◌, ◌+◌, ◌-◌, ◌^◌, ◌<◌, ◌≤◌, ◌↔◌, length, vec_len, vec_capacity, IsTrue, IsFalse, IsErr, IfOk, OnOk, OnErr, Some};
+ghost use Rattle.disk_model.specs.Traces.{Wrote, WroteInPart, Resized, ResizedInPart, Synced, Idle, seen, written};
+ghost use Rattle.disk_model.specs.Calls.{next_count, Rose, HasCause, HasLength, IsNoted, IsTimed, Reaches, Reads};
+
+use crate::calls::Calls;
+use disk_model::{Disk, Failed};
+
+// How many writes, cuts and syncs there were, how many calls have failed, and whether a write, a cut or a sync was among these.
+// A count stays at the end of its type.
+#[derive(Drop)]
+pub(crate) struct Counts {
+    pub(crate) ticks: u64,
+    pub(crate) faults: u64,
+    pub(crate) is_stopped: bool,
+}
+
+impl Counts {
+    // Lets the clock go on, and says whether it did.
+    fn tick(&mut self) -> bool
+        ensures told { IsTrue result ↔ (self.old.ticks < 2 ^ 64 - 1) }
+        ensures timed { self.new ≡ record self.old { ticks = next_count self.old.ticks } }
+        ensures stays { IsFalse result → self.new ≡ self.old }
+    {
+        if self.ticks == u64::MAX {
+            return false;
+        }
+        self.ticks += 1;
+        true
+    }
+
+    // Counts a fault, and tells it.
+    fn fault(&mut self) -> Failed
+        ensures counted { self.new ≡ record self.old { faults = next_count self.old.faults } }
+        ensures later { self.old.faults ≤ self.new.faults }
+        ensures rose { Rose self.old.faults self.new.faults }
+    {
+        self.faults = self.faults.saturating_add(1);
+        Failed
+    }
+
+    // Counts a fault after which no call is made, and tells it.
+    fn stop(&mut self) -> Failed
+        ensures ticks { self.new.ticks ≡ self.old.ticks }
+        ensures later { self.old.faults ≤ self.new.faults }
+        ensures rose { Rose self.old.faults self.new.faults }
+        ensures stopped { IsTrue self.new.is_stopped }
+    {
+        self.is_stopped = true;
+        self.fault()
+    }
+}
+
+/// A file as a device. Its bytes were read once, and stand in memory since: `len` and `read` make no call on the file, so no answer
+/// of the file is believed twice. Once a write, a cut or a sync has failed each later call fails: what the file holds then is not
+/// known, and a sync that fails may be told once and never again.
+#[derive(Drop)]
+pub struct DirDisk<C: Calls> {
+    pub(crate) calls: C,
+    pub(crate) mirror: Vec<u8>,
+    pub(crate) counts: Counts,
+    ghost mirrored: { mirror.items ≡ seen (Some (C.told calls)) },
+    ghost counted: { length (C.told calls).calls ≡ counts.ticks },
+}
+
+// How many of so many bytes from `at` on lie past the end.
+fn beyond(held: &[u8], at: u64, count: usize) -> usize
+    requires { at ≤ length held.now }
+    ensures { result ≡ at + count - length held.now }
+{
+    let behind = held.len() - at as usize;
+    count.saturating_sub(behind)
+}
+
+// Writes bytes over what is there and past the end. There is room for them.
+fn put(held: &mut Vec<u8>, at: u64, bytes: &[u8])
+    requires place { at ≤ length held.old.items }
+    requires room { vec_len held.old + (at + length bytes.now - vec_len held.old) ≤ vec_capacity held.old }
+    ensures { held.new.items ≡ written held.old.items at bytes.now }
+{
+    let at = at as usize;
+    let over = bytes.len().min(held.len() - at);
+    let Ok(()) = held.extend_from_slice(&bytes[over..]) else {
+        unreachable!();
+    };
+    held[at..at + over].copy_from_slice(&bytes[..over]);
+}
+
+impl<C: Calls> Disk for DirDisk<C> {
+    ghost trace = { λ d. Some (C.told d.calls) };
+
+    ghost ticks = { λ d. d.counts.ticks };
+
+    ghost fault_count = { λ d. d.counts.faults };
+
+    ghost told = { λ d. d.counted };
+
+    fn len(&mut self) -> Result<u64, Failed>
+        ensures length { IfOk result (HasLength (Some (C.told self.old.calls))) }
+        ensures same { Some (C.told self.new.calls) ≡ Some (C.told self.old.calls) }
+        ensures untimed { self.new.counts.ticks ≡ self.old.counts.ticks }
+        ensures cause { HasCause self.old.counts.faults self.new.counts.faults result }
+        ensures fails { IsErr result ↔ IsTrue self.old.counts.is_stopped }
+        ensures stopped { self.new.counts.is_stopped ≡ self.old.counts.is_stopped }
+    {
+        if self.counts.is_stopped {
+            return Err(self.counts.fault());
+        }
+        Ok(self.mirror.len() as u64)
+    }
+
+    fn read(&mut self, at: u64, buf: &mut [u8]) -> Result<(), Failed>
+        requires { Reaches (Some (C.told self.old.calls)) (at + length buf.old) }
+        ensures bytes { OnOk result (Reads (Some (C.told self.old.calls)) at buf.new) }
+        ensures same { Some (C.told self.new.calls) ≡ Some (C.told self.old.calls) }
+        ensures untimed { self.new.counts.ticks ≡ self.old.counts.ticks }
+        ensures cause { HasCause self.old.counts.faults self.new.counts.faults result }
+        ensures fails { IsErr result ↔ IsTrue self.old.counts.is_stopped }
+        ensures stopped { self.new.counts.is_stopped ≡ self.old.counts.is_stopped }
+    {
+        if self.counts.is_stopped {
+            return Err(self.counts.fault());
+        }
+        let at = at as usize;
+        buf.copy_from_slice(&self.mirror[at..at + buf.len()]);
+        Ok(())
+    }
+
+    /// It fails also where there is no memory for the bytes; then no call was made.
+    fn write_at(&mut self, at: u64, bytes: &[u8]) -> Result<(), Failed>
+        requires { Reaches (Some (C.told self.old.calls)) at }
+        ensures noted { IsNoted (Wrote at bytes.now) (WroteInPart at bytes.now) result
+            (Some (C.told self.old.calls)) (Some (C.told self.new.calls)) }
+        ensures clock { IsTimed self.old.counts.ticks self.new.counts.ticks result }
+        ensures cause { HasCause self.old.counts.faults self.new.counts.faults result }
+        ensures fails { IsTrue self.old.counts.is_stopped → IsErr result }
+        ensures stops { OnErr result (IsTrue self.new.counts.is_stopped) }
+    {
+        if !self.counts.tick() {
+            return Err(self.counts.stop());
+        }
+        let more = beyond(&self.mirror, at, bytes.len());
+        if self.counts.is_stopped || self.mirror.reserve(more).is_err() {
+            self.calls.rest();
+            return Err(self.counts.stop());
+        }
+        if self.calls.write_all(at, bytes).is_err() {
+            return Err(self.counts.stop());
+        }
+        put(&mut self.mirror, at, bytes);
+        Ok(())
+    }
+
+    /// It fails also where there is no memory for the zeros; then no call was made.
+    fn cut(&mut self, len: u64) -> Result<(), Failed>
+        ensures noted { IsNoted (Resized len) (ResizedInPart len) result
+            (Some (C.told self.old.calls)) (Some (C.told self.new.calls)) }
+        ensures clock { IsTimed self.old.counts.ticks self.new.counts.ticks result }
+        ensures cause { HasCause self.old.counts.faults self.new.counts.faults result }
+        ensures fails { IsTrue self.old.counts.is_stopped → IsErr result }
+        ensures stops { OnErr result (IsTrue self.new.counts.is_stopped) }
+    {
+        if !self.counts.tick() {
+            return Err(self.counts.stop());
+        }
+        let more = (len as usize).saturating_sub(self.mirror.len());
+        if self.counts.is_stopped || self.mirror.reserve(more).is_err() {
+            self.calls.rest();
+            return Err(self.counts.stop());
+        }
+        if self.calls.resize(len).is_err() {
+            return Err(self.counts.stop());
+        }
+        let Ok(()) = self.mirror.resize(len as usize, 0) else {
+            unreachable!();
+        };
+        Ok(())
+    }
+
+    fn sync(&mut self) -> Result<(), Failed>
+        ensures noted { IsNoted Synced Idle result (Some (C.told self.old.calls)) (Some (C.told self.new.calls)) }
+        ensures clock { IsTimed self.old.counts.ticks self.new.counts.ticks result }
+        ensures cause { HasCause self.old.counts.faults self.new.counts.faults result }
+        ensures fails { IsTrue self.old.counts.is_stopped → IsErr result }
+        ensures stops { OnErr result (IsTrue self.new.counts.is_stopped) }
+    {
+        if !self.counts.tick() {
+            return Err(self.counts.stop());
+        }
+        if self.counts.is_stopped {
+            self.calls.rest();
+            return Err(self.counts.stop());
+        }
+        if self.calls.flush().is_err() {
+            return Err(self.counts.stop());
+        }
+        Ok(())
+    }
+
+    fn clock(&self) -> u64 {
+        self.counts.ticks
+    }
+
+    fn faults(&self) -> u64 {
+        self.counts.faults
+    }
+}

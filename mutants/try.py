@@ -1,0 +1,72 @@
+#!/usr/bin/env python3
+"""Tries mutants: small edits, each of which turns the meaning of a body, and which the prover must refuse.
+
+    python3 mutants/try.py [CRATE ..]
+
+A mutant stands in mutants/CRATE/NAME.edit, in the form of the edits in crates/CRATE/must-fail/, which the gate tries itself.
+This tries the mutants of the crates that are named, or of all, in a copy of the repository; nothing here is changed. It prints
+each mutant that is not refused or cannot be tried, then how many there were, and ends with status 1 if there was one.
+
+The copy is proved by `rt ci`, which takes over what it proved on this machine before: after a gate only the mutants take
+time, some 30 seconds of a processor each, and a check of each crate. Run it before you change a contract, and over all crates
+at the end of a piece of work.
+"""
+import re
+import shutil
+import subprocess
+import sys
+import tempfile
+from pathlib import Path
+
+TOP = Path(__file__).resolve().parent.parent
+MUTANTS = TOP / "mutants"
+VERDICT = re.compile(r"must-fail (\w+)/([\w.-]+\.edit): (refused|NOT REFUSED|BAD EDIT|.*)")
+
+
+def crates_with_mutants():
+    """The crates that have mutants, in the order of their names."""
+    return sorted(folder.name for folder in MUTANTS.iterdir() if any(folder.glob("*.edit")))
+
+
+def copy_repository(scratch, crates):
+    """Copies what `rt ci` reads, with the mutants of these crates in place of all edits."""
+    for name in ("crates.txt", "HANDLES"):
+        shutil.copy(TOP / name, scratch / name)
+    shutil.copytree(TOP / "crates", scratch / "crates", ignore=shutil.ignore_patterns("out", "must-fail"))
+    for crate in crates:
+        shutil.copytree(MUTANTS / crate, scratch / "crates" / crate / "must-fail")
+
+
+def verdicts(scratch, crates):
+    """What `rt ci` says of each mutant, by crate and name. A mutant that it does not name was not tried."""
+    run = subprocess.run(["rt", "ci", *crates], cwd=scratch, stdout=subprocess.PIPE, stderr=subprocess.STDOUT, text=True, errors="replace")
+    told = {}
+    for line in run.stdout.splitlines():
+        found = VERDICT.search(line)
+        if found:
+            told[found[1], found[2]] = found[3]
+    if not told:
+        print(run.stdout[-4000:])
+    return told
+
+
+def main(crates):
+    unknown = [crate for crate in crates if crate not in crates_with_mutants()]
+    if unknown:
+        print(f"no mutants of {', '.join(unknown)}: these crates have some: {' '.join(crates_with_mutants())}")
+        return 2
+    crates = crates or crates_with_mutants()
+    with tempfile.TemporaryDirectory(prefix="mutants-") as folder:
+        scratch = Path(folder)
+        copy_repository(scratch, crates)
+        told = verdicts(scratch, crates)
+    tried = [(crate, mutant.name) for crate in crates for mutant in sorted((MUTANTS / crate).glob("*.edit"))]
+    lost = [it for it in tried if not told.get(it, "").startswith("refused")]
+    for crate, name in lost:
+        print(f"{crate}/{name}: {told.get((crate, name), 'not tried')[:200]}")
+    print(f"{len(tried) - len(lost)} passed, {len(lost)} failed")
+    return 1 if lost else 0
+
+
+if __name__ == "__main__":
+    sys.exit(main(sys.argv[1:]))

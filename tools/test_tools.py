@@ -1,0 +1,75 @@
+#!/usr/bin/env python3
+"""test_tools.py --program PATH [--long] [--only NAME ..]: tests of the tools with a built historian, mainly by killing.
+
+The short form (two minutes at most) kills twenty times at random moments and at some of the program's and the feeder's calls; --long
+kills 300 times at random moments, and at each n-th write and sync of the program and each n-th sync, rename and removal of the feeder
+where strace is there. Each time the lines of `check` and the replies of `trend` have to be those of a plant that was never stopped,
+which the program makes by hand of the same rows. It prints a line for each case, and last `N passed, N failed`."""
+import argparse
+import concurrent.futures
+import os
+import shlex
+import shutil
+import sys
+import tempfile
+import time
+import traceback
+
+sys.dont_write_bytecode = True
+HERE = os.path.dirname(os.path.abspath(__file__))
+sys.path[:0] = [HERE, os.path.join(HERE, "testing")]
+import daily  # noqa: E402
+import keeping  # noqa: E402
+import kills  # noqa: E402
+import stops  # noqa: E402
+
+
+def program_of(text):
+    """The program's command with its first word as a path, or None if there is no such program."""
+    words = shlex.split(text)
+    found = shutil.which(words[0]) if words else None
+    return " ".join([os.path.abspath(found)] + words[1:]) if found else None
+
+
+def result_of(case, program, settings):
+    """Runs a case in a fresh folder: whether it passed, and a line for it."""
+    start = time.monotonic()
+    with tempfile.TemporaryDirectory(prefix="tools-") as folder:
+        try:
+            note = case(folder, program, settings)
+        except Exception:
+            return False, "%s FAILED:\n%s" % (case.__name__, traceback.format_exc())
+    return True, "%-34s %6.1f s  %s" % (case.__name__, time.monotonic() - start, note or "")
+
+
+def main():
+    parser = argparse.ArgumentParser(description=__doc__, formatter_class=argparse.RawDescriptionHelpFormatter)
+    parser.add_argument("--program", default="historian", help="the built historian (default: on the path)")
+    parser.add_argument("--long", action="store_true", help="300 kills, and one at each call")
+    parser.add_argument("--kills", type=int, help="another number of kills at random moments")
+    parser.add_argument("--longest", type=float, default=1.5, help="seconds until a kill at a random moment, at most")
+    parser.add_argument("--seed", type=int, default=1, help="of the random moments")
+    parser.add_argument("--jobs", type=int, default=min(4, os.cpu_count() or 1), help="cases beside each other")
+    parser.add_argument("--only", nargs="+", default=[], metavar="NAME", help="the cases whose names begin so")
+    settings = parser.parse_args()
+    settings.kills = settings.kills or (300 if settings.long else 20)
+    program = program_of(settings.program)
+    if program is None:
+        print("there is no program %r: build it with `rt run` in crates/historian, or give its path with --program" % settings.program)
+        print("0 passed, 1 failed")
+        return 1
+    cases = kills.CASES + stops.CASES + daily.CASES + keeping.CASES
+    if settings.only:
+        cases = [case for case in cases if case.__name__.startswith(tuple(settings.only))]
+    results = []
+    with concurrent.futures.ThreadPoolExecutor(settings.jobs) as pool:
+        for passed, line in pool.map(lambda case: result_of(case, program, settings), cases):
+            results.append(passed)
+            sys.__stdout__.write(line.rstrip() + "\n")
+            sys.__stdout__.flush()
+    sys.__stdout__.write("%d passed, %d failed\n" % (results.count(True), results.count(False)))
+    return 0 if results and all(results) else 1
+
+
+if __name__ == "__main__":
+    sys.exit(main())

@@ -1,0 +1,185 @@
+"""daily.py: tests of what comes into a plant every day: times and decimals, refused rows, half-written files, wrong clocks, the same
+file twice, and what is told in words."""
+import csv
+import os
+import re
+import shutil
+import subprocess
+import time
+import zoneinfo
+
+import rows
+from trial import GROUP, Trial, base_text, check_same, two_blocks
+
+
+NOW = 1000 * int(time.time())
+
+
+def refused(do, *given):
+    """The reason for which a field is refused."""
+    try:
+        return "taken as %r" % (do(*given),)
+    except rows.BadField as why:
+        return str(why)
+
+
+def times_and_decimals(folder, program, settings):
+    """Each text as it is stored, or why not."""
+    zones = zoneinfo.available_timezones()  # none where the machine has no time zones
+    for text, zone, wanted in [
+            ("2024-03-30T10:00:00+01:00", None, 1_711_789_200_000), ("2024-03-30 09:00:00.1239Z", None, 1_711_789_200_123),
+            ("2024-03-30T10:00", "Europe/Berlin", 1_711_789_200_000), ("1711789200000", None, 1_711_789_200_000), ("0", None, 0),
+            ("2024-10-27T02:59:59+02:00", "Europe/Berlin", 1_729_990_799_000)]:
+        assert zone and zone not in zones or rows.milliseconds(text, zone) == wanted, text
+    for text, zone, why in [
+            ("2024-03-30T10:00", None, "without an offset"), ("2024-10-27T02:30", "Europe/Berlin", "twice or never"),
+            ("2024-03-31T02:30", "Europe/Berlin", "twice or never"), ("yesterday", None, "no ISO time"), ("-5", None, "no ISO time"),
+            ("1969-12-31T23:59:59Z", None, "before 1970"), ("9" * 30, None, "after 9999"), ("", None, "no ISO time")]:
+        assert zone and zone not in zones or why in refused(rows.milliseconds, text, zone), text
+    for text, scale, wanted in [("48.703", 100, 4870), ("48.705", 100, 4871), ("-48.705", 100, -4871), ("0.004", 100, 0), (".5", 10, 5),
+                                ("7", None, 7), ("7.00", None, 7), ("1.25E2", 1, 125), ("5e-1", 1, 1), ("-0.5", 1, -1), ("+3.", 1, 3)]:
+        assert rows.whole_value(text, scale) == wanted, (text, rows.whole_value(text, scale))
+    for text, scale, why in [("7.5", None, "no scale"), ("Bad", 1, "no number"), ("", 1, "no number"), ("1,5", 1, "no number"),
+                             ("nan", 1, "no number"), ("1e16", 1, "too large"), ("9" * 400, 1, "no number")]:
+        assert why in refused(rows.whole_value, text, scale), (text, refused(rows.whole_value, text, scale))
+    assert rows.whole_value("48,7", 10, ",") == 487 and "no number" in refused(rows.whole_value, "1.048", 10, ",")
+    assert [rows.decimal_text(v, s) for v, s in ((-4870, 100), (5, 1000), (7, 1), (3, 8))] == ["-48.70", "0.005", "7", "0.375"]
+    assert rows.iso_text(1_711_789_200_123, None) == "2024-03-30T09:00:00.123Z"
+    assert not zones or rows.iso_text(1_711_789_200_123, "Europe/Berlin") == "2024-03-30T10:00:00.123+01:00"
+
+
+def refused_rows(folder, program, settings):
+    """Bad rows go to refused/ with number and reason, all others are stored; corrected there, the file can be fed."""
+    trial = Trial(os.path.join(folder, "a"), program)
+    trial.write("inbox/x.csv", "FIC1.PV,2024-03-29T00:00:00Z,1.50\nNOBODY,2024-03-29T00:00:00Z,1\nFIC1.PV,2024-03-29T00:01:00Z\n\n"
+                "LIC4.PV,soon,4\nLIC4.PV,2024-03-29T00:02:00Z,\"4\nFIC1.PV,2024-03-29T00:03:00Z,\"2.50\"\n"
+                "TIC3.PV,2024-03-29T00:03:00Z,Bad\n")
+    trial.write("inbox/y.csv", "time,TIC3.PV,LIC4.PV\r\n2024-03-29T00:00:00Z,1.5,\r\n2024-03-29T00:01:00Z,I/O,7\r\n"
+                "2024-03-29T00:02:00Z,1\r\n")
+    text = trial.fed()
+    assert "4 values of 3 tags stored, 7 refused" in text and "x.csv row 2: NOBODY: the base has no tag" in text, text
+    with open(trial.path("refused/000001/x.csv"), newline="") as kept:
+        reasons = {int(row[3]): row[4] for row in list(csv.reader(kept))[1:]}
+    for number, why in {2: "no tag", 3: "2 fields", 5: "no ISO time", 6: "a quote is not closed", 8: "no number"}.items():
+        assert why in reasons[number], (number, reasons)
+    taken = dict(re.findall(r"tag (\S+) taken=(\d+)", trial.by_hand("check", "base.toml")))
+    assert (taken["FIC1.PV"], taken["TIC3.PV"], taken["LIC4.PV"]) == ("2", "1", "1"), taken
+    mended = trial.read("refused/000001/y.csv").replace("I/O", "1.625")
+    trial.write("inbox/y-mended.csv", "".join(line + "\n" for line in mended.splitlines() if "fields" not in line))
+    assert "1 values of 1 tags stored, 0 refused" in trial.fed()
+    assert "tag TIC3.PV taken=2 records=1 kept=1 late=0 held=1711670460000,1625" in trial.by_hand("check", "base.toml")
+
+
+def no_scale_no_decimals(folder, program, settings):
+    """A decimal of a tag without a scale is refused, not rounded away; `engunits = "0.01 degC"` in the base is a scale."""
+    trial = Trial(os.path.join(folder, "a"), program)
+    trial.write("base.toml", base_text(names=("FIC1.PV",)).replace("exc_dev", 'engunits = "0.01 degC"\nexc_dev', 1).replace(GROUP, "")
+                + base_text(names=("LIC4.PV",), group=""))
+    trial.write("feed.toml", "settle_seconds = 0\n")
+    trial.write("inbox/x.csv", "FIC1.PV,5,1.239\nLIC4.PV,5,1.2\nLIC4.PV,6,3\n")
+    assert "2 values of 2 tags stored, 1 refused" in trial.fed()
+    assert "held=5,124\n" in trial.by_hand("check", "base.toml") and "held=6,3\n" in trial.by_hand("check", "base.toml")
+
+
+def half_written_file(folder, program, settings):
+    """A file without a line end at its end, a file that changes just now and one of another name stay; whole, they are fed."""
+    trial = Trial(os.path.join(folder, "a"), program)
+    trial.write("feed.toml", trial.read("feed.toml").replace("settle_seconds = 0", "settle_seconds = 3600"))
+    trial.write("inbox/x.csv", "LIC4.PV,1000,5\nLIC4.PV,2000,6")
+    os.utime(trial.path("inbox/x.csv"), (1, 1))
+    trial.write("inbox/y.csv.part", "LIC4.PV,1000,5\n")
+    text = trial.fed()
+    assert "x.csv stays in the inbox" in text and sorted(os.listdir(trial.path("inbox"))) == ["x.csv", "y.csv.part"], text
+    assert not os.path.exists(trial.path("historian.d", "LIC4.PV.tag"))
+    trial.write("inbox/x.csv", "LIC4.PV,1000,5\nLIC4.PV,2000,61\n")
+    os.utime(trial.path("inbox/x.csv"), (1, 1))
+    assert "2 values of 1 tags stored" in trial.fed()
+    assert "held=2000,61" in trial.by_hand("check", "base.toml")
+
+
+def written_to_while_fed(folder, program, settings):
+    """Rows that are added to a file while it is fed are not lost: it goes to refused/, and that is said."""
+    trial = Trial(os.path.join(folder, "a"), program)
+    trial.write("inbox/x.csv", "FIC1.PV,1000,5\nFIC1.PV,2000,6\n")
+    status, text = trial.feed(how="append")
+    assert status == 0 and "x.csv was written to while it was fed: the first 2 values are stored" in text, text
+    assert len(trial.read("refused/000001/x.csv.changed").splitlines()) == 3 and not os.listdir(trial.path("inbox"))
+
+
+def wrong_clock(folder, program, settings):
+    """A value from the future is refused, so the ones that come after it are not late."""
+    trial = Trial(os.path.join(folder, "a"), program)
+    stamps = [NOW - 120_000, NOW + 20_000, NOW + 600_000, 253_402_300_799_999, NOW + 21_000]
+    trial.write("inbox/x.csv", "".join("LIC4.PV,%d,%d\n" % (t, 10 * n) for n, t in enumerate(stamps)))
+    text = trial.fed()
+    assert "3 values of 1 tags stored, 2 refused" in text and "later than the clock by more than 60000 ms" in text, text
+    assert "taken=3 " in trial.by_hand("check", "base.toml").split("LIC4.PV")[1]
+    assert "late=0 held=%d,40" % stamps[-1] in trial.by_hand("check", "base.toml")
+
+
+def same_file_twice(folder, program, settings):
+    """The bytes of a file are fed once, whatever its name is the second time."""
+    trial, wanted = two_blocks(folder, program)
+    trial.fed()
+    shutil.copy(trial.path("done/000001/00-a.csv"), trial.path("inbox/00-a.csv"))
+    shutil.copy(trial.path("done/000002/01-b.csv"), trial.path("inbox/again.csv"))
+    text = trial.fed()
+    assert "again.csv has the bytes of 01-b.csv, which was fed in turn 2" in text and "2 files, 0 values" in text, text
+    check_same(trial.answers(), wanted, "after the same files came again")
+    assert sorted(os.listdir(trial.path("refused/000003"))) == ["00-a.csv", "again.csv"]
+
+
+def faults_in_words(folder, program, settings):
+    """A base that the program refuses, a program that is not there, a folder that is no plant: a clear line, and nothing is touched."""
+    trial = Trial(os.path.join(folder, "a"), program)
+    trial.deliver(0)
+    trial.write("base.toml", base_text().replace("exc_dev = 10", "exc_dev = -10", 2).replace("exc_dev = -10", "exc_dev = 10", 1))
+    status, text = trial.feed()
+    assert status == 3 and "rule 5 place 1" in text and "(tag FIC2.PV)" in text and "docs/FORMATS.md" in text, (status, text)
+    assert len(os.listdir(trial.path("inbox"))) == 2 and not os.path.exists(trial.path("feed.d/base.new.toml"))
+    trial.write("base.toml", base_text())
+    program, trial.program = trial.program, "/nowhere/historian"
+    status, text = trial.feed()
+    assert status == 127 and "--program" in text, (status, text)
+    trial.program = program
+    trial.write("feed.toml", 'inbocks = "x"\n')
+    assert trial.feed()[0] == 22 and "no setting 'inbocks'" in trial.feed()[1]
+    trial.folder = os.path.join(folder, "empty")
+    os.makedirs(trial.folder)
+    status, text = trial.feed()
+    assert status == 22 and "no base.toml" in text and os.listdir(trial.folder) == [], (status, text)
+    for tool in ("ask.py", "draw.py"):
+        status, text = trial.tool(tool, *["snap,FIC1.PV"] if tool == "ask.py" else ["FIC1.PV", "0", "1", "x.svg"])
+        assert status == 22 and "there are no devices" in text, (status, text)
+
+
+def begins_with_init(folder, program, settings):
+    """--init writes a feed.toml with which the plant can be fed, and never over one that is there."""
+    trial = Trial(os.path.join(folder, "a"), program)
+    os.remove(trial.path("feed.toml"))
+    os.rmdir(trial.path("inbox"))
+    trial.write("base.toml", trial.read("base.toml").replace("exc_dev", 'engunits = "0.01 l/h"\nexc_dev', 1))
+    assert "feed.toml and inbox/ are made" in trial.fed("--init")
+    assert '[tag."FIC1.PV"]  # 0.01 l/h\nscale = 100\n# [tag."FIC2.PV"]' in trial.read("feed.toml"), trial.read("feed.toml")
+    assert trial.feed("--init")[0] == 22
+    trial.write("inbox/x.csv", "tag,time,value\nFIC1.PV,2024-03-29T00:00:00Z,1.25\n")
+    os.utime(trial.path("inbox/x.csv"), (1, 1))
+    assert "1 values of 1 tags stored" in trial.fed()
+
+
+def goes_on_every_second(folder, program, settings):
+    """With --every it feeds what comes while it runs."""
+    trial = Trial(os.path.join(folder, "a"), program)
+    child = subprocess.Popen(trial.words("--every", "0.2"), stdout=subprocess.PIPE, text=True)
+    try:
+        for number in (1, 2):
+            trial.write("x%d.part" % number, "LIC4.PV,%d,5\n" % (1000 * number))
+            os.rename(trial.path("x%d.part" % number), trial.path("inbox/x%d.csv" % number))
+            assert child.stdout.readline().startswith("turn %d: 1 files, 1 values" % number)
+    finally:
+        child.kill()
+        child.communicate()
+
+
+CASES = [times_and_decimals, refused_rows, no_scale_no_decimals, half_written_file, written_to_while_fed, wrong_clock, same_file_twice,
+         faults_in_words, begins_with_init, goes_on_every_second]

@@ -1,0 +1,158 @@
+"""keeping.py: tests of what stands in the archive and is read from it: seals and backups, an archive and a group that are full,
+questions and pictures."""
+import contextlib
+import csv
+import io
+import os
+import re
+import shutil
+import xml.etree.ElementTree
+
+import feed
+import rows
+from plant import Plant
+from trial import GROUP, HOUR, START, Trial, base_text, check_same, expected, two_blocks
+
+SPREAD = 3_000_000
+
+
+def found_by_seals(folder, program, settings):
+    """A flipped bit, wherever it is, a missing file and rows stored by hand are told by name before the program opens anything; the
+    copy in backup/ is named, and with it all goes on."""
+    trial, wanted = two_blocks(folder, program)
+    copy = trial.fed("--backup").strip()
+    device, good = trial.path("historian.d/LIC4.PV.tag"), trial.path(copy, "historian.d/LIC4.PV.tag")
+    for place in (0, 75, 401, os.path.getsize(device) - 1):
+        flipped = bytearray(open(good, "rb").read())
+        flipped[place] ^= 1
+        with open(device, "wb") as out:
+            out.write(flipped)
+        for asked in ((), ("--verify",), ("--backup",)):
+            status, text = trial.feed(*asked)
+            assert status == 21 and "historian.d/LIC4.PV.tag is not as the last turn left it" in text, (place, text)
+            assert "stand in %s/historian.d/LIC4.PV.tag: copy that file back" % copy in text, text
+        for tool, asked in (("ask.py", ["snap,FIC1.PV"]), ("draw.py", ["FIC1.PV", "1711670400000", "1711680000000", "x.svg"])):
+            status, text = trial.tool(tool, *asked)
+            assert status == 21 and "LIC4.PV.tag is not as the last turn left it" in text, (place, text)
+        assert open(device, "rb").read() == flipped, "the damaged device was changed"
+    os.remove(device)
+    assert "LIC4.PV.tag is missing" in trial.feed()[1]
+    shutil.copy(good, device)
+    trial.fed()
+    check_same(trial.answers(), wanted, "after a device was put back")
+
+
+def run_by_hand(folder, program, settings):
+    """Rows that were stored by hand between two turns are told; --seal accepts them, and a group's file may be taken away."""
+    trial, _ = two_blocks(folder, program)
+    trial.store_by_hand([(1711800000000, "LIC4.PV", 5)])
+    status, text = trial.feed()
+    assert status == 21 and "LIC4.PV.tag" in text and "--seal" in text, text
+    assert "9 devices are sealed" in trial.fed("--seal")
+    os.remove(trial.path("historian.d/unit.grp"))
+    assert "turn 2" in trial.fed() and "9 devices, each as" in trial.fed("--verify")
+
+
+def put_back_from_backup(folder, program, settings):
+    """The devices are lost: the backup is put back, the files that were fed since go into the inbox again, and nothing is missing."""
+    trial = Trial(os.path.join(folder, "a"), program)
+    trial.deliver(0, hours=3)
+    trial.fed()
+    copy = trial.fed("--backup").strip()
+    trial.deliver(1, hours=3)
+    trial.fed()
+    shutil.rmtree(trial.path("historian.d"))
+    shutil.rmtree(trial.path("feed.d"))
+    shutil.copytree(trial.path(copy), trial.folder, dirs_exist_ok=True)
+    for name in os.listdir(trial.path("done/000002")):
+        os.rename(trial.path("done/000002", name), trial.path("inbox", name))
+    trial.fed()
+    check_same(trial.answers(), expected(os.path.join(folder, "hand"), program, trial.rows), "put back from a backup")
+    assert sorted(os.listdir(trial.path("done/000003"))) == ["01-a.csv", "01-b.csv"] and os.listdir(trial.path("done/000002")) == []
+
+
+def archive_is_full(folder, program, settings):
+    """Rows for which a tag has no room go to refused/, and the other tags go on. (The limit is lowered for this.)"""
+    trial = Trial(os.path.join(folder, "a"), program)
+    trial.write("inbox/x.csv", "".join("FIC1.PV,%d,%d\nLIC4.PV,%d,5\n" % (1000 * n, n % 2 * 100, 1000 * n) for n in range(100)))
+    feed.RECORDS, kept = 40, feed.RECORDS
+    try:
+        with contextlib.redirect_stdout(io.StringIO()) as said:
+            feed.feed(Plant(trial.folder, program), None, 5)
+    finally:
+        feed.RECORDS = kept
+    tags = {m[1]: (int(m[2]), int(m[3])) for m in re.finditer(r"tag (\S+) taken=(\d+) records=(\d+)", trial.by_hand("check", "base.toml"))}
+    with open(trial.path("refused/000001/no-room.csv")) as text:
+        rest = list(csv.reader(text))[1:]
+    assert "all %d are in refused/000001/no-room.csv" % len(rest) in said.getvalue(), said.getvalue()
+    assert tags["LIC4.PV"][0] == 100 and tags["FIC1.PV"][1] <= 40 and tags["FIC1.PV"][0] + len(rest) == 100 and len(rest) > 40, tags
+    assert rest[0][1:3] == ["1970-01-01T00:00:%02d.000Z" % tags["FIC1.PV"][0], "%d.00" % (tags["FIC1.PV"][0] % 2)], rest[0]
+
+
+def group_is_too_large(folder, program, settings):
+    """A group with too many windows never keeps rows from being stored: they are, and the limit is told in words."""
+    trial = Trial(os.path.join(folder, "a"), program)
+    trial.write("base.toml", base_text(group=GROUP.replace("900_000", "7")))
+    trial.deliver(0)
+    status, text = trial.feed()
+    assert status == 10 and "fault: limit cells" in text and "too many windows" in text, (status, text)
+    assert not os.listdir(trial.path("inbox")) and not os.path.exists(trial.path("feed.d/turn.json"))
+    status, text = trial.tool("ask.py", "snap,XV7.ZSO")
+    assert status == 0 and "taken=4" in text, text
+    assert trial.tool("ask.py", "row,unit,flow,0")[0] == 10
+    trial.write("base.toml", base_text())
+    trial.deliver(1)
+    trial.fed()
+    check_same(trial.answers(), expected(os.path.join(folder, "hand"), program, trial.rows), "after the group was mended")
+
+
+def questions(folder, program, settings):
+    """ask.py gives all points of a tag, however many, and what the program answers, with ISO times and decimals."""
+    trial = Trial(os.path.join(folder, "a"), program)
+    points = [(START + 1000 * n, 100 * (n % 2) + n % 7) for n in range(SPREAD // 1000)]
+    trial.write("base.toml", base_text().replace("exc_dev = 10", "exc_dev = 0").replace("comp_dev = 30", "comp_dev = 0"))
+    lines = ["FIC1.PV,%d,%s\nTIC3.PV,%d,20.2%d\n" % (t, rows.decimal_text(v, 100), t, t // 1000 % 2) for t, v in points]
+    trial.write("inbox/x.csv", "".join(lines))
+    trial.fed()
+    status, text = trial.tool("ask.py", "--csv", "FIC1.PV", rows.iso_text(START, None), str(START + SPREAD))
+    assert status == 0, text
+    got = [(rows.milliseconds(t, None), rows.whole_value(v, 100)) for t, v in list(csv.reader(text.splitlines()))[1:]]
+    assert got == points, (len(got), len(points))
+    middle = rows.iso_text(START + 500, None)
+    status, text = trial.tool("ask.py", "at,FIC1.PV," + middle, "avg,FIC1.PV,%d,%d" % (START, START + 2000), "snap,TIC3.PV",
+                              "row,unit,hot," + middle, "at,FIC1.PV,0", "points,FIC1.PV,%d,%d" % (START, START + 1000))
+    first = trial.by_hand("check", "base.toml").splitlines()[0]
+    lines = list(csv.reader(text.splitlines()))
+    assert status == 0 and lines[1] == ["at", "FIC1.PV", "2024-03-29T00:00:00.500Z", "", "0.51", "line"], text
+    assert lines[2][4:] == ["0.51", ""] and lines[3][4:] == ["20.210", "taken=%d" % len(points)], text
+    assert lines[4] == ["row", "unit/hot", "2024-03-29T00:00:00.000Z", "2024-03-29T00:15:00.000Z", "1", ""], text
+    assert lines[5][4:] == ["", "none"] and [line[4] for line in lines[6:]] == ["0.00", "1.01"], text
+    status, text = trial.tool("ask.py", "--csv", "FIC1.PV", str(START), str(START + 2000), "--every", "500")
+    assert [line.split(",")[1:] for line in text.splitlines()[1:]][:3] == [["0.00", "exact"], ["0.51", "line"], ["1.01", "exact"]], text
+    assert trial.by_hand("check", "base.toml").splitlines()[0] == first and "each as" in trial.fed("--verify")
+    assert trial.tool("ask.py", "avg,NOBODY,1,2")[0] == 22 and trial.tool("ask.py", "mean,FIC1.PV,1,2")[0] == 22
+
+
+def pictures(folder, program, settings):
+    """draw.py draws what the archive has: a well-formed SVG with all points, a legend, units, round ticks and the limit."""
+    trial = Trial(os.path.join(folder, "a"), program)
+    trial.write("base.toml", base_text().replace("exc_dev", 'descriptor = "flow < 3"\nengunits = "0.01 l/h"\nexc_dev', 1))
+    trial.deliver(0)
+    trial.fed()
+    raw = [word for name in ("00-a.csv", "00-b.csv") for word in ("--raw", "done/000001/" + name)]
+    times = [rows.iso_text(START, None), rows.iso_text(START + 6 * HOUR, None)]
+    status, text = trial.tool("draw.py", "FIC1.PV", *times, "x.svg", *raw, "--limit", "201.5", "--group", "unit", "flow", "--frames", "1")
+    assert status == 0, text
+    svg = trial.read("x.svg")
+    texts = [node.text for node in xml.etree.ElementTree.fromstring(svg).iter("{http://www.w3.org/2000/svg}text")]
+    for wanted in ("FIC1.PV: flow < 3", "l/h", "archive", "kept", "came late", "held (the newest)", "raw values", "limit 201.5",
+                   "flow", "frames",
+                   "clock: UTC", "00:00", "03:00", "2024-03-29", "200", "202"):
+        assert wanted in texts, (wanted, texts)
+    late = trial.by_hand("check", "base.toml").splitlines()[0].split("late=")[1].split()[0]
+    assert svg.count('r="2.5" fill="#fff"') == int(late) + 1, (late, svg.count('r="2.5" fill="#fff"'))
+    assert trial.tool("draw.py", "XV7.ZSO", *times, "y.svg")[0] == 0 and "point of the archive" in trial.read("y.svg")
+    assert trial.tool("draw.py", "NOBODY", *times, "z.svg")[0] == 22 and not os.path.exists(trial.path("z.svg"))
+
+
+CASES = [found_by_seals, run_by_hand, put_back_from_backup, archive_is_full, group_is_too_large, questions, pictures]

@@ -1,0 +1,147 @@
+"""kills.py: tests that kill: feeder, program or both at random moments, the program at each of its writes and syncs, the feeder at each
+of its own calls that change files. After each the archive has to be that of a plant that was never stopped."""
+import os
+import random
+import shutil
+
+from trial import (LINES, STEPS, Trial, base_text, block_files, check_put_away, check_same, expected, feed_and_kill, two_blocks,
+                   wait_for_orphans)
+
+BLOCKS = 12  # of six hours: three days
+
+
+def three_days(folder, program, rows_a_run=900):
+    """A plant with all files of three days in its inbox; a turn takes a few of them."""
+    trial = Trial(folder, program, rows_a_run)
+    for block in range(BLOCKS):
+        trial.deliver(block)
+    return trial
+
+
+def undisturbed(folder, program, settings):
+    """Three days through the feeder make the archive that the program makes of the same rows by hand, in order of time."""
+    trial = three_days(os.path.join(folder, "fed"), program, 4_000_000)
+    trial.fed()
+    check_same(trial.answers(), expected(os.path.join(folder, "hand"), program, trial.rows), "fed without a stop")
+    check_put_away(trial, 2 * BLOCKS)
+
+
+def killed_at_random(folder, program, settings):
+    """Feeder, program or both are killed at random moments, until the kills are used up; then the feed ends by itself."""
+    draw, kills, plants = random.Random(settings.seed), 0, 0
+    while kills < settings.kills:
+        trial, plants = three_days(os.path.join(folder, "fed%d" % plants), program), plants + 1
+        wanted = expected(os.path.join(folder, "hand"), program, trial.rows)
+        while kills < settings.kills and os.listdir(trial.path("inbox")):
+            kills += feed_and_kill(trial, draw.uniform(0.05, settings.longest), draw.choice(("feeder", "program", "both")))
+        wait_for_orphans(trial)
+        trial.fed()
+        check_same(trial.answers(), wanted, "after %d kills (seed %d)" % (kills, settings.seed))
+        check_put_away(trial, 2 * BLOCKS)
+        shutil.rmtree(trial.folder)
+    return "%d kills over %d plants" % (kills, plants)
+
+
+def strace(call, number, device=None):
+    """The words that kill what they start at its n-th call of this kind, on one device if one is given."""
+    only = ["-P", device] if device else []
+    return ["strace", "-qq", "-o", "/dev/null", "-e", "trace=" + call, "-e", "inject=%s:signal=KILL:when=%d" % (call, number)] + only
+
+
+def stop_at_each(trial, wanted, numbers, stopped_feed):
+    """Copies a plant, stops a feed of the copy, lets the next one end and looks at the archive; for each number until nothing is
+    stopped any more. Answers how often something was."""
+    stood, kills = trial.folder + ".stood", 0
+    os.rename(trial.folder, stood)
+    for number in numbers:
+        shutil.copytree(stood, trial.folder)
+        status, text = stopped_feed(number)
+        assert status in (0, 137, -9), "%d: exit %d, %s" % (number, status, text)
+        if status:
+            kills += 1
+            wait_for_orphans(trial)
+            trial.fed()
+        check_same(trial.answers(), wanted, "stopped at call %d" % number)
+        check_put_away(trial, 2 * len(trial.blocks))
+        shutil.rmtree(trial.folder)
+        if not status:
+            break
+    os.rename(stood, trial.folder)
+    return kills
+
+
+def stop_program(trial, wanted, settings, some):
+    """Kills the program at each of its writes and each of its syncs on each device; in the short form at a few of them."""
+    if not shutil.which("strace"):
+        return "no strace here: not tried"
+    plain, kills = trial.program, 0
+    devices = [name + ".tag" for name in (*LINES, *STEPS)] + ["unit.grp"]
+    each = [(call, device, range(1, 1000)) for call in ("pwrite64", "fdatasync") for device in devices] + [("fsync", None, range(1, 1000))]
+    for call, device, numbers in each if settings.long else some:
+        def stopped_feed(number):
+            words = strace(call, number, device and trial.path("historian.d", device))
+            trial.program = " ".join([words[0], "-f", *words[1:], plain])
+            try:
+                return trial.feed()
+            finally:
+                trial.program = plain
+        kills += stop_at_each(trial, wanted, numbers, stopped_feed)
+    assert kills >= (len(devices) if settings.long else len(some)), "only %d kills" % kills
+    return "%d kills" % kills
+
+
+def program_stopped_at_its_calls(folder, program, settings):
+    """The program is killed at its calls on devices that stand; each tag of lines gets two batches."""
+    trial, wanted = two_blocks(folder, program, hours=6)
+    some = [("pwrite64", "FIC1.PV.tag", [3]), ("fdatasync", "XV8.ZSO.tag", [2]), ("pwrite64", "unit.grp", [2])]
+    return stop_program(trial, wanted, settings, some)
+
+
+def program_stopped_on_new_devices(folder, program, settings):
+    """The same where the devices are only being made."""
+    trial = Trial(os.path.join(folder, "new"), program)
+    trial.deliver(0, hours=1)
+    wanted = expected(os.path.join(folder, "hand"), program, trial.rows)
+    return stop_program(trial, wanted, settings, [("pwrite64", "FIC1.PV.tag", [2]), ("fdatasync", "TIC3.PV.tag", [3])])
+
+
+def program_stopped_while_retuning(folder, program, settings):
+    """The program is killed while an edited base is taken over: each tag is retuned once all the same."""
+    trial, wanted = edited_blocks(folder, program)
+    return stop_program(trial, wanted, settings, [("pwrite64", "FIC1.PV.tag", [2]), ("fdatasync", "XV7.ZSO.tag", [3])])
+
+
+def edited_blocks(folder, program):
+    """A plant that was fed a block, whose base was then edited, with the next block in its inbox; and what has to come of both."""
+    trial, _ = two_blocks(folder, program)
+    trial.write("base.toml", base_text(comp_dev=4))
+    hand = Trial(os.path.join(folder, "hand"), program)
+    for block, base in ((0, base_text()), (1, base_text(comp_dev=4))):
+        hand.write("base.toml", base)
+        hand.store_by_hand(block_files(block, hours=3)[1])
+    return trial, hand.answers()
+
+
+def stop_feeder(trial, wanted, settings, some):
+    """Kills the feeder at each of its own syncs, renames, removals and made folders; in the short form at a few of them."""
+    if not shutil.which("strace"):
+        return "no strace here: not tried"
+    each, kills = [(call, range(1, 1000)) for call in ("fsync", "rename", "unlink", "unlinkat", "rmdir", "mkdir", "ftruncate")], 0
+    for call, numbers in each if settings.long else some:
+        kills += stop_at_each(trial, wanted, numbers, lambda number: trial.feed(under=strace(call, number)))
+    assert kills >= len(some), "only %d kills" % kills
+    return "%d kills" % kills
+
+
+def feeder_stopped_at_its_calls(folder, program, settings):
+    """The feeder is killed at its own calls in a turn."""
+    return stop_feeder(*two_blocks(folder, program), settings, [("fsync", [4]), ("rename", [2]), ("unlink", [1])])
+
+
+def feeder_stopped_while_retuning(folder, program, settings):
+    """The feeder is killed at its own calls while it takes an edited base over."""
+    return stop_feeder(*edited_blocks(folder, program), settings, [("rename", [2]), ("rename", [3])])
+
+
+CASES = [undisturbed, killed_at_random, program_stopped_at_its_calls, program_stopped_on_new_devices, program_stopped_while_retuning,
+         feeder_stopped_at_its_calls, feeder_stopped_while_retuning]

@@ -1,0 +1,240 @@
+"""trial.py: a plant that is made up for the tests: eight tags over three days, in files as loggers write them; and ways to stop a feed.
+
+What must come out is found without the tools: the same rows as whole numbers in one collector's file, through the program alone."""
+import datetime
+import fcntl
+import os
+import random
+import shutil
+import signal
+import subprocess
+import sys
+import time
+
+HERE = os.path.dirname(os.path.abspath(__file__))
+TOOLS = os.path.dirname(HERE)
+START, MINUTE, HOUR = 1_711_670_400_000, 60_000, 3_600_000  # 2024-03-29 00:00 UTC; in the night to the 31st clocks go forward
+ZONE = datetime.timezone(datetime.timedelta(hours=1))
+LINES = {"FIC1.PV": 100, "FIC2.PV": 100, "TIC3.PV": 1000, "LIC4.PV": 1, "PIC5.PV": 10, "QIC6.PV": 100}
+STEPS = {"XV7.ZSO": 1, "XV8.ZSO": 1}
+WIDE = ("TIC3.PV", "LIC4.PV", "XV8.ZSO")  # these come in wide files, the others in files of one value a line
+TAG = '[[tag]]\nname = "%s"\nexc_dev = %d\nexc_max = 600_000\ncomp_dev = %d\ncomp_min = 0\ncomp_max = 28_800_000\n%s\n'
+GROUP = """[[group]]
+name = "unit"
+tags = ["FIC1.PV", "TIC3.PV"]
+start = %d
+period = 900_000
+
+[[group.calc]]
+name = "flow"
+formula = "avg('FIC1.PV')"
+
+[[group.calc]]
+name = "hot"
+formula = "avg('TIC3.PV') > 20100"
+""" % START
+
+
+def base_text(comp_dev=30, names=(*LINES, *STEPS), group=GROUP):
+    """A base of these tags."""
+    return "".join(TAG % (name, 10, comp_dev, "step = true\n" if name in STEPS else "") for name in names) + group
+
+
+def feed_text(rows_a_run=4_000_000):
+    """A feed.toml that gives each tag its scale."""
+    scales = "".join('[tag."%s"]\nscale = %d\n' % item for item in (LINES | STEPS).items())
+    return "rows_a_run = %d\nsettle_seconds = 0\n%s" % (rows_a_run, scales)
+
+
+def block_rows(block, hours=6, every=3 * MINUTE):
+    """The rows of some hours, as time, tag and whole value, in the order in which loggers hand them over; some come late."""
+    draw, rows, late = random.Random(1000 + block), [], []
+    for step in range(hours * HOUR // every):
+        t = START + block * hours * HOUR + step * every
+        for place, name in enumerate(LINES):
+            row = t + place, name, 20_000 + 150 * ((step // 20 + place) % 5) + draw.randint(-14, 14)
+            (late if place < 2 and step % 41 == 7 else rows).append(row)
+        if step % 30 == block % 30:
+            rows += [(t + 10, "XV7.ZSO", draw.choice((0, 50, 100))), (t + 11, "XV8.ZSO", draw.choice((0, 1)))]
+    return rows + late
+
+
+def decimal(value, scale):
+    """A whole value as a logger writes it."""
+    digits = len(str(scale)) - 1
+    return "%d.%0*d" % (value // scale, digits, value % scale) if digits else str(value)
+
+
+def iso(t):
+    """A time as a logger writes it, with an offset."""
+    return datetime.datetime.fromtimestamp(t / 1000, ZONE).isoformat(timespec="milliseconds")
+
+
+def block_files(block, hours=6, every=3 * MINUTE):
+    """The two files of a block: names and texts, and their rows in the order in which they are fed."""
+    rows = block_rows(block, hours, every)
+    scales = LINES | STEPS
+    long = [row for row in rows if row[1] not in WIDE]
+    wide = [row for row in rows if row[1] in WIDE]
+    first = "".join("%s,%s,%s\n" % (name, iso(t), decimal(v, scales[name])) for t, name, v in long)
+    second = "time,%s\n" % ",".join(WIDE) + "".join(
+        iso(t) + "".join("," + (decimal(v, scales[name]) if name == tag else "") for tag in WIDE) + "\n" for t, name, v in wide)
+    return {"%02d-a.csv" % block: first, "%02d-b.csv" % block: second}, long + wide
+
+
+class Trial:
+    """A plant's folder of a test, and the program."""
+
+    def __init__(self, folder, program, rows_a_run=4_000_000):
+        self.folder, self.program = folder, program
+        os.makedirs(os.path.join(folder, "inbox"))
+        self.write("base.toml", base_text())
+        self.write("feed.toml", feed_text(rows_a_run))
+        self.rows, self.blocks = [], []
+
+    def path(self, *names):
+        return os.path.join(self.folder, *names)
+
+    def write(self, name, text):
+        with open(self.path(name), "w") as out:
+            out.write(text)
+
+    def read(self, name):
+        with open(self.path(name)) as text:
+            return text.read()
+
+    def deliver(self, block, **sizes):
+        """Puts the files of a block into the inbox, and remembers its rows."""
+        files, rows = block_files(block, **sizes)
+        for name, text in files.items():
+            self.write(os.path.join("inbox", name), text)
+        self.rows += rows
+        self.blocks.append(block)
+
+    def words(self, *given, how=None):
+        """feed.py and its words; `how` names what stopper.py does to the program's `run`."""
+        program = self.program if how is None else "%s %s %s %s" % (sys.executable, os.path.join(HERE, "stopper.py"), how, self.program)
+        return [sys.executable, os.path.join(TOOLS, "feed.py"), *given, "--wait", "0.3", "--program", program, self.folder]
+
+    def feed(self, *given, how=None, under=()):
+        """Runs feed.py to its end, if asked to under another program such as strace: exit status, and what it said."""
+        child = subprocess.run([*under, *self.words(*given, how=how)], capture_output=True, text=True)
+        return child.returncode, child.stdout + child.stderr
+
+    def fed(self, *given):
+        """Runs feed.py, which has to end well, and answers what it said."""
+        status, text = self.feed(*given)
+        assert status == 0, "feed.py %s ends with %d: %s" % (given, status, text)
+        return text
+
+    def tool(self, name, *given):
+        """Runs another tool in the plant's folder: exit status, and what it said."""
+        words = [sys.executable, os.path.join(TOOLS, name), "--program", self.program, *given]
+        child = subprocess.run(words, cwd=self.folder, capture_output=True, text=True)
+        return child.returncode, child.stdout + child.stderr
+
+    def by_hand(self, *words):
+        """What the program prints, called by hand."""
+        child = subprocess.run([*self.program.split(), *words], cwd=self.folder, capture_output=True, text=True)
+        if child.returncode:
+            raise AssertionError("%s: exit %d, %s" % (words, child.returncode, child.stdout + child.stderr))
+        return child.stdout
+
+    def store_by_hand(self, rows):
+        """Stores rows by the program alone."""
+        self.write("mine.csv", "".join("%s,%d,%d\n" % (name, t, v) for t, name, v in rows))
+        self.write("mine.toml", '[[collector]]\nfile = "mine.csv"\n')
+        self.by_hand("run", "base.toml", "mine.toml")
+
+    def answers(self, base="base.toml"):
+        """The lines of `check`, and the replies of `trend` to questions about each tag and each window of the group."""
+        last = START + 73 * HOUR
+        asks = []
+        for name in (*LINES, *STEPS):
+            asks += ["points,%s,%d,%d" % (name, START + h * HOUR, START + h * HOUR + 6 * HOUR) for h in range(0, 73, 6)]
+            asks += ["avg,%s,%d,%d" % (name, START + HOUR, START + 5 * HOUR), "at,%s,%d" % (name, last), "snap,%s" % name]
+        for calc in ("flow", "hot") if "[[group]]" in self.read(base) else ():
+            asks += ["row,unit,%s,%d" % (calc, k) for k in range(0, 290, 7)]
+        self.write("questions.csv", "\n".join(asks) + "\n")
+        self.write("questions.toml", '[[reader]]\nfile = "questions.csv"\n')
+        return self.by_hand("check", base) + self.by_hand("trend", base, "questions.toml")
+
+
+KNOWN = {}  # the answers for rows that were asked for already
+
+
+def expected(folder, program, rows):
+    """The answers of a plant that took these rows from one collector, by the program alone."""
+    if tuple(rows) in KNOWN:
+        return KNOWN[tuple(rows)]
+    plant = Trial(folder, program)
+    plant.store_by_hand(rows)
+    KNOWN[tuple(rows)] = plant.answers()
+    shutil.rmtree(folder)
+    return KNOWN[tuple(rows)]
+
+
+def children(process):
+    """The processes that another one started."""
+    found = []
+    for name in filter(str.isdigit, os.listdir("/proc")):
+        try:
+            with open("/proc/%s/stat" % name) as text:
+                if int(text.read().rsplit(")", 1)[1].split()[1]) == process:
+                    found.append(int(name))
+        except OSError:
+            pass
+    return found
+
+
+def kill(process):
+    try:
+        os.kill(process, signal.SIGKILL)
+    except ProcessLookupError:
+        pass
+
+
+def feed_and_kill(trial, delay, whom):
+    """Starts a feed and kills it after a delay: the feeder, its program, or both. Answers whether something was killed."""
+    child = subprocess.Popen(trial.words(), stdout=subprocess.DEVNULL, stderr=subprocess.DEVNULL)
+    time.sleep(delay)
+    running = child.poll() is None
+    program = children(child.pid)
+    if whom != "program" or not program:
+        kill(child.pid)
+    if whom != "feeder":
+        for process in program:
+            kill(process)
+    child.wait()
+    return running
+
+
+def wait_for_orphans(trial):
+    """Waits until a program that outlived its feeder ends: it holds the lock until then."""
+    with open(trial.path("historian.d", "feed.lock"), "a") as lock:
+        fcntl.flock(lock, fcntl.LOCK_EX)
+
+
+def two_blocks(folder, program, hours=3):
+    """A plant that was fed a block, with the next one in its inbox; and what has to come of both."""
+    trial = Trial(os.path.join(folder, "two"), program)
+    trial.deliver(0, hours=hours)
+    trial.fed()
+    trial.deliver(1, hours=hours)
+    return trial, expected(os.path.join(folder, "hand"), program, trial.rows)
+
+
+def check_same(got, wanted, what):
+    """Tells the first line that differs."""
+    if got != wanted:
+        pairs = [(a, b) for a, b in zip(got.splitlines(), wanted.splitlines()) if a != b]
+        raise AssertionError("%s: %s in place of %s" % (what, *(pairs or [(got[-200:], wanted[-200:])])[0]))
+
+
+def check_put_away(trial, count):
+    """All files were fed and stand in done/, as they were delivered; nothing is left of the turns."""
+    assert os.listdir(trial.path("inbox")) == [], os.listdir(trial.path("inbox"))
+    done = [name for turn in os.listdir(trial.path("done")) for name in os.listdir(trial.path("done", turn))]
+    assert len(done) == len(set(done)) == count, sorted(done)
+    assert not os.path.exists(trial.path("refused")), os.listdir(trial.path("refused"))
+    assert sorted(os.listdir(trial.path("feed.d"))) == ["base.toml", "fed", "seals"], os.listdir(trial.path("feed.d"))
