@@ -16,7 +16,7 @@ use Rattle.archive_file.specs.declared.failure.ScanNo.{ScanNo}
 use Rattle.archive_file.specs.declared.failure.ScanNo.TheVariants.{Damaged}
 use Rattle.archive_file.specs.Fields.{point_at}
 use Rattle.archive_file.specs.Records.{kind_byte, rec_image, recs_image}
-use Rattle.archive_file.specs.Places.{Adds, AreInRange, AreRecords, BreaksAt, HasRecords, IsBroken, IsDamage}
+use Rattle.archive_file.specs.Places.{Adds, AreInRange, AreRecords, BreaksAt, HasRecords, IsRecordBroken, IsDamage}
 use Rattle.archive_file.proofs.Points.{IsBytes, rec_spelled}
 use Rattle.archive_file.proofs.Joins.{joined}
 
@@ -85,7 +85,7 @@ pub broken_here : (bytes b : List ℕ) (at count k j a : ℕ) (byte : Option ℕ
     → length bytes ≡ 17 * count → k < count → length rs ≡ k
     → AreRecords rs (take (17 * k) bytes) → b ≡ take 17 (drop (17 * k) bytes) → BreaksAt b j → j < 17 → why
     ≡ Damaged (at + 17 * k + j) (Some (get_or b j 0)) → why ≡ Damaged a byte
-    → (p : ℕ) × (a ≡ at + p) × (rs : List Rec) × (i : ℕ) × IsBroken bytes 0 count p byte rs i
+    → (p : ℕ) × (a ≡ at + p) × (rs : List Rec) × (i : ℕ) × IsRecordBroken bytes 0 count p byte rs i
 broken_here bytes b at count k j a byte rs why whole here counted records is breaks within said told =
     let place : at + 17 * k + j ≡ a = cc in
     let there : Some (get_or b j 0) ≡ byte = cc in
@@ -129,7 +129,7 @@ breaks_below b k (inr (inr value)) = omega (arith, value.0)
 -- so the damage of the part is one of the device
 pub damage_at : (o : Option Trace) (at count a : ℕ) (byte : Option ℕ) (part : List ℕ)
     → Reaches o (at + 17 * count) → length part ≡ 17 * count → Reads o at part
-    → (p : ℕ) × (a ≡ at + p) × (rs : List Rec) × (k : ℕ) × IsBroken part 0 count p byte rs k
+    → (p : ℕ) × (a ≡ at + p) × (rs : List Rec) × (k : ℕ) × IsRecordBroken part 0 count p byte rs k
     → IfSome o (λ t. IsDamage (seen (Some t)) at count a byte)
 damage_at None at count a byte part room long reads broken = tt
 damage_at (Some t) at count a byte part room long reads broken =

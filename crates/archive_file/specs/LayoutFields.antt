@@ -28,7 +28,7 @@ pub record EndsIn (c : List ℕ) (f : Field) (a : ℕ) (byte : Option ℕ) : Typ
   pub none_there : byte ≡ None
 
 -- the field is there, and breaks its rule, which is told at its first byte
-pub record IsBroken (c : List ℕ) (f : Field) (a : ℕ) (byte : Option ℕ) : Type 0 where
+pub record IsFieldBroken (c : List ℕ) (f : Field) (a : ℕ) (byte : Option ℕ) : Type 0 where
   pub there : f.place + f.size ≤ length c
   pub broken : f.is_kept ≡ false
   pub place : a ≡ f.place
@@ -36,7 +36,7 @@ pub record IsBroken (c : List ℕ) (f : Field) (a : ℕ) (byte : Option ℕ) : T
 
 -- what is told of a field that is not kept
 abbrev pub Breaks : List ℕ → Field → ℕ → Option ℕ → Type 0
-Breaks c f a byte = EndsIn c f a byte ⊎ IsBroken c f a byte
+Breaks c f a byte = EndsIn c f a byte ⊎ IsFieldBroken c f a byte
 
 -- the first of some fields that is not kept
 pub record BreaksFirst (c : List ℕ) (fields : List Field) (a : ℕ) (byte : Option ℕ) : Type 0 where

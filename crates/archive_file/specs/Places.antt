@@ -45,7 +45,7 @@ pub record IsTooShort (bytes : List ℕ) (at count a : ℕ) (byte : Option ℕ) 
   pub byte_there : byte ≡ None
 
 -- after these records comes one of which a field breaks the layout
-pub record IsBroken (bytes : List ℕ) (at count a : ℕ) (byte : Option ℕ) (rs : List Rec) (k : ℕ) : Type 0 where
+pub record IsRecordBroken (bytes : List ℕ) (at count a : ℕ) (byte : Option ℕ) (rs : List Rec) (k : ℕ) : Type 0 where
   pub within : at + 17 * count ≤ length bytes
   pub before : length rs < count
   pub records : AreRecords rs (take (17 * length rs) (drop at bytes))
@@ -56,4 +56,4 @@ pub record IsBroken (bytes : List ℕ) (at count a : ℕ) (byte : Option ℕ) (r
 -- the first damage of so many records at the place
 abbrev pub IsDamage : List ℕ → ℕ → ℕ → ℕ → Option ℕ → Type 0
 IsDamage bytes at count a byte = IsTooShort bytes at count a byte
-    ⊎ ((rs : List Rec) × (k : ℕ) × IsBroken bytes at count a byte rs k)
+    ⊎ ((rs : List Rec) × (k : ℕ) × IsRecordBroken bytes at count a byte rs k)

@@ -8,7 +8,7 @@ ghost use Rattle.archive_file.specs.declared.failure.PutNo.TheVariants.{DeviceFa
 ghost use Rattle.archive_file.specs.Records.{rec_image, recs_image};
 ghost use Rattle.trend_num.specs.declared.archive.Rec.{Rec};
 ghost use Rattle.trend_num.specs.Ranges.{InRange};
-ghost use Rattle.archive_file.specs.Places.{Adds, HasRecords, BreaksAt, IsDamage, IsBroken};
+ghost use Rattle.archive_file.specs.Places.{Adds, HasRecords, BreaksAt, IsDamage, IsRecordBroken};
 
 use crate::field::take_point;
 use crate::record::{REC_LEN, kind_of, read_rec, rec_bytes};
@@ -176,7 +176,7 @@ fn parse(at: u64, count: u32, bytes: &[u8], recs: &mut Vec<Rec>) -> Result<(), S
     requires room { vec_len recs.old + count ≤ vec_capacity recs.old }
     ensures ok { OnOk result (Adds bytes.now 0 count recs.old.items recs.new.items) }
     ensures damaged { (a : ℕ) (byte : Option ℕ) → IsErrOf result (Damaged a byte) →
-        (p : ℕ) × (a ≡ at + p) × (rs : _) × (k : ℕ) × IsBroken bytes.now 0 count p byte rs k }
+        (p : ℕ) × (a ≡ at + p) × (rs : _) × (k : ℕ) × IsRecordBroken bytes.now 0 count p byte rs k }
     ensures device_fault { IsErrOf result DeviceFault → ⊥ }
     ensures len { OnOk result (vec_len recs.new ≡ vec_len recs.old + count) }
     ensures capacity { vec_capacity recs.new ≡ vec_capacity recs.old }

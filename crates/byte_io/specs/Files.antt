@@ -61,8 +61,8 @@ abbrev pub told_of : NamedFiles → List ℕ → FileTold
 told_of files name = told_by (bytes_of files name)
 
 -- the files by the bytes of their names
-abbrev pub named : List (String Global × Vec ℕ Global) → NamedFiles
-named files = map (λ f. (string_bytes f.0, f.1.items)) files
+abbrev pub files_named : List (String Global × Vec ℕ Global) → NamedFiles
+files_named files = map (λ f. (string_bytes f.0, f.1.items)) files
 
 -- the most bytes of a name that files in memory remember
 abbrev pub most_remembered : ℕ

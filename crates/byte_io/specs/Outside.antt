@@ -11,8 +11,8 @@ pub record Outside : Type 0 where
 -- ---- faults
 
 -- one more, or the same at the end of the type
-abbrev pub next_count : ℕ → ℕ
-next_count n = min (n + 1) (2 ^ 64 - 1)
+abbrev pub next_fault_count : ℕ → ℕ
+next_fault_count n = min (n + 1) (2 ^ 64 - 1)
 
 -- no call failed
 abbrev pub CountsNoFault : Outside → Outside → Type 0
@@ -20,7 +20,7 @@ CountsNoFault before now = now.faults ≡ before.faults
 
 -- one call failed
 abbrev pub CountsOneFault : Outside → Outside → Type 0
-CountsOneFault before now = now.faults ≡ next_count before.faults
+CountsOneFault before now = now.faults ≡ next_fault_count before.faults
 
 -- ---- what a source gives
 

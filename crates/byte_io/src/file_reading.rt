@@ -1,7 +1,7 @@
 // All of a file.
 ghost use Rattle.std.specs.Prelude.{◌≡◌, ◌≤◌, ℕ, vec_len, IfOk, IsErrOf};
 ghost use Rattle.byte_io.specs.Files.{IsFaultOf, IsWhole, IsLongerThan};
-ghost use Rattle.byte_io.specs.Outside.{next_count};
+ghost use Rattle.byte_io.specs.Outside.{next_fault_count};
 ghost use Rattle.byte_io.specs.declared.failure.ReadNo.TheVariants.{ReadFault, TooLong, WantOfMemory};
 
 use crate::{Files, ReadNo};
@@ -28,7 +28,7 @@ pub fn read_file<F: Files>(
     ensures own_limit { (n : ℕ) → IsErrOf result (TooLong n) → n ≡ limit }
     ensures want_of_memory { IsErrOf result WantOfMemory → IsLongerThan (F.told files.old name.now) 0 }
     ensures read_fault { IsErrOf result ReadFault →
-        F.fault_count files.new ≡ next_count (F.fault_count files.old) }
+        F.fault_count files.new ≡ next_fault_count (F.fault_count files.old) }
     ensures whose { IsErrOf result ReadFault → IsFaultOf (F.failed_name files.new) name.now }
     ensures no_other_fault { ¬ IsErrOf result ReadFault →
         F.fault_count files.new ≡ F.fault_count files.old }

@@ -1,7 +1,7 @@
 // Where the bytes of files come from, by name.
 ghost use Rattle.std.specs.Prelude.{◌≡◌, ◌<◌, ◌≤◌, ℕ, List, length, take, Option, IfOk, OnOk, OnErr};
 ghost use Rattle.byte_io.specs.Files.{FileTold, HasAt, EndsBy, IsFaultOf};
-ghost use Rattle.byte_io.specs.Outside.{next_count};
+ghost use Rattle.byte_io.specs.Outside.{next_fault_count};
 
 use crate::Failed;
 
@@ -25,6 +25,6 @@ pub trait Files {
         ensures end { IfOk result (λ n. n ≡ 0 → 0 < length buf.new → EndsBy (told self.old name.now) at) }
         ensures stays { told self.new ≡ told self.old }
         ensures no_fault { OnOk result (fault_count self.new ≡ fault_count self.old) }
-        ensures one_fault { OnErr result (fault_count self.new ≡ next_count (fault_count self.old)) }
+        ensures one_fault { OnErr result (fault_count self.new ≡ next_fault_count (fault_count self.old)) }
         ensures whose { OnErr result (IsFaultOf (failed_name self.new) name.now) };
 }

@@ -1,16 +1,43 @@
 // Files of the working folder. Nothing is said of what they hold.
-ghost use Rattle.std.specs.Prelude.{◌≡◌};
+ghost use Rattle.std.specs.Prelude.{◌≡◌, ◌≤◌, length, IfOk};
 
+use crate::retry::read_again;
 use crate::{Failed, Files};
 use std::fs::File;
-use std::os::unix::fs::FileExt;
+use std::io::{self, Seek, SeekFrom};
 use std::rt;
 
-/// The files of the working folder, or of another where a name is a path. Each error, also that a file is
-/// missing, is a fault.
+// A file that is being read, and how far it was read.
+#[derive(Drop)]
+struct Opened {
+    name: String,
+    file: File,
+    at: u64,
+}
+
+impl Opened {
+    // Opens a file and goes to a place of it. A file without places, as a pipe is, can be read from its beginning alone.
+    fn at<R: rt::Files<File = File> + AllocGlobal>(rt: &R, name: &str, at: u64) -> io::Result<Opened> {
+        let mut file = File::open(rt, name)?;
+        if at > 0 {
+            file.seek(SeekFrom::Start(at))?;
+        }
+        let name = String::from_str(rt.alloc(), name)?;
+        Ok(Opened { name, file, at })
+    }
+
+    // Whether this file was read as far as this place.
+    fn is_at(&self, name: &str, at: u64) -> bool {
+        self.name.as_str() == name && self.at == at
+    }
+}
+
+/// The files of the working folder, or of another where a name is a path. A file stays open while it is read on in order, so all of
+/// it comes from one file, also where another is given its name meanwhile. Each error, also that a file is missing, is a fault.
 #[derive(Drop)]
 pub struct DirFiles<R> {
     rt: R,
+    opened: Option<Opened>,
     faults: u64,
 }
 
@@ -21,7 +48,11 @@ impl<R> DirFiles<R> {
     pub fn new(rt: R) -> DirFiles<R>
         ensures faults { folder_faults result ≡ 0 }
     {
-        DirFiles { rt, faults: 0 }
+        DirFiles {
+            rt,
+            opened: None,
+            faults: 0,
+        }
     }
 
     /// How many reads failed. The count stays at the end of its type.
@@ -32,10 +63,35 @@ impl<R> DirFiles<R> {
     }
 }
 
-impl<R: rt::Files> Files for DirFiles<R>
-where
-    R::File: FileExt,
-{
+impl<R: rt::Files<File = File> + AllocGlobal> DirFiles<R> {
+    // The file of this name, read as far as this place.
+    fn file_at(&mut self, name: &str, at: u64) -> io::Result<Opened>
+        ensures faults { self.new.faults ≡ self.old.faults }
+    {
+        if let Some(opened) = self.opened.take() {
+            if opened.is_at(name, at) {
+                return Ok(opened);
+            }
+        }
+        Opened::at(&self.rt, name, at)
+    }
+
+    // Reads on in a file. It is closed at its end, and where a read fails.
+    fn read_on(&mut self, name: &str, at: u64, buf: &mut [u8]) -> io::Result<usize>
+        ensures bound { IfOk result (λ n. n ≤ length buf.new) }
+        ensures faults { self.new.faults ≡ self.old.faults }
+    {
+        let mut opened = self.file_at(name, at)?;
+        let count = read_again(&mut opened.file, buf)?;
+        if count > 0 {
+            opened.at = opened.at.saturating_add(count as u64);
+            self.opened = Some(opened);
+        }
+        Ok(count)
+    }
+}
+
+impl<R: rt::Files<File = File> + AllocGlobal> Files for DirFiles<R> {
     ghost use Rattle.std.specs.Prelude.{None};
     ghost use Rattle.byte_io.specs.Files.{Untold};
     ghost use Rattle.byte_io.specs.Folders.{folder_faults};
@@ -47,10 +103,8 @@ where
     ghost failed_name = { λ _. None };
 
     fn read_at(&mut self, name: &str, at: u64, buf: &mut [u8]) -> Result<usize, Failed> {
-        if let Ok(file) = File::open(&self.rt, name) {
-            if let Ok(count) = file.read_at(buf, at) {
-                return Ok(count);
-            }
+        if let Ok(count) = self.read_on(name, at, buf) {
+            return Ok(count);
         }
         self.faults = self.faults.saturating_add(1);
         Err(Failed)

@@ -23,6 +23,7 @@ mod files;
 mod folder_files;
 mod memory;
 mod memory_files;
+mod retry;
 mod sink;
 mod source;
 mod standard;

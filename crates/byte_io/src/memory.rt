@@ -1,7 +1,7 @@
 // A source and a sink in memory, which fail at the calls that they are told to. They serve tests.
 ghost use Rattle.std.specs.Prelude.{◌≡◌, ◌↔◌, ◌⊎◌, ◌+◌, ◌≤◌, ◌<◌, [], ◌++◌, length, take, drop, min, Some, IfOk, OnOk, OnErr, IsErr, IsTrue, Contains};
 ghost use Rattle.std.specs.Io.KnownBytes.{ReadConsumes, WriteAppends};
-ghost use Rattle.byte_io.specs.Outside.{next_count};
+ghost use Rattle.byte_io.specs.Outside.{next_fault_count};
 
 use crate::{Failed, Sink, Source};
 use std::alloc::Global;
@@ -30,7 +30,7 @@ impl Calls {
     // Counts a call, and says whether it is to fail.
     pub(crate) fn begin(&mut self) -> bool
         ensures told { IsTrue result ↔ Contains self.old.failing.items self.old.count }
-        ensures counted { self.new ≡ record self.old { count = next_count self.old.count } }
+        ensures counted { self.new ≡ record self.old { count = next_fault_count self.old.count } }
     {
         let fails = self.failing.contains(&self.count);
         self.count = self.count.saturating_add(1);
@@ -39,7 +39,7 @@ impl Calls {
 
     // Counts a fault, and tells it.
     pub(crate) fn fault(&mut self) -> Failed
-        ensures { self.new ≡ record self.old { faults = next_count self.old.faults } }
+        ensures { self.new ≡ record self.old { faults = next_fault_count self.old.faults } }
     {
         self.faults = self.faults.saturating_add(1);
         Failed
@@ -110,11 +110,11 @@ impl Source for MemSource {
         ensures bytes { ReadConsumes (Some self.old.bytes_left) (Some self.new.bytes_left)
             result buf.new }
         ensures no_fault { OnOk result (self.new.faults ≡ self.old.faults) }
-        ensures one_fault { OnErr result (self.new.faults ≡ next_count self.old.faults) }
+        ensures one_fault { OnErr result (self.new.faults ≡ next_fault_count self.old.faults) }
 
         // Which calls fail, and what each changes.
         ensures failed { IsErr result ↔ Contains self.old.failing_calls self.old.calls }
-        ensures counted { self.new.calls ≡ next_count self.old.calls }
+        ensures counted { self.new.calls ≡ next_fault_count self.old.calls }
         ensures failing { self.new.failing_calls ≡ self.old.failing_calls }
 
         ensures count { IfOk result (λ n.
@@ -205,13 +205,13 @@ impl Sink for MemSink {
         ensures bytes { WriteAppends (Some self.old.bytes_written) (Some self.new.bytes_written)
             result bytes.now }
         ensures no_fault { OnOk result (self.new.faults ≡ self.old.faults) }
-        ensures one_fault { OnErr result (self.new.faults ≡ next_count self.old.faults) }
+        ensures one_fault { OnErr result (self.new.faults ≡ next_fault_count self.old.faults) }
 
         // Which calls fail, and what each changes.
         ensures failed { Contains self.old.failing_calls self.old.calls → IsErr result }
         ensures failed_only { OnErr result
             (Contains self.old.failing_calls self.old.calls ⊎ (0 < length bytes.now)) }
-        ensures counted { self.new.calls ≡ next_count self.old.calls }
+        ensures counted { self.new.calls ≡ next_fault_count self.old.calls }
         ensures failing { self.new.failing_calls ≡ self.old.failing_calls }
 
         ensures count { IfOk result (λ n. n ≡ length bytes.now) }

@@ -1,7 +1,7 @@
 // Files in memory, whose reads fail at the calls that they are told to. They serve tests.
 ghost use Rattle.std.specs.Prelude.{◌≡◌, ◌↔◌, ◌⊎◌, ◌<◌, ◌≤◌, ◌++◌, length, take, drop, min, None, IfNone, IfOk, OnOk, OnErr, IfSome, IsErr, Some, Contains};
-ghost use Rattle.byte_io.specs.Outside.{next_count};
-ghost use Rattle.byte_io.specs.Files.{HasAt, EndsBy, IsFaultOf, bytes_of, told_of, named, remembered};
+ghost use Rattle.byte_io.specs.Outside.{next_fault_count};
+ghost use Rattle.byte_io.specs.Files.{HasAt, EndsBy, IsFaultOf, bytes_of, told_of, files_named, remembered};
 
 use crate::memory::Calls;
 use crate::{Failed, Files};
@@ -23,12 +23,12 @@ pub struct MemFiles {
 
 impl Model for MemFiles {
     ghost use Rattle.std.specs.Option.{option_map};
-    ghost use Rattle.byte_io.specs.Files.{FilesState, named};
+    ghost use Rattle.byte_io.specs.Files.{FilesState, files_named};
 
     ghost Value = { FilesState };
 
     ghost view = { λ s. record {
-      files = named s.files.items;
+      files = files_named s.files.items;
       failing_calls = s.calls.failing.items;
       calls = s.calls.count;
       faults = s.calls.faults;
@@ -39,7 +39,7 @@ impl Model for MemFiles {
 impl MemFiles {
     /// These files by name, whose calls with a number in `fail`, counted from 0, fail.
     pub fn new(files: Vec<(String, Vec<u8>)>, fail: Vec<u64>) -> MemFiles
-        ensures files { result.files ≡ named files.items }
+        ensures files { result.files ≡ files_named files.items }
         ensures failing { result.failing_calls ≡ fail.items }
         ensures calls { result.calls ≡ 0 }
         ensures faults { result.faults ≡ 0 }
@@ -68,7 +68,7 @@ impl MemFiles {
 
     // Counts a failed read of the file of this name, and tells it.
     fn fault(&mut self, name: &str) -> Failed
-        ensures { self.new ≡ record self.old { faults = next_count self.old.faults; failed_name = remembered name.now } }
+        ensures { self.new ≡ record self.old { faults = next_fault_count self.old.faults; failed_name = remembered name.now } }
     {
         self.failed_name = ArrayString::from(name).ok();
         self.calls.fault()
@@ -77,8 +77,8 @@ impl MemFiles {
 
 // The bytes of the first file of a name.
 fn find<'f>(files: &'f [(String, Vec<u8>)], name: &str) -> Option<&'f [u8]>
-    ensures none { IfNone result (bytes_of (named files.now) name.now ≡ None) }
-    ensures first { IfSome result (λ bytes. bytes_of (named files.now) name.now ≡ Some bytes.now) }
+    ensures none { IfNone result (bytes_of (files_named files.now) name.now ≡ None) }
+    ensures first { IfSome result (λ bytes. bytes_of (files_named files.now) name.now ≡ Some bytes.now) }
 {
     for file in files {
         if file.0.as_str() == name {
@@ -115,13 +115,13 @@ impl Files for MemFiles {
             n ≡ 0 → 0 < length buf.new → EndsBy (told_of self.old.files name.now) at) }
         ensures stays { told_of self.new.files ≡ told_of self.old.files }
         ensures no_fault { OnOk result (self.new.faults ≡ self.old.faults) }
-        ensures one_fault { OnErr result (self.new.faults ≡ next_count self.old.faults) }
+        ensures one_fault { OnErr result (self.new.faults ≡ next_fault_count self.old.faults) }
         ensures whose { OnErr result (IsFaultOf self.new.failed_name name.now) }
 
         // Which calls fail, and what each changes.
         ensures failed { IsErr result ↔
             (Contains self.old.failing_calls self.old.calls ⊎ (bytes_of self.old.files name.now ≡ None)) }
-        ensures counted { self.new.calls ≡ next_count self.old.calls }
+        ensures counted { self.new.calls ≡ next_fault_count self.old.calls }
         ensures failing { self.new.failing_calls ≡ self.old.failing_calls }
         ensures files { self.new.files ≡ self.old.files }
 

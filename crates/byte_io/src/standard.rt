@@ -1,11 +1,12 @@
 // Sources and sinks over std's readers and writers.
 ghost use Rattle.std.specs.Prelude.{◌≡◌};
 
+use crate::retry::{read_again, write_again};
 use crate::{Failed, Sink, Source};
 use std::io::{Read, Write};
 
-/// A reader of std as a source. Each error of the reader, also one that says that a signal came,
-/// is a fault.
+/// A reader of std as a source. A read that a signal interrupts is made again; each other error of the reader, also one that says
+/// that a read would have to wait, is a fault.
 #[derive(Drop)]
 pub struct StdSource<R> {
     inner: R,
@@ -33,7 +34,7 @@ impl<R: Read> Source for StdSource<R> {
     } };
 
     fn read(&mut self, buf: &mut [u8]) -> Result<usize, Failed> {
-        if let Ok(count) = self.inner.read(buf) {
+        if let Ok(count) = read_again(&mut self.inner, buf) {
             return Ok(count);
         }
         self.faults = self.faults.saturating_add(1);
@@ -41,8 +42,8 @@ impl<R: Read> Source for StdSource<R> {
     }
 }
 
-/// A writer of std as a sink. Each error of the writer, and each write of a piece of which it
-/// takes nothing, is a fault. A writer with a buffer of its own may keep bytes back.
+/// A writer of std as a sink. A write that a signal interrupts is made again; each other error of the writer, and each write of a
+/// piece of which it takes nothing, is a fault. A writer with a buffer of its own may keep bytes back.
 #[derive(Drop)]
 pub struct StdSink<W> {
     inner: W,
@@ -77,7 +78,7 @@ impl<W: Write> Sink for StdSink<W> {
     } };
 
     fn write(&mut self, bytes: &[u8]) -> Result<usize, Failed> {
-        if let Ok(count) = self.inner.write(bytes) {
+        if let Ok(count) = write_again(&mut self.inner, bytes) {
             if count > 0 || bytes.is_empty() {
                 return Ok(count);
             }

@@ -16,7 +16,7 @@ use Rattle.calc_parser.specs.Tree.{Tree, num, window, calc, neg, abs, two, compa
 use Rattle.trend_num.specs.declared.value.Bad.TheVariants.{NoData, DivZero, Range}
 use Rattle.trend_num.specs.declared.value.CalcValue.{CalcValue}
 use Rattle.trend_num.specs.declared.value.CalcValue.TheVariants.{Num, Bad}
-use Rattle.sheet_law.specs.Number.{bounded, IsInRange, measured_value, after, floor_div, floor_rem, operated, holds, compared}
+use Rattle.sheet_law.specs.Number.{bounded, IsInRange, measured_value, after_operation, floor_div, floor_rem, operated, holds, compared}
 use Rattle.calc_check.specs.Group.{Group, Calculation, names_of}
 use Rattle.sheet_law.specs.Value.{Scope, value, at_name, scope, values}
 
@@ -35,7 +35,7 @@ bounded_range n = by_test (nat_le (unsigned_abs n) largest_number) (leb-true (un
     by_test false small = tt
 
 -- what an operation makes of any operand
-after_range : (v : CalcValue) (f : ℤ → CalcValue) → ((n : ℤ) → IsInRange (f n)) → IsInRange (after v f)
+after_range : (v : CalcValue) (f : ℤ → CalcValue) → ((n : ℤ) → IsInRange (f n)) → IsInRange (after_operation v f)
 after_range (Num n) f each = each n
 after_range (Bad why) f each = tt
 
@@ -72,10 +72,10 @@ value_range s from to earlier (neg a) = after_range (value s from to a) (λ n. b
 value_range s from to earlier (abs a) =
     after_range (value s from to a) (λ n. bounded (pos (unsigned_abs n))) (λ n. bounded_range (pos (unsigned_abs n)))
 value_range s from to earlier (two op a b) =
-    after_range (value s from to a) (λ m. after (value s from to b) (operated op m))
+    after_range (value s from to a) (λ m. after_operation (value s from to b) (operated op m))
     (λ m. after_range (value s from to b) (operated op m) (operated_range op m))
 value_range s from to earlier (compare cmp a b) =
-    after_range (value s from to a) (λ m. after (value s from to b) (compared cmp m))
+    after_range (value s from to a) (λ m. after_operation (value s from to b) (compared cmp m))
     (λ m. after_range (value s from to b) (compared cmp m) (compared_range cmp m))
 value_range s from to earlier (choose c a b) =
     after_range (value s from to c) (λ n. cond (int_eq n (pos 0)) (value s from to b) (value s from to a))

@@ -5,9 +5,9 @@ use Rattle.std.proofs.Math.Seq.{drop-append_seam}
 use Rattle.calc_parser.specs.declared.parser.Stop.{Stop}
 use Rattle.calc_parser.specs.declared.parser.Stop.TheVariants as stop
 use Rattle.calc_parser.specs.declared.token.Token.{Token}
-use Rattle.calc_parser.specs.Formulas.{most_bytes, IsFormula, IsSyntax, IsDeep, HasCause, Gives, kind_of}
+use Rattle.calc_parser.specs.Formulas.{most_bytes, IsFormula, IsSyntax, IsDeep, HasFormulaCause, Gives, kind_of}
 use Rattle.calc_parser.specs.Grammar.{formula, words}
-use Rattle.calc_parser.specs.Scan.{whole, scan, fine, Spells, Stops, refusal_of}
+use Rattle.calc_parser.specs.Scan.{whole, scan, fine, SpellsTokens, Stops, refusal_of}
 use Rattle.calc_parser.specs.Tokens.{tokens_of, places_of}
 use Rattle.calc_parser.specs.Tree.{Tree}
 use Rattle.calc_parser.proofs.Builds.{same_tree}
@@ -16,7 +16,7 @@ use Rattle.calc_parser.proofs.Verdicts.{IsAt, IsStuck, PlungesAt, Explains, expl
 -- tokens that all may stand, and spell a tree, make a formula
 pub is_formula : (text : List ℕ) (tokens : List Token) (t : Tree) → tokens ≡ tokens_of text
     → length text ≤ most_bytes
-    → Spells formula tokens [] t → scan (whole 0 []) tokens ≡ fine → IsFormula text t
+    → SpellsTokens formula tokens [] t → scan (whole 0 []) tokens ≡ fine → IsFormula text t
 is_formula text tokens t lexed short s verdict =
     let spelled : words s.reading ≡ tokens = sym (s.cut ∙ append-nil (words s.reading)) in
     record {
@@ -84,7 +84,7 @@ module _ (text : List ℕ) (tokens : List Token) (places : List ℕ) (lexed : to
   -- the token of a refusal decides
   pub has_cause : (why : Stop) (rest : List Token) → length text ≤ most_bytes
       → Stops why (scan (whole 0 []) tokens) rest
-      → HasCause text (refusal_of why (get_or places (length tokens - length rest) (length text))
+      → HasFormulaCause text (refusal_of why (get_or places (length tokens - length rest) (length text))
       (drop (length tokens - length rest) tokens))
   has_cause stop.Off rest short verdict =
       let e = subst (λ v. Explains (whole 0 []) tokens v) verdict (explains (whole 0 []) tokens) in

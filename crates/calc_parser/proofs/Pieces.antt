@@ -23,7 +23,7 @@ use Rattle.std.specs.Str.{bytes_eq}
 use Rattle.trend_num.specs.Numerals.{digits_value}
 use Rattle.calc_parser.specs.declared.token.Token.{Token}
 use Rattle.calc_parser.specs.Canonical.{spelling, spelled, measure_word}
-use Rattle.calc_parser.specs.Tokens.{Piece, is_letter, is_name, largest_number, ill, measured_or, numeral_of, measure_of, other_word, word_of, quoted_of, less_of, greater_of, sign_of, or_ill, token_at, lexemes}
+use Rattle.calc_parser.specs.Tokens.{Piece, is_letter, is_name, largest_number, ill, measured_or, numeral_of, measure_word_of, other_word, word_of, quoted_of, less_of, greater_of, sign_of, or_ill, token_at, lexemes}
 use Rattle.calc_parser.proofs.Lexing.{run_passes}
 use Rattle.trend_num.proofs.NameText.{both_left, both_right}
 use Rattle.calc_parser.proofs.Written.{IsWritten, AllWritten}
@@ -148,7 +148,7 @@ as_long : (w word : List ℕ) → bytes_eq w word ≡ true → length word ≤ l
 as_long w word e = omega (arith, ap length ((bytes_eq-Decides w word).0 e))
 
 -- each measure's word
-measure_words : (w : List ℕ) → MeasureWords (length w) (measure_of w)
+measure_words : (w : List ℕ) → MeasureWords (length w) (measure_word_of w)
 measure_words w =
     or_measure (length w) _ (Some Avg) _ (λ e. (
       (λ h. cc),
@@ -312,7 +312,7 @@ token_piece bytes some =
       arith,
       prefix_len-le-length is_letter bytes,
     ))
-    (measured_words (length w) (measure_of w) (other_word w) (measure_words w).fits (other_words w).fits))
+    (measured_words (length w) (measure_word_of w) (other_word w) (measure_words w).fits (other_words w).fits))
     (λ _. either bytes (nat_eq b 39) _ _ (λ e. quoted_piece bytes _ refl)
     (λ _. either bytes (nat_eq b 60) _ _ (λ e. less_piece bytes some)
     (λ _. either bytes (nat_eq b 62) _ _ (λ e. greater_piece bytes some)

@@ -11,11 +11,11 @@ use Rattle.calc_parser.specs.declared.token.Token.{Token}
 use Rattle.calc_parser.specs.declared.token.Token.TheVariants.{Number, Quoted, Measuring, Calculation, Absolute, Picking, Choice, Open, Close, Comma, Summing, Multiplying, Comparing, End}
 use Rattle.calc_parser.specs.Grammar.{Level, formula, sums, terms, factor, plain, compared, one_term, more_terms, one_factor, more_factors, negated, numeral, grouped, measured, calculated, absolute, picked, chosen, words, sum_op, product_op, pick_op}
 use Rattle.calc_parser.specs.Tree.{Tree, num, window, calc, neg, abs, two, compare, choose}
-use Rattle.calc_parser.specs.Scan.{head, Stack, operand, more, scan, refused, Spells, SpellsFirst, SpellsNext, SpellsAfter, EndsTerms, EndsSums}
+use Rattle.calc_parser.specs.Scan.{head, Stack, operand, more, scan, refused, SpellsTokens, SpellsFirst, SpellsNext, SpellsAfter, EndsTerms, EndsSums}
 
 -- the tokens before the rest spell a sum or a term, and may stand where an operand is expected
 pub record IsReadSoFar (level : Level) (n : ℕ) (tokens rest : List Token) (t : Tree) : Type 0 where
-  pub spells : Spells level tokens rest t
+  pub spells : SpellsTokens level tokens rest t
   pub follows : (k : Stack) (c : Bool) → scan (operand n ∷ more n c ∷ k) tokens ≡ scan (more n c ∷ k) rest
 
 -- the next token is passed over
@@ -27,12 +27,12 @@ passed (x ∷ ts) t1 t e differs d = ap (λ y. y ∷ ts) (sym e) ∙ ap (λ l. t
 
 -- a number
 pub spells_number : {ts rest : List Token} {n : ℤ} {t : Tree} → ts ≡ Number n ∷ rest → t ≡ num n
-    → Spells factor ts rest t
+    → SpellsTokens factor ts rest t
 spells_number e same = record { reading = numeral _; cut = e; tree_is = sym same }
 
 -- a formula in brackets
 pub spells_group : {ts rest : List Token} {t : Tree} → SpellsFirst ts (Close ∷ rest) t
-    → Spells factor ts rest t
+    → SpellsTokens factor ts rest t
 spells_group {rest = rest} s = record {
   reading = grouped s.reading;
   cut = s.cut ∙ ap (λ l. Open ∷ l) (sym (append_assoc (words s.reading) (Close ∷ []) rest));
@@ -42,7 +42,7 @@ spells_group {rest = rest} s = record {
 -- a measure of a tag
 pub spells_measure : {ts t1 rest : List Token} {m : Measure} {tag : List ℕ} → ts ≡ Measuring m ∷ t1
     → t1 ≡ Open ∷ Quoted tag ∷ Close ∷ rest
-    → Spells factor ts rest (window m tag)
+    → SpellsTokens factor ts rest (window m tag)
 spells_measure {m = m} e f = record {
   reading = measured m _;
   cut = e
@@ -53,7 +53,7 @@ spells_measure {m = m} e f = record {
 -- an earlier calculation
 pub spells_calculation : {ts t1 rest : List Token} {name : List ℕ} → ts ≡ Calculation ∷ t1
     → t1 ≡ Open ∷ Quoted name ∷ Close ∷ rest
-    → Spells factor ts rest (calc name)
+    → SpellsTokens factor ts rest (calc name)
 spells_calculation e f = record {
   reading = calculated _;
   cut = e
@@ -64,7 +64,7 @@ spells_calculation e f = record {
 -- a size
 pub spells_absolute : {ts t1 rest : List Token} {a t : Tree} → ts ≡ Absolute ∷ t1
     → SpellsFirst t1 (Close ∷ rest) a → t ≡ abs a
-    → Spells factor ts rest t
+    → SpellsTokens factor ts rest t
 spells_absolute {rest = rest} e s same = record {
   reading = absolute s.reading;
   cut = e ∙ ap (λ l. Absolute ∷ l) s.cut
@@ -74,8 +74,8 @@ spells_absolute {rest = rest} e s same = record {
 
 -- an operand after a sign
 pub spells_negated : {ts t1 rest : List Token} {a t : Tree} → ts ≡ Summing Minus ∷ t1
-    → Spells factor t1 rest a → t ≡ neg a
-    → Spells factor ts rest t
+    → SpellsTokens factor t1 rest a → t ≡ neg a
+    → SpellsTokens factor ts rest t
 spells_negated e s same = record {
   reading = negated s.reading;
   cut = e ∙ ap (λ l. Summing Minus ∷ l) s.cut;
@@ -113,9 +113,9 @@ spells_chosen {t0} {rest = rest} f g h e same =
 -- larger formulas
 
 -- a comparison
-pub spells_compared : {ts t1 t2 rest : List Token} {cmp : Cmp} {a b t : Tree} → Spells sums ts t1 a
+pub spells_compared : {ts t1 t2 rest : List Token} {cmp : Cmp} {a b t : Tree} → SpellsTokens sums ts t1 a
     → t1 ≡ Comparing cmp ∷ t2
-    → Spells sums t2 rest b → t ≡ compare cmp a b → Spells formula ts rest t
+    → SpellsTokens sums t2 rest b → t ≡ compare cmp a b → SpellsTokens formula ts rest t
 spells_compared {rest = rest} {cmp = cmp} f e g same = record {
   reading = compared f.reading cmp g.reading;
   cut = f.cut ∙ ap (λ l. words f.reading ++ l) (e ∙ ap (λ l. Comparing cmp ∷ l) g.cut)
@@ -124,11 +124,11 @@ spells_compared {rest = rest} {cmp = cmp} f e g same = record {
 }
 
 -- a sum alone
-pub spells_plain : {ts rest : List Token} {t : Tree} → Spells sums ts rest t → Spells formula ts rest t
+pub spells_plain : {ts rest : List Token} {t : Tree} → SpellsTokens sums ts rest t → SpellsTokens formula ts rest t
 spells_plain s = record { reading = plain s.reading; cut = s.cut; tree_is = s.tree_is }
 
 -- a first term, and one more after a sign
-pub first_term : {n : ℕ} {ts rest : List Token} {t : Tree} → Spells terms ts rest t
+pub first_term : {n : ℕ} {ts rest : List Token} {t : Tree} → SpellsTokens terms ts rest t
     → ((k : Stack) (c : Bool) → scan (operand n ∷ more n c ∷ k) ts ≡ scan (more n c ∷ k) rest)
     → IsReadSoFar sums n ts rest t
 first_term s follows = record {
@@ -139,7 +139,7 @@ first_term s follows = record {
 -- one more term
 pub next_term : {n : ℕ} {ts t1 t2 rest : List Token} {sign : Sum} {a b t : Tree} → IsReadSoFar sums n ts t1 a
     → t1 ≡ Summing sign ∷ t2
-    → Spells terms t2 rest b → ((k : Stack) (c : Bool)
+    → SpellsTokens terms t2 rest b → ((k : Stack) (c : Bool)
     → scan (operand n ∷ more n c ∷ k) t2 ≡ scan (more n c ∷ k) rest)
     → t ≡ two (sum_op sign) a b → IsReadSoFar sums n ts rest t
 next_term {n} {rest = rest} {sign = sign} f e g follows same = record {
@@ -153,7 +153,7 @@ next_term {n} {rest = rest} {sign = sign} f e g follows same = record {
 }
 
 -- a first factor, and one more after a sign
-pub first_factor : {n : ℕ} {ts rest : List Token} {t : Tree} → Spells factor ts rest t
+pub first_factor : {n : ℕ} {ts rest : List Token} {t : Tree} → SpellsTokens factor ts rest t
     → ((k : Stack) → scan (operand n ∷ k) ts ≡ scan k rest) → IsReadSoFar terms n ts rest t
 first_factor {n} s follows = record {
   spells = record { reading = one_factor s.reading; cut = s.cut; tree_is = s.tree_is };
@@ -163,7 +163,7 @@ first_factor {n} s follows = record {
 -- one more factor
 pub next_factor : {n : ℕ} {ts t1 t2 rest : List Token} {sign : Product} {a b t : Tree}
     → IsReadSoFar terms n ts t1 a
-    → t1 ≡ Multiplying sign ∷ t2 → Spells factor t2 rest b
+    → t1 ≡ Multiplying sign ∷ t2 → SpellsTokens factor t2 rest b
     → ((k : Stack) → scan (operand n ∷ k) t2 ≡ scan k rest)
     → t ≡ two (product_op sign) a b → IsReadSoFar terms n ts rest t
 next_factor {n} {rest = rest} {sign = sign} f e g follows same = record {

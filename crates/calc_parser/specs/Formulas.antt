@@ -79,11 +79,11 @@ pub record IsDeep (text : List ℕ) (place : ℕ) : Type 0 where
   pub placed : place ≡ slice_index_or (places_of text) (length front) (length text)
 
 -- why a text is refused
-abbrev pub HasCause : List ℕ → ParseNo → Type 0
-HasCause text (Long n) = (most_bytes < length text) × (n ≡ length text)
-HasCause text (Deep place) = (length text ≤ most_bytes) × IsDeep text place
-HasCause text (Syntax place why) = (length text ≤ most_bytes) × IsSyntax text place why
-HasCause text WantOfMemory = Unit {0}
+abbrev pub HasFormulaCause : List ℕ → ParseNo → Type 0
+HasFormulaCause text (Long n) = (most_bytes < length text) × (n ≡ length text)
+HasFormulaCause text (Deep place) = (length text ≤ most_bytes) × IsDeep text place
+HasFormulaCause text (Syntax place why) = (length text ≤ most_bytes) × IsSyntax text place why
+HasFormulaCause text WantOfMemory = Unit {0}
 
 -- this tree is given, or no memory was found
 abbrev pub Gives : Result Expr ParseNo → Tree → Type 0

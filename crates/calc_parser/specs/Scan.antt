@@ -60,9 +60,9 @@ abbrev pub at_bracket : ℕ → Stack → Token → Next
 at_bracket n k Open = Some (n + 1, k)
 at_bracket n k token = None
 
-abbrev pub at_name : Stack → Token → Next
-at_name k (Quoted bytes) = Some (0, k)
-at_name k token = None
+abbrev pub is_at_name : Stack → Token → Next
+is_at_name k (Quoted bytes) = Some (0, k)
+is_at_name k token = None
 
 abbrev pub at_comma : Stack → Token → Next
 at_comma k Comma = Some (0, k)
@@ -77,7 +77,7 @@ step [] token = None
 step (operand n ∷ k) token = at_operand n k token
 step (more n c ∷ k) token = at_more n c k (step k token) token
 step (bracket n ∷ k) token = at_bracket n k token
-step (name ∷ k) token = at_name k token
+step (name ∷ k) token = is_at_name k token
 step (comma ∷ k) token = at_comma k token
 step (close ∷ k) token = at_close k token
 
@@ -102,7 +102,7 @@ scan k [] = if may_end k then fine else refused []
 scan k (token ∷ tokens) = judged (step k token) (token ∷ tokens) (λ next. scan next tokens)
 
 -- a derivation's tokens stand before the rest, and this is its tree
-pub record Spells (level : Level) (tokens rest : List Token) (t : Tree) : Type 0 where
+pub record SpellsTokens (level : Level) (tokens rest : List Token) (t : Tree) : Type 0 where
   pub reading : Reading level
   pub cut : tokens ≡ words reading ++ rest
   pub tree_is : tree reading ≡ t
@@ -132,9 +132,9 @@ Stops stop.Deep all rest = all ≡ deep rest
 Stops stop.WantOfMemory all rest = Unit {0}
 
 -- where a call succeeds its tokens leave that verdict, and else they have the one of its refusal
-abbrev pub Follows : {A : Type 0} → Result A Stop → Verdict → Verdict → List Token → Type 0
-Follows (Ok x) all left rest = all ≡ left
-Follows (Err why) all left rest = Stops why all rest
+abbrev pub LeavesVerdict : {A : Type 0} → Result A Stop → Verdict → Verdict → List Token → Type 0
+LeavesVerdict (Ok x) all left rest = all ≡ left
+LeavesVerdict (Err why) all left rest = Stops why all rest
 
 -- no sign between factors comes next
 abbrev pub EndsTerms : List Token → Type 0

@@ -37,8 +37,8 @@ abbrev pub is_letter : ℕ → Bool
 is_letter b = nat_le 97 b && nat_le b 122
 
 -- the words of measures
-abbrev pub measure_of : List ℕ → Option Measure
-measure_of w =
+abbrev pub measure_word_of : List ℕ → Option Measure
+measure_word_of w =
     if bytes_eq w (codes "avg") then Some Avg
     else if bytes_eq w (codes "total") then Some Total
     else if bytes_eq w (codes "low") then Some Low
@@ -61,7 +61,7 @@ measured_or None other = other
 measured_or (Some m) other = Some (Measuring m)
 
 abbrev pub word_of : List ℕ → Option Token
-word_of w = measured_or (measure_of w) (other_word w)
+word_of w = measured_or (measure_word_of w) (other_word w)
 
 abbrev pub or_ill : Option Token → ℕ → SyntaxKind → List ℕ → Piece
 or_ill None n why bytes = ill why bytes

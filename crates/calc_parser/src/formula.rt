@@ -1,7 +1,7 @@
 // From a text to its tree.
 
 ghost use Rattle.std.specs.Prelude.{◌≡◌, ◌-◌, ◌≤◌, ◌<◌, Err, length, drop, slice_index_or, IfOk, IfErr};
-ghost use Rattle.calc_parser.specs.Formulas.{most_bytes, IsFormula, HasCause, Gives, kind_of};
+ghost use Rattle.calc_parser.specs.Formulas.{most_bytes, IsFormula, HasFormulaCause, Gives, kind_of};
 ghost use Rattle.calc_parser.specs.declared.refusal.ParseNo.TheVariants.{Long};
 ghost use Rattle.calc_parser.specs.Scan.{refusal_of};
 ghost use Rattle.calc_parser.specs.Tree.{Tree, tree_of};
@@ -24,7 +24,7 @@ pub fn parse(alloc: Global, text: &str) -> Result<Expr, ParseNo>
     // A text that is too long is told as such, whatever memory there is.
     ensures long { most_bytes < length text.now → result ≡ Err (Long (length text.now)) }
     // What each refusal means.
-    ensures refused { IfErr result (HasCause text.now) }
+    ensures refused { IfErr result (HasFormulaCause text.now) }
 {
     let bytes = text.as_bytes();
     if bytes.len() > MAX_BYTES {

@@ -4,7 +4,7 @@ ghost use Rattle.std.specs.Prelude.{◌≡◌, ◌<◌, ◌≤◌, ◌+◌, true
 ghost use Rattle.std.specs.Char.{is_ascii_digit};
 ghost use Rattle.std.specs.List.{list_all, prefix_len};
 ghost use Rattle.trend_num.specs.Numerals.{digits_value};
-ghost use Rattle.calc_parser.specs.Tokens.{numeral_of, is_letter, measure_of, other_word, word_of, word_at, name_of, quoted_of, less_of, greater_of, sign_of, token_at, tokens_of, places_of};
+ghost use Rattle.calc_parser.specs.Tokens.{numeral_of, is_letter, measure_word_of, other_word, word_of, word_at, name_of, quoted_of, less_of, greater_of, sign_of, token_at, tokens_of, places_of};
 
 use crate::token::{Lexed, Pick, Product, Sum, Token};
 use crate::{Cmp, SyntaxKind};
@@ -125,7 +125,7 @@ fn word_of(word: &[u8]) -> Option<Token>
 
 // The measure that a word names.
 fn measure_of(word: &[u8]) -> Option<Measure>
-    ensures { result ≡ measure_of word.now }
+    ensures { result ≡ measure_word_of word.now }
 {
     if word == b"avg".as_slice() {
         Some(Measure::Avg)

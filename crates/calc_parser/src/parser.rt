@@ -5,7 +5,7 @@ ghost use Rattle.calc_parser.specs.Formulas.{deepest};
 ghost use Rattle.calc_parser.specs.Grammar.{formula, sums, terms, factor};
 ghost use Rattle.calc_parser.specs.Tree.{tree_of};
 ghost use Rattle.calc_parser.specs.declared.token.Token.TheVariants.{Summing, Open, Close, Comma, Quoted, Picking, Choice};
-ghost use Rattle.calc_parser.specs.Scan.{head, Stack, operand, more, bracket, name, comma, close, whole, scan, refused, deep, fine, Spells, SpellsFirst, SpellsNext, SpellsAfter, Follows, EndsTerms, EndsSums};
+ghost use Rattle.calc_parser.specs.Scan.{head, Stack, operand, more, bracket, name, comma, close, whole, scan, refused, deep, fine, SpellsTokens, SpellsFirst, SpellsNext, SpellsAfter, LeavesVerdict, EndsTerms, EndsSums};
 
 use crate::Expr;
 use crate::builder::{absolute, chosen, compared, negated, pick_op, product_op, sum_op, two};
@@ -82,8 +82,8 @@ impl<'t> Parser<'t> {
 
     // A whole formula, with nothing after it.
     pub(crate) fn all(&mut self) -> Result<Expr, Stop>
-        ensures parsed { IfOk result (λ e. Spells formula self.old.rest.now [] (tree_of e)) }
-        ensures follows { Follows result (scan (whole 0 []) self.old.rest.now) fine self.new.rest.now }
+        ensures parsed { IfOk result (λ e. SpellsTokens formula self.old.rest.now [] (tree_of e)) }
+        ensures follows { LeavesVerdict result (scan (whole 0 []) self.old.rest.now) fine self.new.rest.now }
     {
         let e = self.formula(0)?;
         if self.rest.is_empty() {
@@ -97,8 +97,8 @@ impl<'t> Parser<'t> {
     #[cycle(parser)]
     fn formula(&mut self, level: u32) -> Result<Expr, Stop>
         requires { level ≤ deepest }
-        ensures parsed { IfOk result (λ e. Spells formula self.old.rest.now self.new.rest.now (tree_of e)) }
-        ensures follows { (k : Stack) → Follows result (scan (whole level k) self.old.rest.now) (scan k self.new.rest.now) self.new.rest.now }
+        ensures parsed { IfOk result (λ e. SpellsTokens formula self.old.rest.now self.new.rest.now (tree_of e)) }
+        ensures follows { (k : Stack) → LeavesVerdict result (scan (whole level k) self.old.rest.now) (scan k self.new.rest.now) self.new.rest.now }
     {
         let left = self.sum(level)?;
         match self.peek() {
@@ -115,8 +115,8 @@ impl<'t> Parser<'t> {
     #[cycle(parser)]
     fn sum(&mut self, level: u32) -> Result<Expr, Stop>
         requires { level ≤ deepest }
-        ensures parsed { IfOk result (λ e. Spells sums self.old.rest.now self.new.rest.now (tree_of e)) }
-        ensures follows { (k : Stack) (c : Bool) → Follows result
+        ensures parsed { IfOk result (λ e. SpellsTokens sums self.old.rest.now self.new.rest.now (tree_of e)) }
+        ensures follows { (k : Stack) (c : Bool) → LeavesVerdict result
             (scan (operand level ∷ more level c ∷ k) self.old.rest.now)
             (scan (more level c ∷ k) self.new.rest.now) self.new.rest.now }
         ensures ends { OnOk result (EndsSums self.new.rest.now) }
@@ -134,8 +134,8 @@ impl<'t> Parser<'t> {
     #[cycle(parser)]
     fn term(&mut self, level: u32) -> Result<Expr, Stop>
         requires { level ≤ deepest }
-        ensures parsed { IfOk result (λ e. Spells terms self.old.rest.now self.new.rest.now (tree_of e)) }
-        ensures follows { (k : Stack) (c : Bool) → Follows result
+        ensures parsed { IfOk result (λ e. SpellsTokens terms self.old.rest.now self.new.rest.now (tree_of e)) }
+        ensures follows { (k : Stack) (c : Bool) → LeavesVerdict result
             (scan (operand level ∷ more level c ∷ k) self.old.rest.now)
             (scan (more level c ∷ k) self.new.rest.now) self.new.rest.now }
         ensures ends { OnOk result (EndsTerms self.new.rest.now) }
@@ -153,8 +153,8 @@ impl<'t> Parser<'t> {
     #[cycle(parser)]
     fn factor(&mut self, level: u32) -> Result<Expr, Stop>
         requires { level ≤ deepest }
-        ensures parsed { IfOk result (λ e. Spells factor self.old.rest.now self.new.rest.now (tree_of e)) }
-        ensures follows { (k : Stack) → Follows result (scan (operand level ∷ k) self.old.rest.now)
+        ensures parsed { IfOk result (λ e. SpellsTokens factor self.old.rest.now self.new.rest.now (tree_of e)) }
+        ensures follows { (k : Stack) → LeavesVerdict result (scan (operand level ∷ k) self.old.rest.now)
             (scan k self.new.rest.now) self.new.rest.now }
     {
         match self.peek() {
@@ -196,8 +196,8 @@ impl<'t> Parser<'t> {
     fn signed(&mut self, sign: Sum, level: u32) -> Result<Expr, Stop>
         requires level { level ≤ deepest }
         requires sign { head self.old.rest.now ≡ Summing sign }
-        ensures parsed { IfOk result (λ e. Spells factor self.old.rest.now self.new.rest.now (tree_of e)) }
-        ensures follows { (k : Stack) → Follows result (scan (operand level ∷ k) self.old.rest.now)
+        ensures parsed { IfOk result (λ e. SpellsTokens factor self.old.rest.now self.new.rest.now (tree_of e)) }
+        ensures follows { (k : Stack) → LeavesVerdict result (scan (operand level ∷ k) self.old.rest.now)
             (scan k self.new.rest.now) self.new.rest.now }
     {
         match sign {
@@ -218,7 +218,7 @@ impl<'t> Parser<'t> {
     fn bracketed(&mut self, level: u32) -> Result<Expr, Stop>
         requires { level ≤ deepest }
         ensures parsed { IfOk result (λ e. SpellsFirst self.old.rest.now (Close ∷ self.new.rest.now) (tree_of e)) }
-        ensures follows { (k : Stack) → Follows result (scan (bracket level ∷ whole (level + 1) (close ∷ k)) self.old.rest.now)
+        ensures follows { (k : Stack) → LeavesVerdict result (scan (bracket level ∷ whole (level + 1) (close ∷ k)) self.old.rest.now)
             (scan k self.new.rest.now) self.new.rest.now }
     {
         let inner = self.first(level)?;
@@ -231,7 +231,7 @@ impl<'t> Parser<'t> {
     fn picked(&mut self, pick: Pick, level: u32) -> Result<Expr, Stop>
         requires { level ≤ deepest }
         ensures parsed { IfOk result (λ e. SpellsAfter (Picking pick) self.old.rest.now self.new.rest.now (tree_of e)) }
-        ensures follows { (k : Stack) → Follows result
+        ensures follows { (k : Stack) → LeavesVerdict result
             (scan (bracket level ∷ whole (level + 1) (comma ∷ whole (level + 1) (close ∷ k))) self.old.rest.now)
             (scan k self.new.rest.now) self.new.rest.now }
     {
@@ -246,7 +246,7 @@ impl<'t> Parser<'t> {
     fn chosen(&mut self, level: u32) -> Result<Expr, Stop>
         requires { level ≤ deepest }
         ensures parsed { IfOk result (λ e. SpellsAfter Choice self.old.rest.now self.new.rest.now (tree_of e)) }
-        ensures follows { (k : Stack) → Follows result
+        ensures follows { (k : Stack) → LeavesVerdict result
             (scan (bracket level ∷ whole (level + 1) (comma ∷ whole (level + 1) (comma ∷ whole (level + 1) (close ∷ k)))) self.old.rest.now)
             (scan k self.new.rest.now) self.new.rest.now }
     {
@@ -262,7 +262,7 @@ impl<'t> Parser<'t> {
     fn first(&mut self, level: u32) -> Result<Expr, Stop>
         requires { level ≤ deepest }
         ensures parsed { IfOk result (λ e. SpellsFirst self.old.rest.now self.new.rest.now (tree_of e)) }
-        ensures follows { (k : Stack) → Follows result (scan (bracket level ∷ whole (level + 1) k) self.old.rest.now)
+        ensures follows { (k : Stack) → LeavesVerdict result (scan (bracket level ∷ whole (level + 1) k) self.old.rest.now)
             (scan k self.new.rest.now) self.new.rest.now }
         ensures room { OnOk result (level < deepest) }
     {
@@ -275,7 +275,7 @@ impl<'t> Parser<'t> {
     fn next(&mut self, level: u32) -> Result<Expr, Stop>
         requires { level < deepest }
         ensures parsed { IfOk result (λ e. SpellsNext self.old.rest.now self.new.rest.now (tree_of e)) }
-        ensures follows { (k : Stack) → Follows result (scan (comma ∷ whole (level + 1) k) self.old.rest.now)
+        ensures follows { (k : Stack) → LeavesVerdict result (scan (comma ∷ whole (level + 1) k) self.old.rest.now)
             (scan k self.new.rest.now) self.new.rest.now }
     {
         self.comma()?;
@@ -286,7 +286,7 @@ impl<'t> Parser<'t> {
     fn named(&mut self, level: u32) -> Result<Name, Stop>
         requires { level ≤ deepest }
         ensures parsed { IfOk result (λ n. self.old.rest.now ≡ Open ∷ Quoted n ∷ Close ∷ self.new.rest.now) }
-        ensures follows { (k : Stack) → Follows result (scan (bracket level ∷ name ∷ close ∷ k) self.old.rest.now)
+        ensures follows { (k : Stack) → LeavesVerdict result (scan (bracket level ∷ name ∷ close ∷ k) self.old.rest.now)
             (scan k self.new.rest.now) self.new.rest.now }
     {
         self.open(level)?;
@@ -299,7 +299,7 @@ impl<'t> Parser<'t> {
     fn open(&mut self, level: u32) -> Result<(), Stop>
         requires { level ≤ deepest }
         ensures parsed { OnOk result (self.old.rest.now ≡ Open ∷ self.new.rest.now) }
-        ensures follows { (k : Stack) → Follows result (scan (bracket level ∷ k) self.old.rest.now)
+        ensures follows { (k : Stack) → LeavesVerdict result (scan (bracket level ∷ k) self.old.rest.now)
             (scan k self.new.rest.now) self.new.rest.now }
         ensures room { OnOk result (level < deepest) }
     {
@@ -318,7 +318,7 @@ impl<'t> Parser<'t> {
     // A closing bracket.
     fn close(&mut self) -> Result<(), Stop>
         ensures parsed { OnOk result (self.old.rest.now ≡ Close ∷ self.new.rest.now) }
-        ensures follows { (k : Stack) → Follows result (scan (close ∷ k) self.old.rest.now)
+        ensures follows { (k : Stack) → LeavesVerdict result (scan (close ∷ k) self.old.rest.now)
             (scan k self.new.rest.now) self.new.rest.now }
     {
         match self.peek() {
@@ -333,7 +333,7 @@ impl<'t> Parser<'t> {
     // A comma.
     fn comma(&mut self) -> Result<(), Stop>
         ensures parsed { OnOk result (self.old.rest.now ≡ Comma ∷ self.new.rest.now) }
-        ensures follows { (k : Stack) → Follows result (scan (comma ∷ k) self.old.rest.now)
+        ensures follows { (k : Stack) → LeavesVerdict result (scan (comma ∷ k) self.old.rest.now)
             (scan k self.new.rest.now) self.new.rest.now }
     {
         match self.peek() {
@@ -348,7 +348,7 @@ impl<'t> Parser<'t> {
     // A quoted name.
     fn quoted(&mut self) -> Result<Name, Stop>
         ensures parsed { IfOk result (λ n. self.old.rest.now ≡ Quoted n ∷ self.new.rest.now) }
-        ensures follows { (k : Stack) → Follows result (scan (name ∷ k) self.old.rest.now)
+        ensures follows { (k : Stack) → LeavesVerdict result (scan (name ∷ k) self.old.rest.now)
             (scan k self.new.rest.now) self.new.rest.now }
     {
         match self.peek() {

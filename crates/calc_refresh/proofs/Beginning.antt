@@ -16,7 +16,7 @@ use Rattle.calc_check.specs.Group.{Group}
 use Rattle.sheet_law.specs.declared.grid.Grid.{Grid}
 use Rattle.sheet_law.specs.Windows.{complete_windows}
 use Rattle.sheet_law.specs.Scratch.{IsScratch}
-use Rattle.calc_refresh.specs.Refreshed.{IsToldOf, shape_fault}
+use Rattle.calc_refresh.specs.Refreshed.{IsRefreshToldOf, shape_fault}
 
 -- where no row is told each has its length
 pub shapes_hold : (windows : ℕ) (rows : List (List CalcValue)) → shape_fault windows rows ≡ None
@@ -83,7 +83,7 @@ few_by (v ∷ rows) n bound some long short =
     omega (arith, is, few)
 
 -- a fault that is there is what is told
-pub told_of : (o : Option SheetNo) (why : SheetNo) → o ≡ Some why → IsToldOf o why
+pub told_of : (o : Option SheetNo) (why : SheetNo) → o ≡ Some why → IsRefreshToldOf o why
 told_of o (Shape windows rows) is = is
 told_of o (CellLimit cells) is = is
 told_of o (CopyLimit records) is = is

@@ -45,11 +45,11 @@ abbrev pub fault_after : SheetState → List (List Rec) → Option SheetNo
 fault_after s mores = limit_fault (cells_after s mores) (total_length (longer s.copies mores))
 
 -- a fault is what decides; want of memory may come at any time
-abbrev pub IsToldOf : Option SheetNo → SheetNo → Type 0
-IsToldOf fault (Shape windows rows) = fault ≡ Some (Shape windows rows)
-IsToldOf fault (CellLimit cells) = fault ≡ Some (CellLimit cells)
-IsToldOf fault (CopyLimit records) = fault ≡ Some (CopyLimit records)
-IsToldOf fault WantOfMemory = Unit {0}
+abbrev pub IsRefreshToldOf : Option SheetNo → SheetNo → Type 0
+IsRefreshToldOf fault (Shape windows rows) = fault ≡ Some (Shape windows rows)
+IsRefreshToldOf fault (CellLimit cells) = fault ≡ Some (CellLimit cells)
+IsRefreshToldOf fault (CopyLimit records) = fault ≡ Some (CopyLimit records)
+IsRefreshToldOf fault WantOfMemory = Unit {0}
 
 -- how many values more records make a sheet evaluate: that of each calculation in each window that is due
 abbrev pub evaluated : SheetState → List (List Rec) → ℕ
@@ -80,7 +80,7 @@ pub record IsSheetAfter (g : Group) (w : Grid) (copies : List (List Rec)) (rows 
   pub counted : due ≡ due_below w copies mores (complete_windows w (longer copies mores))
 
 -- there is room for more records of each input, and for so many windows
-pub record HasRoom (copies : List (Vec Rec Global)) (contents : List ContentState) (rows : List (Vec CalcValue Global))
+pub record HasRoomForRecords (copies : List (Vec Rec Global)) (contents : List ContentState) (rows : List (Vec CalcValue Global))
     (deltas : List (Vec Rec Global)) (windows : ℕ) : Type 0 where
   pub copied : (i : ℕ) (c d : Vec Rec Global) → i < length deltas
       → vec_len (slice_index_or copies i c) + length (slice_index_or deltas i d).items

@@ -6,7 +6,7 @@ ghost use Rattle.sheet_law.specs.Windows.{complete_windows};
 ghost use Rattle.sheet_law.specs.Touched.{longer};
 ghost use Rattle.calc_refresh.specs.Lists.{lists_of};
 ghost use Rattle.calc_refresh.specs.Sheet.{IsCopy, IsSheet};
-ghost use Rattle.calc_refresh.specs.Refreshed.{HasRoom, IsSheetAfter};
+ghost use Rattle.calc_refresh.specs.Refreshed.{HasRoomForRecords, IsSheetAfter};
 
 use crate::evaluation::{evaluate, lengthen};
 use crate::mark::mark;
@@ -37,7 +37,7 @@ pub(crate) fn refreshed<L: Ledger>(
     requires inputs { length deltas.now ≡ length copies.old }
     requires copied { All IsCopy (lists_of deltas.now) }
     requires short { All IsCopy (longer (lists_of copies.old) (lists_of deltas.now)) }
-    requires room { HasRoom copies.old contents.old rows.old deltas.now (length marks.old) }
+    requires room { HasRoomForRecords copies.old contents.old rows.old deltas.now (length marks.old) }
     requires windows { length marks.old ≡ complete_windows grid (longer (lists_of copies.old) (lists_of deltas.now)) }
     requires unmarked { marks.old ≡ replicate (length marks.old) 0 }
     requires few { length marks.old < 2 ^ 32 }

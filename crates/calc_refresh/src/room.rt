@@ -6,7 +6,7 @@ ghost use Rattle.std.specs.declared.alloc.Global.{Global};
 ghost use Rattle.trend_num.specs.declared.archive.Rec.{Rec};
 ghost use Rattle.trend_model.specs.Contents.{ContentState, listed};
 ghost use Rattle.calc_refresh.specs.Lists.{lists_of};
-ghost use Rattle.calc_refresh.specs.Refreshed.{HasRoom};
+ghost use Rattle.calc_refresh.specs.Refreshed.{HasRoomForRecords};
 ghost use Rattle.calc_refresh.specs.Sheet.{IsCopy};
 
 use calc_eval::CalcValue;
@@ -114,7 +114,7 @@ pub(crate) fn make_room(
     ensures copies { lists_of copies.new ≡ lists_of copies.old }
     ensures read { map (λ c. c.records) contents.new ≡ map listed (lists_of copies.new) }
     ensures rows { lists_of rows.new ≡ lists_of rows.old }
-    ensures room { OnOk result (HasRoom copies.new contents.new rows.new deltas.now windows) }
+    ensures room { OnOk result (HasRoomForRecords copies.new contents.new rows.new deltas.now windows) }
 {
     room_in_copies(copies, deltas)?;
     room_in_contents(alloc, copies, contents, deltas)?;

@@ -5,7 +5,7 @@ ghost use Rattle.trend_model.specs.Contents.{listed};
 ghost use Rattle.sheet_law.specs.Windows.{complete_windows, kept_end};
 ghost use Rattle.calc_refresh.specs.declared.refusal.SheetNo.{SheetNo};
 ghost use Rattle.calc_refresh.specs.Lists.{lists_of};
-ghost use Rattle.calc_refresh.specs.Refreshed.{IsToldOf, fresh, shape_fault};
+ghost use Rattle.calc_refresh.specs.Refreshed.{IsRefreshToldOf, fresh, shape_fault};
 ghost use Rattle.calc_refresh.specs.Sheet.{IsCopy, IsGrid, IsGroup, grid_of};
 
 use crate::definition::GroupDefParts;
@@ -40,7 +40,7 @@ pub fn from_saved(
     ensures shape { let grid = grid_of def.now.start def.now.period in (why : SheetNo)
         → shape_fault (complete_windows grid (lists_of copies.items)) (lists_of rows.items) ≡ Some why → result ≡ Err why }
     ensures fault { let grid = grid_of def.now.start def.now.period in
-        IfErr result (IsToldOf (shape_fault (complete_windows grid (lists_of copies.items)) (lists_of rows.items))) }
+        IfErr result (IsRefreshToldOf (shape_fault (complete_windows grid (lists_of copies.items)) (lists_of rows.items))) }
 {
     match shape_fault(windows_of(def.grid(), &copies), &rows) {
         Some(fault) => Err(fault),

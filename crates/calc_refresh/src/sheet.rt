@@ -6,7 +6,7 @@ ghost use Rattle.sheet_law.specs.Touched.{longer};
 ghost use Rattle.sheet_law.specs.Scratch.{IsScratch};
 ghost use Rattle.calc_refresh.specs.declared.refusal.SheetNo.{SheetNo};
 ghost use Rattle.calc_refresh.specs.Lists.{lists_of};
-ghost use Rattle.calc_refresh.specs.Refreshed.{IsRefreshed, IsToldOf, evaluated, fault_after, fresh};
+ghost use Rattle.calc_refresh.specs.Refreshed.{IsRefreshed, IsRefreshToldOf, evaluated, fault_after, fresh};
 ghost use Rattle.calc_refresh.specs.Sheet.{IsCopy, IsGrid, IsGroup, grid_of};
 
 use crate::definition::GroupDefParts;
@@ -134,7 +134,7 @@ impl Sheet {
 
         // The limits are told whatever memory there is.
         ensures limit { (why : SheetNo) → fault_after self.old (lists_of deltas.now) ≡ Some why → result ≡ Err why }
-        ensures fault { IfErr result (IsToldOf (fault_after self.old (lists_of deltas.now))) }
+        ensures fault { IfErr result (IsRefreshToldOf (fault_after self.old (lists_of deltas.now))) }
     {
         let windows = windows_after(self.grid, &self.ends, deltas);
         let calcs = self.rows.len() as u64;

@@ -1,16 +1,16 @@
--- Workers are given their slots.
+-- Workers are given their seats.
 use Rattle.std.proofs.Common.{◌≡◌, ℕ, ◌<◌, List, [], ◌∷◌, ◌++◌, length, get_or, sym, ◌∙◌, subst, arith}
 use Rattle.std.specs.Prelude.{All}
 use Rattle.std.proofs.lemmas.Grind.{common_steps}
 use Rattle.std.proofs.lemmas.List.Elements.{All-nil, All-push}
 use Rattle.atomic_table.specs.Seated.{TableId}
 use Rattle.snapshot_table.specs.Boards.{Looking, LooksAt}
-use Rattle.collector_pool.specs.declared.slot.Role.{Role}
-use Rattle.collector_pool.specs.declared.slot.Slot.{Slot}
+use Rattle.collector_pool.specs.declared.session_worker.Role.{Role}
+use Rattle.collector_pool.specs.declared.session_worker.SessionWorker.{SessionWorker}
 use Rattle.collector_pool.specs.declared.work.Work.{Work}
-use Rattle.collector_pool.specs.Slots.{AreSeated, IsReady, IsRoleOf, IsSeatedAs, worker_of}
+use Rattle.collector_pool.specs.SeatedWorkers.{AreSeated, IsReady, IsRoleOf, IsSeatedAs, worker_of}
 
--- no slot is needed yet
+-- no seat is needed yet
 pub none_seated : {O : Type 0} (stops : O → ℕ) (w : Work) (lookers : List Looking) → AreSeated stops w lookers []
 none_seated stops w lookers = record { numbered = λ place d few. absurd (omega arith); ready = λ board looks. All-nil (IsReady stops w board) }
 
@@ -20,17 +20,17 @@ numbered_more : {A : Type 0} (number : A → ℕ) (xs : List A) (x : A)
     → (place : ℕ) (d : A) → place < length (xs ++ x ∷ []) → number (get_or (xs ++ x ∷ []) place d) ≡ place
 numbered_more number xs x are one place d few = grind (arith, common_steps, are place d, one)
 
--- one more worker has its slot
-pub one_seated : {O : Type 0} (stops : O → ℕ) (w : Work) (lookers : List Looking) (role : Role) (old new : List (Slot O))
+-- one more worker has its seat
+pub one_seated : {O : Type 0} (stops : O → ℕ) (w : Work) (lookers : List Looking) (role : Role) (old new : List (SessionWorker O))
     → AreSeated stops w lookers old → IsSeatedAs stops role old new → worker_of w role ≡ length old
     → ((board : List TableId) → All (LooksAt board) lookers → IsRoleOf w board role) → AreSeated stops w lookers new
 one_seated stops w lookers role old new seated one worker fits = record {
   numbered = λ place d few.
-      let few' : place < length (old ++ one.slot ∷ []) = subst (λ (l : List _). place < length l) one.slots few in
-      rw one.slots (numbered_more (λ s. s.note.worker) old one.slot seated.numbered one.worker place d few');
+      let few' : place < length (old ++ one.seat ∷ []) = subst (λ (l : List _). place < length l) one.seats few in
+      rw one.seats (numbered_more (λ s. s.note.worker) old one.seat seated.numbered one.worker place d few');
   ready = λ board looks.
-      let role_fits : IsRoleOf w board one.slot.role = rw one.role_is (fits board looks) in
-      let this : IsReady stops w board one.slot =
+      let role_fits : IsRoleOf w board one.seat.role = rw one.role_is (fits board looks) in
+      let this : IsReady stops w board one.seat =
       record { role = role_fits; worker = rw one.role_is (one.worker ∙ sym worker); fresh = one.fresh } in
-      rw one.slots (All-push (IsReady stops w board) old one.slot (seated.ready board looks) this);
+      rw one.seats (All-push (IsReady stops w board) old one.seat (seated.ready board looks) this);
 }

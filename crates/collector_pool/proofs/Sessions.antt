@@ -11,14 +11,14 @@ use Rattle.snapshot_table.specs.Boards.{Looking, LooksAt}
 use Rattle.plant_status.proofs.Elements.{element, mapped_at, mapped_length}
 use Rattle.collector_pool.specs.declared.group_turns.TurnNo.{TurnNo}
 use Rattle.collector_pool.specs.declared.note.WorkerNote.{WorkerNote}
-use Rattle.collector_pool.specs.declared.slot.Role.{Role}
-use Rattle.collector_pool.specs.declared.slot.Role.TheVariants.{Collector, Reader, Refresher}
-use Rattle.collector_pool.specs.declared.slot.Slot.{Slot}
+use Rattle.collector_pool.specs.declared.session_worker.Role.{Role}
+use Rattle.collector_pool.specs.declared.session_worker.Role.TheVariants.{Collector, Reader, Refresher}
+use Rattle.collector_pool.specs.declared.session_worker.SessionWorker.{SessionWorker}
 use Rattle.collector_pool.specs.declared.work.Refresh.{Refresh}
 use Rattle.collector_pool.specs.declared.work.Work.{Work}
 use Rattle.collector_pool.specs.Notes.{AreNotesOf, IsCollectorNote, IsNoteAt, IsReaderNote, IsRefresherNote, halts}
 use Rattle.collector_pool.specs.RowAsk.{RowAsk}
-use Rattle.collector_pool.specs.Slots.{AreDone, AreSeated, IsNoteAs, IsRoleOf, worker_of}
+use Rattle.collector_pool.specs.SeatedWorkers.{AreDone, AreSeated, IsNoteAs, IsRoleOf, worker_of}
 use Rattle.collector_pool.specs.Work.{IsQueryOf, IsRowOf, IsWorkOf, worker_count}
 use Rattle.collector_pool.proofs.Firsts.{same_item}
 
@@ -50,15 +50,15 @@ module _ (D : Type 0) (tells : RowAsk → ℕ → Option CalcValue → Type 0) (
         subst (λ (k : ℕ). IsRefresherNote refuses (get_or w.refreshers.items k refresh) n) same (note refresh);
   }
 
-  -- the notes of slots whose workers were seated and have ended
-  pub notes_of : {O : Type 0} (stops : O → ℕ) (board : List TableId) (lookers : List Looking) (old new : List (Slot O))
+  -- the notes of seats whose workers were seated and have ended
+  pub notes_of : {O : Type 0} (stops : O → ℕ) (board : List TableId) (lookers : List Looking) (old new : List (SessionWorker O))
       (notes : List WorkerNote) → AreSeated stops w lookers old → All (LooksAt board) lookers → length old ≡ worker_count w
       → length new ≡ length old → AreDone D tells refuses stops w old new → notes ≡ map (λ s. s.note) new
       → AreNotesOf D tells refuses w notes
   notes_of stops board lookers old new notes seated looks count same done are = record {
     count = ap length are ∙ (mapped_length (λ s. s.note) new ∙ (same ∙ count));
     each = λ place n few.
-        let few' : place < length new = omega (arith, ap length are, mapped_length (λ (s : Slot _). s.note) new) in
+        let few' : place < length new = omega (arith, ap length are, mapped_length (λ (s : SessionWorker _). s.note) new) in
         let few'' : place < length old = omega arith in
         let d = element new place few' in
         let ended = done.each place d few'' in
@@ -71,9 +71,9 @@ module _ (D : Type 0) (tells : RowAsk → ℕ → Option CalcValue → Type 0) (
         (sym ready.worker ∙ number) ready.role ended.note);
   }
 
--- the pass of each of these slots has stopped its worker as often as the note says
+-- the pass of each of these seats has stopped its worker as often as the note says
 pub all_stopped : {O : Type 0} (D : Type 0) (tells : RowAsk → ℕ → Option CalcValue → Type 0) (refuses : ℕ → TurnNo → Type 0)
-    (w : Work) (stops : O → ℕ) (old new : List (Slot O)) → length new ≡ length old → AreDone D tells refuses stops w old new
+    (w : Work) (stops : O → ℕ) (old new : List (SessionWorker O)) → length new ≡ length old → AreDone D tells refuses stops w old new
     → All (λ s. stops s.pass ≡ halts s.note.ending) new
 all_stopped D tells refuses w stops old new same done = λ k d few. (done.each k d (omega arith)).stopped
 

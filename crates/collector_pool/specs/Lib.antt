@@ -3,4 +3,4 @@ pub mod Work
 pub mod Refusals
 pub mod Notes
 -- what private functions alone cite
-pub mod Slots
+pub mod SeatedWorkers

@@ -5,7 +5,7 @@ use Rattle.trend_num.specs.declared.archive.Snap.{Snap}
 use Rattle.trend_num.specs.declared.query.TagQuery.{TagQuery}
 use Rattle.trend_num.specs.declared.value.CalcValue.{CalcValue}
 use Rattle.trend_model.specs.Contents.{closed_points}
-use Rattle.plant_status.specs.Pass.{sum_of_counts}
+use Rattle.plant_status.specs.Pass.{sum_of_fault_counts}
 use Rattle.interp_read.specs.declared.query.Reply.{Reply}
 use Rattle.interp_read.specs.Replies.{Answers}
 use Rattle.value_rows.specs.declared.asked.Query.{Query}
@@ -201,4 +201,4 @@ halts ending = 0
 
 -- the stops of passes that had counted so many, with those of these workers
 abbrev pub stops_with : ℕ → List WorkerNote → ℕ
-stops_with stops notes = fold (λ count n. sum_of_counts count (halts n.ending)) stops notes
+stops_with stops notes = fold (λ count n. sum_of_fault_counts count (halts n.ending)) stops notes

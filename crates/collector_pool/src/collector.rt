@@ -3,7 +3,7 @@ ghost use Rattle.std.specs.Prelude.{◌≡◌, ◌==◌, ◌||◌, ◌%◌, ℕ,
 ghost use Rattle.std.specs.Option.{option_map};
 ghost use Rattle.trend_num.specs.Ranges.{InRange};
 ghost use Rattle.tag_cell.specs.declared.entry.CommitNo.TheVariants.{Broken, DeviceFault};
-ghost use Rattle.tag_cell.specs.Told.{IsTakenBy, take_refusal, waits};
+ghost use Rattle.tag_cell.specs.Told.{IsTakenBy, take_refusal, takes_waiting};
 ghost use Rattle.collector_pool.specs.Notes.{AreOfFirst, EndsAtCommit, EndsCollector, IsCollectorNote, IsNoteOfTake, IsRefusedCommit, RefusesRow, halts};
 ghost use Rattle.collector_pool.specs.Refusals.{refusal_of_take};
 ghost use Rattle.collector_pool.specs.Work.{IsRowOf};
@@ -156,7 +156,7 @@ fn commit_tag<R: Wait, D: Disk>(rt: &R, cells: &[Mutex<Cell<D>>], tag: u32) -> R
 
 // Commits until nothing waits.
 fn commit_all<D: Disk>(cell: &mut Cell<D>) -> Result<(), CommitNo>
-    ensures committed { OnOk result (waits cell.new ≡ 0) }
+    ensures committed { OnOk result (takes_waiting cell.new ≡ 0) }
     ensures same_state { cell.new.state ≡ cell.old.state }
     ensures broken { IsErrOf result Broken → cell.new.journal.failed ≡ true }
     ensures faulted { IsErrOf result DeviceFault → cell.new.journal.failed ≡ true }

@@ -18,7 +18,7 @@ mod note;
 mod reader;
 mod refresher;
 mod session;
-mod slot;
+mod session_worker;
 mod work;
 
 pub use group_turns::{GroupTurns, TurnNo};

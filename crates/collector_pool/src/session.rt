@@ -2,7 +2,7 @@
 ghost use Rattle.std.specs.Prelude.{◌≡◌, ℕ, ◌+◌, ◌^◌, ◌<◌, ◌≤◌, List, [], All, IfOk, OnErr, length, slice_index_or, vec_capacity, vec_len};
 ghost use Rattle.snapshot_table.specs.Boards.{Looking, LooksAt};
 ghost use Rattle.collector_pool.specs.Notes.{AreNotesOf, halts, stops_with};
-ghost use Rattle.collector_pool.specs.Slots.{AreDone, AreSeated, IsDone, IsNoteAs, IsReady, IsRoleOf, IsSeatedAs};
+ghost use Rattle.collector_pool.specs.SeatedWorkers.{AreDone, AreSeated, IsDone, IsNoteAs, IsReady, IsRoleOf, IsSeatedAs};
 ghost use Rattle.collector_pool.specs.Work.{IsWorkOf, worker_count};
 
 use crate::collector::collect;
@@ -10,7 +10,7 @@ use crate::group_turns::GroupTurns;
 use crate::note::{WorkerNote, with_room};
 use crate::reader::read;
 use crate::refresher::refresh;
-use crate::slot::{Role, Slot};
+use crate::session_worker::{Role, SessionWorker};
 use crate::work::Work;
 use disk_model::Disk;
 use plant_status::{Pass, Passes, gather};
@@ -44,77 +44,77 @@ pub fn run_session<D: Disk + Send, G: GroupTurns<D>, P: Passes, R: Threads + Wai
     ensures unbegun { OnErr result (P.stops passes.new ≡ P.stops passes.old) }
 {
     let workers = work.collectors.len() + work.readers.len() + work.refreshers.len();
-    let mut slots = with_room(alloc, workers)?;
+    let mut seats = with_room(alloc, workers)?;
     let mut notes = match with_room(alloc, workers) {
         Ok(notes) => notes,
         Err(WantOfMemory) => {
-            slots.destroy_empty();
+            seats.destroy_empty();
             return Err(WantOfMemory);
         }
     };
-    seat_all(alloc, work, lookers, passes, &mut slots);
-    work_all(rt, alloc, cells, board, groups, work, &mut slots);
-    gather(slots, passes, &mut notes);
+    seat_all(alloc, work, lookers, passes, &mut seats);
+    work_all(rt, alloc, cells, board, groups, work, &mut seats);
+    gather(seats, passes, &mut notes);
     Ok(notes)
 }
 
-// Gives each worker its slot: the collectors, then the readers, each with its looker, then the refreshers.
+// Gives each worker its seat: the collectors, then the readers, each with its looker, then the refreshers.
 fn seat_all<P: Passes>(
     alloc: Global,
     work: &Work,
     lookers: Vec<Looker>,
     passes: &mut P,
-    slots: &mut Vec<Slot<P::One>>,
+    seats: &mut Vec<SessionWorker<P::One>>,
 )
     requires few { worker_count work.now < 2 ^ 32 }
     requires lookers { vec_len lookers ≡ vec_len work.now.readers }
-    requires none { slots.old.items ≡ [] }
-    requires room { worker_count work.now ≤ vec_capacity slots.old }
-    ensures count { vec_len slots.new ≡ worker_count work.now }
-    ensures seated { AreSeated P.One.stops work.now lookers.items slots.new.items }
+    requires none { seats.old.items ≡ [] }
+    requires room { worker_count work.now ≤ vec_capacity seats.old }
+    ensures count { vec_len seats.new ≡ worker_count work.now }
+    ensures seated { AreSeated P.One.stops work.now lookers.items seats.new.items }
     ensures stops { P.stops passes.new ≡ P.stops passes.old }
 {
-    seat_collectors(alloc, work, passes, slots);
-    seat_readers(alloc, work, lookers, passes, slots);
-    seat_refreshers(alloc, work, passes, slots);
+    seat_collectors(alloc, work, passes, seats);
+    seat_readers(alloc, work, lookers, passes, seats);
+    seat_refreshers(alloc, work, passes, seats);
 }
 
-// Gives each collector its slot.
+// Gives each collector its seat.
 fn seat_collectors<P: Passes>(
     alloc: Global,
     work: &Work,
     passes: &mut P,
-    slots: &mut Vec<Slot<P::One>>,
+    seats: &mut Vec<SessionWorker<P::One>>,
 )
     requires few { worker_count work.now < 2 ^ 32 }
-    requires before { slots.old.items ≡ [] }
-    requires room { worker_count work.now ≤ vec_capacity slots.old }
-    ensures room { vec_capacity slots.new ≡ vec_capacity slots.old }
-    ensures count { vec_len slots.new ≡ vec_len work.now.collectors }
-    ensures seated { (lookers : List Looking) → AreSeated P.One.stops work.now lookers slots.new.items }
+    requires before { seats.old.items ≡ [] }
+    requires room { worker_count work.now ≤ vec_capacity seats.old }
+    ensures room { vec_capacity seats.new ≡ vec_capacity seats.old }
+    ensures count { vec_len seats.new ≡ vec_len work.now.collectors }
+    ensures seated { (lookers : List Looking) → AreSeated P.One.stops work.now lookers seats.new.items }
     ensures stops { P.stops passes.new ≡ P.stops passes.old }
 {
     for collector in 0..work.collectors.len() {
-        seat(alloc, passes, slots, Role::Collector(collector as u32));
+        seat(alloc, passes, seats, Role::Collector(collector as u32));
     }
 }
 
-// Gives each reader its slot, with its looker.
+// Gives each reader its seat, with its looker.
 fn seat_readers<P: Passes>(
     alloc: Global,
     work: &Work,
     lookers: Vec<Looker>,
     passes: &mut P,
-    slots: &mut Vec<Slot<P::One>>,
+    seats: &mut Vec<SessionWorker<P::One>>,
 )
     requires few { worker_count work.now < 2 ^ 32 }
     requires lookers { vec_len lookers ≡ vec_len work.now.readers }
-    requires before { vec_len slots.old ≡ vec_len work.now.collectors }
-    requires room { worker_count work.now ≤ vec_capacity slots.old }
-    requires seated { AreSeated P.One.stops work.now lookers.items slots.old.items }
-    ensures room { vec_capacity slots.new ≡ vec_capacity slots.old }
-    ensures count { vec_len slots.new ≡ vec_len work.now.collectors + vec_len work.now.readers }
-    ensures seated { AreSeated P.One.stops work.now lookers.items slots.new.items }
+    requires before { vec_len seats.old ≡ vec_len work.now.collectors }
+    requires room { worker_count work.now ≤ vec_capacity seats.old }
+    requires seated { AreSeated P.One.stops work.now lookers.items seats.old.items }
+    ensures room { vec_capacity seats.new ≡ vec_capacity seats.old }
+    ensures count { vec_len seats.new ≡ vec_len work.now.collectors + vec_len work.now.readers }
+    ensures seated { AreSeated P.One.stops work.now lookers.items seats.new.items }
     ensures stops { P.stops passes.new ≡ P.stops passes.old }
 {
     let mut rest = lookers.into_iter();
@@ -122,41 +122,46 @@ fn seat_readers<P: Passes>(
         let Some(looker) = rest.next() else {
             unreachable!()
         };
-        seat(alloc, passes, slots, Role::Reader(reader as u32, looker));
+        seat(alloc, passes, seats, Role::Reader(reader as u32, looker));
     }
 }
 
-// Gives each refresher its slot.
+// Gives each refresher its seat.
 fn seat_refreshers<P: Passes>(
     alloc: Global,
     work: &Work,
     passes: &mut P,
-    slots: &mut Vec<Slot<P::One>>,
+    seats: &mut Vec<SessionWorker<P::One>>,
 )
     requires few { worker_count work.now < 2 ^ 32 }
-    requires before { vec_len slots.old ≡ vec_len work.now.collectors + vec_len work.now.readers }
-    requires room { worker_count work.now ≤ vec_capacity slots.old }
-    ensures count { vec_len slots.new ≡ worker_count work.now }
-    ensures seated { (lookers : List Looking) → AreSeated P.One.stops work.now lookers slots.old.items
-        → AreSeated P.One.stops work.now lookers slots.new.items }
+    requires before { vec_len seats.old ≡ vec_len work.now.collectors + vec_len work.now.readers }
+    requires room { worker_count work.now ≤ vec_capacity seats.old }
+    ensures count { vec_len seats.new ≡ worker_count work.now }
+    ensures seated { (lookers : List Looking) → AreSeated P.One.stops work.now lookers seats.old.items
+        → AreSeated P.One.stops work.now lookers seats.new.items }
     ensures stops { P.stops passes.new ≡ P.stops passes.old }
 {
     for refresher in 0..work.refreshers.len() {
-        seat(alloc, passes, slots, Role::Refresher(refresher as u32));
+        seat(alloc, passes, seats, Role::Refresher(refresher as u32));
     }
 }
 
-// Gives the next worker its slot, in this role.
-fn seat<P: Passes>(alloc: Global, passes: &mut P, slots: &mut Vec<Slot<P::One>>, role: Role)
-    requires few { vec_len slots.old < 2 ^ 32 }
-    requires room { vec_len slots.old < vec_capacity slots.old }
+// Gives the next worker its seat, in this role.
+fn seat<P: Passes>(
+    alloc: Global,
+    passes: &mut P,
+    seats: &mut Vec<SessionWorker<P::One>>,
+    role: Role,
+)
+    requires few { vec_len seats.old < 2 ^ 32 }
+    requires room { vec_len seats.old < vec_capacity seats.old }
     ensures same_stops { P.stops passes.new ≡ P.stops passes.old }
-    ensures room { vec_capacity slots.new ≡ vec_capacity slots.old }
-    ensures count { vec_len slots.new ≡ vec_len slots.old + 1 }
-    ensures seated { IsSeatedAs P.One.stops role slots.old.items slots.new.items }
+    ensures room { vec_capacity seats.new ≡ vec_capacity seats.old }
+    ensures count { vec_len seats.new ≡ vec_len seats.old + 1 }
+    ensures seated { IsSeatedAs P.One.stops role seats.old.items seats.new.items }
 {
-    let worker = slots.len() as u32;
-    slots.push_reserved(Slot {
+    let worker = seats.len() as u32;
+    seats.push_reserved(SessionWorker {
         role,
         pass: passes.hand(worker),
         note: WorkerNote::new(alloc, worker),
@@ -171,18 +176,18 @@ fn work_all<D: Disk + Send, G: GroupTurns<D>, O: Pass + Send, R: Threads + Wait 
     board: &Board,
     groups: &G,
     work: &Work,
-    slots: &mut Vec<Slot<O>>,
+    seats: &mut Vec<SessionWorker<O>>,
 )
     requires work { IsWorkOf (length cells.now) (G.groups groups.now) work.now }
     requires board { length cells.now ≤ length board.now }
-    requires ready { All (IsReady O.stops work.now board.now) slots.old.items }
-    ensures count { vec_len slots.new ≡ vec_len slots.old }
-    ensures done { AreDone D (G.Tells groups.now) (G.Refuses groups.now) O.stops work.now slots.old.items slots.new.items }
+    requires ready { All (IsReady O.stops work.now board.now) seats.old.items }
+    ensures count { vec_len seats.new ≡ vec_len seats.old }
+    ensures done { AreDone D (G.Tells groups.now) (G.Refuses groups.now) O.stops work.now seats.old.items seats.new.items }
 {
-    work_each(rt, alloc, cells, board, groups, work, slots.as_mut_slice());
+    work_each(rt, alloc, cells, board, groups, work, seats.as_mut_slice());
 }
 
-// Each worker of some slots in a thread of its own.
+// Each worker of some seats in a thread of its own.
 fn work_each<D: Disk + Send, G: GroupTurns<D>, O: Pass + Send, R: Threads + Wait + Sync>(
     rt: &R,
     alloc: Global,
@@ -190,31 +195,31 @@ fn work_each<D: Disk + Send, G: GroupTurns<D>, O: Pass + Send, R: Threads + Wait
     board: &Board,
     groups: &G,
     work: &Work,
-    slots: &mut [Slot<O>],
+    seats: &mut [SessionWorker<O>],
 )
     requires work { IsWorkOf (length cells.now) (G.groups groups.now) work.now }
     requires board { length cells.now ≤ length board.now }
-    requires ready { All (IsReady O.stops work.now board.now) slots.old }
-    ensures { (i : ℕ) (d : _) → i < length slots.old
-        → IsDone D (G.Tells groups.now) (G.Refuses groups.now) O.stops work.now (slice_index_or slots.old i d) (slice_index_or slots.new i d) }
+    requires ready { All (IsReady O.stops work.now board.now) seats.old }
+    ensures { (i : ℕ) (d : _) → i < length seats.old
+        → IsDone D (G.Tells groups.now) (G.Refuses groups.now) O.stops work.now (slice_index_or seats.old i d) (slice_index_or seats.new i d) }
 {
-    if slots.is_empty() {
+    if seats.is_empty() {
         return;
     }
-    let threads = slots.len();
+    let threads = seats.len();
     thread::for_each_mut(
         rt,
-        slots,
+        seats,
         threads,
-        &|_, slot: &mut Slot<O>|
+        &|_, seat: &mut SessionWorker<O>|
             requires { IsWorkOf (length cells.now) (G.groups groups.now) work.now × (length cells.now ≤ length board.now)
-                × IsReady O.stops work.now board.now slot.now }
-            ensures { IsDone D (G.Tells groups.entry.now) (G.Refuses groups.entry.now) O.stops work.entry.now slot.entry.now slot.exit.now }
-        { work_in(rt, alloc, cells, board, groups, work, slot) },
+                × IsReady O.stops work.now board.now seat.now }
+            ensures { IsDone D (G.Tells groups.entry.now) (G.Refuses groups.entry.now) O.stops work.entry.now seat.entry.now seat.exit.now }
+        { work_in(rt, alloc, cells, board, groups, work, seat) },
     );
 }
 
-// The work of the worker of a slot.
+// The work of the worker of a seat.
 fn work_in<D: Disk, G: GroupTurns<D>, O: Pass, R: Wait>(
     rt: &R,
     alloc: Global,
@@ -222,23 +227,23 @@ fn work_in<D: Disk, G: GroupTurns<D>, O: Pass, R: Wait>(
     board: &Board,
     groups: &G,
     work: &Work,
-    slot: &mut Slot<O>,
+    seat: &mut SessionWorker<O>,
 )
     requires work { IsWorkOf (length cells.now) (G.groups groups.now) work.now }
     requires board { length cells.now ≤ length board.now }
-    requires ready { IsReady O.stops work.now board.now slot.old }
-    ensures { IsDone D (G.Tells groups.now) (G.Refuses groups.now) O.stops work.now slot.old slot.new }
+    requires ready { IsReady O.stops work.now board.now seat.old }
+    ensures { IsDone D (G.Tells groups.now) (G.Refuses groups.now) O.stops work.now seat.old seat.new }
 {
-    slot.note = work_as(
+    seat.note = work_as(
         rt,
         alloc,
         cells,
         board,
         groups,
         work,
-        slot.note.worker,
-        &mut slot.role,
-        &mut slot.pass,
+        seat.note.worker,
+        &mut seat.role,
+        &mut seat.pass,
     );
 }
 

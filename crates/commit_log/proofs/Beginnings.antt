@@ -7,7 +7,7 @@ use Rattle.disk_model.specs.Calls.{Shows}
 use Rattle.disk_model.specs.Gates.{IsNew}
 use Rattle.disk_model.proofs.Moments.{started, weaker}
 use Rattle.commit_log.specs.declared.row.LogRow.{LogRow}
-use Rattle.commit_log.specs.Blocks.{block_image, block_size, row_image, rows_image}
+use Rattle.commit_log.specs.Blocks.{log_block_image, log_block_size, row_image, rows_image}
 use Rattle.archive_file.specs.TextHeads.{IsLeftOrBegun}
 use Rattle.archive_file.proofs.ReadImages.{shown_now}
 use Rattle.commit_log.specs.Images.{LogsNothing, letters}
@@ -37,6 +37,6 @@ length-rows_image [] = refl
 length-rows_image (r ∷ rows) = omega (arith, length-append (row_image r) (rows_image rows), length-rows_image rows)
 
 -- how many bytes a block has
-pub length-block_image : (number : ℕ) (rows : List LogRow) → length (block_image number rows ++ 0 ∷ []) ≡ block_size rows
+pub length-block_image : (number : ℕ) (rows : List LogRow) → length (log_block_image number rows ++ 0 ∷ []) ≡ log_block_size rows
 length-block_image number rows =
-    omega (arith, length-append (block_image number rows) (0 ∷ []), length-rows_image rows)
+    omega (arith, length-append (log_block_image number rows) (0 ∷ []), length-rows_image rows)

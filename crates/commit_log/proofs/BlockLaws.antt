@@ -6,7 +6,7 @@ use Rattle.archive_file.proofs.Points.{IsBytes}
 use Rattle.archive_file.specs.declared.layout_field.Field.{Field}
 use Rattle.commit_log.specs.declared.row.LogRow.{LogRow}
 use Rattle.archive_file.specs.LayoutFields.{Keeps, Spells, long_at, short_at}
-use Rattle.commit_log.specs.Blocks.{block_fields, block_image, block_size, most_in_block, rows_fields}
+use Rattle.commit_log.specs.Blocks.{block_fields, log_block_image, log_block_size, most_in_block, rows_fields}
 use Rattle.commit_log.specs.Openings.{AddsBlock, AddsRows}
 use Rattle.archive_file.proofs.FieldLaws.{KeptUpTo, field_of, kept_more, kept_none, spells_both}
 use Rattle.archive_file.proofs.LayoutSpellings.{spells_long, spells_short}
@@ -54,7 +54,7 @@ block_added c tags gate count next old new count_is bytes kept added next_is = r
     few = omega (arith, added.long, leb-true _ _ counted.1);
     each = added.each;
   };
-  spelled = subst (Spells c (gate + 1) (block_image (length old) added.more)) end
+  spelled = subst (Spells c (gate + 1) (log_block_image (length old) added.more)) end
       (spells_both c (gate + 1) (gate + 9) _ (number_bytes 8 (length old)) _ first
       (spells_both c (gate + 9) (gate + 13) _ (number_bytes 4 (length added.more)) _ second added.spelled));
   next_is = omega (arith, next_is, added.long);
@@ -75,5 +75,5 @@ block_added c tags gate count next old new count_is bytes kept added next_is = r
         (subst (Spells c (gate + 9) (number_bytes 4 (short_at c (gate + 9)))) (omega arith)
         (spells_short c (gate + 9) bytes (kept 1 (field_of 0 0 true) (lit< tt)).there))
 
-    end : gate + 13 + 32 * count ≡ gate + block_size added.more
+    end : gate + 13 + 32 * count ≡ gate + log_block_size added.more
     end = omega (arith, added.long)

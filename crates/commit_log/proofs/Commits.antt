@@ -14,13 +14,13 @@ use Rattle.disk_model.proofs.Moments.{during_now, only_since, parted}
 use Rattle.commit_log.specs.declared.row.LogRow.{LogRow}
 use Rattle.commit_log.specs.declared.history.LogTurn.{LogTurn}
 use Rattle.commit_log.specs.declared.history.LogTurn.TheVariants.{Commit}
-use Rattle.commit_log.specs.Blocks.{AreBlockRows, block_image, block_size, most_in_block}
-use Rattle.commit_log.specs.Images.{ByBlocks, StandsFor}
+use Rattle.commit_log.specs.Blocks.{AreBlockRows, log_block_image, log_block_size, most_in_block}
+use Rattle.commit_log.specs.Images.{ByBlocks, StandsForRows}
 use Rattle.commit_log.specs.Openings.{Stores}
-use Rattle.commit_log.specs.Tapes.{Walk, acked_at, after_turn, puts, start, walked}
+use Rattle.commit_log.specs.Tapes.{LogWalk, acked_at, after_turn, puts, log_begin, log_walked}
 use Rattle.commit_log.specs.Writes.{IsBlockOf}
-use Rattle.commit_log.specs.Histories.{FitAll, IsLegal, IsSafe, StandsForPart}
-use Rattle.commit_log.specs.Told.{HasRoom, IsKept, IsReady, Waits}
+use Rattle.commit_log.specs.Histories.{LogTurnsFit, IsLogLegal, IsLogSafe, StandsForPart}
+use Rattle.commit_log.specs.Told.{HasRoomForPuts, IsKept, IsReady, Waits}
 use Rattle.archive_file.proofs.PlacedBytes.{written_byte}
 use Rattle.commit_log.proofs.BlockAdded.{block_either, block_opened}
 use Rattle.commit_log.proofs.Tapes.{acked_at-commit, acked_at-most, fit-push, fit_rows, middle_rows, puts-append, puts_parts, walked-push, walked-rows}
@@ -29,18 +29,18 @@ use Rattle.commit_log.proofs.Tapes.{acked_at-commit, acked_at-most, fit-push, fi
 
 -- what is stored is what an image stands for
 pub stores_stand : (plant : List ℕ) (tags : ℕ) (rows : List LogRow) (end : ℕ) (c : List ℕ) → Stores plant tags rows end c
-    → StandsFor plant tags c rows
+    → StandsForRows plant tags c rows
 stores_stand plant tags rows end c has =
     ByBlocks has.lists.blocks (record { of_plant = has.of_plant; blocks = has.lists.are }) has.lists.rows_are
 
 -- the oldest rows that were put, of all of them
 stands_part : (plant : List ℕ) (tags : ℕ) (opening rows first behind : List LogRow) (least : ℕ) (c : List ℕ) → rows ≡ first ++ behind
-    → least ≤ length opening + length first → StandsFor plant tags c (opening ++ first) → StandsForPart plant tags opening rows least c
+    → least ≤ length opening + length first → StandsForRows plant tags c (opening ++ first) → StandsForPart plant tags opening rows least c
 stands_part plant tags opening rows first behind least c are enough stands = record {
   count = length first;
   enough = enough;
   within = omega (arith, ap length are, length-append first behind);
-  stands = subst (λ (l : List LogRow). StandsFor plant tags c (opening ++ l)) (sym (ap (take (length first)) are ∙ take-append_seam first behind)) stands;
+  stands = subst (λ (l : List LogRow). StandsForRows plant tags c (opening ++ l)) (sym (ap (take (length first)) are ∙ take-append_seam first behind)) stands;
 }
 
 -- fewer are asked for
@@ -58,7 +58,7 @@ ready_now plant tags rows end (Some t) ready d may = subst (Stores plant tags ro
 
 -- so it stands for these rows
 pub ready_stands : (plant : List ℕ) (tags : ℕ) (rows : List LogRow) (end : ℕ) (o : Option Trace) → IfSome o (IsReady plant tags rows end)
-    → (d : List ℕ) → MayLeave o d → StandsFor plant tags d rows
+    → (d : List ℕ) → MayLeave o d → StandsForRows plant tags d rows
 ready_stands plant tags rows end o ready d may = stores_stand plant tags rows end d (ready_now plant tags rows end o ready d may)
 
 -- and has a closed gate where the next block goes
@@ -76,7 +76,7 @@ le_when m t is = grind (arith, nat_tests)
 -- ---- a commit
 
 module _ (plant : List ℕ) (tags : ℕ) (opening : List LogRow) (moment faults : ℕ) (tape : List LogTurn) (next acked end : ℕ)
-    (old : Option Trace) (ticks faults_now : ℕ) (legal : IsLegal tags opening moment tape acked) (waits : Waits opening tape next acked)
+    (old : Option Trace) (ticks faults_now : ℕ) (legal : IsLogLegal tags opening moment tape acked) (waits : Waits opening tape next acked)
     (kept : IsKept plant tags opening moment faults tape next end false old ticks faults_now)
     (count turns : ℕ) (bytes : List ℕ) (is : IsBlockOf acked count (drop next tape) bytes turns)
     (some : 1 ≤ count) (few : count ≤ most_in_block) where
@@ -103,17 +103,17 @@ module _ (plant : List ℕ) (tags : ℕ) (opening : List LogRow) (moment faults 
   rows_are = record {
     some = omega (arith, is.long, some);
     few = omega (arith, is.long, few);
-    each = middle_rows tags (puts tape) first block behind parts (fit_rows tags (start (length opening) moment) tape legal.turns);
+    each = middle_rows tags (puts tape) first block behind parts (fit_rows tags (log_begin (length opening) moment) tape legal.turns);
   }
 
   -- the bytes that are written
-  pub bytes_are : bytes ≡ block_image (length done) block ++ 0 ∷ []
-  bytes_are = is.bytes_are ∙ ap (λ (n : ℕ). block_image n block ++ 0 ∷ []) number
+  pub bytes_are : bytes ≡ log_block_image (length done) block ++ 0 ∷ []
+  bytes_are = is.bytes_are ∙ ap (λ (n : ℕ). log_block_image n block ++ 0 ∷ []) number
 
   abbrev pub IsWriting : List ℕ → Type 0
   IsWriting = FromOld old (IsGuarded (end + 1) bytes end)
 
-  guarded_by : (d c : List ℕ) → IsGuarded (end + 1) bytes end d c → IsGuarded (end + 1) (block_image (length done) block ++ 0 ∷ []) end d c
+  guarded_by : (d c : List ℕ) → IsGuarded (end + 1) bytes end d c → IsGuarded (end + 1) (log_block_image (length done) block ++ 0 ∷ []) end d c
   guarded_by d c guarded = subst (λ (l : List ℕ). IsGuarded (end + 1) l end d c) bytes_are guarded
 
   stored : (d : List ℕ) → MayLeave old d → Stores plant tags done end d
@@ -132,20 +132,20 @@ module _ (plant : List ℕ) (tags : ℕ) (opening : List LogRow) (moment faults 
           stands_part plant tags opening (puts tape) first (block ++ behind) acked c (parts ∙ append_assoc first block behind)
           (omega (arith, waits.acked_are)) (stores_stand plant tags done end c has)
 
-      with_it : Stores plant tags (done ++ block) (end + block_size block) c → StandsForPart plant tags opening (puts tape) acked c
+      with_it : Stores plant tags (done ++ block) (end + log_block_size block) c → StandsForPart plant tags opening (puts tape) acked c
       with_it has =
           stands_part plant tags opening (puts tape) (first ++ block) behind acked c parts
           (omega (arith, waits.acked_are, length-append first block))
-          (subst (StandsFor plant tags c) both_are (stores_stand plant tags (done ++ block) (end + block_size block) c has))
+          (subst (StandsForRows plant tags c) both_are (stores_stand plant tags (done ++ block) (end + log_block_size block) c has))
 
   -- at each moment no more is acknowledged
   most : (t : ℕ) → acked_at t (length opening) tape ≤ acked
   most t = subst (λ (n : ℕ). acked_at t (length opening) tape ≤ n) (sym legal.last)
-      (acked_at-most tags (start (length opening) moment) tape t (length opening) (omega arith) legal.turns)
+      (acked_at-most tags (log_begin (length opening) moment) tape t (length opening) (omega arith) legal.turns)
 
   -- so the log stays safe
-  pub writing_safe : (new : Option Trace) → IsSafe plant tags opening moment tape (LeftSince old) → During old new IsWriting
-      → IsSafe plant tags opening moment tape (LeftSince new)
+  pub writing_safe : (new : Option Trace) → IsLogSafe plant tags opening moment tape (LeftSince old) → During old new IsWriting
+      → IsLogSafe plant tags opening moment tape (LeftSince new)
   writing_safe new safe during = record {
     images = λ t c since left. ⊎_elim
         (λ now. part_least plant tags opening (puts tape) acked (acked_at t (length opening) tape) c (most t) (writing_stands c (during.each c now)))
@@ -174,31 +174,31 @@ module _ (plant : List ℕ) (tags : ℕ) (opening : List LogRow) (moment faults 
     long : length longer ≡ length tape + 1
     long = ap length longer_is ∙ length-append tape (Commit ticks' (acked + count) ∷ [])
 
-    walk_is : walked (start (length opening) moment) longer
-        ≡ after_turn (walked (start (length opening) moment) tape) (Commit ticks' (acked + count))
-    walk_is = ap (walked (start (length opening) moment)) longer_is ∙ walked-push (start (length opening) moment) tape (Commit ticks' (acked + count))
+    walk_is : log_walked (log_begin (length opening) moment) longer
+        ≡ after_turn (log_walked (log_begin (length opening) moment) tape) (Commit ticks' (acked + count))
+    walk_is = ap (log_walked (log_begin (length opening) moment)) longer_is ∙ walked-push (log_begin (length opening) moment) tape (Commit ticks' (acked + count))
 
     -- so many rows waited, and so many of them are written
-    pub commit_legal : count ≡ min most_in_block (length opening + length (puts tape) - acked) → IsLegal tags opening moment longer (acked + count)
+    pub commit_legal : count ≡ min most_in_block (length opening + length (puts tape) - acked) → IsLogLegal tags opening moment longer (acked + count)
     commit_legal count_is = record {
       opened = legal.opened;
-      turns = subst (FitAll tags (start (length opening) moment)) (sym longer_is)
-          (fit-push tags (start (length opening) moment) tape (Commit ticks' (acked + count)) legal.turns (record {
+      turns = subst (LogTurnsFit tags (log_begin (length opening) moment)) (sym longer_is)
+          (fit-push tags (log_begin (length opening) moment) tape (Commit ticks' (acked + count)) legal.turns (record {
             some = omega (arith, was, rows, count_is, some);
             acked_are = omega (arith, was, rows, count_is);
             later = omega (arith, kept.past, clock);
           }));
-      last = sym (ap (λ (w : Walk). w.acked) walk_is);
+      last = sym (ap (λ (w : LogWalk). w.acked) walk_is);
     }
       where
-        was : (walked (start (length opening) moment) tape).acked ≡ acked
+        was : (log_walked (log_begin (length opening) moment) tape).acked ≡ acked
         was = sym legal.last
 
-        rows : (walked (start (length opening) moment) tape).rows ≡ length opening + length (puts tape)
-        rows = walked-rows (start (length opening) moment) tape
+        rows : (log_walked (log_begin (length opening) moment) tape).rows ≡ length opening + length (puts tape)
+        rows = walked-rows (log_begin (length opening) moment) tape
 
-    pub commit_room : (places places' n room : ℕ) → HasRoom opening tape places n room → length tape + (room - n) + 1 ≤ places'
-        → HasRoom opening longer places' n room
+    pub commit_room : (places places' n room : ℕ) → HasRoomForPuts opening tape places n room → length tape + (room - n) + 1 ≤ places'
+        → HasRoomForPuts opening longer places' n room
     commit_room places places' n room has enough = record {
       count_is = has.count_is ∙ ap length (sym same_puts);
       within = has.within;
@@ -222,7 +222,7 @@ module _ (plant : List ℕ) (tags : ℕ) (opening : List LogRow) (moment faults 
     }
 
     -- an image now has the block
-    stored_now : (c : List ℕ) → MayLeave new c → Stores plant tags (done ++ block) (end + block_size block) c
+    stored_now : (c : List ℕ) → MayLeave new c → Stores plant tags (done ++ block) (end + log_block_size block) c
     stored_now c may =
         let from = (during_now old new IsWriting during).each c may in
         block_opened plant tags done end from.0 c (stored from.0 from.1) block (guarded_by from.0 c from.2)
@@ -238,12 +238,12 @@ module _ (plant : List ℕ) (tags : ℕ) (opening : List LogRow) (moment faults 
             ∙ written_byte (written (seen (Some t)) (end + 1) bytes) end open_byte
             (omega (arith, there, length-written (seen (Some t)) (end + 1) bytes (omega (arith, there))))
 
-    pub commit_kept : (end' : ℕ) → end' ≡ end + block_size block → faults' ≡ faults_now
+    pub commit_kept : (end' : ℕ) → end' ≡ end + log_block_size block → faults' ≡ faults_now
         → IsKept plant tags opening moment faults longer (next + turns) end' false new ticks' faults'
     commit_kept end' end_is same = record {
       ready = λ usable. subst (λ (n : ℕ). IfSome new (IsReady plant tags (opening ++ puts (take (next + turns) longer)) n)) (sym end_is)
-          (subst (λ (l : List LogRow). IfSome new (IsReady plant tags l (end + block_size block))) rows_is (shown new settled stored_now));
-      past = subst (λ (w : Walk). w.moment ≤ ticks') (sym walk_is) (omega arith);
+          (subst (λ (l : List LogRow). IfSome new (IsReady plant tags l (end + log_block_size block))) rows_is (shown new settled stored_now));
+      past = subst (λ (w : LogWalk). w.moment ≤ ticks') (sym walk_is) (omega arith);
       opened_before = omega (arith, kept.opened_before, clock);
       faultless = λ usable. same ∙ kept.faultless refl;
       cause = λ failed. absurd (cc (failed));
@@ -252,12 +252,12 @@ module _ (plant : List ℕ) (tags : ℕ) (opening : List LogRow) (moment faults 
         rows_is : done ++ block ≡ opening ++ puts (take (next + turns) longer)
         rows_is = both_are ∙ ap (λ (l : List LogRow). opening ++ l) (sym upto_rows)
 
-        shown : (x : Option Trace) → IsSettled x → ((c : List ℕ) → MayLeave x c → Stores plant tags (done ++ block) (end + block_size block) c)
-            → IfSome x (IsReady plant tags (done ++ block) (end + block_size block))
+        shown : (x : Option Trace) → IsSettled x → ((c : List ℕ) → MayLeave x c → Stores plant tags (done ++ block) (end + log_block_size block) c)
+            → IfSome x (IsReady plant tags (done ++ block) (end + log_block_size block))
         shown None settled has = tt
         shown (Some t) settled has = record { settled = settled; stores = has (seen (Some t)) (present t) }
 
-    pub commit_safe : IsSafe plant tags opening moment tape (LeftSince old) → IsSafe plant tags opening moment longer (LeftSince new)
+    pub commit_safe : IsLogSafe plant tags opening moment tape (LeftSince old) → IsLogSafe plant tags opening moment longer (LeftSince new)
     commit_safe safe = record {
       images = λ t c since left.
           subst (λ (l : List LogRow). StandsForPart plant tags opening l (acked_at t (length opening) longer) c) (sym same_puts)
@@ -271,6 +271,6 @@ module _ (plant : List ℕ) (tags : ℕ) (opening : List LogRow) (moment faults 
         by_moment t c since left true e =
             stands_part plant tags opening (puts tape) (first ++ block) behind (acked + count) c parts
             (omega (arith, waits.acked_are, length-append first block, is.long))
-            (subst (StandsFor plant tags c) both_are (stores_stand plant tags (done ++ block) (end + block_size block) c
+            (subst (StandsForRows plant tags c) both_are (stores_stand plant tags (done ++ block) (end + log_block_size block) c
             (stored_now c (only_since new ticks' t c told (le_when ticks' t e) left))))
         by_moment t c since left false e = (writing_safe new safe during).images t c since left

@@ -5,8 +5,8 @@ use Rattle.disk_model.specs.Traces.{Trace}
 use Rattle.commit_log.specs.declared.row.LogRow.{LogRow}
 use Rattle.commit_log.specs.declared.history.LogTurn.{LogTurn}
 use Rattle.commit_log.specs.Tapes.{puts}
-use Rattle.commit_log.specs.Histories.{IsLegal, IsSafe}
-use Rattle.commit_log.specs.Told.{HasRoom, IsKept, Waits}
+use Rattle.commit_log.specs.Histories.{IsLogLegal, IsLogSafe}
+use Rattle.commit_log.specs.Told.{HasRoomForPuts, IsKept, Waits}
 use Rattle.commit_log.proofs.Tapes.{puts_parts}
 
 -- no more rows are acknowledged than there are, and those behind a place wait
@@ -26,13 +26,13 @@ rest_waits opening tape rest next acked waits is =
 -- the same tape with no fewer places
 pub same_tape : (plant : List ℕ) (tags : ℕ) (opening : List LogRow) (moment faults : ℕ) (tape tape' : List LogTurn) (places places' count room next acked end : ℕ)
     (failed : Bool) (trace : Option Trace) (ticks faults_now : ℕ) → tape' ≡ tape → places ≤ places'
-    → IsLegal tags opening moment tape acked × HasRoom opening tape places count room × Waits opening tape next acked
-    × IsKept plant tags opening moment faults tape next end failed trace ticks faults_now × IsSafe plant tags opening moment tape (LeftSince trace)
-    → IsLegal tags opening moment tape' acked × HasRoom opening tape' places' count room × Waits opening tape' next acked
-    × IsKept plant tags opening moment faults tape' next end failed trace ticks faults_now × IsSafe plant tags opening moment tape' (LeftSince trace)
+    → IsLogLegal tags opening moment tape acked × HasRoomForPuts opening tape places count room × Waits opening tape next acked
+    × IsKept plant tags opening moment faults tape next end failed trace ticks faults_now × IsLogSafe plant tags opening moment tape (LeftSince trace)
+    → IsLogLegal tags opening moment tape' acked × HasRoomForPuts opening tape' places' count room × Waits opening tape' next acked
+    × IsKept plant tags opening moment faults tape' next end failed trace ticks faults_now × IsLogSafe plant tags opening moment tape' (LeftSince trace)
 same_tape plant tags opening moment faults tape tape' places places' count room next acked end failed trace ticks faults_now same more was =
-    subst (λ (l : List LogTurn). IsLegal tags opening moment l acked × HasRoom opening l places' count room × Waits opening l next acked
-    × IsKept plant tags opening moment faults l next end failed trace ticks faults_now × IsSafe plant tags opening moment l (LeftSince trace)) (sym same) (
+    subst (λ (l : List LogTurn). IsLogLegal tags opening moment l acked × HasRoomForPuts opening l places' count room × Waits opening l next acked
+    × IsKept plant tags opening moment faults l next end failed trace ticks faults_now × IsLogSafe plant tags opening moment l (LeftSince trace)) (sym same) (
       was.0,
       record { count_is = was.1.count_is; within = was.1.within; tape_room = omega (arith, was.1.tape_room, more); few = was.1.few },
       was.2,

@@ -10,10 +10,10 @@ use Rattle.disk_model.proofs.Images.{settled}
 use Rattle.disk_model.proofs.Moments.{in_turn, weaker}
 use Rattle.commit_log.specs.declared.block_reader.Stored.{Stored}
 use Rattle.commit_log.specs.declared.row.LogRow.{LogRow}
-use Rattle.commit_log.specs.Blocks.{HasBlocks, IsRow, block_size, rows_of}
+use Rattle.commit_log.specs.Blocks.{HasBlocks, IsLogRow, log_block_size, rows_of}
 use Rattle.archive_file.specs.TextHeads.{IsEmpty, blocks_at}
-use Rattle.commit_log.specs.Images.{ByBlocks, ByNothing, LogsNothing, StandsFor, letters}
-use Rattle.commit_log.specs.Openings.{IsFound, IsLeftOrSame, IsLeftOrStands, IsTooMany, ListsRows}
+use Rattle.commit_log.specs.Images.{ByBlocks, ByNothing, LogsNothing, StandsForRows, letters}
+use Rattle.commit_log.specs.Openings.{IsFound, IsLogLeftOrSame, IsLeftOrStands, IsTooMany, ListsRows}
 use Rattle.commit_log.specs.Told.{IsReady}
 use Rattle.commit_log.proofs.Commits.{stores_stand}
 
@@ -27,7 +27,7 @@ settled_after o mid new synced same = subst IsSettled (sym (same ∙ synced)) (s
 
 -- what is stored is stood for
 pub found_stands : (plant : List ℕ) (tags : ℕ) (o : Option Trace) (f : Option Stored) (s : Stored) → f ≡ Some s
-    → Shows o (IsFound plant tags f) → Shows o (λ c. StandsFor plant tags c s.rows.items)
+    → Shows o (IsFound plant tags f) → Shows o (λ c. StandsForRows plant tags c s.rows.items)
 found_stands plant tags None f s is found = tt
 found_stands plant tags (Some t) f s is found =
     stores_stand plant tags s.rows.items s.end (seen (Some t)) (subst (λ x. IsFound plant tags x (seen (Some t))) is found)
@@ -50,19 +50,19 @@ found_many plant tags room n (Some t) f s is together found = record {
 }
 
 -- the rows of blocks are rows
-blocks_rows : (c : List ℕ) (tags number at : ℕ) (bs : List (List LogRow)) → HasBlocks c tags number at bs → All (IsRow tags) (rows_of bs)
-blocks_rows c tags number at [] has = All-nil (IsRow tags)
+blocks_rows : (c : List ℕ) (tags number at : ℕ) (bs : List (List LogRow)) → HasBlocks c tags number at bs → All (IsLogRow tags) (rows_of bs)
+blocks_rows c tags number at [] has = All-nil (IsLogRow tags)
 blocks_rows c tags number at (b ∷ bs) has =
-    All-append (IsRow tags) b (rows_of bs) has.0.rows_are.each (blocks_rows c tags (number + length b) (at + block_size b) bs has.1)
+    All-append (IsLogRow tags) b (rows_of bs) has.0.rows_are.each (blocks_rows c tags (number + length b) (at + log_block_size b) bs has.1)
 
-pub lists_rows : (c : List ℕ) (tags at : ℕ) (rows : List LogRow) (end : ℕ) → ListsRows c tags at rows end → All (IsRow tags) rows
+pub lists_rows : (c : List ℕ) (tags at : ℕ) (rows : List LogRow) (end : ℕ) → ListsRows c tags at rows end → All (IsLogRow tags) rows
 lists_rows c tags at rows end lists =
-    subst (All (IsRow tags)) (sym lists.rows_are) (blocks_rows c tags 0 at lists.blocks lists.are.blocks)
+    subst (All (IsLogRow tags)) (sym lists.rows_are) (blocks_rows c tags 0 at lists.blocks lists.are.blocks)
 
 -- ---- a new device
 
 -- what has no rows stands for none
-nothing_stands : (plant : List ℕ) (tags : ℕ) (c : List ℕ) → LogsNothing plant c → StandsFor plant tags c []
+nothing_stands : (plant : List ℕ) (tags : ℕ) (c : List ℕ) → LogsNothing plant c → StandsForRows plant tags c []
 nothing_stands plant tags c (inl new) = ByNothing new refl
 nothing_stands plant tags c (inr empty) =
     ByBlocks [] (record { of_plant = empty.of_text; blocks = record { blocks = tt; shut = empty.shut } }) refl
@@ -86,7 +86,7 @@ found_new plant tags (Some t) f is found = subst (λ x. IsFound plant tags x (se
 
 -- it stands for no rows
 pub new_stands : (plant : List ℕ) (tags : ℕ) (o : Option Trace) (rows : List LogRow) → Shows o IsNew → rows ≡ []
-    → Shows o (λ c. StandsFor plant tags c rows)
+    → Shows o (λ c. StandsForRows plant tags c rows)
 new_stands plant tags None rows is none = tt
 new_stands plant tags (Some t) rows is none = ByNothing is none
 
@@ -101,14 +101,14 @@ pub begun_stands : (plant : List ℕ) (tags : ℕ) (rows : List LogRow) (o mid n
 begun_stands plant tags rows o mid new none before begun =
     in_turn o mid new (IsLeftOrStands plant tags rows o) before
     (weaker mid new (LogsNothing plant) (IsLeftOrStands plant tags rows o)
-    (λ c nothing. inr (subst (StandsFor plant tags c) (sym none) (nothing_stands plant tags c nothing))) begun)
+    (λ c nothing. inr (subst (StandsForRows plant tags c) (sym none) (nothing_stands plant tags c nothing))) begun)
 
 -- and for what stood before
 pub begun_same : (plant : List ℕ) (tags : ℕ) (o mid new : Option Trace) → mid ≡ noted Synced o → Shows mid IsNew
-    → During o mid (IsLeftOrSame plant tags o) → During mid new (LogsNothing plant) → During o new (IsLeftOrSame plant tags o)
+    → During o mid (IsLogLeftOrSame plant tags o) → During mid new (LogsNothing plant) → During o new (IsLogLeftOrSame plant tags o)
 begun_same plant tags o mid new synced is before begun =
-    in_turn o mid new (IsLeftOrSame plant tags o) before
-    (weaker mid new (LogsNothing plant) (IsLeftOrSame plant tags o)
+    in_turn o mid new (IsLogLeftOrSame plant tags o) before
+    (weaker mid new (LogsNothing plant) (IsLogLeftOrSame plant tags o)
     (λ c nothing. inr (record {
       rows = [];
       stood = ByNothing (new_seen o mid synced is) refl;

@@ -10,11 +10,11 @@ use Rattle.commit_log.specs.declared.opening.Parts.{Parts}
 use Rattle.commit_log.specs.declared.refusal.LogNo.{LogNo}
 use Rattle.commit_log.specs.declared.refusal.LogNo.TheVariants.{DeviceFault, Damaged, OtherPlant, TooMany, WantOfMemory}
 use Rattle.commit_log.specs.declared.row.LogRow.{LogRow}
-use Rattle.commit_log.specs.Blocks.{IsRow}
-use Rattle.commit_log.specs.Images.{IsLogDamage, IsOfOther, StandsFor}
-use Rattle.commit_log.specs.Openings.{IsCause, IsTooMany, most_rows}
-use Rattle.commit_log.specs.Histories.{IsLegal, IsSafe}
-use Rattle.commit_log.specs.Told.{HasRoom, IsKept, IsReady, Waits}
+use Rattle.commit_log.specs.Blocks.{IsLogRow}
+use Rattle.commit_log.specs.Images.{IsLogDamage, IsOfOther, StandsForRows}
+use Rattle.commit_log.specs.Openings.{IsLogCause, IsTooMany, most_rows}
+use Rattle.commit_log.specs.Histories.{IsLogLegal, IsLogSafe}
+use Rattle.commit_log.specs.Told.{HasRoomForPuts, IsKept, IsReady, Waits}
 use Rattle.commit_log.proofs.Commits.{ready_stands}
 use Rattle.archive_file.proofs.ReadImages.{shown_before}
 
@@ -50,7 +50,7 @@ pub read_cause : {T : Type 0} (plant : List ℕ) (tags room : ℕ) (o mid : Opti
     → mid ≡ noted Synced o
     → ((a : ℕ) (byte : Option ℕ) → IsErrOf r (Damaged a byte) → Shows mid (λ c. IsLogDamage plant tags c a byte))
     → ((at : ℕ) → IsErrOf r (OtherPlant at) → Shows mid (λ c. IsOfOther plant c at))
-    → ((n : ℕ) → IsErrOf r (TooMany n) → ⊥) → IsCause plant tags room o no
+    → ((n : ℕ) → IsErrOf r (TooMany n) → ⊥) → IsLogCause plant tags room o no
 read_cause plant tags room o mid r DeviceFault is synced damaged other many = tt
 read_cause plant tags room o mid r (Damaged a byte) is synced damaged other many =
     shown_before o mid (λ c. IsLogDamage plant tags c a byte) synced (damaged a byte is)
@@ -63,7 +63,7 @@ read_cause plant tags room o mid r WantOfMemory is synced damaged other many = t
 pub parts_cause : {T : Type 0} (plant : List ℕ) (tags room : ℕ) (o : Option Trace) (r : Result T LogNo) (together : ℕ)
     → ((n : ℕ) → IsErrOf r (TooMany n) → (n ≡ together) × (most_rows < n))
     → ((a : ℕ) (byte : Option ℕ) → IsErrOf r (Damaged a byte) → ⊥) → ((at : ℕ) → IsErrOf r (OtherPlant at) → ⊥)
-    → ((n : ℕ) → n ≡ together → Shows o (IsTooMany plant tags room n)) → IfErr r (IsCause plant tags room o)
+    → ((n : ℕ) → n ≡ together → Shows o (IsTooMany plant tags room n)) → IfErr r (IsLogCause plant tags room o)
 parts_cause plant tags room o (Ok x) together many undamaged same shows = tt
 parts_cause plant tags room o (Err DeviceFault) together many undamaged same shows = tt
 parts_cause plant tags room o (Err (Damaged a byte)) together many undamaged same shows = absurd (undamaged a byte refl)
@@ -78,14 +78,14 @@ parts_cause plant tags room o (Err WantOfMemory) together many undamaged same sh
 -- what the type keeps of a log that was opened
 pub opened_keeps : (plant : List ℕ) (tags : ℕ) (rows : List LogRow) (moment faults : ℕ) (tape : List LogTurn) (places room acked end : ℕ)
     (trace : Option Trace) (ticks faults_now : ℕ) → tape ≡ [] → moment ≡ ticks → faults ≡ faults_now → acked ≡ length rows
-    → All (IsRow tags) rows → room ≤ places → length rows + room ≤ most_rows → IfSome trace (IsReady plant tags rows end)
+    → All (IsLogRow tags) rows → room ≤ places → length rows + room ≤ most_rows → IfSome trace (IsReady plant tags rows end)
     → IfSome trace (λ t. length t.calls ≡ ticks)
-    → IsLegal tags rows moment tape acked × HasRoom rows tape places 0 room × Waits rows tape 0 acked
-    × IsKept plant tags rows moment faults tape 0 end false trace ticks faults_now × IsSafe plant tags rows moment tape (LeftSince trace)
+    → IsLogLegal tags rows moment tape acked × HasRoomForPuts rows tape places 0 room × Waits rows tape 0 acked
+    × IsKept plant tags rows moment faults tape 0 end false trace ticks faults_now × IsLogSafe plant tags rows moment tape (LeftSince trace)
 opened_keeps plant tags rows moment faults tape places room acked end trace ticks faults_now none moment_is faults_is acked_is each enough few
     ready told =
-    subst (λ (l : List LogTurn). IsLegal tags rows moment l acked × HasRoom rows l places 0 room × Waits rows l 0 acked
-    × IsKept plant tags rows moment faults l 0 end false trace ticks faults_now × IsSafe plant tags rows moment l (LeftSince trace)) (sym none) (
+    subst (λ (l : List LogTurn). IsLogLegal tags rows moment l acked × HasRoomForPuts rows l places 0 room × Waits rows l 0 acked
+    × IsKept plant tags rows moment faults l 0 end false trace ticks faults_now × IsLogSafe plant tags rows moment l (LeftSince trace)) (sym none) (
       record { opened = each; turns = tt; last = acked_is },
       record { count_is = refl; within = omega arith; tape_room = omega arith; few = few },
       record { within = omega arith; acked_are = omega arith },
@@ -101,7 +101,7 @@ opened_keeps plant tags rows moment faults tape places room acked end trace tick
           count = 0;
           enough = omega arith;
           within = omega arith;
-          stands = subst (StandsFor plant tags c) (sym (append-nil rows))
+          stands = subst (StandsForRows plant tags c) (sym (append-nil rows))
               (ready_stands plant tags rows end trace ready c (only_since trace ticks t c told (omega (arith, since)) left));
         };
       },

@@ -4,22 +4,22 @@ use Rattle.std.proofs.lemmas.List.{map-append, take-append-drop, take-take}
 use Rattle.std.proofs.lemmas.List.Elements.{filter-append}
 use Rattle.std.proofs.Math.Seq.{take-append_seam}
 use Rattle.commit_log.specs.declared.row.LogRow.{LogRow}
-use Rattle.commit_log.specs.Images.{points_of}
+use Rattle.commit_log.specs.Images.{log_points_of}
 
 -- the points in two lists
-points-append : (tag : ℕ) (xs ys : List LogRow) → points_of tag (xs ++ ys) ≡ points_of tag xs ++ points_of tag ys
+points-append : (tag : ℕ) (xs ys : List LogRow) → log_points_of tag (xs ++ ys) ≡ log_points_of tag xs ++ log_points_of tag ys
 points-append tag xs ys =
     let is_of : LogRow → _ = λ r. nat_eq r.tag tag in
     ap (map (λ r. r.point)) (filter-append is_of xs ys) ∙ map-append (λ r. r.point) (filter is_of xs) (filter is_of ys)
 
 pub points_prefix : (tag : ℕ) (rows : List LogRow) (n : ℕ)
-    → points_of tag (take n rows) ≡ take (length (points_of tag (take n rows))) (points_of tag rows)
+    → log_points_of tag (take n rows) ≡ take (length (log_points_of tag (take n rows))) (log_points_of tag rows)
 points_prefix tag rows n =
-    sym (ap (take (length (points_of tag (take n rows)))) (ap (points_of tag) (sym (take-append-drop n rows)) ∙ points-append tag (take n rows) (drop n rows))
-    ∙ take-append_seam (points_of tag (take n rows)) (points_of tag (drop n rows)))
+    sym (ap (take (length (log_points_of tag (take n rows)))) (ap (log_points_of tag) (sym (take-append-drop n rows)) ∙ points-append tag (take n rows) (drop n rows))
+    ∙ take-append_seam (log_points_of tag (take n rows)) (log_points_of tag (drop n rows)))
 
 pub points_within : (tag : ℕ) (rows : List LogRow) (least n : ℕ) → least ≤ n
-    → points_of tag (take least rows) ≡ take (length (points_of tag (take least rows))) (points_of tag (take n rows))
+    → log_points_of tag (take least rows) ≡ take (length (log_points_of tag (take least rows))) (log_points_of tag (take n rows))
 points_within tag rows least n le =
-    subst (λ (l : List LogRow). points_of tag l ≡ take (length (points_of tag l)) (points_of tag (take n rows))) (take-take least n rows le)
+    subst (λ (l : List LogRow). log_points_of tag l ≡ take (length (log_points_of tag l)) (log_points_of tag (take n rows))) (take-take least n rows le)
     (points_prefix tag (take n rows) least)

@@ -5,11 +5,11 @@ use Rattle.disk_model.specs.Traces.{Trace}
 use Rattle.commit_log.specs.declared.row.LogRow.{LogRow}
 use Rattle.commit_log.specs.declared.history.LogTurn.{LogTurn}
 use Rattle.commit_log.specs.declared.history.LogTurn.TheVariants.{Put}
-use Rattle.commit_log.specs.Blocks.{IsRow}
-use Rattle.commit_log.specs.Images.{StandsFor}
-use Rattle.commit_log.specs.Tapes.{Walk, acked_at, puts, start}
-use Rattle.commit_log.specs.Histories.{IsLegal, IsSafe, StandsForPart}
-use Rattle.commit_log.specs.Told.{HasRoom, IsKept, IsReady, Waits}
+use Rattle.commit_log.specs.Blocks.{IsLogRow}
+use Rattle.commit_log.specs.Images.{StandsForRows}
+use Rattle.commit_log.specs.Tapes.{LogWalk, acked_at, puts, log_begin}
+use Rattle.commit_log.specs.Histories.{IsLogLegal, IsLogSafe, StandsForPart}
+use Rattle.commit_log.specs.Told.{HasRoomForPuts, IsKept, IsReady, Waits}
 use Rattle.commit_log.proofs.Tapes.{acked_at-put, fit-push, puts-append, walked-push}
 
 module _ (tags : ℕ) (opening : List LogRow) (moment : ℕ) (tape : List LogTurn) (row : LogRow) where
@@ -20,15 +20,15 @@ module _ (tags : ℕ) (opening : List LogRow) (moment : ℕ) (tape : List LogTur
   rows_are : puts longer ≡ puts tape ++ row ∷ []
   rows_are = puts-append tape (Put row ∷ [])
 
-  pub put_legal : (acked : ℕ) → IsLegal tags opening moment tape acked → IsRow tags row → IsLegal tags opening moment longer acked
+  pub put_legal : (acked : ℕ) → IsLogLegal tags opening moment tape acked → IsLogRow tags row → IsLogLegal tags opening moment longer acked
   put_legal acked legal is = record {
     opened = legal.opened;
-    turns = fit-push tags (start (length opening) moment) tape (Put row) legal.turns is;
-    last = legal.last ∙ sym (ap (λ (w : Walk). w.acked) (walked-push (start (length opening) moment) tape (Put row)));
+    turns = fit-push tags (log_begin (length opening) moment) tape (Put row) legal.turns is;
+    last = legal.last ∙ sym (ap (λ (w : LogWalk). w.acked) (walked-push (log_begin (length opening) moment) tape (Put row)));
   }
 
-  pub put_room : (places places' count room : ℕ) → HasRoom opening tape places count room → count + 1 ≤ room → places' ≡ places
-      → HasRoom opening longer places' (count + 1) room
+  pub put_room : (places places' count room : ℕ) → HasRoomForPuts opening tape places count room → count + 1 ≤ room → places' ≡ places
+      → HasRoomForPuts opening longer places' (count + 1) room
   put_room places places' count room has within same = record {
     count_is = omega (arith, has.count_is, ap length rows_are, length-append (puts tape) (row ∷ []));
     within = within;
@@ -52,14 +52,14 @@ module _ (tags : ℕ) (opening : List LogRow) (moment : ℕ) (tape : List LogTur
   put_kept plant faults next end acked failed trace ticks faults' waits kept = record {
     ready = λ usable. subst (λ (l : List LogTurn). IfSome trace (IsReady plant tags (opening ++ puts l) end))
         (sym (before next waits.within)) (kept.ready usable);
-    past = subst (λ (w : Walk). w.moment ≤ ticks) (sym (walked-push (start (length opening) moment) tape (Put row))) kept.past;
+    past = subst (λ (w : LogWalk). w.moment ≤ ticks) (sym (walked-push (log_begin (length opening) moment) tape (Put row))) kept.past;
     opened_before = kept.opened_before;
     faultless = kept.faultless;
     cause = kept.cause;
   }
 
-  pub put_safe : (plant : List ℕ) (left : ℕ → List ℕ → Type 0) → IsSafe plant tags opening moment tape left
-      → IsSafe plant tags opening moment longer left
+  pub put_safe : (plant : List ℕ) (left : ℕ → List ℕ → Type 0) → IsLogSafe plant tags opening moment tape left
+      → IsLogSafe plant tags opening moment longer left
   put_safe plant left safe = record { images = λ t c since was. part t c (safe.images t c since was) }
     where
       part : (t : ℕ) (c : List ℕ) → StandsForPart plant tags opening (puts tape) (acked_at t (length opening) tape) c
@@ -70,6 +70,6 @@ module _ (tags : ℕ) (opening : List LogRow) (moment : ℕ) (tape : List LogTur
             count = is.count;
             enough = subst (λ (n : ℕ). n ≤ length opening + is.count) (sym (acked_at-put t (length opening) tape row)) is.enough;
             within = omega (arith, within, ap length rows_are, length-append (puts tape) (row ∷ []));
-            stands = subst (λ (l : List LogRow). StandsFor plant tags c (opening ++ l))
+            stands = subst (λ (l : List LogRow). StandsForRows plant tags c (opening ++ l))
                 (sym (ap (take is.count) rows_are ∙ take-append-le is.count (puts tape) (row ∷ []) within)) is.stands;
           }

@@ -6,7 +6,7 @@ use Rattle.archive_file.proofs.Points.{IsBytes}
 use Rattle.archive_file.specs.declared.layout_field.Field.{Field}
 use Rattle.commit_log.specs.declared.row.LogRow.{LogRow}
 use Rattle.archive_file.specs.LayoutFields.{BreaksFirst, Keeps, Spells}
-use Rattle.commit_log.specs.Blocks.{IsRow, row_at, row_fields, row_image, rows_fields, rows_image}
+use Rattle.commit_log.specs.Blocks.{IsLogRow, row_at, row_fields, row_image, rows_fields, rows_image}
 use Rattle.commit_log.specs.Openings.{AddsRows}
 use Rattle.archive_file.proofs.FieldLaws.{KeptUpTo, breaks_after, breaks_within, kept_more, spells_both}
 use Rattle.archive_file.proofs.LayoutSpellings.{ends_value, then_long, then_short}
@@ -17,7 +17,7 @@ none = record { place = 0; size = 0; is_kept = true }
 
 module _ (c : List ℕ) (tags at : ℕ) (r : LogRow) (kept : All (Keeps c) (row_fields tags r at)) where
   -- it is a row
-  pub row_found : IsRow tags r
+  pub row_found : IsLogRow tags r
   row_found = record {
     tag = ltb-true _ _ (kept 0 none (lit< tt)).kept;
     point = record { time = leb-true _ _ (kept 3 none (lit< tt)).kept; value = leb-true _ _ (kept 4 none (lit< tt)).kept };
@@ -37,13 +37,13 @@ module _ (c : List ℕ) (tags at : ℕ) (r : LogRow) (kept : All (Keeps c) (row_
 
 -- one row more was added
 pub adds_more : (c : List ℕ) (tags at k next : ℕ) (old mid new : List LogRow) (r : LogRow) → next ≡ at + 32 * k
-    → AddsRows c tags at k old mid → new ≡ mid ++ r ∷ [] → IsRow tags r → Spells c next (row_image r) (next + 32)
+    → AddsRows c tags at k old mid → new ≡ mid ++ r ∷ [] → IsLogRow tags r → Spells c next (row_image r) (next + 32)
     → AddsRows c tags at (k + 1) old new
 adds_more c tags at k next old mid new r place so_far pushed row spelled = record {
   more = so_far.more ++ r ∷ [];
   are = pushed ∙ ap (λ l. l ++ r ∷ []) so_far.are ∙ append_assoc old so_far.more (r ∷ []);
   long = length-append so_far.more (r ∷ []) ∙ ap (λ n. n + 1) so_far.long;
-  each = All-push (IsRow tags) so_far.more r so_far.each row;
+  each = All-push (IsLogRow tags) so_far.more r so_far.each row;
   spelled = subst (λ bytes. Spells c at bytes (at + 32 * (k + 1))) (sym (images_push row_image so_far.more r))
       (subst (Spells c at (rows_image so_far.more ++ row_image r)) end
       (spells_both c at next (next + 32) (rows_image so_far.more) (row_image r)

@@ -6,14 +6,14 @@ use Rattle.std.proofs.Math.Seq.{drop-append_seam, take-append_seam}
 use Rattle.commit_log.specs.declared.row.LogRow.{LogRow}
 use Rattle.commit_log.specs.declared.history.LogTurn.{LogTurn}
 use Rattle.commit_log.specs.declared.history.LogTurn.TheVariants.{Put, Commit}
-use Rattle.commit_log.specs.Blocks.{IsRow}
-use Rattle.commit_log.specs.Tapes.{Walk, acked_at, after_turn, puts, walked}
-use Rattle.commit_log.specs.Histories.{FitAll, Fits}
+use Rattle.commit_log.specs.Blocks.{IsLogRow}
+use Rattle.commit_log.specs.Tapes.{LogWalk, acked_at, after_turn, puts, log_walked}
+use Rattle.commit_log.specs.Histories.{LogTurnsFit, LogTurnFits}
 
 -- ---- walks
 
 -- the walk goes on by the turn
-pub walked-push : (w : Walk) (es : List LogTurn) (e : LogTurn) → walked w (es ++ e ∷ []) ≡ after_turn (walked w es) e
+pub walked-push : (w : LogWalk) (es : List LogTurn) (e : LogTurn) → log_walked w (es ++ e ∷ []) ≡ after_turn (log_walked w es) e
 walked-push w [] e = refl
 walked-push w (x ∷ es) e = walked-push (after_turn w x) es e
 
@@ -24,21 +24,21 @@ puts-append (Put row ∷ xs) ys = ap (λ l. row ∷ l) (puts-append xs ys)
 puts-append (Commit moment acked ∷ xs) ys = puts-append xs ys
 
 -- how many rows there are after a walk
-pub walked-rows : (w : Walk) (es : List LogTurn) → (walked w es).rows ≡ w.rows + length (puts es)
+pub walked-rows : (w : LogWalk) (es : List LogTurn) → (log_walked w es).rows ≡ w.rows + length (puts es)
 walked-rows w [] = omega arith
 walked-rows w (Put row ∷ es) = omega (arith, walked-rows (after_turn w (Put row)) es)
 walked-rows w (Commit moment acked ∷ es) = walked-rows (after_turn w (Commit moment acked)) es
 
 -- a turn that fits at the end of a tape
-pub fit-push : (tags : ℕ) (w : Walk) (es : List LogTurn) (e : LogTurn) → FitAll tags w es → Fits tags (walked w es) e
-    → FitAll tags w (es ++ e ∷ [])
+pub fit-push : (tags : ℕ) (w : LogWalk) (es : List LogTurn) (e : LogTurn) → LogTurnsFit tags w es → LogTurnFits tags (log_walked w es) e
+    → LogTurnsFit tags w (es ++ e ∷ [])
 fit-push tags w [] e all fits = (fits, tt)
 fit-push tags w (x ∷ es) e all fits = (all.0, fit-push tags (after_turn w x) es e all.1 fits)
 
 -- the rows that were put are rows
-pub fit_rows : (tags : ℕ) (w : Walk) (es : List LogTurn) → FitAll tags w es → All (IsRow tags) (puts es)
-fit_rows tags w [] all = All-nil (IsRow tags)
-fit_rows tags w (Put row ∷ es) all = All-cons (IsRow tags) row (puts es) all.0 (fit_rows tags (after_turn w (Put row)) es all.1)
+pub fit_rows : (tags : ℕ) (w : LogWalk) (es : List LogTurn) → LogTurnsFit tags w es → All (IsLogRow tags) (puts es)
+fit_rows tags w [] all = All-nil (IsLogRow tags)
+fit_rows tags w (Put row ∷ es) all = All-cons (IsLogRow tags) row (puts es) all.0 (fit_rows tags (after_turn w (Put row)) es all.1)
 fit_rows tags w (Commit moment acked ∷ es) all = fit_rows tags (after_turn w (Commit moment acked)) es all.1
 
 -- ---- what is acknowledged
@@ -57,8 +57,8 @@ acked_at-commit t n (Put r ∷ es) moment acked = acked_at-commit t n es moment 
 acked_at-commit t n (Commit m a ∷ es) moment acked = acked_at-commit t (if nat_le m t then a else n) es moment acked
 
 -- at no moment more is acknowledged than at the end
-pub acked_at-most : (tags : ℕ) (w : Walk) (es : List LogTurn) (t n : ℕ) → n ≤ w.acked → FitAll tags w es
-    → acked_at t n es ≤ (walked w es).acked
+pub acked_at-most : (tags : ℕ) (w : LogWalk) (es : List LogTurn) (t n : ℕ) → n ≤ w.acked → LogTurnsFit tags w es
+    → acked_at t n es ≤ (log_walked w es).acked
 acked_at-most tags w [] t n le all = le
 acked_at-most tags w (Put row ∷ es) t n le all = acked_at-most tags (after_turn w (Put row)) es t n le all.1
 acked_at-most tags w (Commit m a ∷ es) t n le all =
@@ -85,10 +85,10 @@ puts_parts tape next turns =
     ∙ sym (append_assoc (puts (take next tape)) (puts (take turns rest)) (puts (drop turns rest)))))
 
 -- the rows of the middle part
-pub middle_rows : (tags : ℕ) (rows xs ys zs : List LogRow) → rows ≡ (xs ++ ys) ++ zs → All (IsRow tags) rows → All (IsRow tags) ys
+pub middle_rows : (tags : ℕ) (rows xs ys zs : List LogRow) → rows ≡ (xs ++ ys) ++ zs → All (IsLogRow tags) rows → All (IsLogRow tags) ys
 middle_rows tags rows xs ys zs are all =
-    subst (All (IsRow tags)) (ap (take (length ys)) same ∙ take-append_seam ys zs)
-    (All-take (IsRow tags) (length ys) (drop (length xs) rows) (All-drop (IsRow tags) (length xs) rows all))
+    subst (All (IsLogRow tags)) (ap (take (length ys)) same ∙ take-append_seam ys zs)
+    (All-take (IsLogRow tags) (length ys) (drop (length xs) rows) (All-drop (IsLogRow tags) (length xs) rows all))
   where
     same : drop (length xs) rows ≡ ys ++ zs
     same = ap (drop (length xs)) (are ∙ append_assoc xs ys zs) ∙ drop-append_seam xs (ys ++ zs)

@@ -4,13 +4,13 @@ use Rattle.std.proofs.lemmas.List.{append-nil}
 use Rattle.disk_model.specs.Gates.{IsOpen, open_byte}
 use Rattle.commit_log.specs.declared.row.LogRow.{LogRow}
 use Rattle.archive_file.specs.LayoutFields.{BreaksFirst}
-use Rattle.commit_log.specs.Blocks.{HasBlock, HasBlocks, IsBlockDamage, block_fields, block_size, end_of, rows_of}
+use Rattle.commit_log.specs.Blocks.{HasBlock, HasBlocks, IsBlockDamage, block_fields, log_block_size, log_end_of, rows_of}
 use Rattle.commit_log.specs.Openings.{AddsBlock, ListsRows}
 
 -- where blocks and one more end
-pub end_of-push : (at : ℕ) (bs : List (List LogRow)) (x : List LogRow) → end_of at (bs ++ x ∷ []) ≡ end_of at bs + block_size x
+pub end_of-push : (at : ℕ) (bs : List (List LogRow)) (x : List LogRow) → log_end_of at (bs ++ x ∷ []) ≡ log_end_of at bs + log_block_size x
 end_of-push at [] x = refl
-end_of-push at (y ∷ bs) x = end_of-push (at + block_size y) bs x
+end_of-push at (y ∷ bs) x = end_of-push (at + log_block_size y) bs x
 
 -- their rows
 pub rows_of-push : (bs : List (List LogRow)) (x : List LogRow) → rows_of (bs ++ x ∷ []) ≡ rows_of bs ++ x
@@ -19,15 +19,15 @@ rows_of-push (y ∷ bs) x = ap (λ l. y ++ l) (rows_of-push bs x) ∙ sym (appen
 
 -- one more stands behind them
 pub has_push : (c : List ℕ) (tags number at : ℕ) (bs : List (List LogRow)) (x : List LogRow) → HasBlocks c tags number at bs
-    → HasBlock c tags (number + length (rows_of bs)) (end_of at bs) x → HasBlocks c tags number at (bs ++ x ∷ [])
+    → HasBlock c tags (number + length (rows_of bs)) (log_end_of at bs) x → HasBlocks c tags number at (bs ++ x ∷ [])
 has_push c tags number at [] x has one =
     let same : number + 0 ≡ number = omega arith in
     (subst (λ n. HasBlock c tags n at x) same one, tt)
 has_push c tags number at (y ∷ bs) x has one =
     let same : number + length (y ++ rows_of bs) ≡ number + length y + length (rows_of bs) = omega (arith, length-append y (rows_of bs)) in (
       has.0,
-      has_push c tags (number + length y) (at + block_size y) bs x has.1
-          (subst (λ n. HasBlock c tags n (end_of (at + block_size y) bs) x) same one),
+      has_push c tags (number + length y) (at + log_block_size y) bs x has.1
+          (subst (λ n. HasBlock c tags n (log_end_of (at + log_block_size y) bs) x) same one),
     )
 
 -- the blocks up to a gate list these rows
@@ -35,7 +35,7 @@ pub record IsWalked (c : List ℕ) (tags at next : ℕ) (rows : List LogRow) : T
   pub blocks : List (List LogRow)
   pub has : HasBlocks c tags 0 at blocks
   pub rows_are : rows ≡ rows_of blocks
-  pub end_is : next ≡ end_of at blocks
+  pub end_is : next ≡ log_end_of at blocks
 
 -- before the first one
 pub walk_begins : (c : List ℕ) (tags at : ℕ) (rows : List LogRow) → rows ≡ [] → IsWalked c tags at at rows
@@ -47,11 +47,11 @@ pub walk_on : (c : List ℕ) (tags at gate next : ℕ) (old new : List LogRow) �
 walk_on c tags at gate next old new so_far opened added = record {
   blocks = so_far.blocks ++ added.block ∷ [];
   has = has_push c tags 0 at so_far.blocks added.block so_far.has
-      (subst (λ n. HasBlock c tags n (end_of at so_far.blocks) added.block) number
+      (subst (λ n. HasBlock c tags n (log_end_of at so_far.blocks) added.block) number
       (subst (λ n. HasBlock c tags (length old) n added.block) so_far.end_is
       (record { opened = opened; spelled = added.spelled.spelled; rows_are = added.rows_are })));
   rows_are = added.are ∙ ap (λ l. l ++ added.block) so_far.rows_are ∙ sym (rows_of-push so_far.blocks added.block);
-  end_is = added.next_is ∙ ap (λ n. n + block_size added.block) so_far.end_is ∙ sym (end_of-push at so_far.blocks added.block);
+  end_is = added.next_is ∙ ap (λ n. n + log_block_size added.block) so_far.end_is ∙ sym (end_of-push at so_far.blocks added.block);
 }
   where
     number : length old ≡ 0 + length (rows_of so_far.blocks)

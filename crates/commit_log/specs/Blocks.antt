@@ -18,12 +18,12 @@ abbrev pub rows_image : List LogRow → List ℕ
 rows_image rows = flat_map row_image rows
 
 -- the block of these rows, of which the first has this number
-abbrev pub block_image : ℕ → List LogRow → List ℕ
-block_image number rows = number_bytes 8 number ++ (number_bytes 4 (length rows) ++ rows_image rows)
+abbrev pub log_block_image : ℕ → List LogRow → List ℕ
+log_block_image number rows = number_bytes 8 number ++ (number_bytes 4 (length rows) ++ rows_image rows)
 
 -- from its gate to the next one
-abbrev pub block_size : List LogRow → ℕ
-block_size rows = 13 + 32 * length rows
+abbrev pub log_block_size : List LogRow → ℕ
+log_block_size rows = 13 + 32 * length rows
 
 -- ---- what it may say
 
@@ -32,7 +32,7 @@ abbrev pub most_in_block : ℕ
 most_in_block = 4096
 
 -- a row of one of so many tags, whose point is in range
-pub record IsRow (tags : ℕ) (r : LogRow) : Type 0 where
+pub record IsLogRow (tags : ℕ) (r : LogRow) : Type 0 where
   pub tag : r.tag < tags
   pub point : InRange r.point
 
@@ -40,25 +40,25 @@ pub record IsRow (tags : ℕ) (r : LogRow) : Type 0 where
 pub record AreBlockRows (tags : ℕ) (rows : List LogRow) : Type 0 where
   pub some : 1 ≤ length rows
   pub few : length rows ≤ most_in_block
-  pub each : All (IsRow tags) rows
+  pub each : All (IsLogRow tags) rows
 
 -- ---- blocks one behind the other
 
 -- the block of these rows, of which the first has this number, stands behind its open gate
 pub record HasBlock (c : List ℕ) (tags number at : ℕ) (rows : List LogRow) : Type 0 where
   pub opened : IsOpen at c
-  pub spelled : Holds (at + 1) (block_image number rows) c
+  pub spelled : Holds (at + 1) (log_block_image number rows) c
   pub rows_are : AreBlockRows tags rows
 
 -- these blocks stand one behind the other from the gate at a place, and their rows are numbered on from one number
 abbrev pub HasBlocks : List ℕ → ℕ → ℕ → ℕ → List (List LogRow) → Type 0
 HasBlocks c tags number at [] = Unit {0}
-HasBlocks c tags number at (b ∷ bs) = HasBlock c tags number at b × HasBlocks c tags (number + length b) (at + block_size b) bs
+HasBlocks c tags number at (b ∷ bs) = HasBlock c tags number at b × HasBlocks c tags (number + length b) (at + log_block_size b) bs
 
 -- where they end
-abbrev pub end_of : ℕ → List (List LogRow) → ℕ
-end_of at [] = at
-end_of at (b ∷ bs) = end_of (at + block_size b) bs
+abbrev pub log_end_of : ℕ → List (List LogRow) → ℕ
+log_end_of at [] = at
+log_end_of at (b ∷ bs) = log_end_of (at + log_block_size b) bs
 
 -- all their rows, in order
 abbrev pub rows_of : List (List LogRow) → List LogRow
@@ -67,7 +67,7 @@ rows_of bs = flat_map (λ b. b) bs
 -- all blocks from the gate at a place, with rows numbered from 0: the gate behind the last one is there, and closed
 pub record AreBlocks (c : List ℕ) (tags at : ℕ) (bs : List (List LogRow)) : Type 0 where
   pub blocks : HasBlocks c tags 0 at bs
-  pub shut : IsShut (end_of at bs) c
+  pub shut : IsShut (log_end_of at bs) c
 
 -- ---- its fields, and where they first break a rule
 
@@ -109,5 +109,5 @@ block_fields c tags number gate =
 pub record IsBlockDamage (c : List ℕ) (tags at a : ℕ) (byte : Option ℕ) : Type 0 where
   pub blocks : List (List LogRow)
   pub whole : HasBlocks c tags 0 at blocks
-  pub opened : IsOpen (end_of at blocks) c
-  pub breaks : BreaksFirst c (block_fields c tags (length (rows_of blocks)) (end_of at blocks)) a byte
+  pub opened : IsOpen (log_end_of at blocks) c
+  pub breaks : BreaksFirst c (block_fields c tags (length (rows_of blocks)) (log_end_of at blocks)) a byte

@@ -28,9 +28,9 @@ pub record HasLog (plant : List ℕ) (tags : ℕ) (c : List ℕ) (bs : List (Lis
 
 -- An image stands for rows: no layout was finished, and there are none; or it is that of the plant, no rule is broken, and its
 -- blocks list them
-pub data StandsFor (plant : List ℕ) (tags : ℕ) (c : List ℕ) (rows : List LogRow) : Type 0 where
-  ByNothing : IsNew c → rows ≡ [] → StandsFor plant tags c rows
-  ByBlocks : (bs : List (List LogRow)) → HasLog plant tags c bs → rows ≡ rows_of bs → StandsFor plant tags c rows
+pub data StandsForRows (plant : List ℕ) (tags : ℕ) (c : List ℕ) (rows : List LogRow) : Type 0 where
+  ByNothing : IsNew c → rows ≡ [] → StandsForRows plant tags c rows
+  ByBlocks : (bs : List (List LogRow)) → HasLog plant tags c bs → rows ≡ rows_of bs → StandsForRows plant tags c rows
 
 -- the first damage of a log that is not new
 pub data IsLogDamage (plant : List ℕ) (tags : ℕ) (c : List ℕ) (a : ℕ) (byte : Option ℕ) : Type 0 where
@@ -42,5 +42,5 @@ abbrev pub LogsNothing : List ℕ → List ℕ → Type 0
 LogsNothing plant c = IsNew c ⊎ IsEmpty letters plant c
 
 -- the points of a tag, in order
-abbrev pub points_of : ℕ → List LogRow → List Point
-points_of tag rows = map (λ r. r.point) (filter (λ r. nat_eq r.tag tag) rows)
+abbrev pub log_points_of : ℕ → List LogRow → List Point
+log_points_of tag rows = map (λ r. r.point) (filter (λ r. nat_eq r.tag tag) rows)

@@ -12,8 +12,8 @@ use Rattle.commit_log.specs.declared.refusal.LogNo.TheVariants.{DeviceFault, Dam
 use Rattle.commit_log.specs.declared.row.LogRow.{LogRow}
 use Rattle.archive_file.specs.LayoutFields.{Spells}
 use Rattle.archive_file.specs.TextHeads.{IsOfText, blocks_at}
-use Rattle.commit_log.specs.Blocks.{AreBlockRows, AreBlocks, IsRow, block_image, block_size, end_of, rows_image, rows_of}
-use Rattle.commit_log.specs.Images.{IsLogDamage, IsOfOther, StandsFor, letters}
+use Rattle.commit_log.specs.Blocks.{AreBlockRows, AreBlocks, IsLogRow, log_block_image, log_block_size, log_end_of, rows_image, rows_of}
+use Rattle.commit_log.specs.Images.{IsLogDamage, IsOfOther, StandsForRows, letters}
 
 -- rows that a log holds at most, with those that it has room for
 abbrev pub most_rows : ℕ
@@ -26,7 +26,7 @@ pub record AddsRows (c : List ℕ) (tags at count : ℕ) (old new : List LogRow)
   pub more : List LogRow
   pub are : new ≡ old ++ more
   pub long : length more ≡ count
-  pub each : All (IsRow tags) more
+  pub each : All (IsLogRow tags) more
   pub spelled : Spells c at (rows_image more) (at + 32 * count)
 
 -- the rows of the block behind a gate were added, which are numbered on from those before
@@ -34,15 +34,15 @@ pub record AddsBlock (c : List ℕ) (tags gate : ℕ) (old new : List LogRow) (n
   pub block : List LogRow
   pub are : new ≡ old ++ block
   pub rows_are : AreBlockRows tags block
-  pub spelled : Spells c (gate + 1) (block_image (length old) block) (gate + block_size block)
-  pub next_is : next ≡ gate + block_size block
+  pub spelled : Spells c (gate + 1) (log_block_image (length old) block) (gate + log_block_size block)
+  pub next_is : next ≡ gate + log_block_size block
 
 -- the blocks from the gate at a place list these rows, and the next one goes there
 pub record ListsRows (c : List ℕ) (tags at : ℕ) (rows : List LogRow) (end : ℕ) : Type 0 where
   pub blocks : List (List LogRow)
   pub are : AreBlocks c tags at blocks
   pub rows_are : rows ≡ rows_of blocks
-  pub end_is : end ≡ end_of at blocks
+  pub end_is : end ≡ log_end_of at blocks
 
 -- a plant's log lists them
 pub record Stores (plant : List ℕ) (tags : ℕ) (rows : List LogRow) (end : ℕ) (c : List ℕ) : Type 0 where
@@ -57,43 +57,43 @@ IsFound plant tags (Some s) c = Stores plant tags s.rows.items s.end c
 -- what was found are rows of so many tags
 abbrev pub HasRowsOf : ℕ → Option Stored → Type 0
 HasRowsOf tags None = Unit {0}
-HasRowsOf tags (Some s) = All (IsRow tags) s.rows.items
+HasRowsOf tags (Some s) = All (IsLogRow tags) s.rows.items
 
 -- ---- while a device is opened
 
 -- an image is one that a crash might have left before, or stands for these rows
 abbrev pub IsLeftOrStands : List ℕ → ℕ → List LogRow → Option Trace → List ℕ → Type 0
-IsLeftOrStands plant tags rows o c = MayLeave o c ⊎ StandsFor plant tags c rows
+IsLeftOrStands plant tags rows o c = MayLeave o c ⊎ StandsForRows plant tags c rows
 
 -- it stands for rows for which these bytes stood
 pub record StandsSame (plant : List ℕ) (tags : ℕ) (before c : List ℕ) : Type 0 where
   pub rows : List LogRow
-  pub stood : StandsFor plant tags before rows
-  pub stands : StandsFor plant tags c rows
+  pub stood : StandsForRows plant tags before rows
+  pub stands : StandsForRows plant tags c rows
 
 -- an image is one that a crash might have left before, or stands for the same
-abbrev pub IsLeftOrSame : List ℕ → ℕ → Option Trace → List ℕ → Type 0
-IsLeftOrSame plant tags o c = MayLeave o c ⊎ StandsSame plant tags (seen o) c
+abbrev pub IsLogLeftOrSame : List ℕ → ℕ → Option Trace → List ℕ → Type 0
+IsLogLeftOrSame plant tags o c = MayLeave o c ⊎ StandsSame plant tags (seen o) c
 
 -- ---- why a device is not opened
 
 -- the rows for which these bytes stand are so many together with the room
 pub record IsTooMany (plant : List ℕ) (tags room n : ℕ) (c : List ℕ) : Type 0 where
   pub rows : List LogRow
-  pub stands : StandsFor plant tags c rows
+  pub stands : StandsForRows plant tags c rows
   pub together : n ≡ length rows + room
 
 -- why a device is not opened, where it tells its calls
-abbrev pub IsCause : List ℕ → ℕ → ℕ → Option Trace → LogNo → Type 0
-IsCause plant tags room o DeviceFault = Unit {0}
-IsCause plant tags room o (Damaged a byte) = Shows o (λ c. IsLogDamage plant tags c a byte)
-IsCause plant tags room o (OtherPlant at) = Shows o (λ c. IsOfOther plant c at)
-IsCause plant tags room o (TooMany n) = (most_rows < n) × Shows o (IsTooMany plant tags room n)
-IsCause plant tags room o WantOfMemory = Unit {0}
+abbrev pub IsLogCause : List ℕ → ℕ → ℕ → Option Trace → LogNo → Type 0
+IsLogCause plant tags room o DeviceFault = Unit {0}
+IsLogCause plant tags room o (Damaged a byte) = Shows o (λ c. IsLogDamage plant tags c a byte)
+IsLogCause plant tags room o (OtherPlant at) = Shows o (λ c. IsOfOther plant c at)
+IsLogCause plant tags room o (TooMany n) = (most_rows < n) × Shows o (IsTooMany plant tags room n)
+IsLogCause plant tags room o WantOfMemory = Unit {0}
 
 -- the faults that are counted until a device is not opened
-abbrev pub CountsRefusal : LogNo → ℕ → ℕ → Type 0
-CountsRefusal why before now = CountsFault {T = Unit {0}} (Err why) DeviceFault before now
+abbrev pub CountsLogRefusal : LogNo → ℕ → ℕ → Type 0
+CountsLogRefusal why before now = CountsFault {T = Unit {0}} (Err why) DeviceFault before now
 
 -- the refusal to open what was not read
 abbrev pub refusal_of : ScanNo → LogNo

@@ -18,21 +18,21 @@ acked_at t n (Commit moment acked ∷ es) = acked_at t (if nat_le moment t then 
 
 -- where one is on a tape: how many rows there are so far, the opening's among them, and how many of them the last commit
 -- acknowledged, at which moment
-pub record Walk : Type 0 where
+pub record LogWalk : Type 0 where
   pub rows : ℕ
   pub acked : ℕ
   pub moment : ℕ
 
 -- at an opening with so many rows
-abbrev pub start : ℕ → ℕ → Walk
-start rows moment = record { rows = rows; acked = rows; moment = moment }
+abbrev pub log_begin : ℕ → ℕ → LogWalk
+log_begin rows moment = record { rows = rows; acked = rows; moment = moment }
 
 -- after one more turn
-abbrev pub after_turn : Walk → LogTurn → Walk
+abbrev pub after_turn : LogWalk → LogTurn → LogWalk
 after_turn w (Put row) = record w { rows = w.rows + 1 }
 after_turn w (Commit moment acked) = record w { acked = acked; moment = moment }
 
 -- after these turns
-abbrev pub walked : Walk → List LogTurn → Walk
-walked w [] = w
-walked w (e ∷ es) = walked (after_turn w e) es
+abbrev pub log_walked : LogWalk → List LogTurn → LogWalk
+log_walked w [] = w
+log_walked w (e ∷ es) = log_walked (after_turn w e) es

@@ -12,14 +12,14 @@ use Rattle.commit_log.specs.declared.history.LogTurn.TheVariants.{Commit}
 use Rattle.commit_log.specs.declared.refusal.PutRowNo.{PutRowNo}
 use Rattle.commit_log.specs.declared.refusal.PutRowNo.TheVariants.{NoTag, Broken, RoomFull}
 use Rattle.commit_log.specs.declared.row.LogRow.{LogRow}
-use Rattle.commit_log.specs.Blocks.{block_image, block_size, most_in_block}
+use Rattle.commit_log.specs.Blocks.{log_block_image, log_block_size, most_in_block}
 use Rattle.commit_log.specs.Openings.{Stores, most_rows}
-use Rattle.commit_log.specs.Tapes.{puts, start, walked}
-use Rattle.commit_log.specs.Histories.{IsLegal, IsSafe}
+use Rattle.commit_log.specs.Tapes.{puts, log_begin, log_walked}
+use Rattle.commit_log.specs.Histories.{IsLogLegal, IsLogSafe}
 
 -- a log on a device of this type: the plant's text and its number of tags, the opening's rows, its moment and its faults, the
 -- tape, how many puts it has room for, how many rows are acknowledged, where the next block goes, and whether a commit failed
-pub record Told (D : Type 0) : Type 0 where
+pub record ToldLog (D : Type 0) : Type 0 where
   pub plant : List ℕ
   pub tags : ℕ
   pub opening : List LogRow
@@ -35,7 +35,7 @@ pub record Told (D : Type 0) : Type 0 where
 -- ---- what its type keeps
 
 -- there is room for each put to come, and there are not too many rows
-pub record HasRoom (opening : List LogRow) (tape : List LogTurn) (places count room : ℕ) : Type 0 where
+pub record HasRoomForPuts (opening : List LogRow) (tape : List LogTurn) (places count room : ℕ) : Type 0 where
   pub count_is : count ≡ length (puts tape)
   pub within : count ≤ room
   pub tape_room : room + length tape ≤ places + count
@@ -55,7 +55,7 @@ pub record IsReady (plant : List ℕ) (tags : ℕ) (rows : List LogRow) (end : �
 pub record IsKept (plant : List ℕ) (tags : ℕ) (opening : List LogRow) (moment opened_faults : ℕ) (tape : List LogTurn)
     (next end : ℕ) (failed : Bool) (trace : Option Trace) (ticks faults : ℕ) : Type 0 where
   pub ready : failed ≡ false → IfSome trace (IsReady plant tags (opening ++ puts (take next tape)) end)
-  pub past : (walked (start (length opening) moment) tape).moment ≤ ticks
+  pub past : (log_walked (log_begin (length opening) moment) tape).moment ≤ ticks
   pub opened_before : moment ≤ ticks
   pub faultless : failed ≡ false → faults ≡ opened_faults
   pub cause : failed ≡ true → Rose opened_faults faults
@@ -63,18 +63,18 @@ pub record IsKept (plant : List ℕ) (tags : ℕ) (opening : List LogRow) (momen
 -- ---- what the calls answer and change
 
 -- how many rows there are, the opening's among them
-abbrev pub row_count : {D : Type 0} → Told D → ℕ
+abbrev pub row_count : {D : Type 0} → ToldLog D → ℕ
 row_count s = length s.opening + length (puts s.tape)
 
 -- the rows that wait to be acknowledged, and how many they are
-abbrev pub waiting : {D : Type 0} → Told D → List LogRow
+abbrev pub waiting : {D : Type 0} → ToldLog D → List LogRow
 waiting s = drop (s.acked - length s.opening) (puts s.tape)
 
-abbrev pub waits : {D : Type 0} → Told D → ℕ
-waits s = row_count s - s.acked
+abbrev pub rows_waiting : {D : Type 0} → ToldLog D → ℕ
+rows_waiting s = row_count s - s.acked
 
 -- why a log does not append a row, if it does not
-abbrev pub put_refusal : {D : Type 0} → Told D → LogRow → Option PutRowNo
+abbrev pub put_refusal : {D : Type 0} → ToldLog D → LogRow → Option PutRowNo
 put_refusal s row =
     if nat_le s.tags row.tag then Some (NoTag s.tags)
     else (if s.failed then Some Broken
@@ -82,23 +82,23 @@ put_refusal s row =
 
 -- the rows that have waited longest are acknowledged, as many as a block has at most: the device has them as one block behind
 -- the others, and the tape how many rows are acknowledged since, and its clock
-pub record IsAcknowledged {D : Type 0} (trace : D → Option Trace) (ticks : D → ℕ) (a : LogAcked) (old new : Told D) : Type 0 where
+pub record AreRowsAcknowledged {D : Type 0} (trace : D → Option Trace) (ticks : D → ℕ) (a : LogAcked) (old new : ToldLog D) : Type 0 where
   pub rows : List LogRow
   pub rows_are : rows ≡ take most_in_block (waiting old)
-  pub acked_are : a.acked ≡ old.acked + min most_in_block (waits old)
-  pub waiting_are : a.waiting ≡ waits old - min most_in_block (waits old)
+  pub acked_are : a.acked ≡ old.acked + min most_in_block (rows_waiting old)
+  pub waiting_are : a.waiting ≡ rows_waiting old - min most_in_block (rows_waiting old)
   pub clock : ticks new.dev ≡ ticks old.dev + 4
-  pub wrote : Sees (trace new.dev) (written (written (seen (trace old.dev)) (old.end + 1) (block_image old.acked rows ++ 0 ∷ []))
+  pub wrote : Sees (trace new.dev) (written (written (seen (trace old.dev)) (old.end + 1) (log_block_image old.acked rows ++ 0 ∷ []))
       old.end (open_byte ∷ []))
   pub changed : new ≡ record old {
     tape = old.tape ++ Commit (ticks new.dev) a.acked ∷ [];
     acked = a.acked;
-    end = old.end + block_size rows;
+    end = old.end + log_block_size rows;
     dev = new.dev;
   }
 
 -- a call of its device failed: nothing else changed
-pub record IsFaulted {D : Type 0} (old new : Told D) : Type 0 where
+pub record IsLogFaulted {D : Type 0} (old new : ToldLog D) : Type 0 where
   pub failed : new.failed ≡ true
   pub changed : new ≡ record old { failed = true; dev = new.dev }
 
@@ -106,21 +106,21 @@ pub record IsFaulted {D : Type 0} (old new : Told D) : Type 0 where
 
 -- The history of a log on a device that tells these calls, this clock and these faults. It is legal; what a crash leaves is
 -- safe; no moment is above the clock.
-pub record IsHistory (plant : List ℕ) (tags : ℕ) (opening : List LogRow) (moment opened_faults : ℕ) (tape : List LogTurn)
+pub record IsLogHistory (plant : List ℕ) (tags : ℕ) (opening : List LogRow) (moment opened_faults : ℕ) (tape : List LogTurn)
     (acked : ℕ) (trace : Option Trace) (ticks faults : ℕ) : Type 0 where
-  pub legal : IsLegal tags opening moment tape acked
-  pub safe : IsSafe plant tags opening moment tape (LeftSince trace)
-  pub past : (walked (start (length opening) moment) tape).moment ≤ ticks
+  pub legal : IsLogLegal tags opening moment tape acked
+  pub safe : IsLogSafe plant tags opening moment tape (LeftSince trace)
+  pub past : (log_walked (log_begin (length opening) moment) tape).moment ≤ ticks
   pub opened_before : moment ≤ ticks
   pub few : length opening + length (puts tape) ≤ most_rows
   pub faults_since : (faults ≡ opened_faults) ⊎ Rose opened_faults faults
 
 -- that of a log
-abbrev pub HasHistory : {D : Type 0} → (D → Option Trace) → (D → ℕ) → (D → ℕ) → Told D → Type 0
+abbrev pub HasHistory : {D : Type 0} → (D → Option Trace) → (D → ℕ) → (D → ℕ) → ToldLog D → Type 0
 HasHistory trace ticks faults s =
-    IsHistory s.plant s.tags s.opening s.moment s.faults s.tape s.acked (trace s.dev) (ticks s.dev) (faults s.dev)
+    IsLogHistory s.plant s.tags s.opening s.moment s.faults s.tape s.acked (trace s.dev) (ticks s.dev) (faults s.dev)
 
 -- that which is handed out
 abbrev pub IsHandedOut : LogHistory → Option Trace → ℕ → ℕ → Type 0
 IsHandedOut h trace ticks faults =
-    IsHistory h.plant.items h.tags h.opening.items h.moment h.faults h.tape.items h.acked trace ticks faults
+    IsLogHistory h.plant.items h.tags h.opening.items h.moment h.faults h.tape.items h.acked trace ticks faults

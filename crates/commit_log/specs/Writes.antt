@@ -1,7 +1,7 @@
 -- What a commit writes: the oldest rows that wait.
 use Rattle.std.specs.Prelude.{◌≡◌, ℕ, ◌≤◌, List, [], ◌∷◌, ◌++◌, length, take}
 use Rattle.commit_log.specs.declared.history.LogTurn.{LogTurn}
-use Rattle.commit_log.specs.Blocks.{block_image, rows_image}
+use Rattle.commit_log.specs.Blocks.{log_block_image, rows_image}
 use Rattle.commit_log.specs.Tapes.{puts}
 
 -- bytes with those of so many rows behind them, which are the first of these turns'
@@ -14,4 +14,4 @@ pub record WritesRows (count : ℕ) (rest : List LogTurn) (old new : List ℕ) (
 pub record IsBlockOf (number count : ℕ) (rest : List LogTurn) (bytes : List ℕ) (turns : ℕ) : Type 0 where
   pub within : turns ≤ length rest
   pub long : length (puts (take turns rest)) ≡ count
-  pub bytes_are : bytes ≡ block_image number (puts (take turns rest)) ++ 0 ∷ []
+  pub bytes_are : bytes ≡ log_block_image number (puts (take turns rest)) ++ 0 ∷ []

@@ -2,7 +2,7 @@
 ghost use Rattle.std.specs.Prelude.{◌≡◌, ◌↔◌, ◌+◌, ◌<◌, ◌≤◌, Ok, IfOk, IsErrOf, OnOk, false, true, vec_capacity, vec_len};
 ghost use Rattle.disk_model.specs.Calls.{CountsFault, Rose};
 ghost use Rattle.commit_log.specs.declared.refusal.LogCommitNo.TheVariants.{Broken, DeviceFault, WantOfMemory as NoMemory};
-ghost use Rattle.commit_log.specs.Told.{IsAcknowledged, IsFaulted, waits};
+ghost use Rattle.commit_log.specs.Told.{AreRowsAcknowledged, IsLogFaulted, rows_waiting};
 
 use crate::history::{LogAcked, LogTurn};
 use crate::log::Log;
@@ -28,10 +28,10 @@ impl<D: Disk> Log<D> {
     /// fails. Want of memory comes before any call, also where the device would pass 2^64 bytes; the log is then as it was.
     pub fn commit(&mut self) -> Result<LogAcked, LogCommitNo>
         ensures broken { IsErrOf result Broken ↔ (self.old.failed ≡ true) }
-        ensures idle { self.old.failed ≡ false → waits self.old ≡ 0
+        ensures idle { self.old.failed ≡ false → rows_waiting self.old ≡ 0
             → (result ≡ Ok (record { acked = self.old.acked; waiting = 0 })) × (self.new ≡ self.old) }
-        ensures committed { 0 < waits self.old → IfOk result (λ a. IsAcknowledged D.trace D.ticks a self.old self.new) }
-        ensures faulted { IsErrOf result DeviceFault → IsFaulted self.old self.new }
+        ensures committed { 0 < rows_waiting self.old → IfOk result (λ a. AreRowsAcknowledged D.trace D.ticks a self.old self.new) }
+        ensures faulted { IsErrOf result DeviceFault → IsLogFaulted self.old self.new }
         ensures cause { CountsFault result DeviceFault (D.fault_count self.old.dev) (D.fault_count self.new.dev) }
         ensures broken_cause { IsErrOf result Broken → Rose self.old.faults (D.fault_count self.old.dev) }
         ensures untouched { IsErrOf result NoMemory → self.new ≡ self.old }

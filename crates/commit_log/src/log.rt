@@ -33,10 +33,10 @@ pub struct Log<D: Disk> {
 impl<D: Disk> Model for Log<D> {
     ghost use Rattle.std.specs.Prelude.{vec_capacity};
     ghost use Rattle.disk_model.specs.Moments.{LeftSince};
-    ghost use Rattle.commit_log.specs.Histories.{IsLegal, IsSafe};
-    ghost use Rattle.commit_log.specs.Told.{Told, HasRoom, Waits, IsKept};
+    ghost use Rattle.commit_log.specs.Histories.{IsLogLegal, IsLogSafe};
+    ghost use Rattle.commit_log.specs.Told.{ToldLog, HasRoomForPuts, Waits, IsKept};
 
-    ghost Value = { Told D };
+    ghost Value = { ToldLog D };
 
     ghost view = { λ l. record {
       plant = l.plant.items;
@@ -52,12 +52,12 @@ impl<D: Disk> Model for Log<D> {
       dev = l.dev;
     } };
 
-    ghost invariant = { λ l. IsLegal l.tags l.opening.items l.moment l.tape.items l.acked
-        × HasRoom l.opening.items l.tape.items (vec_capacity l.tape) l.count l.room
+    ghost invariant = { λ l. IsLogLegal l.tags l.opening.items l.moment l.tape.items l.acked
+        × HasRoomForPuts l.opening.items l.tape.items (vec_capacity l.tape) l.count l.room
         × Waits l.opening.items l.tape.items l.next l.acked
         × IsKept l.plant.items l.tags l.opening.items l.moment l.faults l.tape.items l.next l.end l.failed
         (D.trace l.dev) (D.ticks l.dev) (D.fault_count l.dev)
-        × IsSafe l.plant.items l.tags l.opening.items l.moment l.tape.items (LeftSince (D.trace l.dev)) };
+        × IsLogSafe l.plant.items l.tags l.opening.items l.moment l.tape.items (LeftSince (D.trace l.dev)) };
 }
 
 impl<D: Disk> Log<D> {

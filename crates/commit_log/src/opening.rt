@@ -5,9 +5,9 @@ ghost use Rattle.disk_model.specs.Gates.{IsNew};
 ghost use Rattle.disk_model.specs.Images.{IsSettled};
 ghost use Rattle.disk_model.specs.Moments.{During};
 ghost use Rattle.commit_log.specs.declared.refusal.LogNo.TheVariants.{Damaged, DeviceFault, OtherPlant, TooMany};
-ghost use Rattle.commit_log.specs.Blocks.{IsRow};
-ghost use Rattle.commit_log.specs.Images.{LogsNothing, StandsFor};
-ghost use Rattle.commit_log.specs.Openings.{CountsRefusal, IsCause, IsLeftOrSame, IsLeftOrStands, most_rows};
+ghost use Rattle.commit_log.specs.Blocks.{IsLogRow};
+ghost use Rattle.commit_log.specs.Images.{LogsNothing, StandsForRows};
+ghost use Rattle.commit_log.specs.Openings.{CountsLogRefusal, IsLogCause, IsLogLeftOrSame, IsLeftOrStands, most_rows};
 ghost use Rattle.commit_log.specs.Told.{IsReady};
 
 use crate::block_reader::Stored;
@@ -36,9 +36,9 @@ pub fn open_log<D: Disk>(
     room: u32,
 ) -> Result<Log<D>, LogFail<D>>
     // It has the rows for which the device's bytes stood.
-    ensures opened { IfOk result (λ l. Shows (D.trace dev) (λ c. StandsFor plant.now tags c l.opening)) }
+    ensures opened { IfOk result (λ l. Shows (D.trace dev) (λ c. StandsForRows plant.now tags c l.opening)) }
     ensures any_moment { IfOk result (λ l. During (D.trace dev) (D.trace l.dev) (IsLeftOrStands plant.now tags l.opening (D.trace dev))) }
-    ensures any_moment_refused { IfErr result (λ e. During (D.trace dev) (D.trace e.dev) (IsLeftOrSame plant.now tags (D.trace dev))) }
+    ensures any_moment_refused { IfErr result (λ e. During (D.trace dev) (D.trace e.dev) (IsLogLeftOrSame plant.now tags (D.trace dev))) }
 
     ensures plant { IfOk result (λ l. l.plant ≡ plant.now) }
     ensures tags { IfOk result (λ l. l.tags ≡ tags) }
@@ -51,9 +51,9 @@ pub fn open_log<D: Disk>(
     ensures faults { IfOk result (λ l. l.faults ≡ D.fault_count l.dev) }
 
     // A refusal tells its cause. One fault is counted where a call of the device has failed, and else none.
-    ensures cause { IfErr result (λ e. IsCause plant.now tags room (D.trace dev) e.why) }
+    ensures cause { IfErr result (λ e. IsLogCause plant.now tags room (D.trace dev) e.why) }
     ensures faultless { IfOk result (λ l. D.fault_count l.dev ≡ D.fault_count dev) }
-    ensures counts { IfErr result (λ e. CountsRefusal e.why (D.fault_count dev) (D.fault_count e.dev)) }
+    ensures counts { IfErr result (λ e. CountsLogRefusal e.why (D.fault_count dev) (D.fault_count e.dev)) }
 {
     let mut dev = dev;
     match open_parts(alloc, &mut dev, plant, tags, room) {
@@ -75,7 +75,7 @@ pub struct Parts {
 // The log on a device that was opened.
 fn log_of<D: Disk>(alloc: Global, dev: D, tags: u32, room: u32, parts: Parts) -> Log<D>
     requires ready { IfSome (D.trace dev) (IsReady parts.plant.items tags parts.rows.items parts.end) }
-    requires rows { All (IsRow tags) parts.rows.items }
+    requires rows { All (IsLogRow tags) parts.rows.items }
     requires empty { parts.tape.items ≡ [] }
     requires capacity { room ≤ vec_capacity parts.tape }
     requires few { length parts.rows.items + room ≤ most_rows }
@@ -122,17 +122,17 @@ fn open_parts<D: Disk>(
     tags: u32,
     room: u32,
 ) -> Result<Parts, LogNo>
-    ensures stood { IfOk result (λ p. Shows (D.trace dev.old) (λ c. StandsFor plant.now tags c p.rows.items)) }
+    ensures stood { IfOk result (λ p. Shows (D.trace dev.old) (λ c. StandsForRows plant.now tags c p.rows.items)) }
     ensures ready { IfOk result (λ p. IfSome (D.trace dev.new) (IsReady plant.now tags p.rows.items p.end)) }
     ensures any_moment { IfOk result (λ p. During (D.trace dev.old) (D.trace dev.new)
         (IsLeftOrStands plant.now tags p.rows.items (D.trace dev.old))) }
-    ensures any_moment_refused { OnErr result (During (D.trace dev.old) (D.trace dev.new) (IsLeftOrSame plant.now tags (D.trace dev.old))) }
-    ensures rows { IfOk result (λ p. All (IsRow tags) p.rows.items) }
+    ensures any_moment_refused { OnErr result (During (D.trace dev.old) (D.trace dev.new) (IsLogLeftOrSame plant.now tags (D.trace dev.old))) }
+    ensures rows { IfOk result (λ p. All (IsLogRow tags) p.rows.items) }
     ensures plant { IfOk result (λ p. p.plant.items ≡ plant.now) }
     ensures tape { IfOk result (λ p. p.tape.items ≡ []) }
     ensures capacity { IfOk result (λ p. room ≤ vec_capacity p.tape) }
     ensures few { IfOk result (λ p. length p.rows.items + room ≤ most_rows) }
-    ensures cause { IfErr result (IsCause plant.now tags room (D.trace dev.old)) }
+    ensures cause { IfErr result (IsLogCause plant.now tags room (D.trace dev.old)) }
     ensures counts { CountsFault result DeviceFault (D.fault_count dev.old) (D.fault_count dev.new) }
 {
     let Ok(()) = dev.sync() else {

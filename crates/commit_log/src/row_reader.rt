@@ -3,7 +3,7 @@ ghost use Rattle.std.specs.Prelude.{◌≡◌, ℕ, ◌+◌, ◌*◌, ◌^◌, �
 ghost use Rattle.trend_num.specs.Ranges.{largest_value};
 ghost use Rattle.archive_file.specs.declared.failure.ScanNo.TheVariants.{Damaged, DeviceFault, WantOfMemory};
 ghost use Rattle.archive_file.specs.LayoutFields.{BreaksFirst, Keeps, Spells};
-ghost use Rattle.commit_log.specs.Blocks.{IsRow, row_at, row_fields, row_image, rows_fields};
+ghost use Rattle.commit_log.specs.Blocks.{IsLogRow, row_at, row_fields, row_image, rows_fields};
 ghost use Rattle.commit_log.specs.Openings.{AddsRows};
 
 use crate::row::LogRow;
@@ -43,7 +43,7 @@ fn read_row(c: &[u8], at: usize, tags: u32) -> Result<LogRow, ScanNo>
     requires there { at ≤ length c.now }
     requires small { length c.now < 2 ^ 63 }
     ensures value { IfOk result (λ r. r ≡ row_at c.now at) }
-    ensures row { IfOk result (IsRow tags) }
+    ensures row { IfOk result (IsLogRow tags) }
     ensures spelled { IfOk result (λ r. Spells c.now at (row_image r) (at + 32)) }
     ensures kept { OnOk result (All (Keeps c.now) (row_fields tags (row_at c.now at) at)) }
     ensures damaged { (a : ℕ) (byte : Option ℕ) → IsErrOf result (Damaged a byte)

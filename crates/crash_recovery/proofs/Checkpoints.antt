@@ -38,7 +38,7 @@ use Rattle.device_layout.specs.declared.slot.Slot.{Slot}
 use Rattle.device_layout.specs.Headers.{name_in, tuning_in, slots_in, is_step_in, IsHeader}
 use Rattle.device_layout.specs.Recovery.{header_of, log_place, summary_place, summary_gate, slot_bytes}
 use Rattle.device_layout.specs.Recovery.{taken_in, records_in, counting}
-use Rattle.device_layout.specs.Recovery.{HasSummary, in_force, start_of, AllFit, IsOfTag, IsStored}
+use Rattle.device_layout.specs.Recovery.{HasSummary, recovered_tuning, start_of, AllFit, IsOfTag, IsStored}
 use Rattle.device_layout.specs.Recovery.{values_beyond, IsReplayed, Recovers}
 use Rattle.crash_recovery.specs.Journals.{AllRecover, GoesOnFrom, RecoversEither, IsInUse, log_end, IsLaid, IsOverrun}
 use Rattle.crash_recovery.specs.Seats.{spare_slot, LaidOn, OverrunOn, IsReady}
@@ -331,8 +331,8 @@ module _ (p : Seat) (u : Tuning) (step : Bool) (r : State) (fit : IsFit u step r
               }
 
               -- the tuning in force is that of the core
-              in_force_is : in_force (tuning_in (header_of b)) r.summary.tuning ≡ u
-              in_force_is = ap (in_force (tuning_in (header_of b))) fit.tuned
+              in_force_is : recovered_tuning (tuning_in (header_of b)) r.summary.tuning ≡ u
+              in_force_is = ap (recovered_tuning (tuning_in (header_of b))) fit.tuned
 
               -- the records and the summary of the core are stored
               now_stored : IsStored def b r.records r.summary

@@ -19,7 +19,7 @@ use Rattle.disk_model.specs.Gates.{IsNew}
 use Rattle.device_layout.specs.Recovery.{IsRecovered, Recovers, in_force as in_force_of}
 use Rattle.crash_recovery.specs.Journals.{AllRecover, GoesOnFrom, RecoversEither, IsSeat, SeatedOn}
 use Rattle.disk_model.specs.Calls.{Shows}
-use Rattle.crash_recovery.specs.Opening.{IsOpenedAs, IsCountable, RecoversSame, IsLeftOrSame, StaysSame}
+use Rattle.crash_recovery.specs.Opening.{IsOpenedAs, IsCountable, RecoversSame, IsTagLeftOrSame, StaysSame}
 use Rattle.device_layout.specs.Readings.{IsFull, IsOther, IsCause}
 use Rattle.crash_recovery.specs.Opening.{RecoversThen, OpensAs, HasSlots, IsReadAs}
 use Rattle.device_layout.specs.declared.failure.OpenNo.{OpenNo}
@@ -35,9 +35,9 @@ use Rattle.trend_num.specs.Limits.{most_records}
 -- each image until then is one from before
 pub synced_during : {E : Type 0} (r : Result (Unit {0}) E) (def : TagDef) (o new : Option Trace)
     → IsNoted Synced Idle r o new
-    → During o new (IsLeftOrSame def o)
+    → During o new (IsTagLeftOrSame def o)
 synced_during r def o new is =
-    weaker o new (MayLeave o) (IsLeftOrSame def o) (λ c may. inl may)
+    weaker o new (MayLeave o) (IsTagLeftOrSame def o) (λ c may. inl may)
     (goes_on Synced Idle r o o new (MayLeave o) (started o (MayLeave o) (record { each = λ c may. may })) is
     (record { each = λ c may. synced_now r o new c is may }))
 
@@ -72,12 +72,12 @@ new_seen None mid is new = inl (omega arith)
 new_seen (Some t) mid is new = subst (λ m. Shows m IsNew) is new
 
 pub made_during : (def : TagDef) (o mid new : Option Trace) → mid ≡ noted Synced o → Shows mid IsNew
-    → During o mid (IsLeftOrSame def o) → During mid new (λ c. Recovers def c (nothing_taken def.tuning))
-    → During o new (IsLeftOrSame def o)
+    → During o mid (IsTagLeftOrSame def o) → During mid new (λ c. Recovers def c (nothing_taken def.tuning))
+    → During o new (IsTagLeftOrSame def o)
 made_during def o mid new is blank before made =
     let start = nothing_taken def.tuning in
-    in_turn o mid new (IsLeftOrSame def o) before
-    (weaker mid new (λ c. Recovers def c start) (IsLeftOrSame def o)
+    in_turn o mid new (IsTagLeftOrSame def o) before
+    (weaker mid new (λ c. Recovers def c start) (IsTagLeftOrSame def o)
     (λ c recovers. inr (start, start, inl (new_seen o mid is blank, refl), inl (refl, refl), inl recovers)) made)
 
 pub made_as : (def : TagDef) (o mid new : Option Trace) (r : State) → mid ≡ noted Synced o → Shows mid IsNew
@@ -128,7 +128,7 @@ opened_shown def None new retuned r read = tt
 opened_shown def (Some t) new retuned r read = (read.0, read.1, opens_as def retuned read.0 r read.3)
 
 -- without a retuning all is as it was read
-pub stays_read : (def : TagDef) (o new : Option Trace) → During o new (IsLeftOrSame def o) → StaysSame def o new
+pub stays_read : (def : TagDef) (o new : Option Trace) → During o new (IsTagLeftOrSame def o) → StaysSame def o new
 stays_read def None new during = tt
 stays_read def (Some t) new during = λ countable. during
 
@@ -166,16 +166,16 @@ module _ (def : TagDef) (t : Trace) (mid new : Option Trace) (step : Bool) (r : 
       ))
       (countable read.0 read.1)
 
-  either_same : (c : List ℕ) → RecoversEither def read.0 r c → IsLeftOrSame def (Some t) c
+  either_same : (c : List ℕ) → RecoversEither def read.0 r c → IsTagLeftOrSame def (Some t) c
   either_same c either = inr (read.0, r, read.1, inr read.3, either)
 
 pub stays_retuned : (def : TagDef) (o mid new : Option Trace) (step : Bool) (r : State) → step ≡ def.step
     → IsReadAs def o mid true r
-    → During o mid (IsLeftOrSame def o) → Promises mid new step r → StaysSame def o new
+    → During o mid (IsTagLeftOrSame def o) → Promises mid new step r → StaysSame def o new
 stays_retuned def None mid new step r kind read before promise = tt
 stays_retuned def (Some t) mid new step r kind read before promise = λ countable.
-    in_turn (Some t) mid new (IsLeftOrSame def (Some t)) before
-    (weaker mid new (RecoversEither def read.0 r) (IsLeftOrSame def (Some t))
+    in_turn (Some t) mid new (IsTagLeftOrSame def (Some t)) before
+    (weaker mid new (RecoversEither def read.0 r) (IsTagLeftOrSame def (Some t))
     (either_same def t mid new step r kind read countable)
     (promise (few def t mid new step r kind read countable) def read.0 read.2
     (goes def t mid new step r kind read countable)))

@@ -12,7 +12,7 @@ use Rattle.trend_num.specs.declared.tag_def.TagDef.{TagDef}
 use Rattle.trend_model.specs.History.{Event, Raw}
 use Rattle.trend_model.specs.State.{State, replay}
 use Rattle.event_queue.specs.Slots.{slot_at, count_in, batch_at}
-use Rattle.event_queue.specs.Lanes.{points_of, points_before, lane_points, IsNextBehind, IsSound, IsLane}
+use Rattle.event_queue.specs.Lanes.{slot_points_of, points_before, lane_points, IsNextBehind, IsSound, IsLane}
 use Rattle.event_queue.specs.Places.{IsFilled}
 use Rattle.event_queue.proofs.Batches.{length-points_in}
 use Rattle.event_queue.proofs.Steps.{beyond_all, points_open, points_more}
@@ -38,7 +38,7 @@ fewer_points slots taken c k (suc m) =
       fewer_points slots taken c k m,
       ap (λ n. length (points_before slots c taken n)) longer,
       ap length (points_more slots taken c (k + m)),
-      length-append (points_before slots c taken (k + m)) (points_of slots c taken (k + m)),
+      length-append (points_before slots c taken (k + m)) (slot_points_of slots c taken (k + m)),
     )
 
 -- each batch of a lane in use ends before the next value's number
@@ -54,7 +54,7 @@ filled_ends slots taken used next c held within filled k below =
     sound : IsSound slots c taken k
     sound = filled.lane.sound k there (filled.opened k below)
 
-    here : length (points_of slots c taken k) ≡ (batch_at slots c k).count
+    here : length (slot_points_of slots c taken k) ≡ (batch_at slots c k).count
     here =
         ap length (points_open slots taken c k (filled.opened k below)
         ∙ beyond_all taken (batch_at slots c k) (filled.beyond k below))
@@ -69,7 +69,7 @@ filled_ends slots taken used next c held within filled k below =
           behind.numbered,
           here,
           ap length (points_more slots taken c k),
-          length-append (points_before slots c taken k) (points_of slots c taken k),
+          length-append (points_before slots c taken k) (slot_points_of slots c taken k),
           fewer_points slots taken c (k + 1) (slots - (k + 1)),
           ap (λ n. length (points_before slots c taken n)) rest,
           filled.number,

@@ -16,9 +16,9 @@ use Rattle.device_layout.specs.declared.slot.Slot.{Slot}
 use Rattle.device_layout.specs.Headers.{name_in, tuning_in, slots_in, is_step_in, IsHeader}
 use Rattle.disk_model.specs.Gates.{IsNew}
 use Rattle.device_layout.specs.Recovery.{header_of, log_place, slot_bytes, counting}
-use Rattle.device_layout.specs.Recovery.{HasSummary, in_force, state_of, start_of, AllFit, IsOfTag, IsStored}
+use Rattle.device_layout.specs.Recovery.{HasSummary, recovered_tuning, state_of, start_of, AllFit, IsOfTag, IsStored}
 use Rattle.device_layout.specs.Recovery.{IsReplayed, Recovers}
-use Rattle.crash_recovery.specs.Journals.{taken_of, records_of, IsLaid}
+use Rattle.crash_recovery.specs.Journals.{taken_of, journal_records_of, IsLaid}
 use Rattle.device_layout.proofs.SlotNumbers.{taken_spelled, records_spelled}
 
 -- all bytes on which what is stored depends are as they were
@@ -37,7 +37,7 @@ taken_stored c None s is = sym (ap (λ (x : Summary). x.taken) is)
 taken_stored c (Some i) s has = ap (λ l. from_be_bytes w64 (take 8 l)) has.1 ∙ taken_spelled s has.0
 
 pub records_stored : (c : List ℕ) (o : Option Slot) (s : Summary) → HasSummary c o s
-    → records_of c o ≡ s.records
+    → journal_records_of c o ≡ s.records
 records_stored c None s is = sym (ap (λ (x : Summary). x.records) is)
 records_stored c (Some i) s has = ap (λ l. from_be_bytes w32 (take 4 (drop 8 l))) has.1
     ∙ records_spelled s has.0
@@ -58,7 +58,7 @@ taken_kept a b (Some i) same = ap (λ l. from_be_bytes w64 (take 8 l)) (same i r
 
 pub records_kept : (a b : List ℕ) (o : Option Slot)
     → ((i : Slot) → o ≡ Some i → slot_bytes b i ≡ slot_bytes a i)
-    → records_of b o ≡ records_of a o
+    → journal_records_of b o ≡ journal_records_of a o
 records_kept a b None same = refl
 records_kept a b (Some i) same = ap (λ l. from_be_bytes w32 (take 4 (drop 8 l))) (same i refl)
 
@@ -69,7 +69,7 @@ module _ (def : TagDef) (p : Seat) (a : List ℕ) (laid : IsLaid p a) where
       ∙ taken_stored a (counting a) s stored.summary
 
   pub records_known : (rs : List Rec) (s : Summary) → IsStored def a rs s → p.records ≡ s.records
-  records_known rs s stored = laid.records ∙ ap (records_of a) laid.counts
+  records_known rs s stored = laid.records ∙ ap (journal_records_of a) laid.counts
       ∙ records_stored a (counting a) s stored.summary
 
   -- it is no new device
@@ -111,7 +111,7 @@ module _ (def : TagDef) (p : Seat) (a : List ℕ) (laid : IsLaid p a) where
         counted = stored.records.counted;
         records = subst (AreRecords rs) (sym bytes_same) stored.records.records;
       };
-      parts = subst (λ h. ArePartsOk (in_force (tuning_in h) s.tuning) def.step rs s) (sym keeps.header)
+      parts = subst (λ h. ArePartsOk (recovered_tuning (tuning_in h) s.tuning) def.step rs s) (sym keeps.header)
           stored.parts;
     }
       where
@@ -128,7 +128,7 @@ module _ (def : TagDef) (p : Seat) (a : List ℕ) (laid : IsLaid p a) where
 
     -- the lane goes on from the same state
     start_kept : (rs : List Rec) (s : Summary) → start_of b rs s ≡ start_of a rs s
-    start_kept rs s = ap (λ h. state_of rs s (in_force (tuning_in h) s.tuning)) keeps.header
+    start_kept rs s = ap (λ h. state_of rs s (recovered_tuning (tuning_in h) s.tuning)) keeps.header
 
     -- what a lane of this many slots replays
     pub replays : (step : Bool) (c : List ℕ) (start : State) (taken : ℕ) (s : State)

@@ -73,9 +73,9 @@ abbrev pub taken_of : List ℕ → Option Slot → ℕ
 taken_of c None = 0
 taken_of c (Some i) = taken_in c i
 
-abbrev pub records_of : List ℕ → Option Slot → ℕ
-records_of c None = 0
-records_of c (Some i) = records_in c i
+abbrev pub journal_records_of : List ℕ → Option Slot → ℕ
+journal_records_of c None = 0
+journal_records_of c (Some i) = records_in c i
 
 -- the lane keeps the layout, and its first `used` slots number on from the summary to `next`
 pub record IsInUse (slots taken used next : ℕ) (c : List ℕ) : Type 0 where
@@ -96,7 +96,7 @@ pub record IsLaid (p : Seat) (c : List ℕ) : Type 0 where
   pub room : HasRoom p.lane.slots p.lane.used c
   pub counts : p.counts ≡ counting c
   pub taken : p.taken ≡ taken_of c p.counts
-  pub records : p.records ≡ records_of c p.counts
+  pub records : p.records ≡ journal_records_of c p.counts
   pub long : log_end p ≤ length c
   pub in_use : p.stale ≡ false → IsInUse p.lane.slots p.taken p.lane.used p.lane.next c
   pub number : p.stale ≡ true → p.lane.next ≡ p.taken

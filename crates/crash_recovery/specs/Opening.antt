@@ -47,13 +47,13 @@ RecoversSame def seen c = (s : State) × (r : State) × Recovers def seen s × I
     × (Recovers def c s ⊎ Recovers def c r)
 
 -- it is one that a crash might have left before, or recovers the same
-abbrev pub IsLeftOrSame : TagDef → Option Trace → List ℕ → Type 0
-IsLeftOrSame def o c = MayLeave o c ⊎ RecoversSame def (seen o) c
+abbrev pub IsTagLeftOrSame : TagDef → Option Trace → List ℕ → Type 0
+IsTagLeftOrSame def o c = MayLeave o c ⊎ RecoversSame def (seen o) c
 
 -- where the device tells its calls, and what it shows is countable, a crash at any moment since leaves such an image
 abbrev pub StaysSame : TagDef → Option Trace → Option Trace → Type 0
 StaysSame def old new = IfSome old (λ t. IsCountable def (seen (Some t))
-    → During (Some t) new (IsLeftOrSame def (Some t)))
+    → During (Some t) new (IsTagLeftOrSame def (Some t)))
 
 -- and a crash now leaves what recovers this state
 abbrev pub RecoversThen : TagDef → Option Trace → Option Trace → State → Type 0

@@ -16,7 +16,7 @@ ghost use Rattle.device_layout.specs.Recovery.{IsRecovered, Recovers};
 ghost use Rattle.crash_recovery.specs.Journals.{AllRecover, GoesOnFrom, RecoversEither, IsNumbered, IsSeat, SeatedOn, free_in};
 ghost use Rattle.disk_model.specs.Calls.{Shows};
 ghost use Rattle.crash_recovery.specs.Opening.{IsOpenedAs, OpensAs, StaysSame, RecoversThen};
-ghost use Rattle.crash_recovery.specs.Opening.{HasSlots, IsLeftOrSame, IsReadAs, HasFreeAtFirst, LeavesFree};
+ghost use Rattle.crash_recovery.specs.Opening.{HasSlots, IsTagLeftOrSame, IsReadAs, HasFreeAtFirst, LeavesFree};
 ghost use Rattle.crash_recovery.specs.Opening.{MakesLayout, GainsSync};
 ghost use Rattle.device_layout.specs.Layouts.{IsMade};
 ghost use Rattle.device_layout.specs.Readings.{IsCause, CountsRefusal};
@@ -164,7 +164,7 @@ fn read_tag<L: Ledger, D: Disk>(
     requires some { 1 ≤ lane_slots }
     requires few { lane_slots ≤ 65536 }
     requires tuned { TuningInRange def.now.tuning }
-    ensures any_moment { During (D.trace dev.old) (D.trace dev.new) (IsLeftOrSame def.now (D.trace dev.old)) }
+    ensures any_moment { During (D.trace dev.old) (D.trace dev.new) (IsTagLeftOrSame def.now (D.trace dev.old)) }
     ensures opened { IfOk result (λ r.
         IsReadAs def.now (D.trace dev.old) (D.trace dev.new) r.retuned r.core.state) }
     ensures seated { IfOk result (λ r. SeatedOn r.seat (D.trace dev.new)) }

@@ -17,7 +17,7 @@ use Rattle.device_layout.specs.declared.header.Header.{Header}
 use Rattle.device_layout.specs.declared.layout_reader.Stored.{Stored}
 use Rattle.device_layout.specs.declared.slot.Slot.{Slot}
 use Rattle.device_layout.specs.Headers.{IsHeaderBroken}
-use Rattle.device_layout.specs.Recovery.{summary_place, slot_bytes, chosen, counting, in_force}
+use Rattle.device_layout.specs.Recovery.{summary_place, slot_bytes, chosen, counting, recovered_tuning}
 use Rattle.device_layout.specs.Recovery.{no_summary}
 use Rattle.device_layout.specs.Damages.{IsTagDamage}
 use Rattle.disk_model.specs.Calls.{Shows}
@@ -89,7 +89,7 @@ records_shown (Some t) slots log n rs is has = subst (λ k. HasRecords (seen (So
 -- a summary that counts
 pub counts_shown : (def : TagDef) (o : Option Trace) (slots : ℕ) (made : Tuning) (i : Slot) (s : Summary) (u : Tuning)
     → Shows o (HasLayout def slots made) → Shows o (λ c. counting c ≡ Some i) → IsSummary s
-    → Shows o (λ c. slot_bytes c i ≡ summary_image s) → u ≡ in_force made s.tuning
+    → Shows o (λ c. slot_bytes c i ≡ summary_image s) → u ≡ recovered_tuning made s.tuning
     → Shows o (CountsSummary def slots i s u)
 counts_shown def None slots made i s u has counts whole bytes tuning = tt
 counts_shown def (Some t) slots made i s u has counts whole bytes tuning =

@@ -8,7 +8,7 @@ use Rattle.std.proofs.lemmas.List.Elements.{All-from_get_or}
 use Rattle.std.proofs.lemmas.List.Sums.{list_all-from_AllPass}
 use Rattle.trend_num.specs.Names.{is_name_byte, IsName}
 use Rattle.trend_num.specs.Ranges.{last_time, largest_value, TuningInRange}
-use Rattle.device_layout.specs.Headers.{most_slots, number_at, name_in, tuning_in, slots_in}
+use Rattle.device_layout.specs.Headers.{most_slots, header_number_at, name_in, tuning_in, slots_in}
 use Rattle.device_layout.specs.Headers.{IsHeader}
 
 -- a list passes where each of its elements does
@@ -58,15 +58,15 @@ module _ (h : List ℕ) (ok : IsHeader h) where
   -- the numbers are a tuning
   pub header_tuned : TuningInRange (tuning_in h)
   header_tuned = record {
-    exc_dev = leb-true (number_at h 70) largest_value
+    exc_dev = leb-true (header_number_at h 70) largest_value
         (rw (behind_name 70 (omega arith)) at (ok.fields 70 (omega arith) (omega arith)));
-    exc_max = leb-true (number_at h 78) last_time
+    exc_max = leb-true (header_number_at h 78) last_time
         (rw (behind_name 78 (omega arith)) at (ok.fields 78 (omega arith) (omega arith)));
-    comp_dev = leb-true (number_at h 86) largest_value
+    comp_dev = leb-true (header_number_at h 86) largest_value
         (rw (behind_name 86 (omega arith)) at (ok.fields 86 (omega arith) (omega arith)));
-    comp_min = leb-true (number_at h 94) last_time
+    comp_min = leb-true (header_number_at h 94) last_time
         (rw (behind_name 94 (omega arith)) at (ok.fields 94 (omega arith) (omega arith)));
-    comp_max = leb-true (number_at h 102) last_time
+    comp_max = leb-true (header_number_at h 102) last_time
         (rw (behind_name 102 (omega arith)) at (ok.fields 102 (omega arith) (omega arith)));
   }
 

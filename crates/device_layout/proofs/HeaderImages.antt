@@ -17,7 +17,7 @@ use Rattle.trend_num.specs.Ranges.{last_time, largest_value, TuningInRange}
 use Rattle.archive_file.specs.Fields.{number_bytes}
 use Rattle.archive_file.proofs.Joins.{joined, joined_5}
 use Rattle.device_layout.specs.Firsts.{HoldsFrom}
-use Rattle.device_layout.specs.Headers.{letters, most_slots, number_at, name_in, tuning_in, slots_in}
+use Rattle.device_layout.specs.Headers.{letters, most_slots, header_number_at, name_in, tuning_in, slots_in}
 use Rattle.device_layout.specs.Headers.{is_step_in}
 use Rattle.device_layout.specs.Headers.{def_in, is_field_ok, IsHeader, tuning_image, header_image}
 
@@ -105,7 +105,7 @@ module _ (gate : ℕ) (def : TagDef) (slots : ℕ) (name : IsName def.name) wher
 
   -- each at its place
   number_there : (k n : ℕ) → n < 2 ^ 64 → take 8 (drop k (numbers_image def slots)) ≡ number_bytes 8 n
-      → number_at (header_with gate def slots) (70 + k) ≡ n
+      → header_number_at (header_with gate def slots) (70 + k) ≡ n
   number_there k n small is =
       ap (λ l. from_be_bytes w64 (take 8 l)) (sym (drop-drop k 70 (header_with gate def slots))
       ∙ ap (drop k) behind_name)
@@ -173,19 +173,19 @@ module _ (gate : ℕ) (def : TagDef) (slots : ℕ) (name : IsName def.name) wher
       same_name : name_in (header_with gate def slots) ≡ def.name
       same_name = take_at def.name (padding_of def ++ numbers_image def slots) (length def.name) refl
 
-      exc_dev : number_at (header_with gate def slots) 70 ≡ def.tuning.exc_dev
+      exc_dev : header_number_at (header_with gate def slots) 70 ≡ def.tuning.exc_dev
       exc_dev = number_there 0 def.tuning.exc_dev (omega (arith, tuned.exc_dev)) refl
 
-      exc_max : number_at (header_with gate def slots) 78 ≡ def.tuning.exc_max
+      exc_max : header_number_at (header_with gate def slots) 78 ≡ def.tuning.exc_max
       exc_max = number_there 8 def.tuning.exc_max (omega (arith, tuned.exc_max)) refl
 
-      comp_dev : number_at (header_with gate def slots) 86 ≡ def.tuning.comp_dev
+      comp_dev : header_number_at (header_with gate def slots) 86 ≡ def.tuning.comp_dev
       comp_dev = number_there 16 def.tuning.comp_dev (omega (arith, tuned.comp_dev)) refl
 
-      comp_min : number_at (header_with gate def slots) 94 ≡ def.tuning.comp_min
+      comp_min : header_number_at (header_with gate def slots) 94 ≡ def.tuning.comp_min
       comp_min = number_there 24 def.tuning.comp_min (omega (arith, tuned.comp_min)) refl
 
-      comp_max : number_at (header_with gate def slots) 102 ≡ def.tuning.comp_max
+      comp_max : header_number_at (header_with gate def slots) 102 ≡ def.tuning.comp_max
       comp_max = number_there 32 def.tuning.comp_max (omega (arith, tuned.comp_max)) refl
 
       same_tuning : tuning_in (header_with gate def slots) ≡ def.tuning
@@ -216,11 +216,11 @@ module _ (gate : ℕ) (def : TagDef) (slots : ℕ) (name : IsName def.name) wher
       (le-leb 1 (length def.name) (omega (arith, name.not_empty))) (le-leb (length def.name) 64 name.fits)
 
   -- a number below its bound
-  number_ok : (k bound i n : ℕ) → number_at (header_with gate def slots) (70 + k) ≡ n → n ≤ bound
-      → eqb i (70 + k) ≡ true → leb (number_at (header_with gate def slots) i) bound ≡ true
+  number_ok : (k bound i n : ℕ) → header_number_at (header_with gate def slots) (70 + k) ≡ n → n ≤ bound
+      → eqb i (70 + k) ≡ true → leb (header_number_at (header_with gate def slots) i) bound ≡ true
   number_ok k bound i n says small here =
-      let same = ap (number_at (header_with gate def slots)) (eqb-true i (70 + k) here) in
-      le-leb (number_at (header_with gate def slots) i) bound (omega (arith, same, says, small))
+      let same = ap (header_number_at (header_with gate def slots)) (eqb-true i (70 + k) here) in
+      le-leb (header_number_at (header_with gate def slots) i) bound (omega (arith, same, says, small))
 
   -- the number of lane slots
   slots_ok : 1 ≤ slots → slots ≤ 65536 → (leb 1 (slots_in (header_with gate def slots))

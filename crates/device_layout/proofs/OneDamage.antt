@@ -14,7 +14,7 @@ use Rattle.trend_model.specs.Parts.{ArePartsOk}
 use Rattle.trend_model.specs.State.{replay}
 use Rattle.disk_model.specs.Gates.{IsBegun}
 use Rattle.archive_file.specs.Fields.{point_at}
-use Rattle.archive_file.specs.Places.{HasRecords, BreaksAt, IsBroken, IsDamage}
+use Rattle.archive_file.specs.Places.{HasRecords, BreaksAt, IsRecordBroken, IsDamage}
 use Rattle.event_queue.specs.Slots.{place_of, slot_at, batch_at}
 use Rattle.event_queue.proofs.Batches.{length-points_in}
 use Rattle.event_queue.specs.Lanes.{points_before, lane_points, IsLane}
@@ -25,7 +25,7 @@ use Rattle.device_layout.specs.Firsts.{HoldsFrom, FailsFirst}
 use Rattle.device_layout.specs.Headers.{is_field_ok, slots_in, tuning_in, IsHeader}
 use Rattle.device_layout.specs.SlotFields.{is_form_ok, is_point_ok, is_number_ok, IsSlotBroken}
 use Rattle.device_layout.specs.Recovery.{header_of, log_place, counting, slot_bytes, summary_place, HasSummary, start_of}
-use Rattle.device_layout.specs.Recovery.{in_force, IsStored}
+use Rattle.device_layout.specs.Recovery.{recovered_tuning, IsStored}
 use Rattle.device_layout.specs.Damages.{EndsBefore, StandsThere, IsTagDamage, IsHeaderDamage, IsLayoutDamage}
 use Rattle.device_layout.specs.Damages.{IsSummaryDamage, IsLogDamage, ArePartsDamaged, IsQueueDamage, IsValuePlace}
 use Rattle.device_layout.specs.Damages.{IsValueDamage}
@@ -75,7 +75,7 @@ one_break b a k (inr (inr x)) (inr (inr y)) = x.0 ∙ sym y.0
 
 -- of a log, of which a later record is told only where those before it are whole
 earlier : (c : List ℕ) (at count a b : ℕ) (byte other : Option ℕ) (rs xs : List Rec) (k j : ℕ) → at ≤ length c
-    → IsBroken c at count a byte rs k → IsBroken c at count b other xs j → length rs < length xs → ⊥
+    → IsRecordBroken c at count a byte rs k → IsRecordBroken c at count b other xs j → length rs < length xs → ⊥
 earlier c at count a b byte other rs xs k j long x y less =
     log_undamaged c at (length xs) a byte xs long (record { counted = refl; records = y.records }) (inr (
       rs,
@@ -284,8 +284,8 @@ module _ (def : TagDef) (c : List ℕ) where
   refuted (suc (suc (suc (suc (suc zero))))) a byte (rs, s, i, d) (xs, x, h) =
       let same = same_sum s x (subst (λ y. HasSummary c y s) (sym d.counts) d.summary) h.summary in
       let recs = same_recs s x rs xs same d.records h.records in
-      d.broken (subst (λ y. ArePartsOk (in_force (tuning_in (header_of c)) y.tuning) def.step rs y) (sym same)
-      (subst (λ l. ArePartsOk (in_force (tuning_in (header_of c)) x.tuning) def.step l x) (sym recs) h.parts))
+      d.broken (subst (λ y. ArePartsOk (recovered_tuning (tuning_in (header_of c)) y.tuning) def.step rs y) (sym same)
+      (subst (λ l. ArePartsOk (recovered_tuning (tuning_in (header_of c)) x.tuning) def.step l x) (sym recs) h.parts))
   refuted (suc (suc (suc (suc (suc (suc zero)))))) a byte (rs, s, d) (xs, x, h, lane) =
       lane_undamaged (slots_in (header_of c)) c x.taken a byte lane
       (subst (λ y. IsLaneDamage (slots_in (header_of c)) c y.taken a byte) (same_sum s x d.stored.summary h.summary) d.broken)

@@ -20,7 +20,7 @@ use Rattle.device_layout.specs.Headers.{def_in, tuning_in, slots_in, IsHeader, I
 use Rattle.device_layout.specs.SlotFields.{IsSlotBroken}
 use Rattle.device_layout.specs.Recovery.{header_of, log_place, summary_place, slot_bytes}
 use Rattle.device_layout.specs.Recovery.{is_open, taken_in, chosen}
-use Rattle.device_layout.specs.Recovery.{counting, HasSummary, in_force, no_summary, IsOfTag}
+use Rattle.device_layout.specs.Recovery.{counting, HasSummary, recovered_tuning, no_summary, IsOfTag}
 use Rattle.device_layout.specs.Damages.{IsTagDamage}
 use Rattle.device_layout.specs.Damages.IsTagDamage.{EndsShort, BadHeader, BadLayout, BadSummary, BadLog, BadParts}
 use Rattle.device_layout.specs.Readings.{IsOther, HasHeader, HasLayout, CountsSummary, IsFoundOn}
@@ -240,20 +240,20 @@ stored_none def slots made x c has none slot summary recs tuning = record {
       (subst (λ l. HasRecords c (log_place c) 0 l) (sym recs) (no_records c (log_place c)));
   slots_are = has.slots_are;
   slot = none ∙ sym slot;
-  tuning = tuning ∙ has.made_with ∙ sym (ap (λ s. in_force (tuning_in (header_of c)) s.tuning) summary);
+  tuning = tuning ∙ has.made_with ∙ sym (ap (λ s. recovered_tuning (tuning_in (header_of c)) s.tuning) summary);
 }
 
 -- a summary that was read counts
 pub counts_summary : (def : TagDef) (slots : ℕ) (made : Tuning) (i : Slot) (s : Summary) (u : Tuning) (c : List ℕ)
     → HasLayout def slots made c → counting c ≡ Some i → IsSummary s → slot_bytes c i ≡ summary_image s
-    → u ≡ in_force made s.tuning → CountsSummary def slots i s u c
+    → u ≡ recovered_tuning made s.tuning → CountsSummary def slots i s u c
 counts_summary def slots made i s u c has counts whole bytes tuning = record {
   tag = has.tag;
   long = has.long;
   slots_are = has.slots_are;
   counts = counts;
   summary = (whole, bytes);
-  tuning = tuning ∙ ap (λ t. in_force t s.tuning) has.made_with;
+  tuning = tuning ∙ ap (λ t. recovered_tuning t s.tuning) has.made_with;
 }
 
 pub stored_some : (def : TagDef) (slots : ℕ) (i : Slot) (s : Summary) (u : Tuning) (x : Stored) (c : List ℕ)
@@ -268,5 +268,5 @@ stored_some def slots i s u x c has records slot summary tuning = record {
       (subst (λ n. HasRecords c (lane_end n) s.records x.recs.items) has.slots_are records);
   slots_are = has.slots_are;
   slot = has.counts ∙ sym slot;
-  tuning = tuning ∙ has.tuning ∙ sym (ap (λ y. in_force (tuning_in (header_of c)) y.tuning) summary);
+  tuning = tuning ∙ has.tuning ∙ sym (ap (λ y. recovered_tuning (tuning_in (header_of c)) y.tuning) summary);
 }

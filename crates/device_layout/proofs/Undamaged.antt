@@ -18,13 +18,13 @@ use Rattle.archive_file.specs.Records.{rec_image, recs_image}
 use Rattle.archive_file.specs.Places.{AreInRange, HasRecords, BreaksAt, IsDamage}
 use Rattle.archive_file.proofs.Points.{point_at-bytes}
 use Rattle.archive_file.proofs.Logs.{part_of}
-use Rattle.event_queue.specs.Slots.{slot_at, batch_at, points_in}
-use Rattle.event_queue.specs.Lanes.{points_of, points_before, lane_points, IsSound, IsLane}
+use Rattle.event_queue.specs.Slots.{slot_at, batch_at, slot_points}
+use Rattle.event_queue.specs.Lanes.{slot_points_of, points_before, lane_points, IsSound, IsLane}
 use Rattle.event_queue.specs.Damages.{BreaksAt as SlotBreaksAt, IsLaneDamage}
 use Rattle.event_queue.proofs.Batches.{length-points_in}
 use Rattle.event_queue.proofs.Steps.{points_open, points_more}
 use Rattle.device_layout.specs.Headers.{is_field_ok, slots_in, tuning_in}
-use Rattle.device_layout.specs.Recovery.{header_of, log_place, counting, slot_bytes, HasSummary, start_of, AllFit, in_force}
+use Rattle.device_layout.specs.Recovery.{header_of, log_place, counting, slot_bytes, HasSummary, start_of, AllFit, recovered_tuning}
 use Rattle.device_layout.specs.Recovery.{IsOfTag, IsStored, IsReplayed, Recovers}
 use Rattle.device_layout.specs.Damages.{IsTagDamage, IsValuePlace}
 use Rattle.device_layout.specs.Damages.IsTagDamage.{EndsShort, BadHeader, BadLayout, BadSummary, BadLog, BadParts}
@@ -101,7 +101,7 @@ log_undamaged c at count a byte rs within has (inr (front, k, broken)) =
 
 -- a point of several stands among their bytes
 pub point_there : (n i : ℕ) (bytes : List ℕ) (d : Point) → i < n
-    → get_or (points_in n bytes) i d ≡ point_at (drop (16 * i) bytes)
+    → get_or (slot_points n bytes) i d ≡ point_at (drop (16 * i) bytes)
 point_there zero i bytes d below = absurd (omega (arith, below))
 point_there (suc n) zero bytes d below = refl
 point_there (suc n) (suc i) bytes d below =
@@ -147,7 +147,7 @@ grows slots taken c m (suc more) =
       arith,
       grows slots taken c m more,
       ap length (ap (points_before slots c taken) next ∙ points_more slots taken c (m + more)),
-      length-append (points_before slots c taken (m + more)) (points_of slots c taken (m + more)),
+      length-append (points_before slots c taken (m + more)) (slot_points_of slots c taken (m + more)),
     )
 
 -- a value that has a place is one of those up to its slot
@@ -159,7 +159,7 @@ before_and_at slots c taken n a j i at = omega (
   at.within,
   ap length (points_open slots taken c j at.opened),
   ap length (points_more slots taken c j),
-  length-append (points_before slots c taken j) (points_of slots c taken j),
+  length-append (points_before slots c taken j) (slot_points_of slots c taken j),
 )
 
 -- and so of the lane's
@@ -203,8 +203,8 @@ module _ (def : TagDef) (c : List ℕ) (rs : List Rec) (sum : Summary) (s : Stat
   not_damaged a byte (BadParts xs x i d) =
       let same = one_sum x (subst (λ y. HasSummary c y x) (sym d.counts) d.summary) in
       let recs = one_recs x xs same d.records in
-      d.broken (subst (λ y. ArePartsOk (in_force (tuning_in (header_of c)) y.tuning) def.step xs y) (sym same)
-      (subst (λ l. ArePartsOk (in_force (tuning_in (header_of c)) sum.tuning) def.step l sum) (sym recs) stored.parts))
+      d.broken (subst (λ y. ArePartsOk (recovered_tuning (tuning_in (header_of c)) y.tuning) def.step xs y) (sym same)
+      (subst (λ l. ArePartsOk (recovered_tuning (tuning_in (header_of c)) sum.tuning) def.step l sum) (sym recs) stored.parts))
   not_damaged a byte (BadQueue xs x d) =
       let same = one_sum x d.stored.summary in
       lane_undamaged (slots_in (header_of c)) c sum.taken a byte replayed.lane

@@ -17,7 +17,7 @@ use Rattle.device_layout.specs.declared.slot.Slot.{Slot}
 use Rattle.device_layout.specs.Headers.{tuning_in, slots_in, IsHeaderBroken}
 use Rattle.device_layout.specs.SlotFields.{IsSlotBroken}
 use Rattle.device_layout.specs.Recovery.{header_of, log_place, summary_place, slot_bytes, counting, HasSummary}
-use Rattle.device_layout.specs.Recovery.{in_force, start_of, AllFit, IsOfTag, IsStored}
+use Rattle.device_layout.specs.Recovery.{recovered_tuning, start_of, AllFit, IsOfTag, IsStored}
 
 -- the device ends before n bytes
 pub record EndsBefore (n : ℕ) (c : List ℕ) (a : ℕ) (byte : Option ℕ) : Type 0 where
@@ -66,7 +66,7 @@ pub record ArePartsDamaged (def : TagDef) (c : List ℕ) (a : ℕ) (byte : Optio
   pub counts : counting c ≡ Some i
   pub summary : HasSummary c (Some i) s
   pub records : HasRecords c (log_place c) s.records rs
-  pub broken : ArePartsOk (in_force (tuning_in (header_of c)) s.tuning) def.step rs s → ⊥
+  pub broken : ArePartsOk (recovered_tuning (tuning_in (header_of c)) s.tuning) def.step rs s → ⊥
   pub place : a ≡ summary_place i
   pub there : StandsThere c a byte
 

@@ -23,19 +23,19 @@ most_slots = 65536
 -- ---- what a header says
 
 -- the number of 8 bytes at a place
-abbrev pub number_at : List ℕ → ℕ → ℕ
-number_at h at = from_be_bytes w64 (take 8 (drop at h))
+abbrev pub header_number_at : List ℕ → ℕ → ℕ
+header_number_at h at = from_be_bytes w64 (take 8 (drop at h))
 
 abbrev pub name_in : List ℕ → List ℕ
 name_in h = take (slice_index h 5) (drop 6 h)
 
 abbrev pub tuning_in : List ℕ → Tuning
 tuning_in h = record {
-  exc_dev = number_at h 70;
-  exc_max = number_at h 78;
-  comp_dev = number_at h 86;
-  comp_min = number_at h 94;
-  comp_max = number_at h 102;
+  exc_dev = header_number_at h 70;
+  exc_max = header_number_at h 78;
+  comp_dev = header_number_at h 86;
+  comp_min = header_number_at h 94;
+  comp_max = header_number_at h 102;
 }
 
 abbrev pub slots_in : List ℕ → ℕ
@@ -57,11 +57,11 @@ is_field_ok h at =
     else if nat_eq at 5 then nat_le 1 (slice_index h 5) && nat_le (slice_index h 5) 64
     else if nat_le at (5 + slice_index h 5) then is_name_byte (slice_index h at)
     else if nat_le at 69 then nat_eq (slice_index h at) 0
-    else if nat_eq at 70 then nat_le (number_at h at) largest_value
-    else if nat_eq at 78 then nat_le (number_at h at) last_time
-    else if nat_eq at 86 then nat_le (number_at h at) largest_value
-    else if nat_eq at 94 then nat_le (number_at h at) last_time
-    else if nat_eq at 102 then nat_le (number_at h at) last_time
+    else if nat_eq at 70 then nat_le (header_number_at h at) largest_value
+    else if nat_eq at 78 then nat_le (header_number_at h at) last_time
+    else if nat_eq at 86 then nat_le (header_number_at h at) largest_value
+    else if nat_eq at 94 then nat_le (header_number_at h at) last_time
+    else if nat_eq at 102 then nat_le (header_number_at h at) last_time
     else if nat_eq at 110 then nat_le 1 (slots_in h) && nat_le (slots_in h) most_slots
     else if nat_eq at 114 then nat_le (slice_index h at) 1
     else if nat_le 115 at then nat_eq (slice_index h at) 0

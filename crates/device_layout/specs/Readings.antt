@@ -18,7 +18,7 @@ use Rattle.device_layout.specs.Headers.{def_in, tuning_in, slots_in, IsHeader}
 use Rattle.device_layout.specs.declared.header.Header.{Header}
 use Rattle.device_layout.specs.declared.slot.Slot.{Slot}
 use Rattle.device_layout.specs.declared.layout_reader.Stored.{Stored}
-use Rattle.device_layout.specs.Recovery.{header_of, log_place, counting, HasSummary, in_force, IsOfTag}
+use Rattle.device_layout.specs.Recovery.{header_of, log_place, counting, HasSummary, recovered_tuning, IsOfTag}
 use Rattle.device_layout.specs.Recovery.{IsStored, Recovers}
 use Rattle.archive_file.specs.Places.{HasRecords}
 use Rattle.device_layout.specs.Damages.{IsTagDamage}
@@ -72,7 +72,7 @@ pub record CountsSummary (def : TagDef) (slots : ℕ) (slot : Slot) (s : Summary
   pub slots_are : slots ≡ slots_in (header_of c)
   pub counts : counting c ≡ Some slot
   pub summary : HasSummary c (Some slot) s
-  pub tuning : u ≡ in_force (tuning_in (header_of c)) s.tuning
+  pub tuning : u ≡ recovered_tuning (tuning_in (header_of c)) s.tuning
 
 -- this was found on a layout with so many lane slots: the summary that counts, the records that it counts, and the tuning in
 -- force
@@ -83,14 +83,14 @@ pub record IsFoundOn (def : TagDef) (slots : ℕ) (x : Stored) (c : List ℕ) : 
   pub records : HasRecords c (log_place c) x.summary.records x.recs.items
   pub slots_are : slots ≡ slots_in (header_of c)
   pub slot : counting c ≡ x.slot
-  pub tuning : x.tuning ≡ in_force (tuning_in (header_of c)) x.summary.tuning
+  pub tuning : x.tuning ≡ recovered_tuning (tuning_in (header_of c)) x.summary.tuning
 
 -- the same, where the records and the summary can be those of a tag
 pub record IsReadFrom (def : TagDef) (slots : ℕ) (x : Stored) (c : List ℕ) : Type 0 where
   pub stored : IsStored def c x.recs.items x.summary
   pub slots_are : slots ≡ slots_in (header_of c)
   pub slot : counting c ≡ x.slot
-  pub tuning : x.tuning ≡ in_force (tuning_in (header_of c)) x.summary.tuning
+  pub tuning : x.tuning ≡ recovered_tuning (tuning_in (header_of c)) x.summary.tuning
 
 -- the refusal to open what was not read
 abbrev pub refusal_of : ScanNo → OpenNo

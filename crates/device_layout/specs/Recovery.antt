@@ -86,9 +86,9 @@ HasSummary c None s = s ≡ no_summary
 HasSummary c (Some i) s = IsSummary s × (slot_bytes c i ≡ summary_image s)
 
 -- the tuning in force, of a summary of a tag that was made with the given one
-abbrev pub in_force : Tuning → Option Tuning → Tuning
-in_force made None = made
-in_force made (Some u) = u
+abbrev pub recovered_tuning : Tuning → Option Tuning → Tuning
+recovered_tuning made None = made
+recovered_tuning made (Some u) = u
 
 -- ---- the state
 
@@ -103,7 +103,7 @@ state_of rs s u = record { records = rs; summary = record s { tuning = Some u } 
 
 -- the state from which the lane goes on; a summary without its tuning has that of the header
 abbrev pub start_of : List ℕ → List Rec → Summary → State
-start_of c rs s = state_of rs s (in_force (tuning_in (header_of c)) s.tuning)
+start_of c rs s = state_of rs s (recovered_tuning (tuning_in (header_of c)) s.tuning)
 
 -- the layout is whole, and the device is this tag's
 pub record IsOfTag (def : TagDef) (c : List ℕ) : Type 0 where
@@ -118,7 +118,7 @@ pub record IsStored (def : TagDef) (c : List ℕ) (rs : List Rec) (s : Summary) 
   pub long : log_place c ≤ length c
   pub summary : HasSummary c (counting c) s
   pub records : HasRecords c (log_place c) s.records rs
-  pub parts : ArePartsOk (in_force (tuning_in (header_of c)) s.tuning) def.step rs s
+  pub parts : ArePartsOk (recovered_tuning (tuning_in (header_of c)) s.tuning) def.step rs s
 
 -- the values that the lane holds beyond the first `taken` events
 abbrev pub values_beyond : List ℕ → ℕ → List Event

@@ -4,7 +4,7 @@ ghost use Rattle.std.specs.Prelude.{length, replicate, slice_index};
 ghost use Rattle.arrayvec.specs.ArrayVec.{array_vec_len};
 ghost use Rattle.trend_num.specs.Names.{is_name_byte, IsName};
 ghost use Rattle.trend_num.specs.Ranges.{TuningInRange};
-ghost use Rattle.device_layout.specs.Headers.{most_slots, number_at, name_in, tuning_in, slots_in, def_in};
+ghost use Rattle.device_layout.specs.Headers.{most_slots, header_number_at, name_in, tuning_in, slots_in, def_in};
 ghost use Rattle.device_layout.specs.Headers.{is_field_ok, IsHeader, IsHeaderBroken};
 ghost use Rattle.device_layout.specs.Headers.{tuning_image, header_image};
 
@@ -148,7 +148,7 @@ fn tuning_in(h: &[u8; HEADER_LEN]) -> Tuning
 // The number of 8 bytes at a place.
 fn number_at(h: &[u8; HEADER_LEN], at: usize) -> u64
     requires { at + 8 ≤ 128 }
-    ensures { result ≡ number_at h.now at }
+    ensures { result ≡ header_number_at h.now at }
 {
     let (number, _) = take_number(&h[at..]);
     number

@@ -10,7 +10,7 @@ ghost use Rattle.archive_file.specs.Places.{HasRecords};
 ghost use Rattle.event_queue.specs.Slots.{lane_end};
 ghost use Rattle.archive_file.specs.Summaries.{summary_image, IsSummary};
 ghost use Rattle.device_layout.specs.declared.failure.OpenNo.TheVariants.{DeviceFault, Damaged, OtherTag};
-ghost use Rattle.device_layout.specs.Recovery.{chosen, counting, slot_bytes, no_summary, in_force};
+ghost use Rattle.device_layout.specs.Recovery.{chosen, counting, slot_bytes, no_summary, recovered_tuning};
 ghost use Rattle.disk_model.specs.Calls.{Shows};
 ghost use Rattle.device_layout.specs.Readings.{IsCause, HasHeader, HasLayout, CountsSummary, IsFoundOn, refusal_of};
 
@@ -210,7 +210,7 @@ pub fn damaged(at: u64, byte: u8) -> OpenNo
 
 // The tuning in force, of a tag that was made with the given one.
 fn in_force(made: Tuning, tuning: Option<Tuning>) -> Tuning
-    ensures { result ≡ in_force made tuning }
+    ensures { result ≡ recovered_tuning made tuning }
 {
     match tuning {
         None => made,

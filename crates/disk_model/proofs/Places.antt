@@ -6,7 +6,7 @@ use Rattle.std.proofs.lemmas.Bool.{cases_Bool, false_from_ne_true}
 use Rattle.std.proofs.lemmas.List.{take_more, map_push}
 use Rattle.std.proofs.lemmas.Slice.Eq.{bytes_eq-Decides}
 use Rattle.disk_model.specs.Memory.{DiskState}
-use Rattle.disk_model.specs.Stores.{Devices, device_of, is_among, named, Puts}
+use Rattle.disk_model.specs.Stores.{Devices, device_of, has_device, named, Puts}
 
 -- the devices with another one in the place of that of a name
 abbrev with_device : Devices → List ℕ → DiskState → Devices
@@ -96,11 +96,11 @@ with_other (d ∷ ds) name n new apart = elim (cases_Bool (bytes_eq d.0 name)) [
 ]
 
 -- the same names have a device
-pub with_among : (ds : Devices) (name n : List ℕ) (new : DiskState) → is_among ds n ≡ true → is_among (with_device ds name new) n ≡ true
+pub with_among : (ds : Devices) (name n : List ℕ) (new : DiskState) → has_device ds n ≡ true → has_device (with_device ds name new) n ≡ true
 with_among ds name n new among = elim (cases_Bool (bytes_eq n name)) [
   | inl same ↦
       let is = same_name n name same in
-      ap is_some (ap (device_of (with_device ds name new)) is ∙ with_same ds name new (ap (is_among ds) (sym is) ∙ among))
+      ap is_some (ap (device_of (with_device ds name new)) is ∙ with_same ds name new (ap (has_device ds) (sym is) ∙ among))
   | inr other ↦ ap is_some (with_other ds name n new (λ is. apart_names is other)) ∙ among
 ]
   where
@@ -118,7 +118,7 @@ add_other [] name n new apart = ap (λ b. cond b (Some new) None) (other_name na
 add_other (d ∷ ds) name n new apart = ap (λ o. cond (bytes_eq d.0 n) (Some d.1) o) (add_other ds name n new apart)
 
 -- a name that had a device has one
-pub add_among : (ds : Devices) (name n : List ℕ) (new : DiskState) → is_among ds n ≡ true → is_among (ds ++ (name, new) ∷ []) n ≡ true
+pub add_among : (ds : Devices) (name n : List ℕ) (new : DiskState) → has_device ds n ≡ true → has_device (ds ++ (name, new) ∷ []) n ≡ true
 add_among [] name n new among = absurd (cc (among))
 add_among (d ∷ ds) name n new among = elim (cases_Bool (bytes_eq d.0 n)) [
   | inl same ↦ ap (λ b. is_some (cond b (Some d.1) (device_of (ds ++ (name, new) ∷ []) n))) same

@@ -1,6 +1,5 @@
 pub mod Calls
 pub mod Disks
-pub mod Folders
 pub mod Gates
 pub mod Images
 pub mod Logs

@@ -4,7 +4,7 @@ use Rattle.std.specs.declared.alloc.Global.{Global}
 use Rattle.disk_model.specs.declared.memory_log.Call.{Call}
 use Rattle.disk_model.specs.declared.memory_log.Call.TheVariants.{Write, Resize, Sync}
 use Rattle.disk_model.specs.declared.memory_log.Note.{Note}
-use Rattle.disk_model.specs.declared.memory_log.Log.{Log}
+use Rattle.disk_model.specs.declared.memory_log.CallLog.{CallLog}
 use Rattle.disk_model.specs.Traces.{DeviceCall, Wrote, WroteInPart, Resized, ResizedInPart, Synced, Idle}
 
 -- a write, which was done whole or not
@@ -38,9 +38,9 @@ first_of None content = content
 first_of (Some v) content = v.items
 
 -- what the device held at first
-abbrev pub log_first : Log → List ℕ
+abbrev pub log_first : CallLog → List ℕ
 log_first log = first_of log.base log.content.items
 
 -- the calls so far, the newest first
-abbrev pub log_calls : Log → List DeviceCall
+abbrev pub log_calls : CallLog → List DeviceCall
 log_calls log = idles log.idle (calls_after [] log.notes.items)

@@ -33,8 +33,8 @@ abbrev pub trace_at : Devices → List ℕ → Trace
 trace_at ds name = trace_or_empty (device_of ds name)
 
 -- there is a device of this name
-abbrev pub is_among : Devices → List ℕ → Bool
-is_among ds name = is_some (device_of ds name)
+abbrev pub has_device : Devices → List ℕ → Bool
+has_device ds name = is_some (device_of ds name)
 
 -- the devices by the bytes of their names
 abbrev pub named : List (String Global × DiskState) → Devices
@@ -44,4 +44,4 @@ named ds = map (λ d. (string_bytes d.0, d.1)) ds
 pub record Puts (old new : Devices) (name : List ℕ) (d : DiskState) : Type 0 where
   pub told : device_of new name ≡ Some d
   pub others : (n : List ℕ) → n ≢ name → device_of new n ≡ device_of old n
-  pub places : (n : List ℕ) → is_among old n ≡ true → is_among new n ≡ true
+  pub places : (n : List ℕ) → has_device old n ≡ true → has_device new n ≡ true

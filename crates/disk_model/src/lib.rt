@@ -12,13 +12,12 @@
 //! so many bytes of it.
 //!
 //! [`MemDisk`] and [`MemStore`] are in memory, fail at the calls that they are told to, and give the images that a
-//! crash may leave. [`DirStore`] keeps its devices as files of a folder, and tells no calls.
+//! crash may leave.
 #![tactic(auto)]
 
 mod device;
 mod device_store;
 mod failure;
-mod folder;
 mod gate;
 mod law;
 mod memory_disk;
@@ -30,7 +29,6 @@ mod share;
 pub use device::Disk;
 pub use device_store::Store;
 pub use failure::{Failed, WantOfMemory};
-pub use folder::{DirDisk, DirStore};
 pub use gate::{OPEN, close_gates, write_guarded};
 pub use law::{
     a_later_image_keeps_what_no_call_touched, a_read_gives_an_image, a_sync_leaves_one_image,

@@ -5,7 +5,7 @@ ghost use Rattle.disk_model.specs.Traces.{Trace, Wrote, WroteInPart, Resized, Re
 ghost use Rattle.disk_model.specs.Images.{MayLeave};
 ghost use Rattle.disk_model.specs.Calls.{next_count, Rose, HasCause, IsTimed, Reaches, Reads, IsNoted};
 
-use crate::memory_log::Log;
+use crate::memory_log::CallLog;
 use crate::share::Share;
 use crate::{Disk, Failed, WantOfMemory};
 use std::alloc::AllocError;
@@ -79,7 +79,7 @@ impl Calls {
 /// and `read` count among them.
 #[derive(Drop)]
 pub struct MemDisk {
-    log: Log,
+    log: CallLog,
     calls: Calls,
 }
 
@@ -117,7 +117,7 @@ impl MemDisk {
         ensures faults { result.faults ≡ 0 }
     {
         MemDisk {
-            log: Log::new(bytes),
+            log: CallLog::new(bytes),
             calls: Calls {
                 failing: fail,
                 stop: None,
@@ -188,7 +188,7 @@ impl MemDisk {
 
 // Ends a call: it was idle where there was no memory to note it, and it is whole where it was noted so.
 fn end(
-    log: &mut Log,
+    log: &mut CallLog,
     calls: &mut Calls,
     noted: Result<(), AllocError>,
     whole: bool,

@@ -33,21 +33,21 @@ pub(crate) struct Note {
 // What a device holds, and its calls so far. `base` has the first bytes once they may have changed, `notes` the calls,
 // the oldest first, and `idle` counts the idle ones since the last note: those need no memory.
 #[derive(Drop)]
-pub(crate) struct Log {
+pub(crate) struct CallLog {
     pub(crate) base: Option<Vec<u8>>,
     pub(crate) content: Vec<u8>,
     pub(crate) notes: Vec<Note>,
     pub(crate) idle: u64,
 }
 
-impl Log {
-    pub(crate) fn new(bytes: Vec<u8>) -> Log
+impl CallLog {
+    pub(crate) fn new(bytes: Vec<u8>) -> CallLog
         ensures first { log_first result ≡ bytes.items }
         ensures told { log_calls result ≡ [] }
         ensures content { result.content.items ≡ bytes.items }
     {
         let alloc = *bytes.allocator();
-        Log {
+        CallLog {
             base: None,
             content: bytes,
             notes: Vec::new(alloc),

@@ -111,13 +111,13 @@ fn add(devices: &mut Vec<(String, MemDisk)>, name: &str, dev: MemDisk) -> Result
 }
 
 impl Store for MemStore {
-    ghost use Rattle.disk_model.specs.Stores.{trace_at, is_among};
+    ghost use Rattle.disk_model.specs.Stores.{trace_at, has_device};
 
     type Dev = MemDisk;
 
     ghost device_at = { λ s name. Some (trace_at s.devices name) };
 
-    ghost has_place = { λ s name. is_among s.devices name };
+    ghost has_place = { λ s name. has_device s.devices name };
 
     ghost fault_count = { λ s. s.faults };
 

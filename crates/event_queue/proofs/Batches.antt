@@ -12,7 +12,7 @@ use Rattle.trend_num.specs.Ranges.{InRange}
 use Rattle.archive_file.specs.Fields.{number_bytes, point_bytes, point_at}
 use Rattle.archive_file.proofs.Joins.{images_more}
 use Rattle.archive_file.proofs.Points.{point_at-bytes}
-use Rattle.event_queue.specs.Slots.{batch_bytes, points_in, count_in, batch_in}
+use Rattle.event_queue.specs.Slots.{batch_bytes, slot_points, count_in, batch_in}
 
 -- so many points of a batch are written behind its two numbers
 pub record IsWritten (first : ℕ) (points : List Point) (i : ℕ) (bytes : List ℕ) : Type 0 where
@@ -57,14 +57,14 @@ written_all first points i bytes all so_far =
     (take_all i points all)
 
 -- one point more read
-pub points_in_more : (i : ℕ) (bytes : List ℕ) → points_in (i + 1) bytes ≡ points_in i bytes
+pub points_in_more : (i : ℕ) (bytes : List ℕ) → slot_points (i + 1) bytes ≡ slot_points i bytes
     ++ point_at (drop (16 * i) bytes) ∷ []
 points_in_more zero bytes = refl
 points_in_more (suc i) bytes =
-    ap (λ n. points_in n bytes) (add-one (suc i))
-    ∙ ap (λ ps. point_at bytes ∷ ps) (ap (λ n. points_in n (drop 16 bytes)) (sym (add-one i))
+    ap (λ n. slot_points n bytes) (add-one (suc i))
+    ∙ ap (λ ps. point_at bytes ∷ ps) (ap (λ n. slot_points n (drop 16 bytes)) (sym (add-one i))
     ∙ points_in_more i (drop 16 bytes))
-    ∙ ap (λ l. point_at bytes ∷ (points_in i (drop 16 bytes) ++ point_at l ∷ []))
+    ∙ ap (λ l. point_at bytes ∷ (slot_points i (drop 16 bytes) ++ point_at l ∷ []))
     (drop-drop (16 * i) 16 bytes ∙ ap (λ n. drop n bytes) (omega arith))
 
 -- so many points begin where the others end
@@ -74,12 +74,12 @@ points_behind i bytes rest behind is next =
     next ∙ ap (drop 16) is ∙ drop-drop 16 (16 * i) bytes ∙ ap (λ n. drop n bytes) (omega arith)
 
 -- so many points are so many
-pub length-points_in : (n : ℕ) (bytes : List ℕ) → length (points_in n bytes) ≡ n
+pub length-points_in : (n : ℕ) (bytes : List ℕ) → length (slot_points n bytes) ≡ n
 length-points_in zero bytes = refl
 length-points_in (suc n) bytes = omega (arith, length-points_in n (drop 16 bytes))
 
 -- the first of more points
-pub take-points_in : (i n : ℕ) (bytes : List ℕ) → i ≤ n → take i (points_in n bytes) ≡ points_in i bytes
+pub take-points_in : (i n : ℕ) (bytes : List ℕ) → i ≤ n → take i (slot_points n bytes) ≡ slot_points i bytes
 take-points_in zero n bytes le = refl
 take-points_in (suc i) zero bytes le = absurd (omega (arith, le))
 take-points_in (suc i) (suc n) bytes le = ap (λ ps. point_at bytes ∷ ps)
@@ -96,13 +96,13 @@ length-batch_bytes first ps = omega (arith, images_long ps)
 
 -- points are read of their bytes
 pub points_in-images : (ps : List Point) (more : List ℕ) → All InRange ps
-    → points_in (length ps) (flat_map point_bytes ps ++ more) ≡ ps
+    → slot_points (length ps) (flat_map point_bytes ps ++ more) ≡ ps
 points_in-images [] more inside = refl
 points_in-images (p ∷ ps) more inside =
     let whole : flat_map point_bytes (p ∷ ps) ++ more ≡ point_bytes p ++ (flat_map point_bytes ps ++ more) =
     append_assoc (point_bytes p) (flat_map point_bytes ps) more in
-    ap (points_in (suc (length ps))) whole
-    ∙ ap (λ q. q ∷ points_in (length ps) (flat_map point_bytes ps ++ more))
+    ap (slot_points (suc (length ps))) whole
+    ∙ ap (λ q. q ∷ slot_points (length ps) (flat_map point_bytes ps ++ more))
     (point_at-bytes p (flat_map point_bytes ps ++ more) (All-head InRange p ps inside))
     ∙ ap (λ qs. p ∷ qs) (points_in-images ps more (All-tail InRange p ps inside))
 
@@ -116,7 +116,7 @@ batch_in-bytes first ps more small few inside =
     let count : count_in (batch_bytes first ps ++ more) ≡ length ps = from_be_bytes-to_be_bytes_2 (length ps)
     (omega (arith, few)) in
     let clipped : min 64 (count_in (batch_bytes first ps ++ more)) ≡ length ps = omega (arith, count, few) in
-    let points : points_in (min 64 (count_in (batch_bytes first ps ++ more)))
+    let points : slot_points (min 64 (count_in (batch_bytes first ps ++ more)))
     (flat_map point_bytes ps ++ more) ≡ ps =
-    ap (λ n. points_in n (flat_map point_bytes ps ++ more)) clipped ∙ points_in-images ps more inside in
+    ap (λ n. slot_points n (flat_map point_bytes ps ++ more)) clipped ∙ points_in-images ps more inside in
     λ i. record { first = number i; count = count i; points = points i }

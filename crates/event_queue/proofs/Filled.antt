@@ -12,7 +12,7 @@ use Rattle.trend_num.specs.Ranges.{InRange}
 use Rattle.disk_model.specs.Gates.{open_byte, IsOpen, IsGuarded}
 use Rattle.event_queue.specs.Slots.{gate_of, place_of, batch_bytes, slot_at, batch_in}
 use Rattle.event_queue.specs.Slots.{batch_at}
-use Rattle.event_queue.specs.Lanes.{points_of, points_before, lane_points, IsSound, IsLane}
+use Rattle.event_queue.specs.Lanes.{slot_points_of, points_before, lane_points, IsSound, IsLane}
 use Rattle.event_queue.specs.Places.{HasRoom, IsFilled}
 use Rattle.event_queue.proofs.Batches.{length-batch_bytes, batch_in-bytes}
 use Rattle.event_queue.proofs.Rooms.{gate_outside, room_guarded}
@@ -136,7 +136,7 @@ module _ (slots taken used next : ℕ) (held batch : List Point) (old new : List
         (λ at. subst (λ i. taken < (batch_at slots new i).first + (batch_at slots new i).count) (omega arith)
         last_beyond) (cases_lt k used);
     points = lane_points_used slots taken (used + 1) new (omega arith) room ∙ points_more slots taken new used
-        ∙ ap (λ l. l ++ points_of slots new taken used) before
+        ∙ ap (λ l. l ++ slot_points_of slots new taken used) before
         ∙ ap (λ l. held ++ l) (points_open slots taken new used opened
         ∙ beyond_all taken (batch_at slots new used) last_beyond ∙ ap (λ x. x.points) last);
     number = omega (arith, filled.number, length-append held batch);

@@ -7,7 +7,7 @@ use Rattle.std.proofs.lemmas.Bool.{cases_eq}
 use Rattle.trend_num.specs.Ranges.{InRange}
 use Rattle.disk_model.specs.Gates.{open_byte, IsOpen, IsClosing}
 use Rattle.event_queue.specs.Slots.{gate_of, batch_in, batch_at}
-use Rattle.event_queue.specs.Lanes.{IsStale, points_of, points_before, IsCounted}
+use Rattle.event_queue.specs.Lanes.{IsStale, slot_points_of, points_before, IsCounted}
 use Rattle.event_queue.specs.Places.{IsOvertaken}
 use Rattle.event_queue.proofs.Steps.{points_shut, points_open, beyond_stale}
 use Rattle.event_queue.proofs.SameLanes.{same_behind}
@@ -17,7 +17,7 @@ pub overtaken_none : (slots taken : ℕ) (c : List ℕ) → IsOvertaken slots ta
     → points_before slots c taken n ≡ []
 overtaken_none slots taken c over zero within = refl
 overtaken_none slots taken c over (suc n) within =
-    ap (λ l. l ++ points_of slots c taken n) (overtaken_none slots taken c over n (omega (arith, within)))
+    ap (λ l. l ++ slot_points_of slots c taken n) (overtaken_none slots taken c over n (omega (arith, within)))
     ∙ ⊎_elim (λ opened. points_open slots taken c n opened
     ∙ beyond_stale taken (batch_at slots c n) (over.stale n (omega (arith, within)) opened))
     (λ shut. points_shut slots taken c n shut) (cases_eq (get_or c (gate_of n) 0) open_byte)

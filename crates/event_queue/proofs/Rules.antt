@@ -8,7 +8,7 @@ use Rattle.event_queue.specs.declared.reader.Scanned.{Scanned}
 use Rattle.event_queue.specs.Slots.{gate_of, batch_at}
 use Rattle.event_queue.specs.Lanes.{IsStale, IsStaleBehind, IsNextBehind, FollowsOn, IsCounted}
 use Rattle.event_queue.specs.Lanes.{IsLane}
-use Rattle.event_queue.specs.Scans.{IsWithin, IsRead, Fits}
+use Rattle.event_queue.specs.Scans.{IsWithin, IsRead, FitsSlot}
 
 module _ (slots taken : ℕ) (bytes : List ℕ) where
   -- a batch that numbers on is not stale
@@ -55,7 +55,7 @@ module _ (slots taken : ℕ) (bytes : List ℕ) where
       module _ (counted : IsCounted (batch_at slots bytes k)) where
         -- the test is right where it says yes
         pub fits_follow : (stale : Bool) → ((stale ≡ true) ↔ IsStale taken (batch_at slots bytes k))
-            → Fits s k (batch_at slots bytes k).first stale
+            → FitsSlot s k (batch_at slots bytes k).first stale
             → FollowsOn slots bytes taken k
         fits_follow true tested (inl told) = inl (record { stale = tested.0 refl; before = told_stale told })
         fits_follow true tested (inr none) =
@@ -84,7 +84,7 @@ module _ (slots taken : ℕ) (bytes : List ℕ) where
 
         -- and where it says no: a stale batch stands behind one that is not
         misfit_stale : IsStale taken (batch_at slots bytes k)
-            → (Fits s k (batch_at slots bytes k).first true → ⊥)
+            → (FitsSlot s k (batch_at slots bytes k).first true → ⊥)
             → IsStaleBehind slots bytes taken k → ⊥
         misfit_stale stale unfit behind = elim (cases_Bool s.stale) [
           | inl told ↦ unfit (inl told)
@@ -98,7 +98,7 @@ module _ (slots taken : ℕ) (bytes : List ℕ) where
         ]
 
         -- or one that is not stale does not number on
-        misfit_next : (Fits s k (batch_at slots bytes k).first false → ⊥) → IsNextBehind slots bytes taken k → ⊥
+        misfit_next : (FitsSlot s k (batch_at slots bytes k).first false → ⊥) → IsNextBehind slots bytes taken k → ⊥
         misfit_next unfit next = elim (cases_Bool s.stale) [
           | inl told ↦
               let one = read.stale.0 told in
@@ -119,7 +119,7 @@ module _ (slots taken : ℕ) (bytes : List ℕ) where
             ]
 
         pub misfit_follow : (stale : Bool) → ((stale ≡ true) ↔ IsStale taken (batch_at slots bytes k))
-            → (Fits s k (batch_at slots bytes k).first stale → ⊥) → FollowsOn slots bytes taken k → ⊥
+            → (FitsSlot s k (batch_at slots bytes k).first stale → ⊥) → FollowsOn slots bytes taken k → ⊥
         misfit_follow true tested unfit follows =
             ⊎_elim (misfit_stale (tested.0 refl) unfit)
             (λ next. absurd (omega (arith, tested.0 refl, next_beyond k next counted))) follows

@@ -9,7 +9,7 @@ use Rattle.trend_num.specs.Ranges.{InRange}
 use Rattle.disk_model.specs.Gates.{open_byte, IsOpen}
 use Rattle.disk_model.proofs.Bytes.{holds_same}
 use Rattle.event_queue.specs.Slots.{gate_of, place_of, lane_end, slot_at, batch_in, batch_at}
-use Rattle.event_queue.specs.Lanes.{IsStale, points_beyond, points_of, points_before}
+use Rattle.event_queue.specs.Lanes.{IsStale, points_beyond, slot_points_of, points_before}
 use Rattle.event_queue.specs.Lanes.{FollowsOn}
 use Rattle.event_queue.specs.Lanes.{IsCounted, IsSound, IsLane}
 use Rattle.event_queue.proofs.Steps.{points_shut, points_open}
@@ -48,7 +48,7 @@ module _ (slots taken n : ℕ) (a b : List ℕ) (is : HasSameSlots slots n a b) 
   same_batch k there opened = ap batch_in (is.same k there opened)
 
   -- the same points
-  same_points_of : (k : ℕ) → k < n → points_of slots b taken k ≡ points_of slots a taken k
+  same_points_of : (k : ℕ) → k < n → slot_points_of slots b taken k ≡ slot_points_of slots a taken k
   same_points_of k there = ⊎_elim
       (λ opened. points_open slots taken b k (is.forth k there opened)
       ∙ ap (points_beyond taken) (same_batch k there opened) ∙ sym (points_open slots taken a k opened))
@@ -59,7 +59,7 @@ module _ (slots taken n : ℕ) (a b : List ℕ) (is : HasSameSlots slots n a b) 
   pub same_points : (m : ℕ) → m ≤ n → points_before slots b taken m ≡ points_before slots a taken m
   same_points zero within = refl
   same_points (suc m) within =
-      ap (λ l. l ++ points_of slots b taken m) (same_points m (omega (arith, within)))
+      ap (λ l. l ++ slot_points_of slots b taken m) (same_points m (omega (arith, within)))
       ∙ ap (λ l. points_before slots a taken m ++ l) (same_points_of m (omega (arith, within)))
 
   -- the same batches are stale

@@ -12,11 +12,11 @@ use Rattle.archive_file.specs.declared.failure.ScanNo.{ScanNo}
 use Rattle.archive_file.specs.declared.failure.ScanNo.TheVariants.{Damaged}
 use Rattle.archive_file.proofs.Logs.{byte_of}
 use Rattle.event_queue.specs.declared.reader.Scanned.{Scanned}
-use Rattle.event_queue.specs.Slots.{Batch, gate_of, place_of, count_in, points_in, batch_in}
+use Rattle.event_queue.specs.Slots.{Batch, gate_of, place_of, count_in, slot_points, batch_in}
 use Rattle.event_queue.specs.Slots.{batch_at}
-use Rattle.event_queue.specs.Lanes.{IsStale, points_beyond, points_of, points_before}
+use Rattle.event_queue.specs.Lanes.{IsStale, points_beyond, slot_points_of, points_before}
 use Rattle.event_queue.specs.Lanes.{IsSound, IsLane}
-use Rattle.event_queue.specs.Damages.{BreaksAt, IsLaneDamage}
+use Rattle.event_queue.specs.Damages.{BreaksSlotAt, IsLaneDamage}
 use Rattle.event_queue.specs.Scans.{IsRead}
 use Rattle.event_queue.specs.Pieces.{IsOpenSlot}
 use Rattle.event_queue.proofs.Rules.{all_stale}
@@ -42,19 +42,19 @@ lane_more slots taken bytes k lane last =
 
 module _ (slots taken : ℕ) (bytes : List ℕ) (k : ℕ) where
   -- a closed slot holds nothing
-  pub points_shut : get_or bytes (gate_of k) 0 ≢ open_byte → points_of slots bytes taken k ≡ []
+  pub points_shut : get_or bytes (gate_of k) 0 ≢ open_byte → slot_points_of slots bytes taken k ≡ []
   points_shut shut = cond-false _ (points_beyond taken (batch_at slots bytes k)) []
       (ne_eqb (get_or bytes (gate_of k) 0) open_byte shut)
 
   -- an open one what its batch does
-  pub points_open : IsOpen (gate_of k) bytes → points_of slots bytes taken k
+  pub points_open : IsOpen (gate_of k) bytes → slot_points_of slots bytes taken k
       ≡ points_beyond taken (batch_at slots bytes k)
   points_open opened = cond-true _ (points_beyond taken (batch_at slots bytes k)) []
       (eq-eqb (get_or bytes (gate_of k) 0) open_byte opened)
 
   -- one slot more
   pub points_more : points_before slots bytes taken (k + 1) ≡ points_before slots bytes taken k
-      ++ points_of slots bytes taken k
+      ++ slot_points_of slots bytes taken k
   points_more = ap (points_before slots bytes taken) (add-one k)
 
   -- a closed slot is passed by
@@ -112,15 +112,15 @@ pub record HasFields (slot : List ℕ) (first count : ℕ) (rest : List ℕ) : T
 -- the points of a count that is one
 pub points_counted : (slot : List ℕ) (first count : ℕ) (rest : List ℕ) → HasFields slot first count rest
     → count ≤ 64
-    → (batch_in slot).points ≡ points_in count rest
+    → (batch_in slot).points ≡ slot_points count rest
 points_counted slot first count rest fields few =
     let clipped : min 64 (count_in slot) ≡ count = omega (arith, fields.count_is) in
-    ap (λ n. points_in n (drop 10 slot)) clipped ∙ ap (points_in count) (sym fields.rest_is)
+    ap (λ n. slot_points n (drop 10 slot)) clipped ∙ ap (slot_points count) (sym fields.rest_is)
 
 -- the first damage, where an open slot breaks the layout and those before it keep it
 pub damage_here : (slots taken : ℕ) (bytes : List ℕ) (k : ℕ) (slot : List ℕ) (o a : ℕ) (byte : Option ℕ)
     (why : ScanNo) → k < slots
-    → IsLane slots bytes taken k → IsOpenSlot slots bytes k slot → BreaksAt slots bytes taken k o → o < 1034
+    → IsLane slots bytes taken k → IsOpenSlot slots bytes k slot → BreaksSlotAt slots bytes taken k o → o < 1034
     → why ≡ Damaged (place_of slots k + o) (Some (get_or slot o 0)) → why ≡ Damaged a byte
     → IsLaneDamage slots bytes taken a byte
 damage_here slots taken bytes k slot o a byte why there lane at_slot breaks within said told =

@@ -10,10 +10,10 @@ use Rattle.std.proofs.lemmas.List.Elements.{All-append}
 use Rattle.trend_num.specs.Ranges.{InRange}
 use Rattle.archive_file.specs.Fields.{point_at}
 use Rattle.event_queue.specs.declared.reader.Scanned.{Scanned}
-use Rattle.event_queue.specs.Slots.{count_in, points_in, slot_at, batch_in, batch_at}
+use Rattle.event_queue.specs.Slots.{count_in, slot_points, slot_at, batch_in, batch_at}
 use Rattle.event_queue.specs.Lanes.{IsStale, points_beyond, FollowsOn, IsCounted}
 use Rattle.event_queue.specs.Damages.{IsCountBroken, IsFirstBroken, IsPointBroken}
-use Rattle.event_queue.specs.Scans.{IsWithin, IsRead, Fits}
+use Rattle.event_queue.specs.Scans.{IsWithin, IsRead, FitsSlot}
 use Rattle.event_queue.specs.Pieces.{IsOpenSlot}
 use Rattle.event_queue.proofs.Batches.{length-points_in, take-points_in}
 use Rattle.event_queue.proofs.Rules.{fits_follow, misfit_follow}
@@ -37,9 +37,9 @@ none_there (x ∷ xs) none = absurd (omega (arith, none))
 -- what holds of the whole, whatever the device, goes on to one open slot more
 pub within_more : (slots taken k first count : ℕ) (rest : List ℕ) (s new : Scanned) (stale : Bool)
     → IsWithin slots taken k s
-    → Fits s k first stale → count ≤ 64 → All InRange (points_in count rest) → new.lane.slots ≡ s.lane.slots
+    → FitsSlot s k first stale → count ≤ 64 → All InRange (slot_points count rest) → new.lane.slots ≡ s.lane.slots
     → new.lane.used ≡ k + 1 → new.lane.next ≡ s.lane.next + cond stale 0 count
-    → new.points.items ≡ s.points.items ++ points_in (cond stale 0 count) rest → new.stale ≡ stale
+    → new.points.items ≡ s.points.items ++ slot_points (cond stale 0 count) rest → new.stale ≡ stale
     → IsWithin slots taken (k + 1) new
 within_more slots taken k first count rest s new true within fits few inside same used next points told =
     record {
@@ -61,12 +61,12 @@ within_more slots taken k first count rest s new false within fits few inside sa
       number = next ∙ omega (arith, within.number, more);
       few = omega (arith, within.few, within.used, used, more, few);
       in_range = subst (All InRange) (sym points)
-          (All-append InRange s.points.items (points_in count rest) within.in_range inside);
+          (All-append InRange s.points.items (slot_points count rest) within.in_range inside);
       none_stale = λ yes. absurd (true≢false (sym yes ∙ told));
     }
   where
     more : length new.points.items ≡ length s.points.items + count
-    more = ap length points ∙ length-append s.points.items (points_in count rest)
+    more = ap length points ∙ length-append s.points.items (slot_points count rest)
         ∙ ap (λ n. length s.points.items + n) (length-points_in count rest)
 
 module _ (slots taken : ℕ) (bytes : List ℕ) (k first count : ℕ) (slot rest : List ℕ)
@@ -78,7 +78,7 @@ module _ (slots taken : ℕ) (bytes : List ℕ) (k first count : ℕ) (slot rest
   count_at : count ≡ (batch_at slots bytes k).count
   count_at = fields.count_is ∙ ap count_in at_slot.here
 
-  points_at : count ≤ 64 → (batch_at slots bytes k).points ≡ points_in count rest
+  points_at : count ≤ 64 → (batch_at slots bytes k).points ≡ slot_points count rest
   points_at few = ap (λ l. (batch_in l).points) (sym at_slot.here)
       ∙ points_counted slot first count rest fields few
 
@@ -105,21 +105,21 @@ module _ (slots taken : ℕ) (bytes : List ℕ) (k first count : ℕ) (slot rest
       )
 
       -- so does a first number that does not fit
-      pub first_breaks : (Fits s k first stale → ⊥) → IsFirstBroken slots bytes taken k 0
+      pub first_breaks : (FitsSlot s k first stale → ⊥) → IsFirstBroken slots bytes taken k 0
       first_breaks unfit = record {
         field = refl;
         counted = counted;
         broken = misfit_follow slots taken bytes k s read within counted stale stale_at
-            (λ fits. unfit (subst (λ n. Fits s k n stale) (sym first_at) fits));
+            (λ fits. unfit (subst (λ n. FitsSlot s k n stale) (sym first_at) fits));
       }
 
-      module _ (fits : Fits s k first stale) where
+      module _ (fits : FitsSlot s k first stale) where
         follows : FollowsOn slots bytes taken k
         follows = fits_follow slots taken bytes k s read within counted stale stale_at
-            (subst (λ n. Fits s k n stale) first_at fits)
+            (subst (λ n. FitsSlot s k n stale) first_at fits)
 
         -- and a point out of range
-        pub point_breaks : (i : ℕ) → i < count → All InRange (points_in i rest)
+        pub point_breaks : (i : ℕ) → i < count → All InRange (slot_points i rest)
             → (InRange (point_at (drop (16 * i) rest)) → ⊥)
             → IsPointBroken slots bytes taken k (10 + 16 * i) i
         point_breaks i there before outside = record {
@@ -137,12 +137,12 @@ module _ (slots taken : ℕ) (bytes : List ℕ) (k first count : ℕ) (slot rest
                 ∙ ap (drop (10 + 16 * i)) at_slot.here
 
         -- what a batch holds beyond the summary
-        beyond_at : points_beyond taken (batch_at slots bytes k) ≡ points_in (cond stale 0 count) rest
+        beyond_at : points_beyond taken (batch_at slots bytes k) ≡ slot_points (cond stale 0 count) rest
         beyond_at = elim (cases_Bool stale) [
           | inl told ↦ beyond_stale taken (batch_at slots bytes k) (stale_at.0 told)
-              ∙ ap (λ b. points_in (cond b 0 count) rest) (sym told)
+              ∙ ap (λ b. slot_points (cond b 0 count) rest) (sym told)
           | inr untold ↦ beyond_all taken (batch_at slots bytes k) (not_stale untold) ∙ points_at few
-              ∙ ap (λ b. points_in (cond b 0 count) rest) (sym untold)
+              ∙ ap (λ b. slot_points (cond b 0 count) rest) (sym untold)
         ]
           where
             not_stale : stale ≡ false → taken < (batch_at slots bytes k).first +
@@ -152,8 +152,8 @@ module _ (slots taken : ℕ) (bytes : List ℕ) (k first count : ℕ) (slot rest
                 (cases_lt taken ((batch_at slots bytes k).first + (batch_at slots bytes k).count))
 
         -- else the slot is taken in
-        pub taken_in : (new : Scanned) → All InRange (points_in count rest) → new.points.items
-            ≡ s.points.items ++ points_in (cond stale 0 count) rest
+        pub taken_in : (new : Scanned) → All InRange (slot_points count rest) → new.points.items
+            ≡ s.points.items ++ slot_points (cond stale 0 count) rest
             → new.lane.used ≡ k + 1 → new.stale ≡ stale → IsRead slots taken bytes (k + 1) new
         taken_in new inside points used told =
             read_open slots taken bytes k s new stale read at_slot.opened

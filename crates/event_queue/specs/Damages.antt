@@ -28,20 +28,20 @@ pub record IsPointBroken (slots : ℕ) (bytes : List ℕ) (taken k o i : ℕ) : 
   pub broken : InRange (point_at (drop (10 + 16 * i) (slot_at slots bytes k))) → ⊥
 
 -- the first field of slot k that breaks the layout begins so many bytes behind the slot's beginning
-abbrev pub BreaksAt : ℕ → List ℕ → ℕ → ℕ → ℕ → Type 0
-BreaksAt slots bytes taken k o =
+abbrev pub BreaksSlotAt : ℕ → List ℕ → ℕ → ℕ → ℕ → Type 0
+BreaksSlotAt slots bytes taken k o =
     IsCountBroken slots bytes k o
     ⊎ (IsFirstBroken slots bytes taken k o ⊎ ((i : ℕ) × IsPointBroken slots bytes taken k o i))
 
 -- slot k is open and breaks the layout, and no open one before it does
-pub record IsBroken (slots : ℕ) (bytes : List ℕ) (taken a : ℕ) (byte : Option ℕ) (k o : ℕ) : Type 0 where
+pub record IsSlotDamaged (slots : ℕ) (bytes : List ℕ) (taken a : ℕ) (byte : Option ℕ) (k o : ℕ) : Type 0 where
   pub within : k < slots
   pub before : IsLane slots bytes taken k
   pub opened : IsOpen (gate_of k) bytes
-  pub breaks : BreaksAt slots bytes taken k o
+  pub breaks : BreaksSlotAt slots bytes taken k o
   pub place : a ≡ place_of slots k + o
   pub byte_there : byte ≡ Some (slice_index bytes a)
 
 -- the first damage of a lane
 abbrev pub IsLaneDamage : ℕ → List ℕ → ℕ → ℕ → Option ℕ → Type 0
-IsLaneDamage slots bytes taken a byte = (k : ℕ) × (o : ℕ) × IsBroken slots bytes taken a byte k o
+IsLaneDamage slots bytes taken a byte = (k : ℕ) × (o : ℕ) × IsSlotDamaged slots bytes taken a byte k o

@@ -18,14 +18,14 @@ abbrev pub points_beyond : ℕ → Batch → List Point
 points_beyond taken b = if nat_le (b.first + b.count) taken then [] else b.points
 
 -- what slot k holds beyond the summary: nothing where its gate is closed
-abbrev pub points_of : ℕ → List ℕ → ℕ → ℕ → List Point
-points_of slots bytes taken k =
+abbrev pub slot_points_of : ℕ → List ℕ → ℕ → ℕ → List Point
+slot_points_of slots bytes taken k =
     if slice_index bytes (gate_of k) == open_byte then points_beyond taken (batch_at slots bytes k) else []
 
 -- what the first n slots hold beyond the summary, in order
 abbrev pub points_before : ℕ → List ℕ → ℕ → ℕ → List Point
 points_before slots bytes taken zero = []
-points_before slots bytes taken (suc n) = points_before slots bytes taken n ++ points_of slots bytes taken n
+points_before slots bytes taken (suc n) = points_before slots bytes taken n ++ slot_points_of slots bytes taken n
 
 -- what the whole lane holds beyond the summary
 abbrev pub lane_points : ℕ → List ℕ → ℕ → List Point

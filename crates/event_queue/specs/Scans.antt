@@ -28,6 +28,6 @@ pub record IsRead (slots taken : ℕ) (bytes : List ℕ) (n : ℕ) (s : Scanned)
       × IsStale taken (batch_at slots bytes k))
 
 -- a batch with this first number may stand in slot k, behind what was read
-abbrev pub Fits : Scanned → ℕ → ℕ → Bool → Type 0
-Fits s k first true = (s.stale ≡ true) ⊎ (s.lane.used ≡ 0)
-Fits s k first false = (s.stale ≡ false) × (s.lane.used ≡ k) × (s.lane.next ≡ first)
+abbrev pub FitsSlot : Scanned → ℕ → ℕ → Bool → Type 0
+FitsSlot s k first true = (s.stale ≡ true) ⊎ (s.lane.used ≡ 0)
+FitsSlot s k first false = (s.stale ≡ false) × (s.lane.used ≡ k) × (s.lane.next ≡ first)

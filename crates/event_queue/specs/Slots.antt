@@ -31,9 +31,9 @@ batch_bytes first points = number_bytes 8 first
     ++ (number_bytes 2 (length points) ++ flat_map point_bytes points)
 
 -- the n points that stand one after the other
-abbrev pub points_in : ℕ → List ℕ → List Point
-points_in zero bytes = []
-points_in (suc n) bytes = point_at bytes ∷ points_in n (drop 16 bytes)
+abbrev pub slot_points : ℕ → List ℕ → List Point
+slot_points zero bytes = []
+slot_points (suc n) bytes = point_at bytes ∷ slot_points n (drop 16 bytes)
 
 -- the count that stands in a slot
 abbrev pub count_in : List ℕ → ℕ
@@ -44,7 +44,7 @@ abbrev pub batch_in : List ℕ → Batch
 batch_in slot = record {
   first = from_be_bytes w64 (take 8 slot);
   count = count_in slot;
-  points = points_in (min 64 (count_in slot)) (drop 10 slot);
+  points = slot_points (min 64 (count_in slot)) (drop 10 slot);
 }
 
 -- the bytes of slot k

@@ -8,7 +8,7 @@ ghost use Rattle.disk_model.specs.Gates.{open_byte};
 ghost use Rattle.event_queue.specs.Slots.{place_of, lane_end};
 ghost use Rattle.event_queue.specs.Damages.{IsLaneDamage};
 ghost use Rattle.event_queue.specs.Pieces.{IsOpenSlot, IsPiece};
-ghost use Rattle.event_queue.specs.Scans.{IsWithin, IsRead, Fits};
+ghost use Rattle.event_queue.specs.Scans.{IsWithin, IsRead, FitsSlot};
 
 use crate::slot::{
     BATCH_MOST, FIRST_GATE, POINT_LEN, SLOT_LEN, add_points, first_out_of_range, slot_place,
@@ -197,7 +197,7 @@ impl Scanned {
 
     // Whether the first number of a batch fits the slots before it.
     fn follows(&self, k: u32, first: u64, stale: bool) -> bool
-        ensures { IsTrue result ↔ Fits self.now k first stale }
+        ensures { IsTrue result ↔ FitsSlot self.now k first stale }
     {
         if stale {
             self.stale || self.lane.used == 0

@@ -4,7 +4,7 @@ ghost use Rattle.std.specs.Int.{w16, from_be_bytes};
 ghost use Rattle.std.specs.List.{All};
 ghost use Rattle.trend_num.specs.Ranges.{InRange};
 ghost use Rattle.archive_file.specs.Fields.{point_at};
-ghost use Rattle.event_queue.specs.Slots.{place_of, batch_bytes, points_in};
+ghost use Rattle.event_queue.specs.Slots.{place_of, batch_bytes, slot_points};
 
 use archive_file::{put, put_point, take_point};
 use arrayvec::ArrayVec;
@@ -61,9 +61,9 @@ pub(crate) fn take_count(bytes: &[u8]) -> (u16, &[u8])
 pub(crate) fn first_out_of_range(bytes: &[u8], count: usize) -> Option<usize>
     requires { 16 * count ≤ length bytes.now }
     ensures there { IfSome result (λ i. i < count) }
-    ensures before { IfSome result (λ i. All InRange (points_in i bytes.now)) }
+    ensures before { IfSome result (λ i. All InRange (slot_points i bytes.now)) }
     ensures broken { IfSome result (λ i. InRange (point_at (drop (16 * i) bytes.now)) → ⊥) }
-    ensures none { IfNone result (All InRange (points_in count bytes.now)) }
+    ensures none { IfNone result (All InRange (slot_points count bytes.now)) }
 {
     let mut rest = bytes;
     for i in 0..count {
@@ -83,7 +83,7 @@ pub(crate) fn add_points(
     count: usize,
 ) -> Result<(), AllocError>
     requires { 16 * count ≤ length bytes.now }
-    ensures { OnOk result (points.new.items ≡ points.old.items ++ points_in count bytes.now) }
+    ensures { OnOk result (points.new.items ≡ points.old.items ++ slot_points count bytes.now) }
 {
     let mut rest = bytes;
     for _i in 0..count {

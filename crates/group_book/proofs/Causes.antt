@@ -10,8 +10,8 @@ use Rattle.calc_refresh.specs.declared.refusal.SheetNo.TheVariants as sheet
 use Rattle.calc_refresh.specs.Refreshed.{limit_fault, most_cells, most_copies}
 use Rattle.group_book.specs.declared.refusal.RefreshNo.{RefreshNo}
 use Rattle.group_book.specs.declared.refusal.RefreshNo.TheVariants.{Ahead, CellLimit, CopyLimit, WantOfMemory}
-use Rattle.group_book.specs.Refusals.{IsAheadAt, IsPullCause, IsRefreshCause, IsToldOf}
-use Rattle.group_book.specs.Told.{GivesNone, GoesOn, IsPublished, Told, pulled_records}
+use Rattle.group_book.specs.Refusals.{IsAheadAt, IsPullCause, IsRefreshCause, IsBookToldOf}
+use Rattle.group_book.specs.Told.{GivesNone, GoesOn, IsPublished, ToldBook, pulled_records}
 
 -- one pull that is refused refuses all
 pub one_refused : (versions : List ℕ) (i from : ℕ) (why : RefreshNo) → i < length versions → from ≡ get_or versions i 0
@@ -58,7 +58,7 @@ limit_copies cells records told is = go (nat_lt most_cells cells) (nat_lt most_c
     go false false above e = absurd (cc (e))
 
 -- a sheet that is refused refuses the refresh
-pub sheet_refused : (versions : List ℕ) (cells records : ℕ) (why : RefreshNo) → IsToldOf (limit_fault cells records) why
+pub sheet_refused : (versions : List ℕ) (cells records : ℕ) (why : RefreshNo) → IsBookToldOf (limit_fault cells records) why
     → IsRefreshCause versions why
 sheet_refused versions cells records (Ahead input version at) told = absurd told
 sheet_refused versions cells records (CellLimit n) told = limit_cells cells records n told
@@ -67,7 +67,7 @@ sheet_refused versions cells records WantOfMemory told = tt
 
 -- of a refusal
 pub sheet_refuses : {T : Type 0} (versions : List ℕ) (cells records : ℕ) (r : Result T RefreshNo)
-    → IfErr r (IsToldOf (limit_fault cells records)) → IfErr r (IsRefreshCause versions)
+    → IfErr r (IsBookToldOf (limit_fault cells records)) → IfErr r (IsRefreshCause versions)
 sheet_refuses versions cells records (Ok x) told = tt
 sheet_refuses versions cells records (Err why) told = sheet_refused versions cells records why told
 
@@ -124,7 +124,7 @@ goes_from versions copies ps are same goes = record {
 }
 
 -- what was published, with what was pulled
-pub with_pulls : {T E D : Type 0} (r : Result T E) (mores : List (List Rec)) (old new : Told D) (tags : List ℕ) (cells : ℕ)
+pub with_pulls : {T E D : Type 0} (r : Result T E) (mores : List (List Rec)) (old new : ToldBook D) (tags : List ℕ) (cells : ℕ)
     → OnOk r (IsPublished mores old new) → GivesNone tags cells mores
     → OnOk r ((x : List (List Rec)) × IsPublished x old new × GivesNone tags cells x)
 with_pulls (Ok x) mores old new tags cells published none = (mores, published, none)

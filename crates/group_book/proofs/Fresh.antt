@@ -9,8 +9,8 @@ use Rattle.calc_refresh.specs.Refreshed.{fresh}
 use Rattle.calc_refresh.specs.Sheet.{IsGrid, IsGroup, SheetState, grid_of}
 use Rattle.sheet_law.specs.Scratch.{IsScratch}
 use Rattle.group_book.specs.declared.history.GroupOpening.{GroupOpening}
-use Rattle.group_book.specs.Crashes.{IsSafe}
-use Rattle.group_book.specs.Histories.{IsLegal}
+use Rattle.group_book.specs.Crashes.{IsBookSafe}
+use Rattle.group_book.specs.Histories.{IsBookLegal}
 use Rattle.group_book.specs.Tapes.{cut}
 use Rattle.group_book.specs.Told.{IsDefined, IsKept, Saved}
 use Rattle.group_book.proofs.Cuts.{cut-all}
@@ -53,7 +53,7 @@ module _ (def made : GroupDefParts) (same : made ≡ def) (o : GroupOpening) (s 
     tags_are = long;
   })
 
-  pub fresh_legal : IsLegal made.calcs (grid_of made.start made.period) o [] vs s.copies s.rows
+  pub fresh_legal : IsBookLegal made.calcs (grid_of made.start made.period) o [] vs s.copies s.rows
   fresh_legal = record {
     turns = tt;
     last = vs_are ∙ sym opened;
@@ -78,5 +78,5 @@ module _ (def made : GroupDefParts) (same : made ≡ def) (o : GroupOpening) (s 
     cause = λ failed. absurd (cc (failed));
   }
 
-  pub fresh_safe : (text : List ℕ) → IsSafe text made.calcs (grid_of made.start made.period) o s.copies [] (LeftSince None)
+  pub fresh_safe : (text : List ℕ) → IsBookSafe text made.calcs (grid_of made.start made.period) o s.copies [] (LeftSince None)
   fresh_safe text = record { images = λ right t c since left. absurd left.image }

@@ -10,9 +10,9 @@ use Rattle.sheet_law.specs.Touched.{longer}
 use Rattle.group_book.specs.declared.refusal.RefreshNo.{RefreshNo}
 use Rattle.group_book.specs.declared.refusal.RefreshNo.TheVariants.{Ahead, CellLimit, CopyLimit, WantOfMemory}
 use Rattle.group_book.specs.InputLists.{ArePullsOf, IsListsRefusal, IsPullAhead, IsPullOf, IsPullRefusal, lists_at}
-use Rattle.group_book.specs.Refusals.{IsToldOf}
+use Rattle.group_book.specs.Refusals.{IsBookToldOf}
 use Rattle.group_book.specs.Tapes.{cut, uncut}
-use Rattle.group_book.specs.Told.{GoesOn, Told, pulled_records, versions_of}
+use Rattle.group_book.specs.Told.{GoesOn, ToldBook, pulled_records, versions_of}
 use Rattle.group_book.proofs.Causes.{goes_from, goes_more}
 
 -- ---- what is behind the first records
@@ -108,7 +108,7 @@ list_ahead lists versions i (CopyLimit records) within is = absurd is
 list_ahead lists versions i WantOfMemory within is = tt
 
 -- and refuses the book
-pub ahead_refuses : {D : Type 0} (lists : List (List Rec)) (book : Told D) (why : RefreshNo) → IsPullAhead lists (versions_of book) why
+pub ahead_refuses : {D : Type 0} (lists : List (List Rec)) (book : ToldBook D) (why : RefreshNo) → IsPullAhead lists (versions_of book) why
     → IsListsRefusal lists book why
 ahead_refuses lists book (Ahead input version records) is = is
 ahead_refuses lists book (CellLimit cells) is = absurd is
@@ -116,8 +116,8 @@ ahead_refuses lists book (CopyLimit records) is = absurd is
 ahead_refuses lists book WantOfMemory is = tt
 
 -- so does a sheet that would be too large
-pub sheet_refuses_lists : {D : Type 0} (lists : List (List Rec)) (book : Told D) (mores : List (List Rec)) (why : RefreshNo)
-    → mores ≡ uncut (versions_of book) lists → IsToldOf (fault_after book.sheet mores) why → IsListsRefusal lists book why
+pub sheet_refuses_lists : {D : Type 0} (lists : List (List Rec)) (book : ToldBook D) (mores : List (List Rec)) (why : RefreshNo)
+    → mores ≡ uncut (versions_of book) lists → IsBookToldOf (fault_after book.sheet mores) why → IsListsRefusal lists book why
 sheet_refuses_lists lists book mores (Ahead input version records) is told = absurd told
 sheet_refuses_lists lists book mores (CellLimit cells) is told = ap (fault_after book.sheet) (sym is) ∙ told
 sheet_refuses_lists lists book mores (CopyLimit records) is told = ap (fault_after book.sheet) (sym is) ∙ told

@@ -19,9 +19,9 @@ use Rattle.group_layout.proofs.RowsAdded.{cell_past}
 use Rattle.group_book.specs.declared.turn.Turn.{Turn}
 use Rattle.group_book.specs.declared.turn.Turn.TheVariants.{Refresh, Ask}
 use Rattle.group_book.specs.declared.history.GroupOpening.{GroupOpening}
-use Rattle.group_book.specs.Tapes.{cut, saved_at, start, versions_since, walked}
-use Rattle.group_book.specs.Histories.{IsLegal, IsRight, NeverFall, scratch_at}
-use Rattle.group_book.specs.Crashes.{IsSafe, StandsForOne}
+use Rattle.group_book.specs.Tapes.{cut, saved_at, book_start, versions_since, book_walked}
+use Rattle.group_book.specs.Histories.{IsBookLegal, IsRight, NeverFall, scratch_at}
+use Rattle.group_book.specs.Crashes.{IsBookSafe, StandsForOne}
 use Rattle.group_book.specs.Told.{IsKept, Saved}
 use Rattle.group_book.proofs.Cuts.{cut-all, cut-longer, longer_rises, never_refl}
 use Rattle.group_book.proofs.Turns.{contains_left, fit_longer, fit_push, right_back, saved-ask, saved-refresh, saved_rises, since-ask, since-refresh, since_rises, walk_rises, walked-push}
@@ -53,25 +53,25 @@ cell_scratch g w rss rows calc k scratch = go (nat_lt k (complete_windows w rss)
 -- ---- a question
 
 module _ (g : Group) (grid : Grid) (o : GroupOpening) (tape : List Turn) (versions : List ℕ) (copies : List (List Rec))
-    (rows : List (List CalcValue)) (legal : IsLegal g grid o tape versions copies rows) where
+    (rows : List (List CalcValue)) (legal : IsBookLegal g grid o tape versions copies rows) where
   -- the copies are cut to what they have
-  cut_here : cut (walked (start o) tape).versions copies ≡ copies
+  cut_here : cut (book_walked (book_start o) tape).versions copies ≡ copies
   cut_here = ap (λ v. cut v copies) (sym legal.last ∙ legal.copied) ∙ cut-all copies
 
   -- the versions at the end are those of the copies
-  pub at_end : (walked (start o) tape).versions ≡ map length copies
+  pub at_end : (book_walked (book_start o) tape).versions ≡ map length copies
   at_end = sym legal.last ∙ legal.copied
 
   -- the opening is not above them
   pub opened_low : NeverFall o.versions.items (map length copies)
-  opened_low = subst (NeverFall o.versions.items) at_end (walk_rises g grid o copies (start o) tape legal.turns)
+  opened_low = subst (NeverFall o.versions.items) at_end (walk_rises g grid o copies (book_start o) tape legal.turns)
 
-  pub legal_asked : (reader row calc k : ℕ) → IsLegal g grid o (tape ++ Ask reader row calc k (cell_of rows calc k) ∷ []) versions copies rows
+  pub legal_asked : (reader row calc k : ℕ) → IsBookLegal g grid o (tape ++ Ask reader row calc k (cell_of rows calc k) ∷ []) versions copies rows
   legal_asked reader row calc k = record {
-    turns = fit_push g grid o copies (start o) tape (Ask reader row calc k (cell_of rows calc k)) legal.turns
+    turns = fit_push g grid o copies (book_start o) tape (Ask reader row calc k (cell_of rows calc k)) legal.turns
         (λ right. cell_scratch g grid copies rows calc k (legal.scratch right)
         ∙ ap (λ rss. scratch_at g grid rss calc k) (sym cut_here));
-    last = legal.last ∙ ap (λ w. w.versions) (sym (walked-push (start o) tape (Ask reader row calc k (cell_of rows calc k))));
+    last = legal.last ∙ ap (λ w. w.versions) (sym (walked-push (book_start o) tape (Ask reader row calc k (cell_of rows calc k))));
     copied = legal.copied;
     scratch = legal.scratch;
   }
@@ -81,27 +81,27 @@ module _ (g : Group) (grid : Grid) (o : GroupOpening) (tape : List Turn) (versio
   module _ (mores : List (List Rec)) (rows_after : List (List CalcValue)) (new : Vec ℕ Global)
       (new_are : new.items ≡ map length (longer copies mores))
       (scratch : IsScratch g grid copies rows → IsScratch g grid (longer copies mores) rows_after) where
-    pub legal_refreshed : IsLegal g grid o (tape ++ Refresh new ∷ []) new.items (longer copies mores) rows_after
+    pub legal_refreshed : IsBookLegal g grid o (tape ++ Refresh new ∷ []) new.items (longer copies mores) rows_after
     legal_refreshed = record {
-      turns = fit_push g grid o (longer copies mores) (start o) tape (Refresh new)
-          (fit_longer g grid o copies mores (start o) tape opened_low
+      turns = fit_push g grid o (longer copies mores) (book_start o) tape (Refresh new)
+          (fit_longer g grid o copies mores (book_start o) tape opened_low
           (subst (λ v. NeverFall v (map length copies)) (sym at_end) (never_refl (map length copies))) legal.turns)
-          (subst (NeverFall (walked (start o) tape).versions) (sym new_are)
+          (subst (NeverFall (book_walked (book_start o) tape).versions) (sym new_are)
           (subst (λ v. NeverFall v (map length (longer copies mores))) (sym at_end) (longer_rises copies mores)));
-      last = ap (λ w. w.versions) (sym (walked-push (start o) tape (Refresh new)));
+      last = ap (λ w. w.versions) (sym (walked-push (book_start o) tape (Refresh new)));
       copied = new_are;
       scratch = λ right. scratch (legal.scratch (right_back g grid o copies mores opened_low right));
     }
 
     -- what stood for one of the versions stands for it
-    pub safe_refreshed : (text : List ℕ) (left : ℕ → List ℕ → Type 0) → IsSafe text g grid o copies tape left
-        → IsSafe text g grid o (longer copies mores) (tape ++ Refresh new ∷ []) left
+    pub safe_refreshed : (text : List ℕ) (left : ℕ → List ℕ → Type 0) → IsBookSafe text g grid o copies tape left
+        → IsBookSafe text g grid o (longer copies mores) (tape ++ Refresh new ∷ []) left
     safe_refreshed text left safe = record {
       images = λ right t c since there.
           let one = safe.images (right_back g grid o copies mores opened_low right) t c since there in
           let list = versions_since t o.versions.items (o.versions.items ∷ []) tape in
           let low = subst (NeverFall (get_or list one.among.0 one.versions)) at_end
-          (since_rises g grid o copies t (start o) (o.versions.items ∷ []) tape legal.turns
+          (since_rises g grid o copies t (book_start o) (o.versions.items ∷ []) tape legal.turns
           (All-cons (λ v. NeverFall v o.versions.items) o.versions.items [] (never_refl o.versions.items)
           (All-nil (λ v. NeverFall v o.versions.items))) one.among.0 one.versions one.among.1) in
           record {
@@ -126,8 +126,8 @@ kept_asked text def o tape copies saved failed trace ticks faults reader row cal
   scratch = kept.scratch;
   versions = kept.versions ∙ sym (saved-ask o.versions.items o.versions.items tape reader row calc k reply);
   inputs = kept.inputs;
-  number = subst (λ w. IfSome w.number (λ n. n ≡ saved.number)) (sym (walked-push (start o) tape (Ask reader row calc k reply))) kept.number;
-  past = subst (λ w. w.moment ≤ ticks) (sym (walked-push (start o) tape (Ask reader row calc k reply))) kept.past;
+  number = subst (λ w. IfSome w.number (λ n. n ≡ saved.number)) (sym (walked-push (book_start o) tape (Ask reader row calc k reply))) kept.number;
+  past = subst (λ w. w.moment ≤ ticks) (sym (walked-push (book_start o) tape (Ask reader row calc k reply))) kept.past;
   opened_before = kept.opened_before;
   faultless = kept.faultless;
   cause = kept.cause;
@@ -135,7 +135,7 @@ kept_asked text def o tape copies saved failed trace ticks faults reader row cal
 
 pub safe_asked : (text : List ℕ) (g : Group) (grid : Grid) (o : GroupOpening) (copies : List (List Rec)) (tape : List Turn)
     (left : ℕ → List ℕ → Type 0) (reader row calc k : ℕ) (reply : Option CalcValue)
-    → IsSafe text g grid o copies tape left → IsSafe text g grid o copies (tape ++ Ask reader row calc k reply ∷ []) left
+    → IsBookSafe text g grid o copies tape left → IsBookSafe text g grid o copies (tape ++ Ask reader row calc k reply ∷ []) left
 safe_asked text g grid o copies tape left reader row calc k reply safe = record {
   images = λ right t c since there.
       subst (λ l. StandsForOne text g grid copies l c)
@@ -145,7 +145,7 @@ safe_asked text g grid o copies tape left reader row calc k reply safe = record 
 pub kept_refreshed : (text : List ℕ) (def : GroupDefParts) (o : GroupOpening) (tape : List Turn) (versions : List ℕ)
     (copies : List (List Rec)) (rows : List (List CalcValue)) (mores : List (List Rec)) (new : Vec ℕ Global) (saved : Saved)
     (failed : Bool) (trace : Option Trace) (ticks faults : ℕ)
-    → IsLegal def.calcs (grid_of def.start def.period) o tape versions copies rows
+    → IsBookLegal def.calcs (grid_of def.start def.period) o tape versions copies rows
     → IsKept text def o tape copies saved failed trace ticks faults
     → IsKept text def o (tape ++ Refresh new ∷ []) (longer copies mores) saved failed trace ticks faults
 kept_refreshed text def o tape versions copies rows mores new saved failed trace ticks faults legal kept = record {
@@ -155,8 +155,8 @@ kept_refreshed text def o tape versions copies rows mores new saved failed trace
       (sym (cut-longer saved.versions copies mores low)) (kept.scratch (back right));
   versions = kept.versions ∙ sym (saved-refresh o.versions.items o.versions.items tape new);
   inputs = kept.inputs;
-  number = subst (λ w. IfSome w.number (λ n. n ≡ saved.number)) (sym (walked-push (start o) tape (Refresh new))) kept.number;
-  past = subst (λ w. w.moment ≤ ticks) (sym (walked-push (start o) tape (Refresh new))) kept.past;
+  number = subst (λ w. IfSome w.number (λ n. n ≡ saved.number)) (sym (walked-push (book_start o) tape (Refresh new))) kept.number;
+  past = subst (λ w. w.moment ≤ ticks) (sym (walked-push (book_start o) tape (Refresh new))) kept.past;
   opened_before = kept.opened_before;
   faultless = kept.faultless;
   cause = kept.cause;
@@ -171,5 +171,5 @@ kept_refreshed text def o tape versions copies rows mores new saved failed trace
     low = subst (λ v. NeverFall v (map length copies)) (sym kept.versions)
         (subst (NeverFall (saved_at o.versions.items o.versions.items tape))
         (at_end def.calcs (grid_of def.start def.period) o tape versions copies rows legal)
-        (saved_rises def.calcs (grid_of def.start def.period) o copies (start o) o.versions.items tape legal.turns
+        (saved_rises def.calcs (grid_of def.start def.period) o copies (book_start o) o.versions.items tape legal.turns
         (never_refl o.versions.items)))

@@ -26,11 +26,11 @@ use Rattle.group_layout.specs.Readings.{IsReadOf}
 use Rattle.group_book.specs.declared.history.GroupOpening.{GroupOpening}
 use Rattle.group_book.specs.declared.refusal.LoadNo.{LoadNo}
 use Rattle.group_book.specs.declared.refusal.LoadNo.TheVariants.{DeviceFault, Damaged, Ahead, Shape, WantOfMemory}
-use Rattle.group_book.specs.Crashes.{IsSafe}
-use Rattle.group_book.specs.Histories.{IsLegal, IsRight}
-use Rattle.group_book.specs.Openings.{IsAhead, IsCause, IsRefused, StandsForGroup, scan_refusal}
+use Rattle.group_book.specs.Crashes.{IsBookSafe}
+use Rattle.group_book.specs.Histories.{IsBookLegal, IsRight}
+use Rattle.group_book.specs.Openings.{IsAhead, IsBookCause, IsRefused, StandsForGroup, scan_refusal}
 use Rattle.group_book.specs.Tapes.{cut}
-use Rattle.group_book.specs.Told.{Holds, IsKept, IsReady, Saved}
+use Rattle.group_book.specs.Told.{HoldsBlocks, IsKept, IsReady, Saved}
 use Rattle.group_book.proofs.Cuts.{cut-all}
 use Rattle.group_book.proofs.Saving.{holds_now}
 
@@ -174,10 +174,10 @@ module _ (text : List ℕ) (def : GroupDefParts) (o : GroupOpening) (copies : Li
       subst (λ rss. IsScratch def.calcs (grid_of def.start def.period) rss saved.rows) (sym (cut_all saved.versions saved_versions))
       (subst (IsScratch def.calcs (grid_of def.start def.period) copies) (sym saved_rows) (right_rows right))
 
-  pub opened_legal : IsLegal def.calcs (grid_of def.start def.period) o [] vs copies rows
+  pub opened_legal : IsBookLegal def.calcs (grid_of def.start def.period) o [] vs copies rows
   opened_legal = record { turns = tt; last = sym opened; copied = sym copied; scratch = right_rows }
 
-  module _ (trace : Option Trace) (ready : IfSome trace (IsReady saved.end)) (holds : IfSome trace (λ t. Holds text def saved (seen (Some t))))
+  module _ (trace : Option Trace) (ready : IfSome trace (IsReady saved.end)) (holds : IfSome trace (λ t. HoldsBlocks text def saved (seen (Some t))))
       (ticks faults : ℕ) (moment : o.moment ≡ ticks) where
     pub opened_kept : length vs ≡ def.inputs → faults ≡ o.faults → IsKept text def o [] copies saved false trace ticks faults
     opened_kept inputs same = record {
@@ -194,7 +194,7 @@ module _ (text : List ℕ) (def : GroupDefParts) (o : GroupOpening) (copies : Li
     }
 
     pub opened_safe : length def.calcs.inputs ≡ def.inputs → IfSome trace (λ t. length t.calls ≡ ticks)
-        → IsSafe text def.calcs (grid_of def.start def.period) o copies [] (LeftSince trace)
+        → IsBookSafe text def.calcs (grid_of def.start def.period) o copies [] (LeftSince trace)
     opened_safe named told = record {
       images = λ right t c since left.
           let has = holds_now text def saved trace ready holds c (only_since trace ticks t c told (omega (arith, since, moment)) left) in
@@ -211,7 +211,7 @@ module _ (text : List ℕ) (def : GroupDefParts) (o : GroupOpening) (copies : Li
 -- a device on which this was read
 pub loaded_holds : (text : List ℕ) (def : GroupDefParts) (g : SavedGroup) (o : Option Trace)
     → Shows o (λ c. IsReadOf text def.inputs (length def.calcs.calcs) c g)
-    → IfSome o (λ t. Holds text def (record { number = g.number; versions = g.versions.items; rows = lists_of g.rows.items; end = g.end }) (seen (Some t)))
+    → IfSome o (λ t. HoldsBlocks text def (record { number = g.number; versions = g.versions.items; rows = lists_of g.rows.items; end = g.end }) (seen (Some t)))
 loaded_holds text def g None read = tt
 loaded_holds text def g (Some t) read = record {
   blocks = read.blocks;
@@ -230,7 +230,7 @@ loaded_ready end (Some t) settled ready = record { settled = settled; shut = rea
 -- what was saved makes no sheet
 pub refused_cause : (text : List ℕ) (def : GroupDefParts) (recovered : List (List Rec)) (versions : List ℕ) (rows : List (List CalcValue))
     (o : Option Trace) (why : LoadNo) → Shows o (StandsForGroup text def versions rows) → IsRefused def recovered versions rows why
-    → IsCause text def recovered o why
+    → IsBookCause text def recovered o why
 refused_cause text def recovered versions rows o DeviceFault stood refused = tt
 refused_cause text def recovered versions rows o (Damaged a byte) stood refused = absurd refused
 refused_cause text def recovered versions rows None (Ahead input version records) stood refused = tt
@@ -245,7 +245,7 @@ refused_cause text def recovered versions rows o WantOfMemory stood refused = tt
 pub scan_cause : (text : List ℕ) (def : GroupDefParts) (recovered : List (List Rec)) (calcs : ℕ) → calcs ≡ length def.calcs.calcs
     → (o : Option Trace) (why : ScanNo)
     → ((a : ℕ) (byte : Option ℕ) → why ≡ scan.Damaged a byte → Shows o (λ c. IsGroupDamage text def.inputs calcs c a byte))
-    → IsCause text def recovered o (scan_refusal why)
+    → IsBookCause text def recovered o (scan_refusal why)
 scan_cause text def recovered calcs same o scan.DeviceFault damaged = tt
 scan_cause text def recovered calcs same o (scan.Damaged a byte) damaged =
     subst (λ n. Shows o (λ c. IsGroupDamage text def.inputs n c a byte)) same (damaged a byte refl)

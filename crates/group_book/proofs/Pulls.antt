@@ -12,12 +12,12 @@ use Rattle.disk_model.specs.Traces.{Trace}
 use Rattle.sheet_law.specs.declared.grid.Grid.{Grid}
 use Rattle.sheet_law.specs.Scratch.{IsScratch}
 use Rattle.group_book.specs.declared.history.GroupOpening.{GroupOpening}
-use Rattle.group_book.specs.Crashes.{IsSafe}
-use Rattle.group_book.specs.Histories.{IsLegal}
+use Rattle.group_book.specs.Crashes.{IsBookSafe}
+use Rattle.group_book.specs.Histories.{IsBookLegal}
 use Rattle.group_book.proofs.LegalTurns.{kept_refreshed, legal_refreshed, safe_refreshed}
 use Rattle.group_book.specs.declared.turn.Turn.{Turn}
 use Rattle.group_book.specs.declared.turn.Turn.TheVariants.{Refresh}
-use Rattle.group_book.specs.Told.{GoesOn, IsDefined, IsKept, IsPublished, Saved, Told, pulled_records}
+use Rattle.group_book.specs.Told.{GoesOn, IsDefined, IsKept, IsPublished, Saved, ToldBook, pulled_records}
 
 -- behind the first input
 tail_goes : (rs : List Rec) (copies : List (List Rec)) (p : Pulled) (ps : List Pulled) → GoesOn (rs ∷ copies) (p ∷ ps)
@@ -39,11 +39,11 @@ uptos_are (rs ∷ copies) (p ∷ ps) goes same =
 -- ---- a book that was refreshed
 
 -- with this tape and this sheet
-pub published_by : {D : Type 0} (mores : List (List Rec)) (old now : Told D) (sheet : SheetState) (tape : List Turn) (entry : Vec ℕ Global)
+pub published_by : {D : Type 0} (mores : List (List Rec)) (old now : ToldBook D) (sheet : SheetState) (tape : List Turn) (entry : Vec ℕ Global)
     → old ≡ now → tape ≡ old.tape ++ Refresh entry ∷ [] → entry.items ≡ map length sheet.copies
     → IsRefreshed old.sheet sheet mores → IsPublished mores now (record old { tape = tape; sheet = sheet })
 published_by mores old now sheet tape entry same told versions refreshed =
-    subst (λ (t : Told _). IsPublished mores t (record old { tape = tape; sheet = sheet })) same (record {
+    subst (λ (t : ToldBook _). IsPublished mores t (record old { tape = tape; sheet = sheet })) same (record {
       versions = entry;
       versions_are = versions;
       refreshed = refreshed;
@@ -60,13 +60,13 @@ versions_reached s t ps entry goes same refreshed are =
 pub book_refreshed : (text : List ℕ) (def : GroupDefParts) (tags : List ℕ) (o : GroupOpening) (tape tape' : List Turn) (versions versions' : List ℕ)
     (entry : Vec ℕ Global) (s t : SheetState) (mores : List (List Rec)) (saved : Saved) (failed : Bool) (trace : Option Trace)
     (ticks faults : ℕ) (left : ℕ → List ℕ → Type 0)
-    → IsDefined def tags s × IsLegal def.calcs (grid_of def.start def.period) o tape versions s.copies s.rows
+    → IsDefined def tags s × IsBookLegal def.calcs (grid_of def.start def.period) o tape versions s.copies s.rows
     × IsKept text def o tape s.copies saved failed trace ticks faults
-    × IsSafe text def.calcs (grid_of def.start def.period) o s.copies tape left
+    × IsBookSafe text def.calcs (grid_of def.start def.period) o s.copies tape left
     → IsRefreshed s t mores → entry.items ≡ map length t.copies → versions' ≡ map length t.copies → tape' ≡ tape ++ Refresh entry ∷ []
-    → IsDefined def tags t × IsLegal def.calcs (grid_of def.start def.period) o tape' versions' t.copies t.rows
+    → IsDefined def tags t × IsBookLegal def.calcs (grid_of def.start def.period) o tape' versions' t.copies t.rows
     × IsKept text def o tape' t.copies saved failed trace ticks faults
-    × IsSafe text def.calcs (grid_of def.start def.period) o t.copies tape' left
+    × IsBookSafe text def.calcs (grid_of def.start def.period) o t.copies tape' left
 book_refreshed text def tags o tape tape' versions versions' entry s t mores saved failed trace ticks faults left was refreshed reached same told = (
   record {
     group = was.0.group;
@@ -76,15 +76,15 @@ book_refreshed text def tags o tape tape' versions versions' entry s t mores sav
     copies = ap length refreshed.copies ∙ length-longer s.copies mores ∙ was.0.copies;
     tags_are = was.0.tags_are;
   },
-  subst (λ (us : List ℕ). IsLegal def.calcs grid o tape' us t.copies t.rows) (reached ∙ sym same)
-      (subst (λ (l : List Turn). IsLegal def.calcs grid o l entry.items t.copies t.rows) (sym told)
-      (subst (λ (rss : List (List Rec)). IsLegal def.calcs grid o (tape ++ Refresh entry ∷ []) entry.items rss t.rows) (sym refreshed.copies)
+  subst (λ (us : List ℕ). IsBookLegal def.calcs grid o tape' us t.copies t.rows) (reached ∙ sym same)
+      (subst (λ (l : List Turn). IsBookLegal def.calcs grid o l entry.items t.copies t.rows) (sym told)
+      (subst (λ (rss : List (List Rec)). IsBookLegal def.calcs grid o (tape ++ Refresh entry ∷ []) entry.items rss t.rows) (sym refreshed.copies)
       (legal_refreshed def.calcs grid o tape versions s.copies s.rows was.1 mores t.rows entry reached_here scratch))),
   subst (λ (l : List Turn). IsKept text def o l t.copies saved failed trace ticks faults) (sym told)
       (subst (λ (rss : List (List Rec)). IsKept text def o (tape ++ Refresh entry ∷ []) rss saved failed trace ticks faults) (sym refreshed.copies)
       (kept_refreshed text def o tape versions s.copies s.rows mores entry saved failed trace ticks faults was.1 was.2)),
-  subst (λ (l : List Turn). IsSafe text def.calcs grid o t.copies l left) (sym told)
-      (subst (λ (rss : List (List Rec)). IsSafe text def.calcs grid o rss (tape ++ Refresh entry ∷ []) left) (sym refreshed.copies)
+  subst (λ (l : List Turn). IsBookSafe text def.calcs grid o t.copies l left) (sym told)
+      (subst (λ (rss : List (List Rec)). IsBookSafe text def.calcs grid o rss (tape ++ Refresh entry ∷ []) left) (sym refreshed.copies)
       (safe_refreshed def.calcs grid o tape versions s.copies s.rows was.1 mores t.rows entry reached_here scratch text left was.3)),
 )
   where

@@ -26,7 +26,7 @@ use Rattle.sheet_law.specs.Scratch.{IsScratch, points_by, values_at}
 use Rattle.sheet_law.specs.Touched.{longer}
 use Rattle.sheet_law.specs.Windows.{complete_windows, window_from, window_to}
 use Rattle.sheet_law.proofs.Complete.{complete_grow}
-use Rattle.group_layout.specs.Blocks.{MayFollow, Parts, block_image, block_size, last_of, unsaved}
+use Rattle.group_layout.specs.Blocks.{MayFollow, BlockParts, block_image, block_size, last_of, unsaved}
 use Rattle.archive_file.specs.TextHeads.{blocks_at}
 use Rattle.group_layout.specs.Images.{ByBlocks, StandsFor}
 use Rattle.group_layout.specs.Rows.{AreRowsOf}
@@ -37,11 +37,11 @@ use Rattle.group_layout.proofs.Walks.{end_of-push, last_of-push}
 use Rattle.group_book.specs.declared.turn.Turn.{Turn}
 use Rattle.group_book.specs.declared.turn.Turn.TheVariants.{Refresh, Ask, Save}
 use Rattle.group_book.specs.declared.history.GroupOpening.{GroupOpening}
-use Rattle.group_book.specs.Tapes.{Walk, after_turn, cut, saved_at, start, versions_since, walked}
-use Rattle.group_book.specs.Histories.{IsLegal, IsRight, NeverFall}
-use Rattle.group_book.specs.Crashes.{IsSafe, StandsForOne}
-use Rattle.group_book.specs.Saves.{AreInRange, IsListed, IsOther, IsSame, ListsChanges}
-use Rattle.group_book.specs.Told.{Holds, IsKept, IsReady, Saved, count_of, trace_of}
+use Rattle.group_book.specs.Tapes.{BookWalk, after_turn, cut, saved_at, book_start, versions_since, book_walked}
+use Rattle.group_book.specs.Histories.{IsBookLegal, IsRight, NeverFall}
+use Rattle.group_book.specs.Crashes.{IsBookSafe, StandsForOne}
+use Rattle.group_book.specs.Saves.{AreValuesInRange, IsListed, IsOther, IsSame, ListsChanges}
+use Rattle.group_book.specs.Told.{HoldsBlocks, IsKept, IsReady, Saved, count_of, trace_of}
 use Rattle.group_book.proofs.Cuts.{cut-all, never_refl}
 use Rattle.group_book.proofs.LegalTurns.{cell_scratch}
 use Rattle.group_book.proofs.Turns.{contains_last, contains_left, fit_push, saved_rises, walked-push}
@@ -49,17 +49,17 @@ use Rattle.group_book.proofs.Turns.{contains_last, contains_left, fit_push, save
 -- ---- one save more on a tape
 
 -- the versions of the last save are those at the end
-saved-save : (w : Walk) (saved : List ℕ) (es : List Turn) (number moment : ℕ)
-    → saved_at w.versions saved (es ++ Save number moment ∷ []) ≡ (walked w es).versions
+saved-save : (w : BookWalk) (saved : List ℕ) (es : List Turn) (number moment : ℕ)
+    → saved_at w.versions saved (es ++ Save number moment ∷ []) ≡ (book_walked w es).versions
 saved-save w saved [] number moment = refl
 saved-save w saved (Refresh v ∷ es) number moment = saved-save (after_turn w (Refresh v)) saved es number moment
 saved-save w saved (Ask a b c d e ∷ es) number moment = saved-save w saved es number moment
 saved-save w saved (Save n m ∷ es) number moment = saved-save (after_turn w (Save n m)) w.versions es number moment
 
 -- from its moment on no others count
-since-save : (t : ℕ) (w : Walk) (since : List (List ℕ)) (es : List Turn) (number moment : ℕ)
+since-save : (t : ℕ) (w : BookWalk) (since : List (List ℕ)) (es : List Turn) (number moment : ℕ)
     → versions_since t w.versions since (es ++ Save number moment ∷ [])
-    ≡ (if nat_le moment t then (walked w es).versions ∷ [] else versions_since t w.versions since es)
+    ≡ (if nat_le moment t then (book_walked w es).versions ∷ [] else versions_since t w.versions since es)
 since-save t w since [] number moment = refl
 since-save t w since (Refresh v ∷ es) number moment =
     since-save t (after_turn w (Refresh v)) (since ++ v.items ∷ []) es number moment
@@ -68,9 +68,9 @@ since-save t w since (Save n m ∷ es) number moment =
     since-save t (after_turn w (Save n m)) (if nat_le m t then w.versions ∷ [] else since) es number moment
 
 -- the versions at the end, and those of the last save, are among those since a save
-since_has : (t : ℕ) (w : Walk) (saved : List ℕ) (since : List (List ℕ)) (es : List Turn) → Contains since w.versions
+since_has : (t : ℕ) (w : BookWalk) (saved : List ℕ) (since : List (List ℕ)) (es : List Turn) → Contains since w.versions
     → Contains since saved
-    → Contains (versions_since t w.versions since es) (walked w es).versions
+    → Contains (versions_since t w.versions since es) (book_walked w es).versions
     × Contains (versions_since t w.versions since es) (saved_at w.versions saved es)
 since_has t w saved since [] now last = (now, last)
 since_has t w saved since (Refresh v ∷ es) now last =
@@ -89,7 +89,7 @@ since_has t w saved since (Save n m ∷ es) now last =
 
 -- rows from scratch are in the range of numbers
 scratch_range : (g : Group) (grid : Grid) (copies : List (List Rec)) (rows : List (List CalcValue)) → IsScratch g grid copies rows
-    → AreInRange rows
+    → AreValuesInRange rows
 scratch_range g grid copies rows scratch = record {
   each = λ calc k v is. go calc k v (nat_lt k (complete_windows grid copies)) (sym (cell_scratch g grid copies rows calc k scratch) ∙ is);
 }
@@ -123,14 +123,14 @@ cut_windows grid vs rss some same =
 -- ---- the next block
 
 -- the block of a save
-pub record IsNextBlock (saved : Saved) (calcs : ℕ) (versions : List ℕ) (windows : ℕ) (rows : List (List CalcValue)) (b : Parts) : Type 0 where
+pub record IsNextBlock (saved : Saved) (calcs : ℕ) (versions : List ℕ) (windows : ℕ) (rows : List (List CalcValue)) (b : BlockParts) : Type 0 where
   pub number : b.number ≡ saved.number + 1
   pub versions_are : b.versions ≡ versions
   pub windows_are : b.windows ≡ windows
   pub changes : ListsChanges calcs b.windows saved.rows rows b.rows
 
 -- what was made for it is that block
-pub next_block_is : (def : GroupDefParts) (s : SheetState) (saved : Saved) (vs vs' : List ℕ) (old : List (Vec CalcValue Global)) (b : Parts)
+pub next_block_is : (def : GroupDefParts) (s : SheetState) (saved : Saved) (vs vs' : List ℕ) (old : List (Vec CalcValue Global)) (b : BlockParts)
     → s.group ≡ def.calcs → s.grid ≡ grid_of def.start def.period → b.number ≡ saved.number + 1 → b.versions ≡ vs' → vs' ≡ vs
     → b.windows ≡ complete_windows s.grid s.copies → lists_of old ≡ saved.rows
     → ListsChanges (length s.group.calcs) b.windows (lists_of old) s.rows b.rows
@@ -153,21 +153,21 @@ kept_there trace ticks faults text def o tape copies saved failed dev d there us
     (subst (λ f. IsKept text def o tape copies saved f (trace_of trace dev) (count_of ticks dev) (count_of faults dev)) usable kept)
 
 -- what a device has while it is written
-abbrev pub IsWriting : Parts → ℕ → Option Trace → List ℕ → Type 0
+abbrev pub IsWriting : BlockParts → ℕ → Option Trace → List ℕ → Type 0
 IsWriting b at old = FromOld old (IsGuarded (at + 1) (block_image b ++ 0 ∷ []) at)
 
 -- each image of a device that is ready has what is read
 pub holds_now : (text : List ℕ) (def : GroupDefParts) (saved : Saved) (o : Option Trace) → IfSome o (IsReady saved.end)
-    → IfSome o (λ t. Holds text def saved (seen (Some t))) → (d : List ℕ) → MayLeave o d → Holds text def saved d
+    → IfSome o (λ t. HoldsBlocks text def saved (seen (Some t))) → (d : List ℕ) → MayLeave o d → HoldsBlocks text def saved d
 holds_now text def saved None ready has d may = absurd may.image
-holds_now text def saved (Some t) ready has d may = subst (Holds text def saved) (sym (ready.settled.each d may)) has
+holds_now text def saved (Some t) ready has d may = subst (HoldsBlocks text def saved) (sym (ready.settled.each d may)) has
 
 module _ (text : List ℕ) (def : GroupDefParts) (o : GroupOpening) (tape : List Turn) (versions : List ℕ) (copies : List (List Rec))
     (rows : List (List CalcValue)) (saved : Saved) (old : Option Trace) (ticks faults : ℕ)
     (group : IsGroup def.inputs def.calcs) (grid : IsGrid (grid_of def.start def.period)) (inputs : length copies ≡ def.inputs)
-    (legal : IsLegal def.calcs (grid_of def.start def.period) o tape versions copies rows)
+    (legal : IsBookLegal def.calcs (grid_of def.start def.period) o tape versions copies rows)
     (kept : IsKept text def o tape copies saved false old ticks faults)
-    (b : Parts) (is : IsNextBlock saved (length def.calcs.calcs) versions (complete_windows (grid_of def.start def.period) copies) rows b) where
+    (b : BlockParts) (is : IsNextBlock saved (length def.calcs.calcs) versions (complete_windows (grid_of def.start def.period) copies) rows b) where
   abbrev IsFine : Type 0
   IsFine = IsRight def.calcs (grid_of def.start def.period) o copies
 
@@ -177,11 +177,11 @@ module _ (text : List ℕ) (def : GroupDefParts) (o : GroupOpening) (tape : List
   low : NeverFall saved.versions versions
   low = subst (λ v. NeverFall v versions) (sym kept.versions)
       (subst (NeverFall (saved_at o.versions.items o.versions.items tape)) (sym legal.last)
-      (saved_rises def.calcs (grid_of def.start def.period) o copies (start o) o.versions.items tape legal.turns
+      (saved_rises def.calcs (grid_of def.start def.period) o copies (book_start o) o.versions.items tape legal.turns
       (never_refl o.versions.items)))
 
   -- it may follow the blocks that are there
-  follows : IsFine → (d : List ℕ) → (h : Holds text def saved d) → MayFollow (length def.calcs.calcs) (last_of (unsaved def.inputs) h.blocks) b
+  follows : IsFine → (d : List ℕ) → (h : HoldsBlocks text def saved d) → MayFollow (length def.calcs.calcs) (last_of (unsaved def.inputs) h.blocks) b
   follows right d h = record {
     number = is.number ∙ ap (λ n. n + 1) (sym h.number);
     inputs = ap length is.versions_are ∙ low.inputs ∙ ap length (sym h.versions);
@@ -207,7 +207,7 @@ module _ (text : List ℕ) (def : GroupDefParts) (o : GroupOpening) (tape : List
       )
 
   -- with it the blocks give the rows
-  gives : IsFine → (d : List ℕ) → (h : Holds text def saved d) → AreRowsOf (length def.calcs.calcs) b.windows (h.blocks ++ b ∷ []) rows
+  gives : IsFine → (d : List ℕ) → (h : HoldsBlocks text def saved d) → AreRowsOf (length def.calcs.calcs) b.windows (h.blocks ++ b ∷ []) rows
   gives right d h =
       let now = legal.scratch right in
       rows_more (length def.calcs.calcs) (last_of (unsaved def.inputs) h.blocks) b h.blocks saved.rows rows h.has.rows_are now.calcs
@@ -223,25 +223,25 @@ module _ (text : List ℕ) (def : GroupDefParts) (o : GroupOpening) (tape : List
   next_saved = record { number = b.number; versions = versions; rows = rows; end = saved.end + block_size b }
 
   -- behind its open gate it is saved
-  holds_next : IsFine → (d c : List ℕ) → Holds text def saved d → IsGuarded (saved.end + 1) (block_image b ++ 0 ∷ []) saved.end d c
-      → IsOpen saved.end c → Holds text def next_saved c
+  holds_next : IsFine → (d c : List ℕ) → HoldsBlocks text def saved d → IsGuarded (saved.end + 1) (block_image b ++ 0 ∷ []) saved.end d c
+      → IsOpen saved.end c → HoldsBlocks text def next_saved c
   holds_next right d c h guarded opened = record {
     blocks = h.blocks ++ b ∷ [];
     has = block_opened text d c def.inputs (length def.calcs.calcs) h.blocks saved.rows h.has b saved.end h.end guarded rows opened
         (follows right d h) (gives right d h);
-    number = ap (λ (x : Parts). x.number) (last_of-push (unsaved def.inputs) h.blocks b);
-    versions = ap (λ (x : Parts). x.versions) (last_of-push (unsaved def.inputs) h.blocks b) ∙ is.versions_are;
+    number = ap (λ (x : BlockParts). x.number) (last_of-push (unsaved def.inputs) h.blocks b);
+    versions = ap (λ (x : BlockParts). x.versions) (last_of-push (unsaved def.inputs) h.blocks b) ∙ is.versions_are;
     end = end_of-push (blocks_at (length text)) h.blocks b ∙ ap (λ n. n + block_size b) h.end;
   }
 
   -- an image stands for what is saved
-  stands_for : (s : Saved) (c : List ℕ) → Holds text def s c
+  stands_for : (s : Saved) (c : List ℕ) → HoldsBlocks text def s c
       → StandsFor text (length def.calcs.inputs) (length def.calcs.calcs) c s.versions s.rows
   stands_for s c h = subst (λ n. StandsFor text n (length def.calcs.calcs) c s.versions s.rows) (sym group.named)
       (ByBlocks h.blocks h.has (sym h.versions))
 
   abbrev IsEither : List ℕ → Type 0
-  IsEither c = Holds text def saved c ⊎ Holds text def next_saved c
+  IsEither c = HoldsBlocks text def saved c ⊎ HoldsBlocks text def next_saved c
 
   -- while it is written an image has the old blocks, or it too
   either_saved : IsFine → (c : List ℕ) → IsWriting b saved.end old c → IsEither c
@@ -260,13 +260,13 @@ module _ (text : List ℕ) (def : GroupDefParts) (o : GroupOpening) (tape : List
 
   -- ---- what a crash leaves
 
-  module _ (safe : IsSafe text def.calcs (grid_of def.start def.period) o copies tape (LeftSince old)) (new : Option Trace)
+  module _ (safe : IsBookSafe text def.calcs (grid_of def.start def.period) o copies tape (LeftSince old)) (new : Option Trace)
       (during : During old new (IsWriting b saved.end old)) where
     stands_one : IsFine → (t : ℕ) (c : List ℕ) → IsEither c
         → StandsForOne text def.calcs (grid_of def.start def.period) copies
         (versions_since t o.versions.items (o.versions.items ∷ []) tape) c
     stands_one right t c either =
-        let has = since_has t (start o) o.versions.items (o.versions.items ∷ []) tape (0, lit< tt, refl) (0, lit< tt, refl) in
+        let has = since_has t (book_start o) o.versions.items (o.versions.items ∷ []) tape (0, lit< tt, refl) (0, lit< tt, refl) in
         let since = versions_since t o.versions.items (o.versions.items ∷ []) tape in
         elim either [
           | inl was ↦ record {
@@ -286,7 +286,7 @@ module _ (text : List ℕ) (def : GroupDefParts) (o : GroupOpening) (tape : List
           }
         ]
 
-    pub safe_writing : IsSafe text def.calcs (grid_of def.start def.period) o copies tape (LeftSince new)
+    pub safe_writing : IsBookSafe text def.calcs (grid_of def.start def.period) o copies tape (LeftSince new)
     safe_writing = record {
       images = λ right t c since left. ⊎_elim
           (λ now. stands_one right t c (either_saved right c (during.each c now)))
@@ -320,11 +320,11 @@ module _ (text : List ℕ) (def : GroupDefParts) (o : GroupOpening) (tape : List
     abbrev pub turn : Turn
     turn = Save b.number ticks'
 
-    pub legal_saved : IsLegal def.calcs (grid_of def.start def.period) o (tape ++ turn ∷ []) versions copies rows
+    pub legal_saved : IsBookLegal def.calcs (grid_of def.start def.period) o (tape ++ turn ∷ []) versions copies rows
     legal_saved = record {
-      turns = fit_push def.calcs (grid_of def.start def.period) o copies (start o) tape turn legal.turns
-          (record { next = next (walked (start o) tape).number kept.number; later = omega (arith, kept.past, later) });
-      last = legal.last ∙ ap (λ (w : Walk). w.versions) (sym (walked-push (start o) tape turn));
+      turns = fit_push def.calcs (grid_of def.start def.period) o copies (book_start o) tape turn legal.turns
+          (record { next = next (book_walked (book_start o) tape).number kept.number; later = omega (arith, kept.past, later) });
+      last = legal.last ∙ ap (λ (w : BookWalk). w.versions) (sym (walked-push (book_start o) tape turn));
       copied = legal.copied;
       scratch = legal.scratch;
     }
@@ -334,7 +334,7 @@ module _ (text : List ℕ) (def : GroupDefParts) (o : GroupOpening) (tape : List
         next (Some n) last = is.number ∙ ap (λ k. k + 1) (sym last)
 
     -- an image now has the block behind its open gate
-    holds_settled : IsFine → (c : List ℕ) → MayLeave new c → Holds text def next_saved c
+    holds_settled : IsFine → (c : List ℕ) → MayLeave new c → HoldsBlocks text def next_saved c
     holds_settled right c may =
         let from = (during_now old new (IsWriting b saved.end old) during).each c may in
         holds_next right from.0 c (holds_now text def saved old (kept.shut refl) (kept.holds refl right) from.0 from.1) from.2
@@ -361,10 +361,10 @@ module _ (text : List ℕ) (def : GroupDefParts) (o : GroupOpening) (tape : List
       holds = λ usable right. held new (holds_settled right);
       scratch = λ right. subst (λ rss. IsScratch def.calcs (grid_of def.start def.period) rss rows)
           (sym (ap (λ v. cut v copies) legal.copied ∙ cut-all copies)) (legal.scratch right);
-      versions = legal.last ∙ sym (saved-save (start o) o.versions.items tape b.number ticks');
+      versions = legal.last ∙ sym (saved-save (book_start o) o.versions.items tape b.number ticks');
       inputs = low.inputs ∙ kept.inputs;
-      number = subst (λ w. IfSome w.number (λ n. n ≡ b.number)) (sym (walked-push (start o) tape turn)) refl;
-      past = subst (λ w. w.moment ≤ ticks') (sym (walked-push (start o) tape turn)) (omega arith);
+      number = subst (λ w. IfSome w.number (λ n. n ≡ b.number)) (sym (walked-push (book_start o) tape turn)) refl;
+      past = subst (λ w. w.moment ≤ ticks') (sym (walked-push (book_start o) tape turn)) (omega arith);
       opened_before = omega (arith, kept.opened_before, later);
       faultless = λ usable. same ∙ kept.faultless refl;
       cause = λ failed. absurd (cc (failed));
@@ -375,17 +375,17 @@ module _ (text : List ℕ) (def : GroupDefParts) (o : GroupOpening) (tape : List
         shown None settled ready = tt
         shown (Some t) settled ready = record { settled = settled; shut = ready.each (seen (Some t)) (present t) }
 
-        held : (x : Option Trace) → ((c : List ℕ) → MayLeave x c → Holds text def next_saved c)
-            → IfSome x (λ t. Holds text def next_saved (seen (Some t)))
+        held : (x : Option Trace) → ((c : List ℕ) → MayLeave x c → HoldsBlocks text def next_saved c)
+            → IfSome x (λ t. HoldsBlocks text def next_saved (seen (Some t)))
         held None has = tt
         held (Some t) has = has (seen (Some t)) (present t)
 
-    pub safe_saved : IsSafe text def.calcs (grid_of def.start def.period) o copies tape (LeftSince old)
-        → IsSafe text def.calcs (grid_of def.start def.period) o copies (tape ++ turn ∷ []) (LeftSince new)
+    pub safe_saved : IsBookSafe text def.calcs (grid_of def.start def.period) o copies tape (LeftSince old)
+        → IsBookSafe text def.calcs (grid_of def.start def.period) o copies (tape ++ turn ∷ []) (LeftSince new)
     safe_saved safe = record {
       images = λ right t c since left.
           subst (λ l. StandsForOne text def.calcs (grid_of def.start def.period) copies l c)
-          (sym (since-save t (start o) (o.versions.items ∷ []) tape b.number ticks'))
+          (sym (since-save t (book_start o) (o.versions.items ∷ []) tape b.number ticks'))
           (by_moment right t c since left (nat_le ticks' t) refl);
     }
       where
@@ -394,7 +394,7 @@ module _ (text : List ℕ) (def : GroupDefParts) (o : GroupOpening) (tape : List
 
         by_moment : IsFine → (t : ℕ) (c : List ℕ) → o.moment ≤ t → LeftSince new t c → (x : Bool) → nat_le ticks' t ≡ x
             → StandsForOne text def.calcs (grid_of def.start def.period) copies
-            (if x then (walked (start o) tape).versions ∷ [] else versions_since t o.versions.items (o.versions.items ∷ []) tape) c
+            (if x then (book_walked (book_start o) tape).versions ∷ [] else versions_since t o.versions.items (o.versions.items ∷ []) tape) c
         by_moment right t c since left true e = record {
           versions = versions;
           rows = rows;
@@ -407,14 +407,14 @@ module _ (text : List ℕ) (def : GroupDefParts) (o : GroupOpening) (tape : List
 
     -- all that a book keeps
     pub book_saved : (tape' : List Turn) (next : Saved) (failed : Bool) (faults' : ℕ) → tape' ≡ tape ++ turn ∷ [] → next ≡ next_saved
-        → failed ≡ false → faults' ≡ faults → IsSafe text def.calcs (grid_of def.start def.period) o copies tape (LeftSince old)
-        → IsLegal def.calcs (grid_of def.start def.period) o tape' versions copies rows
+        → failed ≡ false → faults' ≡ faults → IsBookSafe text def.calcs (grid_of def.start def.period) o copies tape (LeftSince old)
+        → IsBookLegal def.calcs (grid_of def.start def.period) o tape' versions copies rows
         × IsKept text def o tape' copies next failed new ticks' faults'
-        × IsSafe text def.calcs (grid_of def.start def.period) o copies tape' (LeftSince new)
+        × IsBookSafe text def.calcs (grid_of def.start def.period) o copies tape' (LeftSince new)
     book_saved tape' next failed faults' longer is_next usable same safe = (
-      subst (λ l. IsLegal def.calcs (grid_of def.start def.period) o l versions copies rows) (sym longer) legal_saved,
+      subst (λ l. IsBookLegal def.calcs (grid_of def.start def.period) o l versions copies rows) (sym longer) legal_saved,
       subst (λ l. IsKept text def o l copies next failed new ticks' faults') (sym longer)
           (subst (λ x. IsKept text def o (tape ++ turn ∷ []) copies x failed new ticks' faults') (sym is_next)
           (subst (λ f. IsKept text def o (tape ++ turn ∷ []) copies next_saved f new ticks' faults') (sym usable) (kept_saved faults' same))),
-      subst (λ l. IsSafe text def.calcs (grid_of def.start def.period) o copies l (LeftSince new)) (sym longer) (safe_saved safe),
+      subst (λ l. IsBookSafe text def.calcs (grid_of def.start def.period) o copies l (LeftSince new)) (sym longer) (safe_saved safe),
     )

@@ -12,18 +12,18 @@ use Rattle.sheet_law.specs.Touched.{longer}
 use Rattle.group_book.specs.declared.turn.Turn.{Turn}
 use Rattle.group_book.specs.declared.turn.Turn.TheVariants.{Refresh, Ask, Save}
 use Rattle.group_book.specs.declared.history.GroupOpening.{GroupOpening}
-use Rattle.group_book.specs.Tapes.{Walk, after_turn, saved_at, versions_since, walked}
-use Rattle.group_book.specs.Histories.{FitAll, Fits, IsRight, NeverFall, scratch_at}
+use Rattle.group_book.specs.Tapes.{BookWalk, after_turn, saved_at, versions_since, book_walked}
+use Rattle.group_book.specs.Histories.{BookTurnsFit, BookTurnFits, IsRight, NeverFall, scratch_at}
 use Rattle.group_book.proofs.Cuts.{cut-longer, never_refl, never_trans}
 
 -- ---- one more turn
 
-pub walked-push : (w : Walk) (es : List Turn) (e : Turn) → walked w (es ++ e ∷ []) ≡ after_turn (walked w es) e
+pub walked-push : (w : BookWalk) (es : List Turn) (e : Turn) → book_walked w (es ++ e ∷ []) ≡ after_turn (book_walked w es) e
 walked-push w [] e = refl
 walked-push w (x ∷ es) e = walked-push (after_turn w x) es e
 
-pub fit_push : (g : Group) (grid : Grid) (o : GroupOpening) (copies : List (List Rec)) (w : Walk) (es : List Turn) (e : Turn)
-    → FitAll g grid o copies w es → Fits g grid o copies (walked w es) e → FitAll g grid o copies w (es ++ e ∷ [])
+pub fit_push : (g : Group) (grid : Grid) (o : GroupOpening) (copies : List (List Rec)) (w : BookWalk) (es : List Turn) (e : Turn)
+    → BookTurnsFit g grid o copies w es → BookTurnFits g grid o copies (book_walked w es) e → BookTurnsFit g grid o copies w (es ++ e ∷ [])
 fit_push g grid o copies w [] e fits one = (one, tt)
 fit_push g grid o copies w (x ∷ es) e fits one = (fits.0, fit_push g grid o copies (after_turn w x) es e fits.1 one)
 
@@ -37,20 +37,20 @@ contains_last xs x = (length xs, omega (arith, length-append xs (x ∷ [])), get
 -- ---- versions along a tape
 
 -- versions rise along a tape
-pub walk_rises : (g : Group) (grid : Grid) (o : GroupOpening) (copies : List (List Rec)) (w : Walk) (es : List Turn)
-    → FitAll g grid o copies w es → NeverFall w.versions (walked w es).versions
+pub walk_rises : (g : Group) (grid : Grid) (o : GroupOpening) (copies : List (List Rec)) (w : BookWalk) (es : List Turn)
+    → BookTurnsFit g grid o copies w es → NeverFall w.versions (book_walked w es).versions
 walk_rises g grid o copies w [] fits = never_refl w.versions
 walk_rises g grid o copies w (Refresh versions ∷ es) fits =
-    never_trans w.versions versions.items (walked w (Refresh versions ∷ es)).versions fits.0
+    never_trans w.versions versions.items (book_walked w (Refresh versions ∷ es)).versions fits.0
     (walk_rises g grid o copies (after_turn w (Refresh versions)) es fits.1)
 walk_rises g grid o copies w (Ask reader row calc k reply ∷ es) fits = walk_rises g grid o copies w es fits.1
 walk_rises g grid o copies w (Save number moment ∷ es) fits =
     walk_rises g grid o copies (after_turn w (Save number moment)) es fits.1
 
 -- those of the last save are not above the last ones
-pub saved_rises : (g : Group) (grid : Grid) (o : GroupOpening) (copies : List (List Rec)) (w : Walk) (saved : List ℕ) (es : List Turn)
-    → FitAll g grid o copies w es → NeverFall saved w.versions
-    → NeverFall (saved_at w.versions saved es) (walked w es).versions
+pub saved_rises : (g : Group) (grid : Grid) (o : GroupOpening) (copies : List (List Rec)) (w : BookWalk) (saved : List ℕ) (es : List Turn)
+    → BookTurnsFit g grid o copies w es → NeverFall saved w.versions
+    → NeverFall (saved_at w.versions saved es) (book_walked w es).versions
 saved_rises g grid o copies w saved [] fits low = low
 saved_rises g grid o copies w saved (Refresh versions ∷ es) fits low =
     saved_rises g grid o copies (after_turn w (Refresh versions)) saved es fits.1
@@ -61,9 +61,9 @@ saved_rises g grid o copies w saved (Save number moment ∷ es) fits low =
     saved_rises g grid o copies (after_turn w (Save number moment)) w.versions es fits.1 (never_refl w.versions)
 
 -- nor are those since a save
-pub since_rises : (g : Group) (grid : Grid) (o : GroupOpening) (copies : List (List Rec)) (t : ℕ) (w : Walk) (since : List (List ℕ))
-    (es : List Turn) → FitAll g grid o copies w es → All (λ v. NeverFall v w.versions) since
-    → All (λ v. NeverFall v (walked w es).versions) (versions_since t w.versions since es)
+pub since_rises : (g : Group) (grid : Grid) (o : GroupOpening) (copies : List (List Rec)) (t : ℕ) (w : BookWalk) (since : List (List ℕ))
+    (es : List Turn) → BookTurnsFit g grid o copies w es → All (λ v. NeverFall v w.versions) since
+    → All (λ v. NeverFall v (book_walked w es).versions) (versions_since t w.versions since es)
 since_rises g grid o copies t w since [] fits low = low
 since_rises g grid o copies t w since (Refresh versions ∷ es) fits low =
     since_rises g grid o copies t (after_turn w (Refresh versions)) (since ++ versions.items ∷ []) es fits.1
@@ -119,16 +119,16 @@ right_back g grid o copies mores low right =
     subst (λ rss. IsScratch g grid rss (lists_of o.rows.items)) (cut-longer o.versions.items copies mores low) right
 
 -- the turns say what is so over longer copies
-pub fit_longer : (g : Group) (grid : Grid) (o : GroupOpening) (copies mores : List (List Rec)) (w : Walk) (es : List Turn)
-    → NeverFall o.versions.items (map length copies) → NeverFall (walked w es).versions (map length copies)
-    → FitAll g grid o copies w es → FitAll g grid o (longer copies mores) w es
+pub fit_longer : (g : Group) (grid : Grid) (o : GroupOpening) (copies mores : List (List Rec)) (w : BookWalk) (es : List Turn)
+    → NeverFall o.versions.items (map length copies) → NeverFall (book_walked w es).versions (map length copies)
+    → BookTurnsFit g grid o copies w es → BookTurnsFit g grid o (longer copies mores) w es
 fit_longer g grid o copies mores w [] opened low fits = tt
 fit_longer g grid o copies mores w (Refresh versions ∷ es) opened low fits =
     (fits.0, fit_longer g grid o copies mores (after_turn w (Refresh versions)) es opened low fits.1)
 fit_longer g grid o copies mores w (Ask reader row calc k reply ∷ es) opened low fits = (
   λ right. fits.0 (right_back g grid o copies mores opened right)
       ∙ ap (λ rss. scratch_at g grid rss calc k) (sym (cut-longer w.versions copies mores
-      (never_trans w.versions (walked w es).versions (map length copies) (walk_rises g grid o copies w es fits.1) low))),
+      (never_trans w.versions (book_walked w es).versions (map length copies) (walk_rises g grid o copies w es fits.1) low))),
   fit_longer g grid o copies mores w es opened low fits.1,
 )
 fit_longer g grid o copies mores w (Save number moment ∷ es) opened low fits =

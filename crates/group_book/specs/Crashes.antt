@@ -23,7 +23,7 @@ pub record StandsForOne (text : List ℕ) (g : Group) (grid : Grid) (copies : Li
 -- At each moment since the opening an image that a crash then might have left, which `left` tells, stands for the versions and
 -- rows of the last save at that moment or before it, or of a refresh since; before the first save, for those of the opening or
 -- of a refresh. This is said where the opening is right.
-pub record IsSafe (text : List ℕ) (g : Group) (grid : Grid) (o : GroupOpening) (copies : List (List Rec)) (tape : List Turn)
+pub record IsBookSafe (text : List ℕ) (g : Group) (grid : Grid) (o : GroupOpening) (copies : List (List Rec)) (tape : List Turn)
     (left : ℕ → List ℕ → Type 0) : Type 0 where
   pub images : IsRight g grid o copies → (t : ℕ) (c : List ℕ) → o.moment ≤ t → left t c
       → StandsForOne text g grid copies (versions_since t o.versions.items (o.versions.items ∷ []) tape) c

@@ -10,7 +10,7 @@ use Rattle.calc_refresh.specs.Lists.{lists_of}
 use Rattle.group_book.specs.declared.turn.Turn.{Turn}
 use Rattle.group_book.specs.declared.turn.Turn.TheVariants.{Refresh, Ask, Save}
 use Rattle.group_book.specs.declared.history.GroupOpening.{GroupOpening}
-use Rattle.group_book.specs.Tapes.{Walk, start, after_turn, walked, cut}
+use Rattle.group_book.specs.Tapes.{BookWalk, book_start, after_turn, book_walked, cut}
 
 -- the value of a calculation in a window from scratch, if there are such a calculation and such a complete window
 abbrev pub scratch_at : Group → Grid → List (List Rec) → ℕ → ℕ → Option CalcValue
@@ -26,27 +26,27 @@ pub record NeverFall (old new : List ℕ) : Type 0 where
   pub rises : (i : ℕ) → i < length old → slice_index old i ≤ slice_index new i
 
 -- a save has the number after that of the last one, and a later moment
-pub record IsNextSave (w : Walk) (number moment : ℕ) : Type 0 where
+pub record IsNextSave (w : BookWalk) (number moment : ℕ) : Type 0 where
   pub next : IfSome w.number (λ last. number ≡ last + 1)
   pub later : w.moment < moment
 
 -- a turn at a place of the tape: an answer is the value from scratch at the versions there, where the opening is right
-abbrev pub Fits : Group → Grid → GroupOpening → List (List Rec) → Walk → Turn → Type 0
-Fits g grid o copies w (Refresh versions) = NeverFall w.versions versions.items
-Fits g grid o copies w (Ask reader row calc k reply) =
+abbrev pub BookTurnFits : Group → Grid → GroupOpening → List (List Rec) → BookWalk → Turn → Type 0
+BookTurnFits g grid o copies w (Refresh versions) = NeverFall w.versions versions.items
+BookTurnFits g grid o copies w (Ask reader row calc k reply) =
     IsRight g grid o copies → reply ≡ scratch_at g grid (cut w.versions copies) calc k
-Fits g grid o copies w (Save number moment) = IsNextSave w number moment
+BookTurnFits g grid o copies w (Save number moment) = IsNextSave w number moment
 
 -- each of these turns
-abbrev pub FitAll : Group → Grid → GroupOpening → List (List Rec) → Walk → List Turn → Type 0
-FitAll g grid o copies w [] = Unit {0}
-FitAll g grid o copies w (e ∷ es) = Fits g grid o copies w e × FitAll g grid o copies (after_turn w e) es
+abbrev pub BookTurnsFit : Group → Grid → GroupOpening → List (List Rec) → BookWalk → List Turn → Type 0
+BookTurnsFit g grid o copies w [] = Unit {0}
+BookTurnsFit g grid o copies w (e ∷ es) = BookTurnFits g grid o copies w e × BookTurnsFit g grid o copies (after_turn w e) es
 
 -- A legal group history. At the end the versions are those of the last refresh, each copy has so many records, and where the
 -- opening is right the rows are from scratch.
-pub record IsLegal (g : Group) (grid : Grid) (o : GroupOpening) (tape : List Turn) (versions : List ℕ)
+pub record IsBookLegal (g : Group) (grid : Grid) (o : GroupOpening) (tape : List Turn) (versions : List ℕ)
     (copies : List (List Rec)) (rows : List (List CalcValue)) : Type 0 where
-  pub turns : FitAll g grid o copies (start o) tape
-  pub last : versions ≡ (walked (start o) tape).versions
+  pub turns : BookTurnsFit g grid o copies (book_start o) tape
+  pub last : versions ≡ (book_walked (book_start o) tape).versions
   pub copied : versions ≡ map length copies
   pub scratch : IsRight g grid o copies → IsScratch g grid copies rows

@@ -8,7 +8,7 @@ use Rattle.tag_cell.specs.declared.entry.Pulled.{Pulled}
 use Rattle.group_book.specs.declared.refusal.RefreshNo.{RefreshNo}
 use Rattle.group_book.specs.declared.refusal.RefreshNo.TheVariants.{Ahead, CellLimit, CopyLimit, WantOfMemory}
 use Rattle.group_book.specs.Tapes.{uncut}
-use Rattle.group_book.specs.Told.{Told, pulled_records, versions_of}
+use Rattle.group_book.specs.Told.{ToldBook, pulled_records, versions_of}
 
 -- the lists of these tags, of one list for each tag of a plant
 abbrev pub lists_at : List (List Rec) → List ℕ → List (List Rec)
@@ -48,7 +48,7 @@ IsPullAhead lists versions WantOfMemory = Unit {0}
 
 -- why a book does not take these lists into account: the version of an input is above its list; or the sheet would have so many
 -- cells, or so many records, with those that it lacks
-abbrev pub IsListsRefusal : {D : Type 0} → List (List Rec) → Told D → RefreshNo → Type 0
+abbrev pub IsListsRefusal : {D : Type 0} → List (List Rec) → ToldBook D → RefreshNo → Type 0
 IsListsRefusal lists book (Ahead input version records) = IsPullAhead lists (versions_of book) (Ahead input version records)
 IsListsRefusal lists book (CellLimit cells) =
     fault_after book.sheet (uncut (versions_of book) lists) ≡ Some (sheet.CellLimit cells)

@@ -22,8 +22,8 @@ abbrev pub StandsForGroup : List ℕ → GroupDefParts → List ℕ → List (Li
 StandsForGroup text def versions rows c = StandsFor text def.inputs (length def.calcs.calcs) c versions rows
 
 -- it is one that a crash might have left before, or stands for the same
-abbrev pub StaysSame : List ℕ → GroupDefParts → Option Trace → List ℕ → Type 0
-StaysSame text def o c = IsLeftOrSame text def.inputs (length def.calcs.calcs) o c
+abbrev pub BookStaysSame : List ℕ → GroupDefParts → Option Trace → List ℕ → Type 0
+BookStaysSame text def o c = IsLeftOrSame text def.inputs (length def.calcs.calcs) o c
 
 -- the first input whose version is above the records that were recovered
 pub record IsAhead (versions : List ℕ) (recovered : List (List Rec)) (input version records : ℕ) : Type 0 where
@@ -50,16 +50,16 @@ pub record SavesShape (text : List ℕ) (def : GroupDefParts) (recovered : List 
   pub shape : shape_fault (complete_windows (grid_of def.start def.period) (cut versions recovered)) rows ≡ Some (sheet.Shape windows size)
 
 -- why a device is not opened, where it tells its calls
-abbrev pub IsCause : List ℕ → GroupDefParts → List (List Rec) → Option Trace → LoadNo → Type 0
-IsCause text def recovered o DeviceFault = Unit {0}
-IsCause text def recovered o (Damaged a byte) = Shows o (λ c. IsGroupDamage text def.inputs (length def.calcs.calcs) c a byte)
-IsCause text def recovered o (Ahead input version records) = Shows o (SavesAhead text def recovered input version records)
-IsCause text def recovered o (Shape windows size) = Shows o (SavesShape text def recovered windows size)
-IsCause text def recovered o WantOfMemory = Unit {0}
+abbrev pub IsBookCause : List ℕ → GroupDefParts → List (List Rec) → Option Trace → LoadNo → Type 0
+IsBookCause text def recovered o DeviceFault = Unit {0}
+IsBookCause text def recovered o (Damaged a byte) = Shows o (λ c. IsGroupDamage text def.inputs (length def.calcs.calcs) c a byte)
+IsBookCause text def recovered o (Ahead input version records) = Shows o (SavesAhead text def recovered input version records)
+IsBookCause text def recovered o (Shape windows size) = Shows o (SavesShape text def recovered windows size)
+IsBookCause text def recovered o WantOfMemory = Unit {0}
 
 -- the faults that are counted until a device is not opened
-abbrev pub CountsRefusal : LoadNo → ℕ → ℕ → Type 0
-CountsRefusal why before now = CountsFault {T = Unit {0}} (Err why) DeviceFault before now
+abbrev pub CountsBookRefusal : LoadNo → ℕ → ℕ → Type 0
+CountsBookRefusal why before now = CountsFault {T = Unit {0}} (Err why) DeviceFault before now
 
 -- ---- why what was saved makes no sheet
 

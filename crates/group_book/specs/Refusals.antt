@@ -14,11 +14,11 @@ refusal_of (sheet.CopyLimit records) = CopyLimit records
 refusal_of sheet.WantOfMemory = WantOfMemory
 
 -- a fault of the sheet is what decides; want of memory may come at any time
-abbrev pub IsToldOf : Option SheetNo → RefreshNo → Type 0
-IsToldOf fault (Ahead input version records) = ⊥
-IsToldOf fault (CellLimit cells) = fault ≡ Some (sheet.CellLimit cells)
-IsToldOf fault (CopyLimit records) = fault ≡ Some (sheet.CopyLimit records)
-IsToldOf fault WantOfMemory = Unit {0}
+abbrev pub IsBookToldOf : Option SheetNo → RefreshNo → Type 0
+IsBookToldOf fault (Ahead input version records) = ⊥
+IsBookToldOf fault (CellLimit cells) = fault ≡ Some (sheet.CellLimit cells)
+IsBookToldOf fault (CopyLimit records) = fault ≡ Some (sheet.CopyLimit records)
+IsBookToldOf fault WantOfMemory = Unit {0}
 
 -- the version of an input is above this number of records
 pub record IsAheadOf (versions : List ℕ) (input version records : ℕ) : Type 0 where

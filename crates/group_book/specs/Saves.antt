@@ -9,10 +9,10 @@ use Rattle.disk_model.specs.Gates.{open_byte}
 use Rattle.disk_model.specs.Traces.{Trace, seen, written}
 use Rattle.sheet_law.specs.Windows.{complete_windows}
 use Rattle.group_layout.specs.declared.block.BlockRow.{BlockRow}
-use Rattle.group_layout.specs.Blocks.{AreRows, IsBefore, IsRow, Parts, block_image, block_size, comes_before}
+use Rattle.group_layout.specs.Blocks.{AreRows, IsBefore, IsRow, BlockParts, block_image, block_size, comes_before}
 use Rattle.group_layout.specs.Rows.{cell_of, listed_from}
 use Rattle.group_book.specs.declared.turn.Turn.TheVariants.{Save}
-use Rattle.group_book.specs.Told.{Told, versions_of}
+use Rattle.group_book.specs.Told.{ToldBook, versions_of}
 
 -- ---- which rows changed
 
@@ -24,7 +24,7 @@ row_of calc k (Bad DivZero) = record { calc = calc; window = k; kind = 2; value 
 row_of calc k (Bad Range) = record { calc = calc; window = k; kind = 3; value = pos 0 }
 
 -- all values of rows are in the range of numbers
-pub record AreInRange (rows : List (List CalcValue)) : Type 0 where
+pub record AreValuesInRange (rows : List (List CalcValue)) : Type 0 where
   pub each : (calc k : ℕ) (v : CalcValue) → cell_of rows calc k ≡ Some v → IsInRange v
 
 -- of a cell that changed the new value is listed, and of any other none
@@ -35,20 +35,20 @@ pub data IsListed (old new : List (List CalcValue)) (rows : List BlockRow) (calc
 -- rows that list the cells that changed, of so many calculations in so many windows, sorted and each once
 pub record ListsChanges (calcs windows : ℕ) (old new : List (List CalcValue)) (rows : List BlockRow) : Type 0 where
   pub listed : (calc k : ℕ) → calc < calcs → k < windows → IsListed old new rows calc k
-  pub rows_are : AreInRange new → AreRows calcs windows rows
+  pub rows_are : AreValuesInRange new → AreRows calcs windows rows
 
 -- the rows so far list what changed in the calculations before one, and in its windows before one, and nothing else
 pub record ListedUpTo (old new : List (List CalcValue)) (calcs windows calc k : ℕ) (rows : List BlockRow) : Type 0 where
   pub before : (x y : ℕ) → y < windows → comes_before x y calc k ≡ true → IsListed old new rows x y
   pub behind : (x y : ℕ) → comes_before x y calc k ≡ false → listed_from None rows x y ≡ None
-  pub each : AreInRange new → All (IsRow calcs windows) rows
+  pub each : AreValuesInRange new → All (IsRow calcs windows) rows
   pub sorted : AllPairs IsBefore rows
   pub low : All (λ r. comes_before r.calc r.window calc k ≡ true) rows
 
 -- ---- what is saved
 
 -- the block of a save: the next number, the versions, how many windows are complete, and the rows that changed
-pub record IsBlockOf {D : Type 0} (s : Told D) (b : Parts) : Type 0 where
+pub record IsBlockOf {D : Type 0} (s : ToldBook D) (b : BlockParts) : Type 0 where
   pub number : b.number ≡ s.saved.number + 1
   pub versions : b.versions ≡ versions_of s
   pub windows : b.windows ≡ complete_windows s.sheet.grid s.sheet.copies
@@ -56,9 +56,9 @@ pub record IsBlockOf {D : Type 0} (s : Told D) (b : Parts) : Type 0 where
 
 -- a book on a device has saved its rows as a block: the device then has the block behind an open gate, a later clock, and the
 -- tape its number and that clock
-pub record IsSaved {D : Type 0} (trace : D → Option Trace) (ticks : D → ℕ) (before : D) (old new : Told D) : Type 0 where
+pub record IsSaved {D : Type 0} (trace : D → Option Trace) (ticks : D → ℕ) (before : D) (old new : ToldBook D) : Type 0 where
   pub after : D
-  pub block : Parts
+  pub block : BlockParts
   pub block_is : IsBlockOf old block
   pub later : ticks before < ticks after
   pub wrote : Sees (trace after) (written (written (seen (trace before)) (old.saved.end + 1) (block_image block ++ 0 ∷ []))
@@ -75,6 +75,6 @@ pub record IsSaved {D : Type 0} (trace : D → Option Trace) (ticks : D → ℕ)
   }
 
 -- a call of its device failed: nothing else changed
-pub record IsFaulted {D : Type 0} (old new : Told D) : Type 0 where
+pub record IsBookFaulted {D : Type 0} (old new : ToldBook D) : Type 0 where
   pub failed : new.failed ≡ true
   pub changed : new ≡ record old { dev = new.dev; failed = true }

@@ -7,25 +7,25 @@ use Rattle.group_book.specs.declared.history.GroupOpening.{GroupOpening}
 
 -- where one is on a tape: the versions so far, the number of the last save if there was one, and the moment of it or of the
 -- opening
-pub record Walk : Type 0 where
+pub record BookWalk : Type 0 where
   pub versions : List ℕ
   pub number : Option ℕ
   pub moment : ℕ
 
 -- at the opening
-abbrev pub start : GroupOpening → Walk
-start o = record { versions = o.versions.items; number = None; moment = o.moment }
+abbrev pub book_start : GroupOpening → BookWalk
+book_start o = record { versions = o.versions.items; number = None; moment = o.moment }
 
 -- after one more turn
-abbrev pub after_turn : Walk → Turn → Walk
+abbrev pub after_turn : BookWalk → Turn → BookWalk
 after_turn w (Refresh versions) = record w { versions = versions.items }
 after_turn w (Ask reader row calc k reply) = w
 after_turn w (Save number moment) = record w { number = Some number; moment = moment }
 
 -- after these turns
-abbrev pub walked : Walk → List Turn → Walk
-walked w [] = w
-walked w (e ∷ es) = walked (after_turn w e) es
+abbrev pub book_walked : BookWalk → List Turn → BookWalk
+book_walked w [] = w
+book_walked w (e ∷ es) = book_walked (after_turn w e) es
 
 -- the versions at the last save, where these are the versions so far and those at the last save so far
 abbrev pub saved_at : List ℕ → List ℕ → List Turn → List ℕ

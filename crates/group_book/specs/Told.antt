@@ -14,7 +14,7 @@ use Rattle.calc_refresh.specs.Lists.{lists_of}
 use Rattle.calc_refresh.specs.Refreshed.{IsRefreshed}
 use Rattle.calc_refresh.specs.Sheet.{IsGrid, IsGroup, SheetState, grid_of}
 use Rattle.sheet_law.specs.Scratch.{IsScratch}
-use Rattle.group_layout.specs.Blocks.{Parts, end_of, last_of, unsaved}
+use Rattle.group_layout.specs.Blocks.{BlockParts, end_of, last_of, unsaved}
 use Rattle.archive_file.specs.TextHeads.{blocks_at}
 use Rattle.group_layout.specs.Images.{HasSaved}
 use Rattle.group_layout.specs.Rows.{cell_of}
@@ -22,9 +22,9 @@ use Rattle.group_book.specs.declared.history.GroupHistory.{GroupHistory}
 use Rattle.group_book.specs.declared.history.GroupOpening.{GroupOpening}
 use Rattle.group_book.specs.declared.turn.Turn.{Turn}
 use Rattle.group_book.specs.declared.turn.Turn.TheVariants.{Refresh, Ask}
-use Rattle.group_book.specs.Tapes.{cut, saved_at, start, walked}
-use Rattle.group_book.specs.Histories.{IsLegal, IsRight}
-use Rattle.group_book.specs.Crashes.{IsSafe}
+use Rattle.group_book.specs.Tapes.{cut, saved_at, book_start, book_walked}
+use Rattle.group_book.specs.Histories.{IsBookLegal, IsRight}
+use Rattle.group_book.specs.Crashes.{IsBookSafe}
 
 -- what the last save left: its number, the versions and the rows, and where the next block goes
 pub record Saved : Type 0 where
@@ -35,7 +35,7 @@ pub record Saved : Type 0 where
 
 -- a book on a device of this type, or without one: the group's number from 0, its definition and the text of it, the tags of
 -- its inputs, its opening, its tape, its sheet, its device, what the last save left, and whether a call of the device failed
-pub record Told (D : Type 0) : Type 0 where
+pub record ToldBook (D : Type 0) : Type 0 where
   pub group : ℕ
   pub def : GroupDefParts
   pub text : List ℕ
@@ -48,7 +48,7 @@ pub record Told (D : Type 0) : Type 0 where
   pub failed : Bool
 
 -- the versions of the inputs
-abbrev pub versions_of : {D : Type 0} → Told D → List ℕ
+abbrev pub versions_of : {D : Type 0} → ToldBook D → List ℕ
 versions_of s = map length s.sheet.copies
 
 -- ---- what its type keeps
@@ -63,8 +63,8 @@ pub record IsDefined (def : GroupDefParts) (tags : List ℕ) (s : SheetState) : 
   pub tags_are : length tags ≡ def.inputs
 
 -- what the device holds for as long as no call of it failed: the blocks of the saves so far, where the opening is right
-pub record Holds (text : List ℕ) (def : GroupDefParts) (saved : Saved) (c : List ℕ) : Type 0 where
-  pub blocks : List Parts
+pub record HoldsBlocks (text : List ℕ) (def : GroupDefParts) (saved : Saved) (c : List ℕ) : Type 0 where
+  pub blocks : List BlockParts
   pub has : HasSaved text def.inputs (length def.calcs.calcs) c blocks saved.rows
   pub number : (last_of (unsaved def.inputs) blocks).number ≡ saved.number
   pub versions : (last_of (unsaved def.inputs) blocks).versions ≡ saved.versions
@@ -81,13 +81,13 @@ pub record IsKept (text : List ℕ) (def : GroupDefParts) (o : GroupOpening) (ta
     (saved : Saved) (failed : Bool) (trace : Option Trace) (ticks faults : ℕ) : Type 0 where
   pub shut : failed ≡ false → IfSome trace (λ t. IsReady saved.end t)
   pub holds : failed ≡ false → IsRight def.calcs (grid_of def.start def.period) o copies
-      → IfSome trace (λ t. Holds text def saved (seen (Some t)))
+      → IfSome trace (λ t. HoldsBlocks text def saved (seen (Some t)))
   pub scratch : IsRight def.calcs (grid_of def.start def.period) o copies
       → IsScratch def.calcs (grid_of def.start def.period) (cut saved.versions copies) saved.rows
   pub versions : saved.versions ≡ saved_at o.versions.items o.versions.items tape
   pub inputs : length saved.versions ≡ def.inputs
-  pub number : IfSome (walked (start o) tape).number (λ n. n ≡ saved.number)
-  pub past : (walked (start o) tape).moment ≤ ticks
+  pub number : IfSome (book_walked (book_start o) tape).number (λ n. n ≡ saved.number)
+  pub past : (book_walked (book_start o) tape).moment ≤ ticks
   pub opened_before : o.moment ≤ ticks
   pub faultless : failed ≡ false → faults ≡ o.faults
   pub cause : failed ≡ true → Rose o.faults faults
@@ -109,7 +109,7 @@ trace_of trace (Some dev) = trace dev
 -- ---- what a call changes
 
 -- a refresh has taken these records of each input into account
-pub record IsPublished {D : Type 0} (mores : List (List Rec)) (old new : Told D) : Type 0 where
+pub record IsPublished {D : Type 0} (mores : List (List Rec)) (old new : ToldBook D) : Type 0 where
   pub versions : Vec ℕ Global
   pub versions_are : versions.items ≡ versions_of new
   pub refreshed : IsRefreshed old.sheet new.sheet mores
@@ -130,20 +130,20 @@ GivesNone tags cells mores = (i : ℕ) (rs : List Rec) → i < length mores → 
     → slice_index_or mores i rs ≡ []
 
 -- a question was answered so
-pub record IsAsked {D : Type 0} (reader row calc k : ℕ) (reply : Option CalcValue) (old new : Told D) : Type 0 where
+pub record IsAsked {D : Type 0} (reader row calc k : ℕ) (reply : Option CalcValue) (old new : ToldBook D) : Type 0 where
   pub answer : reply ≡ cell_of old.sheet.rows calc k
   pub changed : new ≡ record old { tape = old.tape ++ Ask reader row calc k reply ∷ [] }
 
 -- ---- what is handed out at the end
 
 -- the history of a book on a device that tells these calls, this clock and these faults
-pub record IsHistory (h : GroupHistory) (trace : Option Trace) (ticks faults : ℕ) : Type 0 where
+pub record IsBookHistory (h : GroupHistory) (trace : Option Trace) (ticks faults : ℕ) : Type 0 where
   pub group : IsGroup h.def.inputs h.def.calcs
   pub grid : IsGrid (grid_of h.def.start h.def.period)
-  pub legal : IsLegal h.def.calcs (grid_of h.def.start h.def.period) h.opening h.tape.items h.versions.items
+  pub legal : IsBookLegal h.def.calcs (grid_of h.def.start h.def.period) h.opening h.tape.items h.versions.items
       (lists_of h.copies.items) (lists_of h.rows.items)
-  pub safe : IsSafe h.text.items h.def.calcs (grid_of h.def.start h.def.period) h.opening (lists_of h.copies.items) h.tape.items
+  pub safe : IsBookSafe h.text.items h.def.calcs (grid_of h.def.start h.def.period) h.opening (lists_of h.copies.items) h.tape.items
       (LeftSince trace)
-  pub past : (walked (start h.opening) h.tape.items).moment ≤ ticks
+  pub past : (book_walked (book_start h.opening) h.tape.items).moment ≤ ticks
   pub opened_before : h.opening.moment ≤ ticks
   pub faults_since : (faults ≡ h.opening.faults) ⊎ Rose h.opening.faults faults

@@ -3,7 +3,7 @@ ghost use Rattle.std.specs.Prelude.{◌≡◌, ◌<◌, List, false, length, sli
 ghost use Rattle.disk_model.specs.Calls.{Rose};
 ghost use Rattle.trend_num.specs.declared.archive.Rec.{Rec};
 ghost use Rattle.calc_refresh.specs.Lists.{lists_of};
-ghost use Rattle.group_book.specs.Told.{IsHistory, IsOnDevice, count_of, trace_of, versions_of};
+ghost use Rattle.group_book.specs.Told.{IsBookHistory, IsOnDevice, count_of, trace_of, versions_of};
 
 use crate::history::{GroupHistory, GroupOpening};
 use crate::turn::Turn;
@@ -43,11 +43,11 @@ impl<D: Disk> Model for Book<D> {
     ghost use Rattle.calc_refresh.specs.Lists.{lists_of};
     ghost use Rattle.disk_model.specs.Moments.{LeftSince};
     ghost use Rattle.calc_refresh.specs.Sheet.{grid_of};
-    ghost use Rattle.group_book.specs.Crashes.{IsSafe};
-    ghost use Rattle.group_book.specs.Histories.{IsLegal};
-    ghost use Rattle.group_book.specs.Told.{Told, Saved, IsDefined, IsKept, IsOnDevice, count_of, trace_of};
+    ghost use Rattle.group_book.specs.Crashes.{IsBookSafe};
+    ghost use Rattle.group_book.specs.Histories.{IsBookLegal};
+    ghost use Rattle.group_book.specs.Told.{ToldBook, Saved, IsDefined, IsKept, IsOnDevice, count_of, trace_of};
 
-    ghost Value = { Told D };
+    ghost Value = { ToldBook D };
 
     ghost coded = { Prim.hlevel (codes, group_code, sheet_code) };
 
@@ -65,11 +65,11 @@ impl<D: Disk> Model for Book<D> {
     } };
 
     ghost invariant = { λ b. IsDefined b.def b.tags.items b.sheet
-        × IsLegal b.def.calcs (grid_of b.def.start b.def.period) b.opening b.tape.items b.versions.items b.sheet.copies b.sheet.rows
+        × IsBookLegal b.def.calcs (grid_of b.def.start b.def.period) b.opening b.tape.items b.versions.items b.sheet.copies b.sheet.rows
         × IsKept b.text.items b.def b.opening b.tape.items b.sheet.copies
         (record { number = b.number; versions = b.saved_versions.items; rows = lists_of b.saved_rows.items; end = b.end }) b.failed
         (trace_of D.trace b.dev) (count_of D.ticks b.dev) (count_of D.fault_count b.dev)
-        × IsSafe b.text.items b.def.calcs (grid_of b.def.start b.def.period) b.opening b.sheet.copies b.tape.items (LeftSince (trace_of D.trace b.dev))
+        × IsBookSafe b.text.items b.def.calcs (grid_of b.def.start b.def.period) b.opening b.sheet.copies b.tape.items (LeftSince (trace_of D.trace b.dev))
         × IsOnDevice b.text.items b.dev };
 }
 
@@ -157,7 +157,7 @@ impl<D: Disk> Book<D> {
         ensures copies { lists_of result.1.copies.items ≡ self.sheet.copies }
         ensures rows { lists_of result.1.rows.items ≡ self.sheet.rows }
         ensures evals { result.1.evals ≡ self.sheet.evals }
-        ensures history { IsHistory result.1 (trace_of D.trace result.0) (count_of D.ticks result.0) (count_of D.fault_count result.0) }
+        ensures history { IsBookHistory result.1 (trace_of D.trace result.0) (count_of D.ticks result.0) (count_of D.fault_count result.0) }
         ensures rose { self.failed ≡ true → Rose self.opening.faults (count_of D.fault_count result.0) }
         ensures faultless { self.failed ≡ false → count_of D.fault_count result.0 ≡ self.opening.faults }
     {

@@ -3,7 +3,7 @@ ghost use Rattle.std.specs.Prelude.{◌≡◌, ◌+◌, ◌<◌, ◌≤◌, [], 
 ghost use Rattle.calc_refresh.specs.Refreshed.{fault_after};
 ghost use Rattle.calc_refresh.specs.Sheet.{IsCopy};
 ghost use Rattle.group_book.specs.InputLists.{ArePullsOf, IsListsRefusal, IsPullAhead, IsPullOf, IsPullRefusal, lists_at};
-ghost use Rattle.group_book.specs.Refusals.{IsToldOf};
+ghost use Rattle.group_book.specs.Refusals.{IsBookToldOf};
 ghost use Rattle.group_book.specs.Tapes.{uncut};
 ghost use Rattle.group_book.specs.Told.{GoesOn, IsPublished, pulled_records, versions_of};
 
@@ -102,7 +102,7 @@ fn publish_alone<D: Disk>(book: &mut Book<D>, pulled: Vec<Pulled>) -> Result<(),
     ensures published { OnOk result (IsPublished (pulled_records pulled.items) book.old book.new) }
     ensures upto { OnOk result (versions_of book.new ≡ map (λ p. p.upto) pulled.items) }
     ensures unchanged { OnErr result (book.new ≡ book.old) }
-    ensures fault { IfErr result (IsToldOf (fault_after book.old.sheet (pulled_records pulled.items))) }
+    ensures fault { IfErr result (IsBookToldOf (fault_after book.old.sheet (pulled_records pulled.items))) }
 {
     publish_on::<Brand, D>(book, pulled, Blank::new(1))
 }
@@ -122,7 +122,7 @@ fn publish_on<L: Ledger, D: Disk>(
     ensures published { OnOk result (IsPublished (pulled_records pulled.items) book.old book.new) }
     ensures upto { OnOk result (versions_of book.new ≡ map (λ p. p.upto) pulled.items) }
     ensures unchanged { OnErr result (book.new ≡ book.old) }
-    ensures fault { IfErr result (IsToldOf (fault_after book.old.sheet (pulled_records pulled.items))) }
+    ensures fault { IfErr result (IsBookToldOf (fault_after book.old.sheet (pulled_records pulled.items))) }
 {
     let mut steps = Steps::<L>::new(blank);
     book.publish(pulled, &mut steps)?;

@@ -9,7 +9,7 @@ ghost use Rattle.calc_refresh.specs.Refreshed.{fresh};
 ghost use Rattle.calc_refresh.specs.Sheet.{IsCopy, IsGrid, IsGroup, grid_of};
 ghost use Rattle.group_layout.specs.Readings.{HasShape, IsReadOf};
 ghost use Rattle.group_book.specs.declared.refusal.LoadNo.TheVariants.{Ahead, Damaged, DeviceFault, Shape};
-ghost use Rattle.group_book.specs.Openings.{CountsRefusal, IsAheadOrMemory, IsCause, IsRefused, StandsForGroup, StaysSame, scan_refusal};
+ghost use Rattle.group_book.specs.Openings.{CountsBookRefusal, IsAheadOrMemory, IsBookCause, IsRefused, StandsForGroup, BookStaysSame, scan_refusal};
 ghost use Rattle.group_book.specs.Tapes.{cut};
 ghost use Rattle.group_book.specs.Told.{count_of, versions_of};
 
@@ -61,8 +61,8 @@ pub fn load<D: Disk>(
     ensures opened { IfOk result (λ b. Shows (D.trace dev)
         (StandsForGroup text.now def.now b.opening.versions.items (lists_of b.opening.rows.items))) }
     ensures any_moment { IfOk result (λ b. (d : D) → b.dev ≡ Some d
-        → During (D.trace dev) (D.trace d) (StaysSame text.now def.now (D.trace dev))) }
-    ensures any_moment_refused { IfErr result (λ e. During (D.trace dev) (D.trace e.dev) (StaysSame text.now def.now (D.trace dev))) }
+        → During (D.trace dev) (D.trace d) (BookStaysSame text.now def.now (D.trace dev))) }
+    ensures any_moment_refused { IfErr result (λ e. During (D.trace dev) (D.trace e.dev) (BookStaysSame text.now def.now (D.trace dev))) }
 
     ensures versions { IfOk result (λ b. b.opening.versions.items ≡ versions_of b) }
     ensures copies { IfOk result (λ b. b.sheet.copies ≡ cut b.opening.versions.items (lists_of recovered.now)) }
@@ -79,9 +79,9 @@ pub fn load<D: Disk>(
     ensures faults { IfOk result (λ b. b.opening.faults ≡ count_of D.fault_count b.dev) }
 
     // A refusal tells its cause. One fault is counted where a call of the device has failed, and else none.
-    ensures cause { IfErr result (λ e. IsCause text.now def.now (lists_of recovered.now) (D.trace dev) e.why) }
+    ensures cause { IfErr result (λ e. IsBookCause text.now def.now (lists_of recovered.now) (D.trace dev) e.why) }
     ensures faultless { IfOk result (λ b. count_of D.fault_count b.dev ≡ D.fault_count dev) }
-    ensures counts { IfErr result (λ e. CountsRefusal e.why (D.fault_count dev) (D.fault_count e.dev)) }
+    ensures counts { IfErr result (λ e. CountsBookRefusal e.why (D.fault_count dev) (D.fault_count e.dev)) }
 {
     let mut dev = dev;
     let calcs = def.calcs.defs().len() as u32;

@@ -4,7 +4,7 @@ ghost use Rattle.calc_refresh.specs.Lists.{lists_of};
 ghost use Rattle.calc_refresh.specs.Refreshed.{evaluated, fault_after};
 ghost use Rattle.calc_refresh.specs.Sheet.{IsCopy};
 ghost use Rattle.group_book.specs.Told.{GoesOn, IsPublished, pulled_records, versions_of};
-ghost use Rattle.group_book.specs.Refusals.{IsToldOf};
+ghost use Rattle.group_book.specs.Refusals.{IsBookToldOf};
 
 use crate::book::Book;
 use crate::refusal::RefreshNo;
@@ -62,7 +62,7 @@ impl<D: Disk> Book<D> {
         ensures within { OnOk result (fault_after self.old.sheet (pulled_records pulled.items) ≡ None) }
         ensures unchanged { OnErr result (self.new ≡ self.old) }
         ensures no_steps { OnErr result (steps.new ≡ steps.old) }
-        ensures fault { IfErr result (IsToldOf (fault_after self.old.sheet (pulled_records pulled.items))) }
+        ensures fault { IfErr result (IsBookToldOf (fault_after self.old.sheet (pulled_records pulled.items))) }
     {
         let entry = uptos(self.alloc, &pulled)?;
         let versions = uptos(self.alloc, &pulled)?;

@@ -5,7 +5,7 @@ ghost use Rattle.calc_refresh.specs.Lists.{lists_of};
 ghost use Rattle.sheet_law.specs.Windows.{complete_windows};
 ghost use Rattle.group_layout.specs.Blocks.{parts_of};
 ghost use Rattle.group_book.specs.declared.refusal.SaveNo.TheVariants.{Broken, DeviceFault, WantOfMemory as NoMemory};
-ghost use Rattle.group_book.specs.Saves.{IsFaulted, IsSaved, ListsChanges};
+ghost use Rattle.group_book.specs.Saves.{IsBookFaulted, IsSaved, ListsChanges};
 ghost use Rattle.group_book.specs.Told.{count_of};
 
 use crate::book::Book;
@@ -40,7 +40,7 @@ impl<D: Disk> Book<D> {
         ensures none { self.old.dev ≡ None → IsOk result × (self.new ≡ self.old) }
         ensures broken { IsErrOf result Broken ↔ (self.old.failed ≡ true) }
         ensures saved { (d : D) → self.old.dev ≡ Some d → OnOk result (IsSaved D.trace D.ticks d self.old self.new) }
-        ensures faulted { IsErrOf result DeviceFault → IsFaulted self.old self.new }
+        ensures faulted { IsErrOf result DeviceFault → IsBookFaulted self.old self.new }
         ensures cause { CountsFault result DeviceFault (count_of D.fault_count self.old.dev) (count_of D.fault_count self.new.dev) }
         ensures untouched { IsErrOf result NoMemory → self.new ≡ self.old }
         ensures still_broken { IsErrOf result Broken → self.new ≡ self.old }

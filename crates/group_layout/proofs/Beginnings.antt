@@ -8,7 +8,7 @@ use Rattle.disk_model.specs.Gates.{IsGuarded, IsShut}
 use Rattle.disk_model.proofs.Moments.{started, weaker}
 use Rattle.archive_file.specs.Fields.{number_bytes}
 use Rattle.group_layout.specs.declared.block.BlockRow.{BlockRow}
-use Rattle.group_layout.specs.Blocks.{Parts, block_image, block_size, row_image, rows_image, versions_image}
+use Rattle.group_layout.specs.Blocks.{BlockParts, block_image, block_size, row_image, rows_image, versions_image}
 use Rattle.group_layout.specs.Images.{IsUnsaved, letters}
 use Rattle.group_layout.specs.Readings.{SavesNothing}
 use Rattle.archive_file.specs.TextHeads.{IsLeftOrBegun}
@@ -61,7 +61,7 @@ length-versions_image (v ∷ versions) =
     omega (arith, length-append (number_bytes 4 v) (versions_image versions), length-versions_image versions)
 
 -- how many bytes a block has
-pub length-block_image : (b : Parts) → length (block_image b ++ 0 ∷ []) ≡ block_size b
+pub length-block_image : (b : BlockParts) → length (block_image b ++ 0 ∷ []) ≡ block_size b
 length-block_image b = omega (
   arith,
   length-append (block_image b) (0 ∷ []),

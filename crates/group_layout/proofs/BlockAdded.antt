@@ -9,7 +9,7 @@ use Rattle.disk_model.proofs.Bytes.{length-written}
 use Rattle.disk_model.proofs.Images.{present}
 use Rattle.disk_model.proofs.Moments.{during_now}
 use Rattle.disk_model.specs.Gates.{IsGuarded, IsOpen, IsShut, open_byte}
-use Rattle.group_layout.specs.Blocks.{HasBlock, HasBlocks, MayFollow, Parts, block_image, block_size, end_of, last_of, unsaved}
+use Rattle.group_layout.specs.Blocks.{HasBlock, HasBlocks, MayFollow, BlockParts, block_image, block_size, end_of, last_of, unsaved}
 use Rattle.archive_file.specs.TextHeads.{IsOfText, blocks_at}
 use Rattle.group_layout.specs.Images.{HasSaved, letters}
 use Rattle.group_layout.specs.Rows.{AreRowsOf}
@@ -19,12 +19,12 @@ use Rattle.group_layout.proofs.Beginnings.{length-block_image}
 use Rattle.group_layout.proofs.Walks.{end_of-push, has_push, last_of-push}
 
 -- the blocks begin before they end
-begins_before : (from : ℕ) (bs : List Parts) → from ≤ end_of from bs
+begins_before : (from : ℕ) (bs : List BlockParts) → from ≤ end_of from bs
 begins_before from [] = omega arith
 begins_before from (b ∷ bs) = let rest = begins_before (from + block_size b) bs in omega (arith, rest)
 
 -- blocks that end there stand in both
-pub blocks_same : (n : ℕ) (d c : List ℕ) (calcs : ℕ) (b : Parts) (at : ℕ) (bs : List Parts) → SameFront n d c → end_of at bs ≤ n
+pub blocks_same : (n : ℕ) (d c : List ℕ) (calcs : ℕ) (b : BlockParts) (at : ℕ) (bs : List BlockParts) → SameFront n d c → end_of at bs ≤ n
     → HasBlocks d calcs b at bs → HasBlocks c calcs b at bs
 blocks_same n d c calcs b at [] front within has = tt
 blocks_same n d c calcs b at (x ∷ bs) front within has = (
@@ -45,7 +45,7 @@ blocks_same n d c calcs b at (x ∷ bs) front within has = (
 -- ---- a block behind a gate
 
 -- behind a block that was added there is room for the next one
-pub block_ready : (b : Parts) (at : ℕ) (o o1 : Option Trace) → Now o (IsShut at)
+pub block_ready : (b : BlockParts) (at : ℕ) (o o1 : Option Trace) → Now o (IsShut at)
     → During o o1 (FromOld o (IsGuarded (at + 1) (block_image b ++ 0 ∷ []) at))
     → Sees o1 (written (written (seen o) (at + 1) (block_image b ++ 0 ∷ [])) at (open_byte ∷ [])) → IsSettled o1
     → Now o1 (IsShut (at + block_size b))
@@ -65,8 +65,8 @@ block_ready b at (Some s) (Some t) shut during sees settled = record {
     long : at ≤ length (written (seen (Some s)) (at + 1) (block_image b ++ 0 ∷ []))
     long = omega (arith, there, length-written (seen (Some s)) (at + 1) (block_image b ++ 0 ∷ []) (omega (arith, there)))
 
-module _ (text d c : List ℕ) (inputs calcs : ℕ) (bs : List Parts) (rows : List (List CalcValue)) (has : HasSaved text inputs calcs d bs rows)
-    (b : Parts) (at : ℕ) (end : end_of (blocks_at (length text)) bs ≡ at)
+module _ (text d c : List ℕ) (inputs calcs : ℕ) (bs : List BlockParts) (rows : List (List CalcValue)) (has : HasSaved text inputs calcs d bs rows)
+    (b : BlockParts) (at : ℕ) (end : end_of (blocks_at (length text)) bs ≡ at)
     (guarded : IsGuarded (at + 1) (block_image b ++ 0 ∷ []) at d c) where
   gate_there : at < length d
   gate_there = subst (λ n. n < length d) end has.blocks.shut.there

@@ -5,11 +5,11 @@ use Rattle.archive_file.proofs.Points.{IsBytes}
 use Rattle.group_layout.specs.declared.block.BlockRow.{BlockRow}
 use Rattle.archive_file.specs.declared.layout_field.Field.{Field}
 use Rattle.archive_file.specs.LayoutFields.{Keeps, Spells, long_at, short_at}
-use Rattle.group_layout.specs.Blocks.{Parts, AreRows, MayFollow, block_fields, block_image, block_size, rows_fields, rows_image, version_fields, versions_image}
+use Rattle.group_layout.specs.Blocks.{BlockParts, AreRows, MayFollow, block_fields, block_image, block_size, rows_fields, rows_image, version_fields, versions_image}
 use Rattle.archive_file.proofs.FieldLaws.{KeptUpTo, field_of, kept_more, kept_none, spells_both}
 use Rattle.archive_file.proofs.LayoutSpellings.{spells_long, spells_short}
 
-module _ (c : List ℕ) (calcs gate : ℕ) (before : Parts) (number at windows count : ℕ) (vs : List ℕ)
+module _ (c : List ℕ) (calcs gate : ℕ) (before : BlockParts) (number at windows count : ℕ) (vs : List ℕ)
     (vs_is : vs ≡ before.versions) (number_is : number ≡ long_at c (gate + 1)) (at_is : at ≡ gate + 9 + 4 * length vs)
     (windows_is : windows ≡ short_at c at) (count_is : count ≡ short_at c (at + 4)) where
   abbrev pub number_field : Field

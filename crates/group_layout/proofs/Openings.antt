@@ -11,11 +11,11 @@ use Rattle.group_layout.specs.declared.block.Block.{Block}
 use Rattle.group_layout.specs.declared.layout_reader.Found.{Found}
 use Rattle.group_layout.specs.declared.layout_reader.Found.TheVariants.{New, Other, Saved}
 use Rattle.group_layout.specs.declared.layout_reader.SavedGroup.{SavedGroup}
-use Rattle.group_layout.specs.Blocks.{HasBlocks, Parts, block_size, last_of, parts_of, unsaved}
+use Rattle.group_layout.specs.Blocks.{HasBlocks, BlockParts, block_size, last_of, parts_of, unsaved}
 use Rattle.archive_file.specs.TextHeads.{IsEmpty, blocks_at}
 use Rattle.group_layout.specs.Images.{ByBlocks, ByNothing, HasSaved, IsUnsaved, StandsFor, letters}
 use Rattle.group_layout.specs.Readings.{HasShape, IsFound, IsLeftOrSame, IsReadOf, IsShaped, SavesNothing, StandsSame}
-use Rattle.group_layout.specs.Rows.{AreRowsOf, lists_of}
+use Rattle.group_layout.specs.Rows.{AreRowsOf, block_lists_of}
 
 -- no blocks give rows without values
 none_given : (calcs : ℕ) (rows : List (List CalcValue)) → length rows ≡ calcs → All (λ row. length row ≡ 0) rows → rows ≡ replicate calcs []
@@ -84,7 +84,7 @@ left_begun text inputs calcs o mid new synced is before begun =
 
 -- what was read of blocks is what they stand for
 pub read_stands : (text : List ℕ) (inputs calcs : ℕ) (o : Option Trace) (f : Found) (g : SavedGroup) → f ≡ Saved g
-    → Shows o (IsFound text inputs calcs f) → Shows o (λ c. StandsFor text inputs calcs c g.versions.items (lists_of g.rows.items))
+    → Shows o (IsFound text inputs calcs f) → Shows o (λ c. StandsFor text inputs calcs c g.versions.items (block_lists_of g.rows.items))
 read_stands text inputs calcs None f g is found = tt
 read_stands text inputs calcs (Some t) f g is found =
     let read : IsReadOf text inputs calcs (seen (Some t)) g = subst (λ x. IsFound text inputs calcs x (seen (Some t))) is found in
@@ -99,8 +99,8 @@ found_unsaved text inputs calcs (Some t) f (inr is) found = inr (subst (λ x. Is
 
 -- so it stands for version 0
 pub unsaved_stands : {E : Type 0} (text : List ℕ) (inputs calcs : ℕ) (o : Option Trace) (r : Result SavedGroup E) → Shows o (IsUnsaved text)
-    → IfOk r (λ g. g.versions.items ≡ replicate inputs 0) → IfOk r (λ g. lists_of g.rows.items ≡ replicate calcs [])
-    → IfOk r (λ g. Shows o (λ c. StandsFor text inputs calcs c g.versions.items (lists_of g.rows.items)))
+    → IfOk r (λ g. g.versions.items ≡ replicate inputs 0) → IfOk r (λ g. block_lists_of g.rows.items ≡ replicate calcs [])
+    → IfOk r (λ g. Shows o (λ c. StandsFor text inputs calcs c g.versions.items (block_lists_of g.rows.items)))
 unsaved_stands text inputs calcs o (Err e) is versions rows = tt
 unsaved_stands text inputs calcs None (Ok g) is versions rows = tt
 unsaved_stands text inputs calcs (Some t) (Ok g) is versions rows = ByNothing is versions rows
@@ -108,7 +108,7 @@ unsaved_stands text inputs calcs (Some t) (Ok g) is versions rows = ByNothing is
 -- ---- how long what was read is
 
 -- the last block has as many versions as there are inputs
-last_inputs : (c : List ℕ) (calcs : ℕ) (before : Parts) (at : ℕ) (bs : List Parts) → HasBlocks c calcs before at bs
+last_inputs : (c : List ℕ) (calcs : ℕ) (before : BlockParts) (at : ℕ) (bs : List BlockParts) → HasBlocks c calcs before at bs
     → length (last_of before bs).versions ≡ length before.versions
 last_inputs c calcs before at [] has = refl
 last_inputs c calcs before at (b ∷ bs) has = last_inputs c calcs b (at + block_size b) bs has.1 ∙ has.0.follows.inputs
@@ -118,7 +118,7 @@ read_shape text inputs calcs c g read = record {
   versions_are = ap length read.versions
       ∙ last_inputs c calcs (unsaved inputs) (blocks_at (length text)) read.blocks read.has.blocks.blocks ∙ length-replicate inputs 0;
   calcs_are = sym (length-map g.rows.items (λ v. v.items)) ∙ read.has.rows_are.calcs_are;
-  windows_are = subst (λ n. All (λ row. length row ≡ n) (lists_of g.rows.items)) (sym read.windows) read.has.rows_are.windows_are;
+  windows_are = subst (λ n. All (λ row. length row ≡ n) (block_lists_of g.rows.items)) (sym read.windows) read.has.rows_are.windows_are;
 }
 
 pub found_shape : (text : List ℕ) (inputs calcs : ℕ) (c : List ℕ) (f : Found) → IsFound text inputs calcs f c → IsShaped inputs calcs f
@@ -133,7 +133,7 @@ found_shapes text inputs calcs c (Ok f) found = found_shape text inputs calcs c 
 
 -- where there are no blocks
 pub none_shape : (inputs calcs : ℕ) (bs : List Block) (g : SavedGroup) → bs ≡ []
-    → AreRowsOf calcs g.windows (map parts_of bs) (lists_of g.rows.items)
+    → AreRowsOf calcs g.windows (map parts_of bs) (block_lists_of g.rows.items)
     → g.versions.items ≡ (last_of (unsaved inputs) (map parts_of bs)).versions → HasShape inputs calcs g
 none_shape inputs calcs bs g none rows versions = record {
   versions_are = ap length (versions ∙ ap (λ l. (last_of (unsaved inputs) (map parts_of l)).versions) none) ∙ length-replicate inputs 0;

@@ -7,8 +7,8 @@ use Rattle.std.proofs.lemmas.List.Elements.{All-head, All-tail}
 use Rattle.std.proofs.lemmas.Option.{slice_get-get_or, slice_get_cases, slice_get_past}
 use Rattle.trend_num.specs.declared.value.CalcValue.{CalcValue}
 use Rattle.group_layout.specs.declared.block.BlockRow.{BlockRow}
-use Rattle.group_layout.specs.Blocks.{Parts}
-use Rattle.group_layout.specs.Rows.{AreRowsOf, all_rows, cell_of, is_at, listed_from, saved_value, value_of}
+use Rattle.group_layout.specs.Blocks.{BlockParts}
+use Rattle.group_layout.specs.Rows.{AreRowsOf, rows_of_blocks, cell_of, is_at, listed_from, saved_value, value_of}
 use Rattle.group_layout.proofs.SavedRows.{listed-append}
 
 -- ---- cells
@@ -68,10 +68,10 @@ listed_none w (r ∷ rows) calc k is = go (is_at calc k r) (λ e. listed_none w 
     go false rest e = rest e
 
 -- one block more
-saved-push : (bs : List Parts) (b : Parts) (calc k : ℕ) → saved_value (bs ++ b ∷ []) calc k ≡ listed_from (saved_value bs calc k) b.rows calc k
+saved-push : (bs : List BlockParts) (b : BlockParts) (calc k : ℕ) → saved_value (bs ++ b ∷ []) calc k ≡ listed_from (saved_value bs calc k) b.rows calc k
 saved-push bs b calc k =
-    ap (λ l. listed_from None l calc k) (flat_map-append (λ x. x.rows) bs (b ∷ []) ∙ ap (λ l. all_rows bs ++ l) (append-nil b.rows))
-    ∙ listed-append None (all_rows bs) b.rows calc k
+    ap (λ l. listed_from None l calc k) (flat_map-append (λ x. x.rows) bs (b ∷ []) ∙ ap (λ l. rows_of_blocks bs ++ l) (append-nil b.rows))
+    ∙ listed-append None (rows_of_blocks bs) b.rows calc k
 
 -- of a cell that changed a block lists the new value, and of any other none
 abbrev pub IsAddedAt : List (List CalcValue) → List (List CalcValue) → List BlockRow → ℕ → ℕ → Type 0
@@ -79,7 +79,7 @@ IsAddedAt old new rows calc k =
     ((cell_of new calc k ≡ cell_of old calc k) × (listed_from None rows calc k ≡ None)) ⊎ (listed_from None rows calc k ≡ cell_of new calc k)
 
 -- blocks give the old rows, and with one more the new ones
-pub rows_more : (calcs : ℕ) (before b : Parts) (bs : List Parts) (old new : List (List CalcValue)) → AreRowsOf calcs before.windows bs old
+pub rows_more : (calcs : ℕ) (before b : BlockParts) (bs : List BlockParts) (old new : List (List CalcValue)) → AreRowsOf calcs before.windows bs old
     → length new ≡ calcs → All (λ row. length row ≡ b.windows) new
     → ((calc k : ℕ) → calc < calcs → k < b.windows → IsAddedAt old new b.rows calc k) → AreRowsOf calcs b.windows (bs ++ b ∷ []) new
 rows_more calcs before b bs old new are long wide added = record {

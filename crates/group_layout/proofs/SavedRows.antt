@@ -6,8 +6,8 @@ use Rattle.std.proofs.lemmas.List.Elements.{All-push}
 use Rattle.trend_num.specs.declared.value.CalcValue.{CalcValue}
 use Rattle.group_layout.specs.declared.block.Block.{Block}
 use Rattle.group_layout.specs.declared.block.BlockRow.{BlockRow}
-use Rattle.group_layout.specs.Blocks.{Parts, parts_of}
-use Rattle.group_layout.specs.Rows.{AreRowsOf, all_rows, is_at, listed_from, saved_value, value_of}
+use Rattle.group_layout.specs.Blocks.{BlockParts, parts_of}
+use Rattle.group_layout.specs.Rows.{AreRowsOf, rows_of_blocks, is_at, listed_from, saved_value, value_of}
 
 -- rows behind rows
 pub listed-append : (v : Option CalcValue) (xs ys : List BlockRow) (calc k : ℕ)
@@ -18,11 +18,11 @@ listed-append v (r ∷ xs) ys calc k = listed-append (if is_at calc k r then Som
 -- one block more
 pub next_block : (v w : Option CalcValue) (bs : List Block) (i calc k : ℕ) (d : Block) → i < length bs
     → w ≡ listed_from v (get_or bs i d).rows.items calc k
-    → listed_from w (all_rows (map parts_of (drop (i + 1) bs))) calc k ≡ listed_from v (all_rows (map parts_of (drop i bs))) calc k
+    → listed_from w (rows_of_blocks (map parts_of (drop (i + 1) bs))) calc k ≡ listed_from v (rows_of_blocks (map parts_of (drop i bs))) calc k
 next_block v w bs i calc k d low is =
-    ap (λ x. listed_from x (all_rows (map parts_of (drop (i + 1) bs))) calc k) is
-    ∙ sym (listed-append v (get_or bs i d).rows.items (all_rows (map parts_of (drop (i + 1) bs))) calc k)
-    ∙ ap (λ l. listed_from v (all_rows (map parts_of l)) calc k) (sym (drop_more bs i d low))
+    ap (λ x. listed_from x (rows_of_blocks (map parts_of (drop (i + 1) bs))) calc k) is
+    ∙ sym (listed-append v (get_or bs i d).rows.items (rows_of_blocks (map parts_of (drop (i + 1) bs))) calc k)
+    ∙ ap (λ l. listed_from v (rows_of_blocks (map parts_of l)) calc k) (sym (drop_more bs i d low))
 
 -- an element of a list with more behind it
 slice_get-append : {X : Type 0} (xs ys : List X) (i : ℕ) → i < length xs → slice_get (xs ++ ys) i ≡ slice_get xs i
@@ -50,7 +50,7 @@ row_cell (x ∷ row) (y ∷ cells) (suc k) is low = row_cell row cells k (tail_i
     tail_is e = cc
 
 -- one row more
-pub rows_push : (calc windows : ℕ) (bs : List Parts) (rows : List (List CalcValue)) (row : List CalcValue)
+pub rows_push : (calc windows : ℕ) (bs : List BlockParts) (rows : List (List CalcValue)) (row : List CalcValue)
     (cells : List (Option CalcValue)) → AreRowsOf calc windows bs rows → map Some row ≡ cells → length cells ≡ windows
     → ((k : ℕ) → k < windows → get_or cells k None ≡ saved_value bs calc k)
     → AreRowsOf (calc + 1) windows bs (rows ++ row ∷ [])

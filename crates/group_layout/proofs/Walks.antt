@@ -3,20 +3,20 @@ use Rattle.std.proofs.Common.{◌≡◌, inr, ℕ, suc, ◌+◌, ◌-◌, ◌<�
 use Rattle.disk_model.specs.Gates.{IsOpen}
 use Rattle.group_layout.specs.declared.block.Block.{Block}
 use Rattle.archive_file.specs.LayoutFields.{BreaksFirst, Spells}
-use Rattle.group_layout.specs.Blocks.{Parts, AreDamaged, HasBlock, HasBlocks, MayFollow, block_fields, block_image, block_size, end_of, last_of, parts_of, unsaved}
+use Rattle.group_layout.specs.Blocks.{BlockParts, AreDamaged, HasBlock, HasBlocks, MayFollow, block_fields, block_image, block_size, end_of, last_of, parts_of, unsaved}
 
 -- the last of blocks and one more is that one
-pub last_of-push : (b : Parts) (bs : List Parts) (x : Parts) → last_of b (bs ++ x ∷ []) ≡ x
+pub last_of-push : (b : BlockParts) (bs : List BlockParts) (x : BlockParts) → last_of b (bs ++ x ∷ []) ≡ x
 last_of-push b [] x = refl
 last_of-push b (y ∷ bs) x = last_of-push y bs x
 
 -- where they end
-pub end_of-push : (at : ℕ) (bs : List Parts) (x : Parts) → end_of at (bs ++ x ∷ []) ≡ end_of at bs + block_size x
+pub end_of-push : (at : ℕ) (bs : List BlockParts) (x : BlockParts) → end_of at (bs ++ x ∷ []) ≡ end_of at bs + block_size x
 end_of-push at [] x = refl
 end_of-push at (y ∷ bs) x = end_of-push (at + block_size y) bs x
 
 -- one more stands behind them
-pub has_push : (c : List ℕ) (calcs : ℕ) (b : Parts) (at : ℕ) (bs : List Parts) (x : Parts) → HasBlocks c calcs b at bs
+pub has_push : (c : List ℕ) (calcs : ℕ) (b : BlockParts) (at : ℕ) (bs : List BlockParts) (x : BlockParts) → HasBlocks c calcs b at bs
     → HasBlock c calcs (last_of b bs) x (end_of at bs) → HasBlocks c calcs b at (bs ++ x ∷ [])
 has_push c calcs b at [] x has one = (one, tt)
 has_push c calcs b at (y ∷ bs) x has one = (has.0, has_push c calcs y (at + block_size y) bs x has.1 one)
@@ -27,7 +27,7 @@ parts-push [] x = refl
 parts-push (y ∷ bs) x = ap (λ l. parts_of y ∷ l) (parts-push bs x)
 
 -- the blocks that were read, and one more behind an open gate
-pub walk_on : (c : List ℕ) (calcs inputs at next : ℕ) (bs : List Block) (x : Block) (before : Parts)
+pub walk_on : (c : List ℕ) (calcs inputs at next : ℕ) (bs : List Block) (x : Block) (before : BlockParts)
     → before ≡ last_of (unsaved inputs) (map parts_of bs) → next ≡ end_of at (map parts_of bs)
     → HasBlocks c calcs (unsaved inputs) at (map parts_of bs) → IsOpen next c → MayFollow calcs before (parts_of x)
     → Spells c (next + 1) (block_image (parts_of x)) (next + block_size (parts_of x))
@@ -40,7 +40,7 @@ walk_on c calcs inputs at next bs x before last end has opened follows spelled =
     (record { opened = opened; spelled = spelled.spelled; follows = follows }))))
 
 -- the next block breaks a rule
-pub walk_breaks : (c : List ℕ) (calcs inputs at next : ℕ) (bs : List Block) (before : Parts) (a : ℕ) (byte : Option ℕ)
+pub walk_breaks : (c : List ℕ) (calcs inputs at next : ℕ) (bs : List Block) (before : BlockParts) (a : ℕ) (byte : Option ℕ)
     → before ≡ last_of (unsaved inputs) (map parts_of bs) → next ≡ end_of at (map parts_of bs)
     → HasBlocks c calcs (unsaved inputs) at (map parts_of bs) → IsOpen next c
     → BreaksFirst c (block_fields c calcs before next) a byte → AreDamaged c calcs inputs at a byte
@@ -53,7 +53,7 @@ walk_breaks c calcs inputs at next bs before a byte last end has opened breaks =
 })
 
 -- the last in memory
-pub last_is : (b : Parts) (bs : List Block) (x : Block) → 1 ≤ length bs → x ≡ get_or bs (length bs - 1) x
+pub last_is : (b : BlockParts) (bs : List Block) (x : Block) → 1 ≤ length bs → x ≡ get_or bs (length bs - 1) x
     → parts_of x ≡ last_of b (map parts_of bs)
 last_is b [] x some is = absurd (omega arith)
 last_is b (y ∷ []) x some is = ap parts_of is
@@ -64,12 +64,12 @@ last_is b (y ∷ z ∷ bs) x some is =
     place = omega arith
 
 -- the last block lies before the end
-last_before : (at : ℕ) (b : Parts) (bs : List Parts) → block_size (last_of b bs) ≤ end_of (at + block_size b) bs
+last_before : (at : ℕ) (b : BlockParts) (bs : List BlockParts) → block_size (last_of b bs) ≤ end_of (at + block_size b) bs
 last_before at b [] = omega arith
 last_before at b (x ∷ bs) = last_before (at + block_size b) x bs
 
 -- where there is a window there is a block
-pub last_fits : (at inputs k : ℕ) (bs : List Parts) → k < (last_of (unsaved inputs) bs).windows
+pub last_fits : (at inputs k : ℕ) (bs : List BlockParts) → k < (last_of (unsaved inputs) bs).windows
     → block_size (last_of (unsaved inputs) bs) ≤ end_of at bs
 last_fits at inputs k [] low = absurd (omega arith)
 last_fits at inputs k (b ∷ bs) low = last_before at b bs

@@ -10,18 +10,18 @@ use Rattle.archive_file.specs.declared.layout_field.Field.{Field}
 use Rattle.archive_file.specs.LayoutFields.{BreaksFirst, EndsIn, long_at, short_at}
 
 -- what a block says: its number, the versions of the inputs, how many windows are complete, and the rows that changed
-pub record Parts : Type 0 where
+pub record BlockParts : Type 0 where
   pub number : ℕ
   pub versions : List ℕ
   pub windows : ℕ
   pub rows : List BlockRow
 
 -- that of a block in memory
-abbrev pub parts_of : Block → Parts
+abbrev pub parts_of : Block → BlockParts
 parts_of b = record { number = b.number; versions = b.versions.items; windows = b.windows; rows = b.rows.items }
 
 -- before the first save nothing was: so many inputs at version 0
-abbrev pub unsaved : ℕ → Parts
+abbrev pub unsaved : ℕ → BlockParts
 unsaved inputs = record { number = 0; versions = replicate inputs 0; windows = 0; rows = [] }
 
 -- ---- its bytes
@@ -35,12 +35,12 @@ versions_image versions = flat_map (number_bytes 4) versions
 abbrev pub rows_image : List BlockRow → List ℕ
 rows_image rows = flat_map row_image rows
 
-abbrev pub block_image : Parts → List ℕ
+abbrev pub block_image : BlockParts → List ℕ
 block_image b = number_bytes 8 b.number ++ (versions_image b.versions ++ (number_bytes 4 b.windows
     ++ (number_bytes 4 (length b.rows) ++ rows_image b.rows)))
 
 -- from its gate to the next one
-abbrev pub block_size : Parts → ℕ
+abbrev pub block_size : BlockParts → ℕ
 block_size b = 17 + 4 * length b.versions + 17 * length b.rows
 
 -- ---- what it may say
@@ -71,7 +71,7 @@ pub record AreRows (calcs windows : ℕ) (rows : List BlockRow) : Type 0 where
   pub sorted : AllPairs IsBefore rows
 
 -- a block may follow another: numbers rise by one, and versions and windows never fall
-pub record MayFollow (calcs : ℕ) (before b : Parts) : Type 0 where
+pub record MayFollow (calcs : ℕ) (before b : BlockParts) : Type 0 where
   pub number : b.number ≡ before.number + 1
   pub inputs : length b.versions ≡ length before.versions
   pub rises : (i : ℕ) → i < length before.versions → slice_index before.versions i ≤ slice_index b.versions i
@@ -81,27 +81,27 @@ pub record MayFollow (calcs : ℕ) (before b : Parts) : Type 0 where
 -- ---- blocks one behind the other
 
 -- a block that may follow `before` stands behind its open gate
-pub record HasBlock (c : List ℕ) (calcs : ℕ) (before b : Parts) (at : ℕ) : Type 0 where
+pub record HasBlock (c : List ℕ) (calcs : ℕ) (before b : BlockParts) (at : ℕ) : Type 0 where
   pub opened : IsOpen at c
   pub spelled : Holds (at + 1) (block_image b) c
   pub follows : MayFollow calcs before b
 
 -- these blocks stand one behind the other from the gate at a place, after `before`
-abbrev pub HasBlocks : List ℕ → ℕ → Parts → ℕ → List Parts → Type 0
+abbrev pub HasBlocks : List ℕ → ℕ → BlockParts → ℕ → List BlockParts → Type 0
 HasBlocks c calcs before at [] = Unit {0}
 HasBlocks c calcs before at (b ∷ bs) = HasBlock c calcs before b at × HasBlocks c calcs b (at + block_size b) bs
 
 -- the last of them, and where they end
-abbrev pub last_of : Parts → List Parts → Parts
+abbrev pub last_of : BlockParts → List BlockParts → BlockParts
 last_of before [] = before
 last_of before (b ∷ bs) = last_of b bs
 
-abbrev pub end_of : ℕ → List Parts → ℕ
+abbrev pub end_of : ℕ → List BlockParts → ℕ
 end_of at [] = at
 end_of at (b ∷ bs) = end_of (at + block_size b) bs
 
 -- all blocks from the gate at a place: the gate behind the last one is there, and closed
-pub record AreBlocks (c : List ℕ) (calcs inputs at : ℕ) (bs : List Parts) : Type 0 where
+pub record AreBlocks (c : List ℕ) (calcs inputs at : ℕ) (bs : List BlockParts) : Type 0 where
   pub blocks : HasBlocks c calcs (unsaved inputs) at bs
   pub shut : IsShut (end_of at bs) c
 
@@ -148,7 +148,7 @@ rows_fields c calcs windows last at (suc n) =
 
 -- the fields of a block behind the gate at a place, which follows `before`: its number, the versions, the windows, how many
 -- rows changed, these rows, and the next gate
-abbrev pub block_fields : List ℕ → ℕ → Parts → ℕ → List Field
+abbrev pub block_fields : List ℕ → ℕ → BlockParts → ℕ → List Field
 block_fields c calcs before at =
     let versions_at = at + 9 in
     let windows_at = versions_at + 4 * length before.versions in
@@ -163,7 +163,7 @@ block_fields c calcs before at =
 
 -- behind whole blocks one breaks a rule
 pub record IsBlockDamage (c : List ℕ) (calcs inputs at a : ℕ) (byte : Option ℕ) : Type 0 where
-  pub blocks : List Parts
+  pub blocks : List BlockParts
   pub whole : HasBlocks c calcs (unsaved inputs) at blocks
   pub opened : IsOpen (end_of at blocks) c
   pub breaks : BreaksFirst c (block_fields c calcs (last_of (unsaved inputs) blocks) (end_of at blocks)) a byte

@@ -4,7 +4,7 @@ use Rattle.trend_num.specs.declared.value.CalcValue.{CalcValue}
 use Rattle.disk_model.specs.Gates.{IsBegun, IsNew}
 use Rattle.archive_file.specs.LayoutFields.{BreaksFirst}
 use Rattle.archive_file.specs.TextHeads.{HasHead, IsOfText, blocks_at, head_fields, text_in}
-use Rattle.group_layout.specs.Blocks.{Parts, AreBlocks, AreDamaged, unsaved, last_of}
+use Rattle.group_layout.specs.Blocks.{BlockParts, AreBlocks, AreDamaged, unsaved, last_of}
 use Rattle.group_layout.specs.Rows.{AreRowsOf, IsIncomplete}
 
 -- the letters behind the gate of the layout
@@ -21,14 +21,14 @@ abbrev pub IsUnsaved : List ℕ → List ℕ → Type 0
 IsUnsaved text c = IsNew c ⊎ IsOfOther text c
 
 -- the blocks of a group of this text, with so many inputs and calculations
-pub record HasSaved (text : List ℕ) (inputs calcs : ℕ) (c : List ℕ) (bs : List Parts) (rows : List (List CalcValue)) : Type 0 where
+pub record HasSaved (text : List ℕ) (inputs calcs : ℕ) (c : List ℕ) (bs : List BlockParts) (rows : List (List CalcValue)) : Type 0 where
   pub of_text : IsOfText letters text c
   pub blocks : AreBlocks c calcs inputs (blocks_at (length text)) bs
   pub rows_are : AreRowsOf calcs (last_of (unsaved inputs) bs).windows bs rows
 
 -- the versions of the last block
-abbrev pub versions_of : ℕ → List Parts → List ℕ
-versions_of inputs bs = (last_of (unsaved inputs) bs).versions
+abbrev pub saved_versions_of : ℕ → List BlockParts → List ℕ
+saved_versions_of inputs bs = (last_of (unsaved inputs) bs).versions
 
 -- An image stands for versions and rows: it has nothing saved for this text, the versions are 0, and there are no rows; or no
 -- rule is broken, and its blocks give these versions and rows
@@ -36,7 +36,7 @@ pub data StandsFor (text : List ℕ) (inputs calcs : ℕ) (c : List ℕ) (versio
     : Type 0 where
   ByNothing : IsUnsaved text c → versions ≡ replicate inputs 0 → rows ≡ replicate calcs []
       → StandsFor text inputs calcs c versions rows
-  ByBlocks : (bs : List Parts) → HasSaved text inputs calcs c bs rows → versions ≡ versions_of inputs bs
+  ByBlocks : (bs : List BlockParts) → HasSaved text inputs calcs c bs rows → versions ≡ saved_versions_of inputs bs
       → StandsFor text inputs calcs c versions rows
 
 -- the first damage of a group's device that is not new
@@ -44,5 +44,5 @@ pub data IsGroupDamage (text : List ℕ) (inputs calcs : ℕ) (c : List ℕ) (a 
   BadHead : IsBegun c → BreaksFirst c (head_fields letters c) a byte → IsGroupDamage text inputs calcs c a byte
   BadBlock : IsOfText letters text c → AreDamaged c calcs inputs (blocks_at (length text)) a byte
       → IsGroupDamage text inputs calcs c a byte
-  BadRows : (bs : List Parts) → IsOfText letters text c → AreBlocks c calcs inputs (blocks_at (length text)) bs
+  BadRows : (bs : List BlockParts) → IsOfText letters text c → AreBlocks c calcs inputs (blocks_at (length text)) bs
       → IsIncomplete calcs inputs (blocks_at (length text)) bs a byte → IsGroupDamage text inputs calcs c a byte

@@ -8,14 +8,14 @@ use Rattle.archive_file.specs.TextHeads.{IsEmpty, blocks_at}
 use Rattle.group_layout.specs.declared.layout_reader.Found.{Found}
 use Rattle.group_layout.specs.declared.layout_reader.Found.TheVariants.{New, Other, Saved}
 use Rattle.group_layout.specs.declared.layout_reader.SavedGroup.{SavedGroup}
-use Rattle.group_layout.specs.Blocks.{Parts, end_of, last_of, unsaved}
+use Rattle.group_layout.specs.Blocks.{BlockParts, end_of, last_of, unsaved}
 use Rattle.group_layout.specs.Images.{HasSaved, IsOfOther, IsUnsaved, StandsFor, letters}
-use Rattle.group_layout.specs.Rows.{lists_of}
+use Rattle.group_layout.specs.Rows.{block_lists_of}
 
 -- this was read of the blocks of a group
 pub record IsReadOf (text : List ℕ) (inputs calcs : ℕ) (c : List ℕ) (g : SavedGroup) : Type 0 where
-  pub blocks : List Parts
-  pub has : HasSaved text inputs calcs c blocks (lists_of g.rows.items)
+  pub blocks : List BlockParts
+  pub has : HasSaved text inputs calcs c blocks (block_lists_of g.rows.items)
   pub number : g.number ≡ (last_of (unsaved inputs) blocks).number
   pub versions : g.versions.items ≡ (last_of (unsaved inputs) blocks).versions
   pub windows : g.windows ≡ (last_of (unsaved inputs) blocks).windows
@@ -31,7 +31,7 @@ IsFound text inputs calcs (Saved g) c = IsReadOf text inputs calcs c g
 pub record HasShape (inputs calcs : ℕ) (g : SavedGroup) : Type 0 where
   pub versions_are : length g.versions.items ≡ inputs
   pub calcs_are : length g.rows.items ≡ calcs
-  pub windows_are : All (λ row. length row ≡ g.windows) (lists_of g.rows.items)
+  pub windows_are : All (λ row. length row ≡ g.windows) (block_lists_of g.rows.items)
 
 -- the same of what was found
 abbrev pub IsShaped : ℕ → ℕ → Found → Type 0

@@ -5,11 +5,11 @@ use Rattle.trend_num.specs.declared.value.Bad.TheVariants.{NoData, DivZero, Rang
 use Rattle.trend_num.specs.declared.value.CalcValue.{CalcValue}
 use Rattle.trend_num.specs.declared.value.CalcValue.TheVariants.{Num, Bad}
 use Rattle.group_layout.specs.declared.block.BlockRow.{BlockRow}
-use Rattle.group_layout.specs.Blocks.{Parts, unsaved, last_of, end_of, block_size}
+use Rattle.group_layout.specs.Blocks.{BlockParts, unsaved, last_of, end_of, block_size}
 
 -- the lists that these are
-abbrev pub lists_of : {A : Type 0} → List (Vec A Global) → List (List A)
-lists_of vs = map (λ v. v.items) vs
+abbrev pub block_lists_of : {A : Type 0} → List (Vec A Global) → List (List A)
+block_lists_of vs = map (λ v. v.items) vs
 
 -- the value of a row
 abbrev pub value_of : BlockRow → CalcValue
@@ -29,25 +29,25 @@ listed_from v [] calc k = v
 listed_from v (r ∷ rs) calc k = listed_from (if is_at calc k r then Some (value_of r) else v) rs calc k
 
 -- all rows of blocks, in order
-abbrev pub all_rows : List Parts → List BlockRow
-all_rows bs = flat_map (λ b. b.rows) bs
+abbrev pub rows_of_blocks : List BlockParts → List BlockRow
+rows_of_blocks bs = flat_map (λ b. b.rows) bs
 
 -- the value that blocks give
-abbrev pub saved_value : List Parts → ℕ → ℕ → Option CalcValue
-saved_value bs calc k = listed_from None (all_rows bs) calc k
+abbrev pub saved_value : List BlockParts → ℕ → ℕ → Option CalcValue
+saved_value bs calc k = listed_from None (rows_of_blocks bs) calc k
 
 -- what rows have of a calculation in a window
 abbrev pub cell_of : List (List CalcValue) → ℕ → ℕ → Option CalcValue
 cell_of rows calc k = option_and_then (λ row. slice_get row k) (slice_get rows calc)
 
 -- blocks give these rows: each of so many calculations has a value in each of so many windows
-pub record AreRowsOf (calcs windows : ℕ) (bs : List Parts) (rows : List (List CalcValue)) : Type 0 where
+pub record AreRowsOf (calcs windows : ℕ) (bs : List BlockParts) (rows : List (List CalcValue)) : Type 0 where
   pub calcs_are : length rows ≡ calcs
   pub windows_are : All (λ row. length row ≡ windows) rows
   pub values : (calc k : ℕ) → calc < calcs → k < windows → cell_of rows calc k ≡ saved_value bs calc k
 
 -- a calculation has no value in a window, which is told at the last open gate
-pub record IsIncomplete (calcs inputs at : ℕ) (bs : List Parts) (a : ℕ) (byte : Option ℕ) : Type 0 where
+pub record IsIncomplete (calcs inputs at : ℕ) (bs : List BlockParts) (a : ℕ) (byte : Option ℕ) : Type 0 where
   pub calc : ℕ
   pub window : ℕ
   pub calc_is : calc < calcs

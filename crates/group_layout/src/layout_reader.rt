@@ -3,7 +3,7 @@ ghost use Rattle.std.specs.Prelude.{◌≡◌, ℕ, ◌+◌, ◌^◌, ◌<◌, O
 ghost use Rattle.disk_model.specs.Calls.{CountsFault, Shows};
 ghost use Rattle.archive_file.specs.declared.failure.ScanNo.TheVariants.{Damaged, DeviceFault};
 ghost use Rattle.group_layout.specs.Blocks.{AreBlocks, AreDamaged, end_of, last_of, parts_of, unsaved};
-ghost use Rattle.group_layout.specs.Rows.{AreRowsOf, IsIncomplete, lists_of};
+ghost use Rattle.group_layout.specs.Rows.{AreRowsOf, IsIncomplete, block_lists_of};
 ghost use Rattle.group_layout.specs.Images.{IsGroupDamage};
 ghost use Rattle.group_layout.specs.Readings.{HasFewWindows, IsFound, IsShaped};
 
@@ -120,7 +120,7 @@ pub(crate) fn gather(
     calcs: u32,
 ) -> Result<SavedGroup, ScanNo>
     requires { blocks.now.end ≡ end_of at (map parts_of blocks.now.list.items) }
-    ensures rows { IfOk result (λ g. AreRowsOf calcs g.windows (map parts_of blocks.now.list.items) (lists_of g.rows.items)) }
+    ensures rows { IfOk result (λ g. AreRowsOf calcs g.windows (map parts_of blocks.now.list.items) (block_lists_of g.rows.items)) }
     ensures number { IfOk result (λ g. g.number ≡ (last_of (unsaved inputs) (map parts_of blocks.now.list.items)).number) }
     ensures versions { IfOk result (λ g. g.versions.items ≡ (last_of (unsaved inputs) (map parts_of blocks.now.list.items)).versions) }
     ensures windows { IfOk result (λ g. g.windows ≡ (last_of (unsaved inputs) (map parts_of blocks.now.list.items)).windows) }

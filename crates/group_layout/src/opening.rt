@@ -7,7 +7,7 @@ ghost use Rattle.disk_model.specs.Gates.{IsShut};
 ghost use Rattle.archive_file.specs.declared.failure.ScanNo.TheVariants.{Damaged, DeviceFault};
 ghost use Rattle.group_layout.specs.Images.{IsGroupDamage, IsUnsaved, StandsFor};
 ghost use Rattle.group_layout.specs.Readings.{HasShape, IsLeftOrSame, IsReadOf, SavesNothing};
-ghost use Rattle.group_layout.specs.Rows.{lists_of};
+ghost use Rattle.group_layout.specs.Rows.{block_lists_of};
 
 use crate::block::Blocks;
 use crate::layout_reader::{Found, SavedGroup, gather, read_group};
@@ -28,7 +28,7 @@ pub fn open_group<D: Disk>(
     calcs: u32,
 ) -> Result<SavedGroup, ScanNo>
     ensures stood { IfOk result (λ g. Shows (D.trace dev.old)
-        (λ c. StandsFor text.now inputs calcs c g.versions.items (lists_of g.rows.items))) }
+        (λ c. StandsFor text.now inputs calcs c g.versions.items (block_lists_of g.rows.items))) }
     ensures holds { IfOk result (λ g. Shows (D.trace dev.new) (λ c. IsReadOf text.now inputs calcs c g)) }
     ensures shape { IfOk result (HasShape inputs calcs) }
     ensures few { IfOk result (λ g. g.windows < 2 ^ 32) }
@@ -61,7 +61,7 @@ fn begin<D: Disk>(
     requires unsaved { Shows (D.trace dev.old) (IsUnsaved text.now) }
     requires settled { IsSettled (D.trace dev.old) }
     ensures versions { IfOk result (λ g. g.versions.items ≡ replicate inputs 0) }
-    ensures rows { IfOk result (λ g. lists_of g.rows.items ≡ replicate calcs []) }
+    ensures rows { IfOk result (λ g. block_lists_of g.rows.items ≡ replicate calcs []) }
     ensures holds { IfOk result (λ g. Shows (D.trace dev.new) (λ c. IsReadOf text.now inputs calcs c g)) }
     ensures shape { IfOk result (HasShape inputs calcs) }
     ensures few { IfOk result (λ g. g.windows < 2 ^ 32) }

@@ -2,7 +2,7 @@
 ghost use Rattle.std.specs.Prelude.{◌≡◌, ℕ, ◌<◌, Option, Some, None, IfSome, IfNone, IfOk, length, map, slice_index_or};
 ghost use Rattle.trend_num.specs.declared.value.CalcValue.{CalcValue};
 ghost use Rattle.group_layout.specs.Blocks.{parts_of};
-ghost use Rattle.group_layout.specs.Rows.{AreRowsOf, lists_of, listed_from, saved_value, value_of};
+ghost use Rattle.group_layout.specs.Rows.{AreRowsOf, block_lists_of, listed_from, saved_value, value_of};
 
 use crate::block::{Block, BlockRow};
 use std::alloc::{AllocError, Global};
@@ -76,7 +76,7 @@ pub(crate) fn rows_of(
     calcs: u32,
     windows: u32,
 ) -> Result<Option<Vec<Vec<CalcValue>>>, AllocError>
-    ensures rows { IfOk result (λ o. IfSome o (λ rows. AreRowsOf calcs windows (map parts_of blocks.now) (lists_of rows.items))) }
+    ensures rows { IfOk result (λ o. IfSome o (λ rows. AreRowsOf calcs windows (map parts_of blocks.now) (block_lists_of rows.items))) }
     ensures missing { IfOk result (λ o. IfNone o ((calc : ℕ) × (k : ℕ) × (calc < calcs) × (k < windows)
         × (saved_value (map parts_of blocks.now) calc k ≡ None))) }
 {

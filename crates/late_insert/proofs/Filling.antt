@@ -15,7 +15,7 @@ use Rattle.trend_num.specs.declared.archive.Kind.TheVariants.{Kept}
 use Rattle.trend_num.specs.Ranges.{InRange}
 use Rattle.page_pool.specs.declared.frame.Frame.{Frame}
 use Rattle.trend_model.specs.Contents.{IsRising, placed}
-use Rattle.late_insert.specs.Pages.{kind_of, records_in, IsRecorded}
+use Rattle.late_insert.specs.Pages.{kind_of, frame_records_in, IsRecorded}
 use Rattle.trend_model.proofs.Placing.{time, AllBefore, rising_nil, rising_cons, rising_head, rising_tail}
 use Rattle.trend_model.proofs.Placing.{rising_across, rising_left, placed_behind}
 use Rattle.late_insert.proofs.Summing.{length-records_in, get_or-records_in}
@@ -154,9 +154,9 @@ stored_kept run i times values marks t v stored within most here =
 
 -- a frame of a run
 pub records-stored : (f : Frame) (run : List Rec) → f.len ≡ length run
-    → AreStored run f.len f.times f.values f.late → records_in f ≡ run
+    → AreStored run f.len f.times f.values f.late → frame_records_in f ≡ run
 records-stored f run long stored =
-    same_lists (records_in f) run (length-records_in f ∙ long)
+    same_lists (frame_records_in f) run (length-records_in f ∙ long)
     (λ k d inside. let within : k < f.len = omega (arith, length-records_in f) in
     get_or-records_in f k d within ∙ stored.each k d within)
 

@@ -11,8 +11,8 @@ use Rattle.std.proofs.lemmas.List.Elements.{All-weaker}
 use Rattle.trend_num.specs.declared.archive.Rec.{Rec}
 use Rattle.page_pool.specs.declared.frame.Frame.{Frame}
 use Rattle.late_insert.specs.declared.directory.Page.{Page}
-use Rattle.late_insert.specs.Pages.{records_at, page_in, records_of, lengths_of, ArePages, ArePagesFrom, IsFor}
-use Rattle.late_insert.specs.PageLengths.{AreFull, IsFilled, IsGrown, IsHalved, IsPutAmong, place_in}
+use Rattle.late_insert.specs.Pages.{records_at, page_in, page_records_of, lengths_of, ArePages, ArePagesFrom, IsFor}
+use Rattle.late_insert.specs.PageLengths.{AreFull, ArePagesFilled, IsGrown, IsHalved, IsPutAmong, place_in}
 use Rattle.trend_model.specs.Contents.{placed}
 use Rattle.trend_model.proofs.Placing.{time, AllBefore}
 use Rattle.late_insert.proofs.Filling.{placed_last}
@@ -24,7 +24,7 @@ use Rattle.late_insert.proofs.Reading.{count_all, count_none}
 
 -- together they are all records
 pub sum_lengths : (pool : List (Option Frame)) (pages : List Page)
-    → sum (lengths_of pool pages) ≡ length (records_of pool pages)
+    → sum (lengths_of pool pages) ≡ length (page_records_of pool pages)
 sum_lengths pool pages = sum-map (λ p. length (page_in pool p)) pages ∙ sym (length-flat_map (page_in pool) pages)
 
 -- and no page has more than its frame has room for
@@ -54,18 +54,18 @@ first_at pool pages k p f is = (at_place pool pages k p f is).first ∙ sym (sum
 
 module _ (pool : List (Option Frame)) (pages : List Page) (k t : ℕ) (d : Page) (found : IsFor pool pages k t) where
   abbrev front : List Rec
-  front = records_of pool (take k pages)
+  front = page_records_of pool (take k pages)
 
   abbrev here : List Rec
   here = page_in pool (get_or pages k d)
 
   abbrev behind : List Rec
-  behind = records_of pool (drop (k + 1) pages)
+  behind = page_records_of pool (drop (k + 1) pages)
 
   abbrev counts : Rec → ℕ
   counts r = cond (nat_lt (time r) t) 1 0
 
-  counted : place_in (records_of pool pages) t ≡ length front + place_in here t
+  counted : place_in (page_records_of pool pages) t ≡ length front + place_in here t
   counted =
       let parts = ap (λ l. place_in l t) (records-around pool pages k d found.within) in
       let first = sum_by-append counts front (here ++ behind) in
@@ -76,10 +76,10 @@ module _ (pool : List (Option Frame)) (pages : List Page) (k t : ℕ) (d : Page)
       omega arith
 
   -- it is on the page for the time, or at its end
-  pub place_from : sum (lengths_of pool (take k pages)) ≤ place_in (records_of pool pages) t
+  pub place_from : sum (lengths_of pool (take k pages)) ≤ place_in (page_records_of pool pages) t
   place_from = omega (arith, counted, sum_lengths pool (take k pages))
 
-  pub place_upto : place_in (records_of pool pages) t ≤ sum (lengths_of pool (take k pages)) + length here
+  pub place_upto : place_in (page_records_of pool pages) t ≤ sum (lengths_of pool (take k pages)) + length here
   place_upto =
       let most = count_by-le-length (λ r. nat_lt (time r) t) here in
       omega (arith, counted, sum_lengths pool (take k pages))
@@ -87,7 +87,7 @@ module _ (pool : List (Option Frame)) (pages : List Page) (k t : ℕ) (d : Page)
   -- the page for a time was split
   pub halved : (new : List ℕ) → length here ≡ 128
       → new ≡ lengths_of pool (take k pages) ++ 64 ∷ 64 ∷ lengths_of pool (drop (k + 1) pages)
-      → IsHalved (lengths_of pool pages) (place_in (records_of pool pages) t) new
+      → IsHalved (lengths_of pool pages) (place_in (page_records_of pool pages) t) new
   halved new full now = record {
     front = lengths_of pool (take k pages);
     back = lengths_of pool (drop (k + 1) pages);
@@ -102,7 +102,7 @@ module _ (pool : List (Option Frame)) (pages : List Page) (k t : ℕ) (d : Page)
 pub halved_at : (pool : List (Option Frame)) (pages : List Page) (k t : ℕ) (p : Page) (f : Frame) → IsRead pool pages k p f
     → IsFor pool pages k t → 128 ≤ f.len → (new : List ℕ)
     → new ≡ lengths_of pool (take k pages) ++ 64 ∷ 64 ∷ lengths_of pool (drop (k + 1) pages)
-    → IsHalved (lengths_of pool pages) (place_in (records_of pool pages) t) new
+    → IsHalved (lengths_of pool pages) (place_in (page_records_of pool pages) t) new
 halved_at pool pages k t p f is found full new now =
     halved pool pages k t p found new
     (omega (arith, page_len pool pages k p f is p, (frame_page pool pages k p f is).recorded.few)) now
@@ -118,7 +118,7 @@ put_among old mid new place by (inr halved) grown = inr (mid, halved, grown)
 module _ (pool : List (Option Frame)) (pages : List Page) (paged : ArePages pool pages) where
   -- where all records stand before the end of a page, no page is behind it
   none_behind : (front : List ℕ) (here : ℕ) (back : List ℕ) → lengths_of pool pages ≡ front ++ here ∷ back
-      → length (records_of pool pages) ≤ sum front + here → back ≡ []
+      → length (page_records_of pool pages) ≤ sum front + here → back ≡ []
   none_behind front here [] are upto = refl
   none_behind front here (b ∷ bs) are upto =
       let Some : ℕ → Type 0 = λ n. 0 < n in
@@ -171,7 +171,7 @@ module _ (pool : List (Option Frame)) (pages : List Page) (paged : ArePages pool
   -- behind a full last page
   pub filled_fresh : (run : ℕ) (new : List ℕ)
       → ((d : Page) → length (page_in pool (get_or pages (length pages - 1) d)) ≡ 128)
-      → new ≡ lengths_of pool pages ++ run ∷ [] → IsFilled (lengths_of pool pages) run new
+      → new ≡ lengths_of pool pages ++ run ∷ [] → ArePagesFilled (lengths_of pool pages) run new
   filled_fresh run new full now =
       let front = lengths_of pool (take (length pages - 1) pages) in
       let was = ends no_page ∙ ap (λ n. front ++ n ∷ []) (full no_page) in
@@ -187,9 +187,9 @@ module _ (pool : List (Option Frame)) (pages : List Page) (paged : ArePages pool
   -- on a last page with room
   pub filled_last : (mid new : List ℕ) (place : ℕ) → (mid ≡ lengths_of pool pages) ⊎ IsHalved
       (lengths_of pool pages) place mid
-      → IsGrown mid place 1 new → length (records_of pool pages) ≤ place
+      → IsGrown mid place 1 new → length (page_records_of pool pages) ≤ place
       → ((d : Page) → length (page_in pool (get_or pages (length pages - 1) d)) < 128)
-      → IsFilled (lengths_of pool pages) 1 new
+      → ArePagesFilled (lengths_of pool pages) 1 new
   filled_last mid new place (inl same) grown behind short =
       let was = sym same ∙ grown.was in
       let none = none_behind grown.front grown.here grown.back was (omega (arith, grown.upto, behind)) in
@@ -213,7 +213,7 @@ but_last front n pages are =
     ∙ take_at front (n ∷ []) (length (front ++ n ∷ []) - 1) (omega (arith, length-append front (n ∷ [])))
 
 -- pages of which each but the last is full stay so, where they are filled at the end
-pub full_more : (old : List ℕ) (by : ℕ) (new : List ℕ) → IsFilled old by new → AreFull old → AreFull new
+pub full_more : (old : List ℕ) (by : ℕ) (new : List ℕ) → ArePagesFilled old by new → AreFull old → AreFull new
 full_more old by new filled full =
     let Full : ℕ → Type 0 = λ n. n ≡ 128 in
     let front = subst (All Full) (but_last filled.front filled.last old filled.was) full in
@@ -230,29 +230,29 @@ full_more old by new filled full =
 
 -- one record put in, on pages with room for it
 module _ (pool mid new : List (Option Frame)) (pages roomy now : List Page) (r : Rec) (by : ℕ)
-    (same : records_of mid roomy ≡ records_of pool pages)
+    (same : page_records_of mid roomy ≡ page_records_of pool pages)
     (made : (lengths_of mid roomy ≡ lengths_of pool pages) ⊎ IsHalved (lengths_of pool pages)
-    (place_in (records_of pool pages) (time r)) (lengths_of mid roomy))
-    (put : records_of new now ≡ placed r (records_of mid roomy))
-    (more : length (records_of new now) ≡ length (records_of mid roomy) + by)
-    (grown : IsGrown (lengths_of mid roomy) (place_in (records_of mid roomy) (time r)) by (lengths_of new now)) where
-  there : IsGrown (lengths_of mid roomy) (place_in (records_of pool pages) (time r)) by (lengths_of new now)
+    (place_in (page_records_of pool pages) (time r)) (lengths_of mid roomy))
+    (put : page_records_of new now ≡ placed r (page_records_of mid roomy))
+    (more : length (page_records_of new now) ≡ length (page_records_of mid roomy) + by)
+    (grown : IsGrown (lengths_of mid roomy) (place_in (page_records_of mid roomy) (time r)) by (lengths_of new now)) where
+  there : IsGrown (lengths_of mid roomy) (place_in (page_records_of pool pages) (time r)) by (lengths_of new now)
   there = subst (λ l. IsGrown (lengths_of mid roomy) (place_in l (time r)) by (lengths_of new now)) same grown
 
-  pub one_among : IsPutAmong (lengths_of pool pages) (place_in (records_of pool pages) (time r))
-      (length (records_of new now) - length (records_of pool pages)) (lengths_of new now)
+  pub one_among : IsPutAmong (lengths_of pool pages) (place_in (page_records_of pool pages) (time r))
+      (length (page_records_of new now) - length (page_records_of pool pages)) (lengths_of new now)
   one_among =
-      let by_is : by ≡ length (records_of new now) - length (records_of pool pages) = omega
+      let by_is : by ≡ length (page_records_of new now) - length (page_records_of pool pages) = omega
       (arith, more, ap length same) in
-      subst (λ n. IsPutAmong (lengths_of pool pages) (place_in (records_of pool pages) (time r)) n (lengths_of new now))
+      subst (λ n. IsPutAmong (lengths_of pool pages) (place_in (page_records_of pool pages) (time r)) n (lengths_of new now))
       by_is (put_among _ _ _ _ by made there)
 
-  pub one_behind : ArePages pool pages → AllBefore (records_of pool pages) (time r)
+  pub one_behind : ArePages pool pages → AllBefore (page_records_of pool pages) (time r)
       → ((d : Page) → length (page_in pool (get_or pages (length pages - 1) d)) < 128)
-      → IsFilled (lengths_of pool pages) 1 (lengths_of new now)
+      → ArePagesFilled (lengths_of pool pages) 1 (lengths_of new now)
   one_behind paged before short =
-      let all = count_all (time r) (records_of pool pages) before in
-      let last = placed_last r (records_of pool pages) before in
+      let all = count_all (time r) (page_records_of pool pages) before in
+      let last = placed_last r (page_records_of pool pages) before in
       let one : by ≡ 1 = omega (
         arith,
         more,
@@ -260,8 +260,8 @@ module _ (pool mid new : List (Option Frame)) (pages roomy now : List Page) (r :
         ap length same,
         ap (λ l. length (placed r l)) same,
         ap length last,
-        length-append (records_of pool pages) (r ∷ []),
+        length-append (page_records_of pool pages) (r ∷ []),
       ) in
       filled_last pool pages paged _ _ _ made
-      (subst (λ n. IsGrown (lengths_of mid roomy) (place_in (records_of pool pages) (time r)) n (lengths_of new now)) one
+      (subst (λ n. IsGrown (lengths_of mid roomy) (place_in (page_records_of pool pages) (time r)) n (lengths_of new now)) one
       there) (omega (arith, all)) short

@@ -10,7 +10,7 @@ use Rattle.page_pool.specs.declared.frame.Frame.{Frame}
 use Rattle.page_pool.specs.Pool.{frame_at}
 use Rattle.late_insert.specs.declared.directory.Page.{Page}
 use Rattle.late_insert.specs.Moves.{moved}
-use Rattle.late_insert.specs.Pages.{records_at, page_in, records_of, lengths_of, IsPageAt, ArePagesFrom}
+use Rattle.late_insert.specs.Pages.{records_at, page_in, page_records_of, lengths_of, IsPageAt, ArePagesFrom}
 use Rattle.late_insert.specs.Pages.{AreApart, ids_of}
 
 -- ---- facts of each of two lists
@@ -70,7 +70,7 @@ abbrev pub Agree : List (Option Frame) → List (Option Frame) → List Page →
 Agree pool new pages = All (λ p. frame_at new p.id ≡ frame_at pool p.id) pages
 
 pub records-agree : (pool new : List (Option Frame)) (pages : List Page) → Agree pool new pages
-    → records_of new pages ≡ records_of pool pages
+    → page_records_of new pages ≡ page_records_of pool pages
 records-agree pool new [] agree = refl
 records-agree pool new (p ∷ ps) agree =
     ap₂ (λ xs ys. xs ++ ys) (ap records_at
@@ -118,7 +118,7 @@ agree_set pool id o pages other k d within = get_or-set_other pool id (get_or pa
 -- ---- parts of the pages
 
 pub records-append : (pool : List (Option Frame)) (xs ys : List Page)
-    → records_of pool (xs ++ ys) ≡ records_of pool xs ++ records_of pool ys
+    → page_records_of pool (xs ++ ys) ≡ page_records_of pool xs ++ page_records_of pool ys
 records-append pool xs ys = flat_map-append (page_in pool) xs ys
 
 pub lengths-append : (pool : List (Option Frame)) (xs ys : List Page)
@@ -127,22 +127,22 @@ lengths-append pool xs ys = map-append (λ p. length (page_in pool p)) xs ys
 
 pub pages_split : (pool : List (Option Frame)) (place : ℕ) (xs ys : List Page)
     → ArePagesFrom pool place (xs ++ ys)
-    → ArePagesFrom pool place xs × ArePagesFrom pool (place + length (records_of pool xs)) ys
+    → ArePagesFrom pool place xs × ArePagesFrom pool (place + length (page_records_of pool xs)) ys
 pages_split pool place [] ys each = (tt, rw add-zero each)
 pages_split pool place (x ∷ xs) ys each =
     let rest = pages_split pool (place + length (page_in pool x)) xs ys each.1 in
-    let place' : place + length (page_in pool x) + length (records_of pool xs) ≡ place + length
-    (records_of pool (x ∷ xs)) =
-    omega (arith, length-append (page_in pool x) (records_of pool xs)) in
+    let place' : place + length (page_in pool x) + length (page_records_of pool xs) ≡ place + length
+    (page_records_of pool (x ∷ xs)) =
+    omega (arith, length-append (page_in pool x) (page_records_of pool xs)) in
     ((each.0, rest.0), subst (λ n. ArePagesFrom pool n ys) place' rest.1)
 
 pub pages_join : (pool : List (Option Frame)) (place : ℕ) (xs ys : List Page) → ArePagesFrom pool place xs
-    → ArePagesFrom pool (place + length (records_of pool xs)) ys → ArePagesFrom pool place (xs ++ ys)
+    → ArePagesFrom pool (place + length (page_records_of pool xs)) ys → ArePagesFrom pool place (xs ++ ys)
 pages_join pool place [] ys front back = rw add-zero at back
 pages_join pool place (x ∷ xs) ys front back =
-    let place' : place + length (records_of pool (x ∷ xs)) ≡ place + length (page_in pool x) + length
-    (records_of pool xs) =
-    omega (arith, length-append (page_in pool x) (records_of pool xs)) in (
+    let place' : place + length (page_records_of pool (x ∷ xs)) ≡ place + length (page_in pool x) + length
+    (page_records_of pool xs) =
+    omega (arith, length-append (page_in pool x) (page_records_of pool xs)) in (
       front.0,
       pages_join pool (place + length (page_in pool x)) xs ys front.1
           (subst (λ n. ArePagesFrom pool n ys) place' back),
@@ -150,7 +150,7 @@ pages_join pool place (x ∷ xs) ys front back =
 
 -- pages that are moved on
 pub records-moved : (pool : List (Option Frame)) (by : ℕ) (pages : List Page)
-    → records_of pool (map (moved by) pages) ≡ records_of pool pages
+    → page_records_of pool (map (moved by) pages) ≡ page_records_of pool pages
 records-moved pool by [] = refl
 records-moved pool by (p ∷ ps) = ap (λ rs. page_in pool p ++ rs) (records-moved pool by ps)
 
@@ -185,10 +185,10 @@ pages_around pages k d within = sym (take-append-drop k pages)
     ∙ ap (λ ps. take k pages ++ ps) (drop_more pages k d within)
 
 pub records-around : (pool : List (Option Frame)) (pages : List Page) (k : ℕ) (d : Page) → k < length pages
-    → records_of pool pages ≡ records_of pool (take k pages) ++
-    (page_in pool (get_or pages k d) ++ records_of pool (drop (k + 1) pages))
+    → page_records_of pool pages ≡ page_records_of pool (take k pages) ++
+    (page_in pool (get_or pages k d) ++ page_records_of pool (drop (k + 1) pages))
 records-around pool pages k d within =
-    ap (records_of pool) (pages_around pages k d within) ∙ records-append pool (take k pages)
+    ap (page_records_of pool) (pages_around pages k d within) ∙ records-append pool (take k pages)
     (get_or pages k d ∷ drop (k + 1) pages)
 
 pub lengths-around : (pool : List (Option Frame)) (pages : List Page) (k : ℕ) (d : Page) → k < length pages
@@ -200,7 +200,7 @@ lengths-around pool pages k d within =
 
 pub page_at : (pool : List (Option Frame)) (pages : List Page) (k : ℕ) (d : Page) → k < length pages
     → ArePagesFrom pool 0 pages
-    → IsPageAt pool (length (records_of pool (take k pages))) (get_or pages k d)
+    → IsPageAt pool (length (page_records_of pool (take k pages))) (get_or pages k d)
 page_at pool pages k d within each =
     let parts = pages_split pool 0 (take k pages) (get_or pages k d ∷ drop (k + 1) pages)
     (subst (ArePagesFrom pool 0) (pages_around pages k d within) each) in

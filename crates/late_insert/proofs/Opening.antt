@@ -10,11 +10,11 @@ use Rattle.std.proofs.lemmas.Bool.{cases_lt}
 use Rattle.trend_num.specs.declared.archive.Rec.{Rec}
 use Rattle.trend_num.specs.Ranges.{InRange}
 use Rattle.page_pool.specs.declared.frame.Frame.{Frame}
-use Rattle.page_pool.specs.Pool.{frame_at, Takes, empty_frame}
+use Rattle.page_pool.specs.Pool.{frame_at, TakesFrame, empty_frame}
 use Rattle.late_insert.specs.declared.directory.Page.{Page}
 use Rattle.trend_model.specs.Contents.{IsRising, points_of}
 use Rattle.trend_model.specs.Windows.{area}
-use Rattle.late_insert.specs.Pages.{AreApart, ids_of, records_in, records_at, page_in, records_of, IsPage}
+use Rattle.late_insert.specs.Pages.{AreApart, ids_of, frame_records_in, records_at, page_in, page_records_of, IsPage}
 use Rattle.late_insert.specs.Pages.{IsPageAt, ArePagesFrom, ArePages, AreHalves, lengths_of}
 use Rattle.trend_model.proofs.Placing.{rising_nil}
 use Rattle.late_insert.proofs.Finding.{HasSome}
@@ -41,7 +41,7 @@ empty_page = record {
 }
 
 -- it has none
-empty_records : records_in empty_frame ≡ []
+empty_records : frame_records_in empty_frame ≡ []
 unfolding empty_frame
 empty_records = refl
 
@@ -51,10 +51,10 @@ unfolding empty_frame
 empty_start = refl
 
 -- with no stair
-pub empty_stair : area true (points_of (records_in empty_frame)) ≡ pos 0
+pub empty_stair : area true (points_of (frame_records_in empty_frame)) ≡ pos 0
 empty_stair = ap (λ l. area true (points_of l)) empty_records
 
-module _ (pool new : List (Option Frame)) (pages : List Page) (id : ℕ) (takes : Takes pool id new)
+module _ (pool new : List (Option Frame)) (pages : List Page) (id : ℕ) (takes : TakesFrame pool id new)
     (list : pages ≡ record { id = id; first = 0; start = 0; stair = pos 0 } ∷ []) where
   -- the frame that was taken is empty
   empty_there : frame_at new id ≡ Some empty_frame
@@ -62,8 +62,8 @@ module _ (pool new : List (Option Frame)) (pages : List Page) (id : ℕ) (takes 
       ∙ get_or-set_same pool id (Some empty_frame) None takes.within
 
   -- the first page has no records
-  pub no_records : records_of new pages ≡ []
-  no_records = ap (records_of new) list
+  pub no_records : page_records_of new pages ≡ []
+  no_records = ap (page_records_of new) list
       ∙ (append-nil (records_at (frame_at new id)) ∙ (ap records_at empty_there ∙ empty_records))
 
   pub no_lengths : lengths_of new pages ≡ 0 ∷ []
@@ -95,7 +95,7 @@ module _ (pool new : List (Option Frame)) (pages : List Page) (id : ℕ) (takes 
 -- ---- a page behind all others
 
 -- what is found in a frame that was taken is empty
-pub taken_empty : (pool new : List (Option Frame)) (id : ℕ) (f : Frame) → Takes pool id new
+pub taken_empty : (pool new : List (Option Frame)) (id : ℕ) (f : Frame) → TakesFrame pool id new
     → frame_at new id ≡ Some f → f ≡ empty_frame
 taken_empty pool new id f takes there =
     let empty : frame_at new id ≡ Some empty_frame =
@@ -124,10 +124,10 @@ halves_end pool new (p ∷ o ∷ ps) q agree halves last =
 -- what is left where a frame was taken and written with a run of records, and its page put behind the others
 module _ (pool taken : List (Option Frame)) (pages : List Page) (id first : ℕ) (g : Frame) (run : List Rec)
     (paged : ArePages pool pages)
-    (takes : Takes pool id taken) (page : IsPage g) (stair : ℤ)
-    (stair_is : stair ≡ area true (points_of (records_in g)))
-    (records : records_in g ≡ run) (counted : first ≡ length (records_of pool pages)) (some : 0 < length run)
-    (rising : IsRising (records_of pool pages ++ run))
+    (takes : TakesFrame pool id taken) (page : IsPage g) (stair : ℤ)
+    (stair_is : stair ≡ area true (points_of (frame_records_in g)))
+    (records : frame_records_in g ≡ run) (counted : first ≡ length (page_records_of pool pages)) (some : 0 < length run)
+    (rising : IsRising (page_records_of pool pages ++ run))
     (full : (d : Page) → length (page_in pool (get_or pages (length pages - 1) d)) ≡ 128) where
   -- the page
   abbrev pub opened_page : Page
@@ -154,7 +154,7 @@ module _ (pool taken : List (Option Frame)) (pages : List Page) (id first : ℕ)
       let long = length-set pool id (Some empty_frame) in
       get_or-set_same (set pool id (Some empty_frame)) id (Some g) None (omega (arith, takes.within))
 
-  records_there : records_of opened_pool (pages ++ opened_page ∷ []) ≡ records_of pool pages ++ run
+  records_there : page_records_of opened_pool (pages ++ opened_page ∷ []) ≡ page_records_of pool pages ++ run
   records_there =
       records-append opened_pool pages (opened_page ∷ [])
       ∙ ap₂ (λ xs ys. xs ++ ys) (records-agree pool opened_pool pages agree)
@@ -173,7 +173,7 @@ module _ (pool taken : List (Option Frame)) (pages : List Page) (id first : ℕ)
         (omega arith)
   ]
 
-  at_end : IsPageAt opened_pool (0 + length (records_of opened_pool pages)) opened_page
+  at_end : IsPageAt opened_pool (0 + length (page_records_of opened_pool pages)) opened_page
   at_end = record {
     frame = g;
     there = there;
@@ -212,8 +212,8 @@ module _ (pool taken : List (Option Frame)) (pages : List Page) (id first : ℕ)
   pub pages_opened : ArePages (set taken id (Some g)) (pages ++ opened_page ∷ [])
   pages_opened = subst (λ ps. ArePages ps (pages ++ opened_page ∷ [])) (sym pool_is) pages_there
 
-  pub records-opened : records_of (set taken id (Some g)) (pages ++ opened_page ∷ []) ≡ records_of pool pages ++ run
-  records-opened = ap (λ ps. records_of ps (pages ++ opened_page ∷ [])) pool_is ∙ records_there
+  pub records-opened : page_records_of (set taken id (Some g)) (pages ++ opened_page ∷ []) ≡ page_records_of pool pages ++ run
+  records-opened = ap (λ ps. page_records_of ps (pages ++ opened_page ∷ [])) pool_is ∙ records_there
 
   pub lengths-opened : lengths_of (set taken id (Some g)) (pages ++ opened_page ∷ []) ≡ lengths_of pool pages ++ length run ∷ []
   lengths-opened = ap (λ ps. lengths_of ps (pages ++ opened_page ∷ [])) pool_is ∙ lengths_there

@@ -17,7 +17,7 @@ use Rattle.late_insert.specs.declared.directory.Page.{Page}
 use Rattle.late_insert.specs.Moves.{IsLastUpto}
 use Rattle.trend_model.specs.Contents.{IsRising, points_of}
 use Rattle.trend_model.specs.Windows.{area}
-use Rattle.late_insert.specs.Pages.{rec_in, records_in, records_at, page_in, records_of, IsPage, IsPageAt}
+use Rattle.late_insert.specs.Pages.{rec_in, frame_records_in, records_at, page_in, page_records_of, IsPage, IsPageAt}
 use Rattle.late_insert.specs.Pages.{ArePages, IsFor, IsOn}
 use Rattle.trend_model.proofs.Placing.{time, AllBefore, rising_left, rising_right}
 use Rattle.late_insert.proofs.Summing.{length-records_in, get_or-records_in}
@@ -83,10 +83,10 @@ page_len pool pages k p f is d =
 module _ (pool : List (Option Frame)) (pages : List Page) (k : ℕ) (p : Page) (f : Frame)
     (is : IsRead pool pages k p f) where
   abbrev front : List Rec
-  front = records_of pool (take k pages)
+  front = page_records_of pool (take k pages)
 
   abbrev behind : List Rec
-  behind = records_of pool (drop (k + 1) pages)
+  behind = page_records_of pool (drop (k + 1) pages)
 
   pub at_place : IsPageAt pool (length front) p
   at_place = subst (IsPageAt pool (length front)) (sym is.read)
@@ -99,52 +99,52 @@ module _ (pool : List (Option Frame)) (pages : List Page) (k : ℕ) (p : Page) (
   frame_page = subst IsPage same_frame at_place.page
 
   -- its stair
-  pub page_stair : p.stair ≡ area true (points_of (records_in f))
-  page_stair = at_place.stair ∙ ap (λ g. area true (points_of (records_in g))) same_frame
+  pub page_stair : p.stair ≡ area true (points_of (frame_records_in f))
+  page_stair = at_place.stair ∙ ap (λ g. area true (points_of (frame_records_in g))) same_frame
 
-  parts : records_of pool pages ≡ front ++ (records_in f ++ behind)
+  parts : page_records_of pool pages ≡ front ++ (frame_records_in f ++ behind)
   parts =
       records-around pool pages k p is.within
       ∙ ap (λ l. front ++ (l ++ behind)) (ap (page_in pool) (sym is.read) ∙ ap records_at is.there)
 
-  pub frame_rises : IsRising (records_in f)
-  frame_rises = rising_left (records_in f) behind
-      (rising_right front (records_in f ++ behind) (subst IsRising parts is.paged.rising))
+  pub frame_rises : IsRising (frame_records_in f)
+  frame_rises = rising_left (frame_records_in f) behind
+      (rising_right front (frame_records_in f ++ behind) (subst IsRising parts is.paged.rising))
 
   -- a record of the page, and one behind it
-  pub on_page : (j : ℕ) (d : Rec) → j < f.len → get_or (records_of pool pages) (p.first + j) d ≡ rec_in f j
+  pub on_page : (j : ℕ) (d : Rec) → j < f.len → get_or (page_records_of pool pages) (p.first + j) d ≡ rec_in f j
   on_page j d inside =
-      ap (λ n. get_or (records_of pool pages) (n + j) d) at_place.first
+      ap (λ n. get_or (page_records_of pool pages) (n + j) d) at_place.first
       ∙ (ap (λ l. get_or l (length front + j) d) parts
-      ∙ (get_or-append-add front (records_in f ++ behind) j d
-      ∙ (get_or_append_left (records_in f) behind d j (omega (arith, length-records_in f))
+      ∙ (get_or-append-add front (frame_records_in f ++ behind) j d
+      ∙ (get_or_append_left (frame_records_in f) behind d j (omega (arith, length-records_in f))
       ∙ get_or-records_in f j d inside)))
 
-  pub long : length (records_of pool pages) ≡ p.first + (f.len + length behind)
+  pub long : length (page_records_of pool pages) ≡ p.first + (f.len + length behind)
   long = omega (
     arith,
     ap length parts,
-    length-append front (records_in f ++ behind),
+    length-append front (frame_records_in f ++ behind),
     length-append
-        (records_in f) behind,
+        (frame_records_in f) behind,
     length-records_in f,
     at_place.first,
   )
 
   -- the page ends within the records
-  pub end_within : p.first + f.len ≤ length (records_of pool pages)
+  pub end_within : p.first + f.len ≤ length (page_records_of pool pages)
   end_within = omega (arith, long)
 
   pub read_on : (i : ℕ) (d : Rec) → p.first ≤ i → i < p.first + f.len
-      → get_or (records_of pool pages) i d ≡ rec_in f (i - p.first)
+      → get_or (page_records_of pool pages) i d ≡ rec_in f (i - p.first)
   read_on i d from upto =
       let place : p.first + (i - p.first) ≡ i = omega arith in
-      ap (λ n. get_or (records_of pool pages) n d) (sym place) ∙ on_page (i - p.first) d (omega arith)
+      ap (λ n. get_or (page_records_of pool pages) n d) (sym place) ∙ on_page (i - p.first) d (omega arith)
 
   -- the records up to the end of the page
-  pub records_upto : records_of pool (take (k + 1) pages) ≡ front ++ records_in f
+  pub records_upto : page_records_of pool (take (k + 1) pages) ≡ front ++ frame_records_in f
   records_upto =
-      ap (records_of pool) (take_more pages k p is.within)
+      ap (page_records_of pool) (take_more pages k p is.within)
       ∙ (records-append pool (take k pages) (get_or pages k p ∷ [])
       ∙ ap (λ l. front ++ l) (append-nil (page_in pool (get_or pages k p))
       ∙ (ap (page_in pool) (sym is.read) ∙ ap records_at is.there)))
@@ -159,7 +159,7 @@ module _ (pool : List (Option Frame)) (pages : List Page) (k : ℕ) (p : Page) (
           on.upto,
           ap length records_upto,
           length-append front
-              (records_in f),
+              (frame_records_in f),
           length-records_in f,
         ),
       )
@@ -170,16 +170,16 @@ module _ (pool : List (Option Frame)) (pages : List Page) (k : ℕ) (p : Page) (
       record {
         within = is.within;
         from = omega arith;
-        upto = omega (arith, ap length records_upto, length-append front (records_in f), length-records_in f);
+        upto = omega (arith, ap length records_upto, length-append front (frame_records_in f), length-records_in f);
       }
 
   -- where the page is the last one, and its last record is before t, all are
   pub last_before : (t i : ℕ) → k + 1 ≡ length pages → i + 1 ≡ f.len → get_or f.times i 0 < t
-      → AllBefore (records_of pool pages) t
+      → AllBefore (page_records_of pool pages) t
   last_before t i last end early j d inside =
-      let none : length behind ≡ 0 = ap (λ ps. length (records_of pool ps))
+      let none : length behind ≡ 0 = ap (λ ps. length (page_records_of pool ps))
       (drop_all (k + 1) pages (omega arith)) in
-      let there : time (get_or (records_of pool pages) (p.first + i) d) ≡ get_or f.times i 0 = ap time
+      let there : time (get_or (page_records_of pool pages) (p.first + i) d) ≡ get_or f.times i 0 = ap time
       (on_page i d (omega arith)) in
       elim (cases_eq j (p.first + i)) [
         | inl same ↦ rw same (omega arith)
@@ -189,9 +189,9 @@ module _ (pool : List (Option Frame)) (pages : List Page) (k : ℕ) (p : Page) (
       ]
 
   -- where all are before t, so is the one at a place of the page
-  pub before_on : (t i : ℕ) → i < f.len → AllBefore (records_of pool pages) t → get_or f.times i 0 < t
+  pub before_on : (t i : ℕ) → i < f.len → AllBefore (page_records_of pool pages) t → get_or f.times i 0 < t
   before_on t i inside before =
-      let there : time (get_or (records_of pool pages) (p.first + i) no_rec) ≡ get_or f.times i 0 = ap time
+      let there : time (get_or (page_records_of pool pages) (p.first + i) no_rec) ≡ get_or f.times i 0 = ap time
       (on_page i no_rec inside) in
       let early = before (p.first + i) no_rec (omega (arith, long)) in
       omega arith
@@ -201,67 +201,67 @@ module _ (pool : List (Option Frame)) (pages : List Page) (k : ℕ) (p : Page) (
   module _ (t i : ℕ) (found : IsFor pool pages k t) (upto : i ≤ f.len)
       (less : (j : ℕ) → j < i → get_or f.times j 0 < t)
       (more : (j : ℕ) → i ≤ j → j < f.len → t ≤ get_or f.times j 0) where
-    pub gap_within : p.first + i ≤ length (records_of pool pages)
+    pub gap_within : p.first + i ≤ length (page_records_of pool pages)
     gap_within = omega (arith, long)
 
-    pub gap_before : All (λ r. time r < t) (take (p.first + i) (records_of pool pages))
+    pub gap_before : All (λ r. time r < t) (take (p.first + i) (page_records_of pool pages))
     gap_before j d inside =
         let reach : j < p.first + i = omega
-        (arith, length-take-le (p.first + i) (records_of pool pages) gap_within) in
-        subst (λ r. time r < t) (sym (get_or-take (p.first + i) (records_of pool pages) j d reach))
+        (arith, length-take-le (p.first + i) (page_records_of pool pages) gap_within) in
+        subst (λ r. time r < t) (sym (get_or-take (p.first + i) (page_records_of pool pages) j d reach))
         (by_place (cases_lt j (length front)))
       where
-        by_place : (j < length front) ⊎ (length front ≤ j) → time (get_or (records_of pool pages) j d) < t
+        by_place : (j < length front) ⊎ (length front ≤ j) → time (get_or (page_records_of pool pages) j d) < t
         by_place (inl left) =
-            let here : get_or (records_of pool pages) j d ≡ get_or front j d =
-            ap (λ l. get_or l j d) parts ∙ get_or_append_left front (records_in f ++ behind) d j left in
+            let here : get_or (page_records_of pool pages) j d ≡ get_or front j d =
+            ap (λ l. get_or l j d) parts ∙ get_or_append_left front (frame_records_in f ++ behind) d j left in
             subst (λ r. time r < t) (sym here) (found.before j d left)
         by_place (inr right) =
             let reach : j < p.first + i = omega
-            (arith, length-take-le (p.first + i) (records_of pool pages) gap_within) in
+            (arith, length-take-le (p.first + i) (page_records_of pool pages) gap_within) in
             let start = at_place.first in
             let place : p.first + (j - p.first) ≡ j = omega arith in
-            let here : get_or (records_of pool pages) j d ≡ rec_in f (j - p.first) =
-            ap (λ n. get_or (records_of pool pages) n d) (sym place)
+            let here : get_or (page_records_of pool pages) j d ≡ rec_in f (j - p.first) =
+            ap (λ n. get_or (page_records_of pool pages) n d) (sym place)
             ∙ on_page (j - p.first) d (omega arith) in
             subst (λ r. time r < t) (sym here) (less (j - p.first) (omega arith))
 
-    pub gap_after : All (λ r. t ≤ time r) (drop (p.first + i) (records_of pool pages))
+    pub gap_after : All (λ r. t ≤ time r) (drop (p.first + i) (page_records_of pool pages))
     gap_after j d inside =
-        subst (λ r. t ≤ time r) (sym (get_or-drop (p.first + i) (records_of pool pages) j d))
+        subst (λ r. t ≤ time r) (sym (get_or-drop (p.first + i) (page_records_of pool pages) j d))
         (by_place (cases_lt (i + j) f.len))
       where
         by_place : (i + j < f.len) ⊎ (f.len ≤ i + j)
-            → t ≤ time (get_or (records_of pool pages) (p.first + i + j) d)
+            → t ≤ time (get_or (page_records_of pool pages) (p.first + i + j) d)
         by_place (inl on) =
             let place : p.first + (i + j) ≡ p.first + i + j = omega arith in
-            let here : get_or (records_of pool pages) (p.first + i + j) d ≡ rec_in f (i + j) =
-            ap (λ n. get_or (records_of pool pages) n d) (sym place) ∙ on_page (i + j) d on in
+            let here : get_or (page_records_of pool pages) (p.first + i + j) d ≡ rec_in f (i + j) =
+            ap (λ n. get_or (page_records_of pool pages) n d) (sym place) ∙ on_page (i + j) d on in
             subst (λ r. t ≤ time r) (sym here) (more (i + j) (omega arith) on)
         by_place (inr past) =
             let start = at_place.first in
             let reach : i + j - f.len < length behind =
-            omega (arith, long, length-drop (p.first + i) (records_of pool pages)) in
-            let place : length front + (length (records_in f) + (i + j - f.len)) ≡ p.first + i + j = omega
+            omega (arith, long, length-drop (p.first + i) (page_records_of pool pages)) in
+            let place : length front + (length (frame_records_in f) + (i + j - f.len)) ≡ p.first + i + j = omega
             (arith, length-records_in f) in
-            let here : get_or (records_of pool pages) (p.first + i + j) d ≡ get_or behind (i + j - f.len) d =
-            ap (λ n. get_or (records_of pool pages) n d) (sym place)
-            ∙ (ap (λ l. get_or l (length front + (length (records_in f) + (i + j - f.len))) d) parts
-            ∙ (get_or-append-add front (records_in f ++ behind) (length (records_in f) + (i + j - f.len)) d
-            ∙ get_or-append-add (records_in f) behind (i + j - f.len) d)) in
+            let here : get_or (page_records_of pool pages) (p.first + i + j) d ≡ get_or behind (i + j - f.len) d =
+            ap (λ n. get_or (page_records_of pool pages) n d) (sym place)
+            ∙ (ap (λ l. get_or l (length front + (length (frame_records_in f) + (i + j - f.len))) d) parts
+            ∙ (get_or-append-add front (frame_records_in f ++ behind) (length (frame_records_in f) + (i + j - f.len)) d
+            ∙ get_or-append-add (frame_records_in f) behind (i + j - f.len) d)) in
             let later = found.after (i + j - f.len) d reach in
             subst (λ r. t ≤ time r) (sym here) (omega arith)
 
   -- ---- the page of a place
 
-  module _ (i : ℕ) (inside : i < length (records_of pool pages))
+  module _ (i : ℕ) (inside : i < length (page_records_of pool pages))
       (last : IsLastUpto Place pages k i) where
     pub page_from : p.first ≤ i
     page_from = elim (cases_lt 0 k) [
       | inl some ↦ subst (λ (q : Page). q.first ≤ i) (sym is.read) (last.before k p some (omega arith))
       | inr none ↦
           let zero_k : k ≡ 0 = omega arith in
-          let empty : length front ≡ 0 = ap (λ n. length (records_of pool (take n pages))) zero_k in
+          let empty : length front ≡ 0 = ap (λ n. length (page_records_of pool (take n pages))) zero_k in
           omega (arith, at_place.first)
     ]
 
@@ -274,34 +274,34 @@ module _ (pool : List (Option Frame)) (pages : List Page) (k : ℕ) (p : Page) (
             arith,
             at_place.first,
             ap length records_upto,
-            length-append front (records_in f),
+            length-append front (frame_records_in f),
             length-records_in f,
           )
       | inr end ↦
-          let none : length behind ≡ 0 = ap (λ ps. length (records_of pool ps))
+          let none : length behind ≡ 0 = ap (λ ps. length (page_records_of pool ps))
           (drop_all (k + 1) pages end) in
           omega (arith, long)
     ]
 
-    pub read_at : (d : Rec) → get_or (records_of pool pages) i d ≡ rec_in f (i - p.first)
+    pub read_at : (d : Rec) → get_or (page_records_of pool pages) i d ≡ rec_in f (i - p.first)
     read_at d = read_on i d page_from page_upto
 
     -- the points on the page are those of its frame
-    pub points_read : take (p.first + f.len - p.first) (drop p.first (points_of (records_of pool pages))) ≡
-        points_of (records_in f)
+    pub points_read : take (p.first + f.len - p.first) (drop p.first (points_of (page_records_of pool pages))) ≡
+        points_of (frame_records_in f)
     points_read =
-        let all : points_of (records_of pool pages) ≡ points_of front ++
-        (points_of (records_in f) ++ points_of behind) =
-        ap points_of parts ∙ (map-append (λ (r : Rec). r.point) front (records_in f ++ behind)
-        ∙ ap (λ l. points_of front ++ l) (map-append (λ (r : Rec). r.point) (records_in f) behind)) in
+        let all : points_of (page_records_of pool pages) ≡ points_of front ++
+        (points_of (frame_records_in f) ++ points_of behind) =
+        ap points_of parts ∙ (map-append (λ (r : Rec). r.point) front (frame_records_in f ++ behind)
+        ∙ ap (λ l. points_of front ++ l) (map-append (λ (r : Rec). r.point) (frame_records_in f) behind)) in
         let start : length (points_of front) ≡ p.first = length-map front (λ r. r.point)
         ∙ sym at_place.first in
-        let many : length (points_of (records_in f)) ≡ p.first + f.len - p.first =
-        length-map (records_in f) (λ r. r.point) ∙ (length-records_in f ∙ omega arith) in
+        let many : length (points_of (frame_records_in f)) ≡ p.first + f.len - p.first =
+        length-map (frame_records_in f) (λ r. r.point) ∙ (length-records_in f ∙ omega arith) in
         ap (λ l. take (p.first + f.len - p.first) (drop p.first l)) all
         ∙ (ap (take (p.first + f.len - p.first))
-        (drop_at (points_of front) (points_of (records_in f) ++ points_of behind) p.first start)
-        ∙ take_at (points_of (records_in f)) (points_of behind) (p.first + f.len - p.first) many)
+        (drop_at (points_of front) (points_of (frame_records_in f) ++ points_of behind) p.first start)
+        ∙ take_at (points_of (frame_records_in f)) (points_of behind) (p.first + f.len - p.first) many)
 
 -- ---- how many records are before a time
 

@@ -16,7 +16,7 @@ use Rattle.late_insert.specs.declared.directory.Page.{Page}
 use Rattle.trend_model.specs.Contents.{IsRising, placed, points_of}
 use Rattle.trend_model.specs.Windows.{area}
 use Rattle.late_insert.specs.Moves.{moved}
-use Rattle.late_insert.specs.Pages.{records_in, records_at, page_in, records_of, IsPage, IsPageAt}
+use Rattle.late_insert.specs.Pages.{frame_records_in, records_at, page_in, page_records_of, IsPage, IsPageAt}
 use Rattle.late_insert.specs.Pages.{ArePagesFrom, ArePages, AreApart, AreHalves, ids_of, lengths_of}
 use Rattle.late_insert.proofs.Summing.{length-records_in, get_or-records_in}
 use Rattle.late_insert.proofs.Finding.{no_rec, HasSome}
@@ -65,14 +65,14 @@ halves_moved pool new by (b ∷ B) agree halves =
 module _ (pool new : List (Option Frame)) (A B Q : List Page) (p : Page) (by : ℕ)
     (each : ArePagesFrom pool 0 (A ++ p ∷ B))
     (front : Agree pool new A) (back : Agree pool new B)
-    (inner : ArePagesFrom new (length (records_of pool A)) Q)
-    (grown : length (records_of new Q) ≡ length (page_in pool p) + by) where
-  pub records-replaced : records_of new (A ++ (Q ++ map (moved by) B)) ≡ records_of pool A ++
-      (records_of new Q ++ records_of pool B)
+    (inner : ArePagesFrom new (length (page_records_of pool A)) Q)
+    (grown : length (page_records_of new Q) ≡ length (page_in pool p) + by) where
+  pub records-replaced : page_records_of new (A ++ (Q ++ map (moved by) B)) ≡ page_records_of pool A ++
+      (page_records_of new Q ++ page_records_of pool B)
   records-replaced =
       records-append new A (Q ++ map (moved by) B)
       ∙ ap₂ (λ xs ys. xs ++ ys) (records-agree pool new A front)
-      (records-append new Q (map (moved by) B) ∙ ap (λ ys. records_of new Q ++ ys)
+      (records-append new Q (map (moved by) B) ∙ ap (λ ys. page_records_of new Q ++ ys)
       (records-moved new by B ∙ records-agree pool new B back))
 
   pub lengths-replaced : lengths_of new (A ++ (Q ++ map (moved by) B)) ≡ lengths_of pool A ++
@@ -88,11 +88,11 @@ module _ (pool new : List (Option Frame)) (A B Q : List Page) (p : Page) (by : �
       let parts = pages_split pool 0 A (p ∷ B) each in
       let same = ap length (records-agree pool new A front) in
       let behind = pages_moved new _ by B (pages_agree pool new _ B back parts.1.1) in
-      let place : 0 + length (records_of pool A) + length (page_in pool p) + by ≡ length (records_of pool A) +
-      length (records_of new Q) = omega arith in
-      let place' : length (records_of pool A) ≡ 0 + length (records_of new A) = omega arith in
-      let rest : ArePagesFrom new (length (records_of pool A)) (Q ++ map (moved by) B) =
-      pages_join new (length (records_of pool A)) Q (map (moved by) B) inner
+      let place : 0 + length (page_records_of pool A) + length (page_in pool p) + by ≡ length (page_records_of pool A) +
+      length (page_records_of new Q) = omega arith in
+      let place' : length (page_records_of pool A) ≡ 0 + length (page_records_of new A) = omega arith in
+      let rest : ArePagesFrom new (length (page_records_of pool A)) (Q ++ map (moved by) B) =
+      pages_join new (length (page_records_of pool A)) Q (map (moved by) B) inner
       (subst (λ n. ArePagesFrom new n (map (moved by) B)) place behind) in
       pages_join new 0 A (Q ++ map (moved by) B) (pages_agree pool new 0 A front parts.0)
       (subst (λ n. ArePagesFrom new n (Q ++ map (moved by) B)) place' rest)
@@ -122,11 +122,11 @@ write_there pool id f g there =
 -- ---- one record more
 
 module _ (pool : List (Option Frame)) (A B : List Page) (p : Page) (g : Frame) (r : Rec) (by : ℕ) (s : ℤ)
-    (stair : s ≡ area true (points_of (records_in g))) (paged : ArePages pool (A ++ p ∷ B))
-    (page : IsPage g) (records : records_in g ≡ placed r (page_in pool p))
-    (grown : length (records_in g) ≡ length (page_in pool p) + by)
-    (before : All (λ x. time x < time r) (records_of pool A))
-    (after : All (λ x. time r < time x) (records_of pool B)) where
+    (stair : s ≡ area true (points_of (frame_records_in g))) (paged : ArePages pool (A ++ p ∷ B))
+    (page : IsPage g) (records : frame_records_in g ≡ placed r (page_in pool p))
+    (grown : length (frame_records_in g) ≡ length (page_in pool p) + by)
+    (before : All (λ x. time x < time r) (page_records_of pool A))
+    (after : All (λ x. time r < time x) (page_records_of pool B)) where
   -- the page with the record
   abbrev pub put_page : Page
   put_page = record { id = p.id; first = p.first; start = get_or g.times 0 0; stair = s }
@@ -142,7 +142,7 @@ module _ (pool : List (Option Frame)) (A B : List Page) (p : Page) (g : Frame) (
       let at = (pages_split pool 0 A (p ∷ B) paged.each).1.0 in
       write_there pool p.id at.frame g at.there
 
-  put_inner : ArePagesFrom put_pool (length (records_of pool A)) (put_page ∷ [])
+  put_inner : ArePagesFrom put_pool (length (page_records_of pool A)) (put_page ∷ [])
   put_inner =
       let at = (pages_split pool 0 A (p ∷ B) paged.each).1.0 in (
         record {
@@ -150,26 +150,26 @@ module _ (pool : List (Option Frame)) (A B : List Page) (p : Page) (g : Frame) (
           there = put_there;
           page = page;
           first = at.first
-              ∙ zero-add (length (records_of pool A));
+              ∙ zero-add (length (page_records_of pool A));
           start = refl;
           stair = stair;
         },
         tt,
       )
 
-  put_alone : records_of put_pool (put_page ∷ []) ≡ records_in g
+  put_alone : page_records_of put_pool (put_page ∷ []) ≡ frame_records_in g
   put_alone = append-nil (page_in put_pool put_page) ∙ ap records_at put_there
 
   put_sides : All (λ x. x.id ≢ p.id) A × All (λ x. x.id ≢ p.id) B
   put_sides = ids_around A B p paged.apart
 
-  pub records-put : records_of put_pool put_pages ≡ placed r (records_of pool (A ++ p ∷ B))
+  pub records-put : page_records_of put_pool put_pages ≡ placed r (page_records_of pool (A ++ p ∷ B))
   records-put =
       records-replaced pool put_pool A B (put_page ∷ []) p by paged.each
       (agree_set pool p.id (Some g) A put_sides.0)
       (agree_set pool p.id (Some g) B put_sides.1) put_inner (ap length put_alone ∙ grown)
-      ∙ (ap (λ l. records_of pool A ++ (l ++ records_of pool B)) (put_alone ∙ records)
-      ∙ (sym (placed_middle r (records_of pool A) (page_in pool p) (records_of pool B) before after)
+      ∙ (ap (λ l. page_records_of pool A ++ (l ++ page_records_of pool B)) (put_alone ∙ records)
+      ∙ (sym (placed_middle r (page_records_of pool A) (page_in pool p) (page_records_of pool B) before after)
       ∙ ap (placed r) (sym (records-append pool A (p ∷ B)))))
 
   pub lengths-put : lengths_of put_pool put_pages ≡ lengths_of pool A ++ (length (page_in pool p) + by) ∷ lengths_of pool B
@@ -196,7 +196,7 @@ module _ (pool : List (Option Frame)) (A B : List Page) (p : Page) (g : Frame) (
         ∙ (ap (λ ids. ids_of A ++ p.id ∷ ids) (ids-moved by B)
         ∙ sym (map-append (λ (x : Page). x.id) A (p ∷ B))) in
         subst AreApart (sym same) paged.apart;
-    rising = subst IsRising (sym records-put) (rising_placed r (records_of pool (A ++ p ∷ B)) paged.rising);
+    rising = subst IsRising (sym records-put) (rising_placed r (page_records_of pool (A ++ p ∷ B)) paged.rising);
     some = omega (arith, length-append A (put_page ∷ map (moved by) B));
     halves =
         let rest = halves_right pool A (p ∷ B) paged.halves in
@@ -243,10 +243,10 @@ spare_apart pool place (p ∷ ps) id each spare =
     (spare_apart pool (place + length (page_in pool p)) ps id each.1 spare)
 
 module _ (pool : List (Option Frame)) (A B : List Page) (p : Page) (lo hi e : Frame) (id : ℕ) (s t : ℤ)
-    (lower_stair : s ≡ area true (points_of (records_in lo)))
-    (upper_stair : t ≡ area true (points_of (records_in hi))) (paged : ArePages pool (A ++ p ∷ B))
-    (lower : IsPage lo) (upper : IsPage hi) (lower_records : records_in lo ≡ take 64 (page_in pool p))
-    (upper_records : records_in hi ≡ drop 64 (page_in pool p)) (full : length (page_in pool p) ≡ 128)
+    (lower_stair : s ≡ area true (points_of (frame_records_in lo)))
+    (upper_stair : t ≡ area true (points_of (frame_records_in hi))) (paged : ArePages pool (A ++ p ∷ B))
+    (lower : IsPage lo) (upper : IsPage hi) (lower_records : frame_records_in lo ≡ take 64 (page_in pool p))
+    (upper_records : frame_records_in hi ≡ drop 64 (page_in pool p)) (full : length (page_in pool p) ≡ 128)
     (within : id < length (set pool p.id (Some lo))) (spare : frame_at (set pool p.id (Some lo)) id ≡ None)
   where
     -- the pages of both halves
@@ -262,7 +262,7 @@ module _ (pool : List (Option Frame)) (A B : List Page) (p : Page) (lo hi e : Fr
     abbrev pub split_pages : List Page
     split_pages = A ++ lower_page ∷ upper_page ∷ B
 
-    at_p : IsPageAt pool (0 + length (records_of pool A)) p
+    at_p : IsPageAt pool (0 + length (page_records_of pool A)) p
     at_p = (pages_split pool 0 A (p ∷ B) paged.each).1.0
 
     sides : All (λ x. x.id ≢ p.id) A × All (λ x. x.id ≢ p.id) B
@@ -317,7 +317,7 @@ module _ (pool : List (Option Frame)) (A B : List Page) (p : Page) (lo hi e : Fr
         ∙ (length-drop 64 (page_in pool p) ∙ omega (arith, full))
 
     -- both halves hold what the page held
-    both_records : records_of split_pool (lower_page ∷ upper_page ∷ []) ≡ page_in pool p
+    both_records : page_records_of split_pool (lower_page ∷ upper_page ∷ []) ≡ page_in pool p
     both_records =
         ap₂ (λ xs ys. xs ++ ys) (ap records_at p_there ∙ lower_records)
         (append-nil (page_in split_pool upper_page) ∙ (ap records_at id_there ∙ upper_records))
@@ -332,15 +332,15 @@ module _ (pool : List (Option Frame)) (A B : List Page) (p : Page) (lo hi e : Fr
           length-take-le 64
               (page_in pool p) (omega (arith, full)),
         ) in
-        let is : page_in pool p ≡ records_in at_p.frame = ap records_at at_p.there in
+        let is : page_in pool p ≡ frame_records_in at_p.frame = ap records_at at_p.there in
         let long : 0 < at_p.frame.len = omega (arith, length-records_in at_p.frame, ap length is, full) in
         ap time (sym (get_or-records_in lo 0 no_rec some) ∙ (ap (λ l. get_or l 0 no_rec) lower_records
         ∙ (get_or-take 64 (page_in pool p) 0 no_rec (omega arith)
         ∙ (ap (λ l. get_or l 0 no_rec) is ∙ get_or-records_in at_p.frame 0 no_rec long))))
 
-    inner : ArePagesFrom split_pool (length (records_of pool A)) (lower_page ∷ upper_page ∷ [])
+    inner : ArePagesFrom split_pool (length (page_records_of pool A)) (lower_page ∷ upper_page ∷ [])
     inner =
-        let place = zero-add (length (records_of pool A)) in (
+        let place = zero-add (length (page_records_of pool A)) in (
           record {
             frame = lo;
             there = p_there;
@@ -362,18 +362,18 @@ module _ (pool : List (Option Frame)) (A B : List Page) (p : Page) (lo hi e : Fr
           ),
         )
 
-    grown : length (records_of split_pool (lower_page ∷ upper_page ∷ [])) ≡ length (page_in pool p) + 0
+    grown : length (page_records_of split_pool (lower_page ∷ upper_page ∷ [])) ≡ length (page_in pool p) + 0
     grown = ap length both_records ∙ sym (add-zero (length (page_in pool p)))
 
     joined : A ++ ((lower_page ∷ upper_page ∷ []) ++ map (moved 0) B) ≡ split_pages
     joined = ap (λ ps. A ++ lower_page ∷ upper_page ∷ ps) (moved_none B)
 
-    pub records-split : records_of split_pool split_pages ≡ records_of pool (A ++ p ∷ B)
+    pub records-split : page_records_of split_pool split_pages ≡ page_records_of pool (A ++ p ∷ B)
     records-split =
-        ap (records_of split_pool) (sym joined)
+        ap (page_records_of split_pool) (sym joined)
         ∙ (records-replaced pool split_pool A B (lower_page ∷ upper_page ∷ []) p 0 paged.each front_agrees
         back_agrees inner grown
-        ∙ (ap (λ l. records_of pool A ++ (l ++ records_of pool B)) both_records
+        ∙ (ap (λ l. page_records_of pool A ++ (l ++ page_records_of pool B)) both_records
         ∙ sym (records-append pool A (p ∷ B))))
 
     pub lengths-split : lengths_of split_pool split_pages ≡ lengths_of pool A ++ 64 ∷ 64 ∷ lengths_of pool B

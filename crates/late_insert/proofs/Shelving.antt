@@ -13,13 +13,13 @@ use Rattle.std.specs.Prelude.{insert}
 use Rattle.std.proofs.lemmas.List.Elements.{All-nil, All-cons, All-set}
 use Rattle.trend_num.specs.declared.archive.Rec.{Rec}
 use Rattle.page_pool.specs.declared.frame.Frame.{Frame}
-use Rattle.page_pool.specs.Pool.{Takes, empty_frame}
+use Rattle.page_pool.specs.Pool.{TakesFrame, empty_frame}
 use Rattle.late_insert.specs.declared.directory.Page.{Page}
 use Rattle.trend_model.specs.Contents.{placed, points_of}
 use Rattle.trend_model.specs.Windows.{area}
 use Rattle.late_insert.specs.declared.directory.Key.TheVariants.{Time}
 use Rattle.late_insert.specs.Moves.{IsLastUpto, moved}
-use Rattle.late_insert.specs.Pages.{records_in, records_at, page_in, records_of, IsPage, ArePagesFrom}
+use Rattle.late_insert.specs.Pages.{frame_records_in, records_at, page_in, page_records_of, IsPage, ArePagesFrom}
 use Rattle.late_insert.specs.Pages.{ArePages, IsFor, IsSplit, lengths_of}
 use Rattle.late_insert.specs.PageLengths.{IsGrown, place_in}
 use Rattle.trend_model.proofs.Placing.{time, placed_middle}
@@ -38,9 +38,9 @@ pub record IsShelved (pages M S : List Page) (k by : ℕ) (q : Page) (g : Frame)
   pub moves : M ≡ take (k + 1) S ++ map (moved by) (drop (k + 1) S)
 
 module _ (pool : List (Option Frame)) (pages M S : List Page) (k by : ℕ) (p q : Page) (f g : Frame)
-    (r : Rec) (s : ℤ) (stair : s ≡ area true (points_of (records_in g)))
+    (r : Rec) (s : ℤ) (stair : s ≡ area true (points_of (frame_records_in g)))
     (is : IsRead pool pages k p f) (found : IsFor pool pages k (time r)) (page : IsPage g)
-    (records : records_in g ≡ placed r (records_in f)) (grown : g.len ≡ f.len + by)
+    (records : frame_records_in g ≡ placed r (frame_records_in f)) (grown : g.len ≡ f.len + by)
     (shelved : IsShelved pages M S k by q g s) where
   same_page : q ≡ p
   same_page = shelved.again ∙ (get_or_default pages k q p is.within ∙ sym is.read)
@@ -51,13 +51,13 @@ module _ (pool : List (Option Frame)) (pages M S : List Page) (k by : ℕ) (p q 
   as_pages : ArePages pool (take k pages ++ p ∷ drop (k + 1) pages)
   as_pages = subst (ArePages pool) around is.paged
 
-  held : page_in pool p ≡ records_in f
+  held : page_in pool p ≡ frame_records_in f
   held = ap records_at is.there
 
-  in_page : records_in g ≡ placed r (page_in pool p)
+  in_page : frame_records_in g ≡ placed r (page_in pool p)
   in_page = records ∙ ap (placed r) (sym held)
 
-  in_len : length (records_in g) ≡ length (page_in pool p) + by
+  in_len : length (frame_records_in g) ≡ length (page_in pool p) + by
   in_len = omega (arith, length-records_in g, length-records_in f, ap length held)
 
   -- the pages as the code leaves them
@@ -83,26 +83,26 @@ module _ (pool : List (Option Frame)) (pages M S : List Page) (k by : ℕ) (p q 
       (pages_put pool (take k pages) (drop (k + 1) pages) p g r by s stair as_pages page in_page in_len
       found.before found.after)
 
-  pub records-shelved : records_of (set pool p.id (Some g)) (M) ≡ placed r
-      (records_of pool pages)
+  pub records-shelved : page_records_of (set pool p.id (Some g)) (M) ≡ placed r
+      (page_records_of pool pages)
   records-shelved =
-      ap (records_of (set pool p.id (Some g))) final
+      ap (page_records_of (set pool p.id (Some g))) final
       ∙ (records-put pool (take k pages) (drop (k + 1) pages) p g r by s stair as_pages page in_page in_len
       found.before found.after
-      ∙ ap (λ ps. placed r (records_of pool ps)) (sym around))
+      ∙ ap (λ ps. placed r (page_records_of pool ps)) (sym around))
 
-  pub len-shelved : length (records_of (set pool p.id (Some g)) (M)) ≡ length
-      (records_of pool pages) + by
+  pub len-shelved : length (page_records_of (set pool p.id (Some g)) (M)) ≡ length
+      (page_records_of pool pages) + by
   len-shelved =
-      let A = records_of pool (take k pages) in
-      let B = records_of pool (drop (k + 1) pages) in
-      let was : records_of pool pages ≡ A ++ (page_in pool p ++ B) =
+      let A = page_records_of pool (take k pages) in
+      let B = page_records_of pool (drop (k + 1) pages) in
+      let was : page_records_of pool pages ≡ A ++ (page_in pool p ++ B) =
       records-around pool pages k p is.within ∙ ap (λ x. A ++ (page_in pool x ++ B)) (sym is.read) in
-      let now : placed r (records_of pool pages) ≡ A ++ (records_in g ++ B) =
+      let now : placed r (page_records_of pool pages) ≡ A ++ (frame_records_in g ++ B) =
       ap (placed r) was ∙ (placed_middle r A (page_in pool p) B found.before found.after
       ∙ ap (λ l. A ++ (l ++ B)) (sym in_page)) in
-      let new_len : length (A ++ (records_in g ++ B)) ≡ length A + (length (records_in g) + length B) =
-      length-append A (records_in g ++ B) ∙ ap (λ n. length A + n) (length-append (records_in g) B) in
+      let new_len : length (A ++ (frame_records_in g ++ B)) ≡ length A + (length (frame_records_in g) + length B) =
+      length-append A (frame_records_in g ++ B) ∙ ap (λ n. length A + n) (length-append (frame_records_in g) B) in
       let old_len : length (A ++ (page_in pool p ++ B)) ≡ length A + (length (page_in pool p) + length B) =
       length-append A (page_in pool p ++ B) ∙ ap (λ n. length A + n) (length-append (page_in pool p) B) in
       let whole = ap length records-shelved in
@@ -111,7 +111,7 @@ module _ (pool : List (Option Frame)) (pages M S : List Page) (k by : ℕ) (p q 
 
   -- and its page has grown
   pub grown-shelved : f.len < 128
-      → IsGrown (lengths_of pool pages) (place_in (records_of pool pages) (time r)) by
+      → IsGrown (lengths_of pool pages) (place_in (page_records_of pool pages) (time r)) by
       (lengths_of (set pool p.id (Some g)) M)
   grown-shelved short =
       let long : length (page_in pool p) ≡ f.len = ap length held ∙ length-records_in f in
@@ -136,12 +136,12 @@ module _ (pool : List (Option Frame)) (pages M S : List Page) (k by : ℕ) (p q 
 
 -- no page begins behind the end
 first_fits : (pool : List (Option Frame)) (place : ℕ) (pages : List Page) → ArePagesFrom pool place pages
-    → All (λ p. p.first ≤ place + length (records_of pool pages)) pages
+    → All (λ p. p.first ≤ place + length (page_records_of pool pages)) pages
 first_fits pool place [] each = All-nil (λ p. p.first ≤ place + 0)
 first_fits pool place (p ∷ ps) each =
     let here = each.0.first in
-    let long = length-append (page_in pool p) (records_of pool ps) in
-    All-cons (λ q. q.first ≤ place + length (records_of pool (p ∷ ps))) p ps (omega arith)
+    let long = length-append (page_in pool p) (page_records_of pool ps) in
+    All-cons (λ q. q.first ≤ place + length (page_records_of pool (p ∷ ps))) p ps (omega arith)
     (λ k d inside. let rest = first_fits pool (place + length (page_in pool p)) ps each.1 k d inside in omega
     arith)
 
@@ -149,7 +149,7 @@ first_fits pool place (p ∷ ps) each =
 pub small_places : (pool : List (Option Frame)) (pages S : List Page) (k by : ℕ) (q : Page) (s : ℕ) (z : ℤ)
     → ArePages pool pages → k < length pages
     → q ≡ get_or pages k q → S ≡ set pages k (record { id = q.id; first = q.first; start = s; stair = z })
-    → length (records_of pool pages) + 1 < 2 ^ 32 → by ≤ 1
+    → length (page_records_of pool pages) + 1 < 2 ^ 32 → by ≤ 1
     → All (λ p. p.first + by < 2 ^ 32) S
 small_places pool pages S k by q s z paged within again wrote few one =
     let firsts = first_fits pool 0 pages paged.each in
@@ -164,11 +164,11 @@ small_places pool pages S k by q s z paged within again wrote few one =
 -- what a split leaves: the lower half, a frame that was taken for the upper half, and the upper half there
 module _ (pool taken : List (Option Frame)) (pages : List Page) (k id : ℕ) (p q : Page) (f lo hi : Frame)
     (s t : ℤ)
-    (lower_stair : s ≡ area true (points_of (records_in lo)))
-    (upper_stair : t ≡ area true (points_of (records_in hi))) (is : IsRead pool pages k p f)
+    (lower_stair : s ≡ area true (points_of (frame_records_in lo)))
+    (upper_stair : t ≡ area true (points_of (frame_records_in hi))) (is : IsRead pool pages k p f)
     (full : f.len ≡ 128) (lower : IsPage lo) (upper : IsPage hi)
-    (low : records_in lo ≡ take 64 (records_in f))
-    (high : records_in hi ≡ drop 64 (records_in f)) (takes : Takes (set pool p.id (Some lo)) id taken)
+    (low : frame_records_in lo ≡ take 64 (frame_records_in f))
+    (high : frame_records_in hi ≡ drop 64 (frame_records_in f)) (takes : TakesFrame (set pool p.id (Some lo)) id taken)
     (again : q ≡ get_or pages k q) where
   split_around : pages ≡ take k pages ++ p ∷ drop (k + 1) pages
   split_around = pages_around pages k p is.within ∙ ap (λ x. take k pages ++ x ∷ drop (k + 1) pages)
@@ -177,7 +177,7 @@ module _ (pool taken : List (Option Frame)) (pages : List Page) (k id : ℕ) (p 
   split_paged : ArePages pool (take k pages ++ p ∷ drop (k + 1) pages)
   split_paged = subst (ArePages pool) split_around is.paged
 
-  split_held : page_in pool p ≡ records_in f
+  split_held : page_in pool p ≡ frame_records_in f
   split_held = ap records_at is.there
 
   split_full : length (page_in pool p) ≡ 128
@@ -212,10 +212,10 @@ module _ (pool taken : List (Option Frame)) (pages : List Page) (k id : ℕ) (p 
       (Some hi)
   split_pool_is = ap (λ ps. set ps id (Some hi)) takes.now_empty
 
-  low_part : records_in lo ≡ take 64 (page_in pool p)
+  low_part : frame_records_in lo ≡ take 64 (page_in pool p)
   low_part = low ∙ ap (take 64) (sym split_held)
 
-  high_part : records_in hi ≡ drop 64 (page_in pool p)
+  high_part : frame_records_in hi ≡ drop 64 (page_in pool p)
   high_part = high ∙ ap (drop 64) (sym split_held)
 
   pub pages_cut : ArePages (set taken id (Some hi)) split_list
@@ -226,12 +226,12 @@ module _ (pool taken : List (Option Frame)) (pages : List Page) (k id : ℕ) (p 
       (pages_in_halves pool (take k pages) (drop (k + 1) pages) p lo hi empty_frame id s t lower_stair
       upper_stair split_paged lower upper low_part high_part split_full takes.within takes.was_spare))
 
-  pub records-cut : records_of (set taken id (Some hi)) split_list ≡ records_of pool pages
+  pub records-cut : page_records_of (set taken id (Some hi)) split_list ≡ page_records_of pool pages
   records-cut =
-      ap₂ records_of split_pool_is split_is
+      ap₂ page_records_of split_pool_is split_is
       ∙ (records-split pool (take k pages) (drop (k + 1) pages) p lo hi empty_frame id s t lower_stair
       upper_stair split_paged lower upper low_part high_part split_full takes.within takes.was_spare
-      ∙ ap (records_of pool) (sym split_around))
+      ∙ ap (page_records_of pool) (sym split_around))
 
   pub lengths-cut : lengths_of (set taken id (Some hi)) split_list ≡ lengths_of pool (take k pages) ++ 64 ∷ 64
       ∷ lengths_of pool (drop (k + 1) pages)
@@ -271,7 +271,7 @@ full_frame pool pages k p f is full =
 -- a page's place and half a page fit
 pub first_small : (pool : List (Option Frame)) (pages : List Page) (k : ℕ) (p q : Page) (f : Frame)
     → IsRead pool pages k p f → f.len ≡ 128
-    → q ≡ get_or pages k q → length (records_of pool pages) < 2 ^ 32 → q.first + 64 < 2 ^ 32
+    → q ≡ get_or pages k q → length (page_records_of pool pages) < 2 ^ 32 → q.first + 64 < 2 ^ 32
 first_small pool pages k p q f is full again few =
     let same : q ≡ p = again ∙ (get_or_default pages k q p is.within ∙ sym is.read) in
     let first = ap (λ (x : Page). x.first) same in

@@ -9,12 +9,12 @@ use Rattle.std.proofs.lemmas.Bool.{cases_eq}
 use Rattle.trend_num.specs.declared.archive.Rec.{Rec}
 use Rattle.page_pool.specs.declared.frame.Frame.{Frame}
 use Rattle.trend_model.specs.Contents.{IsRising, over, placed}
-use Rattle.late_insert.specs.Pages.{IsRecorded, rec_in, records_in}
+use Rattle.late_insert.specs.Pages.{IsRecorded, rec_in, frame_records_in}
 use Rattle.trend_model.proofs.Placing.{time, AllBefore, AllAfter, placed_in_gap, placed_behind, placed_at}
 use Rattle.late_insert.proofs.Summing.{length-records_in, get_or-records_in}
 
 -- the times of a rising page rise
-pub times_rise : (f : Frame) → IsRising (records_in f) → (i j : ℕ) → i ≤ j → j < f.len
+pub times_rise : (f : Frame) → IsRising (frame_records_in f) → (i j : ℕ) → i ≤ j → j < f.len
     → get_or f.times i 0 ≤ get_or f.times j 0
 times_rise f rises i j below within =
     let d = rec_in f 0 in
@@ -28,7 +28,7 @@ times_rise f rises i j below within =
     ]
 
 -- so do those in use, as numbers that do not fall
-pub times_sorted : (f : Frame) → IsRecorded f → IsRising (records_in f) → IsNonDecreasing (take f.len f.times)
+pub times_sorted : (f : Frame) → IsRecorded f → IsRising (frame_records_in f) → IsNonDecreasing (take f.len f.times)
 times_sorted f recorded rises i j d below within =
     let long = length-take-le f.len f.times (omega (arith, recorded.few, recorded.times)) in
     let reach : j < f.len = omega arith in
@@ -40,50 +40,50 @@ times_sorted f recorded rises i j d below within =
 
 -- the records of a page before a place are before t
 pub all_before : (f : Frame) (t i : ℕ) → i ≤ f.len → ((k : ℕ) → k < i → get_or f.times k 0 < t)
-    → AllBefore (take i (records_in f)) t
+    → AllBefore (take i (frame_records_in f)) t
 all_before f t i within less k d inside =
-    let long = length-take-le i (records_in f) (omega (arith, length-records_in f)) in
-    let here : get_or (take i (records_in f)) k d ≡ rec_in f k =
-    get_or-take i (records_in f) k d (omega arith) ∙ get_or-records_in f k d (omega arith) in
+    let long = length-take-le i (frame_records_in f) (omega (arith, length-records_in f)) in
+    let here : get_or (take i (frame_records_in f)) k d ≡ rec_in f k =
+    get_or-take i (frame_records_in f) k d (omega arith) ∙ get_or-records_in f k d (omega arith) in
     subst (λ x. time x < t) (sym here) (less k (omega arith))
 
 -- where the one at the place i is after t, so are all from there on
-pub all_after : (f : Frame) (t i : ℕ) → IsRising (records_in f) → i < f.len → t < get_or f.times i 0
-    → AllAfter t (drop i (records_in f))
+pub all_after : (f : Frame) (t i : ℕ) → IsRising (frame_records_in f) → i < f.len → t < get_or f.times i 0
+    → AllAfter t (drop i (frame_records_in f))
 all_after f t i rises within more k d inside =
-    let reach : i + k < f.len = omega (arith, length-drop i (records_in f), length-records_in f) in
-    let here : get_or (drop i (records_in f)) k d ≡ rec_in f (i + k) = get_or-drop i (records_in f) k d
+    let reach : i + k < f.len = omega (arith, length-drop i (frame_records_in f), length-records_in f) in
+    let here : get_or (drop i (frame_records_in f)) k d ≡ rec_in f (i + k) = get_or-drop i (frame_records_in f) k d
     ∙ get_or-records_in f (i + k) d reach in
     let rise = times_rise f rises i (i + k) (omega arith) reach in
     subst (λ x. t < time x) (sym here) (omega arith)
 
 -- a record put in a gap of a page
-pub placed_gap : (f : Frame) (r : Rec) (i : ℕ) → IsRising (records_in f) → i < f.len
+pub placed_gap : (f : Frame) (r : Rec) (i : ℕ) → IsRising (frame_records_in f) → i < f.len
     → ((k : ℕ) → k < i → get_or f.times k 0 < time r)
-    → time r < get_or f.times i 0 → insert (records_in f) i r ≡ placed r (records_in f)
+    → time r < get_or f.times i 0 → insert (frame_records_in f) i r ≡ placed r (frame_records_in f)
 placed_gap f r i rises within less more =
-    sym (placed_in_gap r (records_in f) i (all_before f (time r) i (omega arith) less)
+    sym (placed_in_gap r (frame_records_in f) i (all_before f (time r) i (omega arith) less)
     (all_after f (time r) i rises within more))
 
 -- behind all others
 pub placed_end : (f : Frame) (r : Rec) → ((k : ℕ) → k < f.len → get_or f.times k 0 < time r)
-    → records_in f ++ r ∷ [] ≡ placed r (records_in f)
+    → frame_records_in f ++ r ∷ [] ≡ placed r (frame_records_in f)
 placed_end f r less =
-    let all = take_all f.len (records_in f) (omega (arith, length-records_in f)) in
-    let before : AllBefore (records_in f) (time r) = subst (λ l. AllBefore l (time r)) all
+    let all = take_all f.len (frame_records_in f) (omega (arith, length-records_in f)) in
+    let before : AllBefore (frame_records_in f) (time r) = subst (λ l. AllBefore l (time r)) all
     (all_before f (time r) f.len (omega arith) less) in
-    sym (ap (placed r) (sym (append-nil (records_in f))) ∙ placed_behind r (records_in f) [] before)
+    sym (ap (placed r) (sym (append-nil (frame_records_in f))) ∙ placed_behind r (frame_records_in f) [] before)
 
 -- at a time that is there
 pub placed_there : (f : Frame) (r : Rec) (i : ℕ) → i < f.len → ((k : ℕ) → k < i → get_or f.times k 0 < time r)
-    → time r ≡ get_or f.times i 0 → set (records_in f) i (over r (rec_in f i)) ≡ placed r (records_in f)
+    → time r ≡ get_or f.times i 0 → set (frame_records_in f) i (over r (rec_in f i)) ≡ placed r (frame_records_in f)
 placed_there f r i within less same =
     let here = get_or-records_in f i r within in
-    sym (placed_at r (records_in f) i r (omega (arith, length-records_in f))
+    sym (placed_at r (frame_records_in f) i r (omega (arith, length-records_in f))
     (all_before f (time r) i (omega arith) less) (same ∙ ap time (sym here))
-    ∙ ap (λ x. set (records_in f) i (over r x)) here)
+    ∙ ap (λ x. set (frame_records_in f) i (over r x)) here)
 
 -- how long a page is then
-pub grown_by : (f g : Frame) (r : Rec) (n : ℕ) → length (records_in g) ≡ length (records_in f) + n
+pub grown_by : (f g : Frame) (r : Rec) (n : ℕ) → length (frame_records_in g) ≡ length (frame_records_in f) + n
     → g.len ≡ f.len + n
 grown_by f g r n long = omega (arith, length-records_in f, length-records_in g)

@@ -15,7 +15,7 @@ use Rattle.trend_num.specs.declared.archive.Kind.{Kind}
 use Rattle.trend_num.specs.declared.archive.Rec.{Rec}
 use Rattle.trend_num.specs.Ranges.{InRange}
 use Rattle.page_pool.specs.declared.frame.Frame.{Frame}
-use Rattle.late_insert.specs.Pages.{kind_of, rec_in, records_in, IsRecorded}
+use Rattle.late_insert.specs.Pages.{kind_of, rec_in, frame_records_in, IsRecorded}
 use Rattle.late_insert.proofs.Summing.{length-records_in, get_or-records_in}
 
 -- a record by its parts
@@ -47,41 +47,41 @@ pub record IsInserted (f g : Frame) (i : ℕ) (r : Rec) : Type 0 where
   pub after : (k : ℕ) → i ≤ k → k < f.len → rec_in g (k + 1) ≡ rec_in f k
 
 pub records-inserted : (f g : Frame) (i : ℕ) (r : Rec) → IsInserted f g i r
-    → records_in g ≡ insert (records_in f) i r
+    → frame_records_in g ≡ insert (frame_records_in f) i r
 records-inserted f g i r put =
-    let fits : i ≤ length (records_in f) = omega (arith, length-records_in f, put.within) in
-    let long = length-insert (records_in f) i r fits in
-    same_lists (records_in g) (insert (records_in f) i r)
+    let fits : i ≤ length (frame_records_in f) = omega (arith, length-records_in f, put.within) in
+    let long = length-insert (frame_records_in f) i r fits in
+    same_lists (frame_records_in g) (insert (frame_records_in f) i r)
     (omega (arith, length-records_in f, length-records_in g, put.len))
     (λ k d inside. by_place k d (omega (arith, length-records_in g, put.len)) (cases_order k i))
   where
-    fits : i ≤ length (records_in f)
+    fits : i ≤ length (frame_records_in f)
     fits = omega (arith, length-records_in f, put.within)
 
     by_place : (k : ℕ) (d : Rec) → k < f.len + 1 → (k ≡ i) ⊎ ((k < i) ⊎ (i < k))
-        → get_or (records_in g) k d ≡ get_or (insert (records_in f) i r) k d
+        → get_or (frame_records_in g) k d ≡ get_or (insert (frame_records_in f) i r) k d
     by_place k d inside (inl same) =
         get_or-records_in g k d (omega (arith, put.len))
-        ∙ (ap (rec_in g) same ∙ (put.there ∙ (sym (get_or-insert_at (records_in f) i r d fits)
-        ∙ ap (λ n. get_or (insert (records_in f) i r) n d) (sym same))))
+        ∙ (ap (rec_in g) same ∙ (put.there ∙ (sym (get_or-insert_at (frame_records_in f) i r d fits)
+        ∙ ap (λ n. get_or (insert (frame_records_in f) i r) n d) (sym same))))
     by_place k d inside (inr (inl less)) =
         get_or-records_in g k d (omega (arith, put.len)) ∙ (put.before k less
         ∙ (sym (get_or-records_in f k d (omega (arith, put.within)))
-        ∙ sym (get_or-insert_below (records_in f) i r d k less fits)))
+        ∙ sym (get_or-insert_below (frame_records_in f) i r d k less fits)))
     by_place zero d inside (inr (inr more)) = absurd (omega arith)
     by_place (suc k) d inside (inr (inr more)) =
-        subst (λ n. get_or (records_in g) n d ≡ get_or (insert (records_in f) i r) n d) (add-one k)
+        subst (λ n. get_or (frame_records_in g) n d ≡ get_or (insert (frame_records_in f) i r) n d) (add-one k)
         (get_or-records_in g (k + 1) d (omega (arith, put.len)) ∙ (put.after k (omega arith) (omega arith)
         ∙ (sym (get_or-records_in f k d (omega arith))
-        ∙ sym (get_or-insert_above (records_in f) i r d k (omega arith) fits))))
+        ∙ sym (get_or-insert_above (frame_records_in f) i r d k (omega arith) fits))))
 
 -- the records of f, and one more, are in range
-pub range-inserted : (f g : Frame) (i : ℕ) (r : Rec) → records_in g ≡ insert (records_in f) i r → IsRecorded f
+pub range-inserted : (f g : Frame) (i : ℕ) (r : Rec) → frame_records_in g ≡ insert (frame_records_in f) i r → IsRecorded f
     → InRange r.point
-    → All (λ x. InRange x.point) (records_in g)
+    → All (λ x. InRange x.point) (frame_records_in g)
 range-inserted f g i r is recorded range =
     let Each : Rec → Type 0 = λ x. InRange x.point in
-    let l = records_in f in
+    let l = frame_records_in f in
     subst (All Each) (sym is)
     (All-append Each (take i l) (r ∷ drop i l) (All-take Each i l recorded.range)
     (All-cons Each r (drop i l) range (All-drop Each i l recorded.range)))
@@ -108,21 +108,21 @@ pub record IsReplaced (f g : Frame) (i : ℕ) (r : Rec) : Type 0 where
   pub others : (k : ℕ) → k ≢ i → k < f.len → rec_in g k ≡ rec_in f k
 
 pub records-replaced : (f g : Frame) (i : ℕ) (r : Rec) → IsReplaced f g i r
-    → records_in g ≡ set (records_in f) i r
+    → frame_records_in g ≡ set (frame_records_in f) i r
 records-replaced f g i r put =
-    same_lists (records_in g) (set (records_in f) i r)
-    (omega (arith, length-records_in f, length-records_in g, length-set (records_in f) i r, put.len))
+    same_lists (frame_records_in g) (set (frame_records_in f) i r)
+    (omega (arith, length-records_in f, length-records_in g, length-set (frame_records_in f) i r, put.len))
     (λ k d inside. by_place k d (omega (arith, length-records_in g, put.len)) (cases_eq k i))
   where
-    by_place : (k : ℕ) (d : Rec) → k < f.len → (k ≡ i) ⊎ (k ≢ i) → get_or (records_in g) k d ≡ get_or
-        (set (records_in f) i r) k d
+    by_place : (k : ℕ) (d : Rec) → k < f.len → (k ≡ i) ⊎ (k ≢ i) → get_or (frame_records_in g) k d ≡ get_or
+        (set (frame_records_in f) i r) k d
     by_place k d inside (inl same) =
         get_or-records_in g k d (omega (arith, put.len)) ∙ (ap (rec_in g) same ∙ (put.there
-        ∙ (sym (get_or-set_same (records_in f) i r d (omega (arith, length-records_in f, put.within)))
-        ∙ ap (λ n. get_or (set (records_in f) i r) n d) (sym same))))
+        ∙ (sym (get_or-set_same (frame_records_in f) i r d (omega (arith, length-records_in f, put.within)))
+        ∙ ap (λ n. get_or (set (frame_records_in f) i r) n d) (sym same))))
     by_place k d inside (inr other) =
         get_or-records_in g k d (omega (arith, put.len)) ∙ (put.others k other inside
-        ∙ (sym (get_or-records_in f k d inside) ∙ sym (get_or-set_other (records_in f) i k r d other)))
+        ∙ (sym (get_or-records_in f k d inside) ∙ sym (get_or-set_other (frame_records_in f) i k r d other)))
 
 -- the record `now` is written over the one at the place i
 module _ (f : Frame) (i : ℕ) (now : Rec) (v : ℤ) (late : ℕ) (recorded : IsRecorded f) (within : i < f.len)
@@ -141,7 +141,7 @@ module _ (f : Frame) (i : ℕ) (now : Rec) (v : ℤ) (late : ℕ) (recorded : Is
             (get_or-set_other f.values i k v (pos 0) other);
       }
 
-  pub records-rewritten : records_in (rewritten f i v late) ≡ set (records_in f) i now
+  pub records-rewritten : frame_records_in (rewritten f i v late) ≡ set (frame_records_in f) i now
   records-rewritten = records-replaced f (rewritten f i v late) i now replaced
 
   pub recorded-rewritten : IsRecorded (rewritten f i v late)
@@ -151,7 +151,7 @@ module _ (f : Frame) (i : ℕ) (now : Rec) (v : ℤ) (late : ℕ) (recorded : Is
     values = length-set f.values i v ∙ recorded.values;
     marks = marks;
     range = subst (All (λ x. InRange x.point)) (sym records-rewritten)
-        (All-set (λ x. InRange x.point) (records_in f) i now range recorded.range);
+        (All-set (λ x. InRange x.point) (frame_records_in f) i now range recorded.range);
   }
 
 -- ---- halves
@@ -159,25 +159,25 @@ module _ (f : Frame) (i : ℕ) (now : Rec) (v : ℤ) (late : ℕ) (recorded : Is
 -- g is the first n records of f
 pub records-front : (f g : Frame) (n : ℕ) → g.len ≡ n → n ≤ f.len
     → ((k : ℕ) → k < n → rec_in g k ≡ rec_in f k)
-    → records_in g ≡ take n (records_in f)
+    → frame_records_in g ≡ take n (frame_records_in f)
 records-front f g n len within each =
-    let long = length-take-le n (records_in f) (omega (arith, length-records_in f)) in
-    same_lists (records_in g) (take n (records_in f)) (omega (arith, length-records_in g)) (λ k d inside.
+    let long = length-take-le n (frame_records_in f) (omega (arith, length-records_in f)) in
+    same_lists (frame_records_in g) (take n (frame_records_in f)) (omega (arith, length-records_in g)) (λ k d inside.
     let below : k < n = omega (arith, length-records_in g) in
     get_or-records_in g k d (omega arith) ∙ (each k below
-    ∙ (sym (get_or-records_in f k d (omega arith)) ∙ sym (get_or-take n (records_in f) k d below))))
+    ∙ (sym (get_or-records_in f k d (omega arith)) ∙ sym (get_or-take n (frame_records_in f) k d below))))
 
 -- g is the records of f behind the first n
 pub records-back : (f g : Frame) (n : ℕ) → n + g.len ≡ f.len
     → ((k : ℕ) → k < g.len → rec_in g k ≡ rec_in f (n + k))
-    → records_in g ≡ drop n (records_in f)
+    → frame_records_in g ≡ drop n (frame_records_in f)
 records-back f g n len each =
-    let long = length-drop n (records_in f) in
-    same_lists (records_in g) (drop n (records_in f))
+    let long = length-drop n (frame_records_in f) in
+    same_lists (frame_records_in g) (drop n (frame_records_in f))
     (omega (arith, length-records_in g, length-records_in f)) (λ k d inside.
     let below : k < g.len = omega (arith, length-records_in g) in
     get_or-records_in g k d below ∙ (each k below
-    ∙ (sym (get_or-records_in f (n + k) d (omega arith)) ∙ sym (get_or-drop n (records_in f) k d))))
+    ∙ (sym (get_or-records_in f (n + k) d (omega arith)) ∙ sym (get_or-drop n (frame_records_in f) k d))))
 
 -- the marks of the first 64 records, and of those behind them
 bit_front : (m k : ℕ) → k < 64 → bit_at (bit_and m (2 ^ 64 - 1)) k ≡ bit_at m k
@@ -207,7 +207,7 @@ module _ (f : Frame) (recorded : IsRecorded f) (full : f.len ≡ 128) where
     high = f.high;
   }
 
-  pub records-lower : records_in lower_half ≡ take 64 (records_in f)
+  pub records-lower : frame_records_in lower_half ≡ take 64 (frame_records_in f)
   records-lower = records-front f lower_half 64 refl (omega arith)
       (λ k below. same_rec _ _ _ _ _ _ (ap kind_of (bit_front f.late k below)) refl refl)
 
@@ -218,7 +218,7 @@ module _ (f : Frame) (recorded : IsRecorded f) (full : f.len ≡ 128) where
     values = recorded.values;
     marks = rw (and_mask f.late 64) (mod_below f.late (2 ^ 64) (omega arith));
     range = subst (All (λ x. InRange x.point)) (sym records-lower)
-        (All-take (λ x. InRange x.point) 64 (records_in f) recorded.range);
+        (All-take (λ x. InRange x.point) 64 (frame_records_in f) recorded.range);
   }
 
   -- the upper half, in arrays that begin with it
@@ -239,7 +239,7 @@ module _ (f : Frame) (recorded : IsRecorded f) (full : f.len ≡ 128) where
       high = f.high;
     }
 
-    pub records-upper : records_in upper_half ≡ drop 64 (records_in f)
+    pub records-upper : frame_records_in upper_half ≡ drop 64 (frame_records_in f)
     records-upper = records-back f upper_half 64 (omega arith)
         (λ k below. same_rec _ _ _ _ _ _ (ap kind_of (bit_back f.late k))
         (each_time k 0 (omega (arith, recorded.times)))
@@ -252,5 +252,5 @@ module _ (f : Frame) (recorded : IsRecorded f) (full : f.len ≡ 128) where
       values = long_values ∙ recorded.values;
       marks = shr_below f.late 64 64 (subst (λ n. f.late < 2 ^ n) full recorded.marks);
       range = subst (All (λ x. InRange x.point)) (sym records-upper)
-          (All-drop (λ x. InRange x.point) 64 (records_in f) recorded.range);
+          (All-drop (λ x. InRange x.point) 64 (frame_records_in f) recorded.range);
     }

@@ -14,7 +14,7 @@ use Rattle.trend_num.specs.declared.point.Point.{Point}
 use Rattle.trend_num.specs.declared.archive.Rec.{Rec}
 use Rattle.trend_num.specs.Ranges.{InRange}
 use Rattle.page_pool.specs.declared.frame.Frame.{Frame}
-use Rattle.late_insert.specs.Pages.{rec_in, records_in, IsRecorded, IsPage}
+use Rattle.late_insert.specs.Pages.{rec_in, frame_records_in, IsRecorded, IsPage}
 use Rattle.trend_model.specs.Contents.{points_of}
 use Rattle.trend_model.specs.Windows.{area, piece}
 use Rattle.late_insert.specs.Totals.{least_of, greatest_of}
@@ -23,10 +23,10 @@ use Rattle.late_insert.proofs.Areas.{greatest_push, area_fits}
 
 -- ---- the records of a frame
 
-pub length-records_in : (f : Frame) → length (records_in f) ≡ f.len
+pub length-records_in : (f : Frame) → length (frame_records_in f) ≡ f.len
 length-records_in f = length-map-range_with_len (rec_in f) 0 f.len
 
-pub get_or-records_in : (f : Frame) (i : ℕ) (d : Rec) → i < f.len → get_or (records_in f) i d ≡ rec_in f i
+pub get_or-records_in : (f : Frame) (i : ℕ) (d : Rec) → i < f.len → get_or (frame_records_in f) i d ≡ rec_in f i
 get_or-records_in f i d within = get_or-map-range_with_len (rec_in f) 0 f.len i i d within (omega arith)
 
 -- each is in range, and so its value fits
@@ -41,20 +41,20 @@ value_fits p range = fits_signed_from_abs w64 p.v (omega (arith, range.value))
 -- ---- its points
 
 abbrev pub points_in : Frame → List Point
-points_in f = points_of (records_in f)
+points_in f = points_of (frame_records_in f)
 
 pub length-points_in : (f : Frame) → length (points_in f) ≡ f.len
-length-points_in f = length-map (records_in f) (λ r. r.point) ∙ length-records_in f
+length-points_in f = length-map (frame_records_in f) (λ r. r.point) ∙ length-records_in f
 
 pub get_or-points_in : (f : Frame) (i : ℕ) (d : Point) → i < f.len
     → get_or (points_in f) i d ≡ (rec_in f i).point
 get_or-points_in f i d within =
-    let inside : i < length (records_in f) = omega (arith, length-records_in f) in
-    get_or-map (λ (r : Rec). r.point) (records_in f) i (rec_in f i) d inside
+    let inside : i < length (frame_records_in f) = omega (arith, length-records_in f) in
+    get_or-map (λ (r : Rec). r.point) (frame_records_in f) i (rec_in f i) d inside
     ∙ ap (λ (r : Rec). r.point) (get_or-records_in f i (rec_in f i) within)
 
 pub points_range : (f : Frame) → IsRecorded f → All InRange (points_in f)
-points_range f recorded = All-map InRange (λ (r : Rec). r.point) (records_in f) recorded.range
+points_range f recorded = All-map InRange (λ (r : Rec). r.point) (frame_records_in f) recorded.range
 
 -- ---- counting
 
@@ -177,7 +177,7 @@ pub record IsPushed (f g : Frame) (r : Rec) (last : Point) : Type 0 where
   pub page : IsPage f
   pub some : 0 < f.len
   pub recorded : IsRecorded g
-  pub records : records_in g ≡ insert (records_in f) f.len r
+  pub records : frame_records_in g ≡ insert (frame_records_in f) f.len r
   pub end : last ≡ (rec_in f (f.len - 1)).point
   pub area : g.area ≡ f.area
   pub low : g.low ≡ f.low
@@ -185,7 +185,7 @@ pub record IsPushed (f g : Frame) (r : Rec) (last : Point) : Type 0 where
 
 -- it is what a store at the end says
 pub is_pushed : (f g : Frame) (r : Rec) (last : Point) → IsPage f → 0 < f.len → last ≡ (rec_in f (f.len - 1)).point
-    → IsRecorded g → records_in g ≡ insert (records_in f) f.len r → g.area ≡ f.area → g.low ≡ f.low → g.high ≡ f.high
+    → IsRecorded g → frame_records_in g ≡ insert (frame_records_in f) f.len r → g.area ≡ f.area → g.low ≡ f.low → g.high ≡ f.high
     → IsPushed f g r last
 is_pushed f g r last page some end recorded records area low high = record {
   page = page;
@@ -203,9 +203,9 @@ module _ (f g : Frame) (r : Rec) (last : Point) (push : IsPushed f g r last) whe
   points_pushed : points_in g ≡ points_in f ++ r.point ∷ []
   points_pushed =
       let recs = length-records_in f in
-      ap points_of (push.records ∙ (ap (λ n. insert (records_in f) n r) (sym recs)
-      ∙ insert_end (records_in f) r))
-      ∙ map_push (λ (x : Rec). x.point) (records_in f) r
+      ap points_of (push.records ∙ (ap (λ n. insert (frame_records_in f) n r) (sym recs)
+      ∙ insert_end (frame_records_in f) r))
+      ∙ map_push (λ (x : Rec). x.point) (frame_records_in f) r
 
   -- an area with one piece more
   pub area_pushed : (step : Bool) (a line : ℤ) → a ≡ area step (points_in f) → line ≡ piece step last r.point

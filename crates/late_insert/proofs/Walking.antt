@@ -11,7 +11,7 @@ use Rattle.late_insert.specs.declared.directory.Page.{Page}
 use Rattle.late_insert.specs.Moves.{IsLastUpto}
 use Rattle.trend_model.specs.Contents.{points_of}
 use Rattle.trend_model.specs.Windows.{area}
-use Rattle.late_insert.specs.Pages.{rec_in, records_at, records_in, records_of, ArePages, IsOn, IsWalk, IsRun}
+use Rattle.late_insert.specs.Pages.{rec_in, records_at, frame_records_in, page_records_of, ArePages, IsOn, IsWalk, IsRun}
 use Rattle.late_insert.proofs.Summing.{length-records_in, points_in, length-points_in, get_or-points_in}
 use Rattle.late_insert.proofs.Joining.{page_at}
 use Rattle.late_insert.proofs.Finding.{no_rec, no_page}
@@ -22,7 +22,7 @@ use Rattle.late_insert.proofs.Reading.{place_on, is_on, page_from, page_upto}
 -- a walk from a place, on the page that was found for it
 pub walk_first : (pool : List (Option Frame)) (pages : List Page) (k first behind : ℕ) → ArePages pool pages
     → k < length pages → first ≤ behind
-    → behind ≤ length (records_of pool pages) → behind < 2 ^ 32
+    → behind ≤ length (page_records_of pool pages) → behind < 2 ^ 32
     → IsLastUpto Place pages k first
     → IsWalk pool pages k first behind
 walk_first pool pages k first behind paged within order reach few last = record {
@@ -32,7 +32,7 @@ walk_first pool pages k first behind paged within order reach few last = record 
   few = few;
   at = λ more.
       let is = each_read pool pages k no_page paged within in
-      let inside : first < length (records_of pool pages) = omega arith in
+      let inside : first < length (page_records_of pool pages) = omega arith in
       is_on _ _ _ _ _ is first (page_from _ _ _ _ _ is first inside last)
       (page_upto _ _ _ _ _ is first inside last);
 }
@@ -51,7 +51,7 @@ module _ (pool : List (Option Frame)) (pages : List Page) (k place end stop : �
       let upto = on.1 in
       (omega arith, (omega arith, omega arith))
 
-  pub run_is : (s : ℤ) → s ≡ area true (points_of (records_in f)) → IsRun f s (place - p.first) stop
+  pub run_is : (s : ℤ) → s ≡ area true (points_of (frame_records_in f)) → IsRun f s (place - p.first) stop
   run_is s stair = record {
     page = frame_page _ _ _ _ _ is;
     stair_is = stair;
@@ -76,12 +76,12 @@ module _ (pool : List (Option Frame)) (pages : List Page) (k place end stop : �
       let inside = walk.within in
       let whole : stop ≡ f.len = omega arith in
       let start = (at_place _ _ _ _ _ is).first in
-      let there : length (records_of pool (take (k + 1) pages)) ≡ p.first + f.len =
+      let there : length (page_records_of pool (take (k + 1) pages)) ≡ p.first + f.len =
       omega (
         arith,
         ap length (records_upto _ _ _ _ _ is),
-        length-append (records_of pool (take k pages))
-            (records_in f),
+        length-append (page_records_of pool (take k pages))
+            (frame_records_in f),
         length-records_in f,
       ) in
       elim (cases_lt (k + 1) (length pages)) [
@@ -93,7 +93,7 @@ module _ (pool : List (Option Frame)) (pages : List Page) (k place end stop : �
             is_on _ _ _ _ _ again (p.first + stop) (omega (arith, at.first))
             (omega (arith, at.first, length-records_in at.frame))
         | inr last ↦
-            let all = ap (λ ps. length (records_of pool ps)) (take_all (k + 1) pages last) in
+            let all = ap (λ ps. length (page_records_of pool ps)) (take_all (k + 1) pages last) in
             absurd (omega arith)
       ]
 
@@ -107,12 +107,12 @@ module _ (pool : List (Option Frame)) (pages : List Page) (k place end stop : �
   }
 
   -- the points of the run are those of the walk
-  run_points : slice_range (points_of (records_of pool pages)) place (p.first + stop) ≡ slice_range
+  run_points : slice_range (points_of (page_records_of pool pages)) place (p.first + stop) ≡ slice_range
       (points_in f) (place - p.first) stop
   run_points =
-      let ps = points_of (records_of pool pages) in
+      let ps = points_of (page_records_of pool pages) in
       let reach : p.first + stop ≤ length ps = omega
-      (arith, bounds.1.1, walk.within, length-map (records_of pool pages) (λ r. r.point)) in
+      (arith, bounds.1.1, walk.within, length-map (page_records_of pool pages) (λ r. r.point)) in
       let fits : stop ≤ length (points_in f) = omega (arith, bounds.1.0, length-points_in f) in
       let left = length-range ps place (p.first + stop) reach in
       let right = length-range (points_in f) (place - p.first) stop fits in
@@ -122,20 +122,20 @@ module _ (pool : List (Option Frame)) (pages : List Page) (k place end stop : �
       (λ j d inside.
       let upto : j < p.first + stop - place = omega arith in
       let there : (place + j) - p.first ≡ place - p.first + j = omega arith in
-      let here : get_or (records_of pool pages) (place + j) no_rec ≡ rec_in f ((place + j) - p.first) =
+      let here : get_or (page_records_of pool pages) (place + j) no_rec ≡ rec_in f ((place + j) - p.first) =
       read_on _ _ _ _ _ is (place + j) no_rec (omega arith) (omega (arith, bounds.1.0)) in
       get_or-range ps place (p.first + stop) j d upto
-      ∙ (get_or-map (λ (r : Rec). r.point) (records_of pool pages) (place + j) no_rec d
-      (omega (arith, reach, length-map (records_of pool pages) (λ r. r.point)))
+      ∙ (get_or-map (λ (r : Rec). r.point) (page_records_of pool pages) (place + j) no_rec d
+      (omega (arith, reach, length-map (page_records_of pool pages) (λ r. r.point)))
       ∙ (ap (λ (r : Rec). r.point) here
       ∙ (sym (get_or-points_in f ((place + j) - p.first) d (omega (arith, bounds.1.0)))
       ∙ (ap (λ n. get_or (points_in f) n d) there
       ∙ sym (get_or-range (points_in f) (place - p.first) stop j d (omega arith)))))))
 
-  pub walk_split : slice_range (points_of (records_of pool pages)) place end
-      ≡ slice_range (points_in f) (place - p.first) stop ++ slice_range (points_of (records_of pool pages))
+  pub walk_split : slice_range (points_of (page_records_of pool pages)) place end
+      ≡ slice_range (points_in f) (place - p.first) stop ++ slice_range (points_of (page_records_of pool pages))
       (p.first + stop) end
   walk_split =
-      let ps = points_of (records_of pool pages) in
+      let ps = points_of (page_records_of pool pages) in
       range_joined ps place (p.first + stop) end (omega (arith, bounds.0, on.0)) bounds.1.1
       ∙ ap (λ l. l ++ slice_range ps (p.first + stop) end) run_points

@@ -14,7 +14,7 @@ abbrev pub place_in : List Rec → ℕ → ℕ
 place_in l t = count_by (λ r. nat_lt r.point.t t) l
 
 -- so many more behind all others: the last page takes them, or, where it is full, a page of their own follows it
-pub record IsFilled (old : List ℕ) (by : ℕ) (new : List ℕ) : Type 0 where
+pub record ArePagesFilled (old : List ℕ) (by : ℕ) (new : List ℕ) : Type 0 where
   pub front : List ℕ
   pub last : ℕ
   pub was : old ≡ front ++ last ∷ []

@@ -34,8 +34,8 @@ rec_in f i = record {
 }
 
 -- the records of a frame
-abbrev pub records_in : Frame → List Rec
-records_in f = map (rec_in f) (range_with_len 0 f.len)
+abbrev pub frame_records_in : Frame → List Rec
+frame_records_in f = map (rec_in f) (range_with_len 0 f.len)
 
 -- a frame that holds records
 pub record IsRecorded (f : Frame) : Type 0 where
@@ -43,29 +43,29 @@ pub record IsRecorded (f : Frame) : Type 0 where
   pub times : length f.times ≡ full_page
   pub values : length f.values ≡ full_page
   pub marks : f.late < 2 ^ f.len
-  pub range : All (λ r. InRange r.point) (records_in f)
+  pub range : All (λ r. InRange r.point) (frame_records_in f)
 
 -- a frame that holds records and their totals
 pub record IsPage (f : Frame) : Type 0 where
   pub recorded : IsRecorded f
-  pub area : f.area ≡ area false (points_of (records_in f))
-  pub low : f.low ≡ least_of (points_of (records_in f))
-  pub high : f.high ≡ greatest_of (points_of (records_in f))
+  pub area : f.area ≡ area false (points_of (frame_records_in f))
+  pub low : f.low ≡ least_of (points_of (frame_records_in f))
+  pub high : f.high ≡ greatest_of (points_of (frame_records_in f))
 
 -- ---- pages of a pool
 
 -- the records of a frame that may be there
 abbrev pub records_at : Option Frame → List Rec
 records_at None = []
-records_at (Some f) = records_in f
+records_at (Some f) = frame_records_in f
 
 -- the records of a page
 abbrev pub page_in : List (Option Frame) → Page → List Rec
 page_in pool p = records_at (frame_at pool p.id)
 
 -- the records of pages, one page after another
-abbrev pub records_of : List (Option Frame) → List Page → List Rec
-records_of pool pages = flat_map (page_in pool) pages
+abbrev pub page_records_of : List (Option Frame) → List Page → List Rec
+page_records_of pool pages = flat_map (page_in pool) pages
 
 -- how many records each page has
 abbrev pub lengths_of : List (Option Frame) → List Page → List ℕ
@@ -78,7 +78,7 @@ pub record IsPageAt (pool : List (Option Frame)) (place : ℕ) (p : Page) : Type
   pub page : IsPage frame
   pub first : p.first ≡ place
   pub start : p.start ≡ slice_index frame.times 0
-  pub stair : p.stair ≡ area true (points_of (records_in frame))
+  pub stair : p.stair ≡ area true (points_of (frame_records_in frame))
 
 -- pages one after another, from this place on
 abbrev pub ArePagesFrom : List (Option Frame) → ℕ → List Page → Type 0
@@ -104,7 +104,7 @@ AreHalves pool (p ∷ ps) = (0 < length ps → half_page ≤ length (page_in poo
 pub record ArePages (pool : List (Option Frame)) (pages : List Page) : Type 0 where
   pub each : ArePagesFrom pool 0 pages
   pub apart : AreApart (ids_of pages)
-  pub rising : IsRising (records_of pool pages)
+  pub rising : IsRising (page_records_of pool pages)
   pub some : 0 < length pages
   pub halves : AreHalves pool pages
   -- and none of several is empty
@@ -113,8 +113,8 @@ pub record ArePages (pool : List (Option Frame)) (pages : List Page) : Type 0 wh
 -- the page k is the one for the time t: no page before it has a record from t on, and none after it one up to t
 pub record IsFor (pool : List (Option Frame)) (pages : List Page) (k t : ℕ) : Type 0 where
   pub within : k < length pages
-  pub before : All (λ r. r.point.t < t) (records_of pool (take k pages))
-  pub after : All (λ r. t < r.point.t) (records_of pool (drop (k + 1) pages))
+  pub before : All (λ r. r.point.t < t) (page_records_of pool (take k pages))
+  pub after : All (λ r. t < r.point.t) (page_records_of pool (drop (k + 1) pages))
 
 -- the page k was split: the lower half starts where it did, and the upper half stands behind it
 pub record IsSplit (old new : List Page) (k : ℕ) : Type 0 where
@@ -126,28 +126,28 @@ pub record IsSplit (old new : List Page) (k : ℕ) : Type 0 where
 -- the place is on the page k
 pub record IsOn (pool : List (Option Frame)) (pages : List Page) (k place : ℕ) : Type 0 where
   pub within : k < length pages
-  pub from : length (records_of pool (take k pages)) ≤ place
-  pub upto : place < length (records_of pool (take (k + 1) pages))
+  pub from : length (page_records_of pool (take k pages)) ≤ place
+  pub upto : place < length (page_records_of pool (take (k + 1) pages))
 
 -- runs over the records of pages that have come to a place, and end before another
 pub record IsWalk (pool : List (Option Frame)) (pages : List Page) (k place end : ℕ) : Type 0 where
   pub paged : ArePages pool pages
   pub ordered : place ≤ end
-  pub within : end ≤ length (records_of pool pages)
+  pub within : end ≤ length (page_records_of pool pages)
   pub few : end < 2 ^ 32
   pub at : place < end → IsOn pool pages k place
 
 -- some records of a frame, and twice the area under the stair of all of them
 pub record IsRun (f : Frame) (stair : ℤ) (start end : ℕ) : Type 0 where
   pub page : IsPage f
-  pub stair_is : stair ≡ area true (points_of (records_in f))
+  pub stair_is : stair ≡ area true (points_of (frame_records_in f))
   pub some : start < end
   pub within : end ≤ f.len
 
 -- a content of so many records, in pages, with room for so many in all
 pub record IsKept (pool : List (Option Frame)) (pages : List Page) (places len room : ℕ) : Type 0 where
   pub paged : ArePages pool pages
-  pub counted : len ≡ length (records_of pool pages)
+  pub counted : len ≡ length (page_records_of pool pages)
   pub within : len ≤ room
   pub few : room < 2 ^ 32
   -- a frame is spare for each page that may be split

@@ -10,7 +10,7 @@ ghost use Rattle.trend_model.specs.Contents.{IsCeil, IsContentOf, IsFloor, IsRis
 ghost use Rattle.page_pool.specs.Pool.{full_page};
 ghost use Rattle.late_insert.specs.Places.{StandsAt};
 ghost use Rattle.late_insert.specs.PageTotals.{IsPageOf};
-ghost use Rattle.late_insert.specs.PageLengths.{AreBefore, AreFull, IsFilled, IsOneOf, IsPutAmong, place_in};
+ghost use Rattle.late_insert.specs.PageLengths.{AreBefore, AreFull, ArePagesFilled, IsOneOf, IsPutAmong, place_in};
 
 use crate::directory::Directory;
 use crate::gap::{Around, around_in, gap_in, rec_in};
@@ -35,12 +35,12 @@ pub struct Content {
 impl Model for Content {
     ghost use Rattle.std.specs.Prelude.{◌-◌};
     ghost use Rattle.trend_model.specs.Contents.{ContentState};
-    ghost use Rattle.late_insert.specs.Pages.{IsKept, lengths_of, records_of};
+    ghost use Rattle.late_insert.specs.Pages.{IsKept, lengths_of, page_records_of};
 
     ghost Value = { ContentState };
 
     ghost view = { λ c. record {
-      records = records_of c.pool c.pages.items;
+      records = page_records_of c.pool c.pages.items;
       spare = c.room - c.len;
       pages = lengths_of c.pool c.pages.items;
     } };
@@ -118,7 +118,7 @@ impl Content {
 
         // Behind all others it goes on the last page, or on a fresh one where that is full; among them on the page
         // of its place, which is split before where it is full.
-        ensures behind { AreBefore self.old.records rec.point.t → IsFilled self.old.pages 1 self.new.pages }
+        ensures behind { AreBefore self.old.records rec.point.t → ArePagesFilled self.old.pages 1 self.new.pages }
         ensures among { (AreBefore self.old.records rec.point.t → ⊥) → IsPutAmong self.old.pages
             (place_in self.old.records rec.point.t) (length self.new.records - length self.old.records) self.new.pages }
     {
@@ -137,7 +137,7 @@ impl Content {
         ensures spare { self.old.spare ≤ self.new.spare + result }
         ensures room { length self.new.records + self.new.spare ≡ length self.old.records + self.old.spare }
         ensures behind { (d : Rec) → AreBefore self.old.records (slice_index_or recs.now 0 d).point.t
-            → IsFilled self.old.pages result self.new.pages }
+            → ArePagesFilled self.old.pages result self.new.pages }
         ensures among { (d : Rec) → (AreBefore self.old.records (slice_index_or recs.now 0 d).point.t → ⊥)
             → IsPutAmong self.old.pages (place_in self.old.records (slice_index_or recs.now 0 d).point.t)
             (length self.new.records - length self.old.records) self.new.pages }

@@ -5,7 +5,7 @@ ghost use Rattle.trend_num.specs.declared.archive.Rec.{Rec};
 ghost use Rattle.trend_num.specs.Ranges.{InRange};
 ghost use Rattle.trend_model.specs.Contents.{points_of};
 ghost use Rattle.trend_model.specs.Parts.{last_point};
-ghost use Rattle.late_insert.specs.Pages.{ArePages, records_of};
+ghost use Rattle.late_insert.specs.Pages.{ArePages, page_records_of};
 
 use crate::directory::Directory;
 use crate::page::{below_in, rec_at};
@@ -24,11 +24,11 @@ pub(crate) struct Gap {
 // The gap up to which all records are before the time t, and from which on none is.
 pub(crate) fn gap_in(pool: &Pool, pages: &Directory, t: u64) -> Gap
     requires pages { ArePages pool.now pages.now.items }
-    requires few { length (records_of pool.now pages.now.items) < 2 ^ 32 }
+    requires few { length (page_records_of pool.now pages.now.items) < 2 ^ 32 }
     ensures page { result.page < length pages.now.items }
-    ensures bound { result.place ≤ length (records_of pool.now pages.now.items) }
-    ensures before { All (λ r. r.point.t < t) (take result.place (records_of pool.now pages.now.items)) }
-    ensures after { All (λ r. t ≤ r.point.t) (drop result.place (records_of pool.now pages.now.items)) }
+    ensures bound { result.place ≤ length (page_records_of pool.now pages.now.items) }
+    ensures before { All (λ r. r.point.t < t) (take result.place (page_records_of pool.now pages.now.items)) }
+    ensures after { All (λ r. t ≤ r.point.t) (drop result.place (page_records_of pool.now pages.now.items)) }
 {
     let k = pages.page_for(t);
     Gap {
@@ -40,8 +40,8 @@ pub(crate) fn gap_in(pool: &Pool, pages: &Directory, t: u64) -> Gap
 // The record at a place.
 pub(crate) fn rec_in(pool: &Pool, pages: &Directory, i: u32) -> Rec
     requires pages { ArePages pool.now pages.now.items }
-    requires within { i < length (records_of pool.now pages.now.items) }
-    ensures value { (d : Rec) → slice_index_or (records_of pool.now pages.now.items) i d ≡ result }
+    requires within { i < length (page_records_of pool.now pages.now.items) }
+    ensures value { (d : Rec) → slice_index_or (page_records_of pool.now pages.now.items) i d ≡ result }
     ensures range { InRange result.point }
 {
     let k = pages.page_of(i);
@@ -52,8 +52,8 @@ pub(crate) fn rec_in(pool: &Pool, pages: &Directory, i: u32) -> Rec
 pub(crate) fn rec_near(pool: &Pool, pages: &Directory, k: usize, i: u32) -> Rec
     requires pages { ArePages pool.now pages.now.items }
     requires page { k < length pages.now.items }
-    requires within { i < length (records_of pool.now pages.now.items) }
-    ensures value { (d : Rec) → slice_index_or (records_of pool.now pages.now.items) i d ≡ result }
+    requires within { i < length (page_records_of pool.now pages.now.items) }
+    ensures value { (d : Rec) → slice_index_or (page_records_of pool.now pages.now.items) i d ≡ result }
     ensures range { InRange result.point }
 {
     let first = pages.first(k);
@@ -68,8 +68,8 @@ pub(crate) fn rec_near(pool: &Pool, pages: &Directory, k: usize, i: u32) -> Rec
 fn last_before(pool: &Pool, pages: &Directory, gap: Gap) -> Option<Point>
     requires pages { ArePages pool.now pages.now.items }
     requires page { gap.page < length pages.now.items }
-    requires bound { gap.place ≤ length (records_of pool.now pages.now.items) }
-    ensures value { result ≡ last_point (take gap.place (points_of (records_of pool.now pages.now.items))) }
+    requires bound { gap.place ≤ length (page_records_of pool.now pages.now.items) }
+    ensures value { result ≡ last_point (take gap.place (points_of (page_records_of pool.now pages.now.items))) }
     ensures range { IfSome result InRange }
 {
     if gap.place == 0 {
@@ -81,10 +81,10 @@ fn last_before(pool: &Pool, pages: &Directory, gap: Gap) -> Option<Point>
 // The first point behind a gap, among so many.
 fn first_from(pool: &Pool, pages: &Directory, len: u32, gap: Gap) -> Option<Point>
     requires pages { ArePages pool.now pages.now.items }
-    requires counted { len ≡ length (records_of pool.now pages.now.items) }
+    requires counted { len ≡ length (page_records_of pool.now pages.now.items) }
     requires page { gap.page < length pages.now.items }
-    requires bound { gap.place ≤ length (records_of pool.now pages.now.items) }
-    ensures value { result ≡ slice_get (points_of (records_of pool.now pages.now.items)) gap.place }
+    requires bound { gap.place ≤ length (page_records_of pool.now pages.now.items) }
+    ensures value { result ≡ slice_get (points_of (page_records_of pool.now pages.now.items)) gap.place }
     ensures range { IfSome result InRange }
 {
     if gap.place == len {
@@ -109,11 +109,11 @@ pub struct Around {
 // What stands next to a time among so many records of pages.
 pub(crate) fn around_in(pool: &Pool, pages: &Directory, len: u32, t: u64) -> Around
     requires pages { ArePages pool.now pages.now.items }
-    requires counted { len ≡ length (records_of pool.now pages.now.items) }
-    ensures below { result.below ≡ count_by (λ r. nat_lt r.point.t t) (records_of pool.now pages.now.items) }
-    ensures upto { result.upto ≡ count_by (λ r. nat_lt r.point.t (t + 1)) (records_of pool.now pages.now.items) }
-    ensures before { result.before ≡ last_point (take result.below (points_of (records_of pool.now pages.now.items))) }
-    ensures after { result.after ≡ slice_get (points_of (records_of pool.now pages.now.items)) result.below }
+    requires counted { len ≡ length (page_records_of pool.now pages.now.items) }
+    ensures below { result.below ≡ count_by (λ r. nat_lt r.point.t t) (page_records_of pool.now pages.now.items) }
+    ensures upto { result.upto ≡ count_by (λ r. nat_lt r.point.t (t + 1)) (page_records_of pool.now pages.now.items) }
+    ensures before { result.before ≡ last_point (take result.below (points_of (page_records_of pool.now pages.now.items))) }
+    ensures after { result.after ≡ slice_get (points_of (page_records_of pool.now pages.now.items)) result.below }
     ensures before_range { IfSome result.before InRange }
     ensures after_range { IfSome result.after InRange }
 {

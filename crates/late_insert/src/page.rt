@@ -5,7 +5,7 @@ ghost use Rattle.trend_num.specs.Ranges.{InRange};
 ghost use Rattle.trend_model.specs.Contents.{IsRising, over, placed, points_of};
 ghost use Rattle.trend_model.specs.Windows.{area};
 ghost use Rattle.page_pool.specs.Pool.{full_page};
-ghost use Rattle.late_insert.specs.Pages.{IsPage, IsRecorded, half_page, rec_in, records_in};
+ghost use Rattle.late_insert.specs.Pages.{IsPage, IsRecorded, half_page, rec_in, frame_records_in};
 
 use crate::array::{count_below, insert_at, rotate};
 use crate::mark::{kind_at, mark_inserted, mark_put};
@@ -39,7 +39,7 @@ pub(crate) fn run_len(recs: &[Rec]) -> usize
 // How many records of a page are before t.
 pub(crate) fn below_in(frame: &Frame, t: u64) -> usize
     requires recorded { IsRecorded frame.now }
-    requires rising { IsRising (records_in frame.now) }
+    requires rising { IsRising (frame_records_in frame.now) }
     ensures bound { result ≤ frame.now.len }
     ensures before { (k : ℕ) → k < result → slice_index frame.now.times k < t }
     ensures after { (k : ℕ) → result ≤ k → k < frame.now.len → t ≤ slice_index frame.now.times k }
@@ -70,11 +70,11 @@ fn append(frame: &mut Frame, stair: i128, rec: Rec) -> i128
     requires page { IsPage frame.old }
     requires some { 0 < frame.old.len }
     requires room { frame.old.len < full_page }
-    requires stair { stair ≡ area true (points_of (records_in frame.old)) }
+    requires stair { stair ≡ area true (points_of (frame_records_in frame.old)) }
     requires range { InRange rec.point }
     ensures page { IsPage frame.new }
-    ensures records { records_in frame.new ≡ records_in frame.old ++ rec ∷ [] }
-    ensures stair { result ≡ area true (points_of (records_in frame.new)) }
+    ensures records { frame_records_in frame.new ≡ frame_records_in frame.old ++ rec ∷ [] }
+    ensures stair { result ≡ area true (points_of (frame_records_in frame.new)) }
 {
     let n = frame.len as usize;
     let last = point_at(frame, n - 1);
@@ -92,7 +92,7 @@ fn store(frame: &mut Frame, i: usize, rec: Rec)
     requires within { i ≤ frame.old.len }
     requires range { InRange rec.point }
     ensures recorded { IsRecorded frame.new }
-    ensures records { records_in frame.new ≡ insert (records_in frame.old) i rec }
+    ensures records { frame_records_in frame.new ≡ insert (frame_records_in frame.old) i rec }
     ensures area { frame.new.area ≡ frame.old.area }
     ensures low { frame.new.low ≡ frame.old.low }
     ensures high { frame.new.high ≡ frame.old.high }
@@ -110,7 +110,7 @@ pub(crate) fn store_run(frame: &mut Frame, run: &[Rec])
     requires few { length run.now ≤ full_page }
     requires range { All (λ r. InRange r.point) run.now }
     ensures recorded { IsRecorded frame.new }
-    ensures records { records_in frame.new ≡ run.now }
+    ensures records { frame_records_in frame.new ≡ run.now }
 {
     frame.late = 0;
     for i in 0..run.len() {
@@ -148,8 +148,8 @@ fn replace(frame: &mut Frame, i: usize, rec: Rec) -> i128
     requires same { rec.point.t ≡ slice_index frame.old.times i }
     requires range { InRange rec.point }
     ensures page { IsPage frame.new }
-    ensures records { records_in frame.new ≡ slice_set (records_in frame.old) i (over rec (rec_in frame.old i)) }
-    ensures stair { result ≡ area true (points_of (records_in frame.new)) }
+    ensures records { frame_records_in frame.new ≡ slice_set (frame_records_in frame.old) i (over rec (rec_in frame.old i)) }
+    ensures stair { result ≡ area true (points_of (frame_records_in frame.new)) }
 {
     let now = over(rec, rec_at(frame, i));
     frame.values[i] = now.point.v;
@@ -162,11 +162,11 @@ fn replace(frame: &mut Frame, i: usize, rec: Rec) -> i128
 pub(crate) fn push(frame: &mut Frame, stair: i128, rec: Rec) -> i128
     requires page { IsPage frame.old }
     requires room { frame.old.len < full_page }
-    requires stair { stair ≡ area true (points_of (records_in frame.old)) }
+    requires stair { stair ≡ area true (points_of (frame_records_in frame.old)) }
     requires range { InRange rec.point }
     ensures page { IsPage frame.new }
-    ensures records { records_in frame.new ≡ records_in frame.old ++ rec ∷ [] }
-    ensures stair { result ≡ area true (points_of (records_in frame.new)) }
+    ensures records { frame_records_in frame.new ≡ frame_records_in frame.old ++ rec ∷ [] }
+    ensures stair { result ≡ area true (points_of (frame_records_in frame.new)) }
 {
     if frame.len > 0 {
         return append(frame, stair, rec);
@@ -187,15 +187,15 @@ pub(crate) struct Grown {
 // Puts a record into a page that is not full.
 pub(crate) fn put_rec(frame: &mut Frame, stair: i128, rec: Rec) -> Grown
     requires page { IsPage frame.old }
-    requires rising { IsRising (records_in frame.old) }
+    requires rising { IsRising (frame_records_in frame.old) }
     requires room { frame.old.len < full_page }
-    requires stair { stair ≡ area true (points_of (records_in frame.old)) }
+    requires stair { stair ≡ area true (points_of (frame_records_in frame.old)) }
     requires range { InRange rec.point }
     ensures page { IsPage frame.new }
-    ensures records { records_in frame.new ≡ placed rec (records_in frame.old) }
+    ensures records { frame_records_in frame.new ≡ placed rec (frame_records_in frame.old) }
     ensures grown { frame.new.len ≡ frame.old.len + result.by }
     ensures by_one { result.by ≤ 1 }
-    ensures stair { result.stair ≡ area true (points_of (records_in frame.new)) }
+    ensures stair { result.stair ≡ area true (points_of (frame_records_in frame.new)) }
 {
     let i = below_in(frame, rec.point.t);
     if i == frame.len as usize {
@@ -225,10 +225,10 @@ pub(crate) fn cut(frame: &mut Frame) -> Halves
     requires full { frame.old.len ≡ full_page }
     ensures lower { IsPage frame.new }
     ensures upper { IsPage result.upper }
-    ensures lower_records { records_in frame.new ≡ take half_page (records_in frame.old) }
-    ensures upper_records { records_in result.upper ≡ drop half_page (records_in frame.old) }
-    ensures lower_stair { result.lower_stair ≡ area true (points_of (records_in frame.new)) }
-    ensures upper_stair { result.upper_stair ≡ area true (points_of (records_in result.upper)) }
+    ensures lower_records { frame_records_in frame.new ≡ take half_page (frame_records_in frame.old) }
+    ensures upper_records { frame_records_in result.upper ≡ drop half_page (frame_records_in frame.old) }
+    ensures lower_stair { result.lower_stair ≡ area true (points_of (frame_records_in frame.new)) }
+    ensures upper_stair { result.upper_stair ≡ area true (points_of (frame_records_in result.upper)) }
 {
     let mut upper = *frame;
     rotate(&mut upper.times, HALF as usize);

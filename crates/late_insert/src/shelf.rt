@@ -6,7 +6,7 @@ ghost use Rattle.trend_num.specs.Ranges.{InRange};
 ghost use Rattle.page_pool.specs.Pool.{full_page, spare_of};
 ghost use Rattle.late_insert.specs.declared.directory.Page.{Page};
 ghost use Rattle.trend_model.specs.Contents.{IsRising, placed};
-ghost use Rattle.late_insert.specs.Pages.{ArePages, IsFor, IsSplit, half_page, lengths_of, page_in, records_of};
+ghost use Rattle.late_insert.specs.Pages.{ArePages, IsFor, IsSplit, half_page, lengths_of, page_in, page_records_of};
 ghost use Rattle.late_insert.specs.PageLengths.{AreBefore, IsGrown, IsHalved, place_in};
 
 use crate::directory::{Directory, Page};
@@ -21,7 +21,7 @@ pub(crate) fn first_page(pool: &mut Pool, pages: &mut Directory)
     requires spare { 0 < spare_of pool.old }
     requires room { 0 < pages.old.places }
     ensures pages { ArePages pool.new pages.new.items }
-    ensures empty { records_of pool.new pages.new.items ≡ [] }
+    ensures empty { page_records_of pool.new pages.new.items ≡ [] }
     ensures lengths { lengths_of pool.new pages.new.items ≡ 0 ∷ [] }
     ensures one { length pages.new.items ≡ 1 }
     ensures frames { spare_of pool.new + 1 ≡ spare_of pool.old }
@@ -39,10 +39,10 @@ pub(crate) fn first_page(pool: &mut Pool, pages: &mut Directory)
 // Whether the last page is full, and all records are before the time t.
 pub(crate) fn is_full_before(pool: &Pool, pages: &Directory, t: u64) -> bool
     requires pages { ArePages pool.now pages.now.items }
-    ensures before { IsTrue result → All (λ r. r.point.t < t) (records_of pool.now pages.now.items) }
+    ensures before { IsTrue result → All (λ r. r.point.t < t) (page_records_of pool.now pages.now.items) }
     ensures full { IsTrue result → (d : Page)
         → length (page_in pool.now (slice_index_or pages.now.items (length pages.now.items - 1) d)) ≡ full_page }
-    ensures room { IsFalse result → AreBefore (records_of pool.now pages.now.items) t → (d : Page)
+    ensures room { IsFalse result → AreBefore (page_records_of pool.now pages.now.items) t → (d : Page)
         → length (page_in pool.now (slice_index_or pages.now.items (length pages.now.items - 1) d)) < full_page }
 {
     let frame = pool.frame(pages.id(pages.len() - 1));
@@ -52,7 +52,7 @@ pub(crate) fn is_full_before(pool: &Pool, pages: &Directory, t: u64) -> bool
 // Puts a run of records behind all others, in a page of its own. So pages that are filled in order are full.
 pub(crate) fn open_page(pool: &mut Pool, pages: &mut Directory, len: u32, run: &[Rec])
     requires pages { ArePages pool.old pages.old.items }
-    requires counted { len ≡ length (records_of pool.old pages.old.items) }
+    requires counted { len ≡ length (page_records_of pool.old pages.old.items) }
     requires full { (d : Page)
         → length (page_in pool.old (slice_index_or pages.old.items (length pages.old.items - 1) d)) ≡ full_page }
     requires spare { 0 < spare_of pool.old }
@@ -60,9 +60,9 @@ pub(crate) fn open_page(pool: &mut Pool, pages: &mut Directory, len: u32, run: &
     requires some { 0 < length run.now }
     requires few { length run.now ≤ full_page }
     requires range { All (λ r. InRange r.point) run.now }
-    requires rising { IsRising (records_of pool.old pages.old.items ++ run.now) }
+    requires rising { IsRising (page_records_of pool.old pages.old.items ++ run.now) }
     ensures pages { ArePages pool.new pages.new.items }
-    ensures records { records_of pool.new pages.new.items ≡ records_of pool.old pages.old.items ++ run.now }
+    ensures records { page_records_of pool.new pages.new.items ≡ page_records_of pool.old pages.old.items ++ run.now }
     ensures lengths { lengths_of pool.new pages.new.items ≡ lengths_of pool.old pages.old.items ++ length run.now ∷ [] }
     ensures frames { length pages.new.items + spare_of pool.new ≡ length pages.old.items + spare_of pool.old }
     ensures capacity { pages.new.places ≡ pages.old.places }
@@ -85,11 +85,11 @@ pub(crate) fn make_room(pool: &mut Pool, pages: &mut Directory, t: u64) -> usize
     requires pages { ArePages pool.old pages.old.items }
     requires spare { 0 < spare_of pool.old }
     requires room { length pages.old.items < pages.old.places }
-    requires few { length (records_of pool.old pages.old.items) < 2 ^ 32 }
+    requires few { length (page_records_of pool.old pages.old.items) < 2 ^ 32 }
     ensures pages { ArePages pool.new pages.new.items }
-    ensures records { records_of pool.new pages.new.items ≡ records_of pool.old pages.old.items }
+    ensures records { page_records_of pool.new pages.new.items ≡ page_records_of pool.old pages.old.items }
     ensures lengths { (lengths_of pool.new pages.new.items ≡ lengths_of pool.old pages.old.items) ⊎ IsHalved
-        (lengths_of pool.old pages.old.items) (place_in (records_of pool.old pages.old.items) t)
+        (lengths_of pool.old pages.old.items) (place_in (page_records_of pool.old pages.old.items) t)
         (lengths_of pool.new pages.new.items) }
     ensures frames { length pages.new.items + spare_of pool.new ≡ length pages.old.items + spare_of pool.old }
     ensures capacity { pages.new.places ≡ pages.old.places }
@@ -111,9 +111,9 @@ fn split(pool: &mut Pool, pages: &mut Directory, k: usize)
     requires room { length pages.old.items < pages.old.places }
     requires within { k < length pages.old.items }
     requires full { (d : Page) → length (page_in pool.old (slice_index_or pages.old.items k d)) ≡ full_page }
-    requires few { length (records_of pool.old pages.old.items) < 2 ^ 32 }
+    requires few { length (page_records_of pool.old pages.old.items) < 2 ^ 32 }
     ensures pages { ArePages pool.new pages.new.items }
-    ensures records { records_of pool.new pages.new.items ≡ records_of pool.old pages.old.items }
+    ensures records { page_records_of pool.new pages.new.items ≡ page_records_of pool.old pages.old.items }
     ensures list { IsSplit pages.old.items pages.new.items k }
     ensures lengths { lengths_of pool.new pages.new.items ≡ lengths_of pool.old (take k pages.old.items)
         ++ half_page ∷ half_page ∷ lengths_of pool.old (drop (k + 1) pages.old.items) }
@@ -142,14 +142,14 @@ pub(crate) fn put_at(pool: &mut Pool, pages: &mut Directory, k: usize, rec: Rec)
     requires pages { ArePages pool.old pages.old.items }
     requires page { IsFor pool.old pages.old.items k rec.point.t }
     requires room { (d : Page) → length (page_in pool.old (slice_index_or pages.old.items k d)) < full_page }
-    requires few { length (records_of pool.old pages.old.items) + 1 < 2 ^ 32 }
+    requires few { length (page_records_of pool.old pages.old.items) + 1 < 2 ^ 32 }
     requires range { InRange rec.point }
     ensures pages { ArePages pool.new pages.new.items }
-    ensures records { records_of pool.new pages.new.items ≡ placed rec (records_of pool.old pages.old.items) }
-    ensures grown { length (records_of pool.new pages.new.items) ≡ length (records_of pool.old pages.old.items) + result }
+    ensures records { page_records_of pool.new pages.new.items ≡ placed rec (page_records_of pool.old pages.old.items) }
+    ensures grown { length (page_records_of pool.new pages.new.items) ≡ length (page_records_of pool.old pages.old.items) + result }
     ensures by_one { result ≤ 1 }
     ensures lengths { IsGrown (lengths_of pool.old pages.old.items)
-        (place_in (records_of pool.old pages.old.items) rec.point.t) result (lengths_of pool.new pages.new.items) }
+        (place_in (page_records_of pool.old pages.old.items) rec.point.t) result (lengths_of pool.new pages.new.items) }
     ensures pages_len { length pages.new.items ≡ length pages.old.items }
     ensures frames { spare_of pool.new ≡ spare_of pool.old }
     ensures capacity { pages.new.places ≡ pages.old.places }

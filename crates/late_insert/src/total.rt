@@ -3,7 +3,7 @@ ghost use Rattle.std.specs.Prelude.{◌≡◌, ℕ, ◌<◌, ◌≤◌, pos, tru
 ghost use Rattle.std.specs.Prelude.{◌*◌, ◌*ℤ◌, unsigned_abs};
 ghost use Rattle.trend_num.specs.Ranges.{InRange, largest_value, last_time};
 ghost use Rattle.trend_model.specs.Contents.{points_of};
-ghost use Rattle.late_insert.specs.Pages.{IsPage, IsRecorded, rec_in, records_in};
+ghost use Rattle.late_insert.specs.Pages.{IsPage, IsRecorded, rec_in, frame_records_in};
 ghost use Rattle.trend_model.specs.Windows.{area, piece};
 ghost use Rattle.late_insert.specs.Totals.{greatest_of, least_of};
 
@@ -52,7 +52,7 @@ pub(crate) fn area_between(frame: &Frame, step: bool, start: usize, end: usize) 
     requires recorded { IsRecorded frame.now }
     requires some { start < end }
     requires within { end ≤ frame.now.len }
-    ensures { result ≡ area step (slice_range (points_of (records_in frame.now)) start end) }
+    ensures { result ≡ area step (slice_range (points_of (frame_records_in frame.now)) start end) }
 {
     let mut before = point_at(frame, start);
     let mut area = 0i128;
@@ -69,7 +69,7 @@ pub(crate) fn low_between(frame: &Frame, start: usize, end: usize) -> i64
     requires recorded { IsRecorded frame.now }
     requires some { start < end }
     requires within { end ≤ frame.now.len }
-    ensures { result ≡ least_of (slice_range (points_of (records_in frame.now)) start end) }
+    ensures { result ≡ least_of (slice_range (points_of (frame_records_in frame.now)) start end) }
 {
     let mut low = point_at(frame, start).v;
     for i in start + 1..end {
@@ -83,7 +83,7 @@ pub(crate) fn high_between(frame: &Frame, start: usize, end: usize) -> i64
     requires recorded { IsRecorded frame.now }
     requires some { start < end }
     requires within { end ≤ frame.now.len }
-    ensures { result ≡ greatest_of (slice_range (points_of (records_in frame.now)) start end) }
+    ensures { result ≡ greatest_of (slice_range (points_of (frame_records_in frame.now)) start end) }
 {
     let mut high = point_at(frame, start).v;
     for i in start + 1..end {
@@ -105,10 +105,10 @@ struct Totals {
 fn totals_of(frame: &Frame) -> Totals
     requires recorded { IsRecorded frame.now }
     requires some { 0 < frame.now.len }
-    ensures line { result.line ≡ area false (points_of (records_in frame.now)) }
-    ensures stair { result.stair ≡ area true (points_of (records_in frame.now)) }
-    ensures low { result.low ≡ least_of (points_of (records_in frame.now)) }
-    ensures high { result.high ≡ greatest_of (points_of (records_in frame.now)) }
+    ensures line { result.line ≡ area false (points_of (frame_records_in frame.now)) }
+    ensures stair { result.stair ≡ area true (points_of (frame_records_in frame.now)) }
+    ensures low { result.low ≡ least_of (points_of (frame_records_in frame.now)) }
+    ensures high { result.high ≡ greatest_of (points_of (frame_records_in frame.now)) }
 {
     let mut before = point_at(frame, 0);
     let mut all = Totals {
@@ -132,9 +132,9 @@ fn totals_of(frame: &Frame) -> Totals
 pub(crate) fn refresh(frame: &mut Frame) -> i128
     requires recorded { IsRecorded frame.old }
     requires some { 0 < frame.old.len }
-    ensures records { records_in frame.new ≡ records_in frame.old }
+    ensures records { frame_records_in frame.new ≡ frame_records_in frame.old }
     ensures page { IsPage frame.new }
-    ensures stair { result ≡ area true (points_of (records_in frame.old)) }
+    ensures stair { result ≡ area true (points_of (frame_records_in frame.old)) }
 {
     let all = totals_of(frame);
     frame.area = all.line;

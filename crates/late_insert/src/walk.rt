@@ -5,7 +5,7 @@ ghost use Rattle.trend_num.specs.Ranges.{InRange};
 ghost use Rattle.trend_model.specs.Contents.{points_of};
 ghost use Rattle.trend_model.specs.Parts.{last_point};
 ghost use Rattle.trend_model.specs.Windows.{area};
-ghost use Rattle.late_insert.specs.Pages.{ArePages, records_of};
+ghost use Rattle.late_insert.specs.Pages.{ArePages, page_records_of};
 ghost use Rattle.late_insert.specs.Totals.{greatest_of, least_of};
 
 use crate::directory::Directory;
@@ -30,11 +30,11 @@ impl<'a> Model for Run<'a> {
     ghost use Rattle.std.specs.Prelude.{List, slice_range};
     ghost use Rattle.trend_num.specs.declared.point.Point.{Point};
     ghost use Rattle.trend_model.specs.Contents.{points_of};
-    ghost use Rattle.late_insert.specs.Pages.{IsRun, records_in};
+    ghost use Rattle.late_insert.specs.Pages.{IsRun, frame_records_in};
 
     ghost Value = { List Point };
 
-    ghost view = { λ r. slice_range (points_of (records_in r.frame.now)) r.start r.end };
+    ghost view = { λ r. slice_range (points_of (frame_records_in r.frame.now)) r.start r.end };
 
     ghost invariant = { λ r. IsRun r.frame.now r.stair r.start r.end };
 }
@@ -102,11 +102,11 @@ impl<'a> Model for Runs<'a> {
     ghost use Rattle.std.specs.Prelude.{List, slice_range};
     ghost use Rattle.trend_num.specs.declared.point.Point.{Point};
     ghost use Rattle.trend_model.specs.Contents.{points_of};
-    ghost use Rattle.late_insert.specs.Pages.{IsWalk, records_of};
+    ghost use Rattle.late_insert.specs.Pages.{IsWalk, page_records_of};
 
     ghost Value = { List Point };
 
-    ghost view = { λ w. slice_range (points_of (records_of w.pool.now w.pages.now.items)) w.place w.end };
+    ghost view = { λ w. slice_range (points_of (page_records_of w.pool.now w.pages.now.items)) w.place w.end };
 
     ghost invariant = { λ w. IsWalk w.pool.now w.pages.now.items w.page w.place w.end };
 }
@@ -115,8 +115,8 @@ impl<'a> Model for Runs<'a> {
 pub(crate) fn runs_in<'a>(pool: &'a Pool, pages: &'a Directory, first: u32, behind: u32) -> Runs<'a>
     requires pages { ArePages pool.now pages.now.items }
     requires order { first ≤ behind }
-    requires within { behind ≤ length (records_of pool.now pages.now.items) }
-    ensures { result ≡ slice_range (points_of (records_of pool.now pages.now.items)) first behind }
+    requires within { behind ≤ length (page_records_of pool.now pages.now.items) }
+    ensures { result ≡ slice_range (points_of (page_records_of pool.now pages.now.items)) first behind }
 {
     Runs {
         pool,

@@ -11,7 +11,7 @@ use Rattle.trend_model.specs.History.{Event, Origin, Raw}
 use Rattle.trend_model.specs.State.{Stands}
 use Rattle.tag_core.specs.Core.{Core}
 use Rattle.point_text.specs.FirstPoint.{HasNoFeed, IsFirstPoint, ReadSame, reads_of}
-use Rattle.point_text.specs.Row.{point_of_line, points_of}
+use Rattle.point_text.specs.Row.{point_of_line, line_points_of}
 use Rattle.point_text.specs.declared.failure.RowNo.{RowNo}
 use Rattle.point_text.specs.declared.failure.RowNo.TheVariants.{BadRow, TooMany}
 use Rattle.point_text.proofs.RowList.{all_read, rows_from, rows_from-all, rows_from-bad, rows_from-more, rows_of-reads}
@@ -41,7 +41,7 @@ pub come_more : (o : Origin) (bytes rest piece : List ℕ) (core : Core) (rows :
 come_more o bytes rest piece core rows Taken come = (come.0, up_more bytes rest piece come.0 come.1, come.2, come.3)
 come_more o bytes rest piece core rows (Full number) come = (come.0, up_more bytes rest piece come.0 come.1, come.2, come.3)
 come_more o bytes rest piece core rows (Refused why) come = record {
-  refused = λ more end. ap (points_of most_rows) (append_assoc bytes piece more) ∙ come.refused (piece ++ more) (any (piece ++ more));
+  refused = λ more end. ap (line_points_of most_rows) (append_assoc bytes piece more) ∙ come.refused (piece ++ more) (any (piece ++ more));
 }
 
 -- what is left may be another text that reads the same
@@ -152,7 +152,7 @@ row_more further bytes rest after found read p up next is = record {
 -- ---- the end
 
 -- all rows were read, and these are their points
-pub all_points : (bytes : List ℕ) (found : List Point) → IsReadUpTo false bytes [] found → length found ≤ most_rows → points_of most_rows bytes ≡ Ok found
+pub all_points : (bytes : List ℕ) (found : List Point) → IsReadUpTo false bytes [] found → length found ≤ most_rows → line_points_of most_rows bytes ≡ Ok found
 all_points bytes found up few =
     rows_of-reads point_of_line most_rows (lines bytes)
     ∙ ap (λ l. rows_from most_rows (reads_of l)) (sym (append-nil bytes))
@@ -160,8 +160,8 @@ all_points bytes found up few =
     ∙ rows_from-all most_rows found few
 
 -- refused, whatever comes, and nothing came
-pub all_refused : (bytes : List ℕ) (why : RowNo) → AreRefused false bytes why → points_of most_rows bytes ≡ Err why
-all_refused bytes why are = ap (points_of most_rows) (sym (append-nil bytes)) ∙ are.refused [] (λ end. refl)
+pub all_refused : (bytes : List ℕ) (why : RowNo) → AreRefused false bytes why → line_points_of most_rows bytes ≡ Err why
+all_refused bytes why are = ap (line_points_of most_rows) (sym (append-nil bytes)) ∙ are.refused [] (λ end. refl)
 
 -- ---- one row more
 

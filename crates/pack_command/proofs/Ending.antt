@@ -9,7 +9,7 @@ use Rattle.byte_io.specs.Outside.{Outside}
 use Rattle.point_text.specs.Text.{archive_text}
 use Rattle.point_text.specs.declared.failure.RowNo.{RowNo}
 use Rattle.plant_status.specs.declared.status.Status.TheVariants.{Limit}
-use Rattle.pack_command.specs.Pack.{IsPackRefusal, IsPrinted, IsRead, answer_full, history_of, origin_of, status_of_rows}
+use Rattle.pack_command.specs.Pack.{IsPackRefusal, IsPrinted, IsInputRead, answer_full, history_of, origin_of, status_of_rows}
 use Rattle.pack_command.specs.Coming.{IsAllRead, IsReadUpTo}
 use Rattle.pack_command.specs.declared.intake.Standing.{Standing}
 use Rattle.pack_command.specs.declared.intake.Standing.TheVariants.{Taken, Full, Refused}
@@ -18,7 +18,7 @@ use Rattle.pack_command.proofs.Refusal.{history_refused, rows_refused}
 
 -- the points of an input that was all read
 points_read : (tuning : Tuning) (before now : Outside) (core : Core) (rows : ℕ) (standing : Standing) (found : List Point)
-    → (all : IsAllRead (origin_of tuning) before now core rows standing) → IsReadUpTo false all.bytes [] found → length found ≡ rows → IsRead before now found
+    → (all : IsAllRead (origin_of tuning) before now core rows standing) → IsReadUpTo false all.bytes [] found → length found ≡ rows → IsInputRead before now found
 points_read tuning before now core rows standing found all up count = record {
   bytes = all.bytes;
   whole = all.whole;

@@ -9,9 +9,9 @@ use Rattle.trend_num.specs.declared.tuning.Tuning.{Tuning}
 use Rattle.trend_model.specs.History.{Origin}
 use Rattle.tag_core.specs.Core.{Core}
 use Rattle.byte_io.specs.Outside.{Outside, CountsNoFault, Takes}
-use Rattle.point_text.specs.Row.{points_of}
+use Rattle.point_text.specs.Row.{line_points_of}
 use Rattle.plant_status.specs.declared.status.Status.TheVariants.{Limit}
-use Rattle.pack_command.specs.Pack.{IsPackRefusal, Refuses, answer_rows, most_bytes, most_rows}
+use Rattle.pack_command.specs.Pack.{IsPackRefusal, Refuses, answer_rows, most_input_bytes, most_rows}
 use Rattle.pack_command.specs.Coming.{AreTakenFrom, HasCome, IsReadAfter}
 use Rattle.pack_command.specs.declared.intake.Standing.{Standing}
 use Rattle.pack_command.proofs.Coming.{come_more}
@@ -50,19 +50,19 @@ read_is before now begun n old buf post taken ended no_fault bound within =
           ∙ ap (λ l. take begun old ++ l) (take-append-le n buf post bound);
     }
 
-above : (n : ℕ) → n ≡ most_bytes + 1 → nat_lt most_bytes n ≡ true
+above : (n : ℕ) → n ≡ most_input_bytes + 1 → nat_lt most_input_bytes n ≡ true
 above n is = grind (arith, nat_tests)
 
 -- one byte too many came
 pub long_refused : (tuning : Tuning) (before now : Outside) (bytes : List ℕ) (count : ℕ) → AreTakenFrom before now bytes count
-    → count ≡ most_bytes + 1 → IsPackRefusal tuning before now (Limit FileBytes (most_bytes + 1))
+    → count ≡ most_input_bytes + 1 → IsPackRefusal tuning before now (Limit FileBytes (most_input_bytes + 1))
 long_refused tuning before now bytes count taken is = (
   record {
     bytes = bytes;
     taken = taken.taken;
     enough = inr (omega (arith, taken.counted));
     no_fault = taken.no_fault;
-    answer = ap (λ b. cond b (Refuses (Limit FileBytes (most_bytes + 1))) (answer_rows tuning (points_of most_rows bytes)))
+    answer = ap (λ b. cond b (Refuses (Limit FileBytes (most_input_bytes + 1))) (answer_rows tuning (line_points_of most_rows bytes)))
         (above (length bytes) (taken.counted ∙ is));
   },
   λ same. (bytes, taken.taken, taken.counted ∙ is),

@@ -6,26 +6,26 @@ use Rattle.trend_num.specs.declared.refusal.What.TheVariants.{FileBytes, Rows, R
 use Rattle.trend_num.specs.declared.tuning.Tuning.{Tuning}
 use Rattle.trend_model.specs.History.{Event, Origin}
 use Rattle.byte_io.specs.Outside.{Outside, CountsNoFault, TakesAll}
-use Rattle.point_text.specs.Row.{points_of}
+use Rattle.point_text.specs.Row.{line_points_of}
 use Rattle.point_text.specs.declared.failure.RowNo.{RowNo}
 use Rattle.point_text.specs.declared.failure.RowNo.TheVariants as row_no
 use Rattle.plant_status.specs.declared.file.FileId.TheVariants.{Input}
 use Rattle.plant_status.specs.declared.status.Status.{Status}
 use Rattle.plant_status.specs.declared.status.Status.TheVariants.{BadRow, Limit, WantOfMemory}
-use Rattle.pack_command.specs.Pack.{Refuses, IsPackRefusal, IsRead, RefusesBytes, answer_full, answer_rows, first_full, history_answer, history_of, most_bytes, origin_of, most_rows, pack_answer, status_of_rows}
+use Rattle.pack_command.specs.Pack.{Refuses, IsPackRefusal, IsInputRead, RefusesBytes, answer_full, answer_rows, first_full, history_answer, history_of, most_input_bytes, origin_of, most_rows, pack_answer, status_of_rows}
 
 -- the test of too many bytes, where there are none too many
-within_is : (n : ℕ) → n ≤ most_bytes → nat_lt most_bytes n ≡ false
+within_is : (n : ℕ) → n ≤ most_input_bytes → nat_lt most_input_bytes n ≡ false
 within_is n few = grind (arith, nat_tests)
 
 -- the answer to bytes that are not too many
-answer_within : (tuning : Tuning) (bytes : List ℕ) → length bytes ≤ most_bytes → pack_answer tuning bytes ≡ answer_rows tuning (points_of most_rows bytes)
+answer_within : (tuning : Tuning) (bytes : List ℕ) → length bytes ≤ most_input_bytes → pack_answer tuning bytes ≡ answer_rows tuning (line_points_of most_rows bytes)
 answer_within tuning bytes few =
-    ap (λ b. cond b (Refuses (Limit FileBytes (most_bytes + 1))) (answer_rows tuning (points_of most_rows bytes))) (within_is (length bytes) few)
+    ap (λ b. cond b (Refuses (Limit FileBytes (most_input_bytes + 1))) (answer_rows tuning (line_points_of most_rows bytes))) (within_is (length bytes) few)
 
 -- bytes that were all read, whose answer is a refusal
 bytes_refused : (tuning : Tuning) (before now : Outside) (bytes : List ℕ) (refusal : Status) → TakesAll before now bytes → CountsNoFault before now
-    → length bytes ≤ most_bytes → answer_rows tuning (points_of most_rows bytes) ≡ Refuses refusal → RefusesBytes tuning before now refusal
+    → length bytes ≤ most_input_bytes → answer_rows tuning (line_points_of most_rows bytes) ≡ Refuses refusal → RefusesBytes tuning before now refusal
 bytes_refused tuning before now bytes refusal whole no_fault few is = record {
   bytes = bytes;
   taken = whole.taken;
@@ -36,7 +36,7 @@ bytes_refused tuning before now bytes refusal whole no_fault few is = record {
 
 -- rows that are refused
 pub rows_refused : (tuning : Tuning) (before now : Outside) (bytes : List ℕ) (why : RowNo) → TakesAll before now bytes → CountsNoFault before now
-    → length bytes ≤ most_bytes → (why ≡ row_no.WantOfMemory) ⊎ (points_of most_rows bytes ≡ Err why)
+    → length bytes ≤ most_input_bytes → (why ≡ row_no.WantOfMemory) ⊎ (line_points_of most_rows bytes ≡ Err why)
     → IsPackRefusal tuning before now (status_of_rows why)
 rows_refused tuning before now bytes (row_no.BadRow row reason) whole no_fault few (inl memory) = absurd (cc)
 rows_refused tuning before now bytes (row_no.BadRow row reason) whole no_fault few (inr is) =
@@ -53,7 +53,7 @@ full_is o h None why is = absurd (cc)
 full_is o h (Some number) why is = (number, cc)
 
 -- a history that is refused
-pub history_refused : (tuning : Tuning) (before now : Outside) (points : List Point) (why : Status) → IsRead before now points
+pub history_refused : (tuning : Tuning) (before now : Outside) (points : List Point) (why : Status) → IsInputRead before now points
     → (why ≡ WantOfMemory) ⊎ (history_answer (origin_of tuning) (history_of points) ≡ Refuses why) → IsPackRefusal tuning before now why
 history_refused tuning before now points why read (inl memory) = subst (IsPackRefusal tuning before now) (sym memory) read.no_fault
 history_refused tuning before now points why read (inr is) =

@@ -8,11 +8,11 @@ use Rattle.trend_model.specs.State.{Stands}
 use Rattle.tag_core.specs.Core.{Core}
 use Rattle.byte_io.specs.Outside.{Outside, CountsNoFault, Takes, TakesAll}
 use Rattle.std.specs.Io.KnownBytes.{IsAtEnd}
-use Rattle.point_text.specs.Row.{points_of}
+use Rattle.point_text.specs.Row.{line_points_of}
 use Rattle.point_text.specs.FirstPoint.{reads_of}
 use Rattle.point_text.specs.declared.failure.RowNo.{RowNo}
 use Rattle.point_text.specs.declared.failure.RowNo.TheVariants.{BadRow, TooMany}
-use Rattle.pack_command.specs.Pack.{first_full, history_of, most_bytes, most_rows}
+use Rattle.pack_command.specs.Pack.{first_full, history_of, most_input_bytes, most_rows}
 use Rattle.pack_command.specs.declared.intake.Standing.{Standing}
 use Rattle.pack_command.specs.declared.intake.Standing.TheVariants.{Taken, Full, Refused}
 
@@ -30,7 +30,7 @@ pub record IsNextRow (further : Bool) (rest after : List ℕ) (read : Result Poi
 
 -- whatever follows, the rows of these bytes are refused so
 pub record AreRefused (further : Bool) (bytes : List ℕ) (why : RowNo) : Type 0 where
-  pub refused : (more : List ℕ) → MayCome further more → points_of most_rows (bytes ++ more) ≡ Err why
+  pub refused : (more : List ℕ) → MayCome further more → line_points_of most_rows (bytes ++ more) ≡ Err why
 
 -- the values of these points were all taken
 pub record AreTaken (o : Origin) (core : Core) (found : List Point) : Type 0 where
@@ -81,6 +81,6 @@ pub record IsAllRead (o : Origin) (before now : Outside) (core : Core) (rows : �
   pub bytes : List ℕ
   pub whole : TakesAll before now bytes
   pub no_fault : CountsNoFault before now
-  pub within : length bytes ≤ most_bytes
+  pub within : length bytes ≤ most_input_bytes
   pub few : rows ≤ most_rows
   pub come : HasCome false o bytes [] core rows standing

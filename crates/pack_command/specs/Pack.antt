@@ -9,7 +9,7 @@ use Rattle.trend_num.specs.declared.tuning.Tuning.{Tuning}
 use Rattle.trend_model.specs.History.{Event, Raw, Origin}
 use Rattle.trend_model.specs.Walk.{records, held}
 use Rattle.byte_io.specs.Outside.{Outside, CountsNoFault, CountsOneFault, Takes, TakesAll, TakesExactly, TakesAtMost}
-use Rattle.point_text.specs.Row.{points_of}
+use Rattle.point_text.specs.Row.{line_points_of}
 use Rattle.point_text.specs.Text.{archive_text}
 use Rattle.point_text.specs.declared.failure.RowNo.{RowNo}
 use Rattle.point_text.specs.declared.failure.RowNo.TheVariants as row_no
@@ -18,8 +18,8 @@ use Rattle.plant_status.specs.declared.status.Status.{Status}
 use Rattle.plant_status.specs.declared.status.Status.TheVariants.{BadRow, ReadFault, Limit, WantOfMemory}
 
 -- the most bytes of standard input, and the most lines; `most_records` is the most records of a tag
-abbrev pub most_bytes : ℕ
-most_bytes = 67108864
+abbrev pub most_input_bytes : ℕ
+most_input_bytes = 67108864
 
 abbrev pub most_rows : ℕ
 most_rows = 4000000
@@ -68,22 +68,22 @@ answer_rows tuning (Err why) = Refuses (status_of_rows why)
 -- the answer to bytes
 abbrev pub pack_answer : Tuning → List ℕ → Answer
 pack_answer tuning bytes =
-    if nat_lt most_bytes (length bytes) then Refuses (Limit FileBytes (most_bytes + 1)) else answer_rows tuning (points_of most_rows bytes)
+    if nat_lt most_input_bytes (length bytes) then Refuses (Limit FileBytes (most_input_bytes + 1)) else answer_rows tuning (line_points_of most_rows bytes)
 
 -- ---- what was read of the input, where `pack` answers so
 
 -- all of the input was read, no read failed, and its lines are these points
-pub record IsRead (before now : Outside) (points : List Point) : Type 0 where
+pub record IsInputRead (before now : Outside) (points : List Point) : Type 0 where
   pub bytes : List ℕ
   pub whole : TakesAll before now bytes
   pub no_fault : CountsNoFault before now
-  pub within : length bytes ≤ most_bytes
-  pub rows : points_of most_rows bytes ≡ Ok points
+  pub within : length bytes ≤ most_input_bytes
+  pub rows : line_points_of most_rows bytes ≡ Ok points
 
 -- all of the input was read, and its history is to be printed so
 pub record IsPrinted (tuning : Tuning) (before now : Outside) (text : List ℕ) : Type 0 where
   pub points : List Point
-  pub read : IsRead before now points
+  pub read : IsInputRead before now points
   pub room : first_full (origin_of tuning) (history_of points) ≡ None
   pub same : text ≡ archive_text (records (origin_of tuning) (history_of points)) (held (origin_of tuning) (history_of points))
 
@@ -91,15 +91,15 @@ pub record IsPrinted (tuning : Tuning) (before now : Outside) (text : List ℕ) 
 pub record RefusesBytes (tuning : Tuning) (before now : Outside) (refusal : Status) : Type 0 where
   pub bytes : List ℕ
   pub taken : Takes before now bytes
-  pub enough : IsAtEnd now.content ⊎ (most_bytes < length bytes)
+  pub enough : IsAtEnd now.content ⊎ (most_input_bytes < length bytes)
   pub no_fault : CountsNoFault before now
   pub answer : pack_answer tuning bytes ≡ Refuses refusal
 
 -- why nothing is printed, by the status
 abbrev pub IsPackRefusal : Tuning → Outside → Outside → Status → Type 0
-IsPackRefusal tuning before now (ReadFault file) = (file ≡ Input) × CountsOneFault before now × TakesAtMost before now most_bytes
+IsPackRefusal tuning before now (ReadFault file) = (file ≡ Input) × CountsOneFault before now × TakesAtMost before now most_input_bytes
 IsPackRefusal tuning before now (BadRow file row reason) = RefusesBytes tuning before now (BadRow file row reason)
 IsPackRefusal tuning before now (Limit what number) =
-    RefusesBytes tuning before now (Limit what number) × (what ≡ FileBytes → TakesExactly before now (most_bytes + 1))
+    RefusesBytes tuning before now (Limit what number) × (what ≡ FileBytes → TakesExactly before now (most_input_bytes + 1))
 IsPackRefusal tuning before now WantOfMemory = CountsNoFault before now
 IsPackRefusal tuning before now other = ⊥

@@ -7,8 +7,8 @@ use Rattle.std.proofs.lemmas.List.Elements.{All-push, All-pop}
 use Rattle.std.proofs.lemmas.List.Quantifiers.{all_pairs_push}
 use Rattle.page_pool.specs.declared.frame.Frame.{Frame}
 use Rattle.page_pool.specs.declared.pool.PooledFrame.{PooledFrame}
-use Rattle.page_pool.specs.Pool.{frame_at, spare_of, empty_frame, Takes, IsHeld}
-use Rattle.page_pool.specs.PooledFrames.{held_in, places_of, IsFree, IsStored}
+use Rattle.page_pool.specs.Pool.{frame_at, spare_of, empty_frame, TakesFrame, IsHeld}
+use Rattle.page_pool.specs.PooledFrames.{held_in, places_of, IsFree, AreFramesStored}
 
 -- ---- places
 
@@ -132,7 +132,7 @@ once_front ids i once j k d below within same =
     once j k d below (omega (arith, length_push ids i)) (first ∙ (same ∙ sym second))
 
 -- where a frame is held, there are fewer free ids than places
-pub has_room : (frames : List PooledFrame) (free : List ℕ) (size frame_room free_room place : ℕ) → IsStored frames free size frame_room free_room
+pub has_room : (frames : List PooledFrame) (free : List ℕ) (size frame_room free_room place : ℕ) → AreFramesStored frames free size frame_room free_room
     → IsHeld (map held_in frames) place → length free < free_room
 has_room frames free size frame_room free_room place stored held =
     let after = set (map held_in frames) place None in
@@ -149,8 +149,8 @@ has_room frames free size frame_room free_room place stored held =
 
 module _ (frames : List PooledFrame) (size frame_room free_room : ℕ) where
   -- a held frame is written
-  pub stored-written : (free : List ℕ) (i : ℕ) (s : PooledFrame) → IsStored frames free size frame_room free_room
-      → IsHeld (map held_in frames) i → s.held ≡ true → IsStored (set frames i s) free size frame_room free_room
+  pub stored-written : (free : List ℕ) (i : ℕ) (s : PooledFrame) → AreFramesStored frames free size frame_room free_room
+      → IsHeld (map held_in frames) i → s.held ≡ true → AreFramesStored (set frames i s) free size frame_room free_room
   stored-written free i s stored held is =
       let within = held_within (map held_in frames) i held in
       let now : held_in s ≡ Some s.frame = ap (λ b. cond b (Some s.frame) None) is in
@@ -165,8 +165,8 @@ module _ (frames : List PooledFrame) (size frame_room free_room : ℕ) where
       }
 
   -- a held frame is given back
-  pub stored-given : (free : List ℕ) (i : ℕ) (f : Frame) → IsStored frames free size frame_room free_room → IsHeld (map held_in frames) i
-      → IsStored (set frames i (record { held = false; frame = f })) (free ++ i ∷ []) size frame_room free_room
+  pub stored-given : (free : List ℕ) (i : ℕ) (f : Frame) → AreFramesStored frames free size frame_room free_room → IsHeld (map held_in frames) i
+      → AreFramesStored (set frames i (record { held = false; frame = f })) (free ++ i ∷ []) size frame_room free_room
   stored-given free i f stored held =
       let pooled : PooledFrame = record { held = false; frame = f } in
       let inside : i < length frames = omega (arith, held_within (map held_in frames) i held, length-map frames held_in) in
@@ -185,8 +185,8 @@ module _ (frames : List PooledFrame) (size frame_room free_room : ℕ) where
       }
 
   -- a spare frame is taken again
-  stored-taken : (free : List ℕ) (i : ℕ) (f : Frame) → IsStored frames (free ++ i ∷ []) size frame_room free_room
-      → IsStored (set frames i (record { held = true; frame = f })) free size frame_room free_room
+  stored-taken : (free : List ℕ) (i : ℕ) (f : Frame) → AreFramesStored frames (free ++ i ∷ []) size frame_room free_room
+      → AreFramesStored (set frames i (record { held = true; frame = f })) free size frame_room free_room
   stored-taken free i f stored =
       let pooled : PooledFrame = record { held = true; frame = f } in
       let parts = All-pop (IsFree frames) (free ++ i ∷ []) free (Some i) refl stored.spare in
@@ -203,14 +203,14 @@ module _ (frames : List PooledFrame) (size frame_room free_room : ℕ) where
 
   -- the same from what the id is seen as
   pub stored-reused : (before free : List ℕ) (id place : ℕ) (f : Frame) → before ≡ free ++ id ∷ [] → place ≡ id
-      → IsStored frames before size frame_room free_room
-      → IsStored (set frames place (record { held = true; frame = f })) free size frame_room free_room
+      → AreFramesStored frames before size frame_room free_room
+      → AreFramesStored (set frames place (record { held = true; frame = f })) free size frame_room free_room
   stored-reused before free id place f popped same stored =
-      subst (λ i. IsStored (set frames i (record { held = true; frame = f })) free size frame_room free_room) (sym same)
-      (stored-taken free id f (subst (λ ids. IsStored frames ids size frame_room free_room) popped stored))
+      subst (λ i. AreFramesStored (set frames i (record { held = true; frame = f })) free size frame_room free_room) (sym same)
+      (stored-taken free id f (subst (λ ids. AreFramesStored frames ids size frame_room free_room) popped stored))
 
   -- the last free id is of a spare frame
-  free_last : (free : List ℕ) (i : ℕ) → IsStored frames (free ++ i ∷ []) size frame_room free_room → IsFree frames i
+  free_last : (free : List ℕ) (i : ℕ) → AreFramesStored frames (free ++ i ∷ []) size frame_room free_room → IsFree frames i
   free_last free i stored = (All-pop (IsFree frames) (free ++ i ∷ []) free (Some i) refl stored.spare).1
 
 -- ---- what the pool is then seen as
@@ -237,9 +237,9 @@ module _ (frames : List PooledFrame) (size place id : ℕ) (pool : List (Option 
 
   -- a frame that was given back is taken again
   pub pool-reused : (frame_room free_room : ℕ) (before free : List ℕ) (f : Frame) → f ≡ empty_frame → before ≡ free ++ id ∷ []
-      → IsStored frames before size frame_room free_room → Takes pool id (places_of (set frames place (record { held = true; frame = f })) size)
+      → AreFramesStored frames before size frame_room free_room → TakesFrame pool id (places_of (set frames place (record { held = true; frame = f })) size)
   pool-reused frame_room free_room before free f empty popped stored =
-      let last = free_last frames size frame_room free_room free id (subst (λ ids. IsStored frames ids size frame_room free_room) popped stored) in
+      let last = free_last frames size frame_room free_room free id (subst (λ ids. AreFramesStored frames ids size frame_room free_room) popped stored) in
       let spare : IsFree frames place = subst (IsFree frames) (sym same) last in
       let inside : place < length (map held_in frames) = omega (arith, spare.0, length-map frames held_in) in
       let there = get_or_append_left (map held_in frames) (replicate (size - length frames) None) None place inside ∙ spare.1 in
@@ -262,7 +262,7 @@ untouched frames size room =
 -- a frame that was never touched is taken
 pub pool-touched : (frames after : List PooledFrame) (size place : ℕ) (pool : List (Option Frame)) (f : Frame) → places_of frames size ≡ pool
     → place ≡ length frames → f ≡ empty_frame → after ≡ frames ++ record { held = true; frame = f } ∷ [] → place < size
-    → Takes pool place (places_of after size)
+    → TakesFrame pool place (places_of after size)
 pool-touched frames after size place pool f seen last empty pushed room =
     let pooled : PooledFrame = record { held = true; frame = f } in
     let room' : length frames < size = omega arith in
@@ -278,6 +278,6 @@ pool-touched frames after size place pool f seen last empty pushed room =
     }
 
 -- taking one, there is one less that is spare
-pub spare-takes : (old new : List (Option Frame)) (id : ℕ) → Takes old id new → spare_of new + 1 ≡ spare_of old
+pub spare-takes : (old new : List (Option Frame)) (id : ℕ) → TakesFrame old id new → spare_of new + 1 ≡ spare_of old
 spare-takes old new id takes =
     subst (λ q. spare_of q + 1 ≡ spare_of old) (sym takes.now_empty) (spare-taken old id empty_frame takes.within takes.was_spare)

@@ -31,11 +31,11 @@ abbrev pub spare_of : List (Option Frame) → ℕ
 spare_of pool = count_by is_none pool
 
 -- the id's frame was spare, and is now taken and empty; every other one is as it was
-pub record Takes (old : List (Option Frame)) (id : ℕ) (new : List (Option Frame)) : Type 0 where
+pub record TakesFrame (old : List (Option Frame)) (id : ℕ) (new : List (Option Frame)) : Type 0 where
   pub within : id < length old
   pub was_spare : frame_at old id ≡ None
   pub now_empty : new ≡ slice_set old id (Some empty_frame)
 
 -- the id's frame is now spare; every other one is as it was
-abbrev pub Gives : List (Option Frame) → ℕ → List (Option Frame) → Type 0
-Gives old id new = new ≡ slice_set old id None
+abbrev pub GivesFrame : List (Option Frame) → ℕ → List (Option Frame) → Type 0
+GivesFrame old id new = new ≡ slice_set old id None

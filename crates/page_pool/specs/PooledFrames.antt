@@ -16,7 +16,7 @@ abbrev pub IsFree : List PooledFrame → ℕ → Type 0
 IsFree frames id = (id < length frames) × (slice_index_or (map held_in frames) id None ≡ None)
 
 -- pooled frames and free ids in vectors of this room: as many places each as frames, so that neither ever grows
-pub record IsStored (frames : List PooledFrame) (free : List ℕ) (size frame_room free_room : ℕ) : Type 0 where
+pub record AreFramesStored (frames : List PooledFrame) (free : List ℕ) (size frame_room free_room : ℕ) : Type 0 where
   pub within : length frames ≤ size
   pub small : size < 2 ^ 32
   pub place_room : frame_room ≡ size

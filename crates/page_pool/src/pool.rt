@@ -1,7 +1,7 @@
 // The pool: its frames, and the ids that were given back.
 ghost use Rattle.std.specs.Prelude.{◌≡◌, ◌↔◌, ◌+◌, IfOk, OnOk, OnErr, IsErr, Some, None, replicate};
 ghost use Rattle.std.specs.Borrow.{sem};
-ghost use Rattle.page_pool.specs.Pool.{Gives, IsHeld, Takes, frame_at, spare_of};
+ghost use Rattle.page_pool.specs.Pool.{GivesFrame, IsHeld, TakesFrame, frame_at, spare_of};
 ghost use Rattle.page_pool.specs.Lending.{LendsFrame};
 
 use crate::Frame;
@@ -64,11 +64,11 @@ impl Model for Pool {
 
     ghost Value = { List (Option Frame) };
 
-    ghost use Rattle.page_pool.specs.PooledFrames.{IsStored, places_of};
+    ghost use Rattle.page_pool.specs.PooledFrames.{AreFramesStored, places_of};
 
     ghost view = { λ p. places_of p.frames.items p.size };
 
-    ghost invariant = { λ p. IsStored p.frames.items p.free.items p.size (vec_capacity p.frames) (vec_capacity p.free) };
+    ghost invariant = { λ p. AreFramesStored p.frames.items p.free.items p.size (vec_capacity p.frames) (vec_capacity p.free) };
 }
 
 impl Pool {
@@ -88,7 +88,7 @@ impl Pool {
 
     /// Takes a frame, which is empty.
     pub fn take_frame(&mut self) -> Result<FrameId, NoFrame>
-        ensures taken { IfOk result (λ id. Takes self.old id self.new) }
+        ensures taken { IfOk result (λ id. TakesFrame self.old id self.new) }
         ensures spare { OnOk result (spare_of self.new + 1 ≡ spare_of self.old) }
 
         // Refused, and unchanged, exactly where none is spare.
@@ -114,7 +114,7 @@ impl Pool {
     /// Gives a frame back, which is then spare.
     pub fn give_frame(&mut self, id: FrameId)
         requires { IsHeld self.old id }
-        ensures given { Gives self.old id self.new }
+        ensures given { GivesFrame self.old id self.new }
         ensures spare { spare_of self.new ≡ spare_of self.old + 1 }
     {
         self.frames[id.place as usize].held = false;

@@ -17,7 +17,7 @@ use Rattle.trend_num.specs.declared.tag_def.TagDef.{TagDef}
 use Rattle.tag_base.specs.declared.definition.Base.{Base}
 use Rattle.tag_base.specs.declared.definition.GroupDef.{GroupDef}
 use Rattle.tag_base.specs.declared.refusal.TextNo.{TextNo}
-use Rattle.tag_base.specs.Answers.{broken, when, given, after, Follows}
+use Rattle.tag_base.specs.Answers.{broken, where_held, where_given, after_step, Follows}
 use Rattle.tag_base.specs.Tables.{name_at}
 use Rattle.tag_base.specs.Tags.{has_tag_form, tuning_at, step_of, tag_place, new_tag_name, tag_of, tags_after}
 use Rattle.tag_base.specs.Groups.{GroupsRead}
@@ -35,7 +35,7 @@ name_read (Err why) = None
 
 -- a tag is read with the name that was found
 named_so : (form : Bool) (name : Option (List ℕ)) (tuning : Option Tuning) (step : Option Bool) (a b c d : TextNo) (tag : TagDef)
-    → when form a (given name b (λ n. given tuning c (λ t. given step d (λ s. Ok (record { name = n; tuning = t; step = s }))))) ≡ Ok tag
+    → where_held form a (where_given name b (λ n. where_given tuning c (λ t. where_given step d (λ s. Ok (record { name = n; tuning = t; step = s }))))) ≡ Ok tag
     → name ≡ Some tag.name
 named_so false name tuning step a b c d tag e = absurd (cc)
 named_so true None tuning step a b c d tag e = absurd (cc)
@@ -77,7 +77,7 @@ tags_apart earlier (ms ∷ tables) tags apart e =
   where
     by : (first : Result TagDef TextNo) → tag_of earlier ms ≡ first
         → ((tag : TagDef) → AreApart (earlier ++ tag ∷ []) → tags_after (earlier ++ tag ∷ []) tables ≡ Ok tags → AreApart tags)
-        → after first (λ tag. tags_after (earlier ++ tag ∷ []) tables) ≡ Ok tags → AreApart tags
+        → after_step first (λ tag. tags_after (earlier ++ tag ∷ []) tables) ≡ Ok tags → AreApart tags
     by (Err why) is further read = absurd (cc)
     by (Ok tag) is further read =
         let named = named_so (has_tag_form ms) (new_tag_name earlier ms) (tuning_at ms) (step_of (get_member (codes "step") ms))

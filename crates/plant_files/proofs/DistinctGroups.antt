@@ -17,7 +17,7 @@ use Rattle.tag_base.specs.declared.definition.Base.{Base}
 use Rattle.tag_base.specs.declared.definition.GroupDef.{GroupDef}
 use Rattle.tag_base.specs.declared.refusal.TextNo.{TextNo}
 use Rattle.tag_base.specs.declared.refusal.TextNo.TheVariants.{Limit}
-use Rattle.tag_base.specs.Answers.{broken, when, limited, given, Follows}
+use Rattle.tag_base.specs.Answers.{broken, where_held, limited, where_given, Follows}
 use Rattle.tag_base.specs.Tables.{name_at, number_at}
 use Rattle.tag_base.specs.Groups.{CalcForm, GroupForm, GroupRead, GroupsRead, IsGroupAnswer, TextRead, calcs_at, group_keys, group_place, group_text, inputs_at, longest_period, most_calcs, new_group_name}
 use Rattle.tag_base.specs.Tags.{tags_after}
@@ -39,7 +39,7 @@ named_so : {I : Type 0} (make : List ℕ → I → ℕ → ℕ → List CalcForm
     → ((n : List ℕ) (i : I) (s p : ℕ) (cs : List CalcForm) → (make n i s p cs).name ≡ n)
     → (form : Bool) (name : Option (List ℕ)) (inputs : Option I) (start period : Option ℕ) (calcs : Option (List CalcForm))
     (a b c d e f : TextNo) (text : GroupForm)
-    → when form a (given name b (λ n. given inputs c (λ i. given start d (λ s. given period e (λ p. given calcs f (λ cs.
+    → where_held form a (where_given name b (λ n. where_given inputs c (λ i. where_given start d (λ s. where_given period e (λ p. where_given calcs f (λ cs.
     limited Calcs most_calcs (length cs) (Ok (make n i s p cs)))))))) ≡ Ok text → name ≡ Some text.name
 named_so make named false name inputs start period calcs a b c d e f text is = absurd (cc)
 named_so make named true None inputs start period calcs a b c d e f text is = absurd (cc)
@@ -50,7 +50,7 @@ named_so make named true (Some n) (Some i) (Some s) (Some p) None a b c d e f te
 named_so make named true (Some n) (Some i) (Some s) (Some p) (Some cs) a b c d e f text is =
     within (nat_le (length cs) most_calcs) (Limit Calcs (length cs)) is
   where
-    within : (few : Bool) (why : TextNo) → when few why (Ok (make n i s p cs)) ≡ Ok text → Some n ≡ Some text.name
+    within : (few : Bool) (why : TextNo) → where_held few why (Ok (make n i s p cs)) ≡ Ok text → Some n ≡ Some text.name
     within false why is = absurd (cc)
     within true why is = ap Some (sym (named n i s p cs) ∙ ap name_of is)
 

@@ -11,7 +11,7 @@ use Rattle.plant_status.specs.declared.status.Status.{Status}
 use Rattle.plant_status.specs.declared.status.Status.TheVariants.{Limit, ReadFault, WantOfMemory}
 use Rattle.trend_num.specs.declared.refusal.What.TheVariants.{Rows}
 use Rattle.plant_files.specs.Asked.{IsQueriesRefusal}
-use Rattle.plant_files.specs.Collected.{AreRowsTooMany, IsRowsRefusal, most_collector_rows}
+use Rattle.plant_files.specs.Collected.{AreRowsTooMany, IsCollectedRefusal, most_collector_rows}
 use Rattle.plant_files.specs.Faults.{IsFaultOfPlanned}
 use Rattle.plant_files.specs.Reading.{IsFaultAt}
 use Rattle.plant_files.specs.RowFiles.{ToldFiles}
@@ -97,16 +97,16 @@ module _ (name plan_name : List ℕ) (told : ToldFiles) (failed : Option (List �
 
   -- that of the rows tells of a collector
   pub of_collector : (base : Base) (plan : Plan) → IsBaseFile (told name) base → IsPlanFile base.groups.items (told plan_name) plan
-      → IsRowsRefusal base told plan.collectors.items why
+      → IsCollectedRefusal base told plan.collectors.items why
       → ((place : ℕ) → why ≡ ReadFault (file.Collector place) → IsFaultAt plan.collectors.items place failed)
       → IsFaultOfPlanned name plan_name told failed why
   of_collector base plan read planned refused whose = record {
-    base = λ same. absurd (collector_is_no_base _ (subst (IsRowsRefusal base told plan.collectors.items) same refused
+    base = λ same. absurd (collector_is_no_base _ (subst (IsCollectedRefusal base told plan.collectors.items) same refused
         (memory_is_no_fault file.Base)).refused);
-    plan = λ same. absurd (collector_is_no_plan _ (subst (IsRowsRefusal base told plan.collectors.items) same refused
+    plan = λ same. absurd (collector_is_no_plan _ (subst (IsCollectedRefusal base told plan.collectors.items) same refused
         (memory_is_no_fault file.Plan)).refused);
     collector = λ place same. (base, plan, read, planned, whose place same);
-    reader = λ place same. absurd (collector_is_no_reader _ place (subst (IsRowsRefusal base told plan.collectors.items) same refused
+    reader = λ place same. absurd (collector_is_no_reader _ place (subst (IsCollectedRefusal base told plan.collectors.items) same refused
         (memory_is_no_fault (file.Reader place))).refused);
   }
 

@@ -9,12 +9,12 @@ use Rattle.tag_base.specs.declared.definition.GroupDef.{GroupDef}
 use Rattle.value_rows.specs.Asked.{IsQuery}
 use Rattle.value_rows.specs.Raw.{IsRawRow}
 use Rattle.value_rows.specs.declared.raw.RawRow.{RawRow}
-use Rattle.value_rows.specs.Asked.{calcs_at as names_at}
+use Rattle.value_rows.specs.Asked.{asked_calcs_at as names_at}
 use Rattle.value_rows.specs.declared.asked.GroupNames.{GroupNames}
 use Rattle.value_rows.specs.declared.asked.Query.{Query}
 use Rattle.value_rows.specs.declared.asked.Query.TheVariants.{Tag, Snap, Row}
 use Rattle.plant_files.specs.Texts.{tag_names}
-use Rattle.plant_files.specs.Asked.{IsNamed, AreNamed, IsQueryOfBase, calcs_at}
+use Rattle.plant_files.specs.Asked.{IsNamed, AreNamed, IsQueryOfBase, asked_calcs_at}
 use Rattle.plant_files.specs.Collected.{IsRowOfBase}
 
 -- the names of what definitions define
@@ -38,7 +38,7 @@ many_groups (g ∷ gs) [] named = absurd named
 many_groups (g ∷ gs) (n ∷ ns) named = ap suc (many_groups gs ns named.1)
 
 -- and at each place as many names as calculations
-many_calcs : (gs : List GroupDef) (ns : List GroupNames) (place : ℕ) → AreNamed gs ns → length (names_at ns place) ≡ length (calcs_at gs place)
+many_calcs : (gs : List GroupDef) (ns : List GroupNames) (place : ℕ) → AreNamed gs ns → length (names_at ns place) ≡ length (asked_calcs_at gs place)
 many_calcs [] [] place named = refl
 many_calcs [] (n ∷ ns) place named = absurd named
 many_calcs (g ∷ gs) [] place named = absurd named

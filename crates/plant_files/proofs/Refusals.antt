@@ -6,7 +6,7 @@ use Rattle.trend_num.specs.declared.refusal.What.{What}
 use Rattle.point_text.specs.Row.{all_rows, unless_more}
 use Rattle.point_text.specs.declared.failure.RowNo.{RowNo}
 use Rattle.point_text.specs.declared.failure.RowNo.TheVariants as row_no
-use Rattle.value_rows.specs.Reading.{records_of, rows_of_text, AreRefusedFor}
+use Rattle.value_rows.specs.Reading.{text_records_of, rows_of_text, AreRefusedFor}
 use Rattle.plant_status.specs.declared.file.FileId.{FileId}
 use Rattle.plant_files.specs.Reading.{IsReadWhole}
 use Rattle.plant_files.specs.RowFiles.{IsRowRefusal, most_file_bytes, row_status}
@@ -25,7 +25,7 @@ one_row_more most count (Ok rs) number e = by (nat_lt most count) e
 too_many : {R : Type 0} (row_of : List (List ℕ) → Result R Reason) (most : ℕ) (bytes : List ℕ) (number : ℕ)
     → rows_of_text row_of most bytes ≡ Err (row_no.TooMany number) → number ≡ most + 1
 too_many row_of most bytes number e =
-    let reads = map row_of (records_of bytes) in
+    let reads = map row_of (text_records_of bytes) in
     one_row_more most (length reads) (all_rows (take most reads)) number e
 
 -- the bytes of a file are refused as rows

@@ -37,15 +37,15 @@ AreNamed (g ∷ gs) (n ∷ ns) = IsNamed g n × AreNamed gs ns
 AreNamed groups names = ⊥
 
 -- the calculations of the group at a place
-abbrev pub calcs_at : List GroupDef → ℕ → List Calculation
-calcs_at groups place = option_map_or (λ g. g.calcs.calcs) (slice_get groups place) []
+abbrev pub asked_calcs_at : List GroupDef → ℕ → List Calculation
+asked_calcs_at groups place = option_map_or (λ g. g.calcs.calcs) (slice_get groups place) []
 
 -- a query of a tag of a base, or of one of its groups and one of that group's calculations
 abbrev pub IsQueryOfBase : Base → Query → Type 0
 IsQueryOfBase base (Tag tag query) = (tag < length base.tags.items) × IsTagQuery query
 IsQueryOfBase base (Snap tag) = tag < length base.tags.items
 IsQueryOfBase base (Row group calc k) = (group < length base.groups.items)
-    × (calc < length (calcs_at base.groups.items group)) × (k ≤ last_window)
+    × (calc < length (asked_calcs_at base.groups.items group)) × (k ≤ last_window)
 
 -- ---- one file
 

@@ -48,13 +48,13 @@ IsCollectorRefused tags told files why = IsFirstRefused (IsCollectorFile tags)
     (λ place. IsCollectorRefusal tags (collector_at place)) told files why
 
 -- the rows of files over the names of a base
-pub record AreRows (base : Base) (told : ToldFiles) (files : List (List ℕ))
+pub record AreCollectedRows (base : Base) (told : ToldFiles) (files : List (List ℕ))
     (lists : List (List RawRow)) : Type 0 where
   pub read : AreCollectorFiles (tag_names base.tags.items) told files lists
 
 -- why the rows of files are not read. No memory may be found at any time
-abbrev pub IsRowsRefusal : Base → ToldFiles → List (List ℕ) → Status → Type 0
-IsRowsRefusal base told files why =
+abbrev pub IsCollectedRefusal : Base → ToldFiles → List (List ℕ) → Status → Type 0
+IsCollectedRefusal base told files why =
     why ≢ WantOfMemory → IsCollectorRefused (tag_names base.tags.items) told files why
 
 -- ---- how many rows there are

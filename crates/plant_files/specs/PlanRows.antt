@@ -5,11 +5,11 @@ use Rattle.plant_status.specs.declared.status.Status.{Status}
 use Rattle.plant_status.specs.declared.status.Status.TheVariants.{WantOfMemory}
 use Rattle.tag_base.specs.declared.definition.Base.{Base}
 use Rattle.tag_base.specs.declared.schedule.Plan.{Plan}
-use Rattle.tag_base.specs.Groups.{IsSound}
+use Rattle.tag_base.specs.Groups.{IsSoundGroup}
 use Rattle.value_rows.specs.declared.asked.Query.{Query}
 use Rattle.value_rows.specs.declared.raw.RawRow.{RawRow}
 use Rattle.plant_files.specs.Asked.{AreQueries, IsQueriesRefusal, IsQueryOfBase}
-use Rattle.plant_files.specs.Collected.{AreRows, AreRowsTooMany, IsRowOfBase, IsRowsRefusal, most_collector_rows, row_count}
+use Rattle.plant_files.specs.Collected.{AreCollectedRows, AreRowsTooMany, IsRowOfBase, IsCollectedRefusal, most_collector_rows, row_count}
 use Rattle.plant_files.specs.RowFiles.{ToldFiles}
 use Rattle.plant_files.specs.Texts.{IsBaseFile, IsBaseRefusal, IsPlanFile, IsPlanRefusal}
 
@@ -18,7 +18,7 @@ use Rattle.plant_files.specs.Texts.{IsBaseFile, IsBaseRefusal, IsPlanFile, IsPla
 -- the tunings of a base are in range, its groups name tags and calculations that are there, and no two tags or groups have one name
 pub record IsGoodBase (base : Base) : Type 0 where
   pub tuned : All (λ def. TuningInRange def.tuning) base.tags.items
-  pub sound : All (IsSound (length base.tags.items)) base.groups.items
+  pub sound : All (IsSoundGroup (length base.tags.items)) base.groups.items
   pub distinct : AllPairs (λ a b. a.name ≢ b.name) base.tags.items
   pub distinct_groups : AllPairs (λ a b. a.name ≢ b.name) base.groups.items
 
@@ -38,14 +38,14 @@ pub record IsGoodPlan (base : Base) (plan : Plan) (rows : List (List RawRow)) (q
 
 -- the base was read of the file of the first name, the plan of that of the second, and these are the rows of its collectors, each
 -- of its file
-pub record IsRead (name plan_name : List ℕ) (told : ToldFiles) (base : Base) (plan : Plan) (rows : List (List RawRow)) : Type 0 where
+pub record ArePlanRowsRead (name plan_name : List ℕ) (told : ToldFiles) (base : Base) (plan : Plan) (rows : List (List RawRow)) : Type 0 where
   pub read : IsBaseFile (told name) base
   pub planned : IsPlanFile base.groups.items (told plan_name) plan
-  pub fed : AreRows base told plan.collectors.items rows
+  pub fed : AreCollectedRows base told plan.collectors.items rows
 
 -- so it was, and there are not too many rows
 pub record IsCollected (name plan_name : List ℕ) (told : ToldFiles) (base : Base) (plan : Plan) (rows : List (List RawRow)) : Type 0 where
-  pub files : IsRead name plan_name told base plan rows
+  pub files : ArePlanRowsRead name plan_name told base plan rows
   pub few : row_count rows ≤ most_collector_rows
 
 -- so it was, and these are the queries of the plan's readers, each of its file
@@ -62,20 +62,20 @@ pub data IsReadRefusal (name plan_name : List ℕ) (told : ToldFiles) (why : Sta
   OfPlan : (base : Base) → IsBaseFile (told name) base → IsPlanRefusal base.groups.items (told plan_name) why
       → IsReadRefusal name plan_name told why
   OfCollector : (base : Base) (plan : Plan) → IsBaseFile (told name) base → IsPlanFile base.groups.items (told plan_name) plan
-      → IsRowsRefusal base told plan.collectors.items why → IsReadRefusal name plan_name told why
+      → IsCollectedRefusal base told plan.collectors.items why → IsReadRefusal name plan_name told why
 
 -- the refusals, in their order: of those files; or the rows are too many
 pub data IsCollectingRefusal (name plan_name : List ℕ) (told : ToldFiles) (why : Status) : Type 0 where
   OfReading : IsReadRefusal name plan_name told why → IsCollectingRefusal name plan_name told why
-  OfMany : (base : Base) (plan : Plan) (rows : List (List RawRow)) → IsRead name plan_name told base plan rows
+  OfMany : (base : Base) (plan : Plan) (rows : List (List RawRow)) → ArePlanRowsRead name plan_name told base plan rows
       → AreRowsTooMany (row_count rows) why → IsCollectingRefusal name plan_name told why
 
 -- the refusals, in their order: of those files, of a reader's; or the rows are too many. No memory may be found at any time
 pub data IsPlanningRefusal (name plan_name : List ℕ) (told : ToldFiles) (why : Status) : Type 0 where
   OfFiles : IsReadRefusal name plan_name told why → IsPlanningRefusal name plan_name told why
-  OfReader : (base : Base) (plan : Plan) (rows : List (List RawRow)) → IsRead name plan_name told base plan rows
+  OfReader : (base : Base) (plan : Plan) (rows : List (List RawRow)) → ArePlanRowsRead name plan_name told base plan rows
       → IsQueriesRefusal base told plan.readers.items why → IsPlanningRefusal name plan_name told why
   OfRows : (base : Base) (plan : Plan) (rows : List (List RawRow)) (lists : List (List Query))
-      → IsRead name plan_name told base plan rows → AreQueries base told plan.readers.items lists
+      → ArePlanRowsRead name plan_name told base plan rows → AreQueries base told plan.readers.items lists
       → AreRowsTooMany (row_count rows) why → IsPlanningRefusal name plan_name told why
   OfMemory : why ≡ WantOfMemory → IsPlanningRefusal name plan_name told why

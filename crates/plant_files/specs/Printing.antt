@@ -1,13 +1,13 @@
 -- What the output gained of an answer, and which status tells that.
 use Rattle.std.specs.Prelude.{◌≡◌, ◌⊎◌, ℕ, List}
 use Rattle.byte_io.specs.Outside.{Outside, IsWritten, IsCutShort}
-use Rattle.plant_status.specs.Status.{line_of}
+use Rattle.plant_status.specs.Status.{status_line_of}
 use Rattle.plant_status.specs.declared.status.Status.{Status}
 use Rattle.plant_status.specs.declared.status.Status.TheVariants.{Done, WriteFault}
 
 -- the output gained the line of this status and nothing else, or a part of it where a write failed
 abbrev pub IsTold : Outside → Outside → Status → Type 0
-IsTold before now status = IsWritten before now (line_of status) ⊎ IsCutShort before now (line_of status)
+IsTold before now status = IsWritten before now (status_line_of status) ⊎ IsCutShort before now (status_line_of status)
 
 -- a text was printed and the status is Done, or a part of it where a write failed
 abbrev pub IsPrintedSo : List ℕ → Outside → Outside → Status → Type 0

@@ -1,7 +1,7 @@
 -- Files that are read whole, within a limit, and why one is not.
 use Rattle.std.specs.Prelude.{◌≡◌, ℕ, ◌+◌, ◌≤◌, List, length, slice_get, ⊤, Option, Some, IfSome, Result, Ok, Err}
 use Rattle.byte_io.specs.Files.{FileTold, IsWhole, IsLongerThan}
-use Rattle.byte_io.specs.Outside.{next_count}
+use Rattle.byte_io.specs.Outside.{next_fault_count}
 use Rattle.trend_num.specs.declared.refusal.What.{What}
 use Rattle.plant_status.specs.declared.file.FileId.{FileId}
 use Rattle.plant_status.specs.declared.status.Status.{Status}
@@ -34,7 +34,7 @@ IsReadRefusal file kind most told other = ⊥
 -- ---- faults: a read failed where a read fault is told, and nowhere else
 
 abbrev pub faults_told : Status → ℕ → ℕ
-faults_told (ReadFault file) faults = next_count faults
+faults_told (ReadFault file) faults = next_fault_count faults
 faults_told other faults = faults
 
 -- the count of faults after an answer

@@ -21,15 +21,15 @@ ToldFiles = List ℕ → FileTold
 -- ---- one file
 
 -- what the bytes of a file read as: its rows, or why they are refused
-abbrev pub Reads : Type 0 → Type 0
-Reads R = List ℕ → Result (List R) RowNo
+abbrev pub ReadsAs : Type 0 → Type 0
+ReadsAs R = List ℕ → Result (List R) RowNo
 
 -- the rows of a file
-abbrev pub IsRowFile : {R : Type 0} → Reads R → FileTold → List R → Type 0
+abbrev pub IsRowFile : {R : Type 0} → ReadsAs R → FileTold → List R → Type 0
 IsRowFile reads told rows = IsReadWholeAs told most_file_bytes (λ bytes. reads bytes ≡ Ok rows)
 
 -- its rows are refused for this
-abbrev pub IsRefusedFile : {R : Type 0} → Reads R → FileTold → RowNo → Type 0
+abbrev pub IsRefusedFile : {R : Type 0} → ReadsAs R → FileTold → RowNo → Type 0
 IsRefusedFile reads told why = IsReadWholeAs told most_file_bytes (λ bytes. reads bytes ≡ Err why)
 
 -- the status of a file whose rows are refused for this; its rows are of this quantity
@@ -39,14 +39,14 @@ row_status kind file (row_no.TooMany rows) = Limit kind rows
 row_status kind file row_no.WantOfMemory = WantOfMemory
 
 -- there is a row more than there may be, and this is told of it: the quantity, and one more than the limit
-pub record AreTooMany {R : Type 0} (kind : What) (most : ℕ) (reads : Reads R) (told : FileTold) (what : What)
+pub record AreTooMany {R : Type 0} (kind : What) (most : ℕ) (reads : ReadsAs R) (told : FileTold) (what : What)
     (number : ℕ) : Type 0 where
   pub quantity : what ≡ kind
   pub one_more : number ≡ most + 1
   pub refused : IsRefusedFile reads told (row_no.TooMany number)
 
 -- why the rows of a file are not read, by the status; they are of this quantity, and so many at most
-abbrev pub IsRowRefusal : {R : Type 0} → What → ℕ → Reads R → FileId → FileTold → Status → Type 0
+abbrev pub IsRowRefusal : {R : Type 0} → What → ℕ → ReadsAs R → FileId → FileTold → Status → Type 0
 IsRowRefusal kind most reads file told (ReadFault which) = which ≡ file
 IsRowRefusal kind most reads file told (Limit what number) =
     IsTooLong FileBytes most_file_bytes told what number ⊎ AreTooMany kind most reads told what number

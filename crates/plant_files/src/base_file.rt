@@ -2,7 +2,7 @@
 ghost use Rattle.std.specs.Prelude.{◌≡◌, ◌≢◌, All, length, IfOk, IfErr, IsErrOf};
 ghost use Rattle.std.specs.List.{AllPairs};
 ghost use Rattle.trend_num.specs.Ranges.{TuningInRange};
-ghost use Rattle.tag_base.specs.Groups.{IsSound};
+ghost use Rattle.tag_base.specs.Groups.{IsSoundGroup};
 ghost use Rattle.byte_io.specs.Files.{IsFaultOf};
 ghost use Rattle.plant_status.specs.declared.file.FileId.{FileId};
 ghost use Rattle.plant_status.specs.declared.status.Status.TheVariants.{ReadFault};
@@ -20,7 +20,7 @@ use tag_base::{Base, read_base};
 /// two of its groups; its tunings are in range, and the inputs of its groups are tags of it.
 pub fn base_of<F: Files>(alloc: Global, files: &mut F, name: &str) -> Result<Base, Status>
     ensures base { IfOk result (IsBaseFile (F.told files.old name.now)) }
-    ensures sound { IfOk result (λ base. All (IsSound (length base.tags.items)) base.groups.items) }
+    ensures sound { IfOk result (λ base. All (IsSoundGroup (length base.tags.items)) base.groups.items) }
     ensures tuned { IfOk result (λ base. All (λ tag. TuningInRange tag.tuning) base.tags.items) }
     ensures distinct { IfOk result (λ base. AllPairs (λ x y. x ≢ y) (tag_names base.tags.items)) }
     ensures distinct_groups { IfOk result (λ base. AllPairs (λ a b. a.name ≢ b.name) base.groups.items) }

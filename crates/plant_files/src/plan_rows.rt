@@ -2,7 +2,7 @@
 ghost use Rattle.std.specs.Prelude.{◌≡◌, All, IfErr, IfOk, map};
 ghost use Rattle.plant_files.specs.Faults.{IsFaultOfPlanned};
 ghost use Rattle.plant_files.specs.Reading.{faults_after};
-ghost use Rattle.plant_files.specs.PlanRows.{AreRefreshersOf, AreRowsOfBase, IsCollected, IsCollectingRefusal, IsGoodBase, IsGoodPlan, IsPlanned, IsPlanningRefusal, IsRead, IsReadRefusal};
+ghost use Rattle.plant_files.specs.PlanRows.{AreRefreshersOf, AreRowsOfBase, IsCollected, IsCollectingRefusal, IsGoodBase, IsGoodPlan, IsPlanned, IsPlanningRefusal, ArePlanRowsRead, IsReadRefusal};
 
 use crate::base_file::base_of;
 use crate::plan_file::plan_of;
@@ -98,7 +98,7 @@ fn read_files<F: Files>(
     name: &str,
     plan_name: &str,
 ) -> Result<CollectedFiles, Status>
-    ensures read { IfOk result (λ s. IsRead name.now plan_name.now (F.told files.old) s.base s.plan
+    ensures read { IfOk result (λ s. ArePlanRowsRead name.now plan_name.now (F.told files.old) s.base s.plan
         (map (λ list. list.items) s.rows.items)) }
     ensures base { IfOk result (λ s. IsGoodBase s.base) }
     ensures rows { IfOk result (λ s. AreRowsOfBase s.base (map (λ list. list.items) s.rows.items)) }

@@ -2,7 +2,7 @@
 ghost use Rattle.std.specs.Prelude.{◌≡◌, ◌≢◌, ◌<◌, ◌^◌, ℕ, All, length, map, vec_len, IfOk, IfErr, IsErrOf};
 ghost use Rattle.plant_status.specs.declared.file.FileId.TheVariants.{Reader};
 ghost use Rattle.plant_status.specs.declared.status.Status.TheVariants.{ReadFault, WantOfMemory};
-ghost use Rattle.tag_base.specs.Groups.{IsSound};
+ghost use Rattle.tag_base.specs.Groups.{IsSoundGroup};
 ghost use Rattle.value_rows.specs.Asked.{IsQuery};
 ghost use Rattle.plant_files.specs.Reading.{IsFaultAt, faults_after};
 ghost use Rattle.plant_files.specs.Asked.{AreReaderFiles, AreQueries, IsQueryOfBase, IsQueriesRefusal, IsReaderRefused};
@@ -58,7 +58,7 @@ pub fn queries_of<F: Files>(
     plan: &Plan,
     base: &Base,
 ) -> Result<Vec<Vec<Query>>, Status>
-    requires { All (IsSound (length base.now.tags.items)) base.now.groups.items }
+    requires { All (IsSoundGroup (length base.now.tags.items)) base.now.groups.items }
     ensures queries { IfOk result (λ lists.
         AreQueries base.now (F.told files.old) plan.now.readers.items (map (λ queries. queries.items) lists.items)) }
     ensures in_range { IfOk result (λ lists. All (λ queries. All (IsQueryOfBase base.now) queries.items) lists.items) }

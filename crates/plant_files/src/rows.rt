@@ -4,7 +4,7 @@ ghost use Rattle.plant_status.specs.declared.file.FileId.TheVariants.{Collector}
 ghost use Rattle.plant_status.specs.declared.status.Status.TheVariants.{ReadFault, WantOfMemory};
 ghost use Rattle.value_rows.specs.Raw.{IsRawRow};
 ghost use Rattle.plant_files.specs.Reading.{IsFaultAt, faults_after};
-ghost use Rattle.plant_files.specs.Collected.{AreCollectorFiles, AreRows, AreRowsTooMany, IsCollectorRefused, IsRowOfBase, IsRowsRefusal, most_collector_rows, row_count};
+ghost use Rattle.plant_files.specs.Collected.{AreCollectorFiles, AreCollectedRows, AreRowsTooMany, IsCollectorRefused, IsRowOfBase, IsCollectedRefusal, most_collector_rows, row_count};
 
 use crate::collector_file::{MAX_ROWS, collector_at, rows_in};
 use crate::names::names_of_tags;
@@ -54,9 +54,9 @@ pub fn rows_of<F: Files>(
     base: &Base,
 ) -> Result<Vec<Vec<RawRow>>, Status>
     ensures rows { IfOk result (λ lists.
-        AreRows base.now (F.told files.old) plan.now.collectors.items (map (λ rows. rows.items) lists.items)) }
+        AreCollectedRows base.now (F.told files.old) plan.now.collectors.items (map (λ rows. rows.items) lists.items)) }
     ensures in_range { IfOk result (λ lists. All (λ rows. All (IsRowOfBase base.now) rows.items) lists.items) }
-    ensures refused { IfErr result (IsRowsRefusal base.now (F.told files.old) plan.now.collectors.items) }
+    ensures refused { IfErr result (IsCollectedRefusal base.now (F.told files.old) plan.now.collectors.items) }
     ensures stays { F.told files.new ≡ F.told files.old }
     ensures faults { F.fault_count files.new ≡ faults_after result (F.fault_count files.old) }
     ensures whose { (place : ℕ) → IsErrOf result (ReadFault (Collector place))

@@ -9,13 +9,13 @@ use Rattle.commit_log.specs.declared.history.LogTurn.{LogTurn}
 use Rattle.commit_log.specs.declared.history.LogTurn.TheVariants.{Commit}
 use Rattle.commit_log.specs.declared.refusal.LogCommitNo.{LogCommitNo}
 use Rattle.commit_log.specs.declared.refusal.LogCommitNo.TheVariants.{Broken}
-use Rattle.commit_log.specs.Told.{IsAcknowledged, IsFaulted, Told, waits}
+use Rattle.commit_log.specs.Told.{AreRowsAcknowledged, IsLogFaulted, ToldLog, rows_waiting}
 use Rattle.commit_log.specs.Tapes.{puts}
 use Rattle.commit_log.proofs.Tapes.{puts-append}
 use Rattle.plant_more.specs.LogTurns.{IsCommit, IsCommitted, IsSameLog}
 
 -- the log of an equation is the same
-same_log : {D : Type 0} (old new : Told D) → new ≡ old → IsSameLog old new
+same_log : {D : Type 0} (old new : ToldLog D) → new ≡ old → IsSameLog old new
 same_log old new is = record {
   plant = ap (λ l. l.plant) is;
   tags = ap (λ l. l.tags) is;
@@ -26,7 +26,7 @@ same_log old new is = record {
 }
 
 -- one log after another
-pub same_log_on : {D : Type 0} (a b c : Told D) → IsSameLog a b → IsSameLog b c → IsSameLog a c
+pub same_log_on : {D : Type 0} (a b c : ToldLog D) → IsSameLog a b → IsSameLog b c → IsSameLog a c
 same_log_on a b c first last = record {
   plant = last.plant ∙ first.plant;
   tags = last.tags ∙ first.tags;
@@ -37,16 +37,16 @@ same_log_on a b c first last = record {
 }
 
 -- no commit
-pub none_committed : {D : Type 0} (old new : Told D) → new ≡ old → IsCommitted old new
+pub none_committed : {D : Type 0} (old new : ToldLog D) → new ≡ old → IsCommitted old new
 none_committed old new is = record {
   more = [];
   each = All-nil IsCommit;
-  tape = ap (λ (l : Told _). l.tape) is ∙ sym (append-nil old.tape);
+  tape = ap (λ (l : ToldLog _). l.tape) is ∙ sym (append-nil old.tape);
   same = same_log old new is;
 }
 
 -- some commits behind others
-pub committed_on : {D : Type 0} (a b c : Told D) → IsCommitted a b → IsCommitted b c → IsCommitted a c
+pub committed_on : {D : Type 0} (a b c : ToldLog D) → IsCommitted a b → IsCommitted b c → IsCommitted a c
 committed_on a b c first last = record {
   more = first.more ++ last.more;
   each = All-append IsCommit first.more last.more first.each last.each;
@@ -55,31 +55,31 @@ committed_on a b c first last = record {
 }
 
 -- one commit
-one_committed : {D : Type 0} (trace : D → Option Trace) (ticks : D → ℕ) (a : LogAcked) (old new : Told D)
-    → IsAcknowledged trace ticks a old new → IsCommitted old new
+one_committed : {D : Type 0} (trace : D → Option Trace) (ticks : D → ℕ) (a : LogAcked) (old new : ToldLog D)
+    → AreRowsAcknowledged trace ticks a old new → IsCommitted old new
 one_committed trace ticks a old new is = record {
   more = Commit (ticks new.dev) a.acked ∷ [];
   each = All-push IsCommit [] (Commit (ticks new.dev) a.acked) (All-nil IsCommit) tt;
-  tape = ap (λ (l : Told _). l.tape) is.changed;
+  tape = ap (λ (l : ToldLog _). l.tape) is.changed;
   same = record {
-    plant = ap (λ (l : Told _). l.plant) is.changed;
-    tags = ap (λ (l : Told _). l.tags) is.changed;
-    opening = ap (λ (l : Told _). l.opening) is.changed;
-    moment = ap (λ (l : Told _). l.moment) is.changed;
-    faults = ap (λ (l : Told _). l.faults) is.changed;
-    room = ap (λ (l : Told _). l.room) is.changed;
+    plant = ap (λ (l : ToldLog _). l.plant) is.changed;
+    tags = ap (λ (l : ToldLog _). l.tags) is.changed;
+    opening = ap (λ (l : ToldLog _). l.opening) is.changed;
+    moment = ap (λ (l : ToldLog _). l.moment) is.changed;
+    faults = ap (λ (l : ToldLog _). l.faults) is.changed;
+    room = ap (λ (l : ToldLog _). l.room) is.changed;
   };
 }
 
--- what waits after it
-one_waits : {D : Type 0} (trace : D → Option Trace) (ticks : D → ℕ) (a : LogAcked) (old new : Told D)
-    → IsAcknowledged trace ticks a old new → waits new ≡ a.waiting
+-- what rows_waiting after it
+one_waits : {D : Type 0} (trace : D → Option Trace) (ticks : D → ℕ) (a : LogAcked) (old new : ToldLog D)
+    → AreRowsAcknowledged trace ticks a old new → rows_waiting new ≡ a.waiting
 one_waits trace ticks a old new is =
-    let opening : length new.opening ≡ length old.opening = ap (λ (l : Told _). length l.opening) is.changed in
+    let opening : length new.opening ≡ length old.opening = ap (λ (l : ToldLog _). length l.opening) is.changed in
     let rows : length (puts new.tape) ≡ length (puts old.tape) =
-    ap (λ (l : Told _). length (puts l.tape)) is.changed ∙ (ap length (puts-append old.tape (Commit (ticks new.dev) a.acked ∷ []))
+    ap (λ (l : ToldLog _). length (puts l.tape)) is.changed ∙ (ap length (puts-append old.tape (Commit (ticks new.dev) a.acked ∷ []))
     ∙ omega (arith, length-append (puts old.tape) [])) in
-    let acked : new.acked ≡ a.acked = ap (λ (l : Told _). l.acked) is.changed in
+    let acked : new.acked ≡ a.acked = ap (λ (l : ToldLog _). l.acked) is.changed in
     omega (arith, opening, rows, acked, is.acked_are, is.waiting_are)
 
 -- what a success carries
@@ -91,26 +91,26 @@ err_is_not : {A : Type 0} (r : Result A LogCommitNo) (a : A) → r ≡ Ok a → 
 err_is_not r a is was = cc
 
 -- a commit that succeeds: the tape is longer by commits, and so many rows wait as it answers; where some do, there are fewer
-pub record Goes {D : Type 0} (a : LogAcked) (first old new : Told D) : Type 0 where
+pub record Goes {D : Type 0} (a : LogAcked) (first old new : ToldLog D) : Type 0 where
   pub committed : IsCommitted first new
-  pub waiting : waits new ≡ a.waiting
-  pub fewer : 0 < a.waiting → waits new < waits old
+  pub waiting : rows_waiting new ≡ a.waiting
+  pub fewer : 0 < a.waiting → rows_waiting new < rows_waiting old
 
-pub goes : {D : Type 0} (trace : D → Option Trace) (ticks : D → ℕ) (a : LogAcked) (first old new : Told D) → IsCommitted first old
-    → (waits old ≡ 0 → (a.waiting ≡ 0) × (new ≡ old)) → (0 < waits old → IsAcknowledged trace ticks a old new) → Goes a first old new
-goes {D} trace ticks a first old new before idle busy = by_waits (waits old) refl
+pub goes : {D : Type 0} (trace : D → Option Trace) (ticks : D → ℕ) (a : LogAcked) (first old new : ToldLog D) → IsCommitted first old
+    → (rows_waiting old ≡ 0 → (a.waiting ≡ 0) × (new ≡ old)) → (0 < rows_waiting old → AreRowsAcknowledged trace ticks a old new) → Goes a first old new
+goes {D} trace ticks a first old new before idle busy = by_waits (rows_waiting old) refl
   where
-    by_waits : (n : ℕ) → waits old ≡ n → Goes a first old new
+    by_waits : (n : ℕ) → rows_waiting old ≡ n → Goes a first old new
     by_waits zero none =
         let is = idle none in
         record {
           committed = committed_on first old new before (none_committed old new is.1);
-          waiting = ap (λ (l : Told D). waits l) is.1 ∙ (none ∙ sym is.0);
+          waiting = ap (λ (l : ToldLog D). rows_waiting l) is.1 ∙ (none ∙ sym is.0);
           fewer = λ some. absurd (omega (arith, some, is.0));
         }
     by_waits (suc n) some =
-        let is : IsAcknowledged trace ticks a old new = busy (omega (arith, some)) in
-        let left : waits new ≡ a.waiting = one_waits trace ticks a old new is in
+        let is : AreRowsAcknowledged trace ticks a old new = busy (omega (arith, some)) in
+        let left : rows_waiting new ≡ a.waiting = one_waits trace ticks a old new is in
         record {
           committed = committed_on first old new before (one_committed trace ticks a old new is);
           waiting = left;
@@ -118,10 +118,10 @@ goes {D} trace ticks a first old new before idle busy = by_waits (waits old) ref
         }
 
 -- the same, by what a commit ensures
-pub goes_of : {D : Type 0} (trace : D → Option Trace) (ticks : D → ℕ) (r : Result LogAcked LogCommitNo) (a : LogAcked) (first old new : Told D)
+pub goes_of : {D : Type 0} (trace : D → Option Trace) (ticks : D → ℕ) (r : Result LogAcked LogCommitNo) (a : LogAcked) (first old new : ToldLog D)
     → IsCommitted first old → r ≡ Ok a → (old.failed ≡ true → IsErrOf r Broken)
-    → (old.failed ≡ false → waits old ≡ 0 → (r ≡ Ok (record { acked = old.acked; waiting = 0 })) × (new ≡ old))
-    → (0 < waits old → IsAcknowledged trace ticks a old new) → Goes a first old new
+    → (old.failed ≡ false → rows_waiting old ≡ 0 → (r ≡ Ok (record { acked = old.acked; waiting = 0 })) × (new ≡ old))
+    → (0 < rows_waiting old → AreRowsAcknowledged trace ticks a old new) → Goes a first old new
 goes_of {D} trace ticks r a first old new before was broken idle busy = by_failed old.failed refl
   where
     by_failed : (b : Bool) → old.failed ≡ b → Goes a first old new
@@ -129,17 +129,17 @@ goes_of {D} trace ticks r a first old new before was broken idle busy = by_faile
     by_failed false is = goes trace ticks a first old new before (λ none. let same = idle is none in (ap (λ (r : LogAcked). r.waiting) (ok_is r a _ was same.0), same.1)) busy
 
 -- a commit that fails changes no turn
-pub faulted_committed : {D : Type 0} (old new : Told D) → IsFaulted old new → IsCommitted old new
+pub faulted_committed : {D : Type 0} (old new : ToldLog D) → IsLogFaulted old new → IsCommitted old new
 faulted_committed old new is = record {
   more = [];
   each = All-nil IsCommit;
-  tape = ap (λ (l : Told _). l.tape) is.changed ∙ sym (append-nil old.tape);
+  tape = ap (λ (l : ToldLog _). l.tape) is.changed ∙ sym (append-nil old.tape);
   same = record {
-    plant = ap (λ (l : Told _). l.plant) is.changed;
-    tags = ap (λ (l : Told _). l.tags) is.changed;
-    opening = ap (λ (l : Told _). l.opening) is.changed;
-    moment = ap (λ (l : Told _). l.moment) is.changed;
-    faults = ap (λ (l : Told _). l.faults) is.changed;
-    room = ap (λ (l : Told _). l.room) is.changed;
+    plant = ap (λ (l : ToldLog _). l.plant) is.changed;
+    tags = ap (λ (l : ToldLog _). l.tags) is.changed;
+    opening = ap (λ (l : ToldLog _). l.opening) is.changed;
+    moment = ap (λ (l : ToldLog _). l.moment) is.changed;
+    faults = ap (λ (l : ToldLog _). l.faults) is.changed;
+    room = ap (λ (l : ToldLog _). l.room) is.changed;
   };
 }

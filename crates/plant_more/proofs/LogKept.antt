@@ -5,56 +5,56 @@ use Rattle.disk_model.specs.Moments.{During}
 use Rattle.disk_model.specs.Traces.{Trace}
 use Rattle.disk_model.proofs.Moments.{started}
 use Rattle.commit_log.specs.declared.row.LogRow.{LogRow}
-use Rattle.commit_log.specs.Images.{StandsFor}
-use Rattle.commit_log.specs.Openings.{IsLeftOrSame, IsLeftOrStands}
+use Rattle.commit_log.specs.Images.{StandsForRows}
+use Rattle.commit_log.specs.Openings.{IsLogLeftOrSame, IsLeftOrStands}
 use Rattle.tag_base.specs.declared.definition.Base.{Base}
 use Rattle.plant_status.specs.declared.status.Status.TheVariants.{WantOfMemory}
-use Rattle.commit_log.specs.Told.{Told}
+use Rattle.commit_log.specs.Told.{ToldLog}
 use Rattle.plant_more.specs.LogHeadline.{IsUnopened}
-use Rattle.plant_more.specs.LogOpenings.{AreOthersSame, Devices, IsGivenBack, IsLogKept, IsLogOpened}
+use Rattle.plant_more.specs.LogOpenings.{AreOthersSame, TracesByName, IsGivenBack, IsLogKept, IsLogOpened}
 use Rattle.plant_more.specs.LogTexts.{log_name, plant_text}
 
 -- nothing was called
-still : (text : List ℕ) (tags : ℕ) (o : Option Trace) → During o o (IsLeftOrSame text tags o)
-still text tags o = started o (IsLeftOrSame text tags o) (record { each = λ c may. inl may })
+still : (text : List ℕ) (tags : ℕ) (o : Option Trace) → During o o (IsLogLeftOrSame text tags o)
+still text tags o = started o (IsLogLeftOrSame text tags o) (record { each = λ c may. inl may })
 
 -- so no device has changed
-pub untouched : (text : List ℕ) (tags : ℕ) (old new : Devices) → ((n : List ℕ) → new n ≡ old n) → IsLogKept text tags old new
+pub untouched : (text : List ℕ) (tags : ℕ) (old new : TracesByName) → ((n : List ℕ) → new n ≡ old n) → IsLogKept text tags old new
 untouched text tags old new same = record {
-  any_moment = subst (λ (o : Option Trace). During (old log_name) o (IsLeftOrSame text tags (old log_name))) (sym (same log_name))
+  any_moment = subst (λ (o : Option Trace). During (old log_name) o (IsLogLeftOrSame text tags (old log_name))) (sym (same log_name))
       (still text tags (old log_name));
   others = λ n differs. same n;
 }
 
 -- a log that was opened stands for the same
-pub stands_same : (text : List ℕ) (tags : ℕ) (rows : List LogRow) (o new : Option Trace) → Shows o (λ c. StandsFor text tags c rows)
-    → During o new (IsLeftOrStands text tags rows o) → During o new (IsLeftOrSame text tags o)
+pub stands_same : (text : List ℕ) (tags : ℕ) (rows : List LogRow) (o new : Option Trace) → Shows o (λ c. StandsForRows text tags c rows)
+    → During o new (IsLeftOrStands text tags rows o) → During o new (IsLogLeftOrSame text tags o)
 stands_same text tags rows None None stood is = record { later = is.later; each = λ c left. absurd left.image }
 stands_same text tags rows None (Some t) stood is = absurd is.later
 stands_same text tags rows (Some t) new stood is = record { later = is.later; each = λ c left. by_image c (is.each c left) }
   where
-    by_image : (c : List ℕ) → IsLeftOrStands text tags rows (Some t) c → IsLeftOrSame text tags (Some t) c
+    by_image : (c : List ℕ) → IsLeftOrStands text tags rows (Some t) c → IsLogLeftOrSame text tags (Some t) c
     by_image c (inl may) = inl may
     by_image c (inr stands) = inr (record { rows = rows; stood = stood; stands = stands })
 
 -- the device of a log to which no collector put a row
-pub kept_ready : {D : Type 0} (trace : D → Option Trace) (ticks faults : D → ℕ) (text : List ℕ) (tags : ℕ) (old mid new : Devices)
-    (before now : ℕ) (l : Told D) → IsLogOpened trace ticks faults text tags (old log_name) l → AreOthersSame old mid
+pub kept_ready : {D : Type 0} (trace : D → Option Trace) (ticks faults : D → ℕ) (text : List ℕ) (tags : ℕ) (old mid new : TracesByName)
+    (before now : ℕ) (l : ToldLog D) → IsLogOpened trace ticks faults text tags (old log_name) l → AreOthersSame old mid
     → IsGivenBack trace faults l mid new before now → IsLogKept text tags old new
 kept_ready trace ticks faults text tags old mid new before now l opened others back = record {
-  any_moment = subst (λ (o : Option Trace). During (old log_name) o (IsLeftOrSame text tags (old log_name))) (sym back.device)
+  any_moment = subst (λ (o : Option Trace). During (old log_name) o (IsLogLeftOrSame text tags (old log_name))) (sym back.device)
       (stands_same text tags l.opening (old log_name) (trace l.dev) opened.rows opened.any_moment);
   others = λ n differs. back.others n differs ∙ others n differs;
 }
 
 -- a log that is opened for a text is opened for the plant that has it
 pub opened_for : {D : Type 0} (trace : D → Option Trace) (ticks faults : D → ℕ) (text text' : List ℕ) (tags tags' : ℕ) (o : Option Trace)
-    (l : Told D) → text ≡ text' → tags ≡ tags' → IsLogOpened trace ticks faults text tags o l → IsLogOpened trace ticks faults text' tags' o l
+    (l : ToldLog D) → text ≡ text' → tags ≡ tags' → IsLogOpened trace ticks faults text tags o l → IsLogOpened trace ticks faults text' tags' o l
 opened_for trace ticks faults text text' tags tags' o l text_is tags_are opened =
     subst (λ (t : List ℕ). IsLogOpened trace ticks faults t tags' o l) text_is
     (subst (λ (n : ℕ). IsLogOpened trace ticks faults text n o l) tags_are opened)
 
 -- and one for which no memory is found
-pub unready_for : (base : Base) (rows : ℕ) (old new : Devices) (before now : ℕ)
+pub unready_for : (base : Base) (rows : ℕ) (old new : TracesByName) (before now : ℕ)
     → IsLogKept (plant_text base.tags.items) (length base.tags.items) old new → IsUnopened base rows old new before now WantOfMemory
 unready_for base rows old new before now kept = record { cause = inr refl; kept = kept }

@@ -7,10 +7,10 @@ use Rattle.commit_log.specs.declared.history.LogTurn.TheVariants.{Put}
 use Rattle.commit_log.specs.declared.refusal.LogCommitNo.{LogCommitNo}
 use Rattle.commit_log.specs.declared.refusal.LogCommitNo.TheVariants.{Broken, DeviceFault, WantOfMemory as NoMemory}
 use Rattle.commit_log.specs.declared.refusal.PutRowNo.{PutRowNo}
-use Rattle.commit_log.specs.Told.{Told, put_refusal, waits}
+use Rattle.commit_log.specs.Told.{ToldLog, put_refusal, rows_waiting}
 use Rattle.plant_more.specs.declared.log_note.LogEnding.{LogEnding}
 use Rattle.plant_more.specs.LogNotes.{EndsAt, RefusesPut, ending_of_commit}
-use Rattle.plant_more.specs.LogTurns.{IsCommitted, IsPutAt, is_due, row_of}
+use Rattle.plant_more.specs.LogTurns.{IsCommitted, IsPutAt, is_commit_due, row_of}
 use Rattle.plant_more.proofs.LogCommitting.{none_committed}
 
 -- what holds of the row at a place is found there
@@ -21,7 +21,7 @@ found_at P (a ∷ xs) zero d within here = here
 found_at P (a ∷ xs) (suc i) d within here = found_at P xs i d (omega arith) here
 
 -- a row that the log refuses
-pub refused_at : (D : Type 0) (collector place : ℕ) (rows : List RawRow) (d : RawRow) (log : Told D) (why : PutRowNo)
+pub refused_at : (D : Type 0) (collector place : ℕ) (rows : List RawRow) (d : RawRow) (log : ToldLog D) (why : PutRowNo)
     → place < length rows → put_refusal log (row_of collector (place + 1) (get_or rows place d)) ≡ Some why
     → IsSomeAnd (slice_get rows place) (λ row. RefusesPut D why (row_of collector (place + 1) row))
 refused_at D collector place rows d log why within refused =
@@ -32,9 +32,9 @@ unlike : (b : Bool) → b ≡ true → b ≡ false → ⊥
 unlike b is isnt = cc
 
 -- a row that is put, and the commits behind it
-pub put_at : {D : Type 0} (collector place : ℕ) (rows : List RawRow) (d : RawRow) (old mid new : Told D) → place < length rows
+pub put_at : {D : Type 0} (collector place : ℕ) (rows : List RawRow) (d : RawRow) (old mid new : ToldLog D) → place < length rows
     → mid ≡ record old { tape = old.tape ++ Put (row_of collector (place + 1) (get_or rows place d)) ∷ [] }
-    → IsCommitted mid new → waits new ≡ 0 → is_due (place + 1) (length rows) ≡ true → IsPutAt collector rows place old new
+    → IsCommitted mid new → rows_waiting new ≡ 0 → is_commit_due (place + 1) (length rows) ≡ true → IsPutAt collector rows place old new
 put_at collector place rows d old mid new within appended committed none due = record {
   row = get_or rows place d;
   put = mid;
@@ -46,9 +46,9 @@ put_at collector place rows d old mid new within appended committed none due = r
 }
 
 -- one behind which no commit is due
-pub put_alone : {D : Type 0} (collector place : ℕ) (rows : List RawRow) (d : RawRow) (old new : Told D) → place < length rows
+pub put_alone : {D : Type 0} (collector place : ℕ) (rows : List RawRow) (d : RawRow) (old new : ToldLog D) → place < length rows
     → new ≡ record old { tape = old.tape ++ Put (row_of collector (place + 1) (get_or rows place d)) ∷ [] }
-    → is_due (place + 1) (length rows) ≡ false → IsPutAt collector rows place old new
+    → is_commit_due (place + 1) (length rows) ≡ false → IsPutAt collector rows place old new
 put_alone collector place rows d old new within appended due = record {
   row = get_or rows place d;
   put = new;
@@ -60,8 +60,8 @@ put_alone collector place rows d old new within appended due = record {
 }
 
 -- a commit that the log refuses
-pub refused_commit : (D : Type 0) (collector place : ℕ) (rows : List RawRow) (why : LogCommitNo) (log : Told D) (ending : LogEnding)
-    → place < length rows → is_due (place + 1) (length rows) ≡ true → (why ≢ NoMemory → log.failed ≡ true)
+pub refused_commit : (D : Type 0) (collector place : ℕ) (rows : List RawRow) (why : LogCommitNo) (log : ToldLog D) (ending : LogEnding)
+    → place < length rows → is_commit_due (place + 1) (length rows) ≡ true → (why ≢ NoMemory → log.failed ≡ true)
     → ending ≡ ending_of_commit why → EndsAt D collector rows place ending
 refused_commit D collector place rows why log ending within due broken is =
     subst (EndsAt D collector rows place) (sym is) (by_why why broken)

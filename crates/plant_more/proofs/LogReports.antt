@@ -14,12 +14,12 @@ use Rattle.tag_core.specs.Core.{Core}
 use Rattle.commit_log.specs.declared.history.LogTurn.{LogTurn}
 use Rattle.commit_log.specs.declared.history.LogTurn.TheVariants.{Put, Commit}
 use Rattle.commit_log.specs.declared.row.LogRow.{LogRow}
-use Rattle.commit_log.specs.Blocks.{IsRow}
-use Rattle.commit_log.specs.Images.{points_of}
+use Rattle.commit_log.specs.Blocks.{IsLogRow}
+use Rattle.commit_log.specs.Images.{log_points_of}
 use Rattle.commit_log.specs.Tapes.{puts}
 use Rattle.commit_log.proofs.Tapes.{puts-append}
 use Rattle.plant_status.proofs.Elements.{element}
-use Rattle.plant_more.specs.LogReports.{AreStanding, IsFull, history_of, origin_of}
+use Rattle.plant_more.specs.LogReports.{AreStanding, IsTagFull, log_history_of, log_origin_of}
 
 -- one event more
 followed-push : (h events : List Event) (e : Event) → followed h (events ++ e ∷ []) ≡ e ∷ followed h events
@@ -32,16 +32,16 @@ followed-length h [] = omega arith
 followed-length h (x ∷ events) = omega (arith, followed-length (x ∷ h) events)
 
 -- the points of a tag with one row more
-points_own : (tag : ℕ) (rows : List LogRow) (row : LogRow) → tag ≡ row.tag → points_of tag (rows ++ row ∷ []) ≡ points_of tag rows ++ row.point ∷ []
+points_own : (tag : ℕ) (rows : List LogRow) (row : LogRow) → tag ≡ row.tag → log_points_of tag (rows ++ row ∷ []) ≡ log_points_of tag rows ++ row.point ∷ []
 points_own tag rows row same =
     ap (map (λ (r : LogRow). r.point)) (filter-append (λ (r : LogRow). nat_eq r.tag tag) rows (row ∷ []))
     ∙ (map-append (λ (r : LogRow). r.point) (filter (λ r. nat_eq r.tag tag) rows) (filter (λ r. nat_eq r.tag tag) (row ∷ []))
-    ∙ ap (λ (l : List Point). points_of tag rows ++ l) own)
+    ∙ ap (λ (l : List Point). log_points_of tag rows ++ l) own)
   where
     own : map (λ (r : LogRow). r.point) (filter (λ r. nat_eq r.tag tag) (row ∷ [])) ≡ row.point ∷ []
     own = grind arith
 
-points_other : (tag : ℕ) (rows : List LogRow) (row : LogRow) → tag ≢ row.tag → points_of tag (rows ++ row ∷ []) ≡ points_of tag rows
+points_other : (tag : ℕ) (rows : List LogRow) (row : LogRow) → tag ≢ row.tag → log_points_of tag (rows ++ row ∷ []) ≡ log_points_of tag rows
 points_other tag rows row other =
     ap (map (λ (r : LogRow). r.point)) (filter-append (λ (r : LogRow). nat_eq r.tag tag) rows (row ∷ []) ∙ (ap (λ (l : List LogRow). filter (λ r. nat_eq r.tag tag) rows ++ l) none ∙ append-nil (filter (λ r. nat_eq r.tag tag) rows)))
   where
@@ -49,14 +49,14 @@ points_other tag rows row other =
     none = grind arith
 
 -- the history of its tag
-history_own : (tag : ℕ) (rows : List LogRow) (row : LogRow) → tag ≡ row.tag → history_of tag (rows ++ row ∷ []) ≡ Raw row.point ∷ history_of tag rows
+history_own : (tag : ℕ) (rows : List LogRow) (row : LogRow) → tag ≡ row.tag → log_history_of tag (rows ++ row ∷ []) ≡ Raw row.point ∷ log_history_of tag rows
 history_own tag rows row same =
     ap (λ (ps : List Point). followed [] (map Raw ps)) (points_own tag rows row same)
-    ∙ (ap (followed []) (map-append Raw (points_of tag rows) (row.point ∷ []))
-    ∙ followed-push [] (map Raw (points_of tag rows)) (Raw row.point))
+    ∙ (ap (followed []) (map-append Raw (log_points_of tag rows) (row.point ∷ []))
+    ∙ followed-push [] (map Raw (log_points_of tag rows)) (Raw row.point))
 
 -- and that of another one
-history_other : (tag : ℕ) (rows : List LogRow) (row : LogRow) → tag ≢ row.tag → history_of tag (rows ++ row ∷ []) ≡ history_of tag rows
+history_other : (tag : ℕ) (rows : List LogRow) (row : LogRow) → tag ≢ row.tag → log_history_of tag (rows ++ row ∷ []) ≡ log_history_of tag rows
 history_other tag rows row other = ap (λ (ps : List Point). followed [] (map Raw ps)) (points_other tag rows row other)
 
 -- no more elements pass a test than there are
@@ -70,12 +70,12 @@ filter_few p (x ∷ xs) = by_test (p x) refl (filter_few p xs)
 
 -- a tag has taken fewer values than can be counted
 pub taken_count : (tags : List TagDef) (rows : List LogRow) (cores : List Core) (place : ℕ) (d : LogRow) (core : Core)
-    → All (IsRow (length tags)) rows → place < length rows → AreStanding tags (take place rows) cores → place + 1 < 2 ^ 64
+    → All (IsLogRow (length tags)) rows → place < length rows → AreStanding tags (take place rows) cores → place + 1 < 2 ^ 64
     → (get_or cores (get_or rows place d).tag core).state.summary.taken < 18446744073709551615
 taken_count tags rows cores place d core all within standing small =
     let tag : ℕ = (get_or rows place d).tag in
     let there : tag < length tags = (all place d within).tag in
-    let points : List Point = points_of tag (take place rows) in
+    let points : List Point = log_points_of tag (take place rows) in
     omega (
       arith,
       (standing.stand tag (element tags tag there) core there).taken,
@@ -91,7 +91,7 @@ taken_count tags rows cores place d core all within standing small =
 pub standing_more : (tags : List TagDef) (rows more : List LogRow) (row : LogRow) (old new : List Core) (core : Core) → AreStanding tags rows old
     → row.tag < length tags → more ≡ rows ++ row ∷ [] → new ≡ slice_set old row.tag core
     → ((def : TagDef) → core.step ≡ (get_or tags row.tag def).step)
-    → ((def : TagDef) → Stands (origin_of (get_or tags row.tag def)) (Raw row.point ∷ history_of row.tag rows) core.state)
+    → ((def : TagDef) → Stands (log_origin_of (get_or tags row.tag def)) (Raw row.point ∷ log_history_of row.tag rows) core.state)
     → AreStanding tags more new
 standing_more tags rows more row old new core standing within more_is changed step stands = record {
   as_many = ap length changed ∙ (length-set old row.tag core ∙ standing.as_many);
@@ -114,7 +114,7 @@ standing_more tags rows more row old new core standing within more_is changed st
     step_of tag def d few (inr differs) = ap (λ (c : Core). c.step) (other tag d differs) ∙ standing.steps tag def d few
 
     stand_of : (tag : ℕ) (def : TagDef) (d : Core) → tag < length tags → (tag ≡ row.tag) ⊎ (tag ≢ row.tag)
-        → Stands (origin_of (get_or tags tag def)) (history_of tag (rows ++ row ∷ [])) (get_or new tag d).state
+        → Stands (log_origin_of (get_or tags tag def)) (log_history_of tag (rows ++ row ∷ [])) (get_or new tag d).state
     stand_of tag def d few (inl same) =
         rw (same, own d, history_own row.tag rows row refl) (stands def)
     stand_of tag def d few (inr differs) =
@@ -122,7 +122,7 @@ standing_more tags rows more row old new core standing within more_is changed st
 
 -- the core of the row at a place has taken its point
 pub row_taken : (tags : List TagDef) (rows : List LogRow) (cores : List Core) (place : ℕ) (d : LogRow) (old core : Core)
-    → All (IsRow (length tags)) rows → place < length rows → AreStanding tags (take place rows) cores
+    → All (IsLogRow (length tags)) rows → place < length rows → AreStanding tags (take place rows) cores
     → core.step ≡ (get_or cores (get_or rows place d).tag old).step
     → ((o : Origin) (h : List Event) → o.step ≡ (get_or cores (get_or rows place d).tag old).step
     → Stands o h (get_or cores (get_or rows place d).tag old).state → Stands o (Raw (get_or rows place d).point ∷ h) core.state)
@@ -133,14 +133,14 @@ row_taken tags rows cores place d old core all within standing step stands =
     standing_more tags (take place rows) (take (place + 1) rows) row cores (slice_set cores row.tag core) core standing there
     (take_more rows place d within) refl
     (λ def. step ∙ standing.steps row.tag def old there)
-    (λ def. stands (origin_of (get_or tags row.tag def)) (history_of row.tag (take place rows)) (sym (standing.steps row.tag def old there))
+    (λ def. stands (log_origin_of (get_or tags row.tag def)) (log_history_of row.tag (take place rows)) (sym (standing.steps row.tag def old there))
     (standing.stand row.tag def old there))
 
 -- the core of the row at a place could have too many records
 pub row_full : (tags : List TagDef) (rows : List LogRow) (cores : List Core) (place : ℕ) (d : LogRow) (old : Core) (number records : ℕ)
-    → All (IsRow (length tags)) rows → place < length rows → AreStanding tags (take place rows) cores → number ≡ records
+    → All (IsLogRow (length tags)) rows → place < length rows → AreStanding tags (take place rows) cores → number ≡ records
     → records ≡ length (get_or cores (get_or rows place d).tag old).state.records
-    → most_records < length (get_or cores (get_or rows place d).tag old).state.records + 2 → IsFull tags rows number
+    → most_records < length (get_or cores (get_or rows place d).tag old).state.records + 2 → IsTagFull tags rows number
 row_full tags rows cores place d old number records all within standing same records_are many =
     let row : LogRow = get_or rows place d in
     let there : row.tag < length tags = (all place d within).tag in
@@ -173,7 +173,7 @@ commit_more opening rows tape place moment acked d within is was =
 -- a core for one tag more
 pub fresh_more : (tags : List TagDef) (place : ℕ) (d : TagDef) (old new : List Core) (core : Core) → place < length tags
     → AreStanding (take place tags) [] old → new ≡ old ++ core ∷ [] → core.step ≡ (get_or tags place d).step
-    → Stands (origin_of (get_or tags place d)) [] core.state → AreStanding (take (place + 1) tags) [] new
+    → Stands (log_origin_of (get_or tags place d)) [] core.state → AreStanding (take (place + 1) tags) [] new
 fresh_more tags place d old new core few standing is step stands =
     rw (is, take_more tags place d few)
     (record {
@@ -194,7 +194,7 @@ fresh_more tags place d old new core few standing is step stands =
 
     stand_at : (tag : ℕ) (def : TagDef) (c : Core) → tag < length (take place tags ++ get_or tags place d ∷ [])
         → (tag < length (take place tags)) ⊎ (length (take place tags) ≤ tag)
-        → Stands (origin_of (get_or (take place tags ++ get_or tags place d ∷ []) tag def)) []
+        → Stands (log_origin_of (get_or (take place tags ++ get_or tags place d ∷ []) tag def)) []
         (get_or (old ++ core ∷ []) tag c).state
     stand_at tag def c within (inl less) =
         rw (get_or_append_left old (core ∷ []) c tag (omega (arith, less, standing.as_many)), get_or_append_left (take place tags) (get_or tags place d ∷ []) def tag less)

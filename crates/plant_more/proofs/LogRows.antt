@@ -10,7 +10,7 @@ use Rattle.std.proofs.lemmas.Option.{get_or_from_slice_get, slice_get-get_or, sl
 use Rattle.trend_num.specs.Ranges.{InRange}
 use Rattle.value_rows.specs.declared.raw.RawRow.{RawRow}
 use Rattle.commit_log.specs.declared.row.LogRow.{LogRow}
-use Rattle.plant_more.specs.LogNotes.{lists_of}
+use Rattle.plant_more.specs.LogNotes.{row_lists_of}
 use Rattle.plant_more.specs.LogTurns.{row_of}
 use Rattle.plant_status.proofs.Elements.{mapped_at}
 use Rattle.plant_more.specs.LogFinding.{rows_from, rows_in, seen_of}
@@ -49,7 +49,7 @@ pub row_past : (collector n place : ℕ) (rows : List RawRow) → length rows �
 row_past collector n place rows past = slice_get_past (rows_from collector n rows) place (omega (arith, rows_length collector n rows))
 
 -- how many files there are
-pub files_length : (files : List (Vec RawRow Global)) → length (lists_of files) ≡ length files
+pub files_length : (files : List (Vec RawRow Global)) → length (row_lists_of files) ≡ length files
 files_length files = simp length-map
 
 -- the rows of a collector that there is
@@ -60,9 +60,9 @@ rows_in_at files collector d few =
 
 -- the same, of the file itself
 pub rows_of_file : (files : List (Vec RawRow Global)) (collector : ℕ) (d : Vec RawRow Global) → collector < length files
-    → rows_in (lists_of files) collector ≡ rows_from collector 1 (get_or files collector d).items
+    → rows_in (row_lists_of files) collector ≡ rows_from collector 1 (get_or files collector d).items
 rows_of_file files collector d few =
-    rows_in_at (lists_of files) collector [] (omega (arith, files_length files))
+    rows_in_at (row_lists_of files) collector [] (omega (arith, files_length files))
     ∙ ap (rows_from collector 1) (mapped_at (λ (v : Vec RawRow Global). v.items) files collector d [] few)
 
 -- of a collector that there is not there are none
@@ -94,13 +94,13 @@ good_row tags collector place files row few good there within =
 
 -- how long the file of a collector is
 pub file_length : (files : List (Vec RawRow Global)) (collector : ℕ) (d : Vec RawRow Global) → collector < length files
-    → length (rows_in (lists_of files) collector) ≡ length (get_or files collector d).items
+    → length (rows_in (row_lists_of files) collector) ≡ length (get_or files collector d).items
 file_length files collector d few = ap length (rows_of_file files collector d few) ∙ rows_length collector 1 (get_or files collector d).items
 
 -- what stands at a place of the file of a collector
 pub next_is : (files : List (Vec RawRow Global)) (collector place : ℕ) (v : Vec RawRow Global) (rows : List RawRow) (o : Option LogRow)
     → collector < length files → v ≡ get_or files collector v → rows ≡ v.items → o ≡ slice_get (rows_from collector 1 rows) place
-    → slice_get (rows_in (lists_of files) collector) place ≡ o
+    → slice_get (rows_in (row_lists_of files) collector) place ≡ o
 next_is files collector place v rows o few file text is =
     ap (λ (l : List LogRow). slice_get l place) (rows_of_file files collector v few)
     ∙ (ap (λ (w : Vec RawRow Global). slice_get (rows_from collector 1 w.items) place) (sym file)
@@ -108,19 +108,19 @@ next_is files collector place v rows o few file text is =
 
 -- how many rows the first files and one more have
 pub total_front : (files : List (Vec RawRow Global)) (place : ℕ) (d : Vec RawRow Global) → place < length files
-    → total_rows (lists_of (take place files)) + length (get_or files place d).items ≤ total_rows (lists_of files)
+    → total_rows (row_lists_of (take place files)) + length (get_or files place d).items ≤ total_rows (row_lists_of files)
 total_front [] place d few = absurd (omega arith)
 total_front (v ∷ files) zero d few =
     let here : length (get_or (v ∷ files) zero d).items ≡ length v.items = refl in
-    let none : total_rows (lists_of (take zero (v ∷ files))) ≡ 0 = refl in
-    let all : total_rows (lists_of (v ∷ files)) ≡ length v.items + total_rows (lists_of files) = sum_by-cons length v.items (lists_of files) in
+    let none : total_rows (row_lists_of (take zero (v ∷ files))) ≡ 0 = refl in
+    let all : total_rows (row_lists_of (v ∷ files)) ≡ length v.items + total_rows (row_lists_of files) = sum_by-cons length v.items (row_lists_of files) in
     omega (arith, here, none, all)
 total_front (v ∷ files) (suc place) d few =
     let here : length (get_or (v ∷ files) (suc place) d).items ≡ length (get_or files place d).items = refl in
-    let front : total_rows (lists_of (take (suc place) (v ∷ files))) ≡ length v.items + total_rows (lists_of (take place files)) =
-    sum_by-cons length v.items (lists_of (take place files)) in
-    let all : total_rows (lists_of (v ∷ files)) ≡ length v.items + total_rows (lists_of files) = sum_by-cons length v.items (lists_of files) in
-    let rest : total_rows (lists_of (take place files)) + length (get_or files place d).items ≤ total_rows (lists_of files) =
+    let front : total_rows (row_lists_of (take (suc place) (v ∷ files))) ≡ length v.items + total_rows (row_lists_of (take place files)) =
+    sum_by-cons length v.items (row_lists_of (take place files)) in
+    let all : total_rows (row_lists_of (v ∷ files)) ≡ length v.items + total_rows (row_lists_of files) = sum_by-cons length v.items (row_lists_of files) in
+    let rest : total_rows (row_lists_of (take place files)) + length (get_or files place d).items ≤ total_rows (row_lists_of files) =
     total_front files place d (omega arith) in
     omega (arith, here, front, all, rest)
 
@@ -129,7 +129,7 @@ pub told_of : {a b : Option LogRow} → a ≡ b → unwrap_or (option_map seen_o
 told_of same = ap (λ (o : Option LogRow). unwrap_or (option_map seen_of o) Nothing) same
 
 -- the points of rows for so many tags are in range
-pub rows_in_range : (tags : ℕ) (files : List (Vec RawRow Global)) → AreRowsFor tags (lists_of files)
+pub rows_in_range : (tags : ℕ) (files : List (Vec RawRow Global)) → AreRowsFor tags (row_lists_of files)
     → All (λ rows. All (λ row. InRange row.point) rows.items) files
 rows_in_range tags files good = λ i d few j e less.
     let here : All (IsRowFor tags) (get_or files i d).items =

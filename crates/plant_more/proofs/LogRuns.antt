@@ -15,45 +15,45 @@ use Rattle.plant_status.specs.declared.unit.Unit.TheVariants.{Tag, Group, Log}
 use Rattle.commit_log.specs.declared.history.LogHistory.{LogHistory}
 use Rattle.commit_log.specs.declared.history.LogTurn.{LogTurn}
 use Rattle.commit_log.specs.declared.row.LogRow.{LogRow}
-use Rattle.commit_log.specs.Blocks.{IsRow}
-use Rattle.commit_log.specs.Images.{StandsFor}
-use Rattle.commit_log.specs.Tapes.{puts, start}
-use Rattle.commit_log.specs.Told.{IsHandedOut, Told}
+use Rattle.commit_log.specs.Blocks.{IsLogRow}
+use Rattle.commit_log.specs.Images.{StandsForRows}
+use Rattle.commit_log.specs.Tapes.{puts, log_begin}
+use Rattle.commit_log.specs.Told.{IsHandedOut, ToldLog}
 use Rattle.commit_log.proofs.Tapes.{fit_rows}
 use Rattle.plant_more.specs.declared.log_note.LogNote.{LogNote}
 use Rattle.plant_more.specs.declared.log_known.KnownLog.{KnownLog}
 use Rattle.plant_more.specs.declared.log_session.EndedLog.{EndedLog}
 use Rattle.plant_more.specs.LogFinding.{AreWhole}
-use Rattle.plant_more.specs.LogHeadline.{HasRisen, IsDone, IsEnded, IsHistoryOf, IsOpenedAs, IsRun, IsLogReported, IsUndone, OfReport, OfSettling}
+use Rattle.plant_more.specs.LogHeadline.{HasLogCountRisen, IsDone, IsEnded, IsHistoryOfLog, IsLogOpenedAs, IsRun, IsLogReported, IsUndone, OfReport, OfSettling}
 use Rattle.plant_more.specs.LogKnown.{IsAsKnown}
-use Rattle.plant_more.specs.LogOpenings.{AreOthersSame, Devices, IsLogOpened}
-use Rattle.plant_more.specs.LogRefusals.{IsMade, IsOfOpening, IsSettlingRefusal, OfCommit, OfFinding, OfMemory, OfOpening, OfPut, OfRest, OfStop}
-use Rattle.plant_more.specs.LogReports.{all_rows}
+use Rattle.plant_more.specs.LogOpenings.{AreOthersSame, TracesByName, IsLogOpened}
+use Rattle.plant_more.specs.LogRefusals.{ArePutsMade, IsOfOpening, IsSettlingRefusal, OfCommit, OfFinding, OfMemory, OfOpening, OfPut, OfRest, OfStop}
+use Rattle.plant_more.specs.LogReports.{log_rows}
 use Rattle.plant_more.specs.LogTexts.{log_name, plant_text}
 
 -- all rows of a legal history are of its tags
 pub rows_legal : (tags : ℕ) (h : LogHistory) (trace : Option Trace) (ticks faults : ℕ) → IsHandedOut h trace ticks faults → h.tags ≡ tags
-    → All (IsRow tags) (all_rows h)
+    → All (IsLogRow tags) (log_rows h)
 rows_legal tags h trace ticks faults is same =
-    subst (λ (n : ℕ). All (IsRow n) (all_rows h)) same
-    (All-append (IsRow h.tags) h.opening.items (puts h.tape.items) is.legal.opened
-    (fit_rows h.tags (start (length h.opening.items) h.moment) h.tape.items is.legal.turns))
+    subst (λ (n : ℕ). All (IsLogRow n) (log_rows h)) same
+    (All-append (IsLogRow h.tags) h.opening.items (puts h.tape.items) is.legal.opened
+    (fit_rows h.tags (log_begin (length h.opening.items) h.moment) h.tape.items is.legal.turns))
 
 -- so are those of a log that is done
 pub rows_known : {D : Type 0} (trace : D → Option Trace) (ticks faults : D → ℕ) (files : List (List RawRow)) (e : EndedLog D) (known : KnownLog)
     (tags before now : ℕ) → IsEnded trace ticks faults files known before now e → known.tags ≡ tags
-    → OnOk e.answer (All (IsRow tags) (all_rows e.history))
+    → OnOk e.answer (All (IsLogRow tags) (log_rows e.history))
 rows_known {D} trace ticks faults files e known tags before now ended same = by_answer e.answer refl
   where
-    rows : IsAsKnown ended.log known → All (IsRow tags) (all_rows e.history)
+    rows : IsAsKnown ended.log known → All (IsLogRow tags) (log_rows e.history)
     rows found = rows_legal tags e.history (trace e.dev) (ticks e.dev) (faults e.dev) ended.history (ended.history_is.tags ∙ (found.tags ∙ same))
 
-    by_answer : (came : Result Unit Status) → e.answer ≡ came → OnOk came (All (IsRow tags) (all_rows e.history))
+    by_answer : (came : Result Unit Status) → e.answer ≡ came → OnOk came (All (IsLogRow tags) (log_rows e.history))
     by_answer (Err why) is = tt
     by_answer (Ok x) is = rows (ended.as_known (λ of. subst (λ (r : Result Unit Status). IsOfOpening r) is of))
 
 -- a fault of a device is told where it has counted one
-fault_of_unit : {D : Type 0} (faults : D → ℕ) (files : List (List RawRow)) (notes : List LogNote) (known : KnownLog) (l : Told D) (unit : Device)
+fault_of_unit : {D : Type 0} (faults : D → ℕ) (files : List (List RawRow)) (notes : List LogNote) (known : KnownLog) (l : ToldLog D) (unit : Device)
     → IsSettlingRefusal faults files notes known l (DeviceFault unit) → 0 < faults l.dev
 fault_of_unit faults files notes known l unit (OfOpening is) = absurd is.first
 fault_of_unit faults files notes known l unit (OfFinding kept is) = absurd is
@@ -67,7 +67,7 @@ fault_of_unit faults files notes known l (Group n) (OfRest kept (OfCommit unstop
 fault_of_unit faults files notes known l unit (OfMemory same) = cc same
 
 -- a sum of counts is above the first one, or at the end of the type
-risen_sum : (before faults now : ℕ) → before < 2 ^ 64 → 0 < faults → now ≡ sum_of_counts before faults → HasRisen before now
+risen_sum : (before faults now : ℕ) → before < 2 ^ 64 → 0 < faults → now ≡ sum_of_counts before faults → HasLogCountRisen before now
 risen_sum before faults now small some is = elim (cases_lt before (2 ^ 64 - 1)) [
   | inl less ↦ inl (omega (arith, less, is, some))
   | inr most ↦ inr (omega (arith, most, is, some))
@@ -80,10 +80,10 @@ module _ (base : Base) (h : LogHistory) where
   opening_told (Ok x) told is of = absurd of
   opening_told (Err why) told is of = subst (λ (r : Result (String Global) Status). IsOfOpening r) (sym is.refused) of
 
-  module _ {D : Type 0} (rows : List (List RawRow)) (log : Told D) where
+  module _ {D : Type 0} (rows : List (List RawRow)) (log : ToldLog D) where
     -- a text is told of a log that is done
-    done_told : (came : Result Unit Status) (told : Result (String Global) Status) → IsLogReported base h came told → IsHistoryOf log h
-        → OnOk came (IsMade rows log) → IfOk told (λ text. IsDone base rows h (string_bytes text))
+    done_told : (came : Result Unit Status) (told : Result (String Global) Status) → IsLogReported base h came told → IsHistoryOfLog log h
+        → OnOk came (ArePutsMade rows log) → IfOk told (λ text. IsDone base rows h (string_bytes text))
     done_told (Ok x) (Ok text) is history made = record {
       whole = subst (λ (l : List LogTurn). AreWhole rows l) (sym history.tape) made.whole;
       acknowledged = omega (arith, made.none_waits, ap length history.opening, ap (λ (l : List LogTurn). length (puts l)) history.tape, history.acked);
@@ -96,7 +96,7 @@ module _ (base : Base) (h : LogHistory) where
     module _ (faults : D → ℕ) (notes : List LogNote) (known : KnownLog) where
       -- and a cause where there is none
       undone_told : (came : Result Unit Status) (told : Result (String Global) Status) → IsLogReported base h came told
-          → OnOk came (IsMade rows log) → IfErr came (IsSettlingRefusal faults rows notes known log)
+          → OnOk came (ArePutsMade rows log) → IfErr came (IsSettlingRefusal faults rows notes known log)
           → IfErr told (IsUndone faults base rows notes known log h)
       undone_told (Ok x) (Ok text) is made refused = tt
       undone_told (Ok x) (Err why) is made refused = OfReport made is.untold
@@ -114,7 +114,7 @@ module _ (base : Base) (h : LogHistory) where
 
       faults_told : (told : Result (String Global) Status) (before now : ℕ) → IfErr told (IsUndone faults base rows notes known log h)
           → before < 2 ^ 64 → now ≡ sum_of_counts before (faults log.dev)
-          → IfErr told (λ why. (unit : Device) → why ≡ DeviceFault unit → HasRisen before now)
+          → IfErr told (λ why. (unit : Device) → why ≡ DeviceFault unit → HasLogCountRisen before now)
       faults_told (Ok text) before now undone small is = tt
       faults_told (Err why) before now undone small is =
           λ unit same. risen_sum before (faults log.dev) now small
@@ -128,7 +128,7 @@ counted_once before faults now small (inr one) is = inr (omega arith)
 
 -- the log that was held, and what is answered of it
 pub is_run : {D : Type 0} (trace : D → Option Trace) (ticks faults : D → ℕ) (base : Base) (rows : List (List RawRow)) (known : KnownLog)
-    (first : Told D) (e : EndedLog D) (old mid new : Devices) (before now stops_before stops_now : ℕ) (answer : Result (String Global) Status)
+    (first : ToldLog D) (e : EndedLog D) (old mid new : TracesByName) (before now stops_before stops_now : ℕ) (answer : Result (String Global) Status)
     → IsEnded trace ticks faults rows known stops_before stops_now e
     → IsLogOpened trace ticks faults (plant_text base.tags.items) (length base.tags.items) (old log_name) first
     → IsAsKnown first known → known.plant.items ≡ plant_text base.tags.items → known.tags ≡ length base.tags.items
@@ -159,7 +159,7 @@ is_run {D} trace ticks faults base rows known first e old mid new before now sto
       };
     }
   where
-    is : IsHistoryOf ended.log e.history
+    is : IsHistoryOfLog ended.log e.history
     is = ended.history_is
 
     total : now ≡ sum_of_counts before (faults ended.log.dev)
@@ -171,13 +171,13 @@ is_run {D} trace ticks faults base rows known first e old mid new before now sto
     as_known : (IsOfOpening answer → ⊥) → IsAsKnown ended.log known
     as_known other = ended.as_known (λ of. other (opening_told base e.history e.answer answer told of))
 
-    opened_as : (IsOfOpening answer → ⊥) → IsOpenedAs base (old log_name) e.history
+    opened_as : (IsOfOpening answer → ⊥) → IsLogOpenedAs base (old log_name) e.history
     opened_as other =
         let found : IsAsKnown ended.log known = as_known other in
         record {
           plant = is.plant ∙ (found.plant ∙ plant);
           tags = is.tags ∙ (found.tags ∙ tags);
-          opening = subst (λ (l : List LogRow). Shows (old log_name) (λ c. StandsFor (plant_text base.tags.items) (length base.tags.items) c l))
+          opening = subst (λ (l : List LogRow). Shows (old log_name) (λ c. StandsForRows (plant_text base.tags.items) (length base.tags.items) c l))
               (kept.rows ∙ (sym found.rows ∙ sym is.opening)) opened.rows;
         }
 

@@ -7,7 +7,7 @@ use Rattle.value_rows.specs.declared.raw.RawRow.{RawRow}
 use Rattle.plant_status.proofs.Elements.{element, mapped_at, mapped_length}
 use Rattle.plant_more.specs.declared.log_note.LogNote.{LogNote}
 use Rattle.plant_more.specs.declared.log_worker.LogWorker.{LogWorker}
-use Rattle.plant_more.specs.LogNotes.{AreLogNotesOf, IsNoteOf, halts, lists_of}
+use Rattle.plant_more.specs.LogNotes.{AreLogNotesOf, IsNoteOf, halts, row_lists_of}
 use Rattle.plant_more.specs.LogCrew.{AreDone, AreSeated, IsReady}
 
 -- no one is in the crew yet
@@ -60,9 +60,9 @@ notes_of {O} D stops files old new notes seated count same done are = record {
 -- the same over the files of collectors
 pub all_notes : {O : Type 0} (D : Type 0) (stops : O → ℕ) (collectors : List (Vec RawRow Global)) (old new : List (LogWorker O))
     (notes : List LogNote) → AreSeated stops old → length old ≡ length collectors → length new ≡ length old
-    → AreDone D stops (lists_of collectors) old new → notes ≡ map (λ s. s.note) new → AreLogNotesOf D (lists_of collectors) notes
+    → AreDone D stops (row_lists_of collectors) old new → notes ≡ map (λ s. s.note) new → AreLogNotesOf D (row_lists_of collectors) notes
 all_notes D stops collectors old new notes seated count same done are =
-    notes_of D stops (lists_of collectors) old new notes seated (count ∙ sym (mapped_length (λ (v : Vec RawRow Global). v.items) collectors))
+    notes_of D stops (row_lists_of collectors) old new notes seated (count ∙ sym (mapped_length (λ (v : Vec RawRow Global). v.items) collectors))
     same done are
 
 -- the pass of each of a crew has stopped its worker as often as the note says

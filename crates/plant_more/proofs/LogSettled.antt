@@ -9,7 +9,7 @@ use Rattle.value_rows.specs.declared.raw.RawRow.{RawRow}
 use Rattle.commit_log.specs.declared.history.LogTurn.{LogTurn}
 use Rattle.commit_log.specs.declared.history.LogTurn.TheVariants.{Put, Commit}
 use Rattle.commit_log.specs.Tapes.{puts}
-use Rattle.commit_log.specs.Told.{Told, waits}
+use Rattle.commit_log.specs.Told.{ToldLog, rows_waiting}
 use Rattle.commit_log.proofs.Tapes.{puts-append}
 use Rattle.plant_more.specs.declared.log_note.LogNote.{LogNote}
 use Rattle.plant_more.specs.LogTurns.{IsCommit, IsCommitted}
@@ -18,14 +18,14 @@ use Rattle.plant_more.specs.LogFinding.{AreWhole, rows_by}
 use Rattle.commit_log.specs.declared.row.LogRow.{LogRow}
 use Rattle.plant_more.specs.LogKnown.{FirstDiffer, IsAsKnown, IsLogMismatch, found_numbers, known_numbers}
 use Rattle.plant_more.specs.LogMaking.{AreRowsFor, IsCommitRefusal}
-use Rattle.plant_more.specs.LogRefusals.{AreUnstopped, IsMade, IsOpening, IsRestRefusal, OfCommit}
+use Rattle.plant_more.specs.LogRefusals.{AreUnstopped, ArePutsMade, IsOpening, IsRestRefusal, OfCommit}
 
 -- a log that differs from what was kept is told as an opening
 opening_of : (found wanted : List ℕ) (why : Status) → FirstDiffer found wanted why → IsOpening why
 opening_of found wanted (Mismatch (Opening unit) kept told) is = tt
 opening_of found wanted other is = absurd is
 
-pub mismatch_is_opening : {D : Type 0} (l : Told D) (k : KnownLog) (why : Status) → IsLogMismatch l k why → IsOpening why
+pub mismatch_is_opening : {D : Type 0} (l : ToldLog D) (k : KnownLog) (why : Status) → IsLogMismatch l k why → IsOpening why
 mismatch_is_opening l k why is = opening_of (found_numbers l is.text is.rows) (known_numbers k) why is.first
 
 -- commits put no row
@@ -35,24 +35,24 @@ no_puts (Put row ∷ es) all = absurd (all 0 (Put row) (omega arith))
 no_puts (Commit moment acked ∷ es) all = no_puts es (λ k d few. all (suc k) d (omega arith))
 
 -- so rows that were put are the same behind them
-whole_on : {D : Type 0} (files : List (List RawRow)) (old new : Told D) → IsCommitted old new → AreWhole files old.tape → AreWhole files new.tape
+whole_on : {D : Type 0} (files : List (List RawRow)) (old new : ToldLog D) → IsCommitted old new → AreWhole files old.tape → AreWhole files new.tape
 whole_on files old new is whole = λ collector.
     ap (λ (l : List LogTurn). rows_by collector (puts l)) is.tape
     ∙ (ap (rows_by collector) (puts-append old.tape is.more ∙ (ap (λ (l : List LogRow). puts old.tape ++ l) (no_puts is.more is.each)
     ∙ append-nil (puts old.tape))) ∙ whole collector)
 
--- a log of which all rows were put, once none waits
-pub made_on : {D E : Type 0} (files : List (List RawRow)) (old new : Told D) (r : Result Unit E) → IsCommitted old new → AreWhole files old.tape
-    → OnOk r (waits new ≡ 0) → OnOk r (IsMade files new)
+-- a log of which all rows were put, once none rows_waiting
+pub made_on : {D E : Type 0} (files : List (List RawRow)) (old new : ToldLog D) (r : Result Unit E) → IsCommitted old new → AreWhole files old.tape
+    → OnOk r (rows_waiting new ≡ 0) → OnOk r (ArePutsMade files new)
 made_on files old new (Ok x) is whole none = record { whole = whole_on files old new is whole; none_waits = none }
 made_on files old new (Err why) is whole none = tt
 
 -- why rows are not acknowledged
-pub commit_refused : {D : Type 0} (faults : D → ℕ) (files : List (List RawRow)) (notes : List LogNote) (l : Told D) (r : Result Unit Status)
+pub commit_refused : {D : Type 0} (faults : D → ℕ) (files : List (List RawRow)) (notes : List LogNote) (l : ToldLog D) (r : Result Unit Status)
     → AreUnstopped notes → IfErr r (IsCommitRefusal faults l) → IfErr r (IsRestRefusal faults files notes l)
 commit_refused faults files notes l (Ok x) unstopped is = tt
 commit_refused faults files notes l (Err why) unstopped is = OfCommit unstopped is
 
 -- rows for a log that is as it was kept
-pub rows_on : {D : Type 0} (files : List (List RawRow)) (l : Told D) (k : KnownLog) → IsAsKnown l k → AreRowsFor k.tags files → AreRowsFor l.tags files
+pub rows_on : {D : Type 0} (files : List (List RawRow)) (l : ToldLog D) (k : KnownLog) → IsAsKnown l k → AreRowsFor k.tags files → AreRowsFor l.tags files
 rows_on files l k is rows = subst (λ (n : ℕ). AreRowsFor n files) (sym is.tags) rows

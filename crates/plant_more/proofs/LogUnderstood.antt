@@ -14,12 +14,12 @@ use Rattle.plant_status.specs.declared.status.Status.TheVariants.{BadWords, Done
 use Rattle.commit_log.specs.declared.history.LogHistory.{LogHistory}
 use Rattle.commit_log.specs.declared.refusal.LogNo.{LogNo}
 use Rattle.commit_log.specs.declared.refusal.LogNo.TheVariants as no
-use Rattle.commit_log.specs.Told.{Told}
+use Rattle.commit_log.specs.Told.{ToldLog}
 use Rattle.plant_more.specs.declared.log_note.LogNote.{LogNote}
 use Rattle.plant_more.specs.declared.log_known.KnownLog.{KnownLog}
 use Rattle.plant_more.specs.LogHeadline.{IsOfOthers, IsRun, IsUndone, IsUnopened, OfReport, OfSettling}
 use Rattle.plant_more.specs.LogMaking.{total_rows}
-use Rattle.plant_more.specs.LogOpenings.{Devices, IsOpeningRefusal, status_of}
+use Rattle.plant_more.specs.LogOpenings.{TracesByName, IsOpeningRefusal, status_of}
 use Rattle.plant_more.specs.LogRefusals.{IsSettlingRefusal, OfCommit, OfFinding, OfMemory, OfOpening, OfPut, OfRest, OfStop}
 use Rattle.plant_more.specs.LogTexts.{log_name, plant_text}
 
@@ -49,7 +49,7 @@ no_status (no.OtherPlant at) of = of
 no_status (no.TooMany rows) of = of
 no_status no.WantOfMemory of = of
 
-pub no_opening : (base : Base) (rows : ℕ) (old new : Devices) (before now : ℕ) (why : Status) → IsUnopened base rows old new before now why
+pub no_opening : (base : Base) (rows : ℕ) (old new : TracesByName) (before now : ℕ) (why : Status) → IsUnopened base rows old new before now why
     → IsOfOthers why → ⊥
 no_opening base rows old new before now why is of = by_cause is.cause
   where
@@ -58,7 +58,7 @@ no_opening base rows old new before now why is of = by_cause is.cause
     by_cause (inr same) = subst IsOfOthers same of
 
 -- nor is one that was held
-module _ {D : Type 0} (faults : D → ℕ) (files : List (List RawRow)) (notes : List LogNote) (known : KnownLog) (l : Told D) where
+module _ {D : Type 0} (faults : D → ℕ) (files : List (List RawRow)) (notes : List LogNote) (known : KnownLog) (l : ToldLog D) where
   no_settling : (why : Status) → IsSettlingRefusal faults files notes known l why → IsOfOthers why → ⊥
   no_settling Done (OfOpening is) of = is.first
   no_settling Done (OfFinding kept is) of = is
@@ -87,7 +87,7 @@ module _ {D : Type 0} (faults : D → ℕ) (files : List (List RawRow)) (notes :
   no_undone base h WriteFault (OfReport made is) of = is
   no_undone base h other (OfReport made is) of = absurd of
 
-pub no_run : {D : Type 0} (trace : D → Option Trace) (ticks faults : D → ℕ) (base : Base) (rows : List (List RawRow)) (old new : Devices)
+pub no_run : {D : Type 0} (trace : D → Option Trace) (ticks faults : D → ℕ) (base : Base) (rows : List (List RawRow)) (old new : TracesByName)
     (before now stops_before stops_now : ℕ) (answer : Result (String Global) Status) (h : LogHistory)
     → IsRun trace ticks faults base rows old new before now stops_before stops_now answer h
     → IfErr answer (λ why. IsOfOthers why → ⊥)
@@ -112,7 +112,7 @@ read_status no.WantOfMemory which same = cc same
 memory_is_none : (which : FileId) → WantOfMemory ≡ ReadFault which → ⊥
 memory_is_none which same = cc same
 
-pub no_read_fault : (base : Base) (rows : ℕ) (old new : Devices) (before now : ℕ) (why : Status)
+pub no_read_fault : (base : Base) (rows : ℕ) (old new : TracesByName) (before now : ℕ) (why : Status)
     → IsUnopened base rows old new before now why → (which : FileId) → why ≢ ReadFault which
 no_read_fault base rows old new before now why is which same = by_cause is.cause
   where
@@ -128,7 +128,7 @@ none_read (no.OtherPlant at) n = refl
 none_read (no.TooMany rows) n = refl
 none_read no.WantOfMemory n = refl
 
-pub after_unopened : (base : Base) (rows : ℕ) (old new : Devices) (before now : ℕ) (answer : Result (String Global) Status) (n : ℕ)
+pub after_unopened : (base : Base) (rows : ℕ) (old new : TracesByName) (before now : ℕ) (answer : Result (String Global) Status) (n : ℕ)
     → IfErr answer (IsUnopened base rows old new before now) → faults_after answer n ≡ n
 after_unopened base rows old new before now (Ok text) n is = refl
 after_unopened base rows old new before now (Err why) n is = by_cause is.cause
@@ -139,7 +139,7 @@ after_unopened base rows old new before now (Err why) n is = by_cause is.cause
     by_cause (inr memory) = subst (λ (s : Status). faults_told s n ≡ n) (sym memory) refl
 
 -- what the whole command answers
-pub understood : {D : Type 0} (trace : D → Option Trace) (ticks faults : D → ℕ) (base : Base) (rows : List (List RawRow)) (old new : Devices)
+pub understood : {D : Type 0} (trace : D → Option Trace) (ticks faults : D → ℕ) (base : Base) (rows : List (List RawRow)) (old new : TracesByName)
     (before now stops_before stops_now : ℕ) (answer : Result (String Global) Status) (log : Option LogHistory)
     → IfSome log (IsRun trace ticks faults base rows old new before now stops_before stops_now answer)
     → (log ≡ None → IfErr answer (IsUnopened base (total_rows rows) old new before now)) → IfErr answer (λ why. IsOfOthers why → ⊥)

@@ -9,7 +9,7 @@ use Rattle.plant_status.specs.declared.status.Status.{Status}
 use Rattle.plant_status.specs.declared.status.Status.TheVariants.{ReadFault}
 use Rattle.plant_files.specs.Texts.{IsBaseRefusal}
 use Rattle.plant_store.specs.TagRefusals.{IsRefusal}
-use Rattle.plant_store.specs.Groups.{Devices}
+use Rattle.plant_store.specs.Groups.{DeviceTraces}
 use Rattle.plant_more.specs.CalendarFile.{IsCalendarRefusal}
 use Rattle.plant_more.specs.Shifts.{IsCommandRefusal, IsFaultOfRead}
 
@@ -30,7 +30,7 @@ own_calendar names t why refused = record {
 }
 
 -- and that of a tag
-pub own_tag : (tags : List TagDef) (old new : Devices) (before now : ℕ) (why : Status) → IsRefusal tags old new before now why
+pub own_tag : (tags : List TagDef) (old new : DeviceTraces) (before now : ℕ) (why : Status) → IsRefusal tags old new before now why
     → IsCommandRefusal why
 own_tag tags old new before now why refused = record {
   no_end = λ is. subst (IsRefusal tags old new before now) is refused;

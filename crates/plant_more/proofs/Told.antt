@@ -10,7 +10,7 @@ use Rattle.plant_files.specs.Asked.{ToldFiles}
 use Rattle.plant_files.specs.Reading.{faults_after, faults_told}
 use Rattle.plant_files.specs.Printing.{IsPrintedSo, IsTold}
 use Rattle.plant_store.specs.OpenedBases.{CountsDevices}
-use Rattle.plant_store.specs.Groups.{Devices}
+use Rattle.plant_store.specs.Groups.{DeviceTraces}
 use Rattle.plant_more.specs.Shifts.{IsShiftsRefusal, OfBase, OfCalendar, OfTag, OfMemory}
 use Rattle.plant_more.specs.Endings.{CountsFor}
 
@@ -57,7 +57,7 @@ counts_so IsRefusal before now (Err why) status old new counts refusal rose prin
     of_refusal (BadName word) is counts = same (BadName word) (λ i e. cc) counts
 
 -- a refusal of `shifts` is not Done, and no fault of the output; a device fault is told where one was counted
-module _ (name calendar : List ℕ) (told : ToldFiles) (old new : Devices) (before now : ℕ) where
+module _ (name calendar : List ℕ) (told : ToldFiles) (old new : DeviceTraces) (before now : ℕ) where
   pub shifts_not_done : IsShiftsRefusal name calendar told old new before now Done → ⊥
   shifts_not_done (OfBase refused same) = refused
   shifts_not_done (OfCalendar base read refused same) = refused

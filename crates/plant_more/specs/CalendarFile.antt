@@ -8,13 +8,13 @@ use Rattle.plant_status.specs.declared.status.Status.{Status}
 use Rattle.plant_status.specs.declared.status.Status.TheVariants.{BadText, Limit, ReadFault, WantOfMemory}
 use Rattle.plant_files.specs.Reading.{IsReadWholeAs, IsTooLong}
 use Rattle.plant_files.specs.Texts.{most_text_bytes}
-use Rattle.shift_calendar.specs.Calendars.{Parts, calendar, form_of}
+use Rattle.shift_calendar.specs.Calendars.{CalendarParts, calendar, calendar_form_of}
 use Rattle.shift_calendar.specs.declared.refusal.CalNo.{CalNo}
 use Rattle.shift_calendar.specs.declared.refusal.CalNo.TheVariants as no
 
 -- the calendar that a file spells over the names of tags
-abbrev pub IsCalendarFile : List (List ℕ) → FileTold → Parts → Type 0
-IsCalendarFile names told cal = IsReadWholeAs told most_text_bytes (λ bytes. calendar names bytes ≡ Ok (form_of cal))
+abbrev pub IsCalendarFile : List (List ℕ) → FileTold → CalendarParts → Type 0
+IsCalendarFile names told cal = IsReadWholeAs told most_text_bytes (λ bytes. calendar names bytes ≡ Ok (calendar_form_of cal))
 
 -- its text breaks this rule first. A rule of a calendar is of the whole text: no table and no place in it is told
 pub record IsBadCalendar (names : List (List ℕ)) (told : FileTold) (which : FileId) (rule place at : ℕ) : Type 0 where

@@ -8,7 +8,7 @@ use Rattle.plant_files.specs.Asked.{ToldFiles}
 use Rattle.plant_files.specs.Reading.{faults_told}
 use Rattle.plant_files.specs.Printing.{IsTold, PrintsSo, WhereDone}
 use Rattle.plant_store.specs.OpenedBases.{AreKept, IsDurable}
-use Rattle.plant_store.specs.Groups.{Devices}
+use Rattle.plant_store.specs.Groups.{DeviceTraces}
 use Rattle.shift_calendar.specs.Days.{IsDayWord, IsFirstDay}
 use Rattle.plant_more.specs.Shifts.{IsFaultOfRead, IsShifts, IsShiftsRefusal}
 use Rattle.plant_more.specs.Words.{AskedShifts}
@@ -20,10 +20,10 @@ pub record Scene : Type 0 where
   pub files : ToldFiles
   pub file_faults : ℕ
   pub failed_name : Option (List ℕ)
-  pub devices : Devices
+  pub devices : DeviceTraces
   pub device_faults : ℕ
 
-abbrev pub scene : Outside → ToldFiles → ℕ → Option (List ℕ) → Devices → ℕ → Scene
+abbrev pub scene : Outside → ToldFiles → ℕ → Option (List ℕ) → DeviceTraces → ℕ → Scene
 scene output files file_faults failed_name devices device_faults = record {
   output = output;
   files = files;
@@ -78,6 +78,6 @@ EndsOfShifts (Some asked) before now status = ((day : ℤ) × EndsFrom asked day
     ⊎ (IsNoDay asked.day × (status ≡ BadWords) × IsUnread before now status)
 
 -- the devices after it: those of the base are kept, or all are as they were
-abbrev pub KeepsForShifts : Option AskedShifts → ToldFiles → Devices → Devices → Type 0
+abbrev pub KeepsForShifts : Option AskedShifts → ToldFiles → DeviceTraces → DeviceTraces → Type 0
 KeepsForShifts None files old new = new ≡ old
 KeepsForShifts (Some asked) files old new = AreKept asked.base files old new

@@ -12,24 +12,24 @@ use Rattle.plant_status.specs.declared.unit.Unit.{Unit as Device}
 use Rattle.plant_files.specs.RowFiles.{ToldFiles}
 use Rattle.plant_files.specs.PlanRows.{IsCollected, IsCollectingRefusal}
 use Rattle.commit_log.specs.declared.history.LogHistory.{LogHistory}
-use Rattle.commit_log.specs.Images.{StandsFor}
+use Rattle.commit_log.specs.Images.{StandsForRows}
 use Rattle.commit_log.specs.Tapes.{puts}
-use Rattle.commit_log.specs.Told.{IsHandedOut, Told}
+use Rattle.commit_log.specs.Told.{IsHandedOut, ToldLog}
 use Rattle.plant_more.specs.declared.log_note.LogNote.{LogNote}
 use Rattle.plant_more.specs.declared.log_known.KnownLog.{KnownLog}
 use Rattle.plant_more.specs.declared.log_session.EndedLog.{EndedLog}
 use Rattle.plant_more.specs.LogFinding.{AreWhole}
 use Rattle.plant_more.specs.LogKnown.{IsAsKnown}
 use Rattle.plant_more.specs.LogMaking.{total_rows}
-use Rattle.plant_more.specs.LogOpenings.{AreOthersSame, Devices, IsLogKept, IsLogOpened, IsOpeningRefusal}
-use Rattle.plant_more.specs.LogRefusals.{AreNotes, IsMade, IsOfOpening, IsSettlingRefusal}
-use Rattle.plant_more.specs.LogReports.{IsReportRefusal, IsToldOf, all_rows}
+use Rattle.plant_more.specs.LogOpenings.{AreOthersSame, TracesByName, IsLogKept, IsLogOpened, IsOpeningRefusal}
+use Rattle.plant_more.specs.LogRefusals.{AreNotes, ArePutsMade, IsOfOpening, IsSettlingRefusal}
+use Rattle.plant_more.specs.LogReports.{IsReportRefusal, IsLineToldOf, log_rows}
 use Rattle.plant_more.specs.LogTexts.{log_name, plant_text}
 
 -- ---- a log at its end
 
 -- this is the history of a log
-pub record IsHistoryOf {D : Type 0} (l : Told D) (h : LogHistory) : Type 0 where
+pub record IsHistoryOfLog {D : Type 0} (l : ToldLog D) (h : LogHistory) : Type 0 where
   pub plant : h.plant.items ≡ l.plant
   pub tags : h.tags ≡ l.tags
   pub opening : h.opening.items ≡ l.opening
@@ -42,13 +42,13 @@ pub record IsHistoryOf {D : Type 0} (l : Told D) (h : LogHistory) : Type 0 where
 -- had to do, or why it has not. Unless its opening is told to be another, it is as it was kept.
 pub record IsEnded {D : Type 0} (trace : D → Option Trace) (ticks faults : D → ℕ) (files : List (List RawRow)) (known : KnownLog)
     (before now : ℕ) (e : EndedLog D) : Type 0 where
-  pub log : Told D
+  pub log : ToldLog D
   pub notes : List LogNote
   pub device : e.dev ≡ log.dev
-  pub history_is : IsHistoryOf log e.history
+  pub history_is : IsHistoryOfLog log e.history
   pub history : IsHandedOut e.history (trace e.dev) (ticks e.dev) (faults e.dev)
   pub notes_are : AreNotes D files before now notes
-  pub made : OnOk e.answer (IsMade files log)
+  pub made : OnOk e.answer (ArePutsMade files log)
   pub as_known : (IsOfOpening e.answer → ⊥) → IsAsKnown log known
   pub refused : IfErr e.answer (IsSettlingRefusal faults files notes known log)
 
@@ -56,13 +56,13 @@ pub record IsEnded {D : Type 0} (trace : D → Option Trace) (ticks faults : D �
 
 -- Why the log of a base is not opened for so many rows: its device is not, or memory is wanting. No device but that of the log has
 -- changed, and a crash at any moment since leaves of it what one before might have left, or what stands for the same rows.
-pub record IsUnopened (base : Base) (rows : ℕ) (old new : Devices) (before now : ℕ) (why : Status) : Type 0 where
+pub record IsUnopened (base : Base) (rows : ℕ) (old new : TracesByName) (before now : ℕ) (why : Status) : Type 0 where
   pub cause : IsOpeningRefusal (plant_text base.tags.items) (length base.tags.items) rows (old log_name) before now why
       ⊎ (why ≡ WantOfMemory)
   pub kept : IsLogKept (plant_text base.tags.items) (length base.tags.items) old new
 
 -- why no collector began: a file is refused, and no device has changed; or the log is not opened
-pub data IsUnlogged (name plan_name : List ℕ) (told : ToldFiles) (old new : Devices) (before now : ℕ) (why : Status) : Type 0 where
+pub data IsUnlogged (name plan_name : List ℕ) (told : ToldFiles) (old new : TracesByName) (before now : ℕ) (why : Status) : Type 0 where
   OfFiles : IsCollectingRefusal name plan_name told why → ((n : List ℕ) → new n ≡ old n)
       → IsUnlogged name plan_name told old new before now why
   OfOpening : (base : Base) (plan : Plan) (rows : List (List RawRow)) → IsCollected name plan_name told base plan rows
@@ -75,29 +75,29 @@ pub data IsUnlogged (name plan_name : List ℕ) (told : ToldFiles) (old new : De
 pub record IsDone (base : Base) (rows : List (List RawRow)) (h : LogHistory) (text : List ℕ) : Type 0 where
   pub whole : AreWhole rows h.tape.items
   pub acknowledged : length h.opening.items + length (puts h.tape.items) ≤ h.acked
-  pub told : IsToldOf base.tags.items (all_rows h) text
+  pub told : IsLineToldOf base.tags.items (log_rows h) text
 
 -- the log is that of a base, and its opening has the rows for which its device, whose calls were these, stood before
-pub record IsOpenedAs (base : Base) (before : Option Trace) (h : LogHistory) : Type 0 where
+pub record IsLogOpenedAs (base : Base) (before : Option Trace) (h : LogHistory) : Type 0 where
   pub plant : h.plant.items ≡ plant_text base.tags.items
   pub tags : h.tags ≡ length base.tags.items
-  pub opening : Shows before (λ c. StandsFor (plant_text base.tags.items) (length base.tags.items) c h.opening.items)
+  pub opening : Shows before (λ c. StandsForRows (plant_text base.tags.items) (length base.tags.items) c h.opening.items)
 
 -- Why a log is not done: what its workers left is refused beside what was kept of its opening; or nothing is told of it.
 pub data IsUndone {D : Type 0} (faults : D → ℕ) (base : Base) (rows : List (List RawRow)) (notes : List LogNote) (known : KnownLog)
-    (l : Told D) (h : LogHistory) (why : Status) : Type 0 where
+    (l : ToldLog D) (h : LogHistory) (why : Status) : Type 0 where
   OfSettling : IsSettlingRefusal faults rows notes known l why → IsUndone faults base rows notes known l h why
-  OfReport : IsMade rows l → IsReportRefusal base.tags.items (all_rows h) why → IsUndone faults base rows notes known l h why
+  OfReport : ArePutsMade rows l → IsReportRefusal base.tags.items (log_rows h) why → IsUndone faults base rows notes known l h why
 
 -- a count has risen, or stands at the end of its type
-abbrev pub HasRisen : ℕ → ℕ → Type 0
-HasRisen before now = (before < now) ⊎ (now ≡ 2 ^ 64 - 1)
+abbrev pub HasLogCountRisen : ℕ → ℕ → Type 0
+HasLogCountRisen before now = (before < now) ⊎ (now ≡ 2 ^ 64 - 1)
 
 -- The faults of a store before a log is opened and after its device is given back: they are no fewer, and have risen where a fault of
 -- a device is told. Unless the opening is told to be another, one is counted at most.
 pub record CountsLog (answer : Result (String Global) Status) (before now : ℕ) : Type 0 where
   pub later : before ≤ now
-  pub told : IfErr answer (λ why. (unit : Device) → why ≡ DeviceFault unit → HasRisen before now)
+  pub told : IfErr answer (λ why. (unit : Device) → why ≡ DeviceFault unit → HasLogCountRisen before now)
   pub once : (IsOfOpening answer → ⊥) → (now ≡ before) ⊎ Rose before now
 
 -- A log of a base, into which collectors with these rows put them, and what came of it. It was opened on the device of its name, and
@@ -106,18 +106,18 @@ pub record CountsLog (answer : Result (String Global) Status) (before now : ℕ)
 -- another, it was opened as what the device stood for. It is done, or there is a cause. The store counted so many faults before, and
 -- so many now.
 pub record IsRun {D : Type 0} (trace : D → Option Trace) (ticks faults : D → ℕ) (base : Base) (rows : List (List RawRow))
-    (old new : Devices) (before now : ℕ) (stops_before stops_now : ℕ) (answer : Result (String Global) Status) (h : LogHistory)
+    (old new : TracesByName) (before now : ℕ) (stops_before stops_now : ℕ) (answer : Result (String Global) Status) (h : LogHistory)
     : Type 0 where
-  pub first : Told D
+  pub first : ToldLog D
   pub opened : IsLogOpened trace ticks faults (plant_text base.tags.items) (length base.tags.items) (old log_name) first
   pub known : KnownLog
   pub kept : IsAsKnown first known
-  pub log : Told D
+  pub log : ToldLog D
   pub notes : List LogNote
-  pub history_is : IsHistoryOf log h
+  pub history_is : IsHistoryOfLog log h
   pub device : new log_name ≡ trace log.dev
   pub history : IsHandedOut h (new log_name) (ticks log.dev) (faults log.dev)
-  pub opened_as : (IsOfOpening answer → ⊥) → IsOpenedAs base (old log_name) h
+  pub opened_as : (IsOfOpening answer → ⊥) → IsLogOpenedAs base (old log_name) h
   pub notes_are : AreNotes D rows stops_before stops_now notes
   pub done : IfOk answer (λ text. IsDone base rows h (string_bytes text))
   pub undone : IfErr answer (IsUndone faults base rows notes known log h)
@@ -126,7 +126,7 @@ pub record IsRun {D : Type 0} (trace : D → Option Trace) (ticks faults : D →
 
 -- the log of the plan in a file over the base in another, and what came of it
 pub record IsLogged {D : Type 0} (trace : D → Option Trace) (ticks faults : D → ℕ) (name plan_name : List ℕ) (told : ToldFiles)
-    (old new : Devices) (before now : ℕ) (stops_before stops_now : ℕ) (answer : Result (String Global) Status) (h : LogHistory)
+    (old new : TracesByName) (before now : ℕ) (stops_before stops_now : ℕ) (answer : Result (String Global) Status) (h : LogHistory)
     : Type 0 where
   pub base : Base
   pub plan : Plan
@@ -136,8 +136,8 @@ pub record IsLogged {D : Type 0} (trace : D → Option Trace) (ticks faults : D 
 
 -- what is answered of a log that came to this: the line of each tag, if it is done and they can be told; and else why there is none
 pub record IsLogReported (base : Base) (h : LogHistory) (came : Result Unit Status) (told : Result (String Global) Status) : Type 0 where
-  pub text : OnOk came (IfOk told (λ text. IsToldOf base.tags.items (all_rows h) (string_bytes text)))
-  pub untold : OnOk came (IfErr told (IsReportRefusal base.tags.items (all_rows h)))
+  pub text : OnOk came (IfOk told (λ text. IsLineToldOf base.tags.items (log_rows h) (string_bytes text)))
+  pub untold : OnOk came (IfErr told (IsReportRefusal base.tags.items (log_rows h)))
   pub refused : IfErr came (λ why. told ≡ Err why)
 
 -- ---- what is never told

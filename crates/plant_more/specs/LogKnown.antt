@@ -5,11 +5,11 @@ use Rattle.plant_status.specs.declared.mismatch.Place.TheVariants.{Opening}
 use Rattle.plant_status.specs.declared.mismatch.Seen.TheVariants.{Number}
 use Rattle.plant_status.specs.declared.status.Status.{Status}
 use Rattle.plant_status.specs.declared.status.Status.TheVariants.{Mismatch}
-use Rattle.commit_log.specs.Told.{Told}
+use Rattle.commit_log.specs.Told.{ToldLog}
 use Rattle.plant_more.specs.declared.log_known.KnownLog.{KnownLog}
 
 -- a log is of the plant that was kept, and was opened so
-pub record IsAsKnown {D : Type 0} (l : Told D) (k : KnownLog) : Type 0 where
+pub record IsAsKnown {D : Type 0} (l : ToldLog D) (k : KnownLog) : Type 0 where
   pub plant : l.plant ≡ k.plant.items
   pub tags : l.tags ≡ k.tags
   pub faults : l.faults ≡ k.faults
@@ -25,7 +25,7 @@ pub record IsCommon {A : Type 0} (xs ys : List A) (n : ℕ) : Type 0 where
 
 -- the numbers that are compared in turn: how many tags there are, how long the text is and how much of it is that of the plant, the
 -- faults, the moment, how many rows there are and how many of them are those that were kept
-abbrev pub found_numbers : {D : Type 0} → Told D → ℕ → ℕ → List ℕ
+abbrev pub found_numbers : {D : Type 0} → ToldLog D → ℕ → ℕ → List ℕ
 found_numbers l text rows =
     l.tags ∷ length l.plant ∷ text ∷ l.faults ∷ l.moment ∷ length l.opening ∷ rows ∷ []
 
@@ -47,7 +47,7 @@ FirstDiffer found wanted (Mismatch (Opening LogUnit) (Number kept) (Number told)
 FirstDiffer found wanted other = ⊥
 
 -- a log is not as it was kept, and that is told
-pub record IsLogMismatch {D : Type 0} (l : Told D) (k : KnownLog) (why : Status) : Type 0 where
+pub record IsLogMismatch {D : Type 0} (l : ToldLog D) (k : KnownLog) (why : Status) : Type 0 where
   pub text : ℕ
   pub rows : ℕ
   pub text_is : IsCommon l.plant k.plant.items text

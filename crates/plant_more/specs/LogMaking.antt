@@ -10,7 +10,7 @@ use Rattle.value_rows.specs.declared.raw.RawRow.{RawRow}
 use Rattle.commit_log.specs.declared.history.LogTurn.TheVariants.{Put}
 use Rattle.commit_log.specs.declared.row.LogRow.{LogRow}
 use Rattle.commit_log.specs.Tapes.{puts}
-use Rattle.commit_log.specs.Told.{Told}
+use Rattle.commit_log.specs.Told.{ToldLog}
 
 -- how many rows the files of collectors have together
 abbrev pub total_rows : List (List RawRow) → ℕ
@@ -26,19 +26,19 @@ abbrev pub AreRowsFor : ℕ → List (List RawRow) → Type 0
 AreRowsFor tags files = All (All (IsRowFor tags)) files
 
 -- a row is put, and nothing else has changed
-abbrev pub IsRowPut : {D : Type 0} → LogRow → Told D → Told D → Type 0
+abbrev pub IsRowPut : {D : Type 0} → LogRow → ToldLog D → ToldLog D → Type 0
 IsRowPut row old new = new ≡ record old { tape = old.tape ++ Put row ∷ [] }
 
 -- Why a row is not put: the device of the log has counted a fault; or there is room for as many rows as were put, fewer than are to
 -- be put in all, and both numbers are told
-abbrev pub IsPutRefusal : {D : Type 0} → (D → ℕ) → ℕ → Told D → Status → Type 0
+abbrev pub IsPutRefusal : {D : Type 0} → (D → ℕ) → ℕ → ToldLog D → Status → Type 0
 IsPutRefusal faults total l (DeviceFault LogUnit) = 0 < faults l.dev
 IsPutRefusal faults total l (Mismatch (LogPlace place) (Number kept) (Number told)) =
     (place ≡ length l.tape) × (kept ≡ length (puts l.tape)) × (told ≡ total) × (kept < told)
 IsPutRefusal faults total l other = ⊥
 
 -- why rows are not acknowledged: the device of the log has counted a fault, or memory is wanting
-abbrev pub IsCommitRefusal : {D : Type 0} → (D → ℕ) → Told D → Status → Type 0
+abbrev pub IsCommitRefusal : {D : Type 0} → (D → ℕ) → ToldLog D → Status → Type 0
 IsCommitRefusal faults l (DeviceFault LogUnit) = 0 < faults l.dev
 IsCommitRefusal faults l WantOfMemory = ⊤
 IsCommitRefusal faults l other = ⊥

@@ -2,38 +2,38 @@
 use Rattle.std.specs.Prelude.{◌≡◌, ◌≢◌, ℕ, ◌+◌, ◌<◌, true, List, map, fold, length, slice_get, slice_index_or, IsSomeAnd, Some, Vec}
 use Rattle.std.specs.declared.alloc.Global.{Global}
 use Rattle.value_rows.specs.declared.raw.RawRow.{RawRow}
-use Rattle.plant_status.specs.Pass.{sum_of_counts}
+use Rattle.plant_status.specs.Pass.{sum_of_fault_counts}
 use Rattle.commit_log.specs.declared.refusal.LogCommitNo.{LogCommitNo}
 use Rattle.commit_log.specs.declared.refusal.LogCommitNo.TheVariants as commit
 use Rattle.commit_log.specs.declared.refusal.PutRowNo.{PutRowNo}
 use Rattle.commit_log.specs.declared.row.LogRow.{LogRow}
-use Rattle.commit_log.specs.Told.{Told, put_refusal}
+use Rattle.commit_log.specs.Told.{ToldLog, put_refusal}
 use Rattle.plant_more.specs.declared.log_note.LogEnding.{LogEnding}
 use Rattle.plant_more.specs.declared.log_note.LogEnding.TheVariants.{Ended, Halted, Put, Commit, WantOfMemory}
 use Rattle.plant_more.specs.declared.log_note.LogNote.{LogNote}
-use Rattle.plant_more.specs.LogTurns.{is_due, row_of}
+use Rattle.plant_more.specs.LogTurns.{is_commit_due, row_of}
 
 -- the rows of each collector
-abbrev pub lists_of : List (Vec RawRow Global) → List (List RawRow)
-lists_of collectors = map (λ rows. rows.items) collectors
+abbrev pub row_lists_of : List (Vec RawRow Global) → List (List RawRow)
+row_lists_of collectors = map (λ rows. rows.items) collectors
 
 -- a log refused to append this row
 pub record RefusesPut (D : Type 0) (why : PutRowNo) (row : LogRow) : Type 0 where
-  pub log : Told D
+  pub log : ToldLog D
   pub refused : put_refusal log row ≡ Some why
 
 -- a log refused to commit, and is broken
 pub record RefusesCommit (D : Type 0) (why : LogCommitNo) : Type 0 where
   pub known : why ≢ commit.WantOfMemory
-  pub log : Told D
+  pub log : ToldLog D
   pub broken : log.failed ≡ true
 
 -- how a worker is refused that has done so many rows: at the put of its next one, or at the commit that was due behind it
 abbrev pub EndsAt : Type 0 → ℕ → List RawRow → ℕ → LogEnding → Type 0
 EndsAt D collector rows done (Put why) =
     IsSomeAnd (slice_get rows done) (λ row. RefusesPut D why (row_of collector (done + 1) row))
-EndsAt D collector rows done (Commit why) = (done < length rows) × (is_due (done + 1) (length rows) ≡ true) × RefusesCommit D why
-EndsAt D collector rows done WantOfMemory = (done < length rows) × (is_due (done + 1) (length rows) ≡ true)
+EndsAt D collector rows done (Commit why) = (done < length rows) × (is_commit_due (done + 1) (length rows) ≡ true) × RefusesCommit D why
+EndsAt D collector rows done WantOfMemory = (done < length rows) × (is_commit_due (done + 1) (length rows) ≡ true)
 EndsAt D collector rows done Halted = ⊥
 EndsAt D collector rows done Ended = ⊥
 
@@ -66,4 +66,4 @@ ending_of_commit why = Commit why
 
 -- the stops of passes that had counted so many, with those of these workers
 abbrev pub log_stops_with : ℕ → List LogNote → ℕ
-log_stops_with stops notes = fold (λ count n. sum_of_counts count (halts n.ending)) stops notes
+log_stops_with stops notes = fold (λ count n. sum_of_fault_counts count (halts n.ending)) stops notes

@@ -5,7 +5,7 @@ use Rattle.plant_status.specs.declared.mismatch.Place.TheVariants.{Opening}
 use Rattle.plant_status.specs.declared.status.Status.{Status}
 use Rattle.plant_status.specs.declared.status.Status.TheVariants as status
 use Rattle.value_rows.specs.declared.raw.RawRow.{RawRow}
-use Rattle.commit_log.specs.Told.{Told, waits}
+use Rattle.commit_log.specs.Told.{ToldLog, rows_waiting}
 use Rattle.plant_more.specs.declared.log_note.LogEnding.TheVariants.{Halted, WantOfMemory}
 use Rattle.plant_more.specs.declared.log_note.LogNote.{LogNote}
 use Rattle.plant_more.specs.LogNotes.{AreLogNotesOf, log_stops_with}
@@ -31,9 +31,9 @@ IsStop notes other = ⊥
 -- ---- what is done, and why it is not
 
 -- of each collector all rows were put, in their order, each once, and no others; and all rows are acknowledged
-pub record IsMade {D : Type 0} (files : List (List RawRow)) (l : Told D) : Type 0 where
+pub record ArePutsMade {D : Type 0} (files : List (List RawRow)) (l : ToldLog D) : Type 0 where
   pub whole : AreWhole files l.tape
-  pub none_waits : waits l ≡ 0
+  pub none_waits : rows_waiting l ≡ 0
 
 -- no worker was stopped, and each found memory
 pub record AreUnstopped (notes : List LogNote) : Type 0 where
@@ -41,7 +41,7 @@ pub record AreUnstopped (notes : List LogNote) : Type 0 where
   pub all_found : All (λ n. n.ending ≢ WantOfMemory) notes
 
 -- the refusals, in their order: a worker was stopped, or found no memory; a row is not put; rows are not acknowledged
-pub data IsRestRefusal {D : Type 0} (faults : D → ℕ) (files : List (List RawRow)) (notes : List LogNote) (l : Told D) (why : Status)
+pub data IsRestRefusal {D : Type 0} (faults : D → ℕ) (files : List (List RawRow)) (notes : List LogNote) (l : ToldLog D) (why : Status)
     : Type 0 where
   OfStop : IsStop notes why → IsRestRefusal faults files notes l why
   OfPut : AreUnstopped notes → IsPutRefusal faults (total_rows files) l why → IsRestRefusal faults files notes l why
@@ -50,7 +50,7 @@ pub data IsRestRefusal {D : Type 0} (faults : D → ℕ) (files : List (List Raw
 -- the refusals, in their order: the log is not as it was kept; a put is not its collector's next row; one of the refusals above. No
 -- memory may be found at any time
 pub data IsSettlingRefusal {D : Type 0} (faults : D → ℕ) (files : List (List RawRow)) (notes : List LogNote) (known : KnownLog)
-    (l : Told D) (why : Status) : Type 0 where
+    (l : ToldLog D) (why : Status) : Type 0 where
   OfOpening : IsLogMismatch l known why → IsSettlingRefusal faults files notes known l why
   OfFinding : IsAsKnown l known → IsPutMismatch files l.tape why → IsSettlingRefusal faults files notes known l why
   OfRest : IsAsKnown l known → IsRestRefusal faults files notes l why → IsSettlingRefusal faults files notes known l why

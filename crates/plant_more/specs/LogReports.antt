@@ -11,20 +11,20 @@ use Rattle.plant_status.specs.declared.status.Status.{Status}
 use Rattle.plant_status.specs.declared.status.Status.TheVariants.{Limit, WantOfMemory}
 use Rattle.commit_log.specs.declared.history.LogHistory.{LogHistory}
 use Rattle.commit_log.specs.declared.row.LogRow.{LogRow}
-use Rattle.commit_log.specs.Images.{points_of}
+use Rattle.commit_log.specs.Images.{log_points_of}
 use Rattle.commit_log.specs.Tapes.{puts}
 
 -- all rows of a log, in order: those of its opening, and those that were put
-abbrev pub all_rows : LogHistory → List LogRow
-all_rows h = h.opening.items ++ puts h.tape.items
+abbrev pub log_rows : LogHistory → List LogRow
+log_rows h = h.opening.items ++ puts h.tape.items
 
 -- the tuning and the kind with which a tag is made
-abbrev pub origin_of : TagDef → Origin
-origin_of def = record { tuning = def.tuning; step = def.step }
+abbrev pub log_origin_of : TagDef → Origin
+log_origin_of def = record { tuning = def.tuning; step = def.step }
 
 -- the history of a tag that has taken its points of these rows, in order
-abbrev pub history_of : ℕ → List LogRow → List Event
-history_of tag rows = followed [] (map Raw (points_of tag rows))
+abbrev pub log_history_of : ℕ → List LogRow → List Event
+log_history_of tag rows = followed [] (map Raw (log_points_of tag rows))
 
 -- the core of each tag stands for its points of these rows
 pub record AreStanding (tags : List TagDef) (rows : List LogRow) (cores : List Core) : Type 0 where
@@ -32,27 +32,27 @@ pub record AreStanding (tags : List TagDef) (rows : List LogRow) (cores : List C
   pub steps : (tag : ℕ) (def : TagDef) (core : Core) → tag < length tags
       → (slice_index_or cores tag core).step ≡ (slice_index_or tags tag def).step
   pub stand : (tag : ℕ) (def : TagDef) (core : Core) → tag < length tags
-      → Stands (origin_of (slice_index_or tags tag def)) (history_of tag rows) (slice_index_or cores tag core).state
+      → Stands (log_origin_of (slice_index_or tags tag def)) (log_history_of tag rows) (slice_index_or cores tag core).state
 
 -- this is a line of each tag, of an archive that stands for its points of these rows
-pub record IsToldOf (tags : List TagDef) (rows : List LogRow) (text : List ℕ) : Type 0 where
+pub record IsLineToldOf (tags : List TagDef) (rows : List LogRow) (text : List ℕ) : Type 0 where
   pub cores : List Core
   pub standing : AreStanding tags rows cores
   pub same : text ≡ check_text tags cores
 
 -- an archive that stands for a tag's points of the first of these rows has so many records, and one point more could bring too many
-pub record IsFull (tags : List TagDef) (rows : List LogRow) (number : ℕ) : Type 0 where
+pub record IsTagFull (tags : List TagDef) (rows : List LogRow) (number : ℕ) : Type 0 where
   pub tag : ℕ
   pub count : ℕ
   pub state : State
   pub there : tag < length tags
   pub within : count ≤ length rows
-  pub stands : (def : TagDef) → Stands (origin_of (slice_index_or tags tag def)) (history_of tag (take count rows)) state
+  pub stands : (def : TagDef) → Stands (log_origin_of (slice_index_or tags tag def)) (log_history_of tag (take count rows)) state
   pub number_is : number ≡ length state.records
   pub many : most_records < number + 2
 
 -- why nothing is told of them: a tag could have too many records, or memory is wanting
 abbrev pub IsReportRefusal : List TagDef → List LogRow → Status → Type 0
-IsReportRefusal tags rows (Limit Records number) = IsFull tags rows number
+IsReportRefusal tags rows (Limit Records number) = IsTagFull tags rows number
 IsReportRefusal tags rows WantOfMemory = ⊤
 IsReportRefusal tags rows other = ⊥

@@ -4,15 +4,15 @@ use Rattle.value_rows.specs.declared.raw.RawRow.{RawRow}
 use Rattle.commit_log.specs.declared.row.LogRow.{LogRow}
 use Rattle.commit_log.specs.declared.history.LogTurn.{LogTurn}
 use Rattle.commit_log.specs.declared.history.LogTurn.TheVariants.{Put, Commit}
-use Rattle.commit_log.specs.Told.{Told, waits}
+use Rattle.commit_log.specs.Told.{ToldLog, rows_waiting}
 
 -- a row of a collector, by its number from 1, as a log has it
 abbrev pub row_of : ℕ → ℕ → RawRow → LogRow
 row_of collector number row = record { tag = row.tag; collector = collector; row = number; point = row.point }
 
 -- a worker of so many rows commits after the row of this number: a multiple of 64, or the last one
-abbrev pub is_due : ℕ → ℕ → Bool
-is_due number rows = (number % 64 == 0) || (number == rows)
+abbrev pub is_commit_due : ℕ → ℕ → Bool
+is_commit_due number rows = (number % 64 == 0) || (number == rows)
 
 -- a turn that is a commit
 abbrev pub IsCommit : LogTurn → Type 0
@@ -20,7 +20,7 @@ IsCommit (Put row) = ⊥
 IsCommit (Commit moment acked) = ⊤
 
 -- the plant of a log, its opening and its room are as they were
-pub record IsSameLog {D : Type 0} (old new : Told D) : Type 0 where
+pub record IsSameLog {D : Type 0} (old new : ToldLog D) : Type 0 where
   pub plant : new.plant ≡ old.plant
   pub tags : new.tags ≡ old.tags
   pub opening : new.opening ≡ old.opening
@@ -29,18 +29,18 @@ pub record IsSameLog {D : Type 0} (old new : Told D) : Type 0 where
   pub room : new.room ≡ old.room
 
 -- the tape of a log is longer by commits alone
-pub record IsCommitted {D : Type 0} (old new : Told D) : Type 0 where
+pub record IsCommitted {D : Type 0} (old new : ToldLog D) : Type 0 where
   pub more : List LogTurn
   pub each : All IsCommit more
   pub tape : new.tape ≡ old.tape ++ more
   pub same : IsSameLog old new
 
--- the row of a collector at a place is put, and behind it, where that is due, all that waits is acknowledged
-pub record IsPutAt {D : Type 0} (collector : ℕ) (rows : List RawRow) (place : ℕ) (old new : Told D) : Type 0 where
+-- the row of a collector at a place is put, and behind it, where that is due, all that rows_waiting is acknowledged
+pub record IsPutAt {D : Type 0} (collector : ℕ) (rows : List RawRow) (place : ℕ) (old new : ToldLog D) : Type 0 where
   pub row : RawRow
-  pub put : Told D
+  pub put : ToldLog D
   pub there : slice_get rows place ≡ Some row
   pub appended : put ≡ record old { tape = old.tape ++ Put (row_of collector (place + 1) row) ∷ [] }
   pub committed : IsCommitted put new
-  pub none_waits : is_due (place + 1) (length rows) ≡ true → waits new ≡ 0
-  pub unchanged : is_due (place + 1) (length rows) ≡ false → new ≡ put
+  pub none_waits : is_commit_due (place + 1) (length rows) ≡ true → rows_waiting new ≡ 0
+  pub unchanged : is_commit_due (place + 1) (length rows) ≡ false → new ≡ put

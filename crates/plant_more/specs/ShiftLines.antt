@@ -8,8 +8,8 @@ use Rattle.trend_num.specs.declared.tag_def.TagDef.{TagDef}
 use Rattle.trend_model.specs.Windows.{window_value}
 use Rattle.tag_core.specs.Core.{Core}
 use Rattle.trend_report.specs.Lines.{number_text}
-use Rattle.plant_store.specs.OpenedBases.{points_in}
-use Rattle.shift_calendar.specs.Calendars.{Parts}
+use Rattle.plant_store.specs.OpenedBases.{points_recovered}
+use Rattle.shift_calendar.specs.Calendars.{CalendarParts}
 use Rattle.shift_calendar.specs.Days.{IsDayWord}
 use Rattle.shift_calendar.specs.declared.window.ShiftWindow.{ShiftWindow}
 
@@ -19,7 +19,7 @@ use Rattle.shift_calendar.specs.declared.window.ShiftWindow.{ShiftWindow}
 -- window does not end after its start
 abbrev pub value_in : Measure → ShiftWindow → Core → Option ℤ
 value_in measure w core =
-    if nat_lt w.from w.to then window_value core.step measure (points_in core) w.from w.to
+    if nat_lt w.from w.to then window_value core.step measure (points_recovered core) w.from w.to
     else None
 
 -- a window, and the word of its day
@@ -39,16 +39,16 @@ shift_line d tag value =
 -- ---- all of them
 
 -- the name of the tag at a place, and its measure in a window
-abbrev pub name_at : List TagDef → ℕ → List ℕ
-name_at tags place = option_map_or (λ tag. tag.name) (slice_get tags place) []
+abbrev pub shift_name_at : List TagDef → ℕ → List ℕ
+shift_name_at tags place = option_map_or (λ tag. tag.name) (slice_get tags place) []
 
 abbrev pub value_at : List Core → Measure → ShiftWindow → ℕ → Option ℤ
 value_at cores measure w place = option_map_or (value_in measure w) (slice_get cores place) None
 
 -- the lines of a window: one for each tag of the calendar, in its order
-abbrev pub window_lines : List TagDef → List Core → Parts → DatedWindow → List ℕ
+abbrev pub window_lines : List TagDef → List Core → CalendarParts → DatedWindow → List ℕ
 window_lines tags cores cal d =
-    flat_map (λ place. shift_line d (name_at tags place) (value_at cores cal.measure d.window place)) cal.tags
+    flat_map (λ place. shift_line d (shift_name_at tags place) (value_at cores cal.measure d.window place)) cal.tags
 
 -- the text is what is printed of these windows, one behind the other, each with the word of its day
 pub record AreLines (lines : DatedWindow → List ℕ) (windows : List ShiftWindow) (text : List ℕ) : Type 0 where
@@ -58,5 +58,5 @@ pub record AreLines (lines : DatedWindow → List ℕ) (windows : List ShiftWind
   pub same : text ≡ flat_map lines dated
 
 -- the text is the lines of these windows
-abbrev pub AreShiftLines : List TagDef → List Core → Parts → List ShiftWindow → List ℕ → Type 0
+abbrev pub AreShiftLines : List TagDef → List Core → CalendarParts → List ShiftWindow → List ℕ → Type 0
 AreShiftLines tags cores cal windows text = AreLines (window_lines tags cores cal) windows text

@@ -28,14 +28,14 @@ abbrev pub AreShiftTags : List TagDef → List Core → List ℕ → List ShiftT
 AreShiftTags defs cores places tags = AllZip (IsShiftTag defs cores) places tags
 
 -- its measure in a window
-abbrev pub value_of : Measure → ShiftWindow → ShiftTag → Option ℤ
-value_of measure w tag =
+abbrev pub shift_value_of : Measure → ShiftWindow → ShiftTag → Option ℤ
+shift_value_of measure w tag =
     if nat_lt w.from w.to then window_value tag.step measure (points_closed_by tag.held tag.content.records) w.from w.to
     else None
 
 -- its line
 abbrev pub tag_line : Measure → DatedWindow → ShiftTag → List ℕ
-tag_line measure d tag = shift_line d tag.name (value_of measure d.window tag)
+tag_line measure d tag = shift_line d tag.name (shift_value_of measure d.window tag)
 
 -- the lines of these tags
 abbrev pub tag_lines : Measure → List ShiftTag → DatedWindow → List ℕ

@@ -10,8 +10,8 @@ use Rattle.plant_files.specs.Asked.{ToldFiles}
 use Rattle.plant_files.specs.Texts.{IsBaseFile, IsBaseRefusal, tag_names}
 use Rattle.plant_store.specs.TagRefusals.{IsRefusal}
 use Rattle.plant_store.specs.OpenedBases.{AreUntouched, IsOpenedBase}
-use Rattle.plant_store.specs.Groups.{Devices}
-use Rattle.shift_calendar.specs.Calendars.{Parts}
+use Rattle.plant_store.specs.Groups.{DeviceTraces}
+use Rattle.shift_calendar.specs.Calendars.{CalendarParts}
 use Rattle.shift_calendar.specs.Windows.{AreWindows, shifts_over}
 use Rattle.shift_calendar.specs.declared.window.ShiftWindow.{ShiftWindow}
 use Rattle.plant_more.specs.CalendarFile.{IsCalendarFile, IsCalendarRefusal}
@@ -19,10 +19,10 @@ use Rattle.plant_more.specs.ShiftLines.{AreShiftLines}
 
 -- a base was read and opened, the calendar was read of the file of its name, these are the windows of the shifts of so many days from
 -- a day on, and the text is their lines
-pub record IsShifts (name calendar_name : List ℕ) (day : ℤ) (days : ℕ) (told : ToldFiles) (old : Devices) (text : List ℕ)
+pub record IsShifts (name calendar_name : List ℕ) (day : ℤ) (days : ℕ) (told : ToldFiles) (old : DeviceTraces) (text : List ℕ)
     : Type 0 where
   pub base : Base
-  pub cal : Parts
+  pub cal : CalendarParts
   pub cores : List Core
   pub windows : List ShiftWindow
   pub opened : IsOpenedBase name told old base cores
@@ -32,13 +32,13 @@ pub record IsShifts (name calendar_name : List ℕ) (day : ℤ) (days : ℕ) (to
 
 -- the refusals, in their order: of the base, of the calendar, of a tag. Before that of a tag no device has changed. No memory may be
 -- found at any time
-pub data IsShiftsRefusal (name calendar_name : List ℕ) (told : ToldFiles) (old new : Devices) (before now : ℕ) (why : Status)
+pub data IsShiftsRefusal (name calendar_name : List ℕ) (told : ToldFiles) (old new : DeviceTraces) (before now : ℕ) (why : Status)
     : Type 0 where
   OfBase : IsBaseRefusal (told name) why → AreUntouched old new → IsShiftsRefusal name calendar_name told old new before now why
   OfCalendar : (base : Base) → IsBaseFile (told name) base
       → IsCalendarRefusal (tag_names base.tags.items) (told calendar_name) why → AreUntouched old new
       → IsShiftsRefusal name calendar_name told old new before now why
-  OfTag : (base : Base) (cal : Parts) → IsBaseFile (told name) base
+  OfTag : (base : Base) (cal : CalendarParts) → IsBaseFile (told name) base
       → IsCalendarFile (tag_names base.tags.items) (told calendar_name) cal → IsRefusal base.tags.items old new before now why
       → IsShiftsRefusal name calendar_name told old new before now why
   OfMemory : why ≡ WantOfMemory → IsShiftsRefusal name calendar_name told old new before now why

@@ -11,8 +11,8 @@ log_words (verb ∷ base ∷ plan ∷ []) = if bytes_eq verb (codes "log") then 
 log_words words = None
 
 -- those that the code has of them
-abbrev pub named : Planned → List ℕ × List ℕ
-named p = (p.base.now, p.plan.now)
+abbrev pub words_named : Planned → List ℕ × List ℕ
+words_named p = (p.base.now, p.plan.now)
 
 -- which shifts are asked for: the files of a base and of a calendar over its tags, the word of the first day, and how many days
 pub record AskedShifts : Type 0 where

@@ -2,7 +2,7 @@
 ghost use Rattle.std.specs.Prelude.{◌≡◌, ◌<◌, All, IfErr, OnOk, length};
 ghost use Rattle.trend_num.specs.Ranges.{InRange};
 ghost use Rattle.plant_more.specs.LogNotes.{EndsAt, IsNoteOf, ending_of_commit, halts};
-ghost use Rattle.plant_more.specs.LogTurns.{IsPutAt, is_due};
+ghost use Rattle.plant_more.specs.LogTurns.{IsPutAt, is_commit_due};
 
 use crate::log_commit::commit_waiting;
 use crate::log_note::{LogEnding, LogNote};
@@ -104,7 +104,7 @@ fn put_into<D: Disk>(
 
 // Whether a worker of so many rows commits after this one: a multiple of 64, or the last.
 fn is_due(number: usize, rows: usize) -> bool
-    ensures { result ≡ is_due number rows }
+    ensures { result ≡ is_commit_due number rows }
 {
     number % ROWS_OF_COMMIT == 0 || number == rows
 }

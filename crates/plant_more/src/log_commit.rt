@@ -1,7 +1,7 @@
 // What waits on a log is acknowledged.
 ghost use Rattle.std.specs.Prelude.{◌≡◌, ◌≢◌, ◌<◌, IfErr, OnOk, true};
 ghost use Rattle.commit_log.specs.declared.refusal.LogCommitNo.TheVariants.{WantOfMemory as NoMemory};
-ghost use Rattle.commit_log.specs.Told.{waits};
+ghost use Rattle.commit_log.specs.Told.{rows_waiting};
 ghost use Rattle.plant_more.specs.LogTurns.{IsCommitted};
 
 use commit_log::{Log, LogCommitNo};
@@ -10,7 +10,7 @@ use disk_model::Disk;
 // Acknowledges all rows that wait, the oldest first. It ends at the first commit that is refused; where that is not for want of
 // memory, the log is broken, and its device has counted a fault.
 pub(crate) fn commit_waiting<D: Disk>(log: &mut Log<D>) -> Result<(), LogCommitNo>
-    ensures none_waits { OnOk result (waits log.new ≡ 0) }
+    ensures none_waits { OnOk result (rows_waiting log.new ≡ 0) }
     ensures committed { IsCommitted log.old log.new }
     ensures broken { IfErr result (λ no. no ≢ NoMemory → log.new.failed ≡ true) }
     ensures cause { IfErr result (λ no. no ≢ NoMemory → 0 < D.fault_count log.new.dev) }

@@ -1,6 +1,6 @@
 // The rows of collectors are found on the tape of a log.
 ghost use Rattle.std.specs.Prelude.{◌≡◌, ◌+◌, ◌^◌, ◌<◌, ◌≤◌, IfErr, IfOk, OnErr, OnOk, OnSome, length, replicate, slice_get};
-ghost use Rattle.plant_more.specs.LogNotes.{lists_of};
+ghost use Rattle.plant_more.specs.LogNotes.{row_lists_of};
 ghost use Rattle.plant_more.specs.LogFinding.{AreFound, IsFollowed, IsOtherDue, IsPutMismatch, rows_from, seen_of};
 
 use commit_log::{LogRow, LogTurn};
@@ -25,8 +25,8 @@ pub(crate) fn find_puts(
 ) -> Result<(), Status>
     requires few { length files.now < 2 ^ 32 }
     requires none { next.old ≡ replicate (length files.now) 0 }
-    ensures found { OnOk result (AreFound (lists_of files.now) tape.now next.new) }
-    ensures differs { IfErr result (IsPutMismatch (lists_of files.now) tape.now) }
+    ensures found { OnOk result (AreFound (row_lists_of files.now) tape.now next.new) }
+    ensures differs { IfErr result (IsPutMismatch (row_lists_of files.now) tape.now) }
 {
     for place in 0..tape.len() {
         match tape[place] {
@@ -51,9 +51,9 @@ pub(crate) fn find_puts(
 fn follow(files: &[Vec<RawRow>], next: &mut [usize], row: LogRow) -> Result<(), Seen>
     requires few { length files.now < 2 ^ 32 }
     requires as_many { length next.old ≡ length files.now }
-    ensures followed { OnOk result (IsFollowed (lists_of files.now) row next.old next.new) }
+    ensures followed { OnOk result (IsFollowed (row_lists_of files.now) row next.old next.new) }
     ensures unchanged { OnErr result (next.new ≡ next.old) }
-    ensures told { IfErr result (IsOtherDue (lists_of files.now) row next.old) }
+    ensures told { IfErr result (IsOtherDue (row_lists_of files.now) row next.old) }
 {
     let collector = row.collector as usize;
     if collector >= files.len() {

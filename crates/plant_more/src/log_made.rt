@@ -2,8 +2,8 @@
 ghost use Rattle.std.specs.Prelude.{◌≡◌, ◌+◌, ◌^◌, ◌<◌, IfErr, OnErr, OnOk, length, slice_index, slice_set};
 ghost use Rattle.trend_num.specs.Ranges.{InRange};
 ghost use Rattle.commit_log.specs.Tapes.{puts};
-ghost use Rattle.commit_log.specs.Told.{waits};
-ghost use Rattle.plant_more.specs.LogNotes.{lists_of};
+ghost use Rattle.commit_log.specs.Told.{rows_waiting};
+ghost use Rattle.plant_more.specs.LogNotes.{row_lists_of};
 ghost use Rattle.plant_more.specs.LogTurns.{IsCommitted, IsSameLog};
 ghost use Rattle.plant_more.specs.LogFinding.{AreFound, AreOthersSame, AreWhole, rows_in};
 ghost use Rattle.plant_more.specs.LogMaking.{AreRowsFor, IsCommitRefusal, IsPutRefusal, IsRowPut, total_rows};
@@ -23,12 +23,12 @@ pub(crate) fn put_missing<D: Disk>(
     next: &mut [usize],
 ) -> Result<(), Status>
     requires few { length files.now < 2 ^ 32 }
-    requires rows { AreRowsFor log.old.tags (lists_of files.now) }
-    requires small { total_rows (lists_of files.now) < 2 ^ 64 }
-    requires found { AreFound (lists_of files.now) log.old.tape next.old }
-    ensures whole { OnOk result (AreWhole (lists_of files.now) log.new.tape) }
+    requires rows { AreRowsFor log.old.tags (row_lists_of files.now) }
+    requires small { total_rows (row_lists_of files.now) < 2 ^ 64 }
+    requires found { AreFound (row_lists_of files.now) log.old.tape next.old }
+    ensures whole { OnOk result (AreWhole (row_lists_of files.now) log.new.tape) }
     ensures same { IsSameLog log.old log.new }
-    ensures refused { IfErr result (IsPutRefusal D.fault_count (total_rows (lists_of files.now)) log.new) }
+    ensures refused { IfErr result (IsPutRefusal D.fault_count (total_rows (row_lists_of files.now)) log.new) }
 {
     let total = row_total(files);
     for collector in 0..files.len() {
@@ -39,8 +39,8 @@ pub(crate) fn put_missing<D: Disk>(
 
 // How many rows the files have together.
 pub(crate) fn row_total(files: &[Vec<RawRow>]) -> u64
-    requires small { total_rows (lists_of files.now) < 2 ^ 64 }
-    ensures { result ≡ total_rows (lists_of files.now) }
+    requires small { total_rows (row_lists_of files.now) < 2 ^ 64 }
+    ensures { result ≡ total_rows (row_lists_of files.now) }
 {
     let mut total = 0;
     for place in 0..files.len() {
@@ -58,15 +58,15 @@ fn put_file<D: Disk>(
     total: u64,
 ) -> Result<(), Status>
     requires few { length files.now < 2 ^ 32 }
-    requires rows { AreRowsFor log.old.tags (lists_of files.now) }
-    requires total { total ≡ total_rows (lists_of files.now) }
-    requires found { AreFound (lists_of files.now) log.old.tape next.old }
+    requires rows { AreRowsFor log.old.tags (row_lists_of files.now) }
+    requires total { total ≡ total_rows (row_lists_of files.now) }
+    requires found { AreFound (row_lists_of files.now) log.old.tape next.old }
     requires known { collector < length files.now }
-    ensures found { OnOk result (AreFound (lists_of files.now) log.new.tape next.new) }
-    ensures all { OnOk result (slice_index next.new collector ≡ length (rows_in (lists_of files.now) collector)) }
+    ensures found { OnOk result (AreFound (row_lists_of files.now) log.new.tape next.new) }
+    ensures all { OnOk result (slice_index next.new collector ≡ length (rows_in (row_lists_of files.now) collector)) }
     ensures others { AreOthersSame collector next.old next.new }
     ensures same { IsSameLog log.old log.new }
-    ensures refused { IfErr result (IsPutRefusal D.fault_count (total_rows (lists_of files.now)) log.new) }
+    ensures refused { IfErr result (IsPutRefusal D.fault_count (total_rows (row_lists_of files.now)) log.new) }
 {
     for place in next[collector]..files[collector].len() {
         put_next(log, files, next, collector, total)?;
@@ -83,16 +83,16 @@ fn put_next<D: Disk>(
     total: u64,
 ) -> Result<(), Status>
     requires few { length files.now < 2 ^ 32 }
-    requires rows { AreRowsFor log.old.tags (lists_of files.now) }
-    requires total { total ≡ total_rows (lists_of files.now) }
-    requires found { AreFound (lists_of files.now) log.old.tape next.old }
+    requires rows { AreRowsFor log.old.tags (row_lists_of files.now) }
+    requires total { total ≡ total_rows (row_lists_of files.now) }
+    requires found { AreFound (row_lists_of files.now) log.old.tape next.old }
     requires known { collector < length files.now }
-    requires lacks { slice_index next.old collector < length (rows_in (lists_of files.now) collector) }
-    ensures found { OnOk result (AreFound (lists_of files.now) log.new.tape next.new) }
+    requires lacks { slice_index next.old collector < length (rows_in (row_lists_of files.now) collector) }
+    ensures found { OnOk result (AreFound (row_lists_of files.now) log.new.tape next.new) }
     ensures advanced { OnOk result (next.new ≡ slice_set next.old collector (slice_index next.old collector + 1)) }
     ensures unchanged { OnErr result (next.new ≡ next.old) }
     ensures same { IsSameLog log.old log.new }
-    ensures refused { IfErr result (IsPutRefusal D.fault_count (total_rows (lists_of files.now)) log.new) }
+    ensures refused { IfErr result (IsPutRefusal D.fault_count (total_rows (row_lists_of files.now)) log.new) }
 {
     let Some(row) = row_at(&files[collector], collector as u32, next[collector]) else {
         unreachable!()
@@ -126,7 +126,7 @@ fn put_row<D: Disk>(log: &mut Log<D>, row: LogRow, total: u64) -> Result<(), Sta
 
 // Acknowledges all rows that wait.
 pub(crate) fn commit_rest<D: Disk>(log: &mut Log<D>) -> Result<(), Status>
-    ensures none_waits { OnOk result (waits log.new ≡ 0) }
+    ensures none_waits { OnOk result (rows_waiting log.new ≡ 0) }
     ensures committed { IsCommitted log.old log.new }
     ensures refused { IfErr result (IsCommitRefusal D.fault_count log.new) }
 {

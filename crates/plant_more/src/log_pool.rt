@@ -1,7 +1,7 @@
 // All workers beside each other.
 ghost use Rattle.std.specs.Prelude.{◌≡◌, ℕ, ◌^◌, ◌<◌, ◌≤◌, [], All, IfErr, IfOk, OnErr, length, slice_index_or, vec_capacity, vec_len};
 ghost use Rattle.trend_num.specs.Ranges.{InRange};
-ghost use Rattle.plant_more.specs.LogNotes.{AreLogNotesOf, lists_of, log_stops_with};
+ghost use Rattle.plant_more.specs.LogNotes.{AreLogNotesOf, row_lists_of, log_stops_with};
 ghost use Rattle.plant_more.specs.LogCrew.{AreDone, AreSeated, IsDone, IsReady};
 
 use crate::log_collector::collect;
@@ -35,7 +35,7 @@ pub(crate) fn run_collectors<D: Disk + Send, P: Passes, R: Threads + Wait + Sync
 ) -> Result<CollectedLog<D>, Log<D>>
     requires few { length collectors.now < 2 ^ 32 }
     requires rows { All (λ rows. All (λ row. InRange row.point) rows.items) collectors.now }
-    ensures notes { IfOk result (λ done. AreLogNotesOf D (lists_of collectors.now) done.notes.items) }
+    ensures notes { IfOk result (λ done. AreLogNotesOf D (row_lists_of collectors.now) done.notes.items) }
     ensures stops { IfOk result (λ done. P.stops passes.new ≡ log_stops_with (P.stops passes.old) done.notes.items) }
     ensures unbegun { OnErr result (P.stops passes.new ≡ P.stops passes.old) }
     ensures unchanged { IfErr result (λ back. back ≡ log) }
@@ -93,7 +93,7 @@ fn collect_all<D: Disk + Send, O: Pass + Send, R: Threads + Wait + Sync>(
     requires rows { All (λ rows. All (λ row. InRange row.point) rows.items) collectors.now }
     requires ready { All (IsReady O.stops (length collectors.now)) crew.old.items }
     ensures count { vec_len crew.new ≡ vec_len crew.old }
-    ensures done { AreDone D O.stops (lists_of collectors.now) crew.old.items crew.new.items }
+    ensures done { AreDone D O.stops (row_lists_of collectors.now) crew.old.items crew.new.items }
 {
     collect_each(rt, log, collectors, crew.as_mut_slice());
 }
@@ -108,7 +108,7 @@ fn collect_each<D: Disk + Send, O: Pass + Send, R: Threads + Wait + Sync>(
     requires rows { All (λ rows. All (λ row. InRange row.point) rows.items) collectors.now }
     requires ready { All (IsReady O.stops (length collectors.now)) crew.old }
     ensures { (i : ℕ) (d : _) → i < length crew.old
-        → IsDone D O.stops (lists_of collectors.now) (slice_index_or crew.old i d) (slice_index_or crew.new i d) }
+        → IsDone D O.stops (row_lists_of collectors.now) (slice_index_or crew.old i d) (slice_index_or crew.new i d) }
 {
     if crew.is_empty() {
         return;
@@ -121,7 +121,7 @@ fn collect_each<D: Disk + Send, O: Pass + Send, R: Threads + Wait + Sync>(
         &|_, member: &mut LogWorker<O>|
             requires { All (λ rows. All (λ row. InRange row.point) rows.items) collectors.now
                 × IsReady O.stops (length collectors.now) member.now }
-            ensures { IsDone D O.stops (lists_of collectors.entry.now) member.entry.now member.exit.now }
+            ensures { IsDone D O.stops (row_lists_of collectors.entry.now) member.entry.now member.exit.now }
         { collect_one(rt, log, collectors, member) },
     );
 }
@@ -135,7 +135,7 @@ fn collect_one<D: Disk, O: Pass, R: Wait>(
 )
     requires rows { All (λ rows. All (λ row. InRange row.point) rows.items) collectors.now }
     requires ready { IsReady O.stops (length collectors.now) member.old }
-    ensures { IsDone D O.stops (lists_of collectors.now) member.old member.new }
+    ensures { IsDone D O.stops (row_lists_of collectors.now) member.old member.new }
 {
     let worker = member.note.worker;
     let rows = &collectors[worker as usize];

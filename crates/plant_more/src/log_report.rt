@@ -2,8 +2,8 @@
 ghost use Rattle.std.specs.Prelude.{◌≡◌, ◌+◌, ◌^◌, ◌<◌, [], All, IfErr, IfOk, OnOk, length, string_bytes, take, vec_len};
 ghost use Rattle.trend_num.specs.Ranges.{TuningInRange};
 ghost use Rattle.trend_model.specs.State.{Stands};
-ghost use Rattle.commit_log.specs.Blocks.{IsRow};
-ghost use Rattle.plant_more.specs.LogReports.{AreStanding, IsReportRefusal, IsToldOf, all_rows, origin_of};
+ghost use Rattle.commit_log.specs.Blocks.{IsLogRow};
+ghost use Rattle.plant_more.specs.LogReports.{AreStanding, IsReportRefusal, IsLineToldOf, log_rows, log_origin_of};
 
 use commit_log::{LogHistory, LogRow, LogTurn};
 use plant_status::{Status, What};
@@ -17,9 +17,9 @@ use trend_report::check_text;
 // The line of each tag, of its values in the log in their order: those of the opening, and those that were put.
 pub(crate) fn report(alloc: Global, tags: &[TagDef], log: &LogHistory) -> Result<String, Status>
     requires tuned { All (λ def. TuningInRange def.tuning) tags.now }
-    requires rows { All (IsRow (length tags.now)) (all_rows log.now) }
-    ensures told { IfOk result (λ text. IsToldOf tags.now (all_rows log.now) (string_bytes text)) }
-    ensures refused { IfErr result (IsReportRefusal tags.now (all_rows log.now)) }
+    requires rows { All (IsLogRow (length tags.now)) (log_rows log.now) }
+    ensures told { IfOk result (λ text. IsLineToldOf tags.now (log_rows log.now) (string_bytes text)) }
+    ensures refused { IfErr result (IsReportRefusal tags.now (log_rows log.now)) }
 {
     let Ok(rows) = all_rows(alloc, log) else {
         return Err(Status::WantOfMemory);
@@ -36,7 +36,7 @@ pub(crate) fn report(alloc: Global, tags: &[TagDef], log: &LogHistory) -> Result
 
 // All rows of a log: those of the opening, and those that were put.
 fn all_rows(alloc: Global, log: &LogHistory) -> Result<Vec<LogRow>, AllocError>
-    ensures { IfOk result (λ rows. rows.items ≡ all_rows log.now) }
+    ensures { IfOk result (λ rows. rows.items ≡ log_rows log.now) }
 {
     let mut rows = Vec::from_slice(alloc, log.opening.as_slice())?;
     for place in 0..log.tape.len() {
@@ -51,7 +51,7 @@ fn all_rows(alloc: Global, log: &LogHistory) -> Result<Vec<LogRow>, AllocError>
 // A core for each tag, which has taken nothing, with room for its rows among these.
 fn new_cores(alloc: Global, tags: &[TagDef], rows: &[LogRow]) -> Result<Vec<TagCore>, WantOfMemory>
     requires tuned { All (λ def. TuningInRange def.tuning) tags.now }
-    requires rows { All (IsRow (length tags.now)) rows.now }
+    requires rows { All (IsLogRow (length tags.now)) rows.now }
     ensures { IfOk result (λ cores. AreStanding tags.now [] cores.items) }
 {
     let rooms = rooms_of(alloc, rows, tags.len())?;
@@ -67,14 +67,14 @@ fn new_cores(alloc: Global, tags: &[TagDef], rows: &[LogRow]) -> Result<Vec<TagC
 fn new_core(alloc: Global, tag: &TagDef, room: u32) -> Result<TagCore, WantOfMemory>
     requires { TuningInRange tag.now.tuning }
     ensures step { IfOk result (λ core. core.step ≡ tag.now.step) }
-    ensures stands { IfOk result (λ core. Stands (origin_of tag.now) [] core.state) }
+    ensures stands { IfOk result (λ core. Stands (log_origin_of tag.now) [] core.state) }
 {
     TagCore::new(alloc, tag.tuning, tag.step, room)
 }
 
 // How many of these rows are of each of so many tags.
 fn rooms_of(alloc: Global, rows: &[LogRow], tags: usize) -> Result<Vec<u32>, WantOfMemory>
-    requires { All (IsRow tags) rows.now }
+    requires { All (IsLogRow tags) rows.now }
     ensures { IfOk result (λ rooms. vec_len rooms ≡ tags) }
 {
     let mut rooms = vec![in alloc; 0u32; tags]?;
@@ -87,7 +87,7 @@ fn rooms_of(alloc: Global, rows: &[LogRow], tags: usize) -> Result<Vec<u32>, Wan
 
 // Takes the points of the rows, each with the core of its tag.
 fn take_all(cores: &mut [TagCore], tags: &[TagDef], rows: &[LogRow]) -> Result<(), Status>
-    requires rows { All (IsRow (length tags.now)) rows.now }
+    requires rows { All (IsLogRow (length tags.now)) rows.now }
     requires standing { AreStanding tags.now [] cores.old }
     ensures standing { OnOk result (AreStanding tags.now rows.now cores.new) }
     ensures refused { IfErr result (IsReportRefusal tags.now rows.now) }
@@ -105,7 +105,7 @@ fn take_on<L: Ledger>(
     requires name { blank.name ≡ L.name }
     requires parts { blank.parts ≡ L.parts }
     requires some { 0 < L.parts }
-    requires rows { All (IsRow (length tags.now)) rows.now }
+    requires rows { All (IsLogRow (length tags.now)) rows.now }
     requires standing { AreStanding tags.now [] cores.old }
     ensures standing { OnOk result (AreStanding tags.now rows.now cores.new) }
     ensures refused { IfErr result (IsReportRefusal tags.now rows.now) }
@@ -125,7 +125,7 @@ fn take_row<L: Ledger>(
     place: usize,
     steps: &mut Steps<L>,
 ) -> Result<(), Status>
-    requires rows { All (IsRow (length tags.now)) rows.now }
+    requires rows { All (IsLogRow (length tags.now)) rows.now }
     requires within { place < length rows.now }
     requires countable { place + 1 < 2 ^ 64 }
     requires standing { AreStanding tags.now (take place rows.now) cores.old }

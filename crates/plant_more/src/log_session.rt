@@ -1,6 +1,6 @@
 // The collectors of a plan at an open log, and what is done once they have ended.
 ghost use Rattle.std.specs.Prelude.{◌≡◌, ◌^◌, ◌<◌, IfErr, IfOk, OnErr, length};
-ghost use Rattle.plant_more.specs.LogNotes.{lists_of};
+ghost use Rattle.plant_more.specs.LogNotes.{row_lists_of};
 ghost use Rattle.plant_more.specs.LogMaking.{AreRowsFor, total_rows};
 ghost use Rattle.plant_more.specs.LogHeadline.{IsEnded};
 
@@ -33,9 +33,9 @@ pub(crate) fn hold<D: Disk + Send, P: Passes, R: Threads + Wait + Sync>(
     passes: &mut P,
 ) -> Result<EndedLog<D>, Log<D>>
     requires few { length files.now < 2 ^ 32 }
-    requires rows { AreRowsFor known.now.tags (lists_of files.now) }
-    requires small { total_rows (lists_of files.now) < 2 ^ 64 }
-    ensures ended { IfOk result (IsEnded D.trace D.ticks D.fault_count (lists_of files.now) known.now
+    requires rows { AreRowsFor known.now.tags (row_lists_of files.now) }
+    requires small { total_rows (row_lists_of files.now) < 2 ^ 64 }
+    ensures ended { IfOk result (IsEnded D.trace D.ticks D.fault_count (row_lists_of files.now) known.now
         (P.stops passes.old) (P.stops passes.new)) }
     ensures unbegun { OnErr result (P.stops passes.new ≡ P.stops passes.old) }
     ensures unchanged { IfErr result (λ back. back ≡ log) }

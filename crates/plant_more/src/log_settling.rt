@@ -1,11 +1,11 @@
 // A log whose workers have ended is brought to its end.
 ghost use Rattle.std.specs.Prelude.{◌≡◌, ◌^◌, ◌<◌, IfErr, OnOk, length};
-ghost use Rattle.plant_more.specs.LogNotes.{lists_of};
+ghost use Rattle.plant_more.specs.LogNotes.{row_lists_of};
 ghost use Rattle.plant_more.specs.LogTurns.{IsSameLog};
 ghost use Rattle.plant_more.specs.LogFinding.{AreFound};
 ghost use Rattle.plant_more.specs.LogKnown.{IsAsKnown};
 ghost use Rattle.plant_more.specs.LogMaking.{AreRowsFor, total_rows};
-ghost use Rattle.plant_more.specs.LogRefusals.{IsMade, IsOfOpening, IsRestRefusal, IsSettlingRefusal};
+ghost use Rattle.plant_more.specs.LogRefusals.{ArePutsMade, IsOfOpening, IsRestRefusal, IsSettlingRefusal};
 
 use crate::log_endings::check_endings;
 use crate::log_finding::{find_puts, none_found};
@@ -28,11 +28,11 @@ pub(crate) fn settle<D: Disk>(
     notes: &[LogNote],
 ) -> Result<(), Status>
     requires few { length files.now < 2 ^ 32 }
-    requires rows { AreRowsFor known.now.tags (lists_of files.now) }
-    requires small { total_rows (lists_of files.now) < 2 ^ 64 }
-    ensures made { OnOk result (IsMade (lists_of files.now) log.new) }
+    requires rows { AreRowsFor known.now.tags (row_lists_of files.now) }
+    requires small { total_rows (row_lists_of files.now) < 2 ^ 64 }
+    ensures made { OnOk result (ArePutsMade (row_lists_of files.now) log.new) }
     ensures known { (IsOfOpening result → ⊥) → IsAsKnown log.new known.now }
-    ensures refused { IfErr result (IsSettlingRefusal D.fault_count (lists_of files.now) notes.now known.now log.new) }
+    ensures refused { IfErr result (IsSettlingRefusal D.fault_count (row_lists_of files.now) notes.now known.now log.new) }
 {
     compare_log(log, known)?;
     let Ok(mut next) = none_found(alloc, files.len()) else {
@@ -50,12 +50,12 @@ fn complete<D: Disk>(
     notes: &[LogNote],
 ) -> Result<(), Status>
     requires few { length files.now < 2 ^ 32 }
-    requires rows { AreRowsFor log.old.tags (lists_of files.now) }
-    requires small { total_rows (lists_of files.now) < 2 ^ 64 }
-    requires found { AreFound (lists_of files.now) log.old.tape next.old }
-    ensures made { OnOk result (IsMade (lists_of files.now) log.new) }
+    requires rows { AreRowsFor log.old.tags (row_lists_of files.now) }
+    requires small { total_rows (row_lists_of files.now) < 2 ^ 64 }
+    requires found { AreFound (row_lists_of files.now) log.old.tape next.old }
+    ensures made { OnOk result (ArePutsMade (row_lists_of files.now) log.new) }
     ensures same { IsSameLog log.old log.new }
-    ensures refused { IfErr result (IsRestRefusal D.fault_count (lists_of files.now) notes.now log.new) }
+    ensures refused { IfErr result (IsRestRefusal D.fault_count (row_lists_of files.now) notes.now log.new) }
 {
     check_endings(notes)?;
     put_missing(log, files, next)?;

@@ -1,6 +1,6 @@
 // A worker's place in a run: its pass and its note.
 use crate::log_note::LogNote;
-use plant_status::Seat;
+use plant_status::Worker;
 
 // What a worker has, from before it begins until its pass is given back.
 pub(crate) struct LogWorker<O> {
@@ -8,7 +8,7 @@ pub(crate) struct LogWorker<O> {
     pub(crate) note: LogNote,
 }
 
-impl<O> Seat<O, LogNote> for LogWorker<O> {
+impl<O> Worker<O, LogNote> for LogWorker<O> {
     ghost pass = { λ s. s.pass };
 
     ghost note = { λ s. s.note };

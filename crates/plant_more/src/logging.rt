@@ -2,17 +2,17 @@
 ghost use Rattle.std.specs.Prelude.{◌≡◌, ◌^◌, ◌<◌, ◌≤◌, All, Err, IfErr, IfOk, IfSome, IsTrue, None, OnOk, length};
 ghost use Rattle.std.specs.Option.{IsSome};
 ghost use Rattle.trend_num.specs.Ranges.{TuningInRange};
-ghost use Rattle.commit_log.specs.Blocks.{IsRow};
+ghost use Rattle.commit_log.specs.Blocks.{IsLogRow};
 ghost use Rattle.plant_files.specs.Collected.{most_collector_rows};
 ghost use Rattle.plant_files.specs.Faults.{IsFaultOfPlanned};
 ghost use Rattle.plant_files.specs.Reading.{faults_after};
 ghost use Rattle.plant_files.specs.PlanRows.{AreRowsOfBase, IsGoodBase};
-ghost use Rattle.plant_more.specs.LogNotes.{lists_of};
+ghost use Rattle.plant_more.specs.LogNotes.{row_lists_of};
 ghost use Rattle.plant_more.specs.LogHeadline.{IsLogged, IsOfOthers, IsRun, IsLogReported, IsUnlogged, IsUnopened};
 ghost use Rattle.plant_more.specs.LogKnown.{IsAsKnown};
 ghost use Rattle.plant_more.specs.LogMaking.{AreRowsFor, total_rows};
-ghost use Rattle.plant_more.specs.LogOpenings.{AreOthersSame, CountsOpening, Devices, IsGivenBack, IsLogOpened};
-ghost use Rattle.plant_more.specs.LogReports.{all_rows};
+ghost use Rattle.plant_more.specs.LogOpenings.{AreOthersSame, CountsOpening, TracesByName, IsGivenBack, IsLogOpened};
+ghost use Rattle.plant_more.specs.LogReports.{log_rows};
 ghost use Rattle.plant_more.specs.LogTexts.{log_name, plant_text};
 
 use crate::log_known::{KnownLog, known_of};
@@ -99,13 +99,13 @@ fn log_read<S: Store, P: Passes, R: Threads + Wait + Sync>(
     read: &CollectedFiles,
 ) -> Logged
     requires base { IsGoodBase read.now.base }
-    requires rows { AreRowsOfBase read.now.base (lists_of read.now.rows.items) }
-    requires few { total_rows (lists_of read.now.rows.items) ≤ most_collector_rows }
+    requires rows { AreRowsOfBase read.now.base (row_lists_of read.now.rows.items) }
+    requires few { total_rows (row_lists_of read.now.rows.items) ≤ most_collector_rows }
     ensures held { OnOk result.answer (IsSome result.log) }
-    ensures run { IfSome result.log (IsRun S.Dev.trace S.Dev.ticks S.Dev.fault_count read.now.base (lists_of read.now.rows.items)
+    ensures run { IfSome result.log (IsRun S.Dev.trace S.Dev.ticks S.Dev.fault_count read.now.base (row_lists_of read.now.rows.items)
         (S.device_at store.old) (S.device_at store.new) (S.fault_count store.old) (S.fault_count store.new)
         (P.stops passes.old) (P.stops passes.new) result.answer) }
-    ensures unopened { result.log ≡ None → IfErr result.answer (IsUnopened read.now.base (total_rows (lists_of read.now.rows.items))
+    ensures unopened { result.log ≡ None → IfErr result.answer (IsUnopened read.now.base (total_rows (row_lists_of read.now.rows.items))
         (S.device_at store.old) (S.device_at store.new) (S.fault_count store.old) (S.fault_count store.new)) }
     ensures counts { result.log ≡ None → S.fault_count store.old < 2 ^ 64
         → CountsOpening result.answer (S.fault_count store.old) (S.fault_count store.new) }
@@ -137,10 +137,10 @@ pub(crate) struct PreparedLog {
 
 // Makes that of a base and the rows of its collectors.
 fn prepare(alloc: Global, base: &Base, rows: &[Vec<RawRow>]) -> Result<PreparedLog, WantOfMemory>
-    requires few { total_rows (lists_of rows.now) ≤ most_collector_rows }
+    requires few { total_rows (row_lists_of rows.now) ≤ most_collector_rows }
     ensures text { IfOk result (λ p. p.text.items ≡ plant_text base.now.tags.items) }
     ensures tags { IfOk result (λ p. p.tags ≡ length base.now.tags.items) }
-    ensures room { IfOk result (λ p. p.room ≡ total_rows (lists_of rows.now)) }
+    ensures room { IfOk result (λ p. p.room ≡ total_rows (row_lists_of rows.now)) }
     ensures few_files { OnOk result (length rows.now < 2 ^ 32) }
 {
     if rows.len() > u32::MAX as usize {
@@ -179,15 +179,15 @@ fn log_open<S: Store, P: Passes, R: Threads + Wait + Sync>(
 ) -> Logged
     requires few { length rows.now < 2 ^ 32 }
     requires tuned { All (λ def. TuningInRange def.tuning) base.now.tags.items }
-    requires rows { AreRowsFor (length base.now.tags.items) (lists_of rows.now) }
-    requires small { total_rows (lists_of rows.now) < 2 ^ 64 }
+    requires rows { AreRowsFor (length base.now.tags.items) (row_lists_of rows.now) }
+    requires small { total_rows (row_lists_of rows.now) < 2 ^ 64 }
     requires kept { IsAsKnown log known.now }
     requires plant { known.now.plant.items ≡ plant_text base.now.tags.items }
     requires tags { known.now.tags ≡ length base.now.tags.items }
     requires place { IsTrue (S.has_place store.old log_name) }
-    ensures run { (old : Devices) → AreOthersSame old (S.device_at store.old)
+    ensures run { (old : TracesByName) → AreOthersSame old (S.device_at store.old)
         → IsLogOpened S.Dev.trace S.Dev.ticks S.Dev.fault_count (plant_text base.now.tags.items) (length base.now.tags.items) (old log_name) log
-        → IfSome result.log (IsRun S.Dev.trace S.Dev.ticks S.Dev.fault_count base.now (lists_of rows.now)
+        → IfSome result.log (IsRun S.Dev.trace S.Dev.ticks S.Dev.fault_count base.now (row_lists_of rows.now)
         old (S.device_at store.new) (S.fault_count store.old) (S.fault_count store.new)
         (P.stops passes.old) (P.stops passes.new) result.answer) }
 
@@ -223,7 +223,7 @@ fn reported(
     log: &LogHistory,
 ) -> Result<String, Status>
     requires tuned { All (λ def. TuningInRange def.tuning) base.now.tags.items }
-    requires rows { OnOk answer (All (IsRow (length base.now.tags.items)) (all_rows log.now)) }
+    requires rows { OnOk answer (All (IsLogRow (length base.now.tags.items)) (log_rows log.now)) }
     ensures { IsLogReported base.now log.now answer result }
 {
     match answer {

@@ -2,7 +2,7 @@
 ghost use Rattle.std.specs.Prelude.{◌≡◌, ◌++◌, All, IfOk, OnOk, List, ℕ, string_bytes};
 ghost use Rattle.trend_report.specs.Lines.{number_text};
 ghost use Rattle.shift_calendar.specs.Days.{IsDayWord};
-ghost use Rattle.shift_calendar.specs.Windows.{IsTimed};
+ghost use Rattle.shift_calendar.specs.Windows.{IsWindowTimed};
 ghost use Rattle.plant_more.specs.ShiftLines.{AreLines, dated, shift_line};
 ghost use Rattle.plant_more.specs.ShiftTags.{heading, tag_lines};
 
@@ -18,7 +18,7 @@ pub(crate) fn lines_of(
     measure: Measure,
     windows: &[ShiftWindow],
 ) -> Result<String, WantOfMemory>
-    requires { All IsTimed windows.now }
+    requires { All IsWindowTimed windows.now }
     ensures { IfOk result (λ text. AreLines (tag_lines measure tags.now) windows.now (string_bytes text)) }
 {
     let mut text = String::new(alloc);
@@ -35,7 +35,7 @@ fn put_window(
     measure: Measure,
     window: &ShiftWindow,
 ) -> Result<(), AllocError>
-    requires { IsTimed window.now }
+    requires { IsWindowTimed window.now }
     ensures { OnOk result ((word : List ℕ) × IsDayWord word window.now.day
         × (string_bytes text.new ≡ string_bytes text.old ++ tag_lines measure tags.now (dated window.now word))) }
 {
@@ -51,7 +51,7 @@ fn put_lines(
     window: &ShiftWindow,
     day: &str,
 ) -> Result<(), AllocError>
-    requires { IsTimed window.now }
+    requires { IsWindowTimed window.now }
     ensures { OnOk result (string_bytes text.new ≡ string_bytes text.old ++ tag_lines measure tags.now (dated window.now day.now)) }
 {
     for tag in tags {

@@ -1,7 +1,7 @@
 // The value of a tag in a window.
 ghost use Rattle.std.specs.Prelude.{◌≡◌, ◌≤◌};
 ghost use Rattle.trend_num.specs.Ranges.{last_time};
-ghost use Rattle.plant_more.specs.ShiftTags.{value_of};
+ghost use Rattle.plant_more.specs.ShiftTags.{shift_value_of};
 
 use crate::shift_tag::ShiftTag;
 use shift_calendar::{Measure, ShiftWindow};
@@ -11,7 +11,7 @@ use weighted_total::window_value;
 // value.
 pub(crate) fn value_of(tag: &ShiftTag, measure: Measure, shift: &ShiftWindow) -> Option<i128>
     requires { shift.now.to ≤ last_time }
-    ensures { result ≡ value_of measure shift.now tag.now }
+    ensures { result ≡ shift_value_of measure shift.now tag.now }
 {
     let ShiftWindow { from, to, .. } = *shift;
     if to <= from {

@@ -1,6 +1,6 @@
 // The words of `log` and of `shifts`.
 ghost use Rattle.std.specs.Prelude.{◌≡◌, ◌≤◌, map, string_bytes, IfSome, option_map};
-ghost use Rattle.plant_more.specs.Words.{asked, log_words, most_days, named, over_days, shift_words};
+ghost use Rattle.plant_more.specs.Words.{asked, log_words, most_days, words_named, over_days, shift_words};
 
 use plant_files::count_upto;
 
@@ -25,7 +25,7 @@ const MOST_DAYS: u32 = 366;
 
 // The files whose collectors these words ask to log, if they are `log BASE PLAN`.
 pub(crate) fn log_words(words: &[String]) -> Option<Planned<'_>>
-    ensures { option_map named result ≡ log_words (map string_bytes words.now) }
+    ensures { option_map words_named result ≡ log_words (map string_bytes words.now) }
 {
     match words {
         [verb, base, plan] if verb.as_str() == "log" => Some(Planned {

@@ -2,12 +2,12 @@
 use Rattle.std.proofs.Common.{inl, inr, ℕ, ◌^◌, ◌<◌, List, ◌≢◌}
 use Rattle.plant_files.specs.Asked.{ToldFiles}
 use Rattle.store_commands.specs.Commands.{IsCheckRefusal, IsTrendRefusal, OfBase, OfGroup, OfPlan, OfReader, OfTag, OfMemory}
-use Rattle.plant_store.specs.Groups.{Devices}
+use Rattle.plant_store.specs.Groups.{DeviceTraces}
 use Rattle.disk_model.specs.Calls.{Rose}
 use Rattle.trend_num.specs.declared.archive.Rec.{Rec}
 use Rattle.tag_base.specs.declared.definition.GroupDef.{GroupDef}
 use Rattle.plant_store.specs.BookRefusals as group
-use Rattle.store_commands.specs.GroupRows.{IsRowsRefusal, OfCells, OfCopies, OfOpening, OfWant}
+use Rattle.store_commands.specs.GroupRows.{IsGroupRowsRefusal, OfCells, OfCopies, OfOpening, OfWant}
 use Rattle.plant_status.specs.declared.unit.Unit.{Unit}
 use Rattle.plant_status.specs.declared.unit.Unit.TheVariants.{Tag, Group, Log}
 use Rattle.plant_status.specs.declared.status.Status.TheVariants.{Done, WriteFault, DeviceFault, WantOfMemory}
@@ -17,8 +17,8 @@ use Rattle.store_commands.specs.FrameRows as frame_rows
 
 -- ---- a refusal is not Done, and no fault of the output
 
-module _ (groups : List GroupDef) (records : List (List Rec)) (old : Devices) (before now : ℕ) where
-  rows_not_done : IsRowsRefusal groups records old before now Done → ⊥
+module _ (groups : List GroupDef) (records : List (List Rec)) (old : DeviceTraces) (before now : ℕ) where
+  rows_not_done : IsGroupRowsRefusal groups records old before now Done → ⊥
   rows_not_done (OfOpening (group.OfFault i is at)) = cc
   rows_not_done (OfOpening (group.OfDamage i a byte is at)) = cc
   rows_not_done (OfOpening (group.OfVersion i input found version is at)) = cc
@@ -28,7 +28,7 @@ module _ (groups : List GroupDef) (records : List (List Rec)) (old : Devices) (b
   rows_not_done (OfCopies i number is at) = cc
   rows_not_done (OfWant is) = cc
 
-  rows_no_output : IsRowsRefusal groups records old before now WriteFault → ⊥
+  rows_no_output : IsGroupRowsRefusal groups records old before now WriteFault → ⊥
   rows_no_output (OfOpening (group.OfFault i is at)) = cc
   rows_no_output (OfOpening (group.OfDamage i a byte is at)) = cc
   rows_no_output (OfOpening (group.OfVersion i input found version is at)) = cc
@@ -38,7 +38,7 @@ module _ (groups : List GroupDef) (records : List (List Rec)) (old : Devices) (b
   rows_no_output (OfCopies i number is at) = cc
   rows_no_output (OfWant is) = cc
 
-  rows_rose : before < 2 ^ 64 → (unit : Unit) → IsRowsRefusal groups records old before now (DeviceFault unit) → Rose before now
+  rows_rose : before < 2 ^ 64 → (unit : Unit) → IsGroupRowsRefusal groups records old before now (DeviceFault unit) → Rose before now
   rows_rose few unit (OfOpening (group.OfFault i is at)) = at.cause few
   rows_rose few unit (OfOpening (group.OfDamage i a byte is at)) = cc
   rows_rose few unit (OfOpening (group.OfVersion i input found version is at)) = cc
@@ -48,7 +48,7 @@ module _ (groups : List GroupDef) (records : List (List Rec)) (old : Devices) (b
   rows_rose few unit (OfCopies i number is at) = cc
   rows_rose few unit (OfWant is) = cc
 
-module _ (name plan_name : List ℕ) (told : ToldFiles) (old new : Devices) (before now : ℕ) where
+module _ (name plan_name : List ℕ) (told : ToldFiles) (old new : DeviceTraces) (before now : ℕ) where
   pub check_not_done : IsCheckRefusal name told old new before now Done → ⊥
   check_not_done (inl base) = base.0
   check_not_done (inr (inl tags)) = tags.2
@@ -104,7 +104,7 @@ module _ (name plan_name : List ℕ) (told : ToldFiles) (old new : Devices) (bef
       rows_rose base.groups.items _ _ before now few unit refused
   trend_rose few unit (OfMemory same) = cc
 
-module _ (name group calc : List ℕ) (told : ToldFiles) (old new : Devices) (before now : ℕ) where
+module _ (name group calc : List ℕ) (told : ToldFiles) (old new : DeviceTraces) (before now : ℕ) where
   pub frames_not_done : frame.IsFramesRefusal name group calc told old new before now Done → ⊥
   frames_not_done (frame.OfBase refused same) = refused
   frames_not_done (frame.OfName base read (frame_names.NoGroup is none) same) = cc

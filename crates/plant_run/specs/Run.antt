@@ -12,10 +12,10 @@ use Rattle.plant_status.specs.declared.status.Status.{Status}
 use Rattle.plant_status.specs.declared.status.Status.TheVariants.{BadWords, ReadFault, WantOfMemory}
 use Rattle.plant_files.specs.Asked.{ToldFiles}
 use Rattle.plant_files.specs.Faults.{IsFaultOfPlanned}
-use Rattle.pack_command.specs.Pack.{IsRead, IsPackRefusal, first_full, history_of, origin_of}
+use Rattle.pack_command.specs.Pack.{IsInputRead, IsPackRefusal, first_full, history_of, origin_of}
 use Rattle.plant_files.specs.Printing.{PrintsSo}
 use Rattle.store_commands.specs.Commands.{IsChecked, IsCheckRefusal, IsTrend, IsTrendRefusal, AreAllKept}
-use Rattle.plant_store.specs.Groups.{Devices}
+use Rattle.plant_store.specs.Groups.{DeviceTraces}
 use Rattle.plant_store.specs.OpenedBases.{AreKept}
 use Rattle.store_commands.specs.FrameCommands.{AreFramesKept, IsFrames, IsFramesRefusal}
 use Rattle.plant_more.specs.Endings.{AsksForNone, EndsOfShifts, EndsOver, IsUnread, KeepsForShifts, Scene, scene}
@@ -24,7 +24,7 @@ use Rattle.plant_run.specs.CommandLine.{Form, Pack, Check, Trend, Log, Shifts, F
 -- all of the input was read, and this is the text of what its history keeps. That is near all values of the history.
 pub record IsPacked (tuning : Tuning) (before now : Outside) (text : List ℕ) : Type 0 where
   pub points : List Point
-  pub read : IsRead before now points
+  pub read : IsInputRead before now points
   pub room : first_full (origin_of tuning) (history_of points) ≡ None
   pub same : text ≡ archive_text (records (origin_of tuning) (history_of points)) (held (origin_of tuning) (history_of points))
   pub bounded : IsBounded (origin_of tuning) (history_of points)
@@ -39,7 +39,7 @@ pub record World : Type 0 where
   pub input : Outside
   pub scene : Scene
 
-abbrev pub world : Outside → Outside → ToldFiles → ℕ → Option (List ℕ) → Devices → ℕ → World
+abbrev pub world : Outside → Outside → ToldFiles → ℕ → Option (List ℕ) → DeviceTraces → ℕ → World
 world input output files file_faults failed_name devices device_faults = record {
   input = input;
   scene = scene output files file_faults failed_name devices device_faults;
@@ -85,7 +85,7 @@ EndsFor (Pack tuning) before now status =
 EndsFor form before now status = EndsAround form before.scene now.scene status × (now.input ≡ before.input)
 
 -- the devices after it: a command over stored archives keeps them, and any other leaves them alone
-abbrev pub KeepsFor : Form → ToldFiles → Devices → Devices → Type 0
+abbrev pub KeepsFor : Form → ToldFiles → DeviceTraces → DeviceTraces → Type 0
 KeepsFor (Check base) files old new = AreKept base files old new
 KeepsFor (Trend base plan) files old new = AreAllKept base files old new
 KeepsFor (Shifts asked) files old new = KeepsForShifts asked files old new

@@ -2,7 +2,7 @@
 use Rattle.std.proofs.Common.{◌≡◌, ℕ, suc, List, [], ◌∷◌, ◌++◌, length, map, fold, refl, sym, ◌∙◌, ap, subst, arith, append_assoc, take, drop}
 use Rattle.std.specs.Prelude.{All}
 use Rattle.std.proofs.lemmas.Grind.{common_steps}
-use Rattle.plant_status.specs.Pass.{sum_from, sum_of_counts}
+use Rattle.plant_status.specs.Pass.{sum_from, sum_of_fault_counts}
 
 -- what holds of all holds of the first
 pub all_first : {A : Type 0} (P : A → Type 0) (all : List A) (x : A) (xs : List A) → all ≡ x ∷ xs → All P all → P x
@@ -24,12 +24,12 @@ pub whole_again : {A : Type 0} (n : ℕ) (xs ys : List A) → length ys ≡ leng
 whole_again n xs ys same count = grind (arith, common_steps)
 
 -- the stops that passes have counted are those that the notes tell, where each note tells those of its pass
-pub stops_told : {S N : Type 0} (counted : S → ℕ) (note : S → N) (told : N → ℕ) (seats : List S) (before : ℕ)
-    → All (λ s. counted s ≡ told (note s)) seats
-    → sum_from before (map counted seats) ≡ fold (λ count n. sum_of_counts count (told n)) before (map note seats)
+pub stops_told : {S N : Type 0} (counted : S → ℕ) (note : S → N) (told : N → ℕ) (workers : List S) (before : ℕ)
+    → All (λ s. counted s ≡ told (note s)) workers
+    → sum_from before (map counted workers) ≡ fold (λ count n. sum_of_fault_counts count (told n)) before (map note workers)
 stops_told counted note told [] before are = refl
-stops_told counted note told (s ∷ seats) before are =
+stops_told counted note told (s ∷ workers) before are =
     let first : counted s ≡ told (note s) = are 0 s (omega arith) in
-    let rest = all_rest (λ s. counted s ≡ told (note s)) (s ∷ seats) s seats refl are in
-    ap (λ n. sum_from (sum_of_counts before n) (map counted seats)) first
-    ∙ stops_told counted note told seats (sum_of_counts before (told (note s))) rest
+    let rest = all_rest (λ s. counted s ≡ told (note s)) (s ∷ workers) s workers refl are in
+    ap (λ n. sum_from (sum_of_fault_counts before n) (map counted workers)) first
+    ∙ stops_told counted note told workers (sum_of_fault_counts before (told (note s))) rest

@@ -23,29 +23,29 @@ code_of (OtherPlant _) = 15
 code_of (BadName _) = 16
 
 -- the line with its line feed, or no bytes at all
-abbrev pub line_of : Status → List ℕ
-line_of Done = []
-line_of BadWords = codes "fault: words\n"
-line_of (BadText file rule place at) =
+abbrev pub status_line_of : Status → List ℕ
+status_line_of Done = []
+status_line_of BadWords = codes "fault: words\n"
+status_line_of (BadText file rule place at) =
     codes "fault: text " ++ file_text file ++ codes " rule " ++ decimal rule ++ codes " place "
     ++ decimal place ++ codes " at " ++ decimal at ++ codes "\n"
-line_of (BadRow file row reason) =
+status_line_of (BadRow file row reason) =
     codes "fault: row " ++ file_text file ++ codes " " ++ decimal row ++ codes " " ++ reason_word reason
     ++ codes "\n"
-line_of (ReadFault file) = codes "fault: read " ++ file_text file ++ codes "\n"
-line_of WriteFault = []
-line_of (DeviceFault unit) = codes "fault: device " ++ unit_text unit ++ codes "\n"
-line_of (Damaged unit at byte) =
+status_line_of (ReadFault file) = codes "fault: read " ++ file_text file ++ codes "\n"
+status_line_of WriteFault = []
+status_line_of (DeviceFault unit) = codes "fault: device " ++ unit_text unit ++ codes "\n"
+status_line_of (Damaged unit at byte) =
     codes "fault: damaged " ++ unit_text unit ++ codes " " ++ decimal at ++ codes " " ++ byte_word byte
     ++ codes "\n"
-line_of (OtherTag tag _ _) = codes "fault: other tag " ++ decimal (tag + 1) ++ codes "\n"
-line_of (Limit what number) = codes "fault: limit " ++ what_word what ++ codes " " ++ decimal number
+status_line_of (OtherTag tag _ _) = codes "fault: other tag " ++ decimal (tag + 1) ++ codes "\n"
+status_line_of (Limit what number) = codes "fault: limit " ++ what_word what ++ codes " " ++ decimal number
     ++ codes "\n"
-line_of (Mismatch _ _ _) = codes "fault: mismatch\n"
-line_of (Halted worker) = codes "fault: halted " ++ decimal worker ++ codes "\n"
-line_of WantOfMemory = codes "fault: memory\n"
-line_of (OtherPlant at) = codes "fault: other plant " ++ decimal at ++ codes "\n"
-line_of (BadName word) = codes "fault: name " ++ decimal word ++ codes "\n"
+status_line_of (Mismatch _ _ _) = codes "fault: mismatch\n"
+status_line_of (Halted worker) = codes "fault: halted " ++ decimal worker ++ codes "\n"
+status_line_of WantOfMemory = codes "fault: memory\n"
+status_line_of (OtherPlant at) = codes "fault: other plant " ++ decimal at ++ codes "\n"
+status_line_of (BadName word) = codes "fault: name " ++ decimal word ++ codes "\n"
 
 -- a run that ended well prints no line, and neither does one that could not write
 abbrev pub IsSilent : Status → Type 0

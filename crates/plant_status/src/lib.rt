@@ -15,16 +15,16 @@ mod fault_line;
 mod file;
 mod mismatch;
 mod pass;
-mod seat;
 mod status;
 mod unit;
 mod word;
+mod worker;
 
 pub use fault_line::Line;
 pub use file::FileId;
 pub use mismatch::{Place, Seen};
 pub use pass::{OpenPass, OpenPasses, Pass, Passes};
-pub use seat::{Seat, gather};
 pub use status::{Status, code, line};
 pub use trend_num::{Point, Reason, Summary, TagDef, TagQuery, What};
 pub use unit::Unit;
+pub use worker::{Worker, gather};

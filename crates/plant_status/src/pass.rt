@@ -1,6 +1,6 @@
 // What lets workers go on, or stops them.
 ghost use Rattle.std.specs.Prelude.{◌≡◌, ℕ, true};
-ghost use Rattle.plant_status.specs.Pass.{stops_after, sum_of_counts};
+ghost use Rattle.plant_status.specs.Pass.{stops_after, sum_of_fault_counts};
 
 /// What a worker asks before each of its steps.
 pub trait Pass {
@@ -27,7 +27,7 @@ pub trait Passes {
 
     /// Takes a pass back, and counts what it stopped.
     fn give_back(&mut self, one: Self::One)
-        ensures { stops self.new ≡ sum_of_counts (stops self.old) (Self.One.stops one) };
+        ensures { stops self.new ≡ sum_of_fault_counts (stops self.old) (Self.One.stops one) };
 }
 
 /// Passes that never stop a worker.

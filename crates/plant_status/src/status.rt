@@ -1,7 +1,7 @@
 // The answers of the top call, with their codes and lines.
 ghost use Rattle.std.specs.Prelude.{◌≡◌, []};
 ghost use Rattle.plant_status.specs.Line.{IsLine};
-ghost use Rattle.plant_status.specs.Status.{code_of, line_of, IsSilent};
+ghost use Rattle.plant_status.specs.Status.{code_of, status_line_of, IsSilent};
 
 use crate::fault_line::Line;
 use crate::file::FileId;
@@ -107,7 +107,7 @@ pub fn code(status: &Status) -> u8
 
 /// The line that a status prints. `Done` and `WriteFault` have none.
 pub fn line(status: &Status) -> Line
-    ensures text { result ≡ line_of status.now }
+    ensures text { result ≡ status_line_of status.now }
     ensures silent { IsSilent status.now → result ≡ [] }
     ensures one_line { ¬ IsSilent status.now → IsLine result }
 {
@@ -151,7 +151,7 @@ pub fn line(status: &Status) -> Line
 
 // The line of a text that breaks a rule.
 fn bad_text(file: FileId, rule: u8, place: u32, at: u32) -> Line
-    ensures text { result ≡ line_of (Status.BadText file rule place at) }
+    ensures text { result ≡ status_line_of (Status.BadText file rule place at) }
     ensures one_line { IsLine result }
 {
     Line::fault("text")

@@ -10,7 +10,7 @@ use Rattle.group_book.specs.Told.{Told as Book, count_of}
 use Rattle.plant_store.specs.CellClosings.{AreGivenBack, CountsCells, HasRisen}
 use Rattle.plant_store.specs.CellNames.{texts}
 use Rattle.plant_store.specs.BookEndings.{AreGivenBack as AreBooksBack, counts_after}
-use Rattle.plant_store.specs.Groups.{Devices}
+use Rattle.plant_store.specs.Groups.{DeviceTraces}
 use Rattle.plant_store.specs.BookSteps.{AreOtherNamesSame}
 use Rattle.plant_store.proofs.BookReturns.{counts_small}
 use Rattle.plant_store.specs.declared.shelf.Shelf.{Shelf}
@@ -19,7 +19,7 @@ use Rattle.plant_store.specs.Shelves.{IsShelf}
 
 -- the devices of the books are given back, and then those of the cells
 pub all_back : {D : Type 0} (trace : D → Option Trace) (shelf : Shelf) (cells : List (Cell D)) (books : List (Book D))
-    (old mid new : Devices) → IsShelf shelf → length shelf.group_names.items ≡ length books
+    (old mid new : DeviceTraces) → IsShelf shelf → length shelf.group_names.items ≡ length books
     → AreBooksBack trace shelf.group_names.items books old mid
     → AreOtherNamesSame (length shelf.group_names.items) shelf.group_names.items old mid
     → AreGivenBack trace (texts shelf.tag_names.items) cells mid new → AreDevicesBack trace shelf cells books old new

@@ -11,9 +11,9 @@ use Rattle.disk_model.specs.Traces.{Trace}
 use Rattle.tag_base.specs.declared.definition.GroupDef.{GroupDef}
 use Rattle.group_book.specs.declared.refusal.LoadNo.{LoadNo}
 use Rattle.group_book.specs.declared.refusal.LoadNo.TheVariants.{DeviceFault, Damaged, Ahead, Shape, WantOfMemory}
-use Rattle.group_book.specs.Openings.{CountsRefusal, StaysSame}
-use Rattle.group_book.specs.Told.{Told, trace_of}
-use Rattle.plant_store.specs.Groups.{AllStaySame, AreBooksOpened, AreDistinct, AreNamesOf, AreOpened, Devices, IsOpening, parts_of, records_of, text_of, trace_at}
+use Rattle.group_book.specs.Openings.{CountsBookRefusal, BookStaysSame}
+use Rattle.group_book.specs.Told.{ToldBook, trace_of}
+use Rattle.plant_store.specs.Groups.{AllStaySame, AreBooksOpened, AreDistinct, AreNamesOf, AreGroupsOpened, DeviceTraces, IsGroupOpening, group_parts_of, input_records_of, group_definition_text, group_trace_at}
 use Rattle.plant_store.specs.BookRefusals.{CountsStore, IsRefusal, IsRefusedAt, OfDamage, OfFault, OfMemory, OfVersion, OfWindows, status_of}
 use Rattle.plant_store.specs.BookEndings.{AreGivenBack, counts_after, trace_after}
 use Rattle.plant_store.specs.BookSteps.{AreOtherNamesSame, IsCauseAt, RestStaysSame}
@@ -25,17 +25,17 @@ use Rattle.plant_store.proofs.BookTurns.{unreached}
 
 -- the groups before it are opened
 pub front_of : {D : Type 0} (trace : D → Option Trace) (ticks faults : D → ℕ) (groups : List GroupDef) (records : List (List Rec))
-    (old : Devices) (books : List (Told D)) → AreBooksOpened trace ticks faults groups records old books
-    → AreOpened (length books) groups records old (map (λ b. b.opening) books)
+    (old : DeviceTraces) (books : List (ToldBook D)) → AreBooksOpened trace ticks faults groups records old books
+    → AreGroupsOpened (length books) groups records old (map (λ b. b.opening) books)
 front_of trace ticks faults groups records old [] opened k d x below = absurd (omega (arith, below))
 front_of trace ticks faults groups records old (b ∷ bs) opened k d x below =
-    subst (λ o. IsOpening (get_or groups k d) (records_of records (get_or groups k d)) (trace_at old (get_or groups k d)) o)
+    subst (λ o. IsGroupOpening (get_or groups k d) (input_records_of records (get_or groups k d)) (group_trace_at old (get_or groups k d)) o)
     (sym (get_or-map (λ b. b.opening) (b ∷ bs) k b x below)) (opened.each k d b below).opening
 
 refused_at : {D : Type 0} (trace : D → Option Trace) (ticks faults : D → ℕ) (groups : List GroupDef) (records : List (List Rec))
-    (old : Devices) (books : List (Told D)) (g : GroupDef) (P : GroupDef → List (List Rec) → Option Trace → Type 0)
+    (old : DeviceTraces) (books : List (ToldBook D)) (g : GroupDef) (P : GroupDef → List (List Rec) → Option Trace → Type 0)
     → AreBooksOpened trace ticks faults groups records old books → length books < length groups
-    → P (get_or groups (length books) g) (records_of records (get_or groups (length books) g)) (trace_at old (get_or groups (length books) g))
+    → P (get_or groups (length books) g) (input_records_of records (get_or groups (length books) g)) (group_trace_at old (get_or groups (length books) g))
     → IsRefusedAt groups records old (length books) P
 refused_at trace ticks faults groups records old books g P opened below cause = record {
   g = get_or groups (length books) g;
@@ -49,7 +49,7 @@ refused_at trace ticks faults groups records old books g P opened below cause = 
 
 -- its cause is told
 told : {D : Type 0} (trace : D → Option Trace) (ticks faults : D → ℕ) (groups : List GroupDef) (records : List (List Rec))
-    (old : Devices) (books : List (Told D)) (before now : ℕ) (why : LoadNo) (g : GroupDef)
+    (old : DeviceTraces) (books : List (ToldBook D)) (before now : ℕ) (why : LoadNo) (g : GroupDef)
     → AreBooksOpened trace ticks faults groups records old books → length books < length groups
     → IsCauseAt (length books) groups records old why → (before < 2 ^ 64 → why ≡ DeviceFault → Rose before now)
     → IsRefusal groups records old before now (status_of (length books) why)
@@ -68,7 +68,7 @@ told trace ticks faults groups records old books before now (Shape windows rows)
 told trace ticks faults groups records old books before now WantOfMemory g opened below cause rose = OfMemory refl
 
 pub told_all : {D : Type 0} (trace : D → Option Trace) (ticks faults : D → ℕ) (groups : List GroupDef) (records : List (List Rec))
-    (old : Devices) (books : List (Told D)) (before now : ℕ) (why : LoadNo)
+    (old : DeviceTraces) (books : List (ToldBook D)) (before now : ℕ) (why : LoadNo)
     → AreBooksOpened trace ticks faults groups records old books → length books < length groups
     → IsCauseAt (length books) groups records old why → (before < 2 ^ 64 → why ≡ DeviceFault → Rose before now)
     → IsRefusal groups records old before now (status_of (length books) why)
@@ -89,7 +89,7 @@ pub fails : {T : Type 0} (why : LoadNo) (before now : ℕ) → CountsFault {T = 
 fails why before now counts is = counts.failed (ap Err is)
 
 -- the faults of a refusal, whatever would have been opened
-pub counts_of : {T : Type 0} (why : LoadNo) (before now : ℕ) → CountsRefusal why before now
+pub counts_of : {T : Type 0} (why : LoadNo) (before now : ℕ) → CountsBookRefusal why before now
     → CountsFault {T = T} (Err why) DeviceFault before now
 counts_of why before now counts = record {
   later = counts.later;
@@ -99,7 +99,7 @@ counts_of why before now counts = record {
 }
 
 -- those of a device that had none count for the store that it is given back to
-pub given_back : {T : Type 0} (why : LoadNo) (last before mid now : ℕ) → CountsRefusal why 0 last → mid ≡ before
+pub given_back : {T : Type 0} (why : LoadNo) (last before mid now : ℕ) → CountsBookRefusal why 0 last → mid ≡ before
     → now ≡ sum_of_counts mid last → before < 2 ^ 64 → CountsFault {T = T} (Err why) DeviceFault before now
 given_back why last before mid now counts same sum small = record {
   later = omega (arith, sum, same, small);
@@ -156,13 +156,13 @@ back_is trace (Some dev) o there = refl
 
 -- each device stays the same: those of the books that were opened, and the rest
 pub all_same : {D : Type 0} (trace : D → Option Trace) (ticks faults : D → ℕ) (groups : List GroupDef) (names : List (String Global))
-    (records : List (List Rec)) (old mid new : Devices) (books : List (Told D)) → AreNamesOf groups names → AreDistinct groups → length books ≤ length groups
+    (records : List (List Rec)) (old mid new : DeviceTraces) (books : List (ToldBook D)) → AreNamesOf groups names → AreDistinct groups → length books ≤ length groups
     → AreBooksOpened trace ticks faults groups records old books → RestStaysSame (length books) groups old mid
     → AreGivenBack trace names books mid new → AreOtherNamesSame (length books) names mid new → AllStaySame groups old new
 all_same trace ticks faults groups names records old mid new [] are distinct few opened rest given others i g below =
     let is = unreached groups names 0 i g mid new are distinct (omega arith) below others in
-    subst (λ o. During (trace_at old (get_or groups i g)) o
-    (StaysSame (text_of (get_or groups i g)) (parts_of (get_or groups i g)) (trace_at old (get_or groups i g)))) (sym is)
+    subst (λ o. During (group_trace_at old (get_or groups i g)) o
+    (BookStaysSame (group_definition_text (get_or groups i g)) (group_parts_of (get_or groups i g)) (group_trace_at old (get_or groups i g)))) (sym is)
     (rest i g (omega arith) below)
 all_same trace ticks faults groups [] records old mid new (b ∷ bs) are distinct few opened rest given others i g below =
     absurd (omega (arith, few, as_many groups [] are))
@@ -170,21 +170,21 @@ all_same trace ticks faults groups (s ∷ ss) records old mid new (b ∷ bs) are
     elim (cases_lt i (length (b ∷ bs))) [
       | inl before ↦
           let book = opened.each i g b before in
-          let is : trace_at new (get_or groups i g) ≡ trace_of trace (get_or (b ∷ bs) i b).dev =
+          let is : group_trace_at new (get_or groups i g) ≡ trace_of trace (get_or (b ∷ bs) i b).dev =
           ap new (sym (named_at groups (s ∷ ss) i g s are below)) ∙ given i b s before
           ∙ back_is trace (get_or (b ∷ bs) i b).dev _ book.device in
-          subst (λ o. During (trace_at old (get_or groups i g)) o
-          (StaysSame (text_of (get_or groups i g)) (parts_of (get_or groups i g)) (trace_at old (get_or groups i g)))) (sym is) book.same
+          subst (λ o. During (group_trace_at old (get_or groups i g)) o
+          (BookStaysSame (group_definition_text (get_or groups i g)) (group_parts_of (get_or groups i g)) (group_trace_at old (get_or groups i g)))) (sym is) book.same
       | inr behind ↦
           let is = unreached groups (s ∷ ss) (length (b ∷ bs)) i g mid new are distinct behind below others in
-          subst (λ o. During (trace_at old (get_or groups i g)) o
-          (StaysSame (text_of (get_or groups i g)) (parts_of (get_or groups i g)) (trace_at old (get_or groups i g)))) (sym is)
+          subst (λ o. During (group_trace_at old (get_or groups i g)) o
+          (BookStaysSame (group_definition_text (get_or groups i g)) (group_parts_of (get_or groups i g)) (group_trace_at old (get_or groups i g)))) (sym is)
           (rest i g behind below)
     ]
 
 -- the books that were opened have counted no fault
 pub all_faultless : {D : Type 0} (trace : D → Option Trace) (ticks faults : D → ℕ) (groups : List GroupDef) (records : List (List Rec))
-    (old : Devices) (books : List (Told D)) (before : ℕ) → length books ≤ length groups
+    (old : DeviceTraces) (books : List (ToldBook D)) (before : ℕ) → length books ≤ length groups
     → AreBooksOpened trace ticks faults groups records old books → before < 2 ^ 64 → counts_after faults books before ≡ before
 all_faultless trace ticks faults [] records old [] before few opened small = refl
 all_faultless trace ticks faults [] records old (b ∷ bs) before few opened small = absurd (omega (arith, few))

@@ -7,27 +7,27 @@ use Rattle.disk_model.specs.Traces.{Trace}
 use Rattle.plant_status.specs.declared.status.Status.{Status}
 use Rattle.tag_base.specs.declared.definition.GroupDef.{GroupDef}
 use Rattle.group_book.specs.declared.history.GroupOpening.{GroupOpening}
-use Rattle.group_book.specs.Openings.{StaysSame}
-use Rattle.group_book.specs.Told.{Told}
-use Rattle.plant_store.specs.Groups.{AllStaySame, AreBooksOpened, AreOpened, Devices, IsBookOpened, IsOpening, parts_of, records_of, text_of, trace_at}
+use Rattle.group_book.specs.Openings.{BookStaysSame}
+use Rattle.group_book.specs.Told.{ToldBook}
+use Rattle.plant_store.specs.Groups.{AllStaySame, AreBooksOpened, AreGroupsOpened, DeviceTraces, IsBookOpened, IsGroupOpening, group_parts_of, input_records_of, group_definition_text, group_trace_at}
 use Rattle.plant_store.specs.BookRefusals.{IsRefusal, IsRefusedAt, OfDamage, OfFault, OfMemory, OfVersion, OfWindows}
 use Rattle.plant_store.proofs.BookTurns.{untouched}
 
 -- `mid` are the traces over which something is said, and `old` those before
-module _ (gs : List GroupDef) (records : List (List Rec)) (old mid : Devices) (same : (g : GroupDef) → trace_at mid g ≡ trace_at old g) where
+module _ (gs : List GroupDef) (records : List (List Rec)) (old mid : DeviceTraces) (same : (g : GroupDef) → group_trace_at mid g ≡ group_trace_at old g) where
   -- books are opened so over the traces before
-  pub books_before : {D : Type 0} (trace : D → Option Trace) (ticks faults : D → ℕ) (books : List (Told D))
+  pub books_before : {D : Type 0} (trace : D → Option Trace) (ticks faults : D → ℕ) (books : List (ToldBook D))
       → AreBooksOpened trace ticks faults gs records mid books → AreBooksOpened trace ticks faults gs records old books
   books_before trace ticks faults books opened = record {
-    each = λ i g b below. subst (λ o. IsBookOpened trace ticks faults i (get_or gs i g) (records_of records (get_or gs i g)) o
+    each = λ i g b below. subst (λ o. IsBookOpened trace ticks faults i (get_or gs i g) (input_records_of records (get_or gs i g)) o
         (get_or books i b)) (same (get_or gs i g)) (opened.each i g b below);
   }
 
   -- and groups
-  pub opened_before : (many : ℕ) (openings : List GroupOpening) → AreOpened many gs records mid openings
-      → AreOpened many gs records old openings
+  pub opened_before : (many : ℕ) (openings : List GroupOpening) → AreGroupsOpened many gs records mid openings
+      → AreGroupsOpened many gs records old openings
   opened_before many openings opened k g x below =
-      subst (λ o. IsOpening (get_or gs k g) (records_of records (get_or gs k g)) o (get_or openings k x)) (same (get_or gs k g))
+      subst (λ o. IsGroupOpening (get_or gs k g) (input_records_of records (get_or gs k g)) o (get_or openings k x)) (same (get_or gs k g))
       (opened k g x below)
 
   -- a group is the first that is refused so
@@ -41,7 +41,7 @@ module _ (gs : List GroupDef) (records : List (List Rec)) (old mid : Devices) (s
     is_group = at.is_group;
     as_many = at.as_many;
     front = opened_before i at.openings at.front;
-    cause = subst (Q at.g (records_of records at.g)) (same at.g) (follows at.g (records_of records at.g) (trace_at mid at.g) at.cause);
+    cause = subst (Q at.g (input_records_of records at.g)) (same at.g) (follows at.g (input_records_of records at.g) (group_trace_at mid at.g) at.cause);
   }
 
   -- the refusal is one over the traces before, whatever has counted faults since, as long as a fault that was counted is
@@ -57,12 +57,12 @@ module _ (gs : List GroupDef) (records : List (List Rec)) (old mid : Devices) (s
   refusal_before before now first last why rose (OfMemory is) = OfMemory is
 
   -- devices stay the same over the traces before, also where traces after are those that they stay the same in
-  pub same_before : (after new : Devices) → ((g : GroupDef) → trace_at new g ≡ trace_at after g) → AllStaySame gs mid after
+  pub same_before : (after new : DeviceTraces) → ((g : GroupDef) → group_trace_at new g ≡ group_trace_at after g) → AllStaySame gs mid after
       → AllStaySame gs old new
   same_before after new still kept i g below =
-      subst (λ o. During (trace_at old (get_or gs i g)) o
-      (StaysSame (text_of (get_or gs i g)) (parts_of (get_or gs i g)) (trace_at old (get_or gs i g)))) (sym (still (get_or gs i g)))
-      (subst (λ o. During o (trace_at after (get_or gs i g)) (StaysSame (text_of (get_or gs i g)) (parts_of (get_or gs i g)) o))
+      subst (λ o. During (group_trace_at old (get_or gs i g)) o
+      (BookStaysSame (group_definition_text (get_or gs i g)) (group_parts_of (get_or gs i g)) (group_trace_at old (get_or gs i g)))) (sym (still (get_or gs i g)))
+      (subst (λ o. During o (group_trace_at after (get_or gs i g)) (BookStaysSame (group_definition_text (get_or gs i g)) (group_parts_of (get_or gs i g)) o))
       (same (get_or gs i g)) (kept i g below))
 
   -- groups that were not opened stay the same

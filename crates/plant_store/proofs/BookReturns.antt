@@ -7,9 +7,9 @@ use Rattle.std.proofs.lemmas.List.{get_or_append_left, get_or_default, length-dr
 use Rattle.std.proofs.Math.Seq.{drop-cons, get_or-append_seam}
 use Rattle.disk_model.specs.Traces.{Trace}
 use Rattle.group_book.specs.declared.history.GroupHistory.{GroupHistory}
-use Rattle.group_book.specs.Told.{Told, count_of}
-use Rattle.plant_store.specs.Groups.{Devices}
-use Rattle.plant_store.specs.BookEndings.{HasRisen, IsHistoryOf, count_after, counts_after, trace_after}
+use Rattle.group_book.specs.Told.{ToldBook, count_of}
+use Rattle.plant_store.specs.Groups.{DeviceTraces}
+use Rattle.plant_store.specs.BookEndings.{HasFaultCountRisen, IsHistoryOfBook, count_after, counts_after, trace_after}
 use Rattle.plant_store.specs.BookSteps.{AreOtherNamesSame}
 use Rattle.plant_store.proofs.BookTurns.{one_more_name}
 
@@ -41,13 +41,13 @@ taken_rest {A} xs k y ys is =
 -- ---- the devices of a store
 
 -- the devices of the first books are back, and no other one has changed
-pub record AreBack {D : Type 0} (trace : D → Option Trace) (names : List (String Global)) (books : List (Told D)) (many : ℕ)
-    (old now : Devices) : Type 0 where
-  pub given : (i : ℕ) (b : Told D) (s : String Global) → i < many
+pub record AreBack {D : Type 0} (trace : D → Option Trace) (names : List (String Global)) (books : List (ToldBook D)) (many : ℕ)
+    (old now : DeviceTraces) : Type 0 where
+  pub given : (i : ℕ) (b : ToldBook D) (s : String Global) → i < many
       → now (string_bytes (get_or names i s)) ≡ trace_after trace (get_or books i b).dev (old (string_bytes (get_or names i s)))
   pub others : AreOtherNamesSame many names old now
 
-pub none_back : {D : Type 0} (trace : D → Option Trace) (names : List (String Global)) (books : List (Told D)) (old : Devices)
+pub none_back : {D : Type 0} (trace : D → Option Trace) (names : List (String Global)) (books : List (ToldBook D)) (old : DeviceTraces)
     → AreBack trace names books 0 old old
 none_back trace names books old = record { given = λ i b s below. absurd (omega (arith, below)); others = λ n none. refl }
 
@@ -58,8 +58,8 @@ differ_at names i j s t distinct before below same = distinct i j s before below
     (same ∙ ap string_bytes (get_or_default names j t s below))
 
 -- one book more
-pub one_back : {D : Type 0} (trace : D → Option Trace) (names : List (String Global)) (books : List (Told D)) (many : ℕ)
-    (old now new : Devices) (b : Told D) (s : String Global) → AllPairs (λ a b. string_bytes a ≢ string_bytes b) names
+pub one_back : {D : Type 0} (trace : D → Option Trace) (names : List (String Global)) (books : List (ToldBook D)) (many : ℕ)
+    (old now new : DeviceTraces) (b : ToldBook D) (s : String Global) → AllPairs (λ a b. string_bytes a ≢ string_bytes b) names
     → many < length names → many < length books → AreBack trace names books many old now
     → new (string_bytes (get_or names many s)) ≡ trace_after trace (get_or books many b).dev (now (string_bytes (get_or names many s)))
     → ((n : List ℕ) → n ≢ string_bytes (get_or names many s) → new n ≡ now n) → AreBack trace names books (many + 1) old new
@@ -82,43 +82,43 @@ one_back {D} trace names books many old now new b s distinct named there back gi
     was = back.others (string_bytes (get_or names many s)) (λ k t before same.
         differ_at names k many t s distinct before named (sym same))
 
-    this : (c : Told D) (t : String Global) → new (string_bytes (get_or names many t))
+    this : (c : ToldBook D) (t : String Global) → new (string_bytes (get_or names many t))
         ≡ trace_after trace (get_or books many c).dev (old (string_bytes (get_or names many t)))
     this c t = subst (λ (x : String Global). new (string_bytes x) ≡ trace_after trace (get_or books many c).dev (old (string_bytes x)))
         (get_or_default names many s t named)
-        (subst (λ (x : Told D). new (string_bytes (get_or names many s))
+        (subst (λ (x : ToldBook D). new (string_bytes (get_or names many s))
         ≡ trace_after trace x.dev (old (string_bytes (get_or names many s)))) (get_or_default books many b c there)
         (given ∙ ap (trace_after trace (get_or books many b).dev) was))
 
 -- ---- histories
 
 -- so far each has the history of the book in its place
-abbrev pub AreTold : {D : Type 0} → (D → Option Trace) → (D → ℕ) → (D → ℕ) → List (Told D) → List GroupHistory → Type 0
-AreTold {D} trace ticks faults books histories = (i : ℕ) (b : Told D) (h : GroupHistory) → i < length histories
-    → IsHistoryOf trace ticks faults (get_or books i b) (get_or histories i h)
+abbrev pub AreTold : {D : Type 0} → (D → Option Trace) → (D → ℕ) → (D → ℕ) → List (ToldBook D) → List GroupHistory → Type 0
+AreTold {D} trace ticks faults books histories = (i : ℕ) (b : ToldBook D) (h : GroupHistory) → i < length histories
+    → IsHistoryOfBook trace ticks faults (get_or books i b) (get_or histories i h)
 
-pub one_told : {D : Type 0} (trace : D → Option Trace) (ticks faults : D → ℕ) (books : List (Told D)) (histories : List GroupHistory)
+pub one_told : {D : Type 0} (trace : D → Option Trace) (ticks faults : D → ℕ) (books : List (ToldBook D)) (histories : List GroupHistory)
     (h : GroupHistory) → AreTold trace ticks faults books histories
-    → ((b : Told D) → IsHistoryOf trace ticks faults (get_or books (length histories) b) h)
+    → ((b : ToldBook D) → IsHistoryOfBook trace ticks faults (get_or books (length histories) b) h)
     → AreTold trace ticks faults books (histories ++ h ∷ [])
 one_told trace ticks faults books histories h before this i b d within = elim (cases_eq i (length histories)) [
-  | inl same ↦ subst (λ j. IsHistoryOf trace ticks faults (get_or books j b) (get_or (histories ++ h ∷ []) j d)) (sym same)
-      (subst (λ x. IsHistoryOf trace ticks faults (get_or books (length histories) b) x) (sym (get_or-append_seam histories h [] d)) (this b))
+  | inl same ↦ subst (λ j. IsHistoryOfBook trace ticks faults (get_or books j b) (get_or (histories ++ h ∷ []) j d)) (sym same)
+      (subst (λ x. IsHistoryOfBook trace ticks faults (get_or books (length histories) b) x) (sym (get_or-append_seam histories h [] d)) (this b))
   | inr differ ↦
       let lt : i < length histories = elim (cases_order i (length histories)) [
         | inl same ↦ absurd (differ same)
         | inr (inl lt) ↦ lt
         | inr (inr gt) ↦ absurd (omega (arith, gt, within, length-append histories (h ∷ [])))
       ] in
-      subst (λ x. IsHistoryOf trace ticks faults (get_or books i b) x) (sym (get_or_append_left histories (h ∷ []) d i lt))
+      subst (λ x. IsHistoryOfBook trace ticks faults (get_or books i b) x) (sym (get_or_append_left histories (h ∷ []) d i lt))
       (before i b d lt)
 ]
 
 -- ---- faults
 
 -- the devices of the books that counted no fault leave the store's count
-pub counts_none : {D : Type 0} (faults : D → ℕ) (books : List (Told D)) (before : ℕ) → before < 2 ^ 64
-    → ((i : ℕ) (b : Told D) → i < length books → count_of faults (get_or books i b).dev ≡ 0) → counts_after faults books before ≡ before
+pub counts_none : {D : Type 0} (faults : D → ℕ) (books : List (ToldBook D)) (before : ℕ) → before < 2 ^ 64
+    → ((i : ℕ) (b : ToldBook D) → i < length books → count_of faults (get_or books i b).dev ≡ 0) → counts_after faults books before ≡ before
 counts_none faults [] before small none = refl
 counts_none faults (b ∷ bs) before small none =
     let one = one_none faults b.dev before small (none 0 b (omega arith)) in
@@ -131,8 +131,8 @@ counts_none faults (b ∷ bs) before small none =
     one_none faults (Some dev) before small none = omega (arith, small, none)
 
 -- one book more, with the name of its device
-pub one_back_at : {D : Type 0} (trace : D → Option Trace) (names : List (String Global)) (books : List (Told D)) (many : ℕ)
-    (old now new : Devices) (b : Told D) (s : String Global) (n : List ℕ) (rest : List (Told D))
+pub one_back_at : {D : Type 0} (trace : D → Option Trace) (names : List (String Global)) (books : List (ToldBook D)) (many : ℕ)
+    (old now new : DeviceTraces) (b : ToldBook D) (s : String Global) (n : List ℕ) (rest : List (ToldBook D))
     → AllPairs (λ a b. string_bytes a ≢ string_bytes b) names → many < length names → drop many books ≡ b ∷ rest
     → AreBack trace names books many old now → s ≡ get_or names many s → n ≡ string_bytes s
     → new n ≡ trace_after trace b.dev (now n) → ((m : List ℕ) → m ≢ n → new m ≡ now m)
@@ -151,7 +151,7 @@ one_later faults None before small = (omega arith, small)
 one_later faults (Some dev) before small = (omega (arith, small), omega (arith, small))
 
 -- nor do all
-pub counts_later : {D : Type 0} (faults : D → ℕ) (books : List (Told D)) (before : ℕ) → before < 2 ^ 64
+pub counts_later : {D : Type 0} (faults : D → ℕ) (books : List (ToldBook D)) (before : ℕ) → before < 2 ^ 64
     → before ≤ counts_after faults books before
 counts_later faults [] before small = omega arith
 counts_later faults (b ∷ bs) before small =
@@ -160,7 +160,7 @@ counts_later faults (b ∷ bs) before small =
 
 -- one that counted a fault adds it, up to the end of the type
 one_rose : {D : Type 0} (faults : D → ℕ) (dev : Option D) (before : ℕ) → before < 2 ^ 64 → 0 < count_of faults dev
-    → HasRisen before (count_after faults dev before)
+    → HasFaultCountRisen before (count_after faults dev before)
 one_rose faults None before small some = absurd (omega (arith, some))
 one_rose faults (Some dev) before small some = elim (cases_lt before (2 ^ 64 - 1)) [
   | inl below ↦ inl (omega (arith, below, some))
@@ -168,21 +168,21 @@ one_rose faults (Some dev) before small some = elim (cases_lt before (2 ^ 64 - 1
 ]
 
 -- what has risen stays so
-risen_more : (first before now : ℕ) → first ≤ before → now < 2 ^ 64 → HasRisen before now → HasRisen first now
+risen_more : (first before now : ℕ) → first ≤ before → now < 2 ^ 64 → HasFaultCountRisen before now → HasFaultCountRisen first now
 risen_more first before now later small (inl rose) = inl (omega (arith, later, rose))
 risen_more first before now later small (inr end) = inr end
 
-later_risen : (before now last : ℕ) → HasRisen before now → now ≤ last → last < 2 ^ 64 → HasRisen before last
+later_risen : (before now last : ℕ) → HasFaultCountRisen before now → now ≤ last → last < 2 ^ 64 → HasFaultCountRisen before last
 later_risen before now last (inl rose) later small = inl (omega (arith, rose, later))
 later_risen before now last (inr end) later small = inr (omega (arith, end, later, small))
 
 -- the count stays within its type
-pub counts_small : {D : Type 0} (faults : D → ℕ) (books : List (Told D)) (before : ℕ) → before < 2 ^ 64 → counts_after faults books before < 2 ^ 64
+pub counts_small : {D : Type 0} (faults : D → ℕ) (books : List (ToldBook D)) (before : ℕ) → before < 2 ^ 64 → counts_after faults books before < 2 ^ 64
 counts_small faults [] before small = small
 counts_small faults (b ∷ bs) before small = counts_small faults bs (count_after faults b.dev before) (one_later faults b.dev before small).1
 
-pub counts_rose : {D : Type 0} (faults : D → ℕ) (books : List (Told D)) (before i : ℕ) (d : Told D) → before < 2 ^ 64
-    → i < length books → 0 < count_of faults (get_or books i d).dev → HasRisen before (counts_after faults books before)
+pub counts_rose : {D : Type 0} (faults : D → ℕ) (books : List (ToldBook D)) (before i : ℕ) (d : ToldBook D) → before < 2 ^ 64
+    → i < length books → 0 < count_of faults (get_or books i d).dev → HasFaultCountRisen before (counts_after faults books before)
 counts_rose faults [] before i d small below some = absurd (omega (arith, below))
 counts_rose faults (b ∷ bs) before zero d small below some =
     let one = one_later faults b.dev before small in
@@ -194,7 +194,7 @@ counts_rose faults (b ∷ bs) before (suc i) d small below some =
     (counts_rose faults bs (count_after faults b.dev before) i d one.1 (omega (arith, below)) some)
 
 -- all books are taken out of their list, and the faults of all are added
-pub counted_all : {D : Type 0} (faults : D → ℕ) (books rest : List (Told D)) (first now n : ℕ) → ((false ≡ true) ↔ (0 < n))
+pub counted_all : {D : Type 0} (faults : D → ℕ) (books rest : List (ToldBook D)) (first now n : ℕ) → ((false ≡ true) ↔ (0 < n))
     → n ≡ length rest → counts_after faults books first ≡ counts_after faults rest now → now ≡ counts_after faults books first
 counted_all faults books [] first now n none count same = sym same
 counted_all faults books (b ∷ bs) first now n none count same =

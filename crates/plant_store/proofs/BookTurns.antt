@@ -10,19 +10,19 @@ use Rattle.disk_model.specs.Moments.{During}
 use Rattle.disk_model.specs.Traces.{Trace}
 use Rattle.tag_base.specs.declared.definition.GroupDef.{GroupDef}
 use Rattle.group_book.specs.declared.refusal.LoadNo.{LoadNo}
-use Rattle.group_book.specs.Openings.{IsCause, StaysSame}
-use Rattle.group_book.specs.Told.{Told, trace_of}
+use Rattle.group_book.specs.Openings.{IsBookCause, BookStaysSame}
+use Rattle.group_book.specs.Told.{ToldBook, trace_of}
 use Rattle.disk_model.proofs.Moments.{started}
-use Rattle.plant_store.specs.Groups.{AreBooksOpened, AreDistinct, AreNamesOf, AreOthersSame, Devices, IsBookOpened, device_name, parts_of, records_of, text_of, trace_at}
+use Rattle.plant_store.specs.Groups.{AreBooksOpened, AreDistinct, AreNamesOf, AreOtherGroupsSame, DeviceTraces, IsBookOpened, device_name, group_parts_of, input_records_of, group_definition_text, group_trace_at}
 use Rattle.plant_store.specs.BookSteps.{AreOtherNamesSame, IsCauseAt, RestStaysSame, StaysSameOf}
 use Rattle.plant_store.proofs.BookNames.{apart, as_many, named_at}
 
 -- of a device that is as it was a crash leaves what one before might have left
-pub still : (g : GroupDef) (o : Option Trace) → During o o (StaysSame (text_of g) (parts_of g) o)
+pub still : (g : GroupDef) (o : Option Trace) → During o o (BookStaysSame (group_definition_text g) (group_parts_of g) o)
 still g o = started o _ (record { each = λ c may. inl may })
 
-pub untouched : (g : GroupDef) (old new : Option Trace) → new ≡ old → During old new (StaysSame (text_of g) (parts_of g) old)
-untouched g old new same = subst (λ o. During old o (StaysSame (text_of g) (parts_of g) old)) (sym same) (still g old)
+pub untouched : (g : GroupDef) (old new : Option Trace) → new ≡ old → During old new (BookStaysSame (group_definition_text g) (group_parts_of g) old)
+untouched g old new same = subst (λ o. During old o (BookStaysSame (group_definition_text g) (group_parts_of g) old)) (sym same) (still g old)
 
 -- what holds since then of the device of a book that has one
 pub same_of : {D : Type 0} (trace : D → Option Trace) (dev : Option D) (o : Option Trace) (P : List ℕ → Type 0) → IsSome dev
@@ -32,36 +32,36 @@ same_of trace (Some d) o P there each = each d refl
 
 -- the first groups are opened, and no device but theirs has changed
 pub record IsSoFar {D : Type 0} (trace : D → Option Trace) (ticks faults : D → ℕ) (groups : List GroupDef)
-    (names : List (String Global)) (records : List (List Rec)) (old now : Devices) (books : List (Told D)) : Type 0 where
+    (names : List (String Global)) (records : List (List Rec)) (old now : DeviceTraces) (books : List (ToldBook D)) : Type 0 where
   pub opened : AreBooksOpened trace ticks faults groups records old books
   pub others : AreOtherNamesSame (length books) names old now
 
 -- before the first one
 pub begun : {D : Type 0} (trace : D → Option Trace) (ticks faults : D → ℕ) (groups : List GroupDef) (names : List (String Global))
-    (records : List (List Rec)) (old : Devices) → IsSoFar trace ticks faults groups names records old old []
+    (records : List (List Rec)) (old : DeviceTraces) → IsSoFar trace ticks faults groups names records old old []
 begun trace ticks faults groups names records old = record {
   opened = record { each = λ i g b below. absurd (omega (arith, below)) };
   others = λ n none. refl;
 }
 
 -- the device of a group that was not reached is as it was
-pub unreached : (groups : List GroupDef) (names : List (String Global)) (many i : ℕ) (g : GroupDef) (old now : Devices)
+pub unreached : (groups : List GroupDef) (names : List (String Global)) (many i : ℕ) (g : GroupDef) (old now : DeviceTraces)
     → AreNamesOf groups names → AreDistinct groups → many ≤ i → i < length groups → AreOtherNamesSame many names old now
-    → trace_at now (get_or groups i g) ≡ trace_at old (get_or groups i g)
+    → group_trace_at now (get_or groups i g) ≡ group_trace_at old (get_or groups i g)
 unreached groups names many i g old now are distinct behind below others =
     others (device_name (get_or groups i g).name) (λ k s before same.
     apart groups i k g distinct below (omega (arith, before, behind, below)) (inr (omega (arith, before, behind)))
     (same ∙ named_at groups names k g s are (omega (arith, before, behind, below))))
 
 -- what no name of the groups has is as it was
-pub others_same : (groups : List GroupDef) (names : List (String Global)) (many : ℕ) (old now : Devices)
-    → AreNamesOf groups names → many ≤ length groups → AreOtherNamesSame many names old now → AreOthersSame groups old now
+pub others_same : (groups : List GroupDef) (names : List (String Global)) (many : ℕ) (old now : DeviceTraces)
+    → AreNamesOf groups names → many ≤ length groups → AreOtherNamesSame many names old now → AreOtherGroupsSame groups old now
 others_same [] names many old now are few others n none = others n (λ k s before same. absurd (omega (arith, before, few)))
 others_same (g ∷ gs) names many old now are few others n none = others n (λ k s before same.
     none k g (omega (arith, before, few)) (same ∙ named_at (g ∷ gs) names k g s are (omega (arith, before, few))))
 
 -- one device more
-pub one_more_name : (names : List (String Global)) (many : ℕ) (s : String Global) (old now new : Devices)
+pub one_more_name : (names : List (String Global)) (many : ℕ) (s : String Global) (old now new : DeviceTraces)
     → AreOtherNamesSame many names old now → many < length names
     → ((n : List ℕ) → n ≢ string_bytes (get_or names many s) → new n ≡ now n) → AreOtherNamesSame (many + 1) names old new
 one_more_name names many s old now new others below turn n none =
@@ -69,20 +69,20 @@ one_more_name names many s old now new others below turn n none =
 
 -- one group more
 pub next : {D : Type 0} (trace : D → Option Trace) (ticks faults : D → ℕ) (groups : List GroupDef) (names : List (String Global))
-    (records : List (List Rec)) (old now new : Devices) (books : List (Told D)) (g : GroupDef) (s : String Global) (b : Told D)
+    (records : List (List Rec)) (old now new : DeviceTraces) (books : List (ToldBook D)) (g : GroupDef) (s : String Global) (b : ToldBook D)
     → IsSoFar trace ticks faults groups names records old now books → AreNamesOf groups names → AreDistinct groups
     → length books < length groups
     → IsBookOpened trace ticks faults (length books) (get_or groups (length books) g)
-    (records_of records (get_or groups (length books) g)) (now (string_bytes (get_or names (length books) s))) b
+    (input_records_of records (get_or groups (length books) g)) (now (string_bytes (get_or names (length books) s))) b
     → ((n : List ℕ) → n ≢ string_bytes (get_or names (length books) s) → new n ≡ now n)
     → IsSoFar trace ticks faults groups names records old new (books ++ b ∷ [])
 next {D} trace ticks faults groups names records old now new books g s b so_far are distinct below opened turn = record {
   opened = record {
     each = λ i d e within. elim (cases_eq i k) [
-      | inl same ↦ subst (λ j. IsBookOpened trace ticks faults j (get_or groups j d) (records_of records (get_or groups j d))
-          (trace_at old (get_or groups j d)) (get_or (books ++ b ∷ []) j e)) (sym same) (last d e)
-      | inr differ ↦ subst (λ x. IsBookOpened trace ticks faults i (get_or groups i d) (records_of records (get_or groups i d))
-          (trace_at old (get_or groups i d)) x) (sym (get_or_append_left books (b ∷ []) e i (earlier i within differ)))
+      | inl same ↦ subst (λ j. IsBookOpened trace ticks faults j (get_or groups j d) (input_records_of records (get_or groups j d))
+          (group_trace_at old (get_or groups j d)) (get_or (books ++ b ∷ []) j e)) (sym same) (last d e)
+      | inr differ ↦ subst (λ x. IsBookOpened trace ticks faults i (get_or groups i d) (input_records_of records (get_or groups i d))
+          (group_trace_at old (get_or groups i d)) x) (sym (get_or_append_left books (b ∷ []) e i (earlier i within differ)))
           (so_far.opened.each i d e (earlier i within differ))
     ];
   };
@@ -100,39 +100,39 @@ next {D} trace ticks faults groups names records old now new books g s b so_far 
       | inr (inr behind) ↦ absurd (omega (arith, within, behind, length-append books (b ∷ [])))
     ]
 
-    last : (d : GroupDef) (e : Told D) → IsBookOpened trace ticks faults (length books) (get_or groups (length books) d)
-        (records_of records (get_or groups (length books) d)) (trace_at old (get_or groups (length books) d))
+    last : (d : GroupDef) (e : ToldBook D) → IsBookOpened trace ticks faults (length books) (get_or groups (length books) d)
+        (input_records_of records (get_or groups (length books) d)) (group_trace_at old (get_or groups (length books) d))
         (get_or (books ++ b ∷ []) (length books) e)
     last d e =
         let trace_is = ap now (named_at groups names (length books) g s are below)
         ∙ unreached groups names (length books) (length books) g old now are distinct (omega arith) below so_far.others in
-        subst (λ (x : GroupDef). IsBookOpened trace ticks faults (length books) x (records_of records x) (trace_at old x)
+        subst (λ (x : GroupDef). IsBookOpened trace ticks faults (length books) x (input_records_of records x) (group_trace_at old x)
         (get_or (books ++ b ∷ []) (length books) e)) (get_or_default groups (length books) g d below)
         (subst (λ y. IsBookOpened trace ticks faults (length books) (get_or groups (length books) g)
-        (records_of records (get_or groups (length books) g)) (trace_at old (get_or groups (length books) g)) y)
+        (input_records_of records (get_or groups (length books) g)) (group_trace_at old (get_or groups (length books) g)) y)
         (sym (get_or-append_seam books b [] e))
         (subst (λ o. IsBookOpened trace ticks faults (length books) (get_or groups (length books) g)
-        (records_of records (get_or groups (length books) g)) o b) trace_is opened))
+        (input_records_of records (get_or groups (length books) g)) o b) trace_is opened))
 
 -- the devices from a place on stay the same where nothing was done to them
-pub rest_untouched : (groups : List GroupDef) (names : List (String Global)) (many : ℕ) (old now : Devices)
+pub rest_untouched : (groups : List GroupDef) (names : List (String Global)) (many : ℕ) (old now : DeviceTraces)
     → AreNamesOf groups names → AreDistinct groups → AreOtherNamesSame many names old now → RestStaysSame many groups old now
 rest_untouched groups names many old now are distinct others i g behind below =
     untouched (get_or groups i g) _ _ (unreached groups names many i g old now are distinct behind below others)
 
 -- or where the first of them stays the same, and no other was changed
-pub rest_same : (groups : List GroupDef) (names : List (String Global)) (many : ℕ) (old now new : Devices) (g : GroupDef)
+pub rest_same : (groups : List GroupDef) (names : List (String Global)) (many : ℕ) (old now new : DeviceTraces) (g : GroupDef)
     (s : String Global) → AreNamesOf groups names → AreDistinct groups → many < length groups → AreOtherNamesSame many names old now
     → StaysSameOf (string_bytes (get_or names many s)) (get_or groups many g) now new
     → ((n : List ℕ) → n ≢ string_bytes (get_or names many s) → new n ≡ now n) → RestStaysSame many groups old new
 rest_same groups names many old now new g s are distinct within others same turn i d behind below = elim (cases_eq i many) [
-  | inl is ↦ subst (λ j. During (trace_at old (get_or groups j d)) (trace_at new (get_or groups j d))
-      (StaysSame (text_of (get_or groups j d)) (parts_of (get_or groups j d)) (trace_at old (get_or groups j d)))) (sym is)
-      (subst (λ (x : GroupDef). During (trace_at old x) (trace_at new x) (StaysSame (text_of x) (parts_of x) (trace_at old x)))
+  | inl is ↦ subst (λ j. During (group_trace_at old (get_or groups j d)) (group_trace_at new (get_or groups j d))
+      (BookStaysSame (group_definition_text (get_or groups j d)) (group_parts_of (get_or groups j d)) (group_trace_at old (get_or groups j d)))) (sym is)
+      (subst (λ (x : GroupDef). During (group_trace_at old x) (group_trace_at new x) (BookStaysSame (group_definition_text x) (group_parts_of x) (group_trace_at old x)))
       (get_or_default groups many g d within)
-      (subst (λ o. During o (trace_at new (get_or groups many g)) (StaysSame (text_of (get_or groups many g)) (parts_of (get_or groups many g)) o))
+      (subst (λ o. During o (group_trace_at new (get_or groups many g)) (BookStaysSame (group_definition_text (get_or groups many g)) (group_parts_of (get_or groups many g)) o))
       (unreached groups names many many g old now are distinct (omega arith) within others)
-      (subst (λ n. During (now n) (new n) (StaysSame (text_of (get_or groups many g)) (parts_of (get_or groups many g)) (now n)))
+      (subst (λ n. During (now n) (new n) (BookStaysSame (group_definition_text (get_or groups many g)) (group_parts_of (get_or groups many g)) (now n)))
       (named_at groups names many g s are within) same)))
   | inr differ ↦ untouched (get_or groups i d) _ _
       (turn (device_name (get_or groups i d).name) (λ e. apart groups i many d distinct below within
@@ -168,31 +168,31 @@ name_is groups names i g n s are at =
     at.named ∙ ap (λ (x : GroupDef). device_name x.name) at.is ∙ sym (named_at groups names i g s are at.there)
 
 -- its device is as it was before the first group was opened
-was_at : (groups : List GroupDef) (names : List (String Global)) (i : ℕ) (g : GroupDef) (n : List ℕ) (old now : Devices)
+was_at : (groups : List GroupDef) (names : List (String Global)) (i : ℕ) (g : GroupDef) (n : List ℕ) (old now : DeviceTraces)
     → AreNamesOf groups names → AreDistinct groups → IsAt groups names i g n → AreOtherNamesSame i names old now
-    → now n ≡ trace_at old g
+    → now n ≡ group_trace_at old g
 was_at groups names i g n old now are distinct at others =
-    ap now at.named ∙ subst (λ (x : GroupDef). trace_at now x ≡ trace_at old x) (sym at.is)
+    ap now at.named ∙ subst (λ (x : GroupDef). group_trace_at now x ≡ group_trace_at old x) (sym at.is)
     (unreached groups names i i g old now are distinct (omega arith) at.there others)
 
 -- one group more
 pub next_at : {D : Type 0} (trace : D → Option Trace) (ticks faults : D → ℕ) (groups : List GroupDef) (names : List (String Global))
-    (records : List (List Rec)) (old now new : Devices) (books : List (Told D)) (i : ℕ) (g : GroupDef) (n : List ℕ) (s : String Global)
-    (b : Told D) → IsSoFar trace ticks faults groups names records old now books → AreNamesOf groups names → AreDistinct groups
-    → length books ≡ i → IsAt groups names i g n → IsBookOpened trace ticks faults i g (records_of records g) (now n) b
+    (records : List (List Rec)) (old now new : DeviceTraces) (books : List (ToldBook D)) (i : ℕ) (g : GroupDef) (n : List ℕ) (s : String Global)
+    (b : ToldBook D) → IsSoFar trace ticks faults groups names records old now books → AreNamesOf groups names → AreDistinct groups
+    → length books ≡ i → IsAt groups names i g n → IsBookOpened trace ticks faults i g (input_records_of records g) (now n) b
     → ((m : List ℕ) → m ≢ n → new m ≡ now m)
     → IsSoFar trace ticks faults groups names records old new (books ++ b ∷ [])
 next_at trace ticks faults groups names records old now new books i g n s b so_far are distinct count at opened turn =
     next trace ticks faults groups names records old now new books g s b so_far are distinct (omega (arith, count, at.there))
-    (subst (λ k. IsBookOpened trace ticks faults k (get_or groups k g) (records_of records (get_or groups k g))
+    (subst (λ k. IsBookOpened trace ticks faults k (get_or groups k g) (input_records_of records (get_or groups k g))
     (now (string_bytes (get_or names k s))) b) (sym count)
-    (subst (λ m. IsBookOpened trace ticks faults i (get_or groups i g) (records_of records (get_or groups i g)) (now m) b)
+    (subst (λ m. IsBookOpened trace ticks faults i (get_or groups i g) (input_records_of records (get_or groups i g)) (now m) b)
     (name_is groups names i g n s are at)
-    (subst (λ (x : GroupDef). IsBookOpened trace ticks faults i x (records_of records x) (now n) b) at.is opened)))
+    (subst (λ (x : GroupDef). IsBookOpened trace ticks faults i x (input_records_of records x) (now n) b) at.is opened)))
     (λ m other. turn m (λ same. other (same ∙ name_is groups names i g n s are at ∙ ap (λ k. string_bytes (get_or names k s)) (sym count))))
 
 -- its device stays the same, and no other was changed
-pub rest_at : (groups : List GroupDef) (names : List (String Global)) (old now new : Devices) (many i : ℕ) (g : GroupDef) (n : List ℕ)
+pub rest_at : (groups : List GroupDef) (names : List (String Global)) (old now new : DeviceTraces) (many i : ℕ) (g : GroupDef) (n : List ℕ)
     (s : String Global) → AreNamesOf groups names → AreDistinct groups → many ≡ i → IsAt groups names i g n
     → AreOtherNamesSame many names old now → StaysSameOf n g now new → ((m : List ℕ) → m ≢ n → new m ≡ now m)
     → RestStaysSame many groups old new
@@ -204,22 +204,22 @@ rest_at groups names old now new many i g n s are distinct count at others same 
     (λ m other. turn m (λ is. other (is ∙ name_is groups names i g n s are at ∙ ap (λ k. string_bytes (get_or names k s)) (sym count))))
 
 -- no device but those of the groups has changed
-pub others_at : (groups : List GroupDef) (names : List (String Global)) (old now new : Devices) (many i : ℕ) (g : GroupDef) (n : List ℕ)
+pub others_at : (groups : List GroupDef) (names : List (String Global)) (old now new : DeviceTraces) (many i : ℕ) (g : GroupDef) (n : List ℕ)
     (s : String Global) → AreNamesOf groups names → many ≡ i → IsAt groups names i g n → AreOtherNamesSame many names old now
-    → ((m : List ℕ) → m ≢ n → new m ≡ now m) → AreOthersSame groups old new
+    → ((m : List ℕ) → m ≢ n → new m ≡ now m) → AreOtherGroupsSame groups old new
 others_at groups names old now new many i g n s are count at others turn =
     others_same groups names (many + 1) old new are (omega (arith, count, at.there))
     (one_more_name names many s old now new others (omega (arith, count, at.there, as_many groups names are))
     (λ m other. turn m (λ is. other (is ∙ name_is groups names i g n s are at ∙ ap (λ k. string_bytes (get_or names k s)) (sym count)))))
 
 -- why it is not opened
-pub cause_at : (groups : List GroupDef) (names : List (String Global)) (records : List (List Rec)) (old now : Devices) (many i : ℕ)
+pub cause_at : (groups : List GroupDef) (names : List (String Global)) (records : List (List Rec)) (old now : DeviceTraces) (many i : ℕ)
     (g : GroupDef) (n : List ℕ) (why : LoadNo) → AreNamesOf groups names → AreDistinct groups → many ≡ i → IsAt groups names i g n
-    → AreOtherNamesSame many names old now → IsCause (text_of g) (parts_of g) (records_of records g) (now n) why
+    → AreOtherNamesSame many names old now → IsBookCause (group_definition_text g) (group_parts_of g) (input_records_of records g) (now n) why
     → IsCauseAt many groups records old why
 cause_at groups names records old now many i g n why are distinct count at others cause d =
     let place = subst (λ k. g ≡ get_or groups k g) (sym count) at.is in
     let is : g ≡ get_or groups many d = place ∙ get_or_default groups many g d (omega (arith, count, at.there)) in
     let was = was_at groups names i g n old now are distinct at (subst (λ k. AreOtherNamesSame k names old now) count others) in
-    subst (λ (x : GroupDef). IsCause (text_of x) (parts_of x) (records_of records x) (trace_at old x) why) is
-    (subst (λ o. IsCause (text_of g) (parts_of g) (records_of records g) o why) was cause)
+    subst (λ (x : GroupDef). IsBookCause (group_definition_text x) (group_parts_of x) (input_records_of records x) (group_trace_at old x) why) is
+    (subst (λ o. IsBookCause (group_definition_text g) (group_parts_of g) (input_records_of records g) o why) was cause)

@@ -8,9 +8,9 @@ use Rattle.std.proofs.lemmas.Slice.Zip.{all_zipped_more}
 use Rattle.disk_model.specs.Calls.{sum_of_counts}
 use Rattle.disk_model.specs.Traces.{Trace}
 use Rattle.tag_cell.specs.declared.history.TagHistory.{TagHistory}
-use Rattle.tag_cell.specs.Told.{Told, IsHistory}
+use Rattle.tag_cell.specs.Told.{ToldCell, IsCellHistory}
 use Rattle.plant_store.proofs.TagTurns.{zip_weaker}
-use Rattle.plant_store.specs.CellClosings.{AreGivenBack, AreHistoriesAt, AreHistoriesOf, CountsCells, HasRisen, IsHistoryOf}
+use Rattle.plant_store.specs.CellClosings.{AreGivenBack, AreHistoriesAt, AreHistoriesOf, CountsCells, HasRisen, IsHistoryOfCell}
 use Rattle.plant_store.specs.CellNames.{AreApart}
 use Rattle.plant_store.proofs.CellLists.{all_before, all_last, next_of, zip_joined}
 
@@ -19,13 +19,13 @@ pub none_back : {D : Type 0} (trace : D → Option Trace) (traces : List ℕ →
 none_back trace traces = record { given = tt; others = λ n none. refl }
 
 -- one more device is given back
-pub one_back : {D : Type 0} (trace : D → Option Trace) (names : List (List ℕ)) (cells : List (Told D)) (name : List ℕ)
-    (c : Told D) (old now new : List ℕ → Option Trace) → AreGivenBack trace names cells old now → All (λ m. m ≢ name) names
+pub one_back : {D : Type 0} (trace : D → Option Trace) (names : List (List ℕ)) (cells : List (ToldCell D)) (name : List ℕ)
+    (c : ToldCell D) (old now new : List ℕ → Option Trace) → AreGivenBack trace names cells old now → All (λ m. m ≢ name) names
     → ((n : List ℕ) → n ≢ name → new n ≡ now n) → new name ≡ trace c.journal.dev
     → AreGivenBack trace (names ++ name ∷ []) (cells ++ c ∷ []) old new
 one_back {D} trace names cells name c old now new back apart others told = record {
-  given = all_zipped_more (λ n (d : Told D). new n ≡ trace d.journal.dev) names cells name c
-      (zip_weaker (λ n (d : Told D). now n ≡ trace d.journal.dev) (λ n (d : Told D). new n ≡ trace d.journal.dev) names cells
+  given = all_zipped_more (λ n (d : ToldCell D). new n ≡ trace d.journal.dev) names cells name c
+      (zip_weaker (λ n (d : ToldCell D). now n ≡ trace d.journal.dev) (λ n (d : ToldCell D). new n ≡ trace d.journal.dev) names cells
       (λ k n d below was. others (get_or names k n) (apart k n below) ∙ was) back.given) told;
   others = λ n none. others n (all_last (λ m. n ≢ m) names name none)
       ∙ back.others n (all_before (λ m. n ≢ m) names name none);
@@ -37,7 +37,7 @@ one_back {D} trace names cells name c old now new back apart others told = recor
 pub none_counted : {D : Type 0} (faults : D → ℕ) (count : ℕ) → CountsCells faults [] count count
 none_counted {D} faults count = record {
   later = omega arith;
-  risen = All-nil (λ (c : Told D). c.journal.failed ≡ true → HasRisen count count);
+  risen = All-nil (λ (c : ToldCell D). c.journal.failed ≡ true → HasRisen count count);
   faultless = λ none. refl;
 }
 
@@ -54,7 +54,7 @@ risen_more before now more after sum (inl higher) = higher_or_end before now mor
 risen_more before now more after sum (inr end) = inr (omega (arith, sum, end))
 
 -- with the faults of one device more
-pub one_counted : {D : Type 0} (faults : D → ℕ) (cells : List (Told D)) (c : Told D) (before now after : ℕ) → before < 2 ^ 64
+pub one_counted : {D : Type 0} (faults : D → ℕ) (cells : List (ToldCell D)) (c : ToldCell D) (before now after : ℕ) → before < 2 ^ 64
     → CountsCells faults cells before now × (now < 2 ^ 64) → after ≡ sum_of_counts now (faults c.journal.dev)
     → (c.journal.failed ≡ true → 1 ≤ faults c.journal.dev)
     → CountsCells faults (cells ++ c ∷ []) before after × (after < 2 ^ 64)
@@ -63,14 +63,14 @@ one_counted {D} faults cells c before now after small counts sum faulty =
     let later = counts.0.later in (
       record {
         later = omega (arith, sum, within, later);
-        risen = All-push (λ (d : Told D). d.journal.failed ≡ true → HasRisen before after) cells c
-            (All-weaker (λ (d : Told D). d.journal.failed ≡ true → HasRisen before now)
-            (λ (d : Told D). d.journal.failed ≡ true → HasRisen before after)
+        risen = All-push (λ (d : ToldCell D). d.journal.failed ≡ true → HasRisen before after) cells c
+            (All-weaker (λ (d : ToldCell D). d.journal.failed ≡ true → HasRisen before now)
+            (λ (d : ToldCell D). d.journal.failed ≡ true → HasRisen before after)
             (λ d risen failed. risen_more before now (faults c.journal.dev) after sum (risen failed)) cells counts.0.risen)
             (λ failed. higher_or_end before now (faults c.journal.dev) after sum (omega (arith, later, faulty failed)));
         faultless = λ none.
-            let same = counts.0.faultless (all_before (λ (d : Told D). faults d.journal.dev ≡ 0) cells c none) in
-            let no = all_last (λ (d : Told D). faults d.journal.dev ≡ 0) cells c none in
+            let same = counts.0.faultless (all_before (λ (d : ToldCell D). faults d.journal.dev ≡ 0) cells c none) in
+            let no = all_last (λ (d : ToldCell D). faults d.journal.dev ≡ 0) cells c none in
             omega (arith, sum, same, no, small);
       },
       omega (arith, sum),
@@ -80,14 +80,14 @@ one_counted {D} faults cells c before now after small counts sum faulty =
 
 -- the first cells are closed, as many as there are histories, and the others are left
 pub record AreClosed {D : Type 0} (trace : D → Option Trace) (ticks faults : D → ℕ) (names : List (List ℕ))
-    (cells rest : List (Told D)) (histories : List TagHistory) (old now : List ℕ → Option Trace) (before count : ℕ) : Type 0 where
+    (cells rest : List (ToldCell D)) (histories : List TagHistory) (old now : List ℕ → Option Trace) (before count : ℕ) : Type 0 where
   pub left : rest ≡ drop (length histories) cells
   pub told : AreHistoriesOf trace ticks faults (take (length histories) cells) histories
   pub back : AreGivenBack trace (take (length histories) names) (take (length histories) cells) old now
   pub counts : before < 2 ^ 64 → CountsCells faults (take (length histories) cells) before count × (count < 2 ^ 64)
 
 -- before the first
-pub none_closed : {D : Type 0} (trace : D → Option Trace) (ticks faults : D → ℕ) (names : List (List ℕ)) (cells : List (Told D))
+pub none_closed : {D : Type 0} (trace : D → Option Trace) (ticks faults : D → ℕ) (names : List (List ℕ)) (cells : List (ToldCell D))
     (traces : List ℕ → Option Trace) (count : ℕ) → AreClosed trace ticks faults names cells cells [] traces traces count count
 none_closed trace ticks faults names cells traces count = record {
   left = refl;
@@ -107,11 +107,11 @@ apart_before names i name apart there is k d below =
 
 -- one more is closed
 pub one_closed : {D : Type 0} (trace : D → Option Trace) (ticks faults : D → ℕ) (names : List (List ℕ))
-    (cells rest more : List (Told D)) (histories : List TagHistory) (old now new : List ℕ → Option Trace) (before count after : ℕ)
-    (c : Told D) (h : TagHistory) (name : List ℕ)
+    (cells rest more : List (ToldCell D)) (histories : List TagHistory) (old now new : List ℕ → Option Trace) (before count after : ℕ)
+    (c : ToldCell D) (h : TagHistory) (name : List ℕ)
     → AreClosed trace ticks faults names cells rest histories old now before count → rest ≡ c ∷ more
     → length names ≡ length cells → AreApart names → name ≡ get_or names (length histories) name
-    → IsHistoryOf (trace c.journal.dev) (ticks c.journal.dev) (faults c.journal.dev) c h
+    → IsHistoryOfCell (trace c.journal.dev) (ticks c.journal.dev) (faults c.journal.dev) c h
     → new name ≡ trace c.journal.dev → ((n : List ℕ) → n ≢ name → new n ≡ now n)
     → after ≡ sum_of_counts count (faults c.journal.dev) → (c.journal.failed ≡ true → 1 ≤ faults c.journal.dev)
     → AreClosed trace ticks faults names cells more (histories ++ h ∷ []) old new before after
@@ -127,7 +127,7 @@ one_closed {D} trace ticks faults names cells rest more histories old now new be
       left = next.rest_is ∙ ap (λ n. drop n cells) place;
       told = subst (λ n. AreHistoriesOf trace ticks faults (take n cells) (histories ++ h ∷ [])) place
           (subst (λ l. AreHistoriesOf trace ticks faults l (histories ++ h ∷ [])) (sym next.front)
-          (all_zipped_more (λ (e : Told D) (k : TagHistory). IsHistoryOf (trace e.journal.dev) (ticks e.journal.dev)
+          (all_zipped_more (λ (e : ToldCell D) (k : TagHistory). IsHistoryOfCell (trace e.journal.dev) (ticks e.journal.dev)
           (faults e.journal.dev) e k) (take i cells) histories c h closed.told history));
       back = subst (λ n. AreGivenBack trace (take n names) (take n cells) old new) place
           (subst (λ l. AreGivenBack trace l (take (i + 1) cells) old new) names_more
@@ -140,16 +140,16 @@ one_closed {D} trace ticks faults names cells rest more histories old now new be
     }
 
 -- as the cells begin to be closed
-pub begun : {D : Type 0} (trace : D → Option Trace) (ticks faults : D → ℕ) (names : List (List ℕ)) (cells rest : List (Told D))
+pub begun : {D : Type 0} (trace : D → Option Trace) (ticks faults : D → ℕ) (names : List (List ℕ)) (cells rest : List (ToldCell D))
     (histories : List TagHistory) (traces : List ℕ → Option Trace) (count : ℕ) → rest ≡ cells → histories ≡ []
     → AreClosed trace ticks faults names cells rest histories traces traces count count
 begun {D} trace ticks faults names cells rest histories traces count is none =
     subst (λ (l : List TagHistory). AreClosed trace ticks faults names cells rest l traces traces count count) (sym none)
-    (subst (λ (l : List (Told D)). AreClosed trace ticks faults names cells l [] traces traces count count) (sym is)
+    (subst (λ (l : List (ToldCell D)). AreClosed trace ticks faults names cells l [] traces traces count count) (sym is)
     (none_closed trace ticks faults names cells traces count))
 
 -- all devices are given back
-pub all_back : {D : Type 0} (trace : D → Option Trace) (ticks faults : D → ℕ) (names : List (List ℕ)) (cells rest : List (Told D))
+pub all_back : {D : Type 0} (trace : D → Option Trace) (ticks faults : D → ℕ) (names : List (List ℕ)) (cells rest : List (ToldCell D))
     (histories : List TagHistory) (old now : List ℕ → Option Trace) (before count : ℕ)
     → AreClosed trace ticks faults names cells rest histories old now before count → length histories ≡ length cells
     → length names ≡ length cells → AreGivenBack trace names cells old now
@@ -159,7 +159,7 @@ all_back trace ticks faults names cells rest histories old now before count clos
     (take_all (length histories) cells (omega (arith, all))) closed.back)
 
 -- so each history is that of the device under its name
-pub all_at : {D : Type 0} (trace : D → Option Trace) (ticks faults : D → ℕ) (names : List (List ℕ)) (cells rest : List (Told D))
+pub all_at : {D : Type 0} (trace : D → Option Trace) (ticks faults : D → ℕ) (names : List (List ℕ)) (cells rest : List (ToldCell D))
     (histories : List TagHistory) (old now : List ℕ → Option Trace) (before count : ℕ)
     → AreClosed trace ticks faults names cells rest histories old now before count → length histories ≡ length cells
     → length names ≡ length cells → AreHistoriesAt now names histories
@@ -167,12 +167,12 @@ all_at {D} trace ticks faults names cells rest histories old now before count cl
     let back = all_back trace ticks faults names cells rest histories old now before count closed all long in
     let told = subst (λ l. AreHistoriesOf trace ticks faults l histories) (take_all (length histories) cells (omega (arith, all)))
     closed.told in
-    zip_joined (λ name (c : Told D). now name ≡ trace c.journal.dev) (λ (c : Told D) (h : TagHistory). IsHistoryOf
+    zip_joined (λ name (c : ToldCell D). now name ≡ trace c.journal.dev) (λ (c : ToldCell D) (h : TagHistory). IsHistoryOfCell
     (trace c.journal.dev) (ticks c.journal.dev) (faults c.journal.dev) c h)
-    (λ name (h : TagHistory). (t : ℕ) × (n : ℕ) × IsHistory h (now name) t n)
+    (λ name (h : TagHistory). (t : ℕ) × (n : ℕ) × IsCellHistory h (now name) t n)
     (λ name c h says is. (
       ticks c.journal.dev,
       faults c.journal.dev,
-      subst (λ o. IsHistory h o (ticks c.journal.dev)
+      subst (λ o. IsCellHistory h o (ticks c.journal.dev)
           (faults c.journal.dev)) (sym says) is.history,
     )) names cells histories back.given told

@@ -12,8 +12,8 @@ use Rattle.atomic_table.specs.Seated.{TableId}
 use Rattle.snapshot_table.specs.Boards.{new_posters, Posting, PostsTo}
 use Rattle.snapshot_table.specs.Snaps.{nothing}
 use Rattle.snapshot_table.proofs.Places.{poster_at, posts_at}
-use Rattle.tag_cell.specs.Told.{Told}
-use Rattle.plant_store.specs.Tags.{device_name, trace_of, AreDistinct, IsOpened, AreOpened, AreOthersSame, AllStaySame, records_in}
+use Rattle.tag_cell.specs.Told.{ToldCell}
+use Rattle.plant_store.specs.Tags.{device_name, tag_trace_of, AreDistinct, IsOpened, AreTagsOpened, AreOtherTagsSame, AllStaySame, tag_records_in}
 use Rattle.plant_store.proofs.TagDevices.{untouched}
 use Rattle.plant_store.proofs.TagTurns.{IsTag, apart}
 use Rattle.plant_store.specs.CellOpenings.{core_of, IsCellOpened, AreCellsOpened, records_opened}
@@ -41,21 +41,21 @@ beyond tags i k def distinct tag from j e below =
     (ap (λ (x : TagDef). device_name x.name) (sym (get_or-take i tags j e before)) ∙ sym same)
 
 -- so the device of one that was not reached is as it was
-pub not_reached : (tags : List TagDef) (i k : ℕ) (def : TagDef) (old now : List ℕ → Option Trace) → AreOthersSame (take i tags) old now
-    → AreDistinct tags → IsTag tags k def → i ≤ k → trace_of now def ≡ trace_of old def
+pub not_reached : (tags : List TagDef) (i k : ℕ) (def : TagDef) (old now : List ℕ → Option Trace) → AreOtherTagsSame (take i tags) old now
+    → AreDistinct tags → IsTag tags k def → i ≤ k → tag_trace_of now def ≡ tag_trace_of old def
 not_reached tags i k def old now others distinct tag from = others (device_name def.name) (beyond tags i k def distinct tag from)
 
 -- what none of the first tags has, nor the next one, is as it was
-pub reached : (tags : List TagDef) (i : ℕ) (def : TagDef) (old now new : List ℕ → Option Trace) → AreOthersSame (take i tags) old now
-    → IsTag tags i def → ((n : List ℕ) → n ≢ device_name def.name → new n ≡ now n) → AreOthersSame (take (i + 1) tags) old new
+pub reached : (tags : List TagDef) (i : ℕ) (def : TagDef) (old now new : List ℕ → Option Trace) → AreOtherTagsSame (take i tags) old now
+    → IsTag tags i def → ((n : List ℕ) → n ≢ device_name def.name → new n ≡ now n) → AreOtherTagsSame (take (i + 1) tags) old new
 reached tags i def old now new others tag step n none =
     let both = subst (All (λ (d : TagDef). n ≢ device_name d.name)) (one_longer tags i def tag) none in
     step n (all_last (λ (d : TagDef). n ≢ device_name d.name) (take i tags) def both)
     ∙ others n (all_before (λ (d : TagDef). n ≢ device_name d.name) (take i tags) def both)
 
 -- and so it is where the devices of fewer tags change then
-pub given_later : (tags : List TagDef) (i j : ℕ) (old now new : List ℕ → Option Trace) → AreOthersSame (take i tags) old now
-    → AreOthersSame (take j tags) now new → j ≤ i → AreOthersSame (take i tags) old new
+pub given_later : (tags : List TagDef) (i j : ℕ) (old now new : List ℕ → Option Trace) → AreOtherTagsSame (take i tags) old now
+    → AreOtherTagsSame (take j tags) now new → j ≤ i → AreOtherTagsSame (take i tags) old new
 given_later tags i j old now new others later few n none =
     later n (subst (All (λ (d : TagDef). n ≢ device_name d.name)) (take-take j i tags few)
     (All-take (λ (d : TagDef). n ≢ device_name d.name) j (take i tags) none)) ∙ others n none
@@ -63,61 +63,61 @@ given_later tags i j old now new others later few n none =
 -- ---- cells
 
 -- the records that the cores of cells have
-pub records_are : {D : Type 0} (cells : List (Told D)) → records_in (map (core_of {D = D}) cells) ≡ records_opened cells
+pub records_are : {D : Type 0} (cells : List (ToldCell D)) → tag_records_in (map (core_of {D = D}) cells) ≡ records_opened cells
 records_are {D} cells = sum_by_seen (λ (core : Core). length core.state.records) (core_of {D = D}) cells
 
 -- the cores of cells are what the tags are opened as
 pub cores_opened : {D : Type 0} (trace : D → Option Trace) (ticks faults : D → ℕ) (tags : List TagDef)
-    (traces : List ℕ → Option Trace) (cells : List (Told D)) → AreCellsOpened trace ticks faults tags traces cells
-    → AreOpened tags traces (map (core_of {D = D}) cells)
-cores_opened {D} trace ticks faults tags traces cells opened = zip_as (λ (def : TagDef) (c : Told D).
-    IsCellOpened def (trace_of traces def) (trace c.journal.dev) (ticks c.journal.dev) (faults c.journal.dev) c)
-    (λ (def : TagDef) (core : Core). IsOpened def (trace_of traces def) core) (core_of {D = D}) (λ def c is. is.found) tags cells opened
+    (traces : List ℕ → Option Trace) (cells : List (ToldCell D)) → AreCellsOpened trace ticks faults tags traces cells
+    → AreTagsOpened tags traces (map (core_of {D = D}) cells)
+cores_opened {D} trace ticks faults tags traces cells opened = zip_as (λ (def : TagDef) (c : ToldCell D).
+    IsCellOpened def (tag_trace_of traces def) (trace c.journal.dev) (ticks c.journal.dev) (faults c.journal.dev) c)
+    (λ (def : TagDef) (core : Core). IsOpened def (tag_trace_of traces def) core) (core_of {D = D}) (λ def c is. is.found) tags cells opened
 
 -- ---- what a crash leaves
 
 -- a crash has left nothing else of the devices of the tags from this place on
 abbrev pub AllStayFrom : ℕ → List TagDef → (List ℕ → Option Trace) → (List ℕ → Option Trace) → Type 0
 AllStayFrom i tags old now = (k : ℕ) (def : TagDef) → IsTag tags k def → i ≤ k
-    → StaysSame def (trace_of old def) (trace_of now def)
+    → StaysSame def (tag_trace_of old def) (tag_trace_of now def)
 
 -- as none of them is changed
 pub unchanged_from : (tags : List TagDef) (i : ℕ) (old now : List ℕ → Option Trace) → AreDistinct tags
-    → AreOthersSame (take i tags) old now → AllStayFrom i tags old now
-unchanged_from tags i old now distinct others k def tag from = untouched def (trace_of old def) (trace_of now def)
+    → AreOtherTagsSame (take i tags) old now → AllStayFrom i tags old now
+unchanged_from tags i old now distinct others k def tag from = untouched def (tag_trace_of old def) (tag_trace_of now def)
     (not_reached tags i k def old now others distinct tag from)
 
 -- or the first of them alone, of which it is so
 pub turned_from : (tags : List TagDef) (i : ℕ) (def : TagDef) (old now new : List ℕ → Option Trace) → AreDistinct tags
-    → IsTag tags i def → AreOthersSame (take i tags) old now → ((n : List ℕ) → n ≢ device_name def.name → new n ≡ now n)
-    → StaysSame def (trace_of now def) (trace_of new def) → AllStayFrom i tags old new
+    → IsTag tags i def → AreOtherTagsSame (take i tags) old now → ((n : List ℕ) → n ≢ device_name def.name → new n ≡ now n)
+    → StaysSame def (tag_trace_of now def) (tag_trace_of new def) → AllStayFrom i tags old new
 turned_from tags i def old now new distinct tag others step same k d at from = elim (cases_lt i k) [
   | inl behind ↦ unchanged_from tags (i + 1) old new distinct (reached tags i def old now new others tag step) k d at
       (omega (arith, behind))
   | inr here ↦
       let place : k ≡ i = omega (arith, here, from) in
       let this : def ≡ d = tag.is ∙ (get_or_default tags i def d tag.there ∙ (ap (λ j. get_or tags j d) (sym place) ∙ sym at.is)) in
-      subst (λ (x : TagDef). StaysSame x (trace_of old x) (trace_of new x)) this
-      (subst (λ o. StaysSame def o (trace_of new def)) (not_reached tags i i def old now others distinct tag (omega arith)) same)
+      subst (λ (x : TagDef). StaysSame x (tag_trace_of old x) (tag_trace_of new x)) this
+      (subst (λ o. StaysSame def o (tag_trace_of new def)) (not_reached tags i i def old now others distinct tag (omega arith)) same)
 ]
 
 -- and of the tags of these cells neither, once their devices are given back
-pub all_stay : {D : Type 0} (trace : D → Option Trace) (ticks faults : D → ℕ) (tags : List TagDef) (cells : List (Told D))
+pub all_stay : {D : Type 0} (trace : D → Option Trace) (ticks faults : D → ℕ) (tags : List TagDef) (cells : List (ToldCell D))
     (old now new : List ℕ → Option Trace) → AreDistinct tags → length cells ≤ length tags
     → AreCellsOpened trace ticks faults (take (length cells) tags) old cells → AllStayFrom (length cells) tags old now
-    → AreOthersSame (take (length cells) tags) now new → AreTold trace tags cells new → AllStaySame tags old new
+    → AreOtherTagsSame (take (length cells) tags) now new → AreTold trace tags cells new → AllStaySame tags old new
 all_stay {D} trace ticks faults tags cells old now new distinct within opened stay others told k d there = elim (cases_lt k (length cells)) [
   | inl before ↦
-      subst (λ (x : TagDef). StaysSame x (trace_of old x) (trace_of new x)) (get_or-take (length cells) tags k d before)
-      (zip_both (λ (def : TagDef) (c : Told D). IsCellOpened def (trace_of old def) (trace c.journal.dev) (ticks c.journal.dev)
-      (faults c.journal.dev) c) (λ (def : TagDef) (c : Told D). trace_of new def ≡ trace c.journal.dev)
-      (λ (def : TagDef). StaysSame def (trace_of old def) (trace_of new def))
-      (λ def c is says. subst (λ o. StaysSame def (trace_of old def) o) (sym says) is.same) (take (length cells) tags) cells
+      subst (λ (x : TagDef). StaysSame x (tag_trace_of old x) (tag_trace_of new x)) (get_or-take (length cells) tags k d before)
+      (zip_both (λ (def : TagDef) (c : ToldCell D). IsCellOpened def (tag_trace_of old def) (trace c.journal.dev) (ticks c.journal.dev)
+      (faults c.journal.dev) c) (λ (def : TagDef) (c : ToldCell D). tag_trace_of new def ≡ trace c.journal.dev)
+      (λ (def : TagDef). StaysSame def (tag_trace_of old def) (tag_trace_of new def))
+      (λ def c is says. subst (λ o. StaysSame def (tag_trace_of old def) o) (sym says) is.same) (take (length cells) tags) cells
       opened told k d (omega (arith, before, length-take-le (length cells) tags within)))
   | inr behind ↦
       let def = get_or tags k d in
       let tag = tag_at tags k d there in
-      subst (λ o. StaysSame def (trace_of old def) o) (sym (not_reached tags (length cells) k def now new others distinct tag behind))
+      subst (λ o. StaysSame def (tag_trace_of old def) o) (sym (not_reached tags (length cells) k def now new others distinct tag behind))
       (stay k def tag behind)
 ]
 

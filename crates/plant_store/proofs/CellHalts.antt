@@ -17,13 +17,13 @@ use Rattle.device_layout.specs.Readings.{IsCause}
 use Rattle.crash_recovery.specs.Opening.{StaysSame}
 use Rattle.plant_status.specs.declared.status.Status.{Status}
 use Rattle.plant_status.specs.declared.status.Status.TheVariants.{Limit}
-use Rattle.tag_cell.specs.Told.{Told}
+use Rattle.tag_cell.specs.Told.{ToldCell}
 use Rattle.plant_store.specs.TagRefusals.{status_of, CountsStore, IsRefusedAt, IsRefusal, IsTooMuch}
-use Rattle.plant_store.specs.Tags.{device_name, trace_of, AllStaySame, AreDistinct, AreOpened, AreOthersSame, records_in}
+use Rattle.plant_store.specs.Tags.{device_name, tag_trace_of, AllStaySame, AreDistinct, AreTagsOpened, AreOtherTagsSame, tag_records_in}
 use Rattle.plant_store.proofs.TagEndings.{counted}
 use Rattle.plant_store.proofs.TagTurns.{IsTag}
 use Rattle.plant_store.specs.CellClosings.{AreGivenBack, CountsCells}
-use Rattle.plant_store.specs.CellNames.{names_of, texts}
+use Rattle.plant_store.specs.CellNames.{device_names_of, texts}
 use Rattle.plant_store.specs.CellOpenings.{core_of, IsCellOpened, AreCellsOpened, records_opened}
 use Rattle.plant_store.specs.CellStops.{IsStopped}
 use Rattle.plant_store.proofs.CellFronts.{AllStayFrom, all_stay, cores_opened, given_later, not_reached, one_longer, reached, records_are, turned_from}
@@ -33,13 +33,13 @@ use Rattle.plant_store.proofs.CellLists.{zip_each}
 -- what is known where tag i is the first that is refused
 pub record IsFront (tags : List TagDef) (i : ℕ) (def : TagDef) (cores : List Core) (old new : List ℕ → Option Trace) : Type 0 where
   pub tag : IsTag tags i def
-  pub opened : AreOpened (take i tags) old cores
-  pub few : records_in cores ≤ most_stored
-  pub rest : AreOthersSame (take (i + 1) tags) old new
+  pub opened : AreTagsOpened (take i tags) old cores
+  pub few : tag_records_in cores ≤ most_stored
+  pub rest : AreOtherTagsSame (take (i + 1) tags) old new
 
 -- it is refused there, for this
 pub refused_there : (tags : List TagDef) (i : ℕ) (def : TagDef) (cores : List Core) (old new : List ℕ → Option Trace)
-    (P : List Core → TagDef → Option Trace → Type 0) → IsFront tags i def cores old new → P cores def (trace_of old def)
+    (P : List Core → TagDef → Option Trace → Type 0) → IsFront tags i def cores old new → P cores def (tag_trace_of old def)
     → IsRefusedAt tags old new i P
 refused_there tags i def cores old new P front cause = record {
   def = def;
@@ -55,7 +55,7 @@ refused_there tags i def cores old new P front cause = record {
 -- and the cause of it is told
 pub told : (tags : List TagDef) (i : ℕ) (def : TagDef) (cores : List Core) (old new : List ℕ → Option Trace) (before after : ℕ)
     (why : OpenNo) → IsFront tags i def cores old new → (before < 2 ^ 64 → why ≡ DeviceFault → Rose before after)
-    → IsCause def (trace_of old def) why → IsRefusal tags old new before after (status_of i why)
+    → IsCause def (tag_trace_of old def) why → IsRefusal tags old new before after (status_of i why)
 told tags i def cores old new before after DeviceFault front rose cause =
     refused_there tags i def cores old new _ front (λ small. rose small refl)
 told tags i def cores old new before after (Damaged at byte) front rose cause =
@@ -70,15 +70,15 @@ told tags i def cores old new before after WantOfMemory front rose cause = tt
 
 -- what is known of the cells of the first i tags
 pub record AreFirst {D : Type 0} (trace : D → Option Trace) (ticks faults : D → ℕ) (tags : List TagDef) (i : ℕ)
-    (cells : List (Told D)) (old : List ℕ → Option Trace) : Type 0 where
+    (cells : List (ToldCell D)) (old : List ℕ → Option Trace) : Type 0 where
   pub opened : AreCellsOpened trace ticks faults (take i tags) old cells
   pub count : length cells ≡ i
   pub few : records_opened cells ≤ most_stored
 
 -- their cores stand before the refused tag
 pub front_of : {D : Type 0} (trace : D → Option Trace) (ticks faults : D → ℕ) (tags : List TagDef) (i : ℕ) (def : TagDef)
-    (cells : List (Told D)) (old new : List ℕ → Option Trace) → AreFirst trace ticks faults tags i cells old → IsTag tags i def
-    → AreOthersSame (take (i + 1) tags) old new → IsFront tags i def (map (core_of {D = D}) cells) old new
+    (cells : List (ToldCell D)) (old new : List ℕ → Option Trace) → AreFirst trace ticks faults tags i cells old → IsTag tags i def
+    → AreOtherTagsSame (take (i + 1) tags) old new → IsFront tags i def (map (core_of {D = D}) cells) old new
 front_of trace ticks faults tags i def cells old new first tag rest = record {
   tag = tag;
   opened = cores_opened trace ticks faults (take i tags) old cells first.opened;
@@ -88,15 +88,15 @@ front_of trace ticks faults tags i def cells old new first tag rest = record {
 
 -- at a tag that is not opened
 pub stopped_there : {D T : Type 0} (trace : D → Option Trace) (ticks faults : D → ℕ) (tags : List TagDef) (i : ℕ) (def : TagDef)
-    (cells : List (Told D)) (old now mid : List ℕ → Option Trace) (before count : ℕ) (why : OpenNo) → AreDistinct tags
-    → AreFirst trace ticks faults tags i cells old → AreOthersSame (take i tags) old now → IsTag tags i def
-    → ((n : List ℕ) → n ≢ device_name def.name → mid n ≡ now n) → StaysSame def (trace_of now def) (trace_of mid def)
-    → IsCause def (trace_of now def) why → (before < 2 ^ 64 → CountsFault {T = T} (Err why) DeviceFault before count)
+    (cells : List (ToldCell D)) (old now mid : List ℕ → Option Trace) (before count : ℕ) (why : OpenNo) → AreDistinct tags
+    → AreFirst trace ticks faults tags i cells old → AreOtherTagsSame (take i tags) old now → IsTag tags i def
+    → ((n : List ℕ) → n ≢ device_name def.name → mid n ≡ now n) → StaysSame def (tag_trace_of now def) (tag_trace_of mid def)
+    → IsCause def (tag_trace_of now def) why → (before < 2 ^ 64 → CountsFault {T = T} (Err why) DeviceFault before count)
     → IsStopped trace tags cells old mid before count (status_of i why)
 stopped_there trace ticks faults tags i def cells old now mid before count why distinct first others tag step same cause counts =
     let place = first.count in record {
       refused = λ new after later is.
-          let later_is = subst (λ n. AreOthersSame (take n tags) mid new) place later in
+          let later_is = subst (λ n. AreOtherTagsSame (take n tags) mid new) place later in
           told tags i def (map core_of cells) old new before after why
           (front_of trace ticks faults tags i def cells old new first tag (given_later tags (i + 1) i old mid new
           (reached tags i def old now mid others tag step) later_is (omega arith)))
@@ -112,16 +112,16 @@ stopped_there trace ticks faults tags i def cells old now mid before count why d
 
 -- a cell that is opened now was opened as what its tag's device told at the beginning
 pub opened_since : {D : Type 0} (tags : List TagDef) (i : ℕ) (def : TagDef) (text : List ℕ) (old now : List ℕ → Option Trace)
-    (new : Option Trace) (ticks faults : ℕ) (c : Told D) → AreOthersSame (take i tags) old now → AreDistinct tags
+    (new : Option Trace) (ticks faults : ℕ) (c : ToldCell D) → AreOtherTagsSame (take i tags) old now → AreDistinct tags
     → IsTag tags i def → text ≡ device_name def.name → IsCellOpened def (now text) new ticks faults c
-    → IsCellOpened def (trace_of old def) new ticks faults c
+    → IsCellOpened def (tag_trace_of old def) new ticks faults c
 opened_since tags i def text old now new ticks faults c others distinct tag named is =
     subst (λ o. IsCellOpened def o new ticks faults c) (ap now named ∙ not_reached tags i i def old now others distinct tag (omega arith)) is
 
 -- at a tag with which there are too many records
 pub stopped_full : {D : Type 0} (trace : D → Option Trace) (ticks faults : D → ℕ) (tags : List TagDef) (i : ℕ) (def : TagDef)
-    (text : List ℕ) (cells : List (Told D)) (c : Told D) (old now mid : List ℕ → Option Trace) (before count after number : ℕ)
-    → AreDistinct tags → AreFirst trace ticks faults tags i cells old → AreOthersSame (take i tags) old now → IsTag tags i def
+    (text : List ℕ) (cells : List (ToldCell D)) (c : ToldCell D) (old now mid : List ℕ → Option Trace) (before count after number : ℕ)
+    → AreDistinct tags → AreFirst trace ticks faults tags i cells old → AreOtherTagsSame (take i tags) old now → IsTag tags i def
     → text ≡ device_name def.name → ((n : List ℕ) → n ≢ text → mid n ≡ now n) → mid text ≡ trace c.journal.dev
     → IsCellOpened def (now text) (trace c.journal.dev) (ticks c.journal.dev) (faults c.journal.dev) c
     → number ≡ records_opened cells + length c.opening.recs.items → most_stored < number → count ≡ before
@@ -137,7 +137,7 @@ stopped_full {D} trace ticks faults tags i def text cells c old now mid before c
         i,
         refused_there tags i def (map core_of cells) old new (IsTooMuch number)
             (front_of trace ticks faults tags i def cells old new first tag (given_later tags (i + 1) i old mid new
-            (reached tags i def old now mid others tag turn) (subst (λ n. AreOthersSame (take n tags) mid new) place later) (omega arith)))
+            (reached tags i def old now mid others tag turn) (subst (λ n. AreOtherTagsSame (take n tags) mid new) place later) (omega arith)))
             (record {
               core = core_of c;
               opened = (opened_since tags i def text old now (trace c.journal.dev) (ticks c.journal.dev) (faults c.journal.dev) c
@@ -158,11 +158,11 @@ stopped_full {D} trace ticks faults tags i def text cells c old now mid before c
 
 -- the devices of opened cells have counted no fault
 pub all_faultless : {D : Type 0} (trace : D → Option Trace) (ticks faults : D → ℕ) (tags : List TagDef)
-    (traces : List ℕ → Option Trace) (cells : List (Told D)) → AreCellsOpened trace ticks faults tags traces cells
-    → All (λ (c : Told D). faults c.journal.dev ≡ 0) cells
-all_faultless {D} trace ticks faults tags traces cells opened = zip_each (λ (def : TagDef) (c : Told D).
-    IsCellOpened def (trace_of traces def) (trace c.journal.dev) (ticks c.journal.dev) (faults c.journal.dev) c)
-    (λ (c : Told D). faults c.journal.dev ≡ 0) (λ def c is. is.faultless) tags cells opened
+    (traces : List ℕ → Option Trace) (cells : List (ToldCell D)) → AreCellsOpened trace ticks faults tags traces cells
+    → All (λ (c : ToldCell D). faults c.journal.dev ≡ 0) cells
+all_faultless {D} trace ticks faults tags traces cells opened = zip_each (λ (def : TagDef) (c : ToldCell D).
+    IsCellOpened def (tag_trace_of traces def) (trace c.journal.dev) (ticks c.journal.dev) (faults c.journal.dev) c)
+    (λ (c : ToldCell D). faults c.journal.dev ≡ 0) (λ def c is. is.faultless) tags cells opened
 
 -- a count that is below the end of its type stays so
 pub small_still : (before count : ℕ) (why : Status) → before < 2 ^ 64 → CountsStore {T = Unit {0}} (Err why) before count
@@ -172,7 +172,7 @@ small_still before count why small (inr rose) = omega (arith, rose.2, small)
 
 -- so the store counts then what it counted as the opening stopped
 pub count_kept : {D : Type 0} (trace : D → Option Trace) (ticks faults : D → ℕ) (tags all : List TagDef)
-    (old now : List ℕ → Option Trace) (cells : List (Told D)) (before count after : ℕ) (why : Status)
+    (old now : List ℕ → Option Trace) (cells : List (ToldCell D)) (before count after : ℕ) (why : Status)
     → AreCellsOpened trace ticks faults tags old cells → IsStopped trace all cells old now before count why
     → (count < 2 ^ 64 → CountsCells faults cells count after) → before < 2 ^ 64 → after ≡ count
 count_kept trace ticks faults tags all old now cells before count after why opened stopped counts small =
@@ -183,22 +183,22 @@ count_kept trace ticks faults tags all old now cells before count after why open
 
 -- it stands behind those before it
 pub opened_more : {D : Type 0} (trace : D → Option Trace) (ticks faults : D → ℕ) (tags : List TagDef) (i : ℕ) (def : TagDef)
-    (cells more : List (Told D)) (c : Told D) (old : List ℕ → Option Trace) → AreFirst trace ticks faults tags i cells old
-    → IsTag tags i def → IsCellOpened def (trace_of old def) (trace c.journal.dev) (ticks c.journal.dev) (faults c.journal.dev) c
+    (cells more : List (ToldCell D)) (c : ToldCell D) (old : List ℕ → Option Trace) → AreFirst trace ticks faults tags i cells old
+    → IsTag tags i def → IsCellOpened def (tag_trace_of old def) (trace c.journal.dev) (ticks c.journal.dev) (faults c.journal.dev) c
     → more ≡ cells ++ c ∷ [] → AreCellsOpened trace ticks faults (take (i + 1) tags) old more × (length more ≡ i + 1)
 opened_more {D} trace ticks faults tags i def cells more c old first tag is all = (
   subst (λ l. AreCellsOpened trace ticks faults (take (i + 1) tags) old l) (sym all)
       (subst (λ l. AreCellsOpened trace ticks faults l old (cells ++ c ∷ [])) (sym (one_longer tags i def tag))
-      (all_zipped_more (λ (d : TagDef) (e : Told D). IsCellOpened d (trace_of old d) (trace e.journal.dev) (ticks e.journal.dev)
+      (all_zipped_more (λ (d : TagDef) (e : ToldCell D). IsCellOpened d (tag_trace_of old d) (trace e.journal.dev) (ticks e.journal.dev)
       (faults e.journal.dev) e) (take i tags) cells def c first.opened is)),
   omega (arith, ap length all, length_push cells c, first.count),
 )
 
 -- its records are counted
-pub records_more : {D : Type 0} (cells more : List (Told D)) (c : Told D) → more ≡ cells ++ c ∷ []
+pub records_more : {D : Type 0} (cells more : List (ToldCell D)) (c : ToldCell D) → more ≡ cells ++ c ∷ []
     → records_opened more ≡ records_opened cells + length c.opening.recs.items
 records_more {D} cells more c all = ap (records_opened {D = D}) all
-    ∙ sum_by_push (λ (e : Told D). length e.opening.recs.items) cells c
+    ∙ sum_by_push (λ (e : ToldCell D). length e.opening.recs.items) cells c
 
 -- the faults are counted from the beginning on
 pub counted_since : {T : Type 0} (before now after : ℕ) (why : OpenNo) → now ≡ before
@@ -208,11 +208,11 @@ counted_since {T} before now after why same counts small =
     subst (λ n. CountsFault {T = T} (Err why) DeviceFault n after) same (counts (subst (λ n. n < 2 ^ 64) (sym same) small))
 
 -- the rooms of the cells
-pub rooms_more : {D : Type 0} (cells more : List (Told D)) (c : Told D) (rooms : List ℕ) (i k : ℕ) → more ≡ cells ++ c ∷ []
-    → map (λ (e : Told D). e.room) cells ≡ take i rooms → c.room ≡ get_or rooms k 0 → k ≡ i → i < length rooms
-    → map (λ (e : Told D). e.room) more ≡ take (i + 1) rooms
-rooms_more {D} cells more c rooms i k all before is at there = ap (λ l. map (λ (e : Told D). e.room) l) all
-    ∙ (map_push (λ (e : Told D). e.room) cells c ∙ (ap (λ l. l ++ c.room ∷ []) before
+pub rooms_more : {D : Type 0} (cells more : List (ToldCell D)) (c : ToldCell D) (rooms : List ℕ) (i k : ℕ) → more ≡ cells ++ c ∷ []
+    → map (λ (e : ToldCell D). e.room) cells ≡ take i rooms → c.room ≡ get_or rooms k 0 → k ≡ i → i < length rooms
+    → map (λ (e : ToldCell D). e.room) more ≡ take (i + 1) rooms
+rooms_more {D} cells more c rooms i k all before is at there = ap (λ l. map (λ (e : ToldCell D). e.room) l) all
+    ∙ (map_push (λ (e : ToldCell D). e.room) cells c ∙ (ap (λ l. l ++ c.room ∷ []) before
     ∙ (ap (λ (n : ℕ). take i rooms ++ n ∷ []) (is ∙ ap (λ j. get_or rooms j 0) at) ∙ sym (take_more rooms i 0 there))))
 
 -- ---- the whole refusal
@@ -220,12 +220,12 @@ rooms_more {D} cells more c rooms i k all before is at there = ap (λ l. map (λ
 -- once the devices of the opened cells are given back, it is a refusal of the tags, a crash has left nothing else, the faults
 -- are counted, and the devices of other tags are as they were
 pub given_up : {D : Type 0} (trace : D → Option Trace) (ticks faults : D → ℕ) (names : List (String Global))
-    (tags : List TagDef) (cells : List (Told D)) (n : ℕ) (old now new : List ℕ → Option Trace) (before count after : ℕ) (why : Status)
-    → texts names ≡ names_of tags → n ≡ length cells → AreCellsOpened trace ticks faults (take (length cells) tags) old cells
+    (tags : List TagDef) (cells : List (ToldCell D)) (n : ℕ) (old now new : List ℕ → Option Trace) (before count after : ℕ) (why : Status)
+    → texts names ≡ device_names_of tags → n ≡ length cells → AreCellsOpened trace ticks faults (take (length cells) tags) old cells
     → IsStopped trace tags cells old now before count why → AreGivenBack trace (texts (take n names)) cells now new
     → (count < 2 ^ 64 → CountsCells faults cells count after)
     → IsRefusal tags old new before after why × AllStaySame tags old new × (before < 2 ^ 64 → CountsStore {T = Unit {0}} (Err why) before after)
-    × AreOthersSame (take (length cells) tags) now new
+    × AreOtherTagsSame (take (length cells) tags) now new
 given_up trace ticks faults names tags cells n old now new before count after why same is opened stopped back counts =
     let given = given_of trace names tags cells now new same
     (subst (λ k. AreGivenBack trace (texts (take k names)) cells now new) is back) in

@@ -7,21 +7,21 @@ use Rattle.std.proofs.lemmas.List.{get_or-map, get_or-take, length-map, length-t
 use Rattle.std.proofs.lemmas.List.Elements.{All-map, All-more, All-weaker}
 use Rattle.trend_num.specs.declared.tag_def.TagDef.{TagDef}
 use Rattle.disk_model.specs.Traces.{Trace}
-use Rattle.tag_cell.specs.Told.{Told}
-use Rattle.plant_store.specs.Tags.{device_name, AreDistinct, AreOthersSame}
+use Rattle.tag_cell.specs.Told.{ToldCell}
+use Rattle.plant_store.specs.Tags.{device_name, AreDistinct, AreOtherTagsSame}
 use Rattle.plant_store.proofs.TagTurns.{IsTag, one_name}
 use Rattle.plant_store.specs.CellClosings.{AreGivenBack}
-use Rattle.plant_store.specs.CellNames.{AreApart, HasPlaces, names_of, texts}
+use Rattle.plant_store.specs.CellNames.{AreApart, HasPlaces, device_names_of, texts}
 use Rattle.plant_store.specs.CellStops.{AreTold}
 use Rattle.plant_store.proofs.CellLists.{zip_seen}
 
 -- there is a name for each tag
-pub as_many_names : (names : List (String Global)) (tags : List TagDef) → texts names ≡ names_of tags → length names ≡ length tags
+pub as_many_names : (names : List (String Global)) (tags : List TagDef) → texts names ≡ device_names_of tags → length names ≡ length tags
 as_many_names names tags same = sym (length-map names string_bytes)
     ∙ (ap length same ∙ length-map tags (λ (def : TagDef). device_name def.name))
 
 -- the name at a place is that of the tag's device
-pub name_at : (names : List (String Global)) (tags : List TagDef) (i : ℕ) (name : String Global) (def : TagDef) → texts names ≡ names_of tags
+pub name_at : (names : List (String Global)) (tags : List TagDef) (i : ℕ) (name : String Global) (def : TagDef) → texts names ≡ device_names_of tags
     → i < length tags → name ≡ get_or names i name → def ≡ get_or tags i def → string_bytes name ≡ device_name def.name
 name_at names tags i name def same there is at =
     let within : i < length names = omega (arith, there, as_many_names names tags same) in
@@ -31,25 +31,25 @@ name_at names tags i name def same there is at =
     ∙ ap (λ (d : TagDef). device_name d.name) (sym at))))
 
 -- the first names are those of the devices of the first tags
-pub names_front : (names : List (String Global)) (tags : List TagDef) (i : ℕ) → texts names ≡ names_of tags
-    → texts (take i names) ≡ names_of (take i tags)
+pub names_front : (names : List (String Global)) (tags : List TagDef) (i : ℕ) → texts names ≡ device_names_of tags
+    → texts (take i names) ≡ device_names_of (take i tags)
 names_front names tags i same = sym (take-map string_bytes i names)
     ∙ (ap (λ l. take i l) same ∙ take-map (λ (def : TagDef). device_name def.name) i tags)
 
 -- what no name of these tags' devices is, none of the names is
-pub none_named : (names : List (String Global)) (tags : List TagDef) (n : List ℕ) → texts names ≡ names_of tags
+pub none_named : (names : List (String Global)) (tags : List TagDef) (n : List ℕ) → texts names ≡ device_names_of tags
     → All (λ (def : TagDef). n ≢ device_name def.name) tags → All (λ name. n ≢ name) (texts names)
 none_named names tags n same none = subst (All (λ name. n ≢ name)) (sym same)
     (All-map (λ name. n ≢ name) (λ (def : TagDef). device_name def.name) tags none)
 
 -- tags of which no two have one name have devices of which no two have
-pub apart_names : (tags : List TagDef) → AreDistinct tags → AreApart (names_of tags)
+pub apart_names : (tags : List TagDef) → AreDistinct tags → AreApart (device_names_of tags)
 apart_names [] distinct i j d before there = absurd (omega (arith, there))
 apart_names (x ∷ xs) distinct i j d before there =
     let tags = x ∷ xs in
     let name = λ (def : TagDef). device_name def.name in
     let within : j < length tags = omega (arith, there, length-map tags name) in
-    λ (same : get_or (names_of tags) i d ≡ get_or (names_of tags) j d).
+    λ (same : get_or (device_names_of tags) i d ≡ get_or (device_names_of tags) j d).
     distinct i j x before within (one_name (get_or tags i x) (get_or tags j x)
     (sym (get_or-map name tags i x d (omega (arith, before, within))) ∙ (same ∙ get_or-map name tags j x d within)))
 
@@ -62,16 +62,16 @@ apart_front names n apart within i j d before there =
     (sym (get_or-take n names i d (omega (arith, before, below))) ∙ (same ∙ get_or-take n names j d below))
 
 -- devices that are given back under the first names are those of the first tags
-pub given_of : {D : Type 0} (trace : D → Option Trace) (names : List (String Global)) (tags : List TagDef) (cells : List (Told D))
-    (now new : List ℕ → Option Trace) → texts names ≡ names_of tags
+pub given_of : {D : Type 0} (trace : D → Option Trace) (names : List (String Global)) (tags : List TagDef) (cells : List (ToldCell D))
+    (now new : List ℕ → Option Trace) → texts names ≡ device_names_of tags
     → AreGivenBack trace (texts (take (length cells) names)) cells now new
-    → AreOthersSame (take (length cells) tags) now new × AreTold trace tags cells new
+    → AreOtherTagsSame (take (length cells) tags) now new × AreTold trace tags cells new
 given_of {D} trace names tags cells now new same back =
     let front = names_front names tags (length cells) same in (
       λ n none. back.others n (none_named (take (length cells) names) (take (length cells) tags) n front none),
-      zip_seen (λ name (c : Told D). new name ≡ trace c.journal.dev) (λ (def : TagDef). device_name def.name)
+      zip_seen (λ name (c : ToldCell D). new name ≡ trace c.journal.dev) (λ (def : TagDef). device_name def.name)
           (take (length cells) tags) cells
-          (subst (λ l. AllZip (λ name (c : Told D). new name ≡ trace c.journal.dev) l cells) front back.given),
+          (subst (λ l. AllZip (λ name (c : ToldCell D). new name ≡ trace c.journal.dev) l cells) front back.given),
     )
 
 -- the bytes of the text at a place
@@ -81,7 +81,7 @@ text_at names i name there is = ap string_bytes is ∙ sym (get_or-map string_by
 
 -- a text that is the name at a tag's place is that of the tag's device
 pub name_of_tag : (names : List (String Global)) (tags : List TagDef) (i k : ℕ) (name : String Global) (text : List ℕ)
-    (def : TagDef) → texts names ≡ names_of tags → IsTag tags i def → k ≡ i → name ≡ get_or names k name
+    (def : TagDef) → texts names ≡ device_names_of tags → IsTag tags i def → k ≡ i → name ≡ get_or names k name
     → text ≡ string_bytes name → text ≡ device_name def.name
 name_of_tag names tags i k name text def same tag place is bytes = bytes
     ∙ name_at names tags i name def same tag.there (is ∙ ap (λ j. get_or names j name) place) tag.is
@@ -93,7 +93,7 @@ pub record IsNamed (tags : List TagDef) (i k : ℕ) (text : List ℕ) (def : Tag
   pub named : text ≡ device_name def.name
 
 pub named_at : (names : List (String Global)) (tags : List TagDef) (i k : ℕ) (name : String Global) (text : List ℕ) (def : TagDef)
-    → texts names ≡ names_of tags → i < length tags → def ≡ get_or tags i def → k ≡ i → name ≡ get_or names k name
+    → texts names ≡ device_names_of tags → i < length tags → def ≡ get_or tags i def → k ≡ i → name ≡ get_or names k name
     → text ≡ string_bytes name → IsNamed tags i k text def
 named_at names tags i k name text def same there def_is place is bytes = record {
   tag = record { there = there; is = def_is };
@@ -113,7 +113,7 @@ places_more old new names i k name text places kept place there at is bytes =
     (subst (λ n. IsTrue (new n)) text_is place)
 
 -- the first names are of devices of which no two are one
-pub apart_texts : (names : List (String Global)) (tags : List TagDef) (n : ℕ) → texts names ≡ names_of tags → AreDistinct tags
+pub apart_texts : (names : List (String Global)) (tags : List TagDef) (n : ℕ) → texts names ≡ device_names_of tags → AreDistinct tags
     → n ≤ length tags → AreApart (texts (take n names))
 apart_texts names tags n same distinct few = subst AreApart (take-map string_bytes n names)
     (apart_front (texts names) n (subst AreApart (sym same) (apart_names tags distinct))
@@ -126,7 +126,7 @@ places_front place names n k is places = subst (λ l. HasPlaces place l)
     (take-map string_bytes n names ∙ ap (λ j. texts (take j names)) (sym is)) places
 
 -- and those for all
-pub places_whole : (place : List ℕ → Bool) (names : List (String Global)) (tags : List TagDef) (n : ℕ) → texts names ≡ names_of tags
+pub places_whole : (place : List ℕ → Bool) (names : List (String Global)) (tags : List TagDef) (n : ℕ) → texts names ≡ device_names_of tags
     → n ≡ length tags → HasPlaces place (take n (texts names)) → HasPlaces place (texts names)
 places_whole place names tags n same whole places = subst (λ l. HasPlaces place l)
     (take_all n (texts names) (omega (arith, whole, as_many_names names tags same, length-map names string_bytes))) places

@@ -11,64 +11,64 @@ use Rattle.crash_recovery.specs.Opening.{StaysSame}
 use Rattle.plant_status.specs.declared.status.Status.{Status}
 use Rattle.plant_status.specs.declared.unit.Unit.TheVariants.{Tag, Group}
 use Rattle.tag_base.specs.declared.definition.Base.{Base}
-use Rattle.tag_cell.specs.Told.{Told}
+use Rattle.tag_cell.specs.Told.{ToldCell}
 use Rattle.plant_store.specs.TagRefusals as tags
 use Rattle.plant_store.specs.Tags as tag
 use Rattle.plant_store.specs.CellClosings.{AreGivenBack, CountsCells}
-use Rattle.plant_store.specs.CellNames.{names_of, texts}
+use Rattle.plant_store.specs.CellNames.{device_names_of, texts}
 use Rattle.plant_store.specs.CellOpenings.{AreCellsOpened, IsCellOpened, core_of}
 use Rattle.plant_store.proofs.CellHalts.{all_faultless}
 use Rattle.plant_store.proofs.CellLabels.{none_named}
 use Rattle.plant_store.proofs.CellLists.{zip_as, zip_both, zip_seen}
 use Rattle.plant_store.specs.Groups as group
-use Rattle.plant_store.specs.Groups.{Devices}
+use Rattle.plant_store.specs.Groups.{DeviceTraces}
 use Rattle.plant_store.specs.BookRefusals as groups
 use Rattle.plant_store.proofs.BookDevices.{refusal_before, same_before}
-use Rattle.plant_store.specs.Openings.{AreRestSame, CountsPlant, IsPlantRefusal, OfGroups, records_in, records_of}
+use Rattle.plant_store.specs.Openings.{AreRestSame, CountsPlant, IsPlantRefusal, OfGroups, cell_records_in, opened_records_of}
 use Rattle.plant_store.proofs.Labels.{groups_same}
 
 -- ---- the tags that were opened
 
 -- a cell that was opened stands for an opened tag
-pub cores_opened : {D : Type 0} (trace : D → Option Trace) (ticks faults : D → ℕ) (ts : List TagDef) (old : Devices)
-    (cells : List (Told D)) → AreCellsOpened trace ticks faults ts old cells → tag.AreOpened ts old (map (λ (c : Told D). core_of c) cells)
+pub cores_opened : {D : Type 0} (trace : D → Option Trace) (ticks faults : D → ℕ) (ts : List TagDef) (old : DeviceTraces)
+    (cells : List (ToldCell D)) → AreCellsOpened trace ticks faults ts old cells → tag.AreOpened ts old (map (λ (c : ToldCell D). core_of c) cells)
 cores_opened {D} trace ticks faults ts old cells opened =
-    zip_as (λ def (c : Told D). IsCellOpened def (tag.trace_of old def) (trace c.journal.dev) (ticks c.journal.dev)
-    (faults c.journal.dev) c) (λ def core. tag.IsOpened def (tag.trace_of old def) core) (λ (c : Told D). core_of c)
+    zip_as (λ def (c : ToldCell D). IsCellOpened def (tag.trace_of old def) (trace c.journal.dev) (ticks c.journal.dev)
+    (faults c.journal.dev) c) (λ def core. tag.IsOpened def (tag.trace_of old def) core) (λ (c : ToldCell D). core_of c)
     (λ def c is. is.found) ts cells opened
 
 -- with the records that the cell has
-pub records_same : {D : Type 0} (trace : D → Option Trace) (ticks faults : D → ℕ) (ts : List TagDef) (old : Devices)
-    (cells : List (Told D)) → AreCellsOpened trace ticks faults ts old cells
-    → records_in cells ≡ records_of (map (λ (c : Told D). core_of c) cells)
+pub records_same : {D : Type 0} (trace : D → Option Trace) (ticks faults : D → ℕ) (ts : List TagDef) (old : DeviceTraces)
+    (cells : List (ToldCell D)) → AreCellsOpened trace ticks faults ts old cells
+    → cell_records_in cells ≡ opened_records_of (map (λ (c : ToldCell D). core_of c) cells)
 records_same trace ticks faults [] old [] opened = refl
 records_same trace ticks faults [] old (c ∷ cs) opened = absurd opened
 records_same trace ticks faults (t ∷ ts) old [] opened = absurd opened
 records_same trace ticks faults (t ∷ ts) old (c ∷ cs) opened =
-    ap (λ (s : State). s.records ∷ records_in cs) opened.0.state_is
+    ap (λ (s : State). s.records ∷ cell_records_in cs) opened.0.state_is
     ∙ ap (λ l. (core_of c).state.records ∷ l) (records_same trace ticks faults ts old cs opened.1)
 
 -- once the devices are back, each stays the same
 pub tags_kept : {D : Type 0} (trace : D → Option Trace) (ticks faults : D → ℕ) (names : List (String Global)) (ts : List TagDef)
-    (cells : List (Told D)) (old mid new : Devices) → texts names ≡ names_of ts → AreCellsOpened trace ticks faults ts old cells
+    (cells : List (ToldCell D)) (old mid new : DeviceTraces) → texts names ≡ device_names_of ts → AreCellsOpened trace ticks faults ts old cells
     → AreGivenBack trace (texts names) cells mid new → tag.AllStaySame ts old new
 tags_kept {D} trace ticks faults names ts cells old mid new same opened back =
-    zip_both (λ def (c : Told D). IsCellOpened def (tag.trace_of old def) (trace c.journal.dev) (ticks c.journal.dev)
-    (faults c.journal.dev) c) (λ def (c : Told D). tag.trace_of new def ≡ trace c.journal.dev)
+    zip_both (λ def (c : ToldCell D). IsCellOpened def (tag.trace_of old def) (trace c.journal.dev) (ticks c.journal.dev)
+    (faults c.journal.dev) c) (λ def (c : ToldCell D). tag.trace_of new def ≡ trace c.journal.dev)
     (λ def. StaysSame def (tag.trace_of old def) (tag.trace_of new def))
     (λ def c is told. subst (λ o. StaysSame def (tag.trace_of old def) o) (sym told) is.same) ts cells opened
-    (zip_seen (λ name (c : Told D). new name ≡ trace c.journal.dev) (λ (def : TagDef). tag.device_name def.name) ts cells
-    (subst (λ l. AllZip (λ name (c : Told D). new name ≡ trace c.journal.dev) l cells) same back.given))
+    (zip_seen (λ name (c : ToldCell D). new name ≡ trace c.journal.dev) (λ (def : TagDef). tag.device_name def.name) ts cells
+    (subst (λ l. AllZip (λ name (c : ToldCell D). new name ≡ trace c.journal.dev) l cells) same back.given))
 
 -- ---- the devices that are given back under the names of tags
 
 -- what no tag's device is called is as it was
-pub others_kept : {D : Type 0} (trace : D → Option Trace) (names : List (String Global)) (ts : List TagDef) (cells : List (Told D))
-    (old new : Devices) → texts names ≡ names_of ts → AreGivenBack trace (texts names) cells old new → tag.AreOthersSame ts old new
+pub others_kept : {D : Type 0} (trace : D → Option Trace) (names : List (String Global)) (ts : List TagDef) (cells : List (ToldCell D))
+    (old new : DeviceTraces) → texts names ≡ device_names_of ts → AreGivenBack trace (texts names) cells old new → tag.AreOthersSame ts old new
 others_kept trace names ts cells old new same back n none = back.others n (none_named names ts n same none)
 
 -- no device but those of the base has changed
-pub rest_same : (base : Base) (old mid after new : Devices) → tag.AreOthersSame base.tags.items old mid
+pub rest_same : (base : Base) (old mid after new : DeviceTraces) → tag.AreOthersSame base.tags.items old mid
     → group.AreOthersSame base.groups.items mid after → tag.AreOthersSame base.tags.items after new → AreRestSame base old new
 rest_same base old mid after new first second third n no_tag no_group = third n no_tag ∙ (second n no_group ∙ first n no_tag)
 
@@ -98,8 +98,8 @@ within before now why small (inl same) = omega (arith, same, small)
 within before now why small (inr rose) = omega (arith, rose.2, small)
 
 -- and the cells that are given back add nothing to it
-pub count_kept : {D : Type 0} (trace : D → Option Trace) (ticks faults : D → ℕ) (ts : List TagDef) (old : Devices)
-    (cells : List (Told D)) (before first last now : ℕ) (why : Status) → AreCellsOpened trace ticks faults ts old cells
+pub count_kept : {D : Type 0} (trace : D → Option Trace) (ticks faults : D → ℕ) (ts : List TagDef) (old : DeviceTraces)
+    (cells : List (ToldCell D)) (before first last now : ℕ) (why : Status) → AreCellsOpened trace ticks faults ts old cells
     → first ≡ before → (first < 2 ^ 64 → GroupsCount why first last) → (last < 2 ^ 64 → CountsCells faults cells last now)
     → before < 2 ^ 64 → now ≡ last
 count_kept trace ticks faults ts old cells before first last now why opened same counts closed small =
@@ -109,21 +109,21 @@ count_kept trace ticks faults ts old cells before first last now why opened same
 -- ---- a refusal of the groups, once all devices are back
 
 -- it is one of the plant, over the devices before
-pub given_up_refused : {D : Type 0} (trace : D → Option Trace) (ticks faults : D → ℕ) (base : Base) (cells : List (Told D))
-    (old mid new : Devices) (before first last now : ℕ) (why : Status) → AreCellsOpened trace ticks faults base.tags.items old cells
+pub given_up_refused : {D : Type 0} (trace : D → Option Trace) (ticks faults : D → ℕ) (base : Base) (cells : List (ToldCell D))
+    (old mid new : DeviceTraces) (before first last now : ℕ) (why : Status) → AreCellsOpened trace ticks faults base.tags.items old cells
     → tag.AreOthersSame base.tags.items old mid → first ≡ before → (before < 2 ^ 64 → now ≡ last)
-    → groups.IsRefusal base.groups.items (records_in cells) mid first last why → IsPlantRefusal base old new before now why
+    → groups.IsRefusal base.groups.items (cell_records_in cells) mid first last why → IsPlantRefusal base old new before now why
 given_up_refused trace ticks faults base cells old mid new before first last now why opened others passed kept refused =
     OfGroups (map (λ c. core_of c) cells) (cores_opened trace ticks faults base.tags.items old cells opened)
     (subst (λ l. groups.IsRefusal base.groups.items l old before now why)
     (records_same trace ticks faults base.tags.items old cells opened)
-    (refusal_before base.groups.items (records_in cells) old mid (groups_same base.tags.items old mid others) before now first last why
+    (refusal_before base.groups.items (cell_records_in cells) old mid (groups_same base.tags.items old mid others) before now first last why
     (λ was small. subst (λ n. Rose before n) (sym (kept small))
     (subst (λ n. Rose n last) passed (was (omega (arith, passed, small))))) refused))
 
 -- the devices of groups stay the same
-pub given_up_groups : {D : Type 0} (trace : D → Option Trace) (base : Base) (names : List (String Global)) (cells : List (Told D))
-    (old mid after new : Devices) → texts names ≡ names_of base.tags.items → tag.AreOthersSame base.tags.items old mid
+pub given_up_groups : {D : Type 0} (trace : D → Option Trace) (base : Base) (names : List (String Global)) (cells : List (ToldCell D))
+    (old mid after new : DeviceTraces) → texts names ≡ device_names_of base.tags.items → tag.AreOthersSame base.tags.items old mid
     → AreGivenBack trace (texts names) cells after new → group.AllStaySame base.groups.items mid after
     → group.AllStaySame base.groups.items old new
 given_up_groups trace base names cells old mid after new same others back kept =

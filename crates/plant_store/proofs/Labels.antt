@@ -9,8 +9,8 @@ use Rattle.tag_base.specs.declared.definition.Base.{Base}
 use Rattle.tag_base.specs.declared.definition.GroupDef.{GroupDef}
 use Rattle.plant_store.specs.Tags as tag
 use Rattle.plant_store.specs.Groups as group
-use Rattle.plant_store.specs.Groups.{Devices, trace_at}
-use Rattle.plant_store.specs.CellNames.{AreApart, names_of, texts}
+use Rattle.plant_store.specs.Groups.{DeviceTraces, group_trace_at}
+use Rattle.plant_store.specs.CellNames.{AreApart, device_names_of, texts}
 use Rattle.plant_store.proofs.CellLabels.{as_many_names}
 use Rattle.plant_store.proofs.BookNames.{as_many, names_differ}
 use Rattle.plant_store.specs.declared.shelf.Shelf.{Shelf}
@@ -25,20 +25,20 @@ names_apart t g same =
     absurd (omega (arith, ends.1))
 
 -- so the devices of groups are as they were where those of tags alone have changed
-pub groups_same : (tags : List TagDef) (old new : Devices) → tag.AreOthersSame tags old new → (g : GroupDef)
-    → trace_at new g ≡ trace_at old g
+pub groups_same : (tags : List TagDef) (old new : DeviceTraces) → tag.AreOthersSame tags old new → (g : GroupDef)
+    → group_trace_at new g ≡ group_trace_at old g
 groups_same tags old new others g =
     others (group.device_name g.name) (λ k d below same. names_apart (get_or tags k d).name g.name (sym same))
 
 -- and those of tags where those of groups alone have
-pub tags_same : (gs : List GroupDef) (old new : Devices) → group.AreOthersSame gs old new → (t : TagDef)
+pub tags_same : (gs : List GroupDef) (old new : DeviceTraces) → group.AreOthersSame gs old new → (t : TagDef)
     → tag.trace_of new t ≡ tag.trace_of old t
 tags_same gs old new others t =
     others (tag.device_name t.name) (λ k d below. names_apart t.name (get_or gs k d).name)
 
 -- the texts of names of the two kinds are apart
 pub texts_apart : (tags : List TagDef) (gs : List GroupDef) (tag_names group_names : List (String Global))
-    → texts tag_names ≡ names_of tags → group.AreNamesOf gs group_names
+    → texts tag_names ≡ device_names_of tags → group.AreNamesOf gs group_names
     → All (λ t. All (λ g. t ≢ g) (texts group_names)) (texts tag_names)
 texts_apart tags gs tag_names group_names tags_are groups_are =
     subst (λ ns. All (λ t. All (λ g. t ≢ g) (texts group_names)) ns) (sym tags_are)
@@ -49,7 +49,7 @@ texts_apart tags gs tag_names group_names tags_are groups_are =
 
 -- a shelf with these names, and with room for as many histories, is that of the base
 pub shelf_is : (base : Base) (shelf : Shelf) (tags groups : ℕ) → group.AreDistinct base.groups.items
-    → texts shelf.tag_names.items ≡ names_of base.tags.items → AreApart (texts shelf.tag_names.items)
+    → texts shelf.tag_names.items ≡ device_names_of base.tags.items → AreApart (texts shelf.tag_names.items)
     → group.AreNamesOf base.groups.items shelf.group_names.items → shelf.tags.items ≡ [] → shelf.groups.items ≡ []
     → tags ≡ length base.tags.items → groups ≡ length base.groups.items → tags ≤ vec_capacity shelf.tags
     → groups ≤ vec_capacity shelf.groups → IsShelfFor base shelf

@@ -13,7 +13,7 @@ use Rattle.plant_status.specs.declared.status.Status.TheVariants.{Damaged, Other
 use Rattle.plant_status.specs.declared.unit.Unit.TheVariants.{Tag}
 use Rattle.plant_files.specs.Reading.{faults_told}
 use Rattle.plant_store.specs.OpenedBases.{CountsDevices}
-use Rattle.plant_store.specs.Tags.{records_in}
+use Rattle.plant_store.specs.Tags.{tag_records_in}
 use Rattle.plant_store.specs.TagRefusals.{CountsStore, IsRefusal}
 
 -- the refusal of a tag is no fault of a file
@@ -41,7 +41,7 @@ pub tag_is_no_fault : (tags : List TagDef) (old new : List ℕ → Option Trace)
 tag_is_no_fault tags old new before now why is which same = subst (IsRefusal tags old new before now) same is
 
 -- each of these is one of fewer than all
-pub few_each : (cores : List Core) → records_in cores ≤ most_stored → All (λ core. length core.state.records < 2 ^ 32) cores
+pub few_each : (cores : List Core) → tag_records_in cores ≤ most_stored → All (λ core. length core.state.records < 2 ^ 32) cores
 few_each cores few k d below =
     let one = get_or-le-sum_by (λ (core : Core). length core.state.records) cores k d below in omega (arith, few, one)
 

@@ -13,21 +13,21 @@ use Rattle.device_layout.specs.declared.failure.OpenNo.TheVariants.{WantOfMemory
 use Rattle.device_layout.specs.Readings.{IsCause}
 use Rattle.trend_num.specs.Limits.{most_stored}
 use Rattle.disk_model.specs.Calls.{CountsFault, Rose}
-use Rattle.plant_store.specs.Tags.{device_name, trace_of, AllStaySame, AreDistinct, AreOpened, AreLeft, AreOthersSame, records_in}
+use Rattle.plant_store.specs.Tags.{device_name, tag_trace_of, AllStaySame, AreDistinct, AreTagsOpened, AreLeft, AreOtherTagsSame, tag_records_in}
 use Rattle.plant_store.specs.TagRefusals.{status_of, IsRefusedAt, IsRefusal, CountsStore}
 use Rattle.plant_store.proofs.TagTurns.{IsSoFar, IsTag, IsTurn, all_same, unreached, touched}
 
 -- what no tag has, none of the first has
 pub of_all : (tags : List TagDef) (i : ℕ) (old new : List ℕ → Option Trace)
-    → AreOthersSame (take i tags) old new → AreOthersSame tags old new
+    → AreOtherTagsSame (take i tags) old new → AreOtherTagsSame tags old new
 of_all tags i old new others n none =
     others n (All-take (λ (def : TagDef). n ≢ device_name def.name) i tags none)
 
 -- where it ends at the next tag, whose device alone was touched, each device stays the same, and no other one has changed
 pub ends_at : (tags : List TagDef) (i : ℕ) (def : TagDef) (old now new : List ℕ → Option Trace) (cores : List Core)
     → IsSoFar tags i old now cores → i < length tags → def ≡ get_or tags i def
-    → ((n : List ℕ) → n ≢ device_name def.name → new n ≡ now n) → StaysSame def (trace_of now def) (trace_of new def)
-    → (AreDistinct tags → AllStaySame tags old new) × AreOthersSame tags old new
+    → ((n : List ℕ) → n ≢ device_name def.name → new n ≡ now n) → StaysSame def (tag_trace_of now def) (tag_trace_of new def)
+    → (AreDistinct tags → AllStaySame tags old new) × AreOtherTagsSame tags old new
 ends_at tags i def old now new cores so_far there is others same =
     let tag : IsTag tags i def = record { there = there; is = is } in
     let turn : IsTurn def now new = record { others = others; same = same } in (
@@ -38,16 +38,16 @@ ends_at tags i def old now new cores so_far there is others same =
 -- all tags are opened
 pub all_opened : (tags : List TagDef) (i : ℕ) (old : List ℕ → Option Trace) (cores : List Core)
     → length tags ≤ i
-    → AreOpened (take i tags) old cores → AreOpened tags old cores
+    → AreTagsOpened (take i tags) old cores → AreTagsOpened tags old cores
 all_opened tags i old cores end opened =
-    subst (λ (l : List TagDef). AreOpened l old cores) (take_all i tags end) opened
+    subst (λ (l : List TagDef). AreTagsOpened l old cores) (take_all i tags end) opened
 
 -- the next tag is the first that is refused
 pub refused_at : (tags : List TagDef) (i : ℕ) (def : TagDef) (old now new : List ℕ → Option Trace)
     (cores : List Core)
     (P : List Core → TagDef → Option Trace → Type 0) → IsSoFar tags i old now cores
-    → records_in cores ≤ most_stored
-    → AreDistinct tags → IsTag tags i def → IsTurn def now new → P cores def (trace_of now def)
+    → tag_records_in cores ≤ most_stored
+    → AreDistinct tags → IsTag tags i def → IsTurn def now new → P cores def (tag_trace_of now def)
     → IsRefusedAt tags old new i P
 refused_at tags i def old now new cores P so_far few distinct tag turn cause = record {
   def = def;
@@ -72,10 +72,10 @@ all_left tags i old now cores end left =
 pub told : (tags : List TagDef) (i : ℕ) (def : TagDef) (old now new : List ℕ → Option Trace)
     (cores : List Core)
     (before after : ℕ) (why : OpenNo) → IsSoFar tags i old now cores
-    → records_in cores ≤ most_stored
+    → tag_records_in cores ≤ most_stored
     → AreDistinct tags → IsTag tags i def → IsTurn def now new
     → (before < 2 ^ 64 → why ≡ DeviceFault → Rose before after)
-    → IsCause def (trace_of now def) why → IsRefusal tags old new before after (status_of i why)
+    → IsCause def (tag_trace_of now def) why → IsRefusal tags old new before after (status_of i why)
 told tags i def old now new cores before after DeviceFault so_far few distinct tag turn rose cause =
     refused_at tags i def old now new cores _ so_far few distinct tag turn (λ small. rose small refl)
 told tags i def old now new cores before after

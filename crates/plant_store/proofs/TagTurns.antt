@@ -10,15 +10,15 @@ use Rattle.trend_num.specs.declared.tag_def.TagDef.{TagDef}
 use Rattle.tag_core.specs.Core.{Core}
 use Rattle.disk_model.specs.Traces.{Trace}
 use Rattle.crash_recovery.specs.Opening.{StaysSame}
-use Rattle.plant_store.specs.Tags.{device_name, trace_of, AreDistinct, IsOpened, AreOpened, AreOthersSame}
+use Rattle.plant_store.specs.Tags.{device_name, tag_trace_of, AreDistinct, IsOpened, AreTagsOpened, AreOtherTagsSame}
 use Rattle.plant_store.specs.Tags.{AllStaySame, IsLeft, AreLeft}
 use Rattle.plant_store.proofs.TagDevices.{still}
 
 -- the first i tags are opened
 pub record IsSoFar (tags : List TagDef) (i : ℕ) (old now : List ℕ → Option Trace)
     (cores : List Core) : Type 0 where
-  pub opened : AreDistinct tags → AreOpened (take i tags) old cores
-  pub others : AreOthersSame (take i tags) old now
+  pub opened : AreDistinct tags → AreTagsOpened (take i tags) old cores
+  pub others : AreOtherTagsSame (take i tags) old now
   pub left : AreDistinct tags → AreLeft (take i tags) old now cores
   pub same : AreDistinct tags → AllStaySame tags old now
 
@@ -30,7 +30,7 @@ pub record IsTag (tags : List TagDef) (i : ℕ) (def : TagDef) : Type 0 where
 -- the opening of its device changes no other device
 pub record IsTurn (def : TagDef) (now new : List ℕ → Option Trace) : Type 0 where
   pub others : (n : List ℕ) → n ≢ device_name def.name → new n ≡ now n
-  pub same : StaysSame def (trace_of now def) (trace_of new def)
+  pub same : StaysSame def (tag_trace_of now def) (tag_trace_of new def)
 
 -- before the first tag
 pub begun : (tags : List TagDef) (old : List ℕ → Option Trace) → IsSoFar tags 0 old old []
@@ -38,7 +38,7 @@ begun tags old = record {
   opened = λ distinct. tt;
   others = λ n apart. refl;
   left = λ distinct. tt;
-  same = λ distinct k d in'. still (get_or tags k d) (trace_of old (get_or tags k d));
+  same = λ distinct k d in'. still (get_or tags k d) (tag_trace_of old (get_or tags k d));
 }
 
 -- two tags of one device name have one name
@@ -63,7 +63,7 @@ apart tags k i def d distinct tag in' (inr behind) same =
 -- the device of a tag that was not reached is as it was
 pub unreached : (tags : List TagDef) (i : ℕ) (def : TagDef) (old now : List ℕ → Option Trace)
     (cores : List Core)
-    → IsSoFar tags i old now cores → AreDistinct tags → IsTag tags i def → trace_of now def ≡ trace_of old def
+    → IsSoFar tags i old now cores → AreDistinct tags → IsTag tags i def → tag_trace_of now def ≡ tag_trace_of old def
 unreached tags i def old now cores so_far distinct tag = so_far.others (device_name def.name) (λ k d in'.
     let long : length (take i tags) ≡ i = length-take-le i tags (omega (arith, tag.there)) in
     let before : k < i = omega (arith, in', long) in
@@ -74,8 +74,8 @@ unreached tags i def old now cores so_far distinct tag = so_far.others (device_n
 
 -- what neither the first tags nor the next one have is as it was
 pub touched : (tags : List TagDef) (i : ℕ) (def : TagDef) (old now new : List ℕ → Option Trace)
-    → AreOthersSame (take i tags) old now
-    → IsTag tags i def → IsTurn def now new → AreOthersSame (take (i + 1) tags) old new
+    → AreOtherTagsSame (take i tags) old now
+    → IsTag tags i def → IsTurn def now new → AreOtherTagsSame (take (i + 1) tags) old new
 touched tags i def old now new others tag turn n none =
     let long : length (take i tags) ≡ i = length-take-le i tags (omega (arith, tag.there)) in
     let longer : length (take (i + 1) tags) ≡ i + 1 =
@@ -92,18 +92,18 @@ touched tags i def old now new others tag turn n none =
 -- each device stays the same, as that of the next tag does and no other was changed
 one_same : (tags : List TagDef) (i : ℕ) (def : TagDef) (old now new : List ℕ → Option Trace)
     → AreDistinct tags → AllStaySame tags old now
-    → IsTag tags i def → trace_of now def ≡ trace_of old def → IsTurn def now new → (k : ℕ) (d : TagDef)
+    → IsTag tags i def → tag_trace_of now def ≡ tag_trace_of old def → IsTurn def now new → (k : ℕ) (d : TagDef)
     → k < length tags
     → (k ≡ i) ⊎ ((k < i) ⊎ (i < k))
-    → StaysSame (get_or tags k d) (trace_of old (get_or tags k d)) (trace_of new (get_or tags k d))
+    → StaysSame (get_or tags k d) (tag_trace_of old (get_or tags k d)) (tag_trace_of new (get_or tags k d))
 one_same tags i def old now new distinct kept tag reached turn k d in' (inl e) =
     let this : get_or tags k d ≡ def = ap (λ j. get_or tags j d) e ∙ any_default tags i def d tag in
-    subst (λ (x : TagDef). StaysSame x (trace_of old x) (trace_of new x)) (sym this)
-    (subst (λ (o : Option Trace). StaysSame def o (trace_of new def)) reached turn.same)
+    subst (λ (x : TagDef). StaysSame x (tag_trace_of old x) (tag_trace_of new x)) (sym this)
+    (subst (λ (o : Option Trace). StaysSame def o (tag_trace_of new def)) reached turn.same)
 one_same tags i def old now new distinct kept tag reached turn k d in' (inr other) =
     let unchanged = turn.others (device_name (get_or tags k d).name)
     (apart tags k i def d distinct tag in' other) in
-    subst (λ (o : Option Trace). StaysSame (get_or tags k d) (trace_of old (get_or tags k d)) o)
+    subst (λ (o : Option Trace). StaysSame (get_or tags k d) (tag_trace_of old (get_or tags k d)) o)
     (sym unchanged) (kept k d in')
 
 pub all_same : (tags : List TagDef) (i : ℕ) (def : TagDef) (old now new : List ℕ → Option Trace)
@@ -118,13 +118,13 @@ all_same tags i def old now new cores so_far distinct tag turn = λ k d in'.
 -- one tag more
 one_more : (tags : List TagDef) (i : ℕ) (def : TagDef) (old : List ℕ → Option Trace) (cores : List Core)
     (core : Core)
-    → AreOpened (take i tags) old cores → IsTag tags i def → IsOpened def (trace_of old def) core
-    → AreOpened (take (i + 1) tags) old (cores ++ core ∷ [])
+    → AreTagsOpened (take i tags) old cores → IsTag tags i def → IsOpened def (tag_trace_of old def) core
+    → AreTagsOpened (take (i + 1) tags) old (cores ++ core ∷ [])
 one_more tags i def old cores core front tag opened =
     let longer : take (i + 1) tags ≡ take i tags ++ def ∷ [] =
     take_more tags i def tag.there ∙ ap (λ (x : TagDef). take i tags ++ x ∷ []) (sym tag.is) in
-    subst (λ (l : List TagDef). AreOpened l old (cores ++ core ∷ [])) (sym longer)
-    (all_zipped_more (λ (d : TagDef) (c : Core). IsOpened d (trace_of old d) c)
+    subst (λ (l : List TagDef). AreTagsOpened l old (cores ++ core ∷ [])) (sym longer)
+    (all_zipped_more (λ (d : TagDef) (c : Core). IsOpened d (tag_trace_of old d) c)
     (take i tags) cores def core front opened)
 
 -- what holds of pairs place by place follows from what else does
@@ -143,31 +143,31 @@ zip_weaker P Q (x ∷ xs) (y ∷ ys) follows all = (
 pub one_left : (tags : List TagDef) (i : ℕ) (def : TagDef) (old now new : List ℕ → Option Trace) (cores : List Core)
     (core : Core)
     → AreDistinct tags → AreLeft (take i tags) old now cores → IsTag tags i def → IsTurn def now new
-    → IsLeft def (trace_of old def) (trace_of new def) core
+    → IsLeft def (tag_trace_of old def) (tag_trace_of new def) core
     → AreLeft (take (i + 1) tags) old new (cores ++ core ∷ [])
 one_left tags i def old now new cores core distinct front tag turn left =
     let longer : take (i + 1) tags ≡ take i tags ++ def ∷ [] =
     take_more tags i def tag.there ∙ ap (λ (x : TagDef). take i tags ++ x ∷ []) (sym tag.is) in
     let long : length (take i tags) ≡ i = length-take-le i tags (omega (arith, tag.there)) in
     subst (λ (l : List TagDef). AreLeft l old new (cores ++ core ∷ [])) (sym longer)
-    (all_zipped_more (λ (d : TagDef) (c : Core). IsLeft d (trace_of old d) (trace_of new d) c)
+    (all_zipped_more (λ (d : TagDef) (c : Core). IsLeft d (tag_trace_of old d) (tag_trace_of new d) c)
     (take i tags) cores def core
-    (zip_weaker (λ (d : TagDef) (c : Core). IsLeft d (trace_of old d) (trace_of now d) c)
-    (λ (d : TagDef) (c : Core). IsLeft d (trace_of old d) (trace_of new d) c) (take i tags) cores
+    (zip_weaker (λ (d : TagDef) (c : Core). IsLeft d (tag_trace_of old d) (tag_trace_of now d) c)
+    (λ (d : TagDef) (c : Core). IsLeft d (tag_trace_of old d) (tag_trace_of new d) c) (take i tags) cores
     (λ k d c below was.
     let before : k < i = omega (arith, below, long) in
     let place = get_or-take i tags k d before in
     let unchanged = turn.others (device_name (get_or (take i tags) k d).name)
     (λ e. apart tags k i def d distinct tag (omega (arith, before, tag.there)) (inl before)
     (ap (λ (x : TagDef). device_name x.name) (sym place) ∙ e)) in
-    subst (λ (o : Option Trace). IsLeft (get_or (take i tags) k d) (trace_of old (get_or (take i tags) k d)) o c)
+    subst (λ (o : Option Trace). IsLeft (get_or (take i tags) k d) (tag_trace_of old (get_or (take i tags) k d)) o c)
     (sym unchanged) was) front)
     left)
 
 pub next : (tags : List TagDef) (i : ℕ) (def : TagDef) (old now new : List ℕ → Option Trace)
     (cores : List Core) (core : Core)
     → IsSoFar tags i old now cores → IsTag tags i def → IsTurn def now new
-    → IsOpened def (trace_of now def) core → IsLeft def (trace_of now def) (trace_of new def) core
+    → IsOpened def (tag_trace_of now def) core → IsLeft def (tag_trace_of now def) (tag_trace_of new def) core
     → IsSoFar tags (i + 1) old new (cores ++ core ∷ [])
 next tags i def old now new cores core so_far tag turn opened left = record {
   opened = λ distinct. one_more tags i def old cores core (so_far.opened distinct) tag
@@ -175,7 +175,7 @@ next tags i def old now new cores core so_far tag turn opened left = record {
       (unreached tags i def old now cores so_far distinct tag) opened);
   others = touched tags i def old now new so_far.others tag turn;
   left = λ distinct. one_left tags i def old now new cores core distinct (so_far.left distinct) tag turn
-      (subst (λ (o : Option Trace). IsLeft def o (trace_of new def) core)
+      (subst (λ (o : Option Trace). IsLeft def o (tag_trace_of new def) core)
       (unreached tags i def old now cores so_far distinct tag) left);
   same = λ distinct. all_same tags i def old now new cores so_far distinct tag turn;
 }

@@ -5,11 +5,11 @@ use Rattle.disk_model.specs.Calls.{Rose, sum_of_counts}
 use Rattle.disk_model.specs.Traces.{Trace}
 use Rattle.calc_refresh.specs.Lists.{lists_of}
 use Rattle.group_book.specs.declared.history.GroupHistory.{GroupHistory}
-use Rattle.group_book.specs.Told.{IsHistory, IsOnDevice, Told, count_of, trace_of, versions_of}
-use Rattle.plant_store.specs.Groups.{Devices}
+use Rattle.group_book.specs.Told.{IsBookHistory, IsOnDevice, ToldBook, count_of, trace_of, versions_of}
+use Rattle.plant_store.specs.Groups.{DeviceTraces}
 
 -- what happened to the group of a book, as the book tells it
-pub record IsHistoryOf {D : Type 0} (trace : D → Option Trace) (ticks faults : D → ℕ) (b : Told D) (h : GroupHistory) : Type 0 where
+pub record IsHistoryOfBook {D : Type 0} (trace : D → Option Trace) (ticks faults : D → ℕ) (b : ToldBook D) (h : GroupHistory) : Type 0 where
   pub group : h.group ≡ b.group
   pub def : h.def ≡ b.def
   pub text : h.text.items ≡ b.text
@@ -19,16 +19,16 @@ pub record IsHistoryOf {D : Type 0} (trace : D → Option Trace) (ticks faults :
   pub copies : lists_of h.copies.items ≡ b.sheet.copies
   pub rows : lists_of h.rows.items ≡ b.sheet.rows
   pub evals : h.evals ≡ b.sheet.evals
-  pub history : IsHistory h (trace_of trace b.dev) (count_of ticks b.dev) (count_of faults b.dev)
+  pub history : IsBookHistory h (trace_of trace b.dev) (count_of ticks b.dev) (count_of faults b.dev)
   pub there : IsOnDevice b.text b.dev
   pub rose : b.failed ≡ true → Rose b.opening.faults (count_of faults b.dev)
 
 -- there is one history for each book, in its place
-pub record AreHistoriesOf {D : Type 0} (trace : D → Option Trace) (ticks faults : D → ℕ) (books : List (Told D))
+pub record AreHistoriesOf {D : Type 0} (trace : D → Option Trace) (ticks faults : D → ℕ) (books : List (ToldBook D))
     (histories : List GroupHistory) : Type 0 where
   pub as_many : length histories ≡ length books
-  pub each : (i : ℕ) (b : Told D) (h : GroupHistory) → i < length books
-      → IsHistoryOf trace ticks faults (slice_index_or books i b) (slice_index_or histories i h)
+  pub each : (i : ℕ) (b : ToldBook D) (h : GroupHistory) → i < length books
+      → IsHistoryOfBook trace ticks faults (slice_index_or books i b) (slice_index_or histories i h)
 
 -- the trace of a name after a book's device was given back under it: that of the device, where the book has one
 abbrev pub trace_after : {D : Type 0} → (D → Option Trace) → Option D → Option Trace → Option Trace
@@ -36,8 +36,8 @@ trace_after trace None old = old
 trace_after trace (Some dev) old = trace dev
 
 -- under the name of each book its device was given back
-abbrev pub AreGivenBack : {D : Type 0} → (D → Option Trace) → List (String Global) → List (Told D) → Devices → Devices → Type 0
-AreGivenBack {D} trace names books old new = (i : ℕ) (b : Told D) (s : String Global) → i < length books
+abbrev pub AreGivenBack : {D : Type 0} → (D → Option Trace) → List (String Global) → List (ToldBook D) → DeviceTraces → DeviceTraces → Type 0
+AreGivenBack {D} trace names books old new = (i : ℕ) (b : ToldBook D) (s : String Global) → i < length books
     → new (string_bytes (slice_index_or names i s))
     ≡ trace_after trace (slice_index_or books i b).dev (old (string_bytes (slice_index_or names i s)))
 
@@ -47,10 +47,10 @@ count_after faults None before = before
 count_after faults (Some dev) before = sum_of_counts before (faults dev)
 
 -- and those of the devices of books, in order
-abbrev pub counts_after : {D : Type 0} → (D → ℕ) → List (Told D) → ℕ → ℕ
+abbrev pub counts_after : {D : Type 0} → (D → ℕ) → List (ToldBook D) → ℕ → ℕ
 counts_after faults [] before = before
 counts_after faults (b ∷ bs) before = counts_after faults bs (count_after faults b.dev before)
 
 -- a count has risen, or stands at the end of its type
-abbrev pub HasRisen : ℕ → ℕ → Type 0
-HasRisen before now = (before < now) ⊎ (now ≡ 2 ^ 64 - 1)
+abbrev pub HasFaultCountRisen : ℕ → ℕ → Type 0
+HasFaultCountRisen before now = (before < now) ⊎ (now ≡ 2 ^ 64 - 1)

@@ -14,7 +14,7 @@ use Rattle.plant_status.specs.declared.mismatch.Seen.TheVariants.{Number}
 use Rattle.plant_status.specs.declared.status.Status.{Status}
 use Rattle.plant_status.specs.declared.status.Status.TheVariants.{DeviceFault, Damaged, Mismatch, WantOfMemory}
 use Rattle.plant_status.specs.declared.unit.Unit.TheVariants.{Group}
-use Rattle.plant_store.specs.Groups.{AreOpened, Devices, parts_of, records_of, text_of, trace_at}
+use Rattle.plant_store.specs.Groups.{AreGroupsOpened, DeviceTraces, group_parts_of, input_records_of, group_definition_text, group_trace_at}
 
 -- what a group that is not opened is answered with
 abbrev pub status_of : ℕ → LoadNo → Status
@@ -26,33 +26,33 @@ status_of i no.WantOfMemory = WantOfMemory
 
 -- Group i is the first that is refused: those before it are opened. Of it, of the records of its tags, and of the trace of its
 -- device P holds.
-pub record IsRefusedAt (groups : List GroupDef) (records : List (List Rec)) (old : Devices) (i : ℕ)
+pub record IsRefusedAt (groups : List GroupDef) (records : List (List Rec)) (old : DeviceTraces) (i : ℕ)
     (P : GroupDef → List (List Rec) → Option Trace → Type 0) : Type 0 where
   pub g : GroupDef
   pub openings : List GroupOpening
   pub there : i < length groups
   pub is_group : slice_index_or groups i g ≡ g
   pub as_many : length openings ≡ i
-  pub front : AreOpened i groups records old openings
-  pub cause : P g (records_of records g) (trace_at old g)
+  pub front : AreGroupsOpened i groups records old openings
+  pub cause : P g (input_records_of records g) (group_trace_at old g)
 
 -- Why the groups are not opened, where the store counted so many faults before and so many now: a call of a device has failed;
 -- the bytes of one break its layout; a saved version is above the records of a tag, of which the records are told and then the
 -- version; a saved row has not one value for each complete window, of which the windows are told and then the values; or memory is
 -- wanting.
-pub data IsRefusal (groups : List GroupDef) (records : List (List Rec)) (old : Devices) (before now : ℕ) (why : Status) : Type 0 where
+pub data IsRefusal (groups : List GroupDef) (records : List (List Rec)) (old : DeviceTraces) (before now : ℕ) (why : Status) : Type 0 where
   OfFault : (i : ℕ) → why ≡ DeviceFault (Group i)
       → IsRefusedAt groups records old i (λ g recovered o. before < 2 ^ 64 → Rose before now)
       → IsRefusal groups records old before now why
   OfDamage : (i at : ℕ) (byte : Option ℕ) → why ≡ Damaged (Group i) at byte
       → IsRefusedAt groups records old i
-      (λ g recovered o. Shows o (λ c. IsGroupDamage (text_of g) (length g.inputs.items) (length g.calcs.calcs) c at byte))
+      (λ g recovered o. Shows o (λ c. IsGroupDamage (group_definition_text g) (length g.inputs.items) (length g.calcs.calcs) c at byte))
       → IsRefusal groups records old before now why
   OfVersion : (i input found version : ℕ) → why ≡ Mismatch (Version i input) (Number found) (Number version)
-      → IsRefusedAt groups records old i (λ g recovered o. Shows o (SavesAhead (text_of g) (parts_of g) recovered input version found))
+      → IsRefusedAt groups records old i (λ g recovered o. Shows o (SavesAhead (group_definition_text g) (group_parts_of g) recovered input version found))
       → IsRefusal groups records old before now why
   OfWindows : (i windows rows : ℕ) → why ≡ Mismatch (Windows i) (Number windows) (Number rows)
-      → IsRefusedAt groups records old i (λ g recovered o. Shows o (SavesShape (text_of g) (parts_of g) recovered windows rows))
+      → IsRefusedAt groups records old i (λ g recovered o. Shows o (SavesShape (group_definition_text g) (group_parts_of g) recovered windows rows))
       → IsRefusal groups records old before now why
   OfMemory : why ≡ WantOfMemory → IsRefusal groups records old before now why
 

@@ -3,32 +3,32 @@ use Rattle.std.specs.Prelude.{◌≡◌, ◌≢◌, ◌⊎◌, ℕ, ◌-◌, ◌
 use Rattle.std.specs.List.{AllZip}
 use Rattle.disk_model.specs.Traces.{Trace}
 use Rattle.tag_cell.specs.declared.history.TagHistory.{TagHistory}
-use Rattle.tag_cell.specs.Told.{Told, IsHistory}
+use Rattle.tag_cell.specs.Told.{ToldCell, IsCellHistory}
 
 -- this is the history of a cell, on a device that tells these calls, this clock and these faults
-pub record IsHistoryOf {D : Type 0} (trace : Option Trace) (ticks faults : ℕ) (c : Told D) (h : TagHistory) : Type 0 where
+pub record IsHistoryOfCell {D : Type 0} (trace : Option Trace) (ticks faults : ℕ) (c : ToldCell D) (h : TagHistory) : Type 0 where
   pub def_is : h.def ≡ c.def
   pub opening_is : h.opening ≡ c.opening
   pub tape_is : h.tape.items ≡ c.tape
   pub records_are : h.recs.items ≡ c.state.records
   pub summary_is : h.summary ≡ c.state.summary
   pub acked_is : h.acked ≡ c.journal.acked
-  pub history : IsHistory h trace ticks faults
+  pub history : IsCellHistory h trace ticks faults
 
 -- there is one history for each of these cells, in its place, over devices whose calls, clock and faults are told so
-abbrev pub AreHistoriesOf : {D : Type 0} → (D → Option Trace) → (D → ℕ) → (D → ℕ) → List (Told D) → List TagHistory → Type 0
-AreHistoriesOf {D} trace ticks faults cells histories = AllZip (λ (c : Told D) h. IsHistoryOf (trace c.journal.dev)
+abbrev pub AreHistoriesOf : {D : Type 0} → (D → Option Trace) → (D → ℕ) → (D → ℕ) → List (ToldCell D) → List TagHistory → Type 0
+AreHistoriesOf {D} trace ticks faults cells histories = AllZip (λ (c : ToldCell D) h. IsHistoryOfCell (trace c.journal.dev)
     (ticks c.journal.dev) (faults c.journal.dev) c h) cells histories
 
 -- each history is that of the device which a store has under the name in its place
 abbrev pub AreHistoriesAt : (List ℕ → Option Trace) → List (List ℕ) → List TagHistory → Type 0
 AreHistoriesAt traces names histories =
-    AllZip (λ name h. (ticks : ℕ) × (faults : ℕ) × IsHistory h (traces name) ticks faults) names histories
+    AllZip (λ name h. (ticks : ℕ) × (faults : ℕ) × IsCellHistory h (traces name) ticks faults) names histories
 
 -- the device of each of these names is that of the cell in the same place, and any other device is as it was
-pub record AreGivenBack {D : Type 0} (trace : D → Option Trace) (names : List (List ℕ)) (cells : List (Told D))
+pub record AreGivenBack {D : Type 0} (trace : D → Option Trace) (names : List (List ℕ)) (cells : List (ToldCell D))
     (old new : List ℕ → Option Trace) : Type 0 where
-  pub given : AllZip (λ name (c : Told D). new name ≡ trace c.journal.dev) names cells
+  pub given : AllZip (λ name (c : ToldCell D). new name ≡ trace c.journal.dev) names cells
   pub others : (n : List ℕ) → All (λ name. n ≢ name) names → new n ≡ old n
 
 -- a count has risen, or stands at the end of its type
@@ -37,7 +37,7 @@ HasRisen before now = (before < now) ⊎ (now ≡ 2 ^ 64 - 1)
 
 -- the faults of a store before these cells' devices are given back and after it: they are no fewer; they have risen where the
 -- journal of a cell has failed, and are as before where the device of no cell has counted one
-pub record CountsCells {D : Type 0} (faults : D → ℕ) (cells : List (Told D)) (before now : ℕ) : Type 0 where
+pub record CountsCells {D : Type 0} (faults : D → ℕ) (cells : List (ToldCell D)) (before now : ℕ) : Type 0 where
   pub later : before ≤ now
-  pub risen : All (λ (c : Told D). c.journal.failed ≡ true → HasRisen before now) cells
-  pub faultless : All (λ (c : Told D). faults c.journal.dev ≡ 0) cells → now ≡ before
+  pub risen : All (λ (c : ToldCell D). c.journal.failed ≡ true → HasRisen before now) cells
+  pub faultless : All (λ (c : ToldCell D). faults c.journal.dev ≡ 0) cells → now ≡ before

@@ -9,8 +9,8 @@ abbrev pub texts : List (String Global) → List (List ℕ)
 texts names = map string_bytes names
 
 -- what the devices of these tags are called, in order
-abbrev pub names_of : List TagDef → List (List ℕ)
-names_of tags = map (λ (def : TagDef). device_name def.name) tags
+abbrev pub device_names_of : List TagDef → List (List ℕ)
+device_names_of tags = map (λ (def : TagDef). device_name def.name) tags
 
 -- no two places of the list have one name
 abbrev pub AreApart : List (List ℕ) → Type 0

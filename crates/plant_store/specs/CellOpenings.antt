@@ -7,16 +7,16 @@ use Rattle.disk_model.specs.Calls.{Shows}
 use Rattle.disk_model.specs.Traces.{Trace}
 use Rattle.crash_recovery.specs.Opening.{HasSlots, LeavesFree, StaysSame}
 use Rattle.tag_cell.specs.Tapes.{opened}
-use Rattle.tag_cell.specs.Told.{Told}
-use Rattle.plant_store.specs.Tags.{lane_slots, trace_of, IsOpened, IsLeft}
+use Rattle.tag_cell.specs.Told.{ToldCell}
+use Rattle.plant_store.specs.Tags.{lane_slots, tag_trace_of, IsOpened, IsLeft}
 
 -- the core of a cell as it was opened; for how many records it had memory does not count here
-abbrev pub core_of : {D : Type 0} → Told D → Core
+abbrev pub core_of : {D : Type 0} → ToldCell D → Core
 core_of c = record { state = opened c.opening; step = c.def.step; spare = 0 }
 
 -- a cell is that of this tag: it was opened as what the tag's device recovered, which the device keeps, and nothing has
 -- happened to it since. The device told such calls before, and tells such calls, such a clock and so many faults now
-pub record IsCellOpened {D : Type 0} (def : TagDef) (old new : Option Trace) (ticks faults : ℕ) (c : Told D) : Type 0 where
+pub record IsCellOpened {D : Type 0} (def : TagDef) (old new : Option Trace) (ticks faults : ℕ) (c : ToldCell D) : Type 0 where
   pub def_is : c.def ≡ def
   pub found : IsOpened def old (core_of c)
   pub left : IsLeft def old new (core_of c)
@@ -34,10 +34,10 @@ pub record IsCellOpened {D : Type 0} (def : TagDef) (old new : Option Trace) (ti
 -- there is one cell for each of these tags, in its place, over a device that told before what `traces` says by name, and whose
 -- calls, clock and faults are told so
 abbrev pub AreCellsOpened : {D : Type 0} → (D → Option Trace) → (D → ℕ) → (D → ℕ) → List TagDef → (List ℕ → Option Trace)
-    → List (Told D) → Type 0
-AreCellsOpened {D} trace ticks faults tags traces cells = AllZip (λ def (c : Told D). IsCellOpened def (trace_of traces def)
+    → List (ToldCell D) → Type 0
+AreCellsOpened {D} trace ticks faults tags traces cells = AllZip (λ def (c : ToldCell D). IsCellOpened def (tag_trace_of traces def)
     (trace c.journal.dev) (ticks c.journal.dev) (faults c.journal.dev) c) tags cells
 
 -- how many records the cells were opened with in all
-abbrev pub records_opened : {D : Type 0} → List (Told D) → ℕ
-records_opened {D} cells = sum_by (λ (c : Told D). length c.opening.recs.items) cells
+abbrev pub records_opened : {D : Type 0} → List (ToldCell D) → ℕ
+records_opened {D} cells = sum_by (λ (c : ToldCell D). length c.opening.recs.items) cells

@@ -4,21 +4,21 @@ use Rattle.std.specs.List.{AllZip}
 use Rattle.trend_num.specs.declared.tag_def.TagDef.{TagDef}
 use Rattle.disk_model.specs.Traces.{Trace}
 use Rattle.plant_status.specs.declared.status.Status.{Status}
-use Rattle.tag_cell.specs.Told.{Told}
-use Rattle.plant_store.specs.Tags.{trace_of, AreOthersSame, AllStaySame}
+use Rattle.tag_cell.specs.Told.{ToldCell}
+use Rattle.plant_store.specs.Tags.{tag_trace_of, AreOtherTagsSame, AllStaySame}
 use Rattle.plant_store.specs.TagRefusals.{IsRefusal, CountsStore}
 
 -- the device of each of the first tags, as many as there are cells, is that of the cell in its place
-abbrev pub AreTold : {D : Type 0} → (D → Option Trace) → List TagDef → List (Told D) → (List ℕ → Option Trace) → Type 0
+abbrev pub AreTold : {D : Type 0} → (D → Option Trace) → List TagDef → List (ToldCell D) → (List ℕ → Option Trace) → Type 0
 AreTold {D} trace tags cells traces =
-    AllZip (λ def (c : Told D). trace_of traces def ≡ trace c.journal.dev) (take (length cells) tags) cells
+    AllZip (λ def (c : ToldCell D). tag_trace_of traces def ≡ trace c.journal.dev) (take (length cells) tags) cells
 
 -- why the opening stops that has opened these cells. It is a refusal of the tags, and no crash has left anything else of them,
 -- whatever the store tells once it has the devices of these cells back
-pub record IsStopped {D : Type 0} (trace : D → Option Trace) (tags : List TagDef) (cells : List (Told D))
+pub record IsStopped {D : Type 0} (trace : D → Option Trace) (tags : List TagDef) (cells : List (ToldCell D))
     (old now : List ℕ → Option Trace) (before faults : ℕ) (why : Status) : Type 0 where
-  pub refused : (new : List ℕ → Option Trace) (after : ℕ) → AreOthersSame (take (length cells) tags) now new
+  pub refused : (new : List ℕ → Option Trace) (after : ℕ) → AreOtherTagsSame (take (length cells) tags) now new
       → (before < 2 ^ 64 → after ≡ faults) → IsRefusal tags old new before after why
-  pub same : (new : List ℕ → Option Trace) → AreOthersSame (take (length cells) tags) now new → AreTold trace tags cells new
+  pub same : (new : List ℕ → Option Trace) → AreOtherTagsSame (take (length cells) tags) now new → AreTold trace tags cells new
       → AllStaySame tags old new
   pub counts : before < 2 ^ 64 → CountsStore {T = Unit {0}} (Err why) before faults

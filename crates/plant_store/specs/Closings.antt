@@ -7,13 +7,13 @@ use Rattle.group_book.specs.Told.{Told as Book, count_of}
 use Rattle.plant_store.specs.CellClosings.{HasRisen}
 use Rattle.plant_store.specs.CellNames.{texts}
 use Rattle.plant_store.specs.BookEndings.{AreGivenBack}
-use Rattle.plant_store.specs.Groups.{Devices}
+use Rattle.plant_store.specs.Groups.{DeviceTraces}
 use Rattle.plant_store.specs.declared.shelf.Shelf.{Shelf}
 
 -- under the name of each tag is the device of its cell, under that of each group the device of its book, where it has one; and any
 -- other device is as it was
 pub record AreDevicesBack {D : Type 0} (trace : D → Option Trace) (shelf : Shelf) (cells : List (Cell D)) (books : List (Book D))
-    (old new : Devices) : Type 0 where
+    (old new : DeviceTraces) : Type 0 where
   pub of_tags : AllZip (λ name (c : Cell D). new name ≡ trace c.journal.dev) (texts shelf.tag_names.items) cells
   pub of_groups : AreGivenBack trace shelf.group_names.items books old new
   pub others : (n : List ℕ) → All (λ name. n ≢ name) (texts shelf.tag_names.items)

@@ -10,27 +10,27 @@ use Rattle.plant_status.specs.declared.status.Status.TheVariants.{DeviceFault}
 use Rattle.plant_status.specs.declared.unit.Unit.{Unit}
 use Rattle.plant_files.specs.RowFiles.{ToldFiles}
 use Rattle.plant_files.specs.Texts.{IsBaseFile}
-use Rattle.plant_store.specs.Groups.{Devices}
-use Rattle.plant_store.specs.Tags.{AllStaySame, AreLeft, AreOpened, AreOthersSame}
+use Rattle.plant_store.specs.Groups.{DeviceTraces}
+use Rattle.plant_store.specs.Tags.{AllStaySame, AreLeft, AreTagsOpened, AreOtherTagsSame}
 
 -- no device has changed
-abbrev pub AreUntouched : Devices → Devices → Type 0
+abbrev pub AreUntouched : DeviceTraces → DeviceTraces → Type 0
 AreUntouched old new = (n : List ℕ) → new n ≡ old n
 
 -- the base was read of the file of this name, and its tags are opened as these cores
-pub record IsOpenedBase (name : List ℕ) (told : ToldFiles) (old : Devices) (base : Base) (cores : List Core) : Type 0 where
+pub record IsOpenedBase (name : List ℕ) (told : ToldFiles) (old : DeviceTraces) (base : Base) (cores : List Core) : Type 0 where
   pub read : IsBaseFile (told name) base
-  pub opened : AreOpened base.tags.items old cores
+  pub opened : AreTagsOpened base.tags.items old cores
 
 -- the points that a tag reads as, in order of time: those of its records, closed by its held point
-abbrev pub points_in : Core → List Point
-points_in core = closed_points core.state.records core.state.summary.held
+abbrev pub points_recovered : Core → List Point
+points_recovered core = closed_points core.state.records core.state.summary.held
 
 -- ---- devices
 
 -- a base was read and opened, and a crash now leaves of each device what recovers its tag as it is opened; a device that was new
 -- has a whole layout
-pub record IsDurable (name : List ℕ) (told : ToldFiles) (old new : Devices) : Type 0 where
+pub record IsDurable (name : List ℕ) (told : ToldFiles) (old new : DeviceTraces) : Type 0 where
   pub base : Base
   pub cores : List Core
   pub opened : IsOpenedBase name told old base cores
@@ -38,9 +38,9 @@ pub record IsDurable (name : List ℕ) (told : ToldFiles) (old new : Devices) : 
 
 -- no device has changed; or those of the base's tags alone have, and a crash at any moment since leaves of each an image that one
 -- before might have left, or that recovers the same, or that as it is opened
-abbrev pub AreKept : List ℕ → ToldFiles → Devices → Devices → Type 0
+abbrev pub AreKept : List ℕ → ToldFiles → DeviceTraces → DeviceTraces → Type 0
 AreKept name told old new = AreUntouched old new
-    ⊎ ((base : Base) × IsBaseFile (told name) base × AllStaySame base.tags.items old new × AreOthersSame base.tags.items old new)
+    ⊎ ((base : Base) × IsBaseFile (told name) base × AllStaySame base.tags.items old new × AreOtherTagsSame base.tags.items old new)
 
 -- one fault of the store is counted where a call of a device has failed, which is told then; and else none
 abbrev pub CountsDevices : {T : Type 0} → Result T Status → ℕ → ℕ → Type 0

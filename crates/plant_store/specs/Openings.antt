@@ -7,30 +7,30 @@ use Rattle.plant_status.specs.declared.status.Status.{Status}
 use Rattle.plant_status.specs.declared.status.Status.TheVariants.{DeviceFault}
 use Rattle.plant_status.specs.declared.unit.Unit.{Unit as Device}
 use Rattle.tag_base.specs.declared.definition.Base.{Base}
-use Rattle.tag_cell.specs.Told.{Told}
+use Rattle.tag_cell.specs.Told.{ToldCell}
 use Rattle.plant_store.specs.TagRefusals as tags
 use Rattle.plant_store.specs.Tags as tag
 use Rattle.plant_store.specs.Groups as group
-use Rattle.plant_store.specs.Groups.{Devices}
+use Rattle.plant_store.specs.Groups.{DeviceTraces}
 use Rattle.plant_store.specs.BookRefusals as groups
 
 -- the records of each cell
-abbrev pub records_in : {D : Type 0} → List (Told D) → List (List Rec)
-records_in {D} cells = map (λ (c : Told D). c.state.records) cells
+abbrev pub cell_records_in : {D : Type 0} → List (ToldCell D) → List (List Rec)
+cell_records_in {D} cells = map (λ (c : ToldCell D). c.state.records) cells
 
 -- and of each opened tag
-abbrev pub records_of : List Core → List (List Rec)
-records_of cores = map (λ (core : Core). core.state.records) cores
+abbrev pub opened_records_of : List Core → List (List Rec)
+opened_records_of cores = map (λ (core : Core). core.state.records) cores
 
 -- Why a plant is not opened, where the store counted so many faults before and so many now: the tags of its base are refused; or
 -- all are opened, and its groups are refused over their records.
-pub data IsPlantRefusal (base : Base) (old new : Devices) (before now : ℕ) (why : Status) : Type 0 where
+pub data IsPlantRefusal (base : Base) (old new : DeviceTraces) (before now : ℕ) (why : Status) : Type 0 where
   OfTags : tags.IsRefusal base.tags.items old new before now why → IsPlantRefusal base old new before now why
   OfGroups : (cores : List Core) → tag.AreOpened base.tags.items old cores
-      → groups.IsRefusal base.groups.items (records_of cores) old before now why → IsPlantRefusal base old new before now why
+      → groups.IsRefusal base.groups.items (opened_records_of cores) old before now why → IsPlantRefusal base old new before now why
 
 -- each device but those of the base's tags and groups is as it was
-abbrev pub AreRestSame : Base → Devices → Devices → Type 0
+abbrev pub AreRestSame : Base → DeviceTraces → DeviceTraces → Type 0
 AreRestSame base old new = (n : List ℕ) → All (λ def. n ≢ tag.device_name def.name) base.tags.items
     → All (λ g. n ≢ group.device_name g.name) base.groups.items → new n ≡ old n
 

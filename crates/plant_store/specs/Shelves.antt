@@ -1,7 +1,7 @@
 -- What giving a plant's devices back needs.
 use Rattle.std.specs.Prelude.{◌≡◌, ◌≢◌, ◌≤◌, ℕ, Bool, List, [], length, All, AllPairs, string_bytes, vec_capacity}
 use Rattle.tag_base.specs.declared.definition.Base.{Base}
-use Rattle.plant_store.specs.CellNames.{AreApart, HasPlaces, names_of, texts}
+use Rattle.plant_store.specs.CellNames.{AreApart, HasPlaces, device_names_of, texts}
 use Rattle.plant_store.specs.Groups.{AreNamesOf}
 use Rattle.plant_store.specs.BookSteps.{HavePlaces}
 use Rattle.plant_store.specs.declared.shelf.Shelf.{Shelf}
@@ -19,7 +19,7 @@ pub record IsShelf (shelf : Shelf) : Type 0 where
 
 -- the names are those of the devices of a base's tags and groups, in order
 pub record IsShelfFor (base : Base) (shelf : Shelf) : Type 0 where
-  pub tag_names_are : texts shelf.tag_names.items ≡ names_of base.tags.items
+  pub tag_names_are : texts shelf.tag_names.items ≡ device_names_of base.tags.items
   pub group_names_are : AreNamesOf base.groups.items shelf.group_names.items
   pub as_many_tags : length shelf.tag_names.items ≡ length base.tags.items
   pub as_many_groups : length shelf.group_names.items ≡ length base.groups.items

@@ -16,7 +16,7 @@ use Rattle.plant_status.specs.declared.status.Status.{Status}
 use Rattle.plant_status.specs.declared.status.Status.TheVariants.{DeviceFault, Damaged, OtherTag, Limit}
 use Rattle.plant_status.specs.declared.status.Status.TheVariants.{WantOfMemory}
 use Rattle.trend_num.specs.Limits.{most_stored}
-use Rattle.plant_store.specs.Tags.{trace_of, IsOpened, AreOpened, AreOthersSame, records_in}
+use Rattle.plant_store.specs.Tags.{tag_trace_of, IsOpened, AreTagsOpened, AreOtherTagsSame, tag_records_in}
 
 -- what a tag that is not opened is answered with
 abbrev pub status_of : ℕ → OpenNo → Status
@@ -34,16 +34,16 @@ pub record IsRefusedAt (tags : List TagDef) (old new : List ℕ → Option Trace
   pub cores : List Core
   pub there : i < length tags
   pub is_tag : slice_index_or tags i def ≡ def
-  pub front : AreOpened (take i tags) old cores
-  pub few : records_in cores ≤ most_stored
-  pub cause : P cores def (trace_of old def)
-  pub rest : AreOthersSame (take (i + 1) tags) old new
+  pub front : AreTagsOpened (take i tags) old cores
+  pub few : tag_records_in cores ≤ most_stored
+  pub cause : P cores def (tag_trace_of old def)
+  pub rest : AreOtherTagsSame (take (i + 1) tags) old new
 
 -- a tag is opened, and with the records of these there are too many
 pub record IsTooMuch (number : ℕ) (cores : List Core) (def : TagDef) (o : Option Trace) : Type 0 where
   pub core : Core
   pub opened : IsOpened def o core
-  pub number_is : number ≡ records_in cores + length core.state.records
+  pub number_is : number ≡ tag_records_in cores + length core.state.records
   pub many : most_stored < number
 
 -- why the tags are not opened, where the store counted so many faults before and so many now

@@ -16,8 +16,8 @@ abbrev pub device_name : List ℕ → List ℕ
 device_name name = name ++ codes ".tag"
 
 -- the trace of a tag's device, of these traces by name
-abbrev pub trace_of : (List ℕ → Option Trace) → TagDef → Option Trace
-trace_of traces def = traces (device_name def.name)
+abbrev pub tag_trace_of : (List ℕ → Option Trace) → TagDef → Option Trace
+tag_trace_of traces def = traces (device_name def.name)
 
 -- no two places of the list have one name
 abbrev pub AreDistinct : List TagDef → Type 0
@@ -43,21 +43,21 @@ pub record IsLeft (def : TagDef) (old new : Option Trace) (core : Core) : Type 0
 
 -- so it is of the device of each of these tags
 abbrev pub AreLeft : List TagDef → (List ℕ → Option Trace) → (List ℕ → Option Trace) → List Core → Type 0
-AreLeft tags old new cores = AllZip (λ def core. IsLeft def (trace_of old def) (trace_of new def) core) tags cores
+AreLeft tags old new cores = AllZip (λ def core. IsLeft def (tag_trace_of old def) (tag_trace_of new def) core) tags cores
 
 -- there is one opened tag for each of these, in its place
-abbrev pub AreOpened : List TagDef → (List ℕ → Option Trace) → List Core → Type 0
-AreOpened tags traces cores = AllZip (λ def core. IsOpened def (trace_of traces def) core) tags cores
+abbrev pub AreTagsOpened : List TagDef → (List ℕ → Option Trace) → List Core → Type 0
+AreTagsOpened tags traces cores = AllZip (λ def core. IsOpened def (tag_trace_of traces def) core) tags cores
 
 -- each device but those of these tags is as it was
-abbrev pub AreOthersSame : List TagDef → (List ℕ → Option Trace) → (List ℕ → Option Trace) → Type 0
-AreOthersSame tags old new = (n : List ℕ) → All (λ def. n ≢ device_name def.name) tags → new n ≡ old n
+abbrev pub AreOtherTagsSame : List TagDef → (List ℕ → Option Trace) → (List ℕ → Option Trace) → Type 0
+AreOtherTagsSame tags old new = (n : List ℕ) → All (λ def. n ≢ device_name def.name) tags → new n ≡ old n
 
 -- a crash at any moment since leaves, of the device of each of these tags, an image that one before might
 -- have left, or that recovers the same, or that as it is opened
 abbrev pub AllStaySame : List TagDef → (List ℕ → Option Trace) → (List ℕ → Option Trace) → Type 0
-AllStaySame tags old new = All (λ def. StaysSame def (trace_of old def) (trace_of new def)) tags
+AllStaySame tags old new = All (λ def. StaysSame def (tag_trace_of old def) (tag_trace_of new def)) tags
 
 -- how many records there are in all
-abbrev pub records_in : List Core → ℕ
-records_in cores = sum_by (λ core. length core.state.records) cores
+abbrev pub tag_records_in : List Core → ℕ
+tag_records_in cores = sum_by (λ core. length core.state.records) cores

@@ -3,7 +3,7 @@ ghost use Rattle.std.specs.Prelude.{◌≡◌, ◌≢◌, ◌^◌, ◌<◌, ℕ,
 ghost use Rattle.trend_num.specs.Ranges.{TuningInRange};
 ghost use Rattle.plant_files.specs.Reading.{faults_told};
 ghost use Rattle.plant_files.specs.Texts.{tag_names};
-ghost use Rattle.plant_store.specs.Tags.{AllStaySame, AreLeft, AreOpened, AreOthersSame};
+ghost use Rattle.plant_store.specs.Tags.{AllStaySame, AreLeft, AreTagsOpened, AreOtherTagsSame};
 ghost use Rattle.plant_store.specs.TagRefusals.{CountsStore, IsRefusal};
 
 use crate::tag_opening::open_tags;
@@ -24,7 +24,7 @@ pub fn open_base<S: Store>(
     requires tuned { All (λ tag. TuningInRange tag.tuning) base.now.tags.items }
     requires distinct { AllPairs (λ x y. x ≢ y) (tag_names base.now.tags.items) }
     requires few { length base.now.tags.items < 2 ^ 32 }
-    ensures opened { IfOk result (λ cores. AreOpened base.now.tags.items (S.device_at store.old) cores.items) }
+    ensures opened { IfOk result (λ cores. AreTagsOpened base.now.tags.items (S.device_at store.old) cores.items) }
     ensures left { IfOk result (λ cores. AreLeft base.now.tags.items (S.device_at store.old)
         (S.device_at store.new) cores.items) }
     ensures as_many { IfOk result (λ cores. length cores.items ≡ length base.now.tags.items) }
@@ -33,7 +33,7 @@ pub fn open_base<S: Store>(
         (S.fault_count store.old) (S.fault_count store.new)) }
     ensures no_file_fault { IfErr result (λ why. (n : ℕ) → faults_told why n ≡ n) }
     ensures same { AllStaySame base.now.tags.items (S.device_at store.old) (S.device_at store.new) }
-    ensures others { AreOthersSame base.now.tags.items (S.device_at store.old) (S.device_at store.new) }
+    ensures others { AreOtherTagsSame base.now.tags.items (S.device_at store.old) (S.device_at store.new) }
     ensures counts { S.fault_count store.old < 2 ^ 64
         → CountsStore result (S.fault_count store.old) (S.fault_count store.new) }
 {

@@ -1,7 +1,7 @@
 // The devices of books are given back.
 ghost use Rattle.std.specs.Prelude.{◌≡◌, ◌≢◌, ℕ, ◌+◌, ◌-◌, ◌^◌, ◌<◌, ◌≤◌, List, [], All, AllPairs, IsTrue, length, slice_index_or, string_bytes, vec_capacity, vec_len};
-ghost use Rattle.group_book.specs.Told.{Told, count_of};
-ghost use Rattle.plant_store.specs.BookEndings.{AreGivenBack, AreHistoriesOf, HasRisen, counts_after};
+ghost use Rattle.group_book.specs.Told.{ToldBook, count_of};
+ghost use Rattle.plant_store.specs.BookEndings.{AreGivenBack, AreHistoriesOf, HasFaultCountRisen, counts_after};
 ghost use Rattle.plant_store.specs.BookSteps.{AreOtherNamesSame, HavePlaces};
 
 use crate::single_book::close_book;
@@ -32,9 +32,9 @@ pub fn close_books<S: Store>(
     // one, and is as it was where none has.
     ensures counted { S.fault_count store.new ≡ counts_after S.Dev.fault_count books.items (S.fault_count store.old) }
     ensures later { S.fault_count store.old < 2 ^ 64 → S.fault_count store.old ≤ S.fault_count store.new }
-    ensures rose { S.fault_count store.old < 2 ^ 64 → (i : ℕ) (b : Told S.Dev) → i < length books.items
+    ensures rose { S.fault_count store.old < 2 ^ 64 → (i : ℕ) (b : ToldBook S.Dev) → i < length books.items
         → 0 < count_of S.Dev.fault_count (slice_index_or books.items i b).dev
-        → HasRisen (S.fault_count store.old) (S.fault_count store.new) }
+        → HasFaultCountRisen (S.fault_count store.old) (S.fault_count store.new) }
     ensures faultless { S.fault_count store.old < 2 ^ 64
         → All (λ b. count_of S.Dev.fault_count b.dev ≡ 0) books.items → S.fault_count store.new ≡ S.fault_count store.old }
 {

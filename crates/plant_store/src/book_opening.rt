@@ -2,9 +2,9 @@
 ghost use Rattle.std.specs.Prelude.{◌≡◌, ℕ, ◌^◌, ◌<◌, ◌≤◌, List, [], All, IfErr, IfOk, IsTrue, OnErr, OnOk, length, map, vec_capacity};
 ghost use Rattle.calc_refresh.specs.Sheet.{IsCopy};
 ghost use Rattle.disk_model.specs.Calls.{CountsFault};
-ghost use Rattle.tag_base.specs.Groups.{IsSound};
+ghost use Rattle.tag_base.specs.Groups.{IsSoundGroup};
 ghost use Rattle.group_book.specs.declared.refusal.LoadNo.TheVariants.{DeviceFault};
-ghost use Rattle.plant_store.specs.Groups.{AllStaySame, AreBooksOpened, AreDistinct, AreNamesOf, AreOthersSame};
+ghost use Rattle.plant_store.specs.Groups.{AllStaySame, AreBooksOpened, AreDistinct, AreNamesOf, AreOtherGroupsSame};
 ghost use Rattle.plant_store.specs.BookRefusals.{CountsStore, IsRefusal};
 ghost use Rattle.plant_store.specs.BookSteps.{HavePlaces, IsCauseAt, RestStaysSame};
 
@@ -28,7 +28,7 @@ pub fn open_books<S: Store>(
     names: &[String],
     records: &[&[Rec]],
 ) -> Result<Vec<Book<S::Dev>>, Status>
-    requires sound { All (IsSound (length records.now)) groups.now }
+    requires sound { All (IsSoundGroup (length records.now)) groups.now }
     requires few { length groups.now < 2 ^ 32 }
     requires distinct { AreDistinct groups.now }
     requires names { AreNamesOf groups.now names.now }
@@ -47,7 +47,7 @@ pub fn open_books<S: Store>(
     ensures any_moment { OnErr result (AllStaySame groups.now (S.device_at store.old) (S.device_at store.new)) }
 
     // No other device is changed. One fault is counted where a call has failed, and else none.
-    ensures others { AreOthersSame groups.now (S.device_at store.old) (S.device_at store.new) }
+    ensures others { AreOtherGroupsSame groups.now (S.device_at store.old) (S.device_at store.new) }
     ensures kept_places { (n : List ℕ) → IsTrue (S.has_place store.old n) → IsTrue (S.has_place store.new n) }
     ensures counts { S.fault_count store.old < 2 ^ 64
         → CountsStore result (S.fault_count store.old) (S.fault_count store.new) }
@@ -74,7 +74,7 @@ fn open_all<S: Store>(
     records: &[&[Rec]],
     books: &mut Vec<Book<S::Dev>>,
 ) -> Result<(), LoadNo>
-    requires sound { All (IsSound (length records.now)) groups.now }
+    requires sound { All (IsSoundGroup (length records.now)) groups.now }
     requires few { length groups.now < 2 ^ 32 }
     requires distinct { AreDistinct groups.now }
     requires names { AreNamesOf groups.now names.now }
@@ -87,7 +87,7 @@ fn open_all<S: Store>(
     ensures some { OnErr result (length books.new.items < length groups.now) }
     ensures places { HavePlaces (length books.new.items) names.now (S.has_place store.new) }
     ensures rest { RestStaysSame (length books.new.items) groups.now (S.device_at store.old) (S.device_at store.new) }
-    ensures others { AreOthersSame groups.now (S.device_at store.old) (S.device_at store.new) }
+    ensures others { AreOtherGroupsSame groups.now (S.device_at store.old) (S.device_at store.new) }
     ensures kept_places { (n : List ℕ) → IsTrue (S.has_place store.old n) → IsTrue (S.has_place store.new n) }
     ensures cause { IfErr result (IsCauseAt (length books.new.items) groups.now (map (λ r. r.now) records.now) (S.device_at store.old)) }
     ensures counts { S.fault_count store.old < 2 ^ 64

@@ -1,7 +1,7 @@
 // Cells are given back.
 ghost use Rattle.std.specs.Prelude.{◌≡◌, ◌≢◌, ℕ, ◌^◌, ◌<◌, ◌≤◌, List, [], IsTrue, true, vec_len, vec_capacity, length};
 ghost use Rattle.disk_model.specs.Calls.{sum_of_counts};
-ghost use Rattle.plant_store.specs.CellClosings.{AreGivenBack, AreHistoriesAt, AreHistoriesOf, CountsCells, IsHistoryOf};
+ghost use Rattle.plant_store.specs.CellClosings.{AreGivenBack, AreHistoriesAt, AreHistoriesOf, CountsCells, IsHistoryOfCell};
 ghost use Rattle.plant_store.specs.CellNames.{AreApart, HasPlaces, texts};
 
 use disk_model::{Disk, Store};
@@ -38,7 +38,7 @@ pub fn close_cells<S: Store>(
 // Gives the device of a cell back.
 pub(crate) fn close_cell<S: Store>(store: &mut S, name: &str, cell: Cell<S::Dev>) -> TagHistory
     requires { IsTrue (S.has_place store.old name.now) }
-    ensures history { IsHistoryOf (S.Dev.trace cell.journal.dev) (S.Dev.ticks cell.journal.dev)
+    ensures history { IsHistoryOfCell (S.Dev.trace cell.journal.dev) (S.Dev.ticks cell.journal.dev)
         (S.Dev.fault_count cell.journal.dev) cell result }
     ensures told { S.device_at store.new name.now ≡ S.Dev.trace cell.journal.dev }
     ensures others { (n : List ℕ) → n ≢ name.now → S.device_at store.new n ≡ S.device_at store.old n }

@@ -1,6 +1,6 @@
 // What the devices of tags are called.
 ghost use Rattle.std.specs.Prelude.{◌≡◌, IfOk};
-ghost use Rattle.plant_store.specs.CellNames.{AreApart, names_of, texts};
+ghost use Rattle.plant_store.specs.CellNames.{AreApart, device_names_of, texts};
 ghost use Rattle.plant_store.specs.Tags.{AreDistinct};
 
 use crate::tag_device::device_name;
@@ -9,7 +9,7 @@ use trend_num::{TagDef, WantOfMemory};
 
 /// What the devices of tags are called, in order.
 pub fn tag_device_names(alloc: Global, tags: &[TagDef]) -> Result<Vec<String>, WantOfMemory>
-    ensures names { IfOk result (λ names. texts names.items ≡ names_of tags.now) }
+    ensures names { IfOk result (λ names. texts names.items ≡ device_names_of tags.now) }
     ensures apart { AreDistinct tags.now → IfOk result (λ names. AreApart (texts names.items)) }
 {
     let mut names = Vec::new(alloc);

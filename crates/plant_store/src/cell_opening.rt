@@ -4,9 +4,9 @@ ghost use Rattle.std.specs.Arc.{arc_value};
 ghost use Rattle.trend_num.specs.Limits.{most_stored};
 ghost use Rattle.trend_num.specs.Ranges.{TuningInRange};
 ghost use Rattle.snapshot_table.specs.Boards.{new_posters};
-ghost use Rattle.plant_store.specs.Tags.{AllStaySame, AreDistinct, AreOthersSame};
+ghost use Rattle.plant_store.specs.Tags.{AllStaySame, AreDistinct, AreOtherTagsSame};
 ghost use Rattle.plant_store.specs.TagRefusals.{CountsStore, IsRefusal};
-ghost use Rattle.plant_store.specs.CellNames.{HasPlaces, names_of, texts};
+ghost use Rattle.plant_store.specs.CellNames.{HasPlaces, device_names_of, texts};
 ghost use Rattle.plant_store.specs.CellOpenings.{AreCellsOpened, records_opened};
 
 use crate::cell_closing::close_cells;
@@ -35,7 +35,7 @@ pub fn open_cells<S: Store, R: Wait>(
     requires tuned { All (λ def. TuningInRange def.tuning) tags.now }
     requires few { length tags.now < 2 ^ 32 }
     requires distinct { AreDistinct tags.now }
-    requires names { texts names.now ≡ names_of tags.now }
+    requires names { texts names.now ≡ device_names_of tags.now }
     requires rooms { length rooms.now ≡ length tags.now }
     requires posters { posters.items ≡ new_posters 0 (arc_value board.now) }
     requires places { length tags.now ≤ length (arc_value board.now) }
@@ -56,7 +56,7 @@ pub fn open_cells<S: Store, R: Wait>(
     ensures any_moment { OnErr result (AllStaySame tags.now (S.device_at store.old) (S.device_at store.new)) }
 
     // No other device is changed. One fault is counted where a call has failed, and else none.
-    ensures others { AreOthersSame tags.now (S.device_at store.old) (S.device_at store.new) }
+    ensures others { AreOtherTagsSame tags.now (S.device_at store.old) (S.device_at store.new) }
     ensures kept_places { (n : List ℕ) → IsTrue (S.has_place store.old n) → IsTrue (S.has_place store.new n) }
     ensures counts { S.fault_count store.old < 2 ^ 64
         → CountsStore result (S.fault_count store.old) (S.fault_count store.new) }

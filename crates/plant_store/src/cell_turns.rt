@@ -9,8 +9,8 @@ ghost use Rattle.device_layout.specs.Readings.{IsCause};
 ghost use Rattle.crash_recovery.specs.Opening.{StaysSame};
 ghost use Rattle.snapshot_table.specs.Boards.{PostsTo, new_posters};
 ghost use Rattle.snapshot_table.specs.Snaps.{nothing};
-ghost use Rattle.plant_store.specs.Tags.{AreDistinct, AreOthersSame};
-ghost use Rattle.plant_store.specs.CellNames.{HasPlaces, names_of, texts};
+ghost use Rattle.plant_store.specs.Tags.{AreDistinct, AreOtherTagsSame};
+ghost use Rattle.plant_store.specs.CellNames.{HasPlaces, device_names_of, texts};
 ghost use Rattle.plant_store.specs.CellOpenings.{AreCellsOpened, IsCellOpened, records_opened};
 ghost use Rattle.plant_store.specs.CellStops.{IsStopped};
 
@@ -42,7 +42,7 @@ pub(crate) fn open_all<S: Store, R: Wait>(
     requires tuned { All (λ def. TuningInRange def.tuning) tags.now }
     requires few { length tags.now < 2 ^ 32 }
     requires distinct { AreDistinct tags.now }
-    requires names { texts names.now ≡ names_of tags.now }
+    requires names { texts names.now ≡ device_names_of tags.now }
     requires rooms { length rooms.now ≡ length tags.now }
     requires posters { posters.items ≡ new_posters 0 (arc_value board.now) }
     requires places { length tags.now ≤ length (arc_value board.now) }
@@ -52,7 +52,7 @@ pub(crate) fn open_all<S: Store, R: Wait>(
         (S.device_at store.old) cells.new.items }
     ensures within { length cells.new.items ≤ length tags.now }
     ensures places { HasPlaces (S.has_place store.new) (take (length cells.new.items) (texts names.now)) }
-    ensures others { AreOthersSame tags.now (S.device_at store.old) (S.device_at store.new) }
+    ensures others { AreOtherTagsSame tags.now (S.device_at store.old) (S.device_at store.new) }
     ensures kept_places { (n : List ℕ) → IsTrue (S.has_place store.old n) → IsTrue (S.has_place store.new n) }
     ensures whole { OnOk result (length cells.new.items ≡ length tags.now) }
     ensures rooms { OnOk result (map (λ c. c.room) cells.new.items ≡ rooms.now) }

@@ -2,8 +2,8 @@
 ghost use Rattle.std.specs.Prelude.{◌≡◌, ◌^◌, ◌<◌, [], All, IfOk, length, map, slice_index_or, string_bytes, vec_len};
 ghost use Rattle.calc_refresh.specs.Lists.{lists_of};
 ghost use Rattle.calc_refresh.specs.Sheet.{IsCopy, IsGrid, IsGroup, grid_of};
-ghost use Rattle.tag_base.specs.Groups.{IsSound};
-ghost use Rattle.plant_store.specs.Groups.{AreNamesOf, device_name, parts_of, records_of, text_of};
+ghost use Rattle.tag_base.specs.Groups.{IsSoundGroup};
+ghost use Rattle.plant_store.specs.Groups.{AreNamesOf, device_name, group_parts_of, input_records_of, group_definition_text};
 
 use calc_refresh::GroupDefParts;
 use group_layout::definition_text;
@@ -34,7 +34,7 @@ fn device_name(alloc: Global, name: &Name) -> Result<String, WantOfMemory>
 /// The definition of a group, as its book is made with it.
 pub fn parts_of(group: &GroupDef) -> Result<GroupDefParts, WantOfMemory>
     requires few { vec_len group.now.inputs < 2 ^ 32 }
-    ensures parts { IfOk result (λ parts. parts ≡ parts_of group.now) }
+    ensures parts { IfOk result (λ parts. parts ≡ group_parts_of group.now) }
 {
     Ok(GroupDefParts {
         inputs: group.inputs.len() as u32,
@@ -59,12 +59,12 @@ pub(crate) fn prepare(
     group: &GroupDef,
     records: &[&[Rec]],
 ) -> Result<Prepared, WantOfMemory>
-    requires sound { IsSound (length records.now) group.now }
+    requires sound { IsSoundGroup (length records.now) group.now }
     requires copied { All (λ r. IsCopy r.now) records.now }
-    ensures def { IfOk result (λ p. p.def ≡ parts_of group.now) }
-    ensures text { IfOk result (λ p. p.text.items ≡ text_of group.now) }
+    ensures def { IfOk result (λ p. p.def ≡ group_parts_of group.now) }
+    ensures text { IfOk result (λ p. p.text.items ≡ group_definition_text group.now) }
     ensures tags { IfOk result (λ p. p.tags.items ≡ group.now.inputs.items) }
-    ensures recovered { IfOk result (λ p. lists_of p.recovered.items ≡ records_of (map (λ r. r.now) records.now) group.now) }
+    ensures recovered { IfOk result (λ p. lists_of p.recovered.items ≡ input_records_of (map (λ r. r.now) records.now) group.now) }
     ensures copied { IfOk result (λ p. All IsCopy (lists_of p.recovered.items)) }
     ensures group { IfOk result (λ p. IsGroup p.def.inputs p.def.calcs) }
     ensures grid { IfOk result (λ p. IsGrid (grid_of p.def.start p.def.period)) }

@@ -5,13 +5,13 @@ ghost use Rattle.trend_num.specs.Limits.{most_stored};
 ghost use Rattle.trend_num.specs.Ranges.{TuningInRange};
 ghost use Rattle.calc_refresh.specs.Sheet.{IsCopy};
 ghost use Rattle.snapshot_table.specs.Boards.{new_posters};
-ghost use Rattle.tag_base.specs.Groups.{IsSound};
+ghost use Rattle.tag_base.specs.Groups.{IsSoundGroup};
 ghost use Rattle.plant_store.specs.Tags.{AllStaySame, AreDistinct};
 ghost use Rattle.plant_store.specs.CellOpenings.{AreCellsOpened, records_opened};
-ghost use Rattle.plant_store.specs.Groups.{AllStaySame as AllGroupsStaySame, AreBooksOpened, AreDistinct as AreDistinctGroups, AreNamesOf, AreOthersSame};
+ghost use Rattle.plant_store.specs.Groups.{AllStaySame as AllGroupsStaySame, AreBooksOpened, AreDistinct as AreDistinctGroups, AreNamesOf, AreOtherGroupsSame};
 ghost use Rattle.plant_store.specs.BookRefusals.{CountsStore, IsRefusal};
 ghost use Rattle.plant_store.specs.BookSteps.{HavePlaces};
-ghost use Rattle.plant_store.specs.Openings.{AreRestSame, CountsPlant, IsPlantRefusal, records_in};
+ghost use Rattle.plant_store.specs.Openings.{AreRestSame, CountsPlant, IsPlantRefusal, cell_records_in};
 ghost use Rattle.plant_store.specs.Shelves.{HasPlacesOf, IsShelfFor};
 
 use crate::book_opening::open_books;
@@ -49,7 +49,7 @@ pub fn open_plant<S: Store, R: Wait>(
 ) -> Result<OpenPlant<S::Dev>, Status>
     requires tuned { All (λ def. TuningInRange def.tuning) base.now.tags.items }
     requires distinct { AreDistinct base.now.tags.items }
-    requires sound { All (IsSound (length base.now.tags.items)) base.now.groups.items }
+    requires sound { All (IsSoundGroup (length base.now.tags.items)) base.now.groups.items }
     requires distinct_groups { AreDistinctGroups base.now.groups.items }
     requires shelf { IsShelfFor base.now shelf.now }
     requires rooms { length rooms.now ≡ length base.now.tags.items }
@@ -61,7 +61,7 @@ pub fn open_plant<S: Store, R: Wait>(
     ensures tags { IfOk result (λ plant. AreCellsOpened S.Dev.trace S.Dev.ticks S.Dev.fault_count base.now.tags.items
         (S.device_at store.old) plant.cells.items) }
     ensures groups { IfOk result (λ plant. AreBooksOpened S.Dev.trace S.Dev.ticks S.Dev.fault_count base.now.groups.items
-        (records_in plant.cells.items) (S.device_at store.old) plant.books.items) }
+        (cell_records_in plant.cells.items) (S.device_at store.old) plant.books.items) }
     ensures as_many_cells { IfOk result (λ plant. length plant.cells.items ≡ length base.now.tags.items) }
     ensures as_many_books { IfOk result (λ plant. length plant.books.items ≡ length base.now.groups.items) }
     ensures rooms { IfOk result (λ plant. map (λ c. c.room) plant.cells.items ≡ rooms.now) }
@@ -102,17 +102,17 @@ fn open_groups<S: Store>(
     names: &[String],
     cells: &[Cell<S::Dev>],
 ) -> Result<Vec<Book<S::Dev>>, Status>
-    requires sound { All (IsSound (length cells.now)) base.now.groups.items }
+    requires sound { All (IsSoundGroup (length cells.now)) base.now.groups.items }
     requires distinct { AreDistinctGroups base.now.groups.items }
     requires names { AreNamesOf base.now.groups.items names.now }
     ensures opened { IfOk result (λ books. AreBooksOpened S.Dev.trace S.Dev.ticks S.Dev.fault_count base.now.groups.items
-        (records_in cells.now) (S.device_at store.old) books.items) }
+        (cell_records_in cells.now) (S.device_at store.old) books.items) }
     ensures as_many { IfOk result (λ books. length books.items ≡ length base.now.groups.items) }
     ensures places { OnOk result (HavePlaces (length base.now.groups.items) names.now (S.has_place store.new)) }
-    ensures refused { IfErr result (IsRefusal base.now.groups.items (records_in cells.now) (S.device_at store.old)
+    ensures refused { IfErr result (IsRefusal base.now.groups.items (cell_records_in cells.now) (S.device_at store.old)
         (S.fault_count store.old) (S.fault_count store.new)) }
     ensures any_moment { OnErr result (AllGroupsStaySame base.now.groups.items (S.device_at store.old) (S.device_at store.new)) }
-    ensures others { AreOthersSame base.now.groups.items (S.device_at store.old) (S.device_at store.new) }
+    ensures others { AreOtherGroupsSame base.now.groups.items (S.device_at store.old) (S.device_at store.new) }
     ensures kept_places { (n : List ℕ) → IsTrue (S.has_place store.old n) → IsTrue (S.has_place store.new n) }
     ensures counts { S.fault_count store.old < 2 ^ 64
         → CountsStore result (S.fault_count store.old) (S.fault_count store.new) }
@@ -128,7 +128,7 @@ fn records_of<'c, D: Disk>(
     alloc: Global,
     cells: &'c [Cell<D>],
 ) -> Result<Vec<&'c [Rec]>, WantOfMemory>
-    ensures records { IfOk result (λ v. map (λ r. r.now) v.items ≡ records_in cells.now) }
+    ensures records { IfOk result (λ v. map (λ r. r.now) v.items ≡ cell_records_in cells.now) }
     ensures copied { IfOk result (λ v. All (λ r. IsCopy r.now) v.items) }
 {
     let mut records = Vec::new(alloc);

@@ -2,11 +2,11 @@
 ghost use Rattle.std.specs.Prelude.{◌≡◌, ◌≢◌, ℕ, ◌^◌, ◌<◌, List, All, IfErr, IfOk, IsTrue, OnErr, OnOk, length, map};
 ghost use Rattle.calc_refresh.specs.Sheet.{IsCopy};
 ghost use Rattle.disk_model.specs.Calls.{CountsFault};
-ghost use Rattle.tag_base.specs.Groups.{IsSound};
+ghost use Rattle.tag_base.specs.Groups.{IsSoundGroup};
 ghost use Rattle.group_book.specs.declared.refusal.LoadNo.TheVariants.{DeviceFault};
-ghost use Rattle.group_book.specs.Openings.{IsCause};
-ghost use Rattle.plant_store.specs.Groups.{IsBookOpened, parts_of, records_of, text_of};
-ghost use Rattle.plant_store.specs.BookEndings.{IsHistoryOf, count_after, trace_after};
+ghost use Rattle.group_book.specs.Openings.{IsBookCause};
+ghost use Rattle.plant_store.specs.Groups.{IsBookOpened, group_parts_of, input_records_of, group_definition_text};
+ghost use Rattle.plant_store.specs.BookEndings.{IsHistoryOfBook, count_after, trace_after};
 ghost use Rattle.plant_store.specs.BookSteps.{StaysSameOf};
 
 use crate::group_parts::{Prepared, prepare};
@@ -25,13 +25,13 @@ pub(crate) fn open_book<S: Store>(
     name: &str,
     records: &[&[Rec]],
 ) -> Result<Book<S::Dev>, LoadNo>
-    requires sound { IsSound (length records.now) group.now }
+    requires sound { IsSoundGroup (length records.now) group.now }
     requires copied { All (λ r. IsCopy r.now) records.now }
     ensures opened { IfOk result (IsBookOpened S.Dev.trace S.Dev.ticks S.Dev.fault_count place group.now
-        (records_of (map (λ r. r.now) records.now) group.now) (S.device_at store.old name.now)) }
+        (input_records_of (map (λ r. r.now) records.now) group.now) (S.device_at store.old name.now)) }
     ensures same { OnErr result (StaysSameOf name.now group.now (S.device_at store.old) (S.device_at store.new)) }
-    ensures cause { IfErr result (IsCause (text_of group.now) (parts_of group.now)
-        (records_of (map (λ r. r.now) records.now) group.now) (S.device_at store.old name.now)) }
+    ensures cause { IfErr result (IsBookCause (group_definition_text group.now) (group_parts_of group.now)
+        (input_records_of (map (λ r. r.now) records.now) group.now) (S.device_at store.old name.now)) }
     ensures place { OnOk result (IsTrue (S.has_place store.new name.now)) }
     ensures places { (n : List ℕ) → IsTrue (S.has_place store.old n) → IsTrue (S.has_place store.new n) }
     ensures others { (n : List ℕ) → n ≢ name.now → S.device_at store.new n ≡ S.device_at store.old n }
@@ -62,7 +62,7 @@ pub(crate) fn open_book<S: Store>(
 // Gives the device of a book back under this name, and hands out what happened to its group.
 pub(crate) fn close_book<S: Store>(store: &mut S, name: &str, book: Book<S::Dev>) -> GroupHistory
     requires place { IsTrue (S.has_place store.old name.now) }
-    ensures history { IsHistoryOf S.Dev.trace S.Dev.ticks S.Dev.fault_count book result }
+    ensures history { IsHistoryOfBook S.Dev.trace S.Dev.ticks S.Dev.fault_count book result }
     ensures given { S.device_at store.new name.now ≡ trace_after S.Dev.trace book.dev (S.device_at store.old name.now) }
     ensures places { (n : List ℕ) → IsTrue (S.has_place store.old n) → IsTrue (S.has_place store.new n) }
     ensures others { (n : List ℕ) → n ≢ name.now → S.device_at store.new n ≡ S.device_at store.old n }

@@ -5,7 +5,7 @@ ghost use Rattle.disk_model.specs.Calls.{CountsFault};
 ghost use Rattle.device_layout.specs.declared.failure.OpenNo.TheVariants.{DeviceFault};
 ghost use Rattle.device_layout.specs.Readings.{IsCause};
 ghost use Rattle.crash_recovery.specs.Opening.{StaysSame};
-ghost use Rattle.plant_store.specs.Tags.{device_name, trace_of, IsOpened, IsLeft};
+ghost use Rattle.plant_store.specs.Tags.{device_name, tag_trace_of, IsOpened, IsLeft};
 
 use crash_recovery::{OpenFail, OpenNo, Opened, open_tag};
 use disk_model::{Disk, Store};
@@ -23,12 +23,12 @@ pub(crate) fn open_device<S: Store>(
     def: &TagDef,
 ) -> Result<TagCore, OpenNo>
     requires tuned { TuningInRange def.now.tuning }
-    ensures same { StaysSame def.now (trace_of (S.device_at store.old) def.now)
-        (trace_of (S.device_at store.new) def.now) }
-    ensures opened { IfOk result (IsOpened def.now (trace_of (S.device_at store.old) def.now)) }
-    ensures left { IfOk result (IsLeft def.now (trace_of (S.device_at store.old) def.now)
-        (trace_of (S.device_at store.new) def.now)) }
-    ensures cause { IfErr result (IsCause def.now (trace_of (S.device_at store.old) def.now)) }
+    ensures same { StaysSame def.now (tag_trace_of (S.device_at store.old) def.now)
+        (tag_trace_of (S.device_at store.new) def.now) }
+    ensures opened { IfOk result (IsOpened def.now (tag_trace_of (S.device_at store.old) def.now)) }
+    ensures left { IfOk result (IsLeft def.now (tag_trace_of (S.device_at store.old) def.now)
+        (tag_trace_of (S.device_at store.new) def.now)) }
+    ensures cause { IfErr result (IsCause def.now (tag_trace_of (S.device_at store.old) def.now)) }
     ensures others { (n : List ℕ) → n ≢ device_name def.now.name
         → S.device_at store.new n ≡ S.device_at store.old n }
     ensures counts { S.fault_count store.old < 2 ^ 64

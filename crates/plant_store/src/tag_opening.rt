@@ -1,7 +1,7 @@
 // Opening the tags of a base.
 ghost use Rattle.std.specs.Prelude.{◌≡◌, ◌^◌, ◌<◌, ◌≤◌, length, All, IfOk, IfErr};
 ghost use Rattle.trend_num.specs.Ranges.{TuningInRange};
-ghost use Rattle.plant_store.specs.Tags.{AreDistinct, AreOpened, AreLeft, AreOthersSame, AllStaySame, records_in};
+ghost use Rattle.plant_store.specs.Tags.{AreDistinct, AreTagsOpened, AreLeft, AreOtherTagsSame, AllStaySame, tag_records_in};
 ghost use Rattle.trend_num.specs.Limits.{most_stored};
 ghost use Rattle.plant_store.specs.TagRefusals.{status_of, IsRefusal, CountsStore};
 
@@ -29,11 +29,11 @@ pub fn open_tags<S: Store>(
 
     // Where no two tags have one name: each core is what its tag's device recovers.
     ensures opened { AreDistinct tags.now
-        → IfOk result (λ cores. AreOpened tags.now (S.device_at store.old) cores.items) }
+        → IfOk result (λ cores. AreTagsOpened tags.now (S.device_at store.old) cores.items) }
     ensures left { AreDistinct tags.now
         → IfOk result (λ cores. AreLeft tags.now (S.device_at store.old) (S.device_at store.new) cores.items) }
     ensures as_many { IfOk result (λ cores. length cores.items ≡ length tags.now) }
-    ensures few_records { IfOk result (λ cores. records_in cores.items ≤ most_stored) }
+    ensures few_records { IfOk result (λ cores. tag_records_in cores.items ≤ most_stored) }
 
     // A crash at any moment leaves of each device what one before might have left, or what recovers the same.
     ensures any_moment { AreDistinct tags.now
@@ -43,7 +43,7 @@ pub fn open_tags<S: Store>(
         (S.fault_count store.old) (S.fault_count store.new)) }
 
     // No other device is changed. One fault is counted where a call has failed, and else none.
-    ensures others { AreOthersSame tags.now (S.device_at store.old) (S.device_at store.new) }
+    ensures others { AreOtherTagsSame tags.now (S.device_at store.old) (S.device_at store.new) }
     ensures counts { S.fault_count store.old < 2 ^ 64
         → CountsStore result (S.fault_count store.old) (S.fault_count store.new) }
 {

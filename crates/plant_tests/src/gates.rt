@@ -131,13 +131,13 @@ pub struct GateStore<'a> {
 }
 
 impl<'a> Store for GateStore<'a> {
-    ghost use Rattle.disk_model.specs.Stores.{trace_at, is_among};
+    ghost use Rattle.disk_model.specs.Stores.{trace_at, has_device};
 
     type Dev = GateDisk<'a>;
 
     ghost device_at = { λ s name. Some (trace_at s.store.devices name) };
 
-    ghost has_place = { λ s name. is_among s.store.devices name };
+    ghost has_place = { λ s name. has_device s.store.devices name };
 
     ghost fault_count = { λ s. s.store.faults };
 

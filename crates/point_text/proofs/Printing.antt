@@ -7,7 +7,7 @@ use Rattle.std.proofs.lemmas.List.{take-append-drop, take-append-le}
 use Rattle.std.specs.List.{flat_map}
 use Rattle.trend_num.specs.declared.archive.Rec.{Rec}
 use Rattle.trend_num.specs.declared.point.Point.{Point}
-use Rattle.byte_io.specs.Outside.{Outside, Gains, IsWritten, IsCutShort, next_count}
+use Rattle.byte_io.specs.Outside.{Outside, Gains, IsWritten, IsCutShort, next_fault_count}
 use Rattle.point_text.specs.Text.{archive_text, held_line, record_line}
 
 -- a text was written after another
@@ -27,7 +27,7 @@ cut_more before at now x y z first cut =
       fewer = omega (arith, cut.fewer, length-append x (y ++ z), length-append y z);
       part = subst (Gains before now) (sym part)
           (Appends-trans before.content at.content now.content x (take cut.given y) first.whole cut.part);
-      one_fault = cut.one_fault ∙ ap next_count first.no_fault;
+      one_fault = cut.one_fault ∙ ap next_fault_count first.no_fault;
     }
 
 -- the lines of some records more

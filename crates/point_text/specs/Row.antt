@@ -55,5 +55,5 @@ abbrev pub point_of_line : List ℕ → Result Point Reason
 point_of_line line = point_of_fields (slice_split (λ b. nat_eq b 44) line)
 
 -- the points of a text's lines, of at most `most`
-abbrev pub points_of : ℕ → List ℕ → Result (List Point) RowNo
-points_of most bytes = rows_of point_of_line most (lines bytes)
+abbrev pub line_points_of : ℕ → List ℕ → Result (List Point) RowNo
+line_points_of most bytes = rows_of point_of_line most (lines bytes)

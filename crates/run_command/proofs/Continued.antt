@@ -4,7 +4,7 @@ use Rattle.std.proofs.lemmas.List.{get_or-map, length-map}
 use Rattle.std.specs.List.{AllZip}
 use Rattle.std.specs.declared.alloc.Global.{Global}
 use Rattle.tag_base.specs.declared.definition.GroupDef.{GroupDef}
-use Rattle.tag_base.specs.Groups.{IsSound}
+use Rattle.tag_base.specs.Groups.{IsSoundGroup}
 use Rattle.tag_cell.specs.Told.{Told as Cell}
 use Rattle.group_book.specs.Told.{Told as Book}
 use Rattle.session_audit.specs.declared.cell_opening.Kept.{Kept}
@@ -95,7 +95,7 @@ module _ {D : Type 0} where
 
   -- those of a base are those of its books
   pub inputs_of_base : (many n : ℕ) (groups : List GroupDef) (books : List (Book D)) (inputs : List (List ℕ)) → n ≡ many
-      → inputs ≡ map (λ d. d.inputs.items) groups → All (IsSound many) groups → length books ≡ length groups
+      → inputs ≡ map (λ d. d.inputs.items) groups → All (IsSoundGroup many) groups → length books ≡ length groups
       → AreDefined groups books → AreInputs n inputs books
   inputs_of_base many n groups books inputs same is sound as_many defined = record {
     as_many = ap length is ∙ length-map groups (λ d. d.inputs.items) ∙ sym as_many;

@@ -17,7 +17,7 @@ use Rattle.trend_num.specs.declared.archive.Rec.{Rec}
 use Rattle.session_audit.specs.Refreshing.{durable_lists}
 use Rattle.session_audit.specs.BookRefusals.{IsBookRefusal, IsSaveCause, OfRefresh, OfSave, save_status}
 use Rattle.plant_store.specs.CellClosings.{HasRisen}
-use Rattle.plant_store.specs.Groups.{Devices}
+use Rattle.plant_store.specs.Groups.{DeviceTraces}
 use Rattle.plant_store.specs.Closings.{CountsClosed}
 use Rattle.session_report.specs.declared.session.Session.{Session}
 use Rattle.tag_base.specs.declared.definition.Base.{Base}
@@ -33,7 +33,7 @@ use Rattle.collector_pool.specs.declared.note.WorkerNote.{WorkerNote}
 some_count : (n m : ℕ) → m ≡ min (n + 1) (2 ^ 64 - 1) → 0 < m
 some_count n m same = omega (arith, same)
 
-module _ {D : Type 0} (trace : D → Option Trace) (ticks faults : D → ℕ) (base : Base) (old new : Devices) (before now : ℕ)
+module _ {D : Type 0} (trace : D → Option Trace) (ticks faults : D → ℕ) (base : Base) (old new : DeviceTraces) (before now : ℕ)
     (cells : List (Cell D)) (books : List (Book D)) (s : Session) (is : IsOver trace ticks faults base old new cells books s)
     (counts : CountsClosed faults cells books before now) where
   -- a cell whose journal has failed

@@ -12,13 +12,13 @@ use Rattle.tag_base.specs.declared.definition.Base.{Base}
 use Rattle.tag_base.specs.declared.definition.GroupDef.{GroupDef}
 use Rattle.tag_cell.specs.declared.history.TagHistory.{TagHistory}
 use Rattle.tag_cell.specs.Tapes.{opened}
-use Rattle.plant_store.specs.Tags.{trace_of}
-use Rattle.plant_store.specs.Groups.{parts_of, text_of, trace_at}
+use Rattle.plant_store.specs.Tags.{tag_trace_of}
+use Rattle.plant_store.specs.Groups.{group_parts_of, group_definition_text, group_trace_at}
 use Rattle.group_book.specs.declared.history.GroupHistory.{GroupHistory}
 use Rattle.calc_refresh.specs.Lists.{lists_of}
 use Rattle.session_report.specs.declared.session.Session.{Session}
-use Rattle.run_command.specs.Headline.{AreOpened, IsGroupOpened, IsTagOpened}
-use Rattle.run_command.specs.Drills.{AreNew, IsGroupNew, IsTagNew, fresh}
+use Rattle.run_command.specs.Headline.{AreUnitsOpened, IsGroupOpened, IsTagOpened}
+use Rattle.run_command.specs.Drills.{AreNew, IsGroupNew, IsTagNew, fresh_devices}
 
 -- the origin of a tag that was made so
 abbrev pub origin_of : TagDef → Origin
@@ -38,7 +38,7 @@ pub opened_nothing : (def : TagDef) (s : State) → StandsOpened def (origin_of 
 opened_nothing def s (inl is) = is.1
 opened_nothing def s (inr is) = absurd (is.0 refl)
 
-new_tags : (defs : List TagDef) (ts : List TagHistory) → AllZip (λ def t. IsTagOpened def (trace_of fresh def) t) defs ts
+new_tags : (defs : List TagDef) (ts : List TagHistory) → AllZip (λ def t. IsTagOpened def (tag_trace_of fresh_devices def) t) defs ts
     → AllZip IsTagNew defs ts
 new_tags [] [] is = tt
 new_tags [] (t ∷ ts) is = absurd is
@@ -59,9 +59,9 @@ saved_nothing text inputs calcs versions rows (ByBlocks bs saved versions_are) =
     let long = saved.of_text.head.begun.long in
     absurd (omega (arith, long))
 
-new_group : (i : ℕ) (d : GroupDef) (g : GroupHistory) → IsGroupOpened i d (trace_at fresh d) g → IsGroupNew i d g
+new_group : (i : ℕ) (d : GroupDef) (g : GroupHistory) → IsGroupOpened i d (group_trace_at fresh_devices d) g → IsGroupNew i d g
 new_group i d g is =
-    let none = saved_nothing (text_of d) (parts_of d).inputs (length (parts_of d).calcs.calcs) g.opening.versions.items
+    let none = saved_nothing (group_definition_text d) (group_parts_of d).inputs (length (group_parts_of d).calcs.calcs) g.opening.versions.items
     (lists_of g.opening.rows.items) is.opening in
     record {
       number = is.number;
@@ -71,7 +71,7 @@ new_group i d g is =
       rows = none.1;
     }
 
-pub all_new : (base : Base) (s : Session) → AreOpened base fresh s → AreNew base s
+pub all_new : (base : Base) (s : Session) → AreUnitsOpened base fresh_devices s → AreNew base s
 all_new base s is = record {
   tags = new_tags base.tags.items s.tags.items is.tags;
   groups = λ i d g below. new_group i (get_or base.groups.items i d) (get_or s.groups.items i g) (is.groups i d g below);

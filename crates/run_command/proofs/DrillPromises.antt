@@ -7,7 +7,7 @@ use Rattle.session_audit.specs.Agendas.{phase_item}
 use Rattle.session_report.specs.declared.session.Session.{Session}
 use Rattle.run_command.specs.Headline.{IsDoneSo, turns_in}
 use Rattle.run_command.proofs.Headline.{done, held_opened, if_done, sound_groups, sound_tags}
-use Rattle.run_command.specs.Drills.{IsDrill, IsDrilled, fresh, memory_faults, memory_ticks, memory_trace}
+use Rattle.run_command.specs.Drills.{IsDrill, IsDrilled, fresh_devices, memory_faults, memory_ticks, memory_trace}
 use Rattle.run_command.proofs.DrillNew.{all_new}
 
 pub promised : (number tags events stops_before stops_now : ℕ) (answer : Result (String Global) Status) (s : Session)
@@ -15,16 +15,16 @@ pub promised : (number tags events stops_before stops_now : ℕ) (answer : Resul
 promised number tags events stops_before stops_now answer s is =
     let run = is.run.held in
     let work = is.work in
-    let opened_as = held_opened memory_trace memory_ticks memory_faults is.base is.second fresh is.new 0 is.now answer s run in
+    let opened_as = held_opened memory_trace memory_ticks memory_faults is.base is.second fresh_devices is.new 0 is.now answer s run in
     record {
       base = is.base;
       devices = is.new;
       base_is = work.base_is;
       tags_are = sound_tags is.new is.base.tags.items s.tags.items run.over.devices;
-      groups = sound_groups memory_trace memory_ticks memory_faults is.base fresh is.new run.cells run.books s run.over;
+      groups = sound_groups memory_trace memory_ticks memory_faults is.base fresh_devices is.new run.cells run.books s run.over;
       new = λ none. all_new is.base s (opened_as none);
       done = if_done answer opened_as
-          (λ was text it. once _ is.base _ (string_bytes text) (done memory_trace memory_ticks memory_faults is.base fresh is.new is.second run.cells run.books s run.over
+          (λ was text it. once _ is.base _ (string_bytes text) (done memory_trace memory_ticks memory_faults is.base fresh_devices is.new is.second run.cells run.books s run.over
           _ 1 _ [] [] (string_bytes text) work.good work.second_is was it)) run.done;
     }
   where

@@ -6,7 +6,7 @@ use Rattle.std.proofs.lemmas.List.Elements.{All-map}
 use Rattle.std.proofs.lemmas.List.FromFn.{get_or-range_with_len, length-map-range_with_len, length-range_with_len}
 use Rattle.calc_check.specs.Group.{Calculation}
 use Rattle.tag_base.specs.declared.definition.GroupDef.{GroupDef}
-use Rattle.tag_base.specs.Groups.{CalcForm, Define, IsSound}
+use Rattle.tag_base.specs.Groups.{CalcForm, Define, IsSoundGroup}
 use Rattle.trend_num.specs.declared.point.Point.{Point}
 use Rattle.trend_num.specs.Ranges.{InRange, TuningInRange}
 use Rattle.trend_report.specs.Drill.{drill_points, event, signal_at}
@@ -60,7 +60,7 @@ places_below tags i d within =
     let below : i < tags = omega (arith, length-range_with_len 0 tags) in
     subst (λ k. k < tags) (sym (get_or-range_with_len 0 tags i d below)) (omega arith)
 
-pub sound_group : (tags : ℕ) (g : GroupDef) → 1 ≤ tags → tags ≤ 64 → IsDrillGroup tags g → IsSound tags g
+pub sound_group : (tags : ℕ) (g : GroupDef) → 1 ≤ tags → tags ≤ 64 → IsDrillGroup tags g → IsSoundGroup tags g
 sound_group tags g some few is =
     let inputs : length g.inputs.items ≡ tags = ap length is.inputs ∙ length-range_with_len 0 tags in
     let names : length g.calcs.inputs ≡ tags = ap length is.calcs.inputs_are ∙ as_many_names tags in

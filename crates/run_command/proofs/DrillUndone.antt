@@ -7,14 +7,14 @@ use Rattle.plant_status.specs.declared.status.Status.TheVariants.{Done, BadWords
 use Rattle.tag_base.specs.declared.definition.Base.{Base}
 use Rattle.tag_cell.specs.Told.{Told as Cell}
 use Rattle.group_book.specs.Told.{Told as Book}
-use Rattle.plant_store.specs.Groups.{Devices}
+use Rattle.plant_store.specs.Groups.{DeviceTraces}
 use Rattle.collector_pool.specs.declared.note.WorkerNote.{WorkerNote}
 use Rattle.collector_pool.specs.declared.work.Work.{Work}
 use Rattle.collector_pool.specs.Work.{worker_count}
 use Rattle.session_report.specs.declared.session.Session.{Session}
 use Rattle.run_command.specs.declared.work.Given.{Given}
 use Rattle.run_command.specs.Refusals.{IsOpening}
-use Rattle.run_command.specs.Runs.{IsHeld, IsReported}
+use Rattle.run_command.specs.Runs.{IsSessionHeld, IsReported}
 use Rattle.run_command.specs.Runs as runs
 use Rattle.run_command.specs.Sessions.{AreNotes, OfAll, OfNone}
 use Rattle.run_command.specs.Drills.{IsRunInPhases, drill_answer, drill_status}
@@ -63,9 +63,9 @@ both_told base first second s opened opened_books cells books notes (Err why) (E
     subst (IsUndoneOfBoth first second opened opened_books cells books notes) (sym same) undone
 
 -- what a drill comes to that was held so
-pub phases_told : {D : Type 0} (trace : D → Option Trace) (ticks faults : D → ℕ) (base : Base) (first second : Given) (old new : Devices)
+pub phases_told : {D : Type 0} (trace : D → Option Trace) (ticks faults : D → ℕ) (base : Base) (first second : Given) (old new : DeviceTraces)
     (before now stops_before stops_now : ℕ) (told : Result (String Global) Status) (s : Session)
-    → (held : IsHeld trace ticks faults base second old new before now told s)
+    → (held : IsSessionHeld trace ticks faults base second old new before now told s)
     → AreNotesOfBoth D first.work second.work stops_before stops_now s.workers.items
     → IfErr told (IsUndoneOfBoth first second held.opened held.opened_books held.cells held.books s.workers.items)
     → IsRunInPhases trace ticks faults base first second old new before now stops_before stops_now (drill_answer told) s

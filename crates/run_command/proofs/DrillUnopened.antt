@@ -24,12 +24,12 @@ use Rattle.plant_status.specs.declared.unit.Unit.TheVariants as unit
 use Rattle.tag_base.specs.declared.definition.Base.{Base}
 use Rattle.tag_base.specs.declared.definition.GroupDef.{GroupDef}
 use Rattle.plant_store.specs.TagRefusals as tags
-use Rattle.plant_store.specs.Tags.{AreOpened, IsOpened, records_in, trace_of}
-use Rattle.plant_store.specs.Groups.{Devices, text_of, parts_of}
+use Rattle.plant_store.specs.Tags.{AreTagsOpened, IsOpened, tag_records_in, tag_trace_of}
+use Rattle.plant_store.specs.Groups.{DeviceTraces, group_definition_text, group_parts_of}
 use Rattle.plant_store.specs.BookRefusals as groups
 use Rattle.plant_store.specs.Openings.{IsPlantRefusal, OfGroups, OfTags}
 use Rattle.run_command.specs.Runs as runs
-use Rattle.run_command.specs.Drills.{IsDrillUnopened, drill_status, fresh}
+use Rattle.run_command.specs.Drills.{IsDrillUnopened, drill_status, fresh_devices}
 use Rattle.run_command.proofs.DrillNew.{empty_stands, opened_nothing, origin_of, saved_nothing}
 
 -- ---- tags
@@ -60,11 +60,11 @@ not_full : (def : TagDef) (n : ℕ) (s : State) → IsFull def [] n s → ⊥
 not_full def n s is = is.other (as_made def s is.recovered)
 
 -- and has no record
-no_record : (def : TagDef) (core : Core) → IsOpened def (trace_of fresh def) core → length core.state.records ≡ 0
+no_record : (def : TagDef) (core : Core) → IsOpened def (tag_trace_of fresh_devices def) core → length core.state.records ≡ 0
 no_record def core is =
     ap (length {A = Rec}) (opened_nothing def core.state (is.stands (origin_of def) [] (empty_stands def))).same_records
 
-adds_none : (defs : List TagDef) (cores : List Core) (n : ℕ) → AreOpened defs fresh cores
+adds_none : (defs : List TagDef) (cores : List Core) (n : ℕ) → AreTagsOpened defs fresh_devices cores
     → fold (λ (a : ℕ) (core : Core). a + length core.state.records) n cores ≡ n
 adds_none [] [] n are = refl
 adds_none [] (core ∷ cores) n are = absurd are
@@ -72,15 +72,15 @@ adds_none (def ∷ defs) [] n are = absurd are
 adds_none (def ∷ defs) (core ∷ cores) n are =
     omega (arith, adds_none defs cores (n + length core.state.records) are.1, no_record def core are.0)
 
-no_records : (defs : List TagDef) (cores : List Core) → AreOpened defs fresh cores → records_in cores ≡ 0
+no_records : (defs : List TagDef) (cores : List Core) → AreTagsOpened defs fresh_devices cores → tag_records_in cores ≡ 0
 no_records defs cores are = adds_none defs cores 0 are
 
-not_too_much : (defs : List TagDef) (new : Devices) (number i : ℕ) → tags.IsRefusedAt defs fresh new i (tags.IsTooMuch number) → ⊥
+not_too_much : (defs : List TagDef) (new : DeviceTraces) (number i : ℕ) → tags.IsRefusedAt defs fresh_devices new i (tags.IsTooMuch number) → ⊥
 not_too_much defs new number i is =
     let much = is.cause in
     omega (arith, no_records (take i defs) is.cores is.front, no_record is.def much.core much.opened, much.number_is, much.many)
 
-of_tags : (defs : List TagDef) (new : Devices) (before now : ℕ) (why : Status) → tags.IsRefusal defs fresh new before now why
+of_tags : (defs : List TagDef) (new : DeviceTraces) (before now : ℕ) (why : Status) → tags.IsRefusal defs fresh_devices new before now why
     → drill_status why ≡ WantOfMemory
 of_tags defs new before now Done is = absurd is
 of_tags defs new before now BadWords is = absurd is
@@ -160,29 +160,29 @@ fits text def recovered windows size is =
     cc (no_fault, is.shape)
 
 of_groups : (defs : List GroupDef) (records : List (List Rec)) (before now : ℕ) (why : Status)
-    → groups.IsRefusal defs records fresh before now why → drill_status why ≡ WantOfMemory
+    → groups.IsRefusal defs records fresh_devices before now why → drill_status why ≡ WantOfMemory
 of_groups defs records before now why (groups.OfFault i same at) = ap drill_status same
 of_groups defs records before now why (groups.OfDamage i a byte same at) =
-    absurd (whole (text_of at.g) (parts_of at.g).inputs (length (parts_of at.g).calcs.calcs) a byte at.cause)
+    absurd (whole (group_definition_text at.g) (group_parts_of at.g).inputs (length (group_parts_of at.g).calcs.calcs) a byte at.cause)
 of_groups defs records before now why (groups.OfVersion i input found version same at) =
-    absurd (not_ahead (text_of at.g) (parts_of at.g) _ input version found at.cause)
+    absurd (not_ahead (group_definition_text at.g) (group_parts_of at.g) _ input version found at.cause)
 of_groups defs records before now why (groups.OfWindows i windows rows same at) =
-    absurd (fits (text_of at.g) (parts_of at.g) _ windows rows at.cause)
+    absurd (fits (group_definition_text at.g) (group_parts_of at.g) _ windows rows at.cause)
 of_groups defs records before now why (groups.OfMemory same) = ap drill_status same
 
 -- ---- the plant
 
-of_plant : (base : Base) (new : Devices) (now : ℕ) (why : Status) → IsPlantRefusal base fresh new 0 now why
+of_plant : (base : Base) (new : DeviceTraces) (now : ℕ) (why : Status) → IsPlantRefusal base fresh_devices new 0 now why
     → drill_status why ≡ WantOfMemory
 of_plant base new now why (OfTags is) = of_tags base.tags.items new 0 now why is
 of_plant base new now why (OfGroups cores opened is) = of_groups base.groups.items _ 0 now why is
 
-of_devices : (base : Base) (new : Devices) (now : ℕ) (why : Status) → runs.IsUnopened base fresh new 0 now why
+of_devices : (base : Base) (new : DeviceTraces) (now : ℕ) (why : Status) → runs.IsUnopened base fresh_devices new 0 now why
     → drill_status why ≡ WantOfMemory
 of_devices base new now why (runs.OfPlant is kept) = of_plant base new now why is
 of_devices base new now why (runs.OfWant same untouched) = ap drill_status same
 
 -- a drill whose devices are not opened is told of want of memory
-pub wants_memory : (base : Base) (new : Devices) (now : ℕ) (why : Status) → IsDrillUnopened base fresh new 0 now why
+pub wants_memory : (base : Base) (new : DeviceTraces) (now : ℕ) (why : Status) → IsDrillUnopened base fresh_devices new 0 now why
     → why ≡ WantOfMemory
 wants_memory base new now why is = is.told ∙ of_devices base new now is.cause is.unopened

@@ -5,10 +5,10 @@ use Rattle.std.specs.declared.alloc.Global.{Global}
 use Rattle.std.proofs.lemmas.List.{get_or-map, length-map}
 use Rattle.disk_model.specs.Traces.{Trace}
 use Rattle.group_book.specs.declared.history.GroupHistory.{GroupHistory}
-use Rattle.group_book.specs.Told.{IsHistory, Told as Book, count_of, trace_of}
+use Rattle.group_book.specs.Told.{IsBookHistory, Told as Book, count_of, trace_of}
 use Rattle.tag_base.specs.declared.definition.GroupDef.{GroupDef}
 use Rattle.plant_store.specs.BookEndings.{AreGivenBack, AreHistoriesOf, trace_after}
-use Rattle.plant_store.specs.Groups.{AreNamesOf, Devices, device_name, trace_at}
+use Rattle.plant_store.specs.Groups.{AreNamesOf, DeviceTraces, device_name, group_trace_at}
 use Rattle.plant_status.proofs.Elements.{element}
 use Rattle.run_command.specs.Runs.{AreGroupHistoriesAt}
 
@@ -19,7 +19,7 @@ back_is trace None old there = absurd (cc there)
 back_is trace (Some dev) old there = refl
 
 pub groups_back : {D : Type 0} (trace : D → Option Trace) (ticks faults : D → ℕ) (groups : List GroupDef) (books : List (Book D))
-    (old new : Devices) (names : List (String Global)) (histories : List GroupHistory) → AreNamesOf groups names
+    (old new : DeviceTraces) (names : List (String Global)) (histories : List GroupHistory) → AreNamesOf groups names
     → length books ≡ length groups → AreHistoriesOf trace ticks faults books histories → AreGivenBack trace names books old new
     → AreGroupHistoriesAt groups new histories
 groups_back trace ticks faults groups books old new names histories named many of back = record {
@@ -36,11 +36,11 @@ groups_back trace ticks faults groups books old new names histories named many o
       let name : string_bytes (get_or names i s) ≡ device_name (get_or groups i d).name =
       sym (get_or-map string_bytes names i s [] inside) ∙ ap (λ l. get_or l i []) named
       ∙ get_or-map (λ (x : GroupDef). device_name x.name) groups i d [] here in
-      let now : trace_at new (get_or groups i d) ≡ trace_of trace dev =
+      let now : group_trace_at new (get_or groups i d) ≡ trace_of trace dev =
       ap new (sym name) ∙ back i b s there
       ∙ back_is trace dev (old (string_bytes (get_or names i s))) (is.there (λ none. some (is.text ∙ none))) in (
         count_of ticks dev,
         count_of faults dev,
-        subst (λ t. IsHistory (get_or histories i g) t (count_of ticks dev) (count_of faults dev)) (sym now) is.history,
+        subst (λ t. IsBookHistory (get_or histories i g) t (count_of ticks dev) (count_of faults dev)) (sym now) is.history,
       );
 }

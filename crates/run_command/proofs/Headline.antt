@@ -17,9 +17,9 @@ use Rattle.tag_cell.specs.declared.entry.Entry.{Entry}
 use Rattle.tag_cell.specs.declared.entry.Entry.TheVariants.{Take, Ask, Pull, Commit}
 use Rattle.tag_cell.specs.declared.history.TagHistory.{TagHistory}
 use Rattle.tag_cell.specs.declared.history.TagOpening.{TagOpening}
-use Rattle.tag_cell.specs.Replays.{FitAll, IsReplayed, Shown, replayed}
-use Rattle.tag_cell.specs.Tapes.{Walk, after_entry, opened, start, taken, walked}
-use Rattle.tag_cell.specs.Told.{IsHistory, Told as Cell, durable_records, waits}
+use Rattle.tag_cell.specs.Replays.{FitAll, IsTapeReplayed, Shown, replayed}
+use Rattle.tag_cell.specs.Tapes.{CellWalk, after_entry, opened, cell_start, taken, cell_walked}
+use Rattle.tag_cell.specs.Told.{IsCellHistory, Told as Cell, durable_records, takes_waiting}
 use Rattle.tag_cell.proofs.Entries.{points-end}
 use Rattle.tag_cell.proofs.Laws.{legal}
 use Rattle.calc_refresh.specs.Lists.{lists_of}
@@ -47,20 +47,20 @@ use Rattle.collector_pool.specs.declared.work.Refresh.{Refresh}
 use Rattle.tag_base.specs.declared.definition.Base.{Base}
 use Rattle.tag_base.specs.declared.definition.GroupDef.{GroupDef}
 use Rattle.tag_base.specs.declared.schedule.Refresher.{Refresher}
-use Rattle.plant_store.specs.Tags.{trace_of}
-use Rattle.plant_store.specs.CellClosings.{AreHistoriesAt, AreHistoriesOf, IsHistoryOf}
-use Rattle.plant_store.specs.CellNames.{names_of}
+use Rattle.plant_store.specs.Tags.{tag_trace_of}
+use Rattle.plant_store.specs.CellClosings.{AreHistoriesAt, AreHistoriesOf, IsHistoryOfCell}
+use Rattle.plant_store.specs.CellNames.{device_names_of}
 use Rattle.plant_store.specs.CellOpenings.{AreCellsOpened}
-use Rattle.plant_store.specs.Groups.{AreBooksOpened, Devices, parts_of, text_of, trace_at}
-use Rattle.plant_store.specs.Openings.{records_in}
+use Rattle.plant_store.specs.Groups.{AreBooksOpened, DeviceTraces, group_parts_of, group_definition_text, group_trace_at}
+use Rattle.plant_store.specs.Openings.{cell_records_in}
 use Rattle.plant_files.specs.PlanRows.{IsGoodBase}
 use Rattle.session_report.specs.declared.session.Session.{Session}
 use Rattle.session_report.specs.Report.{report}
 use Rattle.run_command.specs.declared.work.Given.{Given}
-use Rattle.run_command.specs.Headline.{AreGroupsSound, AreOpened, IsDoneSo, IsGroupOpened, IsMixed, IsPromised, IsRefreshed, IsTagOpened, IsTagSound, entries, records_of, turns, turns_in}
+use Rattle.run_command.specs.Headline.{AreGroupsSound, AreUnitsOpened, IsDoneSo, IsGroupOpened, IsMixed, IsPromised, IsGroupRefreshed, IsTagOpened, IsTagSound, entries, tag_records_of, turns, turns_in}
 use Rattle.run_command.specs.Refusals.{IsOfOpening}
-use Rattle.run_command.specs.Runs.{IsContinued, IsContinuedGroup, IsDone, IsHeld, IsOver, IsSession, IsWorkIn}
-use Rattle.run_command.specs.Steps.{IsMade, planned_turn, turn_of}
+use Rattle.run_command.specs.Runs.{IsContinued, IsContinuedGroup, IsDone, IsSessionHeld, IsOver, IsSession, IsWorkIn}
+use Rattle.run_command.specs.Steps.{AreStepsMade, planned_turn, turn_of}
 use Rattle.run_command.proofs.Zipped.{zip_at, zip_length}
 use Rattle.run_command.proofs.DeviceFaults.{faults_counted}
 use Rattle.plant_status.proofs.Elements.{element}
@@ -68,7 +68,7 @@ use Rattle.plant_status.proofs.Elements.{element}
 -- ---- tags
 
 -- the history of a cell is sound
-sound_tag : (trace : Option Trace) (ticks faults : ℕ) (t : TagHistory) → IsHistory t trace ticks faults → IsTagSound t trace
+sound_tag : (trace : Option Trace) (ticks faults : ℕ) (t : TagHistory) → IsCellHistory t trace ticks faults → IsTagSound t trace
 sound_tag trace ticks faults t is =
     let s : State = record { records = t.recs.items; summary = t.summary } in
     record {
@@ -80,18 +80,18 @@ sound_tag trace ticks faults t is =
       pulled = pulls_durable t.def t.opening t.tape.items s t.acked is.replayed;
     }
 
-pub sound_tags : (new : Devices) (defs : List TagDef) (ts : List TagHistory) → AreHistoriesAt new (names_of defs) ts
-    → AllZip (λ (def : TagDef) t. IsTagSound t (trace_of new def)) defs ts
+pub sound_tags : (new : DeviceTraces) (defs : List TagDef) (ts : List TagHistory) → AreHistoriesAt new (device_names_of defs) ts
+    → AllZip (λ (def : TagDef) t. IsTagSound t (tag_trace_of new def)) defs ts
 sound_tags new [] [] is = tt
 sound_tags new [] (t ∷ ts) is = absurd is
 sound_tags new (d ∷ ds) [] is = absurd is
-sound_tags new (d ∷ ds) (t ∷ ts) is = (sound_tag (trace_of new d) is.0.0 is.0.1 t is.0.2, sound_tags new ds ts is.1)
+sound_tags new (d ∷ ds) (t ∷ ts) is = (sound_tag (tag_trace_of new d) is.0.0 is.0.1 t is.0.2, sound_tags new ds ts is.1)
 
-module _ {D : Type 0} (trace : D → Option Trace) (ticks faults : D → ℕ) (old : Devices) where
+module _ {D : Type 0} (trace : D → Option Trace) (ticks faults : D → ℕ) (old : DeviceTraces) where
   -- each was opened as its device stood
   opened_tags : (defs : List TagDef) (first last : List (Cell D)) (ts : List TagHistory)
       → AreCellsOpened trace ticks faults defs old first → AllZip IsContinued first last → AreHistoriesOf trace ticks faults last ts
-      → AllZip (λ def t. IsTagOpened def (trace_of old def) t) defs ts
+      → AllZip (λ def t. IsTagOpened def (tag_trace_of old def) t) defs ts
   opened_tags [] [] [] [] was same is = tt
   opened_tags [] [] [] (t ∷ ts) was same is = absurd is
   opened_tags [] [] (c ∷ cs) ts was same is = absurd same
@@ -106,7 +106,7 @@ module _ {D : Type 0} (trace : D → Option Trace) (ticks faults : D → ℕ) (o
       } in (
         record {
           def_is = is.0.def_is ∙ same.0.def ∙ was.0.def_is;
-          opening = λ org h. subst (λ s. Shows (trace_of old d) (λ c. ImageStands d org h c → StandsOpened d org h s)) opening
+          opening = λ org h. subst (λ s. Shows (tag_trace_of old d) (λ c. ImageStands d org h c → StandsOpened d org h s)) opening
               (was.0.found.stands org h);
         },
         opened_tags ds cs es ts was.1 same.1 is.1,
@@ -115,9 +115,9 @@ module _ {D : Type 0} (trace : D → Option Trace) (ticks faults : D → ℕ) (o
 -- ---- all is acknowledged
 
 -- no more is acknowledged than was taken
-acked_within : (show : List Point → Shown) (step : Bool) (o : TagOpening) (w : Walk) (es : List Entry)
+acked_within : (show : List Point → Shown) (step : Bool) (o : TagOpening) (w : CellWalk) (es : List Entry)
     → w.acked ≤ o.summary.taken + length w.points → FitAll show step o w es
-    → (walked w es).acked ≤ o.summary.taken + length (walked w es).points
+    → (cell_walked w es).acked ≤ o.summary.taken + length (cell_walked w es).points
 acked_within show step o w [] within fits = within
 acked_within show step o w (Take collector row p h n ∷ es) within fits =
     acked_within show step o (after_entry w (Take collector row p h n)) es (omega (arith, within, length_push w.points p)) fits.1
@@ -126,7 +126,7 @@ acked_within show step o w (Pull group first upto ∷ es) within fits = acked_wi
 acked_within show step o w (Commit moment acked ∷ es) within fits =
     acked_within show step o (after_entry w (Commit moment acked)) es fits.0.within fits.1
 
-all_acked : (def : TagDef) (o : TagOpening) (tape : List Entry) (s : State) (acked : ℕ) → IsReplayed def o tape s acked
+all_acked : (def : TagDef) (o : TagOpening) (tape : List Entry) (s : State) (acked : ℕ) → IsTapeReplayed def o tape s acked
     → s.summary.taken ≤ acked → acked ≡ s.summary.taken
 all_acked def o tape s acked is full = omega (
   arith,
@@ -135,7 +135,7 @@ all_acked def o tape s acked is full = omega (
   ap (λ (x : State). x.summary.taken) is.stands,
   counted def.step (opened o) def.tuning (taken tape) is.tuning,
   ap length (points-end o tape),
-  acked_within (replayed def.step o) def.step o (start o) tape (omega arith) is.entries,
+  acked_within (replayed def.step o) def.step o (cell_start o) tape (omega arith) is.entries,
 )
 
 -- ---- tapes
@@ -154,8 +154,8 @@ module _ {C T E A : Type 0} (tape_of : C → List E) (told_of : T → List E) (w
   }
 
 -- the records of a cell whose history has all acknowledged are such as no crash takes away
-durable_all : {D : Type 0} (trace : Option Trace) (ticks faults : ℕ) (c : Cell D) (t : TagHistory) → IsHistoryOf trace ticks faults c t
-    → waits c ≡ 0 → durable_records c ≡ t.recs.items
+durable_all : {D : Type 0} (trace : Option Trace) (ticks faults : ℕ) (c : Cell D) (t : TagHistory) → IsHistoryOfCell trace ticks faults c t
+    → takes_waiting c ≡ 0 → durable_records c ≡ t.recs.items
 durable_all trace ticks faults c t is none =
     let s : State = record { records = t.recs.items; summary = t.summary } in
     (λ i. durable_in ((sym is.def_is) i) ((sym is.opening_is) i) ((sym is.tape_is) i))
@@ -183,7 +183,7 @@ some_text : (front : List ℕ) (byte : ℕ) (back : List ℕ) → front ++ byte 
 some_text [] byte back none = absurd (cc none)
 some_text (x ∷ front) byte back none = absurd (cc none)
 
-module _ {D : Type 0} (trace : D → Option Trace) (ticks faults : D → ℕ) (base : Base) (old new : Devices) where
+module _ {D : Type 0} (trace : D → Option Trace) (ticks faults : D → ℕ) (base : Base) (old new : DeviceTraces) where
   pub sound_groups : (cells : List (Cell D)) (books : List (Book D)) (s : Session) → IsOver trace ticks faults base old new cells books s
       → AreGroupsSound base.groups.items new s.groups.items
   sound_groups cells books s is =
@@ -198,9 +198,9 @@ module _ {D : Type 0} (trace : D → Option Trace) (ticks faults : D → ℕ) (b
 
   -- each was opened as what its device stood for
   opened_groups : (first last_cells : List (Cell D)) (opened last : List (Book D)) (s : Session)
-      → AreBooksOpened trace ticks faults base.groups.items (records_in first) old opened → AllZip IsContinuedGroup opened last
+      → AreBooksOpened trace ticks faults base.groups.items (cell_records_in first) old opened → AllZip IsContinuedGroup opened last
       → IsOver trace ticks faults base old new last_cells last s → (i : ℕ) (d : GroupDef) (g : GroupHistory) → i < length s.groups.items
-      → IsGroupOpened i (get_or base.groups.items i d) (trace_at old (get_or base.groups.items i d)) (get_or s.groups.items i g)
+      → IsGroupOpened i (get_or base.groups.items i d) (group_trace_at old (get_or base.groups.items i d)) (get_or s.groups.items i g)
   opened_groups first last_cells opened last s was same is i d g below =
       let def = get_or base.groups.items i d in
       let there : i < length last = omega (arith, is.groups.as_many, below) in
@@ -218,9 +218,9 @@ module _ {D : Type 0} (trace : D → Option Trace) (ticks faults : D → ℕ) (b
         number = history.group ∙ continued.group ∙ book.group;
         def_is = history.def ∙ continued.def ∙ book.def;
         text = history.text ∙ continued.text ∙ book.text;
-        opening = subst (λ v. Shows (trace_at old def) (StandsForGroup (text_of def) (parts_of def) v
+        opening = subst (λ v. Shows (group_trace_at old def) (StandsForGroup (group_definition_text def) (group_parts_of def) v
             (lists_of (get_or s.groups.items i g).opening.rows.items))) (sym versions)
-            (subst (λ r. Shows (trace_at old def) (StandsForGroup (text_of def) (parts_of def) (get_or opened i a).opening.versions.items r))
+            (subst (λ r. Shows (group_trace_at old def) (StandsForGroup (group_definition_text def) (group_parts_of def) (get_or opened i a).opening.versions.items r))
             (sym rows) book.opening.stood);
       }
 
@@ -232,13 +232,13 @@ module _ {D : Type 0} (trace : D → Option Trace) (ticks faults : D → ℕ) (b
 
     -- the history of the cell at a place
     history_at : (i : ℕ) (c : Cell D) (t : TagHistory) → i < length s.tags.items
-        → IsHistoryOf (trace (get_or cells i c).journal.dev) (ticks (get_or cells i c).journal.dev) (faults (get_or cells i c).journal.dev)
+        → IsHistoryOfCell (trace (get_or cells i c).journal.dev) (ticks (get_or cells i c).journal.dev) (faults (get_or cells i c).journal.dev)
         (get_or cells i c) (get_or s.tags.items i t)
-    history_at i c t below = zip_at (λ (x : Cell D) h. IsHistoryOf (trace x.journal.dev) (ticks x.journal.dev) (faults x.journal.dev) x h)
+    history_at i c t below = zip_at (λ (x : Cell D) h. IsHistoryOfCell (trace x.journal.dev) (ticks x.journal.dev) (faults x.journal.dev) x h)
         cells s.tags.items i c t is.tags below
 
     mixed : (earlier phases : ℕ) (rows : List (List RawRow)) (queries : List (List Query)) (refreshers : List Refresher)
-        → IsGoodBase base → IsWorkIn base earlier phases rows queries refreshers g → IsMade g cells books
+        → IsGoodBase base → IsWorkIn base earlier phases rows queries refreshers g → AreStepsMade g cells books
         → ArePulled (lists_of g.inputs.items) cells books → IsMixed (phase_item earlier) base rows queries s
     mixed earlier phases rows queries refreshers good given made pulled = record {
       takes = subst (λ n. AreTapesWhole entries take_of (phase_item n) rows s.tags.items) given.earlier_is
@@ -280,8 +280,8 @@ module _ {D : Type 0} (trace : D → Option Trace) (ticks faults : D → ℕ) (b
     }
 
     -- the records of a tag are those of its cell, and no crash takes one away
-    records_at : (tag : ℕ) (c : Cell D) → tag < length s.tags.items → All (λ x. waits x ≡ 0) cells
-        → (records_of s tag ≡ (get_or cells tag c).state.records) × (get_or (durable_lists cells) tag [] ≡ (get_or cells tag c).state.records)
+    records_at : (tag : ℕ) (c : Cell D) → tag < length s.tags.items → All (λ x. takes_waiting x ≡ 0) cells
+        → (tag_records_of s tag ≡ (get_or cells tag c).state.records) × (get_or (durable_lists cells) tag [] ≡ (get_or cells tag c).state.records)
     records_at tag c below none =
         let t = element s.tags.items tag below in
         let there : tag < length cells = omega (arith, tags_many, below) in
@@ -293,9 +293,9 @@ module _ {D : Type 0} (trace : D → Option Trace) (ticks faults : D → ℕ) (b
 
     -- what a group has of an input are the records of its tag
     copy_at : (i input : ℕ) (b : Book D) (tags : List ℕ) → i < length books → input < length tags
-        → get_or (lists_of g.inputs.items) i [] ≡ tags → All (λ tag. tag < length s.tags.items) tags → All (λ x. waits x ≡ 0) cells
+        → get_or (lists_of g.inputs.items) i [] ≡ tags → All (λ tag. tag < length s.tags.items) tags → All (λ x. takes_waiting x ≡ 0) cells
         → ArePulled (lists_of g.inputs.items) cells books → versions_of (get_or books i b) ≡ durable_numbers (durable_lists cells) tags
-        → get_or (get_or books i b).sheet.copies input [] ≡ records_of s (get_or tags input 0)
+        → get_or (get_or books i b).sheet.copies input [] ≡ tag_records_of s (get_or tags input 0)
     copy_at i input b tags there within same known none pulled versions =
         let tag = get_or tags input 0 in
         let book = get_or books i b in
@@ -314,10 +314,10 @@ module _ {D : Type 0} (trace : D → Option Trace) (ticks faults : D → ℕ) (b
         ∙ sym at.0
 
     refreshed : (earlier phases : ℕ) (rows : List (List RawRow)) (queries : List (List Query)) (refreshers : List Refresher)
-        → IsGoodBase base → IsWorkIn base earlier phases rows queries refreshers g → IsMade g cells books
+        → IsGoodBase base → IsWorkIn base earlier phases rows queries refreshers g → AreStepsMade g cells books
         → ArePulled (lists_of g.inputs.items) cells books
-        → AreOpened base old s → (i : ℕ) (d : GroupDef) (h : GroupHistory) → i < length s.groups.items
-        → IsRefreshed (get_or base.groups.items i d) (phases + turns_in i refreshers) s (get_or s.groups.items i h)
+        → AreUnitsOpened base old s → (i : ℕ) (d : GroupDef) (h : GroupHistory) → i < length s.groups.items
+        → IsGroupRefreshed (get_or base.groups.items i d) (phases + turns_in i refreshers) s (get_or s.groups.items i h)
     refreshed earlier phases rows queries refreshers good given made pulled was i d h below =
         let there : i < length books = omega (arith, is.groups.as_many, below) in
         let of_base : i < length base.groups.items = omega (arith, there, is.as_many_groups) in
@@ -339,19 +339,19 @@ module _ {D : Type 0} (trace : D → Option Trace) (ticks faults : D → ℕ) (b
               ∙ ap (λ n. n + 1) (given.sized.turns i of_base
               ∙ ap (λ (p : ℕ). p + turns_for i g.work.refreshers.items) given.phases_are
               ∙ ap (λ (n : ℕ). phases + n) (turns_same i g.work.refreshers.items refreshers given.turns));
-          copies = of.copies ∙ ext_get_or [] book.sheet.copies (map (records_of s) def.inputs.items)
-              (copies ∙ sym (length-map def.inputs.items (records_of s)))
+          copies = of.copies ∙ ext_get_or [] book.sheet.copies (map (tag_records_of s) def.inputs.items)
+              (copies ∙ sym (length-map def.inputs.items (tag_records_of s)))
               (λ input within.
               let inside : input < length def.inputs.items = omega (arith, copies, within) in
               copy_at i input b def.inputs.items there inside tags known made.none_waits pulled versions
-              ∙ sym (get_or-map (records_of s) def.inputs.items input 0 [] inside));
+              ∙ sym (get_or-map (tag_records_of s) def.inputs.items input 0 [] inside));
           saved = subst EndsInSave (sym of.tape) (to.saved (of.there (λ none.
               some_text def.name 44 _ (sym (was.groups i d h below).text ∙ of.text ∙ none))));
         }
 
     -- the promise of a session that has done the work of its last phase
     pub done : (earlier phases : ℕ) (rows : List (List RawRow)) (queries : List (List Query)) (refreshers : List Refresher)
-        (text : List ℕ) → IsGoodBase base → IsWorkIn base earlier phases rows queries refreshers g → AreOpened base old s
+        (text : List ℕ) → IsGoodBase base → IsWorkIn base earlier phases rows queries refreshers g → AreUnitsOpened base old s
         → IsDone base g cells books s text
         → IsDoneSo (phase_item earlier) (λ i. phases + turns_in i refreshers) base rows queries s text
     done earlier phases rows queries refreshers text good given was it = record {
@@ -366,7 +366,7 @@ only_phase : (base : Base) (rows : List (List RawRow)) (queries : List (List Que
     → IsDoneSo take_item (λ i. turns_in i refreshers) base rows queries s text
 only_phase base rows queries refreshers s text it = record {
   mixed = it.mixed;
-  refreshed = λ i d g below. subst (λ n. IsRefreshed (get_or base.groups.items i d) n s (get_or s.groups.items i g))
+  refreshed = λ i d g below. subst (λ n. IsGroupRefreshed (get_or base.groups.items i d) n s (get_or s.groups.items i g))
       (omega arith) (it.refreshed i d g below);
   same = it.same;
 }
@@ -380,9 +380,9 @@ if_done (Ok text) opened follows x = follows (opened (λ none. none)) text x
 if_done (Err why) opened follows x = tt
 
 -- unless an opening is told to be another, each tag and group of a session that was held was opened as its device stood
-pub held_opened : {D : Type 0} (trace : D → Option Trace) (ticks faults : D → ℕ) (base : Base) (g : Given) (old new : Devices)
-    (before now : ℕ) (answer : Result (String Global) Status) (s : Session) → IsHeld trace ticks faults base g old new before now answer s
-    → (IsOfOpening answer → ⊥) → AreOpened base old s
+pub held_opened : {D : Type 0} (trace : D → Option Trace) (ticks faults : D → ℕ) (base : Base) (g : Given) (old new : DeviceTraces)
+    (before now : ℕ) (answer : Result (String Global) Status) (s : Session) → IsSessionHeld trace ticks faults base g old new before now answer s
+    → (IsOfOpening answer → ⊥) → AreUnitsOpened base old s
 held_opened trace ticks faults base g old new before now answer s is none = record {
   tags = opened_tags trace ticks faults old base.tags.items is.opened is.cells s.tags.items is.opening.tags (is.same_tags none)
       is.over.tags;
@@ -391,7 +391,7 @@ held_opened trace ticks faults base g old new before now answer s is none = reco
 }
 
 pub promised : {D : Type 0} (trace : D → Option Trace) (ticks faults : D → ℕ) (name plan_name : List ℕ) (told : ToldFiles)
-    (old new : Devices) (before now stops_before stops_now : ℕ) (answer : Result (String Global) Status) (s : Session)
+    (old new : DeviceTraces) (before now stops_before stops_now : ℕ) (answer : Result (String Global) Status) (s : Session)
     → IsSession trace ticks faults name plan_name told old new before now stops_before stops_now answer s
     → IsPromised name plan_name told old new before now answer s
 promised trace ticks faults name plan_name told old new before now stops_before stops_now answer s is =

@@ -1,7 +1,7 @@
 -- Cells and books that keep what they were opened as, while entries are added to their tapes.
 use Rattle.std.proofs.Common.{◌≡◌, ◌∙◌, ◌<◌, List, All, ap, sym, subst, get_or}
 use Rattle.tag_cell.specs.declared.entry.Entry.{Entry}
-use Rattle.tag_cell.specs.Told.{Told as Cell, waits}
+use Rattle.tag_cell.specs.Told.{Told as Cell, takes_waiting}
 use Rattle.session_audit.specs.Cells.{AreLonger}
 use Rattle.group_book.specs.Told.{Told as Book}
 use Rattle.session_audit.specs.Each.{AreEach}
@@ -72,10 +72,10 @@ module _ {D : Type 0} where
     opening = second.opening ∙ first.opening;
   })
 
-  -- nothing waits that did not wait before pulls
-  pub none_waits : (old new : List (Cell D)) → AreEach IsPulledMore old new → All (λ c. waits c ≡ 0) old → All (λ c. waits c ≡ 0) new
+  -- nothing takes_waiting that did not wait before pulls
+  pub none_waits : (old new : List (Cell D)) → AreEach IsPulledMore old new → All (λ c. takes_waiting c ≡ 0) old → All (λ c. takes_waiting c ≡ 0) new
   none_waits old new pulled none i d below =
-      ap waits (pulled.each i d).changed ∙ none i d (subst (λ n. i < n) pulled.as_many below)
+      ap takes_waiting (pulled.each i d).changed ∙ none i d (subst (λ n. i < n) pulled.as_many below)
 
   -- cells that keep their openings are as was kept of them
   pub cells_as_kept : (old new : List (Cell D)) (known : List Kept) → AreEach IsCellKept old new → AreAsKept IsCellAsKept old known

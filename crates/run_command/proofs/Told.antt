@@ -11,14 +11,14 @@ use Rattle.tag_cell.specs.Told.{Told as Cell}
 use Rattle.group_book.specs.Told.{Told as Book}
 use Rattle.collector_pool.specs.declared.note.WorkerNote.{WorkerNote}
 use Rattle.session_audit.specs.Pulls.{ArePulled}
-use Rattle.plant_store.specs.Groups.{Devices}
+use Rattle.plant_store.specs.Groups.{DeviceTraces}
 use Rattle.plant_store.specs.Closings.{CountsClosed}
 use Rattle.session_report.specs.declared.session.Session.{Session}
 use Rattle.run_command.specs.declared.work.Given.{Given}
 use Rattle.run_command.specs.declared.phase.EndedPhase.{EndedPhase}
 use Rattle.run_command.specs.Refusals.{IsOfOpening}
-use Rattle.run_command.specs.Runs.{IsContinued, IsContinuedGroup, IsDone, IsHeld, IsOpen, IsOver, IsReported, IsUndone, OfNone}
-use Rattle.run_command.specs.Steps.{IsMade}
+use Rattle.run_command.specs.Runs.{IsContinued, IsContinuedGroup, IsDone, IsSessionHeld, AreUnitsOpen, IsOver, IsReported, IsUndone, OfNone}
+use Rattle.run_command.specs.Steps.{AreStepsMade}
 
 -- what follows of what is there
 pub some_weaker : {X : Type 0} {P Q : X → Type 0} (o : Option X) → ((x : X) → P x → Q x) → IfSome o P → IfSome o Q
@@ -35,7 +35,7 @@ module _ (base : Base) (g : Given) (s : Session) where
   module _ {D : Type 0} (cells : List (Cell D)) (books : List (Book D)) where
     -- a text is told of a session that is done
     pub done_told : (came : Result (Unit {0}) Status) (told : Result (String Global) Status) → IsReported base g s came told
-        → OnOk came (IsMade g cells books) → OnOk came (ArePulled (lists_of g.inputs.items) cells books)
+        → OnOk came (AreStepsMade g cells books) → OnOk came (ArePulled (lists_of g.inputs.items) cells books)
         → IfOk told (λ text. IsDone base g cells books s (string_bytes text))
     done_told (Ok x) (Ok text) is made pulled = record { made = made; pulled = pulled; same = is.text }
     done_told (Ok x) (Err why) is made pulled = tt
@@ -62,16 +62,16 @@ counted_since faults cells books before opened now same counts few =
     subst (λ n. CountsClosed faults cells books n now) (same few) (counts (subst (λ n. n < 2 ^ 64) (sym (same few)) few))
 
 -- what is told of a session that ended so, whose devices were opened and are given back
-abbrev pub held_told : {D : Type 0} (trace : D → Option Trace) (ticks faults : D → ℕ) (base : Base) (g : Given) (old new : Devices)
+abbrev pub held_told : {D : Type 0} (trace : D → Option Trace) (ticks faults : D → ℕ) (base : Base) (g : Given) (old new : DeviceTraces)
     (before opening now : ℕ) (opened : List (Cell D)) (opened_books : List (Book D)) (e : EndedPhase D) (told : Result (String Global) Status)
-    (s : Session) → IsOpen trace ticks faults base old opened opened_books
+    (s : Session) → AreUnitsOpen trace ticks faults base old opened opened_books
     → IsOver trace ticks faults base old new e.cells.items e.books.items s → (before < 2 ^ 64 → opening ≡ before)
     → (opening < 2 ^ 64 → CountsClosed faults e.cells.items e.books.items opening now)
     → ((IsOfOpening e.answer → ⊥) → AllZip IsContinued opened e.cells.items)
     → ((IsOfOpening e.answer → ⊥) → AllZip IsContinuedGroup opened_books e.books.items)
-    → OnOk e.answer (IsMade g e.cells.items e.books.items)
+    → OnOk e.answer (AreStepsMade g e.cells.items e.books.items)
     → OnOk e.answer (ArePulled (lists_of g.inputs.items) e.cells.items e.books.items) → IsReported base g s e.answer told
-    → IsHeld trace ticks faults base g old new before now told s
+    → IsSessionHeld trace ticks faults base g old new before now told s
 held_told trace ticks faults base g old new before opening now opened opened_books e told s was over same counts tags groups made pulled is =
     record {
       opened = opened;

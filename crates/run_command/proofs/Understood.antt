@@ -15,7 +15,7 @@ use Rattle.group_book.specs.declared.refusal.SaveNo.{SaveNo}
 use Rattle.group_book.specs.declared.refusal.SaveNo.TheVariants as save
 use Rattle.session_audit.specs.BookRefusals.{IsBookRefusal, OfRefresh, OfSave, save_status}
 use Rattle.collector_pool.specs.declared.note.WorkerNote.{WorkerNote}
-use Rattle.plant_store.specs.Groups.{Devices}
+use Rattle.plant_store.specs.Groups.{DeviceTraces}
 use Rattle.plant_store.specs.BookRefusals.{OfDamage, OfFault, OfMemory, OfVersion, OfWindows}
 use Rattle.plant_store.specs.Openings.{IsPlantRefusal, OfGroups, OfTags}
 use Rattle.plant_files.specs.PlanRows as plans
@@ -34,7 +34,7 @@ of_files name plan_name told (plans.OfRows base plan rows lists read asked is) =
 of_files name plan_name told (plans.OfMemory same) = cc same
 
 -- no device either
-pub of_plant : (base : Base) (old new : Devices) (before now : ℕ) → IsPlantRefusal base old new before now BadWords → ⊥
+pub of_plant : (base : Base) (old new : DeviceTraces) (before now : ℕ) → IsPlantRefusal base old new before now BadWords → ⊥
 of_plant base old new before now (OfTags is) = is
 of_plant base old new before now (OfGroups cores opened (OfFault i same at)) = cc same
 of_plant base old new before now (OfGroups cores opened (OfDamage i a byte same at)) = cc same
@@ -42,11 +42,11 @@ of_plant base old new before now (OfGroups cores opened (OfVersion i input found
 of_plant base old new before now (OfGroups cores opened (OfWindows i windows rows same at)) = cc same
 of_plant base old new before now (OfGroups cores opened (OfMemory same)) = cc same
 
-pub of_devices : (base : Base) (old new : Devices) (before now : ℕ) → runs.IsUnopened base old new before now BadWords → ⊥
+pub of_devices : (base : Base) (old new : DeviceTraces) (before now : ℕ) → runs.IsUnopened base old new before now BadWords → ⊥
 of_devices base old new before now (runs.OfPlant is kept) = of_plant base old new before now is
 of_devices base old new before now (runs.OfWant same untouched) = cc same
 
-of_unheld : (name plan_name : List ℕ) (told : ToldFiles) (old new : Devices) (before now : ℕ)
+of_unheld : (name plan_name : List ℕ) (told : ToldFiles) (old new : DeviceTraces) (before now : ℕ)
     → runs.IsUnheld name plan_name told old new before now BadWords → ⊥
 of_unheld name plan_name told old new before now (runs.OfFiles is untouched) = of_files name plan_name told is
 of_unheld name plan_name told old new before now (runs.OfOpening base plan rows queries planned is) =
@@ -94,7 +94,7 @@ module _ {D : Type 0} where
     undone_understood opened opened_books notes (Err why) is =
         λ same. of_undone opened opened_books notes (subst (runs.IsUndone g opened opened_books cells books notes) same is)
 
-pub unheld_understood : (name plan_name : List ℕ) (told : ToldFiles) (old new : Devices) (before now : ℕ)
+pub unheld_understood : (name plan_name : List ℕ) (told : ToldFiles) (old new : DeviceTraces) (before now : ℕ)
     (answer : Result (String Global) Status) → IfErr answer (runs.IsUnheld name plan_name told old new before now)
     → IfErr answer (λ why. why ≢ BadWords)
 unheld_understood name plan_name told old new before now (Ok text) is = tt
@@ -103,7 +103,7 @@ unheld_understood name plan_name told old new before now (Err why) is =
 
 -- so no answer of a run is
 pub understood : {D : Type 0} (trace : D → Option Trace) (ticks faults : D → ℕ) (name plan_name : List ℕ) (told : ToldFiles)
-    (old new : Devices) (before now stops_before stops_now : ℕ) (session : Option Session) (answer : Result (String Global) Status)
+    (old new : DeviceTraces) (before now stops_before stops_now : ℕ) (session : Option Session) (answer : Result (String Global) Status)
     → (session ≡ None → IfErr answer (runs.IsUnheld name plan_name told old new before now))
     → IfSome session (runs.IsSession trace ticks faults name plan_name told old new before now stops_before stops_now answer)
     → IfErr answer (λ why. why ≢ BadWords)

@@ -8,13 +8,13 @@ use Rattle.plant_status.specs.declared.status.Status.TheVariants.{Done, BadWords
 use Rattle.plant_files.specs.Reading.{faults_after, faults_told}
 use Rattle.tag_base.specs.declared.definition.Base.{Base}
 use Rattle.plant_store.specs.TagRefusals as tags
-use Rattle.plant_store.specs.Groups.{Devices}
+use Rattle.plant_store.specs.Groups.{DeviceTraces}
 use Rattle.plant_store.specs.BookRefusals.{OfDamage, OfFault, OfMemory, OfVersion, OfWindows}
 use Rattle.plant_store.specs.Openings.{OfGroups, OfTags}
 use Rattle.run_command.specs.Runs.{IsNoReadFault, IsUnopened, OfPlant, OfWant}
 
 -- no refusal of devices is a read fault
-pub unopened_is_no_fault : (base : Base) (old new : Devices) (before now : ℕ) (why : Status) → IsUnopened base old new before now why
+pub unopened_is_no_fault : (base : Base) (old new : DeviceTraces) (before now : ℕ) (why : Status) → IsUnopened base old new before now why
     → IsNoReadFault why
 unopened_is_no_fault base old new before now why (OfPlant (OfTags is) kept) which same =
     subst (tags.IsRefusal base.tags.items old new before now) same is

@@ -8,7 +8,7 @@ use Rattle.tag_cell.specs.Told.{Told as Cell}
 use Rattle.run_command.specs.declared.work.Given.{Given}
 use Rattle.run_command.specs.Runs.{IsUndone}
 use Rattle.run_command.specs.Sessions.{AreNotes}
-use Rattle.run_command.specs.Steps.{IsMade}
+use Rattle.run_command.specs.Steps.{AreStepsMade}
 
 -- the notes of a phase stand behind those that were there; of its workers as many were stopped as the passes have counted more
 pub record AreNotesBehind (D : Type 0) (work : Work) (before now : ℕ) (front notes : List WorkerNote) : Type 0 where
@@ -36,5 +36,5 @@ pub data IsUndoneOfBoth {D : Type 0} (first second : Given) (opened : List (Cell
   OfFirst : IsUndone first opened opened_books cells books notes why
       → IsUndoneOfBoth first second opened opened_books cells books notes why
   OfSecond : (between : List (Cell D)) (between_books : List (Book D)) (front : List WorkerNote)
-      → IsMade first between between_books → IsUndoneBehind second between between_books front cells books notes why
+      → AreStepsMade first between between_books → IsUndoneBehind second between between_books front cells books notes why
       → IsUndoneOfBoth first second opened opened_books cells books notes why

@@ -12,11 +12,11 @@ use Rattle.tag_base.specs.declared.definition.GroupDef.{GroupDef}
 use Rattle.tag_cell.specs.declared.history.TagHistory.{TagHistory}
 use Rattle.tag_cell.specs.Tapes.{opened as opened_state}
 use Rattle.tag_cell.specs.Told.{Told as Cell}
-use Rattle.plant_store.specs.Tags.{trace_of}
+use Rattle.plant_store.specs.Tags.{tag_trace_of}
 use Rattle.calc_refresh.specs.Lists.{lists_of}
 use Rattle.group_book.specs.declared.history.GroupHistory.{GroupHistory}
 use Rattle.group_book.specs.Told.{Told as Book}
-use Rattle.plant_store.specs.Groups.{Devices, parts_of, text_of}
+use Rattle.plant_store.specs.Groups.{DeviceTraces, group_parts_of, group_definition_text}
 use Rattle.plant_status.specs.declared.status.Status.{Status}
 use Rattle.plant_status.specs.declared.status.Status.TheVariants.{DeviceFault, WantOfMemory}
 use Rattle.session_audit.specs.Agendas.{phase_item}
@@ -25,7 +25,7 @@ use Rattle.session_report.specs.declared.session.Session.{Session}
 use Rattle.run_command.specs.declared.work.Given.{Given}
 use Rattle.run_command.specs.Headline.{AreGroupsSound, IsDoneSo, IsTagSound}
 use Rattle.run_command.specs.Refusals.{IsOfOpening}
-use Rattle.run_command.specs.Runs.{IsHeld, IsUnopened, IsWorkIn}
+use Rattle.run_command.specs.Runs.{IsSessionHeld, IsUnopened, IsWorkIn}
 use Rattle.run_command.specs.DrillPlant.{IsDrillGroup, drill_tags}
 use Rattle.run_command.specs.DrillRows.{drill_rows_of}
 use Rattle.run_command.specs.DrillPhases.{AreNotesOfBoth, IsUndoneOfBoth}
@@ -46,8 +46,8 @@ pub record IsDrillWork (number tags events : ℕ) (base : Base) (first second : 
   pub second_is : IsWorkIn base (events / 2) 1 (drill_rows_of number tags 0 events) [] [] second
 
 -- the devices of a store in memory that has none yet: each name has one that holds nothing
-abbrev pub fresh : Devices
-fresh name = Some empty_trace
+abbrev pub fresh_devices : DeviceTraces
+fresh_devices name = Some empty_trace
 
 -- a device in memory fails for want of memory alone, so that is told of it
 abbrev pub drill_status : Status → Status
@@ -70,9 +70,9 @@ pub record IsDrillUndone {D : Type 0} (first second : Given) (opened : List (Cel
 -- A session of two phases over a base, and what came of it: it was held, and is done with the second; as many workers were stopped as
 -- the passes counted; and both phases are done, or there is a cause.
 pub record IsRunInPhases {D : Type 0} (trace : D → Option Trace) (ticks faults : D → ℕ) (base : Base) (first second : Given)
-    (old new : Devices) (before now stops_before stops_now : ℕ) (answer : Result (String Global) Status) (s : Session)
+    (old new : DeviceTraces) (before now stops_before stops_now : ℕ) (answer : Result (String Global) Status) (s : Session)
     : Type 0 where
-  pub held : IsHeld trace ticks faults base second old new before now answer s
+  pub held : IsSessionHeld trace ticks faults base second old new before now answer s
   pub notes : AreNotesOfBoth D first.work second.work stops_before stops_now s.workers.items
   pub undone : IfErr answer (IsDrillUndone first second held.opened held.opened_books held.cells held.books s)
 
@@ -92,10 +92,10 @@ pub record IsDrill (number tags events stops_before stops_now : ℕ) (answer : R
   pub base : Base
   pub first : Given
   pub second : Given
-  pub new : Devices
+  pub new : DeviceTraces
   pub now : ℕ
   pub work : IsDrillWork number tags events base first second
-  pub run : IsRunInPhases memory_trace memory_ticks memory_faults base first second fresh new 0 now stops_before stops_now
+  pub run : IsRunInPhases memory_trace memory_ticks memory_faults base first second fresh_devices new 0 now stops_before stops_now
       answer s
 
 -- ---- what is promised of it
@@ -108,8 +108,8 @@ pub record IsTagNew (def : TagDef) (t : TagHistory) : Type 0 where
 -- a group is one of the drill's, and was opened with no record of its inputs and no row
 pub record IsGroupNew (i : ℕ) (d : GroupDef) (g : GroupHistory) : Type 0 where
   pub number : g.group ≡ i
-  pub def_is : g.def ≡ parts_of d
-  pub text : g.text.items ≡ text_of d
+  pub def_is : g.def ≡ group_parts_of d
+  pub text : g.text.items ≡ group_definition_text d
   pub versions : g.opening.versions.items ≡ replicate (length d.inputs.items) 0
   pub rows : lists_of g.opening.rows.items ≡ replicate (length d.calcs.calcs) []
 
@@ -124,9 +124,9 @@ pub record AreNew (base : Base) (s : Session) : Type 0 where
 -- phase numbered from 1, all is acknowledged, the group is up to date, was refreshed twice, and saved then; and the text is the report.
 pub record IsDrilled (number tags events : ℕ) (answer : Result (String Global) Status) (s : Session) : Type 0 where
   pub base : Base
-  pub devices : Devices
+  pub devices : DeviceTraces
   pub base_is : IsDrillBase tags base
-  pub tags_are : AllZip (λ def t. IsTagSound t (trace_of devices def)) base.tags.items s.tags.items
+  pub tags_are : AllZip (λ def t. IsTagSound t (tag_trace_of devices def)) base.tags.items s.tags.items
   pub groups : AreGroupsSound base.groups.items devices s.groups.items
   pub new : (IsOfOpening answer → ⊥) → AreNew base s
   pub done : IfOk answer (λ text. IsDoneSo (phase_item (events / 2)) (λ group. 1) base (drill_rows_of number tags 0 events) [] s
@@ -135,7 +135,7 @@ pub record IsDrilled (number tags events : ℕ) (answer : Result (String Global)
 -- ---- no session
 
 -- why the devices of a base are not out, as a drill tells it
-pub record IsDrillUnopened (base : Base) (old new : Devices) (before now : ℕ) (why : Status) : Type 0 where
+pub record IsDrillUnopened (base : Base) (old new : DeviceTraces) (before now : ℕ) (why : Status) : Type 0 where
   pub cause : Status
   pub told : why ≡ drill_status cause
   pub unopened : IsUnopened base old new before now cause

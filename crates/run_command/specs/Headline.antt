@@ -24,12 +24,12 @@ use Rattle.group_book.specs.declared.turn.Turn.{Turn}
 use Rattle.group_book.specs.Crashes.{IsSafe as IsGroupSafe}
 use Rattle.group_book.specs.Histories.{IsLegal as IsGroupLegal}
 use Rattle.group_book.specs.Openings.{StandsForGroup}
-use Rattle.plant_store.specs.Groups.{Devices, parts_of, text_of, trace_at}
+use Rattle.plant_store.specs.Groups.{DeviceTraces, group_parts_of, group_definition_text, group_trace_at}
 use Rattle.tag_base.specs.declared.definition.Base.{Base}
 use Rattle.tag_base.specs.declared.definition.GroupDef.{GroupDef}
 use Rattle.tag_base.specs.declared.schedule.Plan.{Plan}
 use Rattle.tag_base.specs.declared.schedule.Refresher.{Refresher}
-use Rattle.plant_store.specs.Tags.{trace_of}
+use Rattle.plant_store.specs.Tags.{tag_trace_of}
 use Rattle.value_rows.specs.declared.asked.Query.{Query}
 use Rattle.value_rows.specs.declared.raw.RawRow.{RawRow}
 use Rattle.plant_status.specs.declared.status.Status.{Status}
@@ -88,26 +88,26 @@ abbrev pub IsGroupKeptBy : GroupHistory → Option Trace → Type 0
 IsGroupKeptBy g trace = IsGroupSafe g.text.items g.def.calcs (grid g) g.opening (lists_of g.copies.items) g.tape.items (LeftSince trace)
 
 -- so it is of each group. One with a definition text has a device, under its name
-pub record AreGroupsSound (groups : List GroupDef) (devices : Devices) (histories : List GroupHistory) : Type 0 where
+pub record AreGroupsSound (groups : List GroupDef) (devices : DeviceTraces) (histories : List GroupHistory) : Type 0 where
   pub as_many : length histories ≡ length groups
   pub kept : (i : ℕ) (g : GroupHistory) → i < length histories → IsGroupKept (slice_index_or histories i g)
   pub safe : (i : ℕ) (d : GroupDef) (g : GroupHistory) → i < length histories → (slice_index_or histories i g).text.items ≢ []
-      → IsGroupKeptBy (slice_index_or histories i g) (trace_at devices (slice_index_or groups i d))
+      → IsGroupKeptBy (slice_index_or histories i g) (group_trace_at devices (slice_index_or groups i d))
 
 -- a group is that of a base at this place, and its opening is what its device, whose calls were these, stood for before
 pub record IsGroupOpened (i : ℕ) (d : GroupDef) (before : Option Trace) (g : GroupHistory) : Type 0 where
   pub number : g.group ≡ i
-  pub def_is : g.def ≡ parts_of d
-  pub text : g.text.items ≡ text_of d
-  pub opening : Shows before (StandsForGroup (text_of d) (parts_of d) g.opening.versions.items (lists_of g.opening.rows.items))
+  pub def_is : g.def ≡ group_parts_of d
+  pub text : g.text.items ≡ group_definition_text d
+  pub opening : Shows before (StandsForGroup (group_definition_text d) (group_parts_of d) g.opening.versions.items (lists_of g.opening.rows.items))
 
 -- ---- what was opened
 
 -- each tag and each group was opened so
-pub record AreOpened (base : Base) (before : Devices) (s : Session) : Type 0 where
-  pub tags : AllZip (λ def t. IsTagOpened def (trace_of before def) t) base.tags.items s.tags.items
+pub record AreUnitsOpened (base : Base) (before : DeviceTraces) (s : Session) : Type 0 where
+  pub tags : AllZip (λ def t. IsTagOpened def (tag_trace_of before def) t) base.tags.items s.tags.items
   pub groups : (i : ℕ) (d : GroupDef) (g : GroupHistory) → i < length s.groups.items
-      → IsGroupOpened i (slice_index_or base.groups.items i d) (trace_at before (slice_index_or base.groups.items i d))
+      → IsGroupOpened i (slice_index_or base.groups.items i d) (group_trace_at before (slice_index_or base.groups.items i d))
       (slice_index_or s.groups.items i g)
 
 -- ---- a session that is done
@@ -133,8 +133,8 @@ pub record IsMixed (item_of : ℕ → ℕ → RawRow → Option Item) (base : Ba
   pub acknowledged : All (λ t. t.acked ≡ t.summary.taken) s.tags.items
 
 -- the records of the tag at a place
-abbrev pub records_of : Session → ℕ → List Rec
-records_of s tag = slice_index_or (map (λ t. t.recs.items) s.tags.items) tag []
+abbrev pub tag_records_of : Session → ℕ → List Rec
+tag_records_of s tag = slice_index_or (map (λ t. t.recs.items) s.tags.items) tag []
 
 -- how many turns the refreshers of a group make together
 abbrev pub turns_in : ℕ → List Refresher → ℕ
@@ -142,9 +142,9 @@ turns_in group refreshers = sum_by (λ r. if nat_eq r.group group then r.turns e
 
 -- A group has taken the records of its inputs' tags into account, all of them; it was refreshed once more than its refreshers have
 -- turns; and it was saved then.
-pub record IsRefreshed (d : GroupDef) (turns : ℕ) (s : Session) (g : GroupHistory) : Type 0 where
+pub record IsGroupRefreshed (d : GroupDef) (turns : ℕ) (s : Session) (g : GroupHistory) : Type 0 where
   pub refreshed : length (refreshes g.tape.items) ≡ turns + 1
-  pub copies : lists_of g.copies.items ≡ map (records_of s) d.inputs.items
+  pub copies : lists_of g.copies.items ≡ map (tag_records_of s) d.inputs.items
   pub saved : EndsInSave g.tape.items
 
 -- a session that is done, whose groups have so many turns: each row and question had its turn, each group is up to date, and this is
@@ -153,7 +153,7 @@ pub record IsDoneSo (item_of : ℕ → ℕ → RawRow → Option Item) (turns_of
     (queries : List (List Query)) (s : Session) (text : List ℕ) : Type 0 where
   pub mixed : IsMixed item_of base rows queries s
   pub refreshed : (i : ℕ) (d : GroupDef) (g : GroupHistory) → i < length s.groups.items
-      → IsRefreshed (slice_index_or base.groups.items i d) (turns_of i) s (slice_index_or s.groups.items i g)
+      → IsGroupRefreshed (slice_index_or base.groups.items i d) (turns_of i) s (slice_index_or s.groups.items i g)
   pub same : text ≡ report base (length rows) queries s
 
 -- ---- the promise
@@ -166,16 +166,16 @@ IsFaultCounted before now why = (unit : Device) → why ≡ DeviceFault unit →
 -- is answered of it. Whatever the answer is, each tag and each group is sound; unless an opening is told to be another, each was
 -- opened as what its device stood for; and where there is a text, the session is done. The store counted so many faults before, and
 -- so many now.
-pub record IsPromised (name plan_name : List ℕ) (told : ToldFiles) (before now : Devices) (faults_before faults_now : ℕ)
+pub record IsPromised (name plan_name : List ℕ) (told : ToldFiles) (before now : DeviceTraces) (faults_before faults_now : ℕ)
     (answer : Result (String Global) Status) (s : Session) : Type 0 where
   pub base : Base
   pub plan : Plan
   pub rows : List (List RawRow)
   pub queries : List (List Query)
   pub planned : IsPlanned name plan_name told base plan rows queries
-  pub tags : AllZip (λ (def : TagDef) t. IsTagSound t (trace_of now def)) base.tags.items s.tags.items
+  pub tags : AllZip (λ (def : TagDef) t. IsTagSound t (tag_trace_of now def)) base.tags.items s.tags.items
   pub groups : AreGroupsSound base.groups.items now s.groups.items
-  pub opened_as : (IsOfOpening answer → ⊥) → AreOpened base before s
+  pub opened_as : (IsOfOpening answer → ⊥) → AreUnitsOpened base before s
   pub done : IfOk answer (λ text. IsDoneSo take_item (λ i. turns_in i plan.refreshers.items) base rows queries s
       (string_bytes text))
   pub counted : faults_before < 2 ^ 64 → (faults_before ≤ faults_now) × IfErr answer (IsFaultCounted faults_before faults_now)

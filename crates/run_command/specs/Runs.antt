@@ -24,12 +24,12 @@ use Rattle.session_audit.specs.declared.book_opening.KeptGroup.{KeptGroup}
 use Rattle.session_audit.specs.Pulls.{ArePulled}
 use Rattle.plant_store.specs.CellOpenings.{AreCellsOpened}
 use Rattle.plant_store.specs.CellClosings.{AreHistoriesAt, AreHistoriesOf}
-use Rattle.plant_store.specs.CellNames.{names_of}
+use Rattle.plant_store.specs.CellNames.{device_names_of}
 use Rattle.plant_store.specs.Tags.{AllStaySame}
-use Rattle.plant_store.specs.Groups.{AllStaySame as AllGroupsStaySame, AreBooksOpened, Devices, parts_of, trace_at}
+use Rattle.plant_store.specs.Groups.{AllStaySame as AllGroupsStaySame, AreBooksOpened, DeviceTraces, group_parts_of, group_trace_at}
 use Rattle.plant_store.specs.BookEndings.{AreHistoriesOf as AreGroupHistoriesOf}
 use Rattle.plant_store.specs.Closings.{CountsClosed}
-use Rattle.plant_store.specs.Openings.{AreRestSame, IsPlantRefusal, records_in}
+use Rattle.plant_store.specs.Openings.{AreRestSame, IsPlantRefusal, cell_records_in}
 use Rattle.session_report.specs.declared.session.Session.{Session}
 use Rattle.session_report.specs.Report.{report}
 use Rattle.run_command.specs.declared.work.Given.{Given}
@@ -37,38 +37,38 @@ use Rattle.session_audit.specs.CellOpenings.{IsCellCopied}
 use Rattle.session_audit.specs.BookOpenings.{IsBookCopied}
 use Rattle.run_command.specs.Refusals.{IsOfOpening, IsSettlingRefusal}
 use Rattle.run_command.specs.Sessions.{AreNotes}
-use Rattle.run_command.specs.Steps.{AreGivenFor, IsMade, planned_turn, turn_of}
+use Rattle.run_command.specs.Steps.{AreGivenFor, AreStepsMade, planned_turn, turn_of}
 
 -- no device has changed
-abbrev pub AreUntouched : Devices → Devices → Type 0
-AreUntouched old new = (n : List ℕ) → new n ≡ old n
+abbrev pub AreDevicesUntouched : DeviceTraces → DeviceTraces → Type 0
+AreDevicesUntouched old new = (n : List ℕ) → new n ≡ old n
 
 -- ---- no session
 
 -- no device but those of a base's tags and groups has changed, and a crash at any moment since leaves of each an image that one before
 -- might have left, or that recovers or stands for the same
-pub record AreKept (base : Base) (old new : Devices) : Type 0 where
+pub record AreDevicesKept (base : Base) (old new : DeviceTraces) : Type 0 where
   pub tags : AllStaySame base.tags.items old new
   pub groups : AllGroupsStaySame base.groups.items old new
   pub others : AreRestSame base old new
 
 -- why the devices of a base are not out: a tag or a group is not opened; or memory is wanting before
-pub data IsUnopened (base : Base) (old new : Devices) (before now : ℕ) (why : Status) : Type 0 where
-  OfPlant : IsPlantRefusal base old new before now why → AreKept base old new → IsUnopened base old new before now why
-  OfWant : why ≡ WantOfMemory → AreUntouched old new → IsUnopened base old new before now why
+pub data IsUnopened (base : Base) (old new : DeviceTraces) (before now : ℕ) (why : Status) : Type 0 where
+  OfPlant : IsPlantRefusal base old new before now why → AreDevicesKept base old new → IsUnopened base old new before now why
+  OfWant : why ≡ WantOfMemory → AreDevicesUntouched old new → IsUnopened base old new before now why
 
 -- this is told of no file whose read has failed
 abbrev pub IsNoReadFault : Status → Type 0
 IsNoReadFault why = (which : FileId) → why ≢ ReadFault which
 
 -- why no session is held: a file is refused, or the devices are not opened; or memory is wanting before
-pub data IsUnheld (name plan_name : List ℕ) (told : ToldFiles) (old new : Devices) (before now : ℕ) (why : Status) : Type 0 where
-  OfFiles : IsPlanningRefusal name plan_name told why → AreUntouched old new
+pub data IsUnheld (name plan_name : List ℕ) (told : ToldFiles) (old new : DeviceTraces) (before now : ℕ) (why : Status) : Type 0 where
+  OfFiles : IsPlanningRefusal name plan_name told why → AreDevicesUntouched old new
       → IsUnheld name plan_name told old new before now why
   OfOpening : (base : Base) (plan : Plan) (rows : List (List RawRow)) (queries : List (List Query))
       → IsPlanned name plan_name told base plan rows queries → IsUnopened base old new before now why
       → IsUnheld name plan_name told old new before now why
-  OfMemory : why ≡ WantOfMemory → AreUntouched old new → IsUnheld name plan_name told old new before now why
+  OfMemory : why ≡ WantOfMemory → AreDevicesUntouched old new → IsUnheld name plan_name told old new before now why
 
 -- ---- a session
 
@@ -89,36 +89,36 @@ abbrev pub IsGivenOf : Base → Plan → List (List RawRow) → List (List Query
 IsGivenOf base plan rows queries g = IsWorkIn base 0 0 rows queries plan.refreshers.items g
 
 -- the devices of a base's tags and groups were opened as these cells and books
-pub record IsOpen {D : Type 0} (trace : D → Option Trace) (ticks faults : D → ℕ) (base : Base) (old : Devices)
+pub record AreUnitsOpen {D : Type 0} (trace : D → Option Trace) (ticks faults : D → ℕ) (base : Base) (old : DeviceTraces)
     (cells : List (Cell D)) (books : List (Book D)) : Type 0 where
   pub tags : AreCellsOpened trace ticks faults base.tags.items old cells
-  pub groups : AreBooksOpened trace ticks faults base.groups.items (records_in cells) old books
+  pub groups : AreBooksOpened trace ticks faults base.groups.items (cell_records_in cells) old books
   pub as_many_tags : length cells ≡ length base.tags.items
   pub as_many_groups : length books ≡ length base.groups.items
 
 -- each book is of the definition of the group in its place
 abbrev pub AreDefined : {D : Type 0} → List GroupDef → List (Book D) → Type 0
 AreDefined {D} groups books = (i : ℕ) (g : GroupDef) (b : Book D) → i < length books
-    → (slice_index_or books i b).def ≡ parts_of (slice_index_or groups i g)
+    → (slice_index_or books i b).def ≡ group_parts_of (slice_index_or groups i g)
 
 -- a history is that of a group's device, which tells these calls
 abbrev pub IsGroupHistoryAt : Option Trace → GroupHistory → Type 0
 IsGroupHistoryAt trace g = (ticks : ℕ) × (faults : ℕ) × IsGroupHistory g trace ticks faults
 
 -- each history of a group that has a text is that of the device which a store has under the name of the group
-pub record AreGroupHistoriesAt (groups : List GroupDef) (traces : Devices) (histories : List GroupHistory) : Type 0 where
+pub record AreGroupHistoriesAt (groups : List GroupDef) (traces : DeviceTraces) (histories : List GroupHistory) : Type 0 where
   pub each : (i : ℕ) (d : GroupDef) (g : GroupHistory) → i < length histories → (slice_index_or histories i g).text.items ≢ []
-      → IsGroupHistoryAt (trace_at traces (slice_index_or groups i d)) (slice_index_or histories i g)
+      → IsGroupHistoryAt (group_trace_at traces (slice_index_or groups i d)) (slice_index_or histories i g)
 
 -- The histories of a session are those of these cells and books. Each is that of the device which is under its name, no device but
 -- those of the base's tags and groups has changed, and no log was written.
-pub record IsOver {D : Type 0} (trace : D → Option Trace) (ticks faults : D → ℕ) (base : Base) (old new : Devices)
+pub record IsOver {D : Type 0} (trace : D → Option Trace) (ticks faults : D → ℕ) (base : Base) (old new : DeviceTraces)
     (cells : List (Cell D)) (books : List (Book D)) (s : Session) : Type 0 where
   pub tags : AreHistoriesOf trace ticks faults cells s.tags.items
   pub groups : AreGroupHistoriesOf trace ticks faults books s.groups.items
   pub as_many_tags : length cells ≡ length base.tags.items
   pub as_many_groups : length books ≡ length base.groups.items
-  pub devices : AreHistoriesAt new (names_of base.tags.items) s.tags.items
+  pub devices : AreHistoriesAt new (device_names_of base.tags.items) s.tags.items
   pub group_devices : AreGroupHistoriesAt base.groups.items new s.groups.items
   pub others : AreRestSame base old new
   pub no_log : s.log ≡ None
@@ -145,7 +145,7 @@ pub record IsContinuedGroup {D : Type 0} (first last : Book D) : Type 0 where
 -- pulled of its tags; and this is its report.
 pub record IsDone {D : Type 0} (base : Base) (g : Given) (cells : List (Cell D)) (books : List (Book D)) (s : Session)
     (text : List ℕ) : Type 0 where
-  pub made : IsMade g cells books
+  pub made : AreStepsMade g cells books
   pub pulled : ArePulled (lists_of g.inputs.items) cells books
   pub same : text ≡ report base (length g.work.collectors.items) (lists_of g.work.readers.items) s
 
@@ -167,13 +167,13 @@ pub record IsReported (base : Base) (g : Given) (s : Session) (came : Result Uni
 -- A session over a base, and what came of it: the devices were opened, and are given back; unless an opening is told to be another,
 -- each cell and book is the one that was opened; and where there is a text, the session is done. The store counts the faults of the
 -- devices: so many before, and so many now.
-pub record IsHeld {D : Type 0} (trace : D → Option Trace) (ticks faults : D → ℕ) (base : Base) (g : Given) (old new : Devices)
+pub record IsSessionHeld {D : Type 0} (trace : D → Option Trace) (ticks faults : D → ℕ) (base : Base) (g : Given) (old new : DeviceTraces)
     (before now : ℕ) (answer : Result (String Global) Status) (s : Session) : Type 0 where
   pub opened : List (Cell D)
   pub opened_books : List (Book D)
   pub cells : List (Cell D)
   pub books : List (Book D)
-  pub opening : IsOpen trace ticks faults base old opened opened_books
+  pub opening : AreUnitsOpen trace ticks faults base old opened opened_books
   pub over : IsOver trace ticks faults base old new cells books s
   pub counts : before < 2 ^ 64 → CountsClosed faults cells books before now
   pub same_tags : (IsOfOpening answer → ⊥) → AllZip IsContinued opened cells
@@ -182,15 +182,15 @@ pub record IsHeld {D : Type 0} (trace : D → Option Trace) (ticks faults : D �
 
 -- A session of this work over a base, and what came of it: it was held; as many workers were stopped as the passes counted; and it is
 -- done, or there is a cause.
-pub record IsRun {D : Type 0} (trace : D → Option Trace) (ticks faults : D → ℕ) (base : Base) (g : Given) (old new : Devices)
+pub record IsRun {D : Type 0} (trace : D → Option Trace) (ticks faults : D → ℕ) (base : Base) (g : Given) (old new : DeviceTraces)
     (before now : ℕ) (stops_before stops_now : ℕ) (answer : Result (String Global) Status) (s : Session) : Type 0 where
-  pub held : IsHeld trace ticks faults base g old new before now answer s
+  pub held : IsSessionHeld trace ticks faults base g old new before now answer s
   pub notes : AreNotes D g.work stops_before stops_now s.workers.items
   pub undone : IfErr answer (IsUndone g held.opened held.opened_books held.cells held.books s.workers.items)
 
 -- a session of the plan in a file over the base in another, and what came of it
 pub record IsSession {D : Type 0} (trace : D → Option Trace) (ticks faults : D → ℕ) (name plan_name : List ℕ) (told : ToldFiles)
-    (old new : Devices) (before now : ℕ) (stops_before stops_now : ℕ) (answer : Result (String Global) Status) (s : Session)
+    (old new : DeviceTraces) (before now : ℕ) (stops_before stops_now : ℕ) (answer : Result (String Global) Status) (s : Session)
     : Type 0 where
   pub base : Base
   pub plan : Plan

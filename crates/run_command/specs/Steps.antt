@@ -3,7 +3,7 @@ use Rattle.std.specs.Prelude.{◌≡◌, ℕ, ◌+◌, ◌^◌, ◌<◌, ◌≤�
 use Rattle.session_audit.specs.Agendas.{ask_item, phase_item, row_item}
 use Rattle.session_audit.specs.Found.{Reached}
 use Rattle.session_audit.specs.Tapes.{ask_of, take_of}
-use Rattle.tag_cell.specs.Told.{Told as Cell, waits}
+use Rattle.tag_cell.specs.Told.{Told as Cell, takes_waiting}
 use Rattle.session_audit.specs.Cells.{AreAllFound, AreAllShown}
 use Rattle.session_audit.specs.CellRefusals.{tag_rows}
 use Rattle.session_audit.specs.Workers.{AreOver, AreTapesFound, AreTapesWhole}
@@ -55,11 +55,11 @@ pub record AreFoundAll {D : Type 0} (g : Given) (cells : List (Cell D)) (books :
 
 -- Each tape shows of each worker all its rows that are due there, and of no other worker any; all takes are acknowledged; each
 -- group has made its turns and one more, has as many records as no crash takes away, and was saved then.
-pub record IsMade {D : Type 0} (g : Given) (cells : List (Cell D)) (books : List (Book D)) : Type 0 where
+pub record AreStepsMade {D : Type 0} (g : Given) (cells : List (Cell D)) (books : List (Book D)) : Type 0 where
   pub takes : AreAllShown take_of (phase_item g.work.earlier) (lists_of g.work.collectors.items) cells
   pub asks : AreAllShown ask_of ask_item (lists_of g.work.readers.items) cells
   pub row_asks : AreTapesWhole book_tape row_ask_of row_item (lists_of g.work.readers.items) books
-  pub none_waits : All (λ c. waits c ≡ 0) cells
+  pub none_waits : All (λ c. takes_waiting c ≡ 0) cells
   pub refreshed : AreBooksRefreshed (durable_lists cells) (lists_of g.inputs.items) g.turns.items books
 
 -- a cell keeps its definition and its opening

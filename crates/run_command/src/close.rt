@@ -1,6 +1,6 @@
 // A session ends: its devices are given back, and it is reported.
 ghost use Rattle.plant_store.specs.Closings.{CountsClosed};
-ghost use Rattle.plant_store.specs.Groups.{Devices};
+ghost use Rattle.plant_store.specs.Groups.{DeviceTraces};
 ghost use Rattle.plant_store.specs.Openings.{AreRestSame};
 ghost use Rattle.plant_store.specs.Shelves.{HasPlacesOf, IsShelfFor};
 ghost use Rattle.run_command.specs.Runs.{IsOver, IsReported};
@@ -29,7 +29,7 @@ pub(crate) fn close<S: Store>(
     requires places { HasPlacesOf shelf (S.has_place store.old) }
     requires cells { vec_len ended.cells ≡ length base.now.tags.items }
     requires books { vec_len ended.books ≡ length base.now.groups.items }
-    ensures over { (old : Devices) → AreRestSame base.now old (S.device_at store.old)
+    ensures over { (old : DeviceTraces) → AreRestSame base.now old (S.device_at store.old)
         → IsOver S.Dev.trace S.Dev.ticks S.Dev.fault_count base.now old (S.device_at store.new) ended.cells.items ended.books.items
         result.1 }
     ensures counts { S.fault_count store.old < 2 ^ 64 → CountsClosed S.Dev.fault_count ended.cells.items ended.books.items

@@ -1,12 +1,12 @@
 // The command `drill`: a plant that is made up, as a session of two phases.
 ghost use Rattle.calc_refresh.specs.Lists.{lists_of};
 ghost use Rattle.plant_files.specs.PlanRows.{IsGoodBase};
-ghost use Rattle.plant_store.specs.Groups.{Devices};
+ghost use Rattle.plant_store.specs.Groups.{DeviceTraces};
 ghost use Rattle.plant_store.specs.Openings.{AreRestSame};
 ghost use Rattle.plant_store.specs.Shelves.{HasPlacesOf, IsShelfFor};
 ghost use Rattle.run_command.specs.DrillRows.{drill_rows_of};
-ghost use Rattle.run_command.specs.Drills.{IsDrill, IsDrillBase, IsDrillUnopened, IsDrilled, IsRunInPhases, drill_answer, drill_status, fresh, memory_faults, memory_ticks, memory_trace};
-ghost use Rattle.run_command.specs.Runs.{AreDefined, IsOpen, IsWorkIn};
+ghost use Rattle.run_command.specs.Drills.{IsDrill, IsDrillBase, IsDrillUnopened, IsDrilled, IsRunInPhases, drill_answer, drill_status, fresh_devices, memory_faults, memory_ticks, memory_trace};
+ghost use Rattle.run_command.specs.Runs.{AreDefined, AreUnitsOpen, IsWorkIn};
 ghost use Rattle.run_command.specs.Steps.{AreGivenFor};
 ghost use Rattle.std.specs.Option.{IsSome};
 ghost use Rattle.std.specs.Prelude.{Err, IfErr, IfOk, IfSome, List, None, OnOk, [], length, map, vec_len, ℕ, ◌/◌, ◌<◌, ◌^◌, ◌≡◌, ◌≢◌, ◌≤◌};
@@ -68,8 +68,8 @@ fn run_drill<P: Passes, R: Threads + Wait + Sync>(
     requires first { (earlier : ℕ) × (rows : List (List RawRow)) × IsWorkIn drill.now.base earlier 0 rows [] [] drill.now.first }
     requires second { (earlier : ℕ) × (rows : List (List RawRow)) × IsWorkIn drill.now.base earlier 1 rows [] [] drill.now.second }
     ensures held { OnOk result.answer (IsSome result.session) }
-    ensures session { IfSome result.session (λ s. (new : Devices) × (now : ℕ) × IsRunInPhases memory_trace memory_ticks memory_faults
-        drill.now.base drill.now.first drill.now.second fresh new 0 now (P.stops passes.old) (P.stops passes.new) result.answer s) }
+    ensures session { IfSome result.session (λ s. (new : DeviceTraces) × (now : ℕ) × IsRunInPhases memory_trace memory_ticks memory_faults
+        drill.now.base drill.now.first drill.now.second fresh_devices new 0 now (P.stops passes.old) (P.stops passes.new) result.answer s) }
     ensures unheld { result.session ≡ None → IfErr result.answer (λ why. why ≡ Status.WantOfMemory) }
     ensures unstopped { result.session ≡ None → P.stops passes.new ≡ P.stops passes.old }
 {
@@ -206,7 +206,7 @@ fn hold_drill<S: Store, P: Passes, R: Threads + Wait + Sync>(
     requires books { vec_len plant.books ≡ length base.now.groups.items }
     requires defined { AreDefined base.now.groups.items plant.books.items }
     requires board { vec_len plant.cells ≤ length board.now }
-    ensures { (old : Devices) (before : ℕ) → IsOpen S.Dev.trace S.Dev.ticks S.Dev.fault_count base.now old plant.cells.items
+    ensures { (old : DeviceTraces) (before : ℕ) → AreUnitsOpen S.Dev.trace S.Dev.ticks S.Dev.fault_count base.now old plant.cells.items
         plant.books.items → AreRestSame base.now old (S.device_at store.old) → (before < 2 ^ 64 → S.fault_count store.old ≡ before)
         → IsRunInPhases S.Dev.trace S.Dev.ticks S.Dev.fault_count base.now first.now second.now old (S.device_at store.new)
         before (S.fault_count store.new) (P.stops passes.old) (P.stops passes.new) result.0 result.1 }

@@ -6,7 +6,7 @@ ghost use Rattle.session_audit.specs.Inputs.{AreInputs};
 ghost use Rattle.session_audit.specs.Pulls.{ArePulled};
 ghost use Rattle.run_command.specs.Refusals.{IsOfOpening};
 ghost use Rattle.run_command.specs.Runs.{IsContinued, IsContinuedGroup};
-ghost use Rattle.run_command.specs.Steps.{AreGivenFor, IsMade};
+ghost use Rattle.run_command.specs.Steps.{AreGivenFor, AreStepsMade};
 ghost use Rattle.run_command.specs.DrillPhases.{AreNotesBehind, AreNotesOfBoth, IsUndoneBehind, IsUndoneOfBoth};
 
 use crate::phase::{EndedPhase, hold_phase};
@@ -47,7 +47,7 @@ pub(crate) fn hold_both<D: Disk + Send, P: Passes, R: Threads + Wait + Sync>(
     ensures notes { AreNotesOfBoth D first.now.work second.now.work (P.stops passes.old) (P.stops passes.new) result.notes.items }
 
     // Where all is done.
-    ensures made { OnOk result.answer (IsMade second.now result.cells.items result.books.items) }
+    ensures made { OnOk result.answer (AreStepsMade second.now result.cells.items result.books.items) }
     ensures pulled { OnOk result.answer (ArePulled (lists_of second.now.inputs.items) result.cells.items result.books.items) }
 
     // Unless an opening is told to be another.
@@ -105,7 +105,7 @@ fn go_on<D: Disk + Send, P: Passes, R: Threads + Wait + Sync>(
     ensures cells { vec_len result.cells ≡ vec_len cells }
     ensures books { vec_len result.books ≡ vec_len books }
     ensures notes { AreNotesBehind D second.now.work (P.stops passes.old) (P.stops passes.new) notes.items result.notes.items }
-    ensures made { OnOk result.answer (IsMade second.now result.cells.items result.books.items) }
+    ensures made { OnOk result.answer (AreStepsMade second.now result.cells.items result.books.items) }
     ensures pulled { OnOk result.answer (ArePulled (lists_of second.now.inputs.items) result.cells.items result.books.items) }
     ensures same_cells { (IsOfOpening result.answer → ⊥) → AllZip IsContinued cells.items result.cells.items }
     ensures same_books { (IsOfOpening result.answer → ⊥) → AllZip IsContinuedGroup books.items result.books.items }

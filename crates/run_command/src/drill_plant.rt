@@ -7,7 +7,7 @@ ghost use Rattle.run_command.specs.DrillRows.{drill_file, drill_rows_of, row_of}
 ghost use Rattle.std.specs.Fmt.{decimal};
 ghost use Rattle.std.specs.List.{range_with_len};
 ghost use Rattle.std.specs.Prelude.{All, AllPairs, IfOk, List, None, codes, drop, length, map, true, vec_len, ℕ, ◌++◌, ◌-◌, ◌<◌, ◌≡◌, ◌≢◌, ◌≤◌};
-ghost use Rattle.tag_base.specs.Groups.{AreCalcs, Define, IsSound};
+ghost use Rattle.tag_base.specs.Groups.{AreCalcs, Define, IsSoundGroup};
 ghost use Rattle.trend_num.specs.Names.{IsName};
 ghost use Rattle.trend_num.specs.Ranges.{InRange, TuningInRange};
 
@@ -31,7 +31,7 @@ pub(crate) fn drill_base(alloc: Global, tags: u32) -> Result<Base, WantOfMemory>
 
     // It is such as a text could spell.
     ensures tuned { IfOk result (λ base. All (λ def. TuningInRange def.tuning) base.tags.items) }
-    ensures sound { IfOk result (λ base. All (IsSound (length base.tags.items)) base.groups.items) }
+    ensures sound { IfOk result (λ base. All (IsSoundGroup (length base.tags.items)) base.groups.items) }
     ensures distinct { IfOk result (λ base. AllPairs (λ a b. a.name ≢ b.name) base.tags.items) }
     ensures distinct_groups { IfOk result (λ base. AllPairs (λ a b. a.name ≢ b.name) base.groups.items) }
 {

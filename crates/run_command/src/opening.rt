@@ -2,7 +2,7 @@
 ghost use Rattle.plant_files.specs.PlanRows.{IsGoodBase};
 ghost use Rattle.plant_store.specs.Openings.{AreRestSame};
 ghost use Rattle.plant_store.specs.Shelves.{HasPlacesOf, IsShelfFor};
-ghost use Rattle.run_command.specs.Runs.{AreDefined, IsOpen, IsUnopened};
+ghost use Rattle.run_command.specs.Runs.{AreDefined, AreUnitsOpen, IsUnopened};
 ghost use Rattle.snapshot_table.specs.Boards.{LooksAt, new_posters};
 ghost use Rattle.std.specs.Arc.{arc_value};
 ghost use Rattle.std.specs.Prelude.{All, IfErr, IfOk, OnOk, length, vec_len, ◌<◌, ◌^◌, ◌≡◌, ◌≤◌};
@@ -67,7 +67,7 @@ pub(crate) fn open_session<S: Store, R: Wait>(
     requires rooms { length rooms.now ≡ length base.now.tags.items }
 
     // The devices are out, and what gives them back is there.
-    ensures opened { IfOk result (λ o. IsOpen S.Dev.trace S.Dev.ticks S.Dev.fault_count base.now (S.device_at store.old)
+    ensures opened { IfOk result (λ o. AreUnitsOpen S.Dev.trace S.Dev.ticks S.Dev.fault_count base.now (S.device_at store.old)
         o.plant.cells.items o.plant.books.items) }
     ensures defined { IfOk result (λ o. AreDefined base.now.groups.items o.plant.books.items) }
     ensures shelf { IfOk result (λ o. IsShelfFor base.now o.shelf) }

@@ -6,7 +6,7 @@ ghost use Rattle.run_command.specs.Refusals.{IsOfOpening, IsSettlingRefusal, not
 ghost use Rattle.run_command.specs.Rooms.{HasRoomFor};
 ghost use Rattle.run_command.specs.Runs.{IsContinued, IsContinuedGroup, IsUndone};
 ghost use Rattle.run_command.specs.Sessions.{AreNotes};
-ghost use Rattle.run_command.specs.Steps.{AreGivenFor, AreInputsFor, IsMade};
+ghost use Rattle.run_command.specs.Steps.{AreGivenFor, AreInputsFor, AreStepsMade};
 ghost use Rattle.session_audit.specs.BookOpenings.{IsBookAsKept, IsBookCopied};
 ghost use Rattle.session_audit.specs.CellOpenings.{IsCellAsKept, IsCellCopied};
 ghost use Rattle.session_audit.specs.Inputs.{AreInputs};
@@ -55,7 +55,7 @@ pub(crate) fn hold_phase<D: Disk + Send, P: Passes, R: Threads + Wait + Sync>(
     ensures notes { AreNotes D given.now.work (P.stops passes.old) (P.stops passes.new) result.notes.items }
 
     // Where all is done.
-    ensures made { OnOk result.answer (IsMade given.now result.cells.items result.books.items) }
+    ensures made { OnOk result.answer (AreStepsMade given.now result.cells.items result.books.items) }
     ensures pulled { OnOk result.answer (ArePulled (lists_of given.now.inputs.items) result.cells.items result.books.items) }
 
     // Unless an opening is told to be another.
@@ -123,7 +123,7 @@ pub(crate) fn hold<D: Disk + Send, P: Passes, R: Threads + Wait + Sync>(
     ensures cells { vec_len result.cells ≡ vec_len cells }
     ensures books { vec_len result.books ≡ vec_len books }
     ensures notes { AreNotes D given.now.work (P.stops passes.old) (P.stops passes.new) result.notes.items }
-    ensures made { OnOk result.answer (IsMade given.now result.cells.items result.books.items) }
+    ensures made { OnOk result.answer (AreStepsMade given.now result.cells.items result.books.items) }
     ensures pulled { OnOk result.answer (ArePulled (lists_of given.now.inputs.items) result.cells.items result.books.items) }
     ensures known { (IsOfOpening result.answer → ⊥) → AreAsKept IsCellAsKept result.cells.items ready.tags.items }
     ensures known_groups { (IsOfOpening result.answer → ⊥) → AreAsKept IsBookAsKept result.books.items ready.groups.items }
@@ -174,7 +174,7 @@ fn settle_all<D: Disk, R: Wait>(
     requires groups_are { length known_groups.now ≡ vec_len books.old }
     requires given { AreGivenFor (vec_len cells.old) (vec_len books.old) given.now }
     requires inputs { AreInputsFor (vec_len cells.old) (lists_of given.now.inputs.items) known_groups.now }
-    ensures made { OnOk result (IsMade given.now cells.new.items books.new.items) }
+    ensures made { OnOk result (AreStepsMade given.now cells.new.items books.new.items) }
     ensures pulled { OnOk result (ArePulled (lists_of given.now.inputs.items) cells.new.items books.new.items) }
     ensures as_many_cells { vec_len cells.new ≡ vec_len cells.old }
     ensures as_many_books { vec_len books.new ≡ vec_len books.old }

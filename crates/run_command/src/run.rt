@@ -4,11 +4,11 @@ ghost use Rattle.plant_files.specs.Faults.{IsFaultOfPlanned};
 ghost use Rattle.plant_files.specs.PlanRows.{IsGoodBase, IsPlanned};
 ghost use Rattle.plant_files.specs.Reading.{faults_after};
 ghost use Rattle.plant_files.specs.RowFiles.{ToldFiles};
-ghost use Rattle.plant_store.specs.Groups.{Devices};
+ghost use Rattle.plant_store.specs.Groups.{DeviceTraces};
 ghost use Rattle.plant_store.specs.Openings.{AreRestSame};
 ghost use Rattle.plant_store.specs.Shelves.{HasPlacesOf, IsShelfFor};
 ghost use Rattle.run_command.specs.Headline.{IsPromised};
-ghost use Rattle.run_command.specs.Runs.{AreDefined, IsNoReadFault, IsOpen, IsRun, IsSession, IsUnheld, IsUnopened};
+ghost use Rattle.run_command.specs.Runs.{AreDefined, IsNoReadFault, AreUnitsOpen, IsRun, IsSession, IsUnheld, IsUnopened};
 ghost use Rattle.run_command.specs.Steps.{AreGivenFor};
 ghost use Rattle.snapshot_table.specs.Boards.{LooksAt};
 ghost use Rattle.std.specs.Arc.{arc_value};
@@ -172,7 +172,7 @@ fn hold_open<S: Store, P: Passes, R: Threads + Wait + Sync>(
     requires board { vec_len opened.plant.cells ≤ length (arc_value opened.board) }
     requires lookers { vec_len opened.lookers ≡ vec_len given.now.work.readers }
     requires looks { All (LooksAt (arc_value opened.board)) opened.lookers.items }
-    ensures { (old : Devices) (before : ℕ) → IsOpen S.Dev.trace S.Dev.ticks S.Dev.fault_count base.now old
+    ensures { (old : DeviceTraces) (before : ℕ) → AreUnitsOpen S.Dev.trace S.Dev.ticks S.Dev.fault_count base.now old
         opened.plant.cells.items opened.plant.books.items → AreRestSame base.now old (S.device_at store.old) → (before < 2 ^ 64 → S.fault_count store.old ≡ before)
         → IsRun S.Dev.trace S.Dev.ticks S.Dev.fault_count base.now given.now old (S.device_at store.new)
         before (S.fault_count store.new) (P.stops passes.old) (P.stops passes.new) result.0 result.1 }

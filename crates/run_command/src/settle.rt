@@ -3,7 +3,7 @@ ghost use Rattle.calc_refresh.specs.Lists.{lists_of};
 ghost use Rattle.collector_pool.specs.declared.note.Ending.TheVariants.{Halted, WantOfMemory as NoMemory};
 ghost use Rattle.run_command.specs.Endings.{IsStop};
 ghost use Rattle.run_command.specs.Refusals.{IsFindingRefusal, IsMakingRefusal, IsOfOpening, IsRefused, IsSettlingRefusal, notes_of};
-ghost use Rattle.run_command.specs.Steps.{AreFoundAll, AreGivenFor, AreInputsFor, AreOverAll, AreReady, IsBookKept, IsCellKept, IsMade};
+ghost use Rattle.run_command.specs.Steps.{AreFoundAll, AreGivenFor, AreInputsFor, AreOverAll, AreReady, IsBookKept, IsCellKept, AreStepsMade};
 ghost use Rattle.session_audit.specs.BookOpenings.{IsBookAsKept};
 ghost use Rattle.session_audit.specs.CellOpenings.{IsCellAsKept};
 ghost use Rattle.session_audit.specs.Each.{AreEach};
@@ -46,7 +46,7 @@ pub(crate) fn settle<D: Disk, R: Wait>(
     requires groups_are { length known_groups.now ≡ length books.old }
     requires given { AreGivenFor (length cells.old) (length books.old) given.now }
     requires inputs { AreInputsFor (length cells.old) (lists_of given.now.inputs.items) known_groups.now }
-    ensures made { OnOk result (IsMade given.now cells.new books.new) }
+    ensures made { OnOk result (AreStepsMade given.now cells.new books.new) }
     ensures pulled { OnOk result (ArePulled (lists_of given.now.inputs.items) cells.new books.new) }
     ensures as_many_cells { length cells.new ≡ length cells.old }
     ensures as_many_books { length books.new ≡ length books.old }
@@ -72,7 +72,7 @@ fn complete_all<D: Disk, R: Wait>(
     notes: &[WorkerNote],
 ) -> Result<(), Status>
     requires ready { AreReady given.now cells.old books.old }
-    ensures made { OnOk result (IsMade given.now cells.new books.new) }
+    ensures made { OnOk result (AreStepsMade given.now cells.new books.new) }
     ensures pulled { OnOk result (ArePulled (lists_of given.now.inputs.items) cells.new books.new) }
     ensures cells { AreEach IsCellKept cells.old cells.new }
     ensures books { AreEach IsBookKept books.old books.new }
@@ -125,7 +125,7 @@ fn complete<L: Ledger, D: Disk, R: Wait>(
     requires no_takes { AreUnfound (length cells.old) takes.old }
     requires no_asks { AreUnfound (length cells.old) asks.old }
     requires no_row_asks { AreUnfound (length books.old) row_asks.old }
-    ensures made { OnOk result (IsMade given.now cells.new books.new) }
+    ensures made { OnOk result (AreStepsMade given.now cells.new books.new) }
     ensures pulled { OnOk result (ArePulled (lists_of given.now.inputs.items) cells.new books.new) }
     ensures cells { AreEach IsCellKept cells.old cells.new }
     ensures books { AreEach IsBookKept books.old books.new }
@@ -179,7 +179,7 @@ fn make_up<D: Disk, R: Wait, L: Ledger>(
     requires ready { AreReady given.now cells.old books.old }
     requires over { AreOverAll (length cells.old) (length books.old) given.now takes.old asks.old row_asks.old }
     requires found { AreFoundAll given.now cells.old books.old takes.old asks.old row_asks.old }
-    ensures made { OnOk result (IsMade given.now cells.new books.new) }
+    ensures made { OnOk result (AreStepsMade given.now cells.new books.new) }
     ensures cells { AreEach IsCellKept cells.old cells.new }
     ensures books { AreEach IsBookKept books.old books.new }
     ensures refused { IfErr result (IsMakingRefusal given.now cells.new books.new) }

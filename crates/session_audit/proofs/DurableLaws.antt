@@ -10,8 +10,8 @@ use Rattle.trend_model.specs.State.{State, after, after_under, replay}
 use Rattle.tag_cell.specs.declared.entry.Entry.{Entry}
 use Rattle.tag_cell.specs.declared.entry.Entry.TheVariants.{Pull}
 use Rattle.tag_cell.specs.declared.history.TagOpening.{TagOpening}
-use Rattle.tag_cell.specs.Replays.{FitAll, Fits, IsReplayed, replayed}
-use Rattle.tag_cell.specs.Tapes.{Walk, after_entry, done, opened, start, state_after, taken, walked}
+use Rattle.tag_cell.specs.Replays.{FitAll, Fits, IsTapeReplayed, replayed}
+use Rattle.tag_cell.specs.Tapes.{CellWalk, after_entry, done, opened, cell_start, state_after, taken, cell_walked}
 use Rattle.tag_cell.proofs.Entries.{points-end}
 use Rattle.session_audit.specs.Durable.{ArePullsDurable, durable_in}
 
@@ -27,10 +27,10 @@ counted step s u (p ∷ ps) tuned =
     let rest = counted step (after step s (Raw p)) _ ps (ap (λ (x : State). x.summary.tuning) now) in
     omega (arith, more, rest)
 
-pub all_durable : (def : TagDef) (o : TagOpening) (tape : List Entry) (s : State) (acked : ℕ) → IsReplayed def o tape s acked
+pub all_durable : (def : TagDef) (o : TagOpening) (tape : List Entry) (s : State) (acked : ℕ) → IsTapeReplayed def o tape s acked
     → s.summary.taken ≤ acked → durable_in def o tape ≡ s.records
 all_durable def o tape s acked is full =
-    let w = walked (start o) tape in
+    let w = cell_walked (cell_start o) tape in
     let points : w.points ≡ taken tape = points-end o tape in
     let count : s.summary.taken ≡ o.summary.taken + length (taken tape) =
     ap (λ (x : State). x.summary.taken) is.stands ∙ counted def.step (opened o) def.tuning (taken tape) is.tuning in
@@ -41,9 +41,9 @@ all_durable def o tape s acked is full =
 -- ---- what was pulled
 
 -- from a place of a tape on, each pull ended where the acknowledged values left off
-ends_durable : (def : TagDef) (o : TagOpening) (w : Walk) (rest : List Entry) (place group from upto : ℕ)
+ends_durable : (def : TagDef) (o : TagOpening) (w : CellWalk) (rest : List Entry) (place group from upto : ℕ)
     → FitAll (replayed def.step o) def.step o w rest → slice_get rest place ≡ Some (Pull group from upto)
-    → upto ≡ length (state_after def.step o (done o (walked w (take place rest)))).records
+    → upto ≡ length (state_after def.step o (done o (cell_walked w (take place rest)))).records
 ends_durable def o w [] place group from upto fits there = absurd (cc)
 ends_durable def o w (e ∷ rest) zero group from upto fits there =
     let here : e ≡ Pull group from upto = cc in
@@ -54,6 +54,6 @@ ends_durable def o w (e ∷ rest) (suc place) group from upto fits there =
     ends_durable def o (after_entry w e) rest place group from upto fits.1 there
 
 pub pulls_durable : (def : TagDef) (o : TagOpening) (tape : List Entry) (s : State) (acked : ℕ)
-    → IsReplayed def o tape s acked → ArePullsDurable def o tape
+    → IsTapeReplayed def o tape s acked → ArePullsDurable def o tape
 pulls_durable def o tape s acked is = λ place group from upto.
-    ends_durable def o (start o) tape place group from upto is.entries
+    ends_durable def o (cell_start o) tape place group from upto is.entries

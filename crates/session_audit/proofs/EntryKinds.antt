@@ -3,7 +3,7 @@ use Rattle.std.proofs.Common.{◌≡◌, ℕ, List, [], ◌∷◌, ◌++◌, All
 use Rattle.std.proofs.lemmas.List.Elements.{All-head, All-tail, filter_map-append}
 use Rattle.tag_cell.specs.declared.entry.Entry.{Entry}
 use Rattle.tag_cell.specs.declared.entry.Entry.TheVariants.{Take, Ask, Pull, Commit}
-use Rattle.tag_cell.specs.Told.{Told}
+use Rattle.tag_cell.specs.Told.{ToldCell}
 use Rattle.session_audit.specs.declared.agenda.Item.{Item}
 use Rattle.session_audit.specs.declared.kind.Shown.{Shown}
 use Rattle.session_audit.specs.Found.{Reached, seen_by, tape_shows}
@@ -58,7 +58,7 @@ same_shown work IsOf worker old new more kind each is =
 -- ---- all cells
 
 -- what was found stays
-pub longer_found : {D : Type 0} (work : Entry → Option Shown) (IsOf : Entry → Type 0) (old new : List (Told D))
+pub longer_found : {D : Type 0} (work : Entry → Option Shown) (IsOf : Entry → Type 0) (old new : List (ToldCell D))
     (works : List Reached) → ((e : Entry) → IsOf e → work e ≡ None) → AreLonger IsOf old new → AreAllFound work old works
     → AreAllFound work new works
 longer_found work IsOf old new works kind longer before = record {
@@ -72,7 +72,7 @@ longer_found work IsOf old new works kind longer before = record {
 
 -- and what is shown
 pub longer_shown : {D A : Type 0} (work : Entry → Option Shown) (item_of : ℕ → ℕ → A → Option Item) (IsOf : Entry → Type 0)
-    (files : List (List A)) (old new : List (Told D)) → ((e : Entry) → IsOf e → work e ≡ None) → AreLonger IsOf old new
+    (files : List (List A)) (old new : List (ToldCell D)) → ((e : Entry) → IsOf e → work e ≡ None) → AreLonger IsOf old new
     → AreAllShown work item_of files old → AreAllShown work item_of files new
 longer_shown work item_of IsOf files old new kind longer before = record {
   each = λ tag worker d below.

@@ -7,7 +7,7 @@ use Rattle.plant_status.specs.declared.mismatch.Seen.{Seen}
 use Rattle.plant_status.specs.declared.mismatch.Seen.TheVariants as seen
 use Rattle.tag_cell.specs.declared.entry.TakeNo.{TakeNo}
 use Rattle.tag_cell.specs.declared.entry.TakeNo.TheVariants.{Broken, RoomFull, Full}
-use Rattle.tag_cell.specs.Told.{Told}
+use Rattle.tag_cell.specs.Told.{ToldCell}
 use Rattle.session_audit.specs.Agendas.{phase_item}
 use Rattle.session_audit.specs.Found.{AreFound, Reached, next_due}
 use Rattle.session_audit.specs.Tapes.{take_of}
@@ -22,7 +22,7 @@ number_of (seen.Number n) = n
 number_of other = 0
 
 -- a collector's row is due at a tag where none is taken
-pub unlike : {D : Type 0} (earlier tags collector : ℕ) (rooms : List ℕ) (files : List (List RawRow)) (cells : List (Told D))
+pub unlike : {D : Type 0} (earlier tags collector : ℕ) (rooms : List ℕ) (files : List (List RawRow)) (cells : List (ToldCell D))
     (works : List Reached) (d : Reached) (tag : ℕ) (why : TakeNo) → AreOver (phase_item earlier) tags files works
     → AreAllFound take_of cells works → collector < length files → length rooms ≡ length cells
     → ((t : ℕ) → t < length rooms → slice_index rooms t ≡ tag_rows t files)

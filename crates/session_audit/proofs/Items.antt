@@ -5,7 +5,7 @@ use Rattle.std.proofs.lemmas.List.{length-map}
 use Rattle.trend_num.specs.declared.value.CalcValue.{CalcValue}
 use Rattle.calc_refresh.specs.Lists.{lists_of}
 use Rattle.group_book.specs.declared.history.GroupOpening.{GroupOpening}
-use Rattle.group_book.specs.Told.{Told}
+use Rattle.group_book.specs.Told.{ToldBook}
 use Rattle.session_audit.specs.declared.opening.Difference.{Difference}
 use Rattle.session_audit.specs.declared.book_opening.KeptGroup.{KeptGroup}
 use Rattle.session_audit.specs.BookOpenings.{DifferSo, IsBookAsKept, IsDefinedSo, IsBookDifference, IsSameOpening, items_of, windows_of}
@@ -54,7 +54,7 @@ opened_same o k (Err e) is rows = tt
 
 -- ---- a book of the definition that was kept
 
-pub kept_so : {D E : Type 0} (b : Told D) (k : KeptGroup) (o : GroupOpening) (r : Result (Unit {0}) E) → o ≡ b.opening
+pub kept_so : {D E : Type 0} (b : ToldBook D) (k : KeptGroup) (o : GroupOpening) (r : Result (Unit {0}) E) → o ≡ b.opening
     → IsDefinedSo b k → OnOk r (IsSameOpening o k.opening) → OnOk r (IsBookAsKept b k)
 kept_so b k o (Ok x) is defined same = record {
   defined = defined;
@@ -62,7 +62,7 @@ kept_so b k o (Ok x) is defined same = record {
 }
 kept_so b k o (Err e) is defined same = tt
 
-pub differs_so : {D T : Type 0} (b : Told D) (k : KeptGroup) (o : GroupOpening) (r : Result T Difference) → o ≡ b.opening
+pub differs_so : {D T : Type 0} (b : ToldBook D) (k : KeptGroup) (o : GroupOpening) (r : Result T Difference) → o ≡ b.opening
     → IsDefinedSo b k → IfErr r (λ d. DifferSo o k.opening d.kept d.told) → IfErr r (λ d. IsBookDifference b k d.kept d.told)
 differs_so b k o (Ok x) is defined differs = tt
 differs_so b k o (Err d) is defined differs =

@@ -5,27 +5,27 @@ use Rattle.std.proofs.lemmas.Option.{slice_get-get_or}
 use Rattle.tag_cell.specs.declared.entry.Entry.{Entry}
 use Rattle.tag_cell.specs.declared.entry.CommitNo.{CommitNo}
 use Rattle.tag_cell.specs.declared.entry.CommitNo.TheVariants as commit
-use Rattle.tag_cell.specs.Told.{Told}
+use Rattle.tag_cell.specs.Told.{ToldCell}
 use Rattle.session_audit.specs.Cells.{AreLonger, IsLonger}
 use Rattle.session_audit.specs.Gains.{longer_refl, longer_trans}
 use Rattle.session_audit.proofs.Each.{each_refl, each_set, each_trans}
 use Rattle.session_audit.specs.CellRefusals.{IsCellRefusal, IsSo, commit_status}
 
-pub all_longer : {D : Type 0} (IsOf : Entry → Type 0) (cells : List (Told D)) → AreLonger IsOf cells cells
+pub all_longer : {D : Type 0} (IsOf : Entry → Type 0) (cells : List (ToldCell D)) → AreLonger IsOf cells cells
 all_longer IsOf cells = each_refl (IsLonger IsOf) (longer_refl IsOf) cells
 
-pub all_longer_trans : {D : Type 0} (IsOf : Entry → Type 0) (a b c : List (Told D)) → AreLonger IsOf a b → AreLonger IsOf b c
+pub all_longer_trans : {D : Type 0} (IsOf : Entry → Type 0) (a b c : List (ToldCell D)) → AreLonger IsOf a b → AreLonger IsOf b c
     → AreLonger IsOf a c
 all_longer_trans IsOf a b c first second = each_trans (IsLonger IsOf) (longer_trans IsOf) a b c first second
 
 -- one of the cells gained entries
-pub longer_set : {D : Type 0} (IsOf : Entry → Type 0) (first now : List (Told D)) (tag : ℕ) (c d : Told D)
+pub longer_set : {D : Type 0} (IsOf : Entry → Type 0) (first now : List (ToldCell D)) (tag : ℕ) (c d : ToldCell D)
     → tag < length now → IsLonger IsOf (get_or now tag d) c → AreLonger IsOf first now → AreLonger IsOf first (set now tag c)
 longer_set IsOf first now tag c d within step before =
     each_set (IsLonger IsOf) (longer_trans IsOf) first now tag c d within step before
 
 -- the cell of a tag that was just looked at
-so_here : {D : Type 0} (P : Told D → Type 0) (now : List (Told D)) (tag : ℕ) (c : Told D) → tag < length now → P c
+so_here : {D : Type 0} (P : ToldCell D → Type 0) (now : List (ToldCell D)) (tag : ℕ) (c : ToldCell D) → tag < length now → P c
     → IsSo (set now tag c) tag P
 so_here P now tag c within so = record {
   cell = c;
@@ -35,7 +35,7 @@ so_here P now tag c within so = record {
 }
 
 -- why a commit of it was refused
-pub commit_refused : {D : Type 0} (now : List (Told D)) (tag : ℕ) (c : Told D) (no : CommitNo) → tag < length now
+pub commit_refused : {D : Type 0} (now : List (ToldCell D)) (tag : ℕ) (c : ToldCell D) (no : CommitNo) → tag < length now
     → (no ≡ commit.WantOfMemory) ⊎ (c.journal.failed ≡ true) → IsCellRefusal (set now tag c) (commit_status tag no)
 commit_refused now tag c commit.Broken within (inl is) = absurd (cc)
 commit_refused now tag c commit.Broken within (inr failed) = so_here (λ x. x.journal.failed ≡ true) now tag c within failed

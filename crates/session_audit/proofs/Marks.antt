@@ -7,7 +7,7 @@ use Rattle.std.proofs.lemmas.List.{get_or_append_left, get_or_push, length_push,
 use Rattle.std.proofs.lemmas.List.Sums.{count_by-le-length, sum_by-cons}
 use Rattle.std.proofs.lemmas.Option.{get_or_from_slice_get, slice_get-get_or}
 use Rattle.calc_refresh.specs.declared.definition.GroupDefParts.{GroupDefParts}
-use Rattle.group_book.specs.Told.{Told}
+use Rattle.group_book.specs.Told.{ToldBook}
 use Rattle.session_audit.specs.declared.book_opening.KeptGroup.{KeptGroup}
 use Rattle.session_audit.specs.BookOpenings.{AgreeIn, ArePartsOf, IsDefinedSo}
 
@@ -26,7 +26,7 @@ all_true (false ∷ marks) full i within =
     absurd (omega (arith, full, count_front false marks, count_by-le-length (λ m. m) marks))
 
 -- where all parts of a definition are marked, it is the one that was kept
-pub parts_all : {D : Type 0} (b : Told D) (k : KeptGroup) (marks : List Bool) → ArePartsOf b k marks
+pub parts_all : {D : Type 0} (b : ToldBook D) (k : KeptGroup) (marks : List Bool) → ArePartsOf b k marks
     → 6 ≤ count_by (λ m. m) marks → IsDefinedSo b k
 parts_all b k marks parts full = record {
   group = parts.group.0 (marked 0 (omega arith));

@@ -4,7 +4,7 @@ use Rattle.std.proofs.lemmas.List.{get_or-map, length-map, same_lists}
 use Rattle.std.proofs.lemmas.List.Elements.{All-append, All-head, All-tail}
 use Rattle.tag_cell.specs.declared.entry.Entry.{Entry}
 use Rattle.tag_cell.specs.declared.entry.Entry.TheVariants as entry
-use Rattle.tag_cell.specs.Tapes.{Walk, after_entry, done, start, state_after, walked}
+use Rattle.tag_cell.specs.Tapes.{CellWalk, after_entry, done, cell_start, state_after, cell_walked}
 use Rattle.tag_cell.specs.Told.{Told as Cell, durable_records}
 use Rattle.session_audit.specs.Agendas.{ask_item, phase_item}
 use Rattle.session_audit.specs.Tapes.{ask_of, take_of}
@@ -84,7 +84,7 @@ asks_stay files old new step = longer_shown ask_of ask_item IsPull files old new
 -- ---- records that no crash takes away
 
 -- pulls acknowledge nothing
-walked_pulls : (w : Walk) (es more : List Entry) → All IsPull more → walked w (es ++ more) ≡ walked w es
+walked_pulls : (w : CellWalk) (es more : List Entry) → All IsPull more → cell_walked w (es ++ more) ≡ cell_walked w es
 walked_pulls w [] [] each = refl
 walked_pulls w [] (entry.Pull group from upto ∷ more) each =
     walked_pulls w [] more (All-tail IsPull (entry.Pull group from upto) more each)
@@ -98,7 +98,7 @@ durable_same : {C : Type 0} (old new : Cell C) → IsPulledMore old new → dura
 durable_same old new step =
     ap durable_records step.changed
     ∙ ap (λ w. (state_after old.def.step old.opening (done old.opening w)).records)
-    (walked_pulls (start old.opening) old.tape step.more step.each)
+    (walked_pulls (cell_start old.opening) old.tape step.more step.each)
 
 -- and those of all tags
 pub lists_same : {C : Type 0} (old new : List (Cell C)) → AreEach IsPulledMore old new → durable_lists new ≡ durable_lists old

@@ -5,7 +5,7 @@ use Rattle.std.proofs.lemmas.List.{take_more}
 use Rattle.std.proofs.lemmas.List.Elements.{All-head, All-tail, filter_map-append}
 use Rattle.group_book.specs.declared.turn.Turn.{Turn}
 use Rattle.group_book.specs.declared.turn.Turn.TheVariants.{Refresh, Ask, Save}
-use Rattle.group_book.specs.Told.{Told}
+use Rattle.group_book.specs.Told.{ToldBook}
 use Rattle.session_audit.specs.Each.{AreEach}
 use Rattle.session_audit.specs.Books.{IsAsk, IsAskedMore}
 use Rattle.session_audit.specs.GroupTapes.{refreshes, reached_by}
@@ -47,12 +47,12 @@ asks_refresh_none (Refresh versions ∷ more) each = absurd (All-head IsAsk (Ref
 asks_refresh_none (Save number moment ∷ more) each = absurd (All-head IsAsk (Save number moment) more each)
 
 -- so a book that was asked has as many as before
-pub asked_refreshes : {D : Type 0} (old new : Told D) → IsAskedMore old new → refreshes new.tape ≡ refreshes old.tape
+pub asked_refreshes : {D : Type 0} (old new : ToldBook D) → IsAskedMore old new → refreshes new.tape ≡ refreshes old.tape
 asked_refreshes old new step =
     ap (λ b. refreshes b.tape) step.changed ∙ (filter_map-append reached_by old.tape step.more
     ∙ (ap (λ l. refreshes old.tape ++ l) (asks_refresh_none step.more step.each) ∙ append-nil (refreshes old.tape)))
 
-pub asked_within : {D : Type 0} (turns : List ℕ) (old new : List (Told D)) → AreEach IsAskedMore old new
+pub asked_within : {D : Type 0} (turns : List ℕ) (old new : List (ToldBook D)) → AreEach IsAskedMore old new
     → IsWithinTurns turns old → IsWithinTurns turns new
 asked_within turns old new asked before = record {
   each = λ group d below.

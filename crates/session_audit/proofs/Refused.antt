@@ -7,7 +7,7 @@ use Rattle.trend_num.specs.Limits.{most_records}
 use Rattle.tag_cell.specs.declared.entry.TakeNo.{TakeNo}
 use Rattle.tag_cell.specs.declared.entry.TakeNo.TheVariants.{Broken, RoomFull, Full}
 use Rattle.tag_cell.specs.Tapes.{taken}
-use Rattle.tag_cell.specs.Told.{Told, take_refusal}
+use Rattle.tag_cell.specs.Told.{ToldCell, take_refusal}
 use Rattle.session_audit.specs.CellRefusals.{IsSo, IsTakeRefusal, take_status}
 
 -- the first of three tests that holds
@@ -20,7 +20,7 @@ first_of false false true x y why is = inr (inr (refl, cc))
 first_of false false false x y why is = absurd (none-some why is)
 
 -- the cell of a tag
-so_at : {D : Type 0} (P : Told D → Type 0) (cells : List (Told D)) (tag : ℕ) (d : Told D) → tag < length cells
+so_at : {D : Type 0} (P : ToldCell D → Type 0) (cells : List (ToldCell D)) (tag : ℕ) (d : ToldCell D) → tag < length cells
     → P (get_or cells tag d) → IsSo cells tag P
 so_at P cells tag d within so = record {
   cell = get_or cells tag d;
@@ -29,7 +29,7 @@ so_at P cells tag d within so = record {
 }
 
 -- what the status of a refused row tells
-pub take_refused : {D : Type 0} (rooms : List ℕ) (cells : List (Told D)) (tag : ℕ) (d : Told D) (why : TakeNo)
+pub take_refused : {D : Type 0} (rooms : List ℕ) (cells : List (ToldCell D)) (tag : ℕ) (d : ToldCell D) (why : TakeNo)
     → tag < length cells → take_refusal (get_or cells tag d) ≡ Some why
     → IsTakeRefusal rooms cells (take_status tag (get_or rooms tag 0) why)
 take_refused rooms cells tag d why within is =

@@ -6,7 +6,7 @@ use Rattle.disk_model.specs.Traces.{Trace}
 use Rattle.group_book.specs.declared.refusal.SaveNo.{SaveNo}
 use Rattle.group_book.specs.declared.refusal.SaveNo.TheVariants.{Broken, DeviceFault, WantOfMemory}
 use Rattle.group_book.specs.declared.turn.Turn.TheVariants.{Save}
-use Rattle.group_book.specs.Saves.{IsFaulted, IsSaved}
+use Rattle.group_book.specs.Saves.{IsBookFaulted, IsSaved}
 use Rattle.trend_num.specs.declared.archive.Rec.{Rec}
 use Rattle.plant_status.specs.declared.status.Status.{Status}
 use Rattle.group_book.specs.Told.{Told as Book, versions_of}
@@ -70,7 +70,7 @@ saved_on trace ticks old new (Some d) is none some =
 
 -- ---- a book that was not saved
 
-pub unsaved_more : {D : Type 0} (old new : Book D) (why : SaveNo) → (why ≡ DeviceFault → IsFaulted old new)
+pub unsaved_more : {D : Type 0} (old new : Book D) (why : SaveNo) → (why ≡ DeviceFault → IsBookFaulted old new)
     → (why ≡ Broken → new ≡ old) → (why ≡ WantOfMemory → new ≡ old) → IsRefreshedMore old new
 unsaved_more old new Broken faulted broken memory = subst (IsRefreshedMore old) (sym (broken refl)) (refreshed_refl old)
 unsaved_more old new WantOfMemory faulted broken memory = subst (IsRefreshedMore old) (sym (memory refl)) (refreshed_refl old)
@@ -87,7 +87,7 @@ unsaved_more old new DeviceFault faulted broken memory =
       same_opening = ap (λ b. b.opening) f.changed;
     }
 
-pub unsaved_cause : {D : Type 0} (old new : Book D) (why : SaveNo) → (why ≡ DeviceFault → IsFaulted old new)
+pub unsaved_cause : {D : Type 0} (old new : Book D) (why : SaveNo) → (why ≡ DeviceFault → IsBookFaulted old new)
     → (why ≡ Broken → (old.failed ≡ true) × (new ≡ old)) → IsSaveCause new why
 unsaved_cause old new Broken faulted broken = ap (λ b. b.failed) (broken refl).1 ∙ (broken refl).0
 unsaved_cause old new DeviceFault faulted broken = (faulted refl).failed

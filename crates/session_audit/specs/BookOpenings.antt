@@ -8,13 +8,13 @@ use Rattle.plant_status.specs.declared.mismatch.Seen.TheVariants.{Number}
 use Rattle.plant_status.specs.declared.status.Status.{Status}
 use Rattle.calc_refresh.specs.Lists.{lists_of}
 use Rattle.group_book.specs.declared.history.GroupOpening.{GroupOpening}
-use Rattle.group_book.specs.Told.{Told}
+use Rattle.group_book.specs.Told.{ToldBook}
 use Rattle.session_audit.specs.declared.book_opening.KeptGroup.{KeptGroup}
 use Rattle.session_audit.specs.OpeningNumbers.{AreApart}
 use Rattle.session_audit.specs.Openings.{IsOpeningMismatch}
 
 -- of a book its group, its definition and its text are kept, and what it was opened as
-pub record IsBookCopied {D : Type 0} (b : Told D) (k : KeptGroup) : Type 0 where
+pub record IsBookCopied {D : Type 0} (b : ToldBook D) (k : KeptGroup) : Type 0 where
   pub group : k.group ≡ b.group
   pub def : k.def ≡ b.def
   pub text : k.text.items ≡ b.text
@@ -33,20 +33,20 @@ pub record IsSameOpening (o known : GroupOpening) : Type 0 where
   pub faults : o.faults ≡ known.faults
 
 -- a book is of the group, the definition and the text that were kept
-pub record IsDefinedSo {D : Type 0} (b : Told D) (k : KeptGroup) : Type 0 where
+pub record IsDefinedSo {D : Type 0} (b : ToldBook D) (k : KeptGroup) : Type 0 where
   pub group : b.group ≡ k.group
   pub def : b.def ≡ k.def
   pub text : b.text ≡ k.text.items
 
 -- and was opened so
-pub record IsBookAsKept {D : Type 0} (b : Told D) (k : KeptGroup) : Type 0 where
+pub record IsBookAsKept {D : Type 0} (b : ToldBook D) (k : KeptGroup) : Type 0 where
   pub defined : IsDefinedSo b k
   pub opened : IsSameOpening b.opening k.opening
 
 -- ---- what is compared in turn
 
 -- the six parts of a definition, each marked if both have the same
-pub record ArePartsOf {D : Type 0} (b : Told D) (k : KeptGroup) (marks : List Bool) : Type 0 where
+pub record ArePartsOf {D : Type 0} (b : ToldBook D) (k : KeptGroup) (marks : List Bool) : Type 0 where
   pub six : length marks ≡ 6
   pub group : (slice_get marks 0 ≡ Some true) ↔ (b.group ≡ k.group)
   pub inputs : (slice_get marks 1 ≡ Some true) ↔ (b.def.inputs ≡ k.def.inputs)
@@ -75,7 +75,7 @@ pub record AgreeIn {A : Type 0} (places : ℕ) (found known : List A) (n : ℕ) 
 -- ---- the first difference
 
 -- fewer parts of the definition than six are marked
-pub record PartsDiffer {D : Type 0} (b : Told D) (k : KeptGroup) (kept told : Seen) : Type 0 where
+pub record PartsDiffer {D : Type 0} (b : ToldBook D) (k : KeptGroup) (kept told : Seen) : Type 0 where
   pub marks : List Bool
   pub parts : ArePartsOf b k marks
   pub fewer : count_by (λ m. m) marks < 6
@@ -97,10 +97,10 @@ pub data DifferSo (o known : GroupOpening) (kept told : Seen) : Type 0 where
       → DifferSo o known kept told
 
 -- a book differs from what was kept of it: first in its definition, or else in its opening
-pub data IsBookDifference {D : Type 0} (b : Told D) (k : KeptGroup) (kept told : Seen) : Type 0 where
+pub data IsBookDifference {D : Type 0} (b : ToldBook D) (k : KeptGroup) (kept told : Seen) : Type 0 where
   OfDefinition : PartsDiffer b k kept told → IsBookDifference b k kept told
   OfOpening : IsDefinedSo b k → DifferSo b.opening k.opening kept told → IsBookDifference b k kept told
 
 -- the book of a group differs from what was kept of it
-abbrev pub IsGroupMismatch : {D : Type 0} → List (Told D) → List KeptGroup → Status → Type 0
+abbrev pub IsGroupMismatch : {D : Type 0} → List (ToldBook D) → List KeptGroup → Status → Type 0
 IsGroupMismatch books known why = IsOpeningMismatch Group IsBookDifference books known why

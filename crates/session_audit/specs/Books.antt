@@ -4,10 +4,10 @@ use Rattle.value_rows.specs.declared.asked.Query.{Query}
 use Rattle.value_rows.specs.declared.asked.Query.TheVariants as query
 use Rattle.group_book.specs.declared.turn.Turn.{Turn}
 use Rattle.group_book.specs.declared.turn.Turn.TheVariants.{Ask}
-use Rattle.group_book.specs.Told.{Told}
+use Rattle.group_book.specs.Told.{ToldBook}
 
 -- the tape of one
-abbrev pub book_tape : {D : Type 0} → Told D → List Turn
+abbrev pub book_tape : {D : Type 0} → ToldBook D → List Turn
 book_tape b = b.tape
 
 -- a question for a value of one of so many groups, if it is for one
@@ -28,13 +28,13 @@ IsNoAsk (Ask reader row calc k reply) = ⊥
 IsNoAsk other = ⊤
 
 -- the tape is longer by questions, and nothing else has changed
-pub record IsAskedMore {D : Type 0} (old new : Told D) : Type 0 where
+pub record IsAskedMore {D : Type 0} (old new : ToldBook D) : Type 0 where
   pub more : List Turn
   pub each : All IsAsk more
   pub changed : new ≡ record old { tape = old.tape ++ more }
 
 -- the tape is longer by turns that are no questions; the group and its definition, the tags and the opening stay
-pub record IsRefreshedMore {D : Type 0} (old new : Told D) : Type 0 where
+pub record IsRefreshedMore {D : Type 0} (old new : ToldBook D) : Type 0 where
   pub more : List Turn
   pub each : All IsNoAsk more
   pub tape : new.tape ≡ old.tape ++ more

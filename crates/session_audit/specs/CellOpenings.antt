@@ -7,12 +7,12 @@ use Rattle.plant_status.specs.declared.mismatch.Seen.TheVariants.{Def, Number, S
 use Rattle.plant_status.specs.declared.status.Status.{Status}
 use Rattle.plant_status.specs.declared.unit.Unit.TheVariants.{Tag}
 use Rattle.tag_cell.specs.declared.history.TagOpening.{TagOpening}
-use Rattle.tag_cell.specs.Told.{Told}
+use Rattle.tag_cell.specs.Told.{ToldCell}
 use Rattle.session_audit.specs.declared.cell_opening.Kept.{Kept}
 use Rattle.session_audit.specs.Openings.{IsOpeningMismatch}
 
 -- its definition is kept, and what it was opened as
-pub record IsCellCopied {D : Type 0} (c : Told D) (k : Kept) : Type 0 where
+pub record IsCellCopied {D : Type 0} (c : ToldCell D) (k : Kept) : Type 0 where
   pub def : k.def ≡ c.def
   pub summary : k.opening.summary ≡ c.opening.summary
   pub records : k.opening.recs.items ≡ c.opening.recs.items
@@ -20,7 +20,7 @@ pub record IsCellCopied {D : Type 0} (c : Told D) (k : Kept) : Type 0 where
   pub faults : k.opening.faults ≡ c.opening.faults
 
 -- it is of the definition that was kept, and was opened so
-pub record IsCellAsKept {D : Type 0} (c : Told D) (k : Kept) : Type 0 where
+pub record IsCellAsKept {D : Type 0} (c : ToldCell D) (k : Kept) : Type 0 where
   pub def : c.def ≡ k.def
   pub summary : c.opening.summary ≡ k.opening.summary
   pub records : c.opening.recs.items ≡ k.opening.recs.items
@@ -60,11 +60,11 @@ pub record RecordsDiffer (found known : List Rec) (kept told : Seen) : Type 0 wh
 
 -- the first item that differs, of the definition, the faults, the moment, the state and the number of records; or else the
 -- records
-pub data IsCellDifference {D : Type 0} (c : Told D) (k : Kept) (kept told : Seen) : Type 0 where
+pub data IsCellDifference {D : Type 0} (c : ToldCell D) (k : Kept) (kept told : Seen) : Type 0 where
   OfItem : FirstDiffer (opening_items c.def c.opening) (opening_items k.def k.opening) kept told → IsCellDifference c k kept told
   OfRecords : opening_items c.def c.opening ≡ opening_items k.def k.opening
       → RecordsDiffer c.opening.recs.items k.opening.recs.items kept told → IsCellDifference c k kept told
 
 -- the cell of a tag differs from what was kept of it
-abbrev pub IsTagMismatch : {D : Type 0} → List (Told D) → List Kept → Status → Type 0
+abbrev pub IsTagMismatch : {D : Type 0} → List (ToldCell D) → List Kept → Status → Type 0
 IsTagMismatch cells known why = IsOpeningMismatch Tag IsCellDifference cells known why

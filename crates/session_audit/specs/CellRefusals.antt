@@ -13,12 +13,12 @@ use Rattle.tag_cell.specs.declared.entry.CommitNo.{CommitNo}
 use Rattle.tag_cell.specs.declared.entry.CommitNo.TheVariants as commit
 use Rattle.tag_cell.specs.declared.entry.TakeNo.{TakeNo}
 use Rattle.tag_cell.specs.declared.entry.TakeNo.TheVariants as take_no
-use Rattle.tag_cell.specs.Told.{Told}
+use Rattle.tag_cell.specs.Told.{ToldCell}
 use Rattle.tag_cell.specs.Tapes.{taken}
 
 -- the cell of this tag is so
-pub record IsSo {D : Type 0} (cells : List (Told D)) (tag : ℕ) (P : Told D → Type 0) : Type 0 where
-  pub cell : Told D
+pub record IsSo {D : Type 0} (cells : List (ToldCell D)) (tag : ℕ) (P : ToldCell D → Type 0) : Type 0 where
+  pub cell : ToldCell D
   pub there : slice_get cells tag ≡ Some cell
   pub so : P cell
 
@@ -29,7 +29,7 @@ tag_rows tag (rows ∷ files) = count_by (λ r. nat_eq r.tag tag) rows + tag_row
 
 -- a row is not taken: the tag's device has failed; its tape has as many takes as it has room for, and the number of the tag's
 -- rows is told beside; or it could have too many records
-abbrev pub IsTakeRefusal : {D : Type 0} → List ℕ → List (Told D) → Status → Type 0
+abbrev pub IsTakeRefusal : {D : Type 0} → List ℕ → List (ToldCell D) → Status → Type 0
 IsTakeRefusal rooms cells (DeviceFault (Tag tag)) = IsSo cells tag (λ c. c.journal.failed ≡ true)
 IsTakeRefusal rooms cells (Mismatch (Takes tag) kept told) = IsSo cells tag (λ c.
     (kept ≡ Number c.room) × (c.room ≤ length (taken c.tape)) × (told ≡ Number (slice_index rooms tag)))
@@ -49,7 +49,7 @@ take_status tag rows (take_no.RoomFull room) = Mismatch (Takes tag) (Number room
 take_status tag rows (take_no.Full records) = Limit Records records
 
 -- a commit is refused: the tag's device has failed, or memory is wanting
-abbrev pub IsCellRefusal : {D : Type 0} → List (Told D) → Status → Type 0
+abbrev pub IsCellRefusal : {D : Type 0} → List (ToldCell D) → Status → Type 0
 IsCellRefusal cells (DeviceFault (Tag tag)) = IsSo cells tag (λ c. c.journal.failed ≡ true)
 IsCellRefusal cells WantOfMemory = ⊤
 IsCellRefusal cells other = ⊥

@@ -5,7 +5,7 @@ use Rattle.value_rows.specs.declared.asked.Query.{Query}
 use Rattle.value_rows.specs.declared.asked.Query.TheVariants as query
 use Rattle.tag_cell.specs.declared.entry.Entry.{Entry}
 use Rattle.tag_cell.specs.declared.entry.Entry.TheVariants.{Take, Ask, Commit}
-use Rattle.tag_cell.specs.Told.{Told}
+use Rattle.tag_cell.specs.Told.{ToldCell}
 use Rattle.session_audit.specs.declared.agenda.Item.{Item}
 use Rattle.session_audit.specs.declared.kind.Shown.{Shown}
 use Rattle.session_audit.specs.Found.{Reached}
@@ -29,7 +29,7 @@ IsCommitEntry other = ⊥
 -- ---- cells that have gained entries
 
 -- the tape is longer by entries of a kind; the definition and the opening stay
-pub record IsLonger {D : Type 0} (IsOf : Entry → Type 0) (old new : Told D) : Type 0 where
+pub record IsLonger {D : Type 0} (IsOf : Entry → Type 0) (old new : ToldCell D) : Type 0 where
   pub more : List Entry
   pub each : All IsOf more
   pub tape : new.tape ≡ old.tape ++ more
@@ -37,20 +37,20 @@ pub record IsLonger {D : Type 0} (IsOf : Entry → Type 0) (old new : Told D) : 
   pub same_opening : new.opening ≡ old.opening
 
 -- so it is of each cell
-abbrev pub AreLonger : {D : Type 0} → (Entry → Type 0) → List (Told D) → List (Told D) → Type 0
+abbrev pub AreLonger : {D : Type 0} → (Entry → Type 0) → List (ToldCell D) → List (ToldCell D) → Type 0
 AreLonger IsOf old new = AreEach (IsLonger IsOf) old new
 
 -- ---- what their tapes show of workers
 
-abbrev pub cell_tape : {D : Type 0} → Told D → List Entry
+abbrev pub cell_tape : {D : Type 0} → ToldCell D → List Entry
 cell_tape c = c.tape
 
 -- how far the rows of workers stand is known of each tape
-abbrev pub AreAllFound : {D : Type 0} → (Entry → Option Shown) → List (Told D) → List Reached → Type 0
+abbrev pub AreAllFound : {D : Type 0} → (Entry → Option Shown) → List (ToldCell D) → List Reached → Type 0
 AreAllFound work cells works = AreTapesFound cell_tape work cells works
 
 -- each tape shows of each worker all its rows that are due there, and of no other worker any
-abbrev pub AreAllShown : {D A : Type 0} → (Entry → Option Shown) → (ℕ → ℕ → A → Option Item) → List (List A) → List (Told D)
+abbrev pub AreAllShown : {D A : Type 0} → (Entry → Option Shown) → (ℕ → ℕ → A → Option Item) → List (List A) → List (ToldCell D)
     → Type 0
 AreAllShown work item_of files cells = AreTapesWhole cell_tape work item_of files cells
 

@@ -5,11 +5,11 @@ use Rattle.trend_num.specs.declared.tag_def.TagDef.{TagDef}
 use Rattle.tag_cell.specs.declared.entry.Entry.{Entry}
 use Rattle.tag_cell.specs.declared.entry.Entry.TheVariants.{Pull}
 use Rattle.tag_cell.specs.declared.history.TagOpening.{TagOpening}
-use Rattle.tag_cell.specs.Tapes.{done, start, state_after, walked}
+use Rattle.tag_cell.specs.Tapes.{done, cell_start, state_after, cell_walked}
 
 -- those of the opening and of the takes that a tape's commits acknowledge
 abbrev pub durable_in : TagDef → TagOpening → List Entry → List Rec
-durable_in def o tape = (state_after def.step o (done o (walked (start o) tape))).records
+durable_in def o tape = (state_after def.step o (done o (cell_walked (cell_start o) tape))).records
 
 -- each pull of a group on a tape ended where the records end that were durable then: those of the entries before it
 abbrev pub ArePullsDurable : TagDef → TagOpening → List Entry → Type 0

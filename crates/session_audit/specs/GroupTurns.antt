@@ -7,7 +7,7 @@ use Rattle.plant_status.specs.declared.mismatch.Seen.TheVariants.{Number}
 use Rattle.plant_status.specs.declared.status.Status.{Status}
 use Rattle.plant_status.specs.declared.status.Status.TheVariants.{Mismatch}
 use Rattle.collector_pool.specs.declared.work.Refresh.{Refresh}
-use Rattle.group_book.specs.Told.{Told}
+use Rattle.group_book.specs.Told.{ToldBook}
 use Rattle.session_audit.specs.GroupTapes.{refreshes}
 
 -- how many turns the refreshers of a group make together
@@ -15,18 +15,18 @@ abbrev pub turns_for : ℕ → List Refresh → ℕ
 turns_for group refreshers = sum_by (λ r. if nat_eq r.group group then r.turns else 0) refreshers
 
 -- no group was refreshed more often than it has turns
-pub record IsWithinTurns {D : Type 0} (turns : List ℕ) (books : List (Told D)) : Type 0 where
-  pub each : (group : ℕ) (d : Told D) → group < length books
+pub record IsWithinTurns {D : Type 0} (turns : List ℕ) (books : List (ToldBook D)) : Type 0 where
+  pub each : (group : ℕ) (d : ToldBook D) → group < length books
       → length (refreshes (slice_index_or books group d).tape) ≤ slice_index turns group
 
 -- this one was: so many refreshes are kept, and fewer turns are told
-pub record IsAboveTurns {D : Type 0} (turns : List ℕ) (books : List (Told D)) (group : ℕ) (kept told : Seen) : Type 0 where
-  pub book : Told D
+pub record IsAboveTurns {D : Type 0} (turns : List ℕ) (books : List (ToldBook D)) (group : ℕ) (kept told : Seen) : Type 0 where
+  pub book : ToldBook D
   pub there : slice_get books group ≡ Some book
   pub kept_is : kept ≡ Number (length (refreshes book.tape))
   pub told_is : told ≡ Number (slice_index turns group)
   pub above : slice_index turns group < length (refreshes book.tape)
 
-abbrev pub IsTurnsMismatch : {D : Type 0} → List ℕ → List (Told D) → Status → Type 0
+abbrev pub IsTurnsMismatch : {D : Type 0} → List ℕ → List (ToldBook D) → Status → Type 0
 IsTurnsMismatch turns books (Mismatch (Turns group) kept told) = IsAboveTurns turns books group kept told
 IsTurnsMismatch turns books other = ⊥

@@ -1,6 +1,6 @@
 // How often groups were refreshed, beside the plan.
 ghost use Rattle.std.specs.Prelude.{◌≡◌, ℕ, ◌^◌, ◌<◌, ◌≤◌, All, IfErr, IfOk, OnOk, length, slice_index};
-ghost use Rattle.group_book.specs.Told.{Told};
+ghost use Rattle.group_book.specs.Told.{ToldBook};
 ghost use Rattle.session_audit.specs.GroupTapes.{refreshes};
 ghost use Rattle.session_audit.specs.GroupTurns.{IsTurnsMismatch, IsWithinTurns, turns_for};
 

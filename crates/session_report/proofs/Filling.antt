@@ -18,7 +18,7 @@ use Rattle.tag_cell.specs.declared.history.TagHistory.{TagHistory}
 use Rattle.group_book.specs.declared.history.GroupHistory.{GroupHistory}
 use Rattle.session_report.specs.declared.asker.Asker.{Asker}
 use Rattle.session_report.specs.Askers.{first_by, group_asker, is_by, tag_asker}
-use Rattle.session_report.specs.Places.{ArePlaces, IsFilled, Table, is_about, kept_first, place_by, place_in, place_of, query_in}
+use Rattle.session_report.specs.Places.{ArePlaces, ArePlacesFilled, Table, is_about, kept_first, place_by, place_in, answer_place_of, query_in}
 
 -- ---- the first place of a list at which a test passes
 
@@ -101,7 +101,7 @@ kept_twice its asked old one two = by (is_about its asked) old
 
 module _ {E : Type 0} (asker : E → Option Asker) (readers : List (List Query)) (its : UnitOf) (tape : List E) (i : ℕ) (e : E)
     (old now : Table) (there : i < length tape) (is : get_or tape i e ≡ e)
-    (filled : IsFilled asker readers its (take i tape) old now) where
+    (filled : ArePlacesFilled asker readers its (take i tape) old now) where
   -- the place of an answer, with an entry more
   place_more : (reader row : ℕ) → place_by asker reader row (take (i + 1) tape)
       ≡ option_or (place_by asker reader row (take i tape)) (cond (is_by reader row (asker e)) (Some i) None)
@@ -114,7 +114,7 @@ module _ {E : Type 0} (asker : E → Option Asker) (readers : List (List Query))
   pub filled_answer : (by : Asker) (new : Table) → asker e ≡ Some by
       → ((reader k : ℕ) → place_in new reader k ≡ kept_first its (query_in readers reader k) (place_in now reader k)
       (cond (is_by reader (k + 1) (Some by)) (Some i) None))
-      → IsFilled asker readers its (take (i + 1) tape) old new
+      → ArePlacesFilled asker readers its (take (i + 1) tape) old new
   filled_answer by new answers kept reader k =
       let asked = query_in readers reader k in
       let before = place_by asker reader (k + 1) (take i tape) in
@@ -125,7 +125,7 @@ module _ {E : Type 0} (asker : E → Option Asker) (readers : List (List Query))
       ∙ ap (kept_first its asked (place_in old reader k)) (sym (place_more reader (k + 1)))
 
   -- an entry that answers nothing changes nothing
-  pub filled_other : asker e ≡ None → IsFilled asker readers its (take (i + 1) tape) old now
+  pub filled_other : asker e ≡ None → ArePlacesFilled asker readers its (take (i + 1) tape) old now
   filled_other answers reader k =
       let asked = query_in readers reader k in
       let before = place_by asker reader (k + 1) (take i tape) in
@@ -138,7 +138,7 @@ module _ {E : Type 0} (asker : E → Option Asker) (readers : List (List Query))
 
 -- before the first entry nothing is kept
 pub filled_nothing : {E : Type 0} (asker : E → Option Asker) (readers : List (List Query)) (its : UnitOf) (table : Table)
-    → IsFilled asker readers its [] table table
+    → ArePlacesFilled asker readers its [] table table
 filled_nothing asker readers its table reader k = kept_nothing its (query_in readers reader k) (place_in table reader k)
 
 -- ---- tapes
@@ -185,12 +185,12 @@ place_on {E = E} asker tape_of reader row units x n = by (nat_eq n (length units
 -- the places on the tapes of the tags up to one are kept, and then those on that one's
 pub tags_more : (readers : List (List Query)) (tags : List TagHistory) (i : ℕ) (x : TagHistory) (old new : Table) → i < length tags
     → get_or tags i x ≡ x → ArePlaces readers (take i tags) [] old
-    → IsFilled tag_asker readers (unit.Tag i) x.tape.items old new → ArePlaces readers (take (i + 1) tags) [] new
+    → ArePlacesFilled tag_asker readers (unit.Tag i) x.tape.items old new → ArePlaces readers (take (i + 1) tags) [] new
 tags_more readers tags i x old new there is are filled reader k =
     filled reader k ∙ ap (λ p. kept_first (unit.Tag i) asked p (place_by tag_asker reader (k + 1) x.tape.items)) (are reader k)
-    ∙ ap (λ n. kept_first (unit.Tag n) asked (place_of (take i tags) [] reader k asked) (place_by tag_asker reader (k + 1) x.tape.items))
+    ∙ ap (λ n. kept_first (unit.Tag n) asked (answer_place_of (take i tags) [] reader k asked) (place_by tag_asker reader (k + 1) x.tape.items))
     (sym count)
-    ∙ by asked ∙ ap (λ l. place_of l [] reader k asked) (sym more)
+    ∙ by asked ∙ ap (λ l. answer_place_of l [] reader k asked) (sym more)
   where
     asked : Option Query
     asked = query_in readers reader k
@@ -201,8 +201,8 @@ tags_more readers tags i x old new there is are filled reader k =
     more : take (i + 1) tags ≡ take i tags ++ x ∷ []
     more = take_more tags i x there ∙ ap (λ h. take i tags ++ h ∷ []) is
 
-    by : (q : Option Query) → kept_first (unit.Tag (length (take i tags))) q (place_of (take i tags) [] reader k q)
-        (place_by tag_asker reader (k + 1) x.tape.items) ≡ place_of (take i tags ++ x ∷ []) [] reader k q
+    by : (q : Option Query) → kept_first (unit.Tag (length (take i tags))) q (answer_place_of (take i tags) [] reader k q)
+        (place_by tag_asker reader (k + 1) x.tape.items) ≡ answer_place_of (take i tags ++ x ∷ []) [] reader k q
     by None = refl
     by (Some (Tag tag query)) = place_on tag_asker (λ h. h.tape.items) reader (k + 1) (take i tags) x tag
     by (Some (Snap tag)) = refl
@@ -211,12 +211,12 @@ tags_more readers tags i x old new there is are filled reader k =
 -- and so are those of groups
 pub groups_more : (readers : List (List Query)) (tags : List TagHistory) (groups : List GroupHistory) (i : ℕ) (x : GroupHistory)
     (old new : Table) → i < length groups → get_or groups i x ≡ x → ArePlaces readers tags (take i groups) old
-    → IsFilled group_asker readers (unit.Group i) x.tape.items old new → ArePlaces readers tags (take (i + 1) groups) new
+    → ArePlacesFilled group_asker readers (unit.Group i) x.tape.items old new → ArePlaces readers tags (take (i + 1) groups) new
 groups_more readers tags groups i x old new there is are filled reader k =
     filled reader k ∙ ap (λ p. kept_first (unit.Group i) asked p (place_by group_asker reader (k + 1) x.tape.items)) (are reader k)
-    ∙ ap (λ n. kept_first (unit.Group n) asked (place_of tags (take i groups) reader k asked) (place_by group_asker reader (k + 1) x.tape.items))
+    ∙ ap (λ n. kept_first (unit.Group n) asked (answer_place_of tags (take i groups) reader k asked) (place_by group_asker reader (k + 1) x.tape.items))
     (sym count)
-    ∙ by asked ∙ ap (λ l. place_of tags l reader k asked) (sym more)
+    ∙ by asked ∙ ap (λ l. answer_place_of tags l reader k asked) (sym more)
   where
     asked : Option Query
     asked = query_in readers reader k
@@ -227,8 +227,8 @@ groups_more readers tags groups i x old new there is are filled reader k =
     more : take (i + 1) groups ≡ take i groups ++ x ∷ []
     more = take_more groups i x there ∙ ap (λ h. take i groups ++ h ∷ []) is
 
-    by : (q : Option Query) → kept_first (unit.Group (length (take i groups))) q (place_of tags (take i groups) reader k q)
-        (place_by group_asker reader (k + 1) x.tape.items) ≡ place_of tags (take i groups ++ x ∷ []) reader k q
+    by : (q : Option Query) → kept_first (unit.Group (length (take i groups))) q (answer_place_of tags (take i groups) reader k q)
+        (place_by group_asker reader (k + 1) x.tape.items) ≡ answer_place_of tags (take i groups ++ x ∷ []) reader k q
     by None = refl
     by (Some (Tag tag query)) = refl
     by (Some (Snap tag)) = refl

@@ -13,7 +13,7 @@ use Rattle.tag_cell.specs.declared.history.TagHistory.{TagHistory}
 use Rattle.group_book.specs.declared.history.GroupHistory.{GroupHistory}
 use Rattle.calc_refresh.specs.Lists.{lists_of}
 use Rattle.session_report.specs.declared.asker.Asker.{Asker}
-use Rattle.session_report.specs.Places.{ArePlaces, HasShape, IsAboutOther, IsQueryAbout, Table, is_about, kept_first, place_in, place_of, query_in}
+use Rattle.session_report.specs.Places.{ArePlaces, HasPlaceOfEach, IsAboutOther, IsQueryAbout, Table, is_about, kept_first, place_in, answer_place_of, query_in}
 use Rattle.session_report.proofs.Filling.{kept_nothing}
 use Rattle.session_report.proofs.Tables.{set_place, place_set, other_query, other_reader}
 
@@ -51,7 +51,7 @@ module _ (readers : List (List Query)) (its : UnitOf) (asker : Asker) (place : �
           sym (ap (λ c. cond c (option_or (place_in table r k) (Some place)) (place_in table r k)) not_about)
 
   -- that of an answer to a query of this unit is, where there is none
-  pub kept_some : (n : ℕ) → HasShape readers table → IsQueryAbout readers its asker n → (r k : ℕ)
+  pub kept_some : (n : ℕ) → HasPlaceOfEach readers table → IsQueryAbout readers its asker n → (r k : ℕ)
       → kept (with_place asker place table n) r k (nat_eq asker.reader r && nat_eq asker.row (k + 1))
   kept_some n shape is r k = by (nat_eq asker.reader r) (nat_eq asker.row (k + 1)) refl refl
     where
@@ -94,7 +94,7 @@ lists_kept vs asker place n old new within is changed =
 -- ---- what was found for the queries of a reader
 
 module _ (files : List (Vec Query Global)) (table : List (Vec (Option ℕ) Global)) (i : ℕ) (queries : Vec Query Global)
-    (found : Vec (Option ℕ) Global) (shape : HasShape (lists_of files) (lists_of table)) (there : i < length files)
+    (found : Vec (Option ℕ) Global) (shape : HasPlaceOfEach (lists_of files) (lists_of table)) (there : i < length files)
     (is_file : queries ≡ get_or files i queries) (is_row : found ≡ get_or table i found) where
   -- the lists of the reader
   file_at : get_or (lists_of files) i [] ≡ queries.items
@@ -112,5 +112,5 @@ module _ (files : List (Vec Query Global)) (table : List (Vec (Option ℕ) Globa
 
   -- and it is that of the answer
   pub found_at : (tags : List TagHistory) (groups : List GroupHistory) → ArePlaces (lists_of files) tags groups (lists_of table)
-      → (k : ℕ) → get_or found.items k None ≡ place_of tags groups i k (slice_get queries.items k)
-  found_at tags groups are k = sym (ap (λ l. get_or l k None) row_at) ∙ are i k ∙ ap (λ l. place_of tags groups i k (slice_get l k)) file_at
+      → (k : ℕ) → get_or found.items k None ≡ answer_place_of tags groups i k (slice_get queries.items k)
+  found_at tags groups are k = sym (ap (λ l. get_or l k None) row_at) ∙ are i k ∙ ap (λ l. answer_place_of tags groups i k (slice_get l k)) file_at

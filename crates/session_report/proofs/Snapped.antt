@@ -13,7 +13,7 @@ use Rattle.value_rows.specs.declared.asked.Query.{Query}
 use Rattle.value_rows.specs.declared.asked.Query.TheVariants.{Snap}
 use Rattle.tag_cell.specs.declared.history.TagHistory.{TagHistory}
 use Rattle.session_report.specs.Places.{IsHeldFor, held_lists, is_snap, is_snapped}
-use Rattle.session_report.specs.Report.{placed}
+use Rattle.session_report.specs.Report.{placed_answers}
 use Rattle.session_report.specs.Snaps.{held_points}
 use Rattle.calc_refresh.specs.Lists.{lists_of}
 use Rattle.session_report.proofs.Placed.{placed_get}
@@ -50,6 +50,6 @@ as_many_held readers tags lists same =
     sym (length-map lists items) ∙ ap length same ∙ length-placed 0 tags
   where
     length-placed : (n : ℕ) (hs : List TagHistory)
-        → length (placed (λ tag h. cond (is_snapped readers tag) (held_points h.tape.items) []) n hs) ≡ length hs
+        → length (placed_answers (λ tag h. cond (is_snapped readers tag) (held_points h.tape.items) []) n hs) ≡ length hs
     length-placed n [] = refl
     length-placed n (h ∷ hs) = ap suc (length-placed (n + 1) hs)

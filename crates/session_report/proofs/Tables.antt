@@ -4,7 +4,7 @@ use Rattle.std.proofs.Common.{Option, None}
 use Rattle.std.specs.Prelude.{◌≢◌}
 use Rattle.std.proofs.lemmas.List.{get_or-set_same, get_or-set_other, length-set}
 use Rattle.value_rows.specs.declared.asked.Query.{Query}
-use Rattle.session_report.specs.Places.{HasShape, Table, place_in}
+use Rattle.session_report.specs.Places.{HasPlaceOfEach, Table, place_in}
 
 -- no place
 abbrev no_place : Option ℕ
@@ -25,8 +25,8 @@ place_in_push (p ∷ table) n none zero k = none 0 k
 place_in_push (p ∷ table) n none (suc reader) k = place_in_push table n (λ r. none (suc r)) reader k
 
 -- a reader more, with a place for each query
-pub HasShape_push : (readers : List (List Query)) (table : Table) (queries : List Query) (places : List (Option ℕ)) → HasShape readers table
-    → length places ≡ length queries → HasShape (readers ++ queries ∷ []) (table ++ places ∷ [])
+pub HasShape_push : (readers : List (List Query)) (table : Table) (queries : List Query) (places : List (Option ℕ)) → HasPlaceOfEach readers table
+    → length places ≡ length queries → HasPlaceOfEach (readers ++ queries ∷ []) (table ++ places ∷ [])
 HasShape_push readers table queries places shape same = record {
   as_many = by_length readers table shape.as_many;
   rows = by_rows readers table shape.as_many shape.rows;
@@ -71,8 +71,8 @@ module _ (table : Table) (reader k : ℕ) (place : Option ℕ) where
       ap (λ row. get_or row j None) (get_or-set_other table reader r (set (get_or table reader []) k place) [] other)
 
 -- a reader's places with as many others
-pub HasShape_set : (readers : List (List Query)) (table : Table) (reader : ℕ) (places : List (Option ℕ)) → HasShape readers table
-    → length places ≡ length (get_or table reader []) → HasShape readers (set table reader places)
+pub HasShape_set : (readers : List (List Query)) (table : Table) (reader : ℕ) (places : List (Option ℕ)) → HasPlaceOfEach readers table
+    → length places ≡ length (get_or table reader []) → HasPlaceOfEach readers (set table reader places)
 HasShape_set readers table reader places shape same = record {
   as_many = length-set table reader places ∙ shape.as_many;
   rows = λ r. by_rows table reader r same ∙ shape.rows r;

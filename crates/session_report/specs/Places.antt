@@ -13,7 +13,7 @@ use Rattle.tag_cell.specs.declared.history.TagHistory.{TagHistory}
 use Rattle.group_book.specs.declared.history.GroupHistory.{GroupHistory}
 use Rattle.session_report.specs.declared.asker.Asker.{Asker}
 use Rattle.session_report.specs.Askers.{group_asker, is_by, tag_asker}
-use Rattle.session_report.specs.Report.{group_tape, placed, tag_tape}
+use Rattle.session_report.specs.Report.{group_tape, placed_answers, tag_tape}
 use Rattle.session_report.specs.Snaps.{held_points}
 
 -- ---- the points of tags
@@ -38,7 +38,7 @@ pub record AreSnapped (readers : List (List Query)) (tags : ℕ) (marks : List B
 
 -- of each tag of which a reader asks the snapshot, the points that closed its line after its takes; of the others none
 abbrev pub held_lists : List (List Query) → List TagHistory → List (List Point)
-held_lists readers tags = placed (λ tag h. if is_snapped readers tag then held_points h.tape.items else []) 0 tags
+held_lists readers tags = placed_answers (λ tag h. if is_snapped readers tag then held_points h.tape.items else []) 0 tags
 
 -- there are those of the tag whose snapshot a query asks, if it does
 abbrev pub IsHeldFor : Query → List TagHistory → List (List Point) → Type 0
@@ -58,7 +58,7 @@ abbrev pub query_in : List (List Query) → ℕ → ℕ → Option Query
 query_in readers reader k = slice_get (slice_index_or readers reader []) k
 
 -- the table has a place for each query
-pub record HasShape (readers : List (List Query)) (table : Table) : Type 0 where
+pub record HasPlaceOfEach (readers : List (List Query)) (table : Table) : Type 0 where
   pub as_many : length table ≡ length readers
   pub rows : (reader : ℕ) → length (slice_index_or table reader []) ≡ length (slice_index_or readers reader [])
 
@@ -88,17 +88,17 @@ abbrev pub kept_first : UnitOf → Option Query → Option ℕ → Option ℕ �
 kept_first its asked old new = if is_about its asked then option_or old new else old
 
 -- each query of a unit that had no place has that of its first answer on the unit's tape, and the others have theirs
-abbrev pub IsFilled : {E : Type 0} → (E → Option Asker) → List (List Query) → UnitOf → List E → Table → Table → Type 0
-IsFilled asker readers its tape old new = (reader k : ℕ) → place_in new reader k
+abbrev pub ArePlacesFilled : {E : Type 0} → (E → Option Asker) → List (List Query) → UnitOf → List E → Table → Table → Type 0
+ArePlacesFilled asker readers its tape old new = (reader k : ℕ) → place_in new reader k
     ≡ kept_first its (query_in readers reader k) (place_in old reader k) (place_by asker reader (k + 1) tape)
 
 -- the place of the answer to a query, at this place of its reader, on the tape of its tag or group
-abbrev pub place_of : List TagHistory → List GroupHistory → ℕ → ℕ → Option Query → Option ℕ
-place_of tags groups reader k (Some (Tag tag asked)) = place_by tag_asker reader (k + 1) (tag_tape tags tag)
-place_of tags groups reader k (Some (Row group calc w)) = place_by group_asker reader (k + 1) (group_tape groups group)
-place_of tags groups reader k other = None
+abbrev pub answer_place_of : List TagHistory → List GroupHistory → ℕ → ℕ → Option Query → Option ℕ
+answer_place_of tags groups reader k (Some (Tag tag asked)) = place_by tag_asker reader (k + 1) (tag_tape tags tag)
+answer_place_of tags groups reader k (Some (Row group calc w)) = place_by group_asker reader (k + 1) (group_tape groups group)
+answer_place_of tags groups reader k other = None
 
 -- each query has the place of its answer
 abbrev pub ArePlaces : List (List Query) → List TagHistory → List GroupHistory → Table → Type 0
 ArePlaces readers tags groups table = (reader k : ℕ)
-    → place_in table reader k ≡ place_of tags groups reader k (query_in readers reader k)
+    → place_in table reader k ≡ answer_place_of tags groups reader k (query_in readers reader k)

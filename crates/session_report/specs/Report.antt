@@ -19,19 +19,19 @@ use Rattle.group_book.specs.declared.history.GroupHistory.{GroupHistory}
 use Rattle.trend_report.specs.declared.group_line.LastRow.{LastRow}
 use Rattle.trend_report.specs.declared.reply_line.ReplyText.{ReplyText}
 use Rattle.trend_report.specs.declared.reply_line.ReplyText.TheVariants.{Tag, Snap, Row}
-use Rattle.trend_report.specs.Lines.{group_lines, line_of, reply_text, tag_text}
+use Rattle.trend_report.specs.Lines.{group_lines, tag_line_of, reply_text, tag_text}
 use Rattle.session_report.specs.declared.session.Session.{Session}
 use Rattle.session_report.specs.Askers.{first_by, group_asker, tag_asker}
 use Rattle.session_report.specs.Snaps.{snap_in, snap_of, told_at}
 
 -- what f makes of each element and its place, where the first one has this place
-abbrev pub placed : {A B : Type 0} → (ℕ → A → B) → ℕ → List A → List B
-placed f n [] = []
-placed f n (a ∷ rest) = f n a ∷ placed f (n + 1) rest
+abbrev pub placed_answers : {A B : Type 0} → (ℕ → A → B) → ℕ → List A → List B
+placed_answers f n [] = []
+placed_answers f n (a ∷ rest) = f n a ∷ placed_answers f (n + 1) rest
 
 -- the texts of elements, one behind the other, each by its place from 0
 abbrev pub texts : {A : Type 0} → (ℕ → A → List ℕ) → List A → List ℕ
-texts text_of xs = concat (placed text_of 0 xs)
+texts text_of xs = concat (placed_answers text_of 0 xs)
 
 -- the lines of all that a base defines and that has a history, which stands in its place
 abbrev pub lines_of_each : {A B : Type 0} → (A → B → List ℕ) → List A → List B → List ℕ
@@ -41,7 +41,7 @@ lines_of_each lines_of defs histories = texts (λ place def. option_map_or (line
 
 -- the line of a tag, as it is at the end
 abbrev pub tag_line : TagDef → TagHistory → List ℕ
-tag_line def h = tag_text (line_of def.name h.recs.items h.summary)
+tag_line def h = tag_text (tag_line_of def.name h.recs.items h.summary)
 
 -- a line of each tag of a base
 abbrev pub tag_lines : List TagDef → List TagHistory → List ℕ
@@ -103,7 +103,7 @@ last_row rows place calc = record { calc = calc.name; value = last_value (slice_
 
 -- that of each calculation
 abbrev pub last_rows : List Calculation → List (List CalcValue) → List LastRow
-last_rows calcs rows = placed (last_row rows) 0 calcs
+last_rows calcs rows = placed_answers (last_row rows) 0 calcs
 
 -- the lines of a group, as it is at the end
 abbrev pub lines_of_group : GroupDef → GroupHistory → List ℕ

@@ -2,7 +2,7 @@
 ghost use Rattle.std.specs.Prelude.{◌≡◌, [], IfOk, count_by, map, slice_index_or};
 ghost use Rattle.calc_check.specs.Group.{calculation};
 ghost use Rattle.calc_refresh.specs.Lists.{lists_of};
-ghost use Rattle.trend_report.specs.Lines.{group_text};
+ghost use Rattle.trend_report.specs.Lines.{group_line_text};
 ghost use Rattle.session_report.specs.Report.{is_refresh, last_rows, last_value, lines_of_group, windows_in};
 
 use crate::reported::Reported;
@@ -32,7 +32,7 @@ fn line_of_group(
     def: &GroupDef,
     group: &GroupHistory,
 ) -> Result<GroupLine, WantOfMemory>
-    ensures { IfOk result (λ line. group_text line ≡ lines_of_group def.now group.now) }
+    ensures { IfOk result (λ line. group_line_text line ≡ lines_of_group def.now group.now) }
 {
     let rows = group.rows.as_slice();
     let lasts = last_rows(alloc, def.calcs.defs(), rows)?;

@@ -5,7 +5,7 @@ ghost use Rattle.calc_refresh.specs.Lists.{lists_of};
 ghost use Rattle.plant_status.specs.declared.unit.Unit.TheVariants.{Group, Tag};
 ghost use Rattle.tag_cell.specs.declared.history.TagHistory.{TagHistory};
 ghost use Rattle.session_report.specs.Askers.{is_by};
-ghost use Rattle.session_report.specs.Places.{ArePlaces, HasShape, IsAboutOther, IsFilled, IsQueryAbout, is_about, kept_first, place_in, query_in};
+ghost use Rattle.session_report.specs.Places.{ArePlaces, HasPlaceOfEach, IsAboutOther, ArePlacesFilled, IsQueryAbout, is_about, kept_first, place_in, query_in};
 
 use crate::asker::{Answers, Asker};
 use group_book::GroupHistory;
@@ -25,7 +25,7 @@ pub(crate) fn places_of(
     requires few_tags { length tags.now < 2 ^ 32 }
     requires few_groups { length groups.now < 2 ^ 32 }
     ensures places { IfOk result (λ table. ArePlaces (lists_of readers.now) tags.now groups.now (lists_of table.items)) }
-    ensures shape { IfOk result (λ table. HasShape (lists_of readers.now) (lists_of table.items)) }
+    ensures shape { IfOk result (λ table. HasPlaceOfEach (lists_of readers.now) (lists_of table.items)) }
 {
     let mut table = empty_table(alloc, readers)?;
     fill_tags(&mut table, readers, tags);
@@ -38,7 +38,7 @@ fn empty_table(
     alloc: Global,
     readers: &[Vec<Query>],
 ) -> Result<Vec<Vec<Option<usize>>>, WantOfMemory>
-    ensures shape { IfOk result (λ table. HasShape (lists_of readers.now) (lists_of table.items)) }
+    ensures shape { IfOk result (λ table. HasPlaceOfEach (lists_of readers.now) (lists_of table.items)) }
     ensures none { IfOk result (λ table. (reader k : ℕ) → place_in (lists_of table.items) reader k ≡ None) }
 {
     let mut table = Vec::new(alloc);
@@ -52,10 +52,10 @@ fn empty_table(
 // Adds the places on the tapes of tags to a table that has none.
 fn fill_tags(table: &mut Vec<Vec<Option<usize>>>, readers: &[Vec<Query>], tags: &[TagHistory])
     requires few { length tags.now < 2 ^ 32 }
-    requires shape { HasShape (lists_of readers.now) (lists_of table.old.items) }
+    requires shape { HasPlaceOfEach (lists_of readers.now) (lists_of table.old.items) }
     requires none { ArePlaces (lists_of readers.now) [] [] (lists_of table.old.items) }
     ensures places { ArePlaces (lists_of readers.now) tags.now [] (lists_of table.new.items) }
-    ensures shape { HasShape (lists_of readers.now) (lists_of table.new.items) }
+    ensures shape { HasPlaceOfEach (lists_of readers.now) (lists_of table.new.items) }
 {
     for tag in 0..tags.len() {
         let unit = Unit::Tag(tag as u32);
@@ -66,10 +66,10 @@ fn fill_tags(table: &mut Vec<Vec<Option<usize>>>, readers: &[Vec<Query>], tags: 
 // Adds those on the tapes of groups to a table that has none of them.
 fn fill_groups(table: &mut Vec<Vec<Option<usize>>>, readers: &[Vec<Query>], groups: &[GroupHistory])
     requires few { length groups.now < 2 ^ 32 }
-    requires shape { HasShape (lists_of readers.now) (lists_of table.old.items) }
+    requires shape { HasPlaceOfEach (lists_of readers.now) (lists_of table.old.items) }
     ensures places { (tags : List TagHistory) → ArePlaces (lists_of readers.now) tags [] (lists_of table.old.items)
         → ArePlaces (lists_of readers.now) tags groups.now (lists_of table.new.items) }
-    ensures shape { HasShape (lists_of readers.now) (lists_of table.new.items) }
+    ensures shape { HasPlaceOfEach (lists_of readers.now) (lists_of table.new.items) }
 {
     for group in 0..groups.len() {
         let unit = Unit::Group(group as u32);
@@ -84,9 +84,9 @@ fn fill<E: Answers>(
     unit: Unit,
     tape: &[E],
 )
-    requires shape { HasShape (lists_of readers.now) (lists_of table.old.items) }
-    ensures filled { IsFilled E.asker (lists_of readers.now) unit tape.now (lists_of table.old.items) (lists_of table.new.items) }
-    ensures shape { HasShape (lists_of readers.now) (lists_of table.new.items) }
+    requires shape { HasPlaceOfEach (lists_of readers.now) (lists_of table.old.items) }
+    ensures filled { ArePlacesFilled E.asker (lists_of readers.now) unit tape.now (lists_of table.old.items) (lists_of table.new.items) }
+    ensures shape { HasPlaceOfEach (lists_of readers.now) (lists_of table.new.items) }
 {
     for place in 0..tape.len() {
         if let Some(by) = tape[place].asked_by() {
@@ -103,11 +103,11 @@ fn keep(
     by: Asker,
     place: usize,
 )
-    requires shape { HasShape (lists_of readers.now) (lists_of table.old.items) }
+    requires shape { HasPlaceOfEach (lists_of readers.now) (lists_of table.old.items) }
     ensures kept { (reader k : ℕ) → place_in (lists_of table.new.items) reader k
         ≡ kept_first unit (query_in (lists_of readers.now) reader k) (place_in (lists_of table.old.items) reader k)
         (if is_by reader (k + 1) (Some by) then Some place else None) }
-    ensures shape { HasShape (lists_of readers.now) (lists_of table.new.items) }
+    ensures shape { HasPlaceOfEach (lists_of readers.now) (lists_of table.new.items) }
 {
     if let Some(k) = query_about(readers, unit, by) {
         keep_first(&mut table[by.reader as usize], k, place);

@@ -2,7 +2,7 @@
 ghost use Rattle.std.specs.Prelude.{◌≡◌, ℕ, ◌++◌, ◌+◌, ◌<◌, ◌^◌, All, IfOk, OnOk, Some, None, length, slice_get, slice_index_or, string_bytes};
 ghost use Rattle.calc_refresh.specs.Lists.{lists_of};
 ghost use Rattle.trend_report.specs.Lines.{reply_text};
-ghost use Rattle.session_report.specs.Places.{IsHeldFor, place_of};
+ghost use Rattle.session_report.specs.Places.{IsHeldFor, answer_place_of};
 ghost use Rattle.session_report.specs.Report.{replies_to, reply_lines, reply_to};
 
 use crate::answer::{group_answer, group_tape, tag_answer, tag_tape};
@@ -55,7 +55,7 @@ fn put_reader(
     requires held { All (λ asked. IsHeldFor asked session.now.tags.items (lists_of held.now)) queries.now }
     requires as_many { length found.now ≡ length queries.now }
     requires found { (k : ℕ) → slice_index_or found.now k None
-        ≡ place_of session.now.tags.items session.now.groups.items reader k (slice_get queries.now k) }
+        ≡ answer_place_of session.now.tags.items session.now.groups.items reader k (slice_get queries.now k) }
     ensures { OnOk result (string_bytes text.new
         ≡ string_bytes text.old ++ replies_to session.now notes reader queries.now) }
 {
@@ -83,7 +83,7 @@ fn put_reply(
     requires rows { place + 1 < 2 ^ 64 }
     requires as_many { length held.now ≡ length session.now.tags.items }
     requires held { IsHeldFor query session.now.tags.items (lists_of held.now) }
-    requires found { found ≡ place_of session.now.tags.items session.now.groups.items reader place (Some query) }
+    requires found { found ≡ answer_place_of session.now.tags.items session.now.groups.items reader place (Some query) }
     ensures { OnOk result (string_bytes text.new
         ≡ string_bytes text.old ++ reply_text (reader + 1) (place + 1) (reply_to session.now notes reader place query)) }
 {
@@ -106,7 +106,7 @@ fn reply_line(
     requires rows { place + 1 < 2 ^ 64 }
     requires as_many { length held.now ≡ length session.now.tags.items }
     requires held { IsHeldFor query session.now.tags.items (lists_of held.now) }
-    requires found { found ≡ place_of session.now.tags.items session.now.groups.items reader place (Some query) }
+    requires found { found ≡ answer_place_of session.now.tags.items session.now.groups.items reader place (Some query) }
     ensures { IfOk result (λ text. string_bytes text
         ≡ reply_text (reader + 1) (place + 1) (reply_to session.now notes reader place query)) }
 {

@@ -13,7 +13,7 @@ use Rattle.calc_parser.proofs.RoundTrip.{round_trip}
 use Rattle.trend_num.specs.declared.value.Bad.TheVariants.{NoData}
 use Rattle.trend_num.specs.declared.value.CalcValue.{CalcValue}
 use Rattle.trend_num.specs.declared.value.CalcValue.TheVariants.{Bad}
-use Rattle.sheet_law.specs.Number.{bounded, measured_value, after, operated, compared}
+use Rattle.sheet_law.specs.Number.{bounded, measured_value, after_operation, operated, compared}
 use Rattle.calc_check.specs.Group.{Group, Calculation}
 use Rattle.sheet_law.specs.Value.{Scope, measure_of, scope, value, values}
 
@@ -30,19 +30,19 @@ value_agrees : (s u : Scope) (from to : ℕ) → AgreesIn s u from to → (t : T
 value_agrees s u from to agrees (num n) = refl
 value_agrees s u from to agrees (window m name) = ap measured_value (agrees.measures m name)
 value_agrees s u from to agrees (calc name) = ap (λ o. unwrap_or o (Bad NoData)) (agrees.values name)
-value_agrees s u from to agrees (neg a) = ap (λ v. after v (λ n. bounded (neg_ℤ n))) (value_agrees s u from to agrees a)
+value_agrees s u from to agrees (neg a) = ap (λ v. after_operation v (λ n. bounded (neg_ℤ n))) (value_agrees s u from to agrees a)
 value_agrees s u from to agrees (abs a) =
-    ap (λ v. after v (λ n. bounded (pos (unsigned_abs n)))) (value_agrees s u from to agrees a)
+    ap (λ v. after_operation v (λ n. bounded (pos (unsigned_abs n)))) (value_agrees s u from to agrees a)
 value_agrees s u from to agrees (two op a b) =
-    ap (λ v. after v (λ m. after (value s from to b) (operated op m))) (value_agrees s u from to agrees a)
-    ∙ ap (λ w. after (value u from to a) (λ m. after w (operated op m))) (value_agrees s u from to agrees b)
+    ap (λ v. after_operation v (λ m. after_operation (value s from to b) (operated op m))) (value_agrees s u from to agrees a)
+    ∙ ap (λ w. after_operation (value u from to a) (λ m. after_operation w (operated op m))) (value_agrees s u from to agrees b)
 value_agrees s u from to agrees (compare cmp a b) =
-    ap (λ v. after v (λ m. after (value s from to b) (compared cmp m))) (value_agrees s u from to agrees a)
-    ∙ ap (λ w. after (value u from to a) (λ m. after w (compared cmp m))) (value_agrees s u from to agrees b)
+    ap (λ v. after_operation v (λ m. after_operation (value s from to b) (compared cmp m))) (value_agrees s u from to agrees a)
+    ∙ ap (λ w. after_operation (value u from to a) (λ m. after_operation w (compared cmp m))) (value_agrees s u from to agrees b)
 value_agrees s u from to agrees (choose c a b) =
-    ap (λ v. after v (λ n. cond (int_eq n (pos 0)) (value s from to b) (value s from to a))) (value_agrees s u from to agrees c)
-    ∙ ap (λ w. after (value u from to c) (λ n. cond (int_eq n (pos 0)) w (value s from to a))) (value_agrees s u from to agrees b)
-    ∙ ap (λ w. after (value u from to c) (λ n. cond (int_eq n (pos 0)) (value u from to b) w)) (value_agrees s u from to agrees a)
+    ap (λ v. after_operation v (λ n. cond (int_eq n (pos 0)) (value s from to b) (value s from to a))) (value_agrees s u from to agrees c)
+    ∙ ap (λ w. after_operation (value u from to c) (λ n. cond (int_eq n (pos 0)) w (value s from to a))) (value_agrees s u from to agrees b)
+    ∙ ap (λ w. after_operation (value u from to c) (λ n. cond (int_eq n (pos 0)) (value u from to b) w)) (value_agrees s u from to agrees a)
 
 -- so a group's values are the same in both
 pub window_decides : (g : Group) (points others : List (List Point)) (from to : ℕ)

@@ -27,9 +27,9 @@ measured_value None = Bad NoData
 measured_value (Some n) = bounded n
 
 -- what an operation makes of its operand: a Bad one is the result
-abbrev pub after : CalcValue → (ℤ → CalcValue) → CalcValue
-after (Num n) f = f n
-after (Bad why) f = Bad why
+abbrev pub after_operation : CalcValue → (ℤ → CalcValue) → CalcValue
+after_operation (Num n) f = f n
+after_operation (Bad why) f = Bad why
 
 -- the floor of the quotient of a by b
 abbrev pub floor_div : ℤ → ℤ → ℤ

@@ -11,7 +11,7 @@ use Rattle.trend_num.specs.declared.value.Bad.TheVariants.{NoData}
 use Rattle.trend_num.specs.declared.value.CalcValue.{CalcValue}
 use Rattle.trend_num.specs.declared.value.CalcValue.TheVariants.{Bad}
 use Rattle.calc_check.specs.Group.{Group, names_of}
-use Rattle.sheet_law.specs.Number.{bounded, measured_value, after, operated, compared}
+use Rattle.sheet_law.specs.Number.{bounded, measured_value, after_operation, operated, compared}
 
 -- what names stand for: inputs for points that rise in time, earlier calculations for values
 pub record Scope : Type 0 where
@@ -24,13 +24,13 @@ value s from to (num n) = bounded n
 value s from to (window m name) =
     measured_value (option_and_then (λ ps. window_value false m ps from to) (s.points name))
 value s from to (calc name) = unwrap_or (s.earlier name) (Bad NoData)
-value s from to (neg a) = after (value s from to a) (λ n. bounded (neg_ℤ n))
-value s from to (abs a) = after (value s from to a) (λ n. bounded (pos (unsigned_abs n)))
-value s from to (two op a b) = after (value s from to a) (λ m. after (value s from to b) (operated op m))
+value s from to (neg a) = after_operation (value s from to a) (λ n. bounded (neg_ℤ n))
+value s from to (abs a) = after_operation (value s from to a) (λ n. bounded (pos (unsigned_abs n)))
+value s from to (two op a b) = after_operation (value s from to a) (λ m. after_operation (value s from to b) (operated op m))
 value s from to (compare cmp a b) =
-    after (value s from to a) (λ m. after (value s from to b) (compared cmp m))
+    after_operation (value s from to a) (λ m. after_operation (value s from to b) (compared cmp m))
 value s from to (choose c a b) =
-    after (value s from to c) (λ n. if int_eq n (pos 0) then value s from to b else value s from to a)
+    after_operation (value s from to c) (λ n. if int_eq n (pos 0) then value s from to b else value s from to a)
 
 -- what stands in a list at the place of a name among names
 abbrev pub at_name : {A : Type 0} → List (List ℕ) → List A → List ℕ → Option A

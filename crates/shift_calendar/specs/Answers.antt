@@ -14,6 +14,6 @@ given None why answer = Err why
 given (Some a) why answer = answer a
 
 -- the value that is answered, seen so, is the one that is due, or the refusal is; want of memory may come at any time
-abbrev pub Answers : {A B : Type 0} → (A → B) → Result A CalNo → Result B CalNo → Type 0
-Answers see (Ok a) due = due ≡ Ok (see a)
-Answers see (Err why) due = why ≢ WantOfMemory → due ≡ Err why
+abbrev pub AnswersShift : {A B : Type 0} → (A → B) → Result A CalNo → Result B CalNo → Type 0
+AnswersShift see (Ok a) due = due ≡ Ok (see a)
+AnswersShift see (Err why) due = why ≢ WantOfMemory → due ≡ Err why

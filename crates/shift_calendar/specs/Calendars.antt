@@ -30,8 +30,8 @@ two_digits bytes at limit =
     then Some number else None
 
 -- the minute of the day that a text `HH:MM` names, from 00:00 to 23:59
-abbrev pub start_of : List ℕ → Option ℕ
-start_of bytes =
+abbrev pub shift_start_of : List ℕ → Option ℕ
+shift_start_of bytes =
     if nat_eq (length bytes) 5 && nat_eq (slice_index bytes 2) 58
     then option_and_then (λ hour. option_map (λ minute. hour * 60 + minute) (two_digits bytes 3 60))
     (two_digits bytes 0 24)
@@ -41,7 +41,7 @@ start_of bytes =
 abbrev pub starts_after : List ℕ → Items → Option (List ℕ)
 starts_after earlier no_items = Some earlier
 starts_after earlier (item d ds) =
-    option_and_then (λ start. starts_after (earlier ++ start ∷ []) ds) (option_and_then start_of (as_str d))
+    option_and_then (λ start. starts_after (earlier ++ start ∷ []) ds) (option_and_then shift_start_of (as_str d))
 
 -- numbers that rise, the first of which is not below another number
 abbrev pub rises_from : ℕ → List ℕ → Bool
@@ -61,8 +61,8 @@ starts_at ms = option_and_then starts_of (array_at (codes "starts") ms)
 -- ---- tags
 
 -- the place of the first tag of a name
-abbrev pub place_of : List (List ℕ) → List ℕ → Option ℕ
-place_of names name = position (λ n. bytes_eq n name) names
+abbrev pub tag_place_of : List (List ℕ) → List ℕ → Option ℕ
+tag_place_of names name = position (λ n. bytes_eq n name) names
 
 -- whether a place is among earlier ones
 abbrev pub is_taken : List ℕ → ℕ → Bool
@@ -74,7 +74,7 @@ untaken earlier place = if is_taken earlier place then None else Some place
 
 -- the place of the tag of a name, where it is among no earlier places
 abbrev pub new_place : List (List ℕ) → List ℕ → List ℕ → Option ℕ
-new_place names earlier name = option_and_then (untaken earlier) (place_of names name)
+new_place names earlier name = option_and_then (untaken earlier) (tag_place_of names name)
 
 -- the places of the tags that items name, each a text, after some places
 abbrev pub places_after : List (List ℕ) → List ℕ → Items → Option (List ℕ)
@@ -92,8 +92,8 @@ places_at names ms = option_and_then (places_of names) (array_at (codes "tags") 
 -- ---- measure and zone
 
 -- the measure of a word
-abbrev pub measure_of : List ℕ → Option Measure
-measure_of word =
+abbrev pub measure_of_word : List ℕ → Option Measure
+measure_of_word word =
     if bytes_eq word (codes "area") then Some Area
     else (if bytes_eq word (codes "avg") then Some Avg
     else (if bytes_eq word (codes "total") then Some Total
@@ -105,7 +105,7 @@ measure_of word =
     else None)))))))
 
 abbrev pub measure_at : Members → Option Measure
-measure_at ms = option_and_then measure_of (string_at (codes "measure") ms)
+measure_at ms = option_and_then measure_of_word (string_at (codes "measure") ms)
 
 -- the rule of a POSIX time zone that `jiff` reads
 abbrev pub zone_at : Members → Option TzText
@@ -115,7 +115,7 @@ zone_at ms = option_and_then read_whole (string_at (codes "zone") ms)
 
 -- a calendar: its zone, the minutes of the day at which its shifts begin, the places of its tags, and its
 -- measure
-pub record Parts : Type 0 where
+pub record CalendarParts : Type 0 where
   pub zone : TimeZone
   pub starts : List ℕ
   pub tags : List ℕ
@@ -133,8 +133,8 @@ abbrev pub zone_rule : TimeZone → Option TzText
 zone_rule (Posix rule) = Some (tz_view rule)
 zone_rule _ = None
 
-abbrev pub form_of : Parts → Form
-form_of c =
+abbrev pub calendar_form_of : CalendarParts → Form
+calendar_form_of c =
     record {
       zone = zone_rule c.zone;
       starts = c.starts;

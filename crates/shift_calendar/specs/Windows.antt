@@ -55,7 +55,7 @@ AreWindows zone (s ∷ ss) [] = ⊥
 AreWindows zone (s ∷ ss) (w ∷ ws) = IsWindow zone s w × AreWindows zone ss ws
 
 -- the day of a window is one, and both ends are times
-pub record IsTimed (w : ShiftWindow) : Type 0 where
+pub record IsWindowTimed (w : ShiftWindow) : Type 0 where
   pub day : IsDay w.day
   pub from : w.from ≤ last_time
   pub to : w.to ≤ last_time

@@ -4,8 +4,8 @@ ghost use Rattle.std.specs.Str.{is_utf8};
 ghost use Rattle.toml.specs.View.{table_view};
 ghost use Rattle.jiff.specs.Words.{plain_zone};
 ghost use Rattle.trend_num.specs.Ranges.{last_time};
-ghost use Rattle.shift_calendar.specs.Answers.{Answers};
-ghost use Rattle.shift_calendar.specs.Calendars.{calendar, form_of, zone_at, zone_rule, IsSized};
+ghost use Rattle.shift_calendar.specs.Answers.{AnswersShift};
+ghost use Rattle.shift_calendar.specs.Calendars.{calendar, calendar_form_of, zone_at, zone_rule, IsSized};
 ghost use Rattle.shift_calendar.specs.Days.{IsShiftDay};
 ghost use Rattle.shift_calendar.specs.Instants.{IsInstant};
 ghost use Rattle.shift_calendar.specs.declared.refusal.CalNo.TheVariants.{BadText};
@@ -35,9 +35,9 @@ pub struct Calendar {
 impl Model for Calendar {
     ghost use Rattle.std.specs.Prelude.{map, vec_len};
     ghost use Rattle.jiff.specs.Words.{plain_zone};
-    ghost use Rattle.shift_calendar.specs.Calendars.{Parts, IsSized};
+    ghost use Rattle.shift_calendar.specs.Calendars.{CalendarParts, IsSized};
 
-    ghost Value = { Parts };
+    ghost Value = { CalendarParts };
 
     ghost view = { λ c. record {
       zone = plain_zone c.zone;
@@ -104,7 +104,7 @@ fn zone_at(table: &Table) -> Option<TimeZone<'static>>
 /// `measure` is the word of a measure.
 pub fn read_calendar(alloc: Global, bytes: &[u8], tags: &[Name]) -> Result<Calendar, CalNo>
     requires { length tags.now ≤ 2 ^ 32 }
-    ensures calendar { Answers form_of result (calendar tags.now bytes.now) }
+    ensures calendar { AnswersShift calendar_form_of result (calendar tags.now bytes.now) }
 
     // Bytes that are no text break the first rule, whatever memory there is.
     ensures no_text { is_utf8 bytes.now ≡ false → result ≡ Err (BadText 1) }

@@ -1,7 +1,7 @@
 // The measure of a calendar.
 ghost use Rattle.std.specs.Prelude.{◌≡◌};
 ghost use Rattle.toml.specs.View.{table_view};
-ghost use Rattle.shift_calendar.specs.Calendars.{measure_of, measure_at};
+ghost use Rattle.shift_calendar.specs.Calendars.{measure_of_word, measure_at};
 
 use toml::Table;
 use toml_tables::string_at;
@@ -9,7 +9,7 @@ use trend_num::Measure;
 
 // The measure of a word.
 fn measure_of(word: &str) -> Option<Measure>
-    ensures { result ≡ measure_of word.now }
+    ensures { result ≡ measure_of_word word.now }
 {
     match word {
         "area" => Some(Measure::Area),

@@ -1,7 +1,7 @@
 // The tags of a calendar.
 ghost use Rattle.std.specs.Prelude.{◌≡◌, ◌≤◌, ◌<◌, ◌^◌, [], length, vec_len, All, IfOk, IfSome, option_map};
 ghost use Rattle.toml.specs.View.{items_view, table_view};
-ghost use Rattle.shift_calendar.specs.Calendars.{place_of, is_taken, untaken, new_place, most_tags, places_after, places_at};
+ghost use Rattle.shift_calendar.specs.Calendars.{tag_place_of, is_taken, untaken, new_place, most_tags, places_after, places_at};
 
 use std::alloc::Global;
 use toml::{Table, Value};
@@ -13,7 +13,7 @@ const MAX_TAGS: usize = 64;
 
 // The place of the first tag of a name.
 fn place_of(names: &[Name], name: &[u8]) -> Option<usize>
-    ensures place { result ≡ place_of names.now name.now }
+    ensures place { result ≡ tag_place_of names.now name.now }
     ensures there { IfSome result (λ place. place < length names.now) }
 {
     names.iter().position(|n| n.bytes() == name)

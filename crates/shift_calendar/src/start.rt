@@ -1,7 +1,7 @@
 // The times of day at which shifts begin.
 ghost use Rattle.std.specs.Prelude.{◌≡◌, ◌+◌, ◌≤◌, ◌<◌, [], map, length, vec_len, IfOk, IfSome, option_map};
 ghost use Rattle.toml.specs.View.{items_view, table_view};
-ghost use Rattle.shift_calendar.specs.Calendars.{two_digits, start_of, starts_after, rises_from, starts_at};
+ghost use Rattle.shift_calendar.specs.Calendars.{two_digits, shift_start_of, starts_after, rises_from, starts_at};
 
 use std::alloc::Global;
 use toml::{Table, Value};
@@ -35,7 +35,7 @@ fn two_digits(bytes: &[u8], at: usize, limit: u16) -> Option<u16>
 
 // The time of day that a text `HH:MM` names, from 00:00 to 23:59.
 fn start_of(text: &str) -> Option<Start>
-    ensures { option_map (λ s. s.minute) result ≡ start_of text.now }
+    ensures { option_map (λ s. s.minute) result ≡ shift_start_of text.now }
 {
     let bytes = text.as_bytes();
     if bytes.len() != 5 || bytes[2] != b':' {

@@ -3,7 +3,7 @@ ghost use Rattle.std.specs.Prelude.{◌≡◌, ◌≤◌, ◌<◌, ◌++◌, len
 ghost use Rattle.trend_num.specs.Ranges.{last_time};
 ghost use Rattle.shift_calendar.specs.Days.{IsFirstDay, IsWindowDay};
 ghost use Rattle.shift_calendar.specs.Instants.{IsInstant};
-ghost use Rattle.shift_calendar.specs.Windows.{Shift, shift_at, shifts_of, shifts_over, IsWindow, AreWindows, IsTimed};
+ghost use Rattle.shift_calendar.specs.Windows.{Shift, shift_at, shifts_of, shifts_over, IsWindow, AreWindows, IsWindowTimed};
 
 use crate::calendar::Calendar;
 use std::alloc::Global;
@@ -45,7 +45,7 @@ fn window_of(calendar: &Calendar, day: i32, place: usize) -> ShiftWindow
     requires few { length calendar.now.starts ≤ 24 }
     requires day { IsWindowDay day }
     ensures window { IsWindow calendar.now.zone (shift_at calendar.now.starts day place) result }
-    ensures timed { IsTimed result }
+    ensures timed { IsWindowTimed result }
 {
     let from = calendar.start_instant(day, place);
     let to = end_instant(calendar, day, place);
@@ -66,7 +66,7 @@ fn push_day(
     requires { IsWindowDay day }
     ensures added { OnOk result ((done : List Shift) → AreWindows calendar.now.zone done windows.old.items
         → AreWindows calendar.now.zone (done ++ shifts_of calendar.now.starts day) windows.new.items) }
-    ensures timed { OnOk result (All IsTimed windows.old.items → All IsTimed windows.new.items) }
+    ensures timed { OnOk result (All IsWindowTimed windows.old.items → All IsWindowTimed windows.new.items) }
 {
     for place in 0..calendar.shift_count() {
         windows.push(window_of(calendar, day, place))?;
@@ -88,7 +88,7 @@ pub fn shift_windows(
     requires few_days { days ≤ 366 }
     ensures windows { IfOk result (λ ws.
         AreWindows cal.now.zone (shifts_over cal.now.starts day days) ws.items) }
-    ensures timed { IfOk result (λ ws. All IsTimed ws.items) }
+    ensures timed { IfOk result (λ ws. All IsWindowTimed ws.items) }
 {
     let mut windows = Vec::with_capacity(alloc, days as usize * cal.shift_count())?;
     for k in 0..days {

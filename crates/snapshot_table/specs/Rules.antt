@@ -17,7 +17,7 @@ looking snap = record { posts = false; snap = snap }
 
 -- the view number `by` fits these words: that of the first view alone may post, and then they are its last snapshot; and it
 -- has seen no more events than they count
-pub record Fits (words : Shown) (by : ℕ) (v : View) : Type 0 where
+pub record FitsPost (words : Shown) (by : ℕ) (v : View) : Type 0 where
   pub first : v.posts ≡ true → by ≡ 0
   pub last : v.posts ≡ true → v.snap ≡ snap_of words
   pub no_later : v.snap.taken ≤ words.taken
@@ -25,7 +25,7 @@ pub record Fits (words : Shown) (by : ℕ) (v : View) : Type 0 where
 -- the words fit a snapshot, and each view fits them
 pub record IsKept (words : Shown) (views : List View) : Type 0 where
   pub fit : words.size < 2 ^ 63
-  pub views_fit : (by : ℕ) (v : View) → get_elem? views by ≡ some v → Fits words by v
+  pub views_fit : (by : ℕ) (v : View) → get_elem? views by ≡ some v → FitsPost words by v
 
 -- a post: the words after it are the last snapshot of the view
 abbrev pub Posts : View → Shown → Shown → View → Type 0

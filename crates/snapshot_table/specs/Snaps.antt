@@ -6,12 +6,12 @@ use Rattle.snapshot_table.specs.declared.words.Shown.{Shown}
 use Rattle.snapshot_table.specs.declared.words.TheConstants.{NO_POINT, NOT_NEGATIVE}
 
 -- the value of a held point: its size where the kind is not negative, and else as far below -1 as the size tells
-abbrev pub value_of : ℕ → ℕ → ℤ
-value_of kind size = if nat_eq kind NOT_NEGATIVE then pos size else negsuc size
+abbrev pub held_value_of : ℕ → ℕ → ℤ
+held_value_of kind size = if nat_eq kind NOT_NEGATIVE then pos size else negsuc size
 
 -- the held point of these words
 abbrev pub point_of : Shown → Option Point
-point_of s = if nat_eq s.kind NO_POINT then None else Some (record { t = s.t; v = value_of s.kind s.size })
+point_of s = if nat_eq s.kind NO_POINT then None else Some (record { t = s.t; v = held_value_of s.kind s.size })
 
 -- the snapshot of these words
 abbrev pub snap_of : Shown → Snap

@@ -18,14 +18,14 @@ use Rattle.calc_refresh.specs.Lists.{lists_of}
 use Rattle.group_book.specs.declared.history.GroupHistory.{GroupHistory}
 use Rattle.trend_report.specs.Lines.{answer_text, number_text, points_text, reading_text}
 use Rattle.store_commands.specs.Replies.{Rows, answer_in, rows_in, snapshot_in, told, value_in}
-use Rattle.plant_store.specs.OpenedBases.{points_in}
+use Rattle.plant_store.specs.OpenedBases.{points_recovered}
 
 -- an answer is printed as what a tag answers
-pub answer_told : (core : Core) (query : TagQuery) (reply : Reply) → Answers core.step (points_in core) query reply
+pub answer_told : (core : Core) (query : TagQuery) (reply : Reply) → Answers core.step (points_recovered core) query reply
     → answer_text reply ≡ answer_in core query
 answer_told core (ask.At t) (At r) is = ap reading_text is
 answer_told core (ask.Points start end) (Points l) is =
-    let ps = points_from_to (points_in core) start end in
+    let ps = points_from_to (points_recovered core) start end in
     ap₂ points_text is.list (told_more l.more (length ps) is.more)
   where
     told_more : (b : Bool) (n : ℕ) → (IsTrue b ↔ (most_listed < n)) → b ≡ nat_lt most_listed n

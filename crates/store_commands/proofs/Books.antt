@@ -19,22 +19,22 @@ use Rattle.group_book.specs.declared.history.GroupOpening.{GroupOpening}
 use Rattle.group_book.specs.declared.refusal.RefreshNo.{RefreshNo}
 use Rattle.group_book.specs.declared.refusal.RefreshNo.TheVariants.{Ahead, CellLimit, CopyLimit, WantOfMemory}
 use Rattle.group_book.specs.Histories.{IsRight}
-use Rattle.group_book.specs.Openings.{StaysSame}
-use Rattle.group_book.specs.Told.{Told, count_of, trace_of}
+use Rattle.group_book.specs.Openings.{BookStaysSame}
+use Rattle.group_book.specs.Told.{ToldBook, count_of, trace_of}
 use Rattle.group_book.specs.InputLists.{lists_at}
 use Rattle.group_book.specs.Tapes.{cut}
-use Rattle.plant_store.specs.BookEndings.{AreGivenBack, AreHistoriesOf, IsHistoryOf, trace_after}
-use Rattle.plant_store.specs.Groups.{AllStaySame, AreBooksOpened, AreNamesOf, Devices, IsBookOpened, parts_of, records_of, text_of, trace_at}
+use Rattle.plant_store.specs.BookEndings.{AreGivenBack, AreHistoriesOf, IsHistoryOfBook, trace_after}
+use Rattle.plant_store.specs.Groups.{AllStaySame, AreBooksOpened, AreNamesOf, DeviceTraces, IsBookOpened, group_parts_of, input_records_of, group_definition_text, group_trace_at}
 use Rattle.plant_store.specs.BookRefusals.{CountsStore}
 use Rattle.plant_store.proofs.BookCauses.{back_is, front_of}
 use Rattle.plant_store.proofs.BookNames.{as_many, named_at}
 use Rattle.store_commands.specs.Replies.{Rows, rows_in}
-use Rattle.store_commands.specs.GroupRows.{AreGroupsTold, IsGroupTold, IsRowsRefusal, IsTooMuchAt, OfCells, OfCopies, OfWant}
+use Rattle.store_commands.specs.GroupRows.{AreGroupsTold, IsGroupTold, IsGroupRowsRefusal, IsTooMuchAt, OfCells, OfCopies, OfWant}
 use Rattle.store_commands.specs.Refreshing.{AreCutBooks, AreRefreshedOnce, HaveDevicesOf, IsOverIn, IsOverSome, IsRefreshedOnce, refresh_status}
 
 -- books that were opened have the first records of their tags
 pub cut_books : {D : Type 0} (trace : D → Option Trace) (ticks faults : D → ℕ) (groups : List GroupDef) (records : List (List Rec))
-    (old : Devices) (books : List (Told D)) → length books ≡ length groups
+    (old : DeviceTraces) (books : List (ToldBook D)) → length books ≡ length groups
     → AreBooksOpened trace ticks faults groups records old books → AreCutBooks records books
 cut_books trace ticks faults [] records old books many opened i b below = absurd (omega (arith, below, many))
 cut_books trace ticks faults (g ∷ gs) records old books many opened i b below =
@@ -43,11 +43,11 @@ cut_books trace ticks faults (g ∷ gs) records old books many opened i b below 
 
 -- ---- one refresh after the other
 
-pub devices_refl : {D : Type 0} (books : List (Told D)) → HaveDevicesOf books books
+pub devices_refl : {D : Type 0} (books : List (ToldBook D)) → HaveDevicesOf books books
 devices_refl books = record { as_many = refl; each = λ i b. refl }
 
 -- a book that has the device that it had
-pub devices_set : {D : Type 0} (first now : List (Told D)) (at : ℕ) (b d : Told D) → at < length now → b.dev ≡ (get_or now at d).dev
+pub devices_set : {D : Type 0} (first now : List (ToldBook D)) (at : ℕ) (b d : ToldBook D) → at < length now → b.dev ≡ (get_or now at d).dev
     → HaveDevicesOf first now → HaveDevicesOf first (set now at b)
 devices_set first now at b d within same before = record {
   as_many = length-set now at b ∙ before.as_many;
@@ -60,12 +60,12 @@ devices_set first now at b d within same before = record {
 }
 
 -- the first books are refreshed, and the others are as they were
-pub record AreRefreshedTo {D : Type 0} (records : List (List Rec)) (upto : ℕ) (old now : List (Told D)) : Type 0 where
+pub record AreRefreshedTo {D : Type 0} (records : List (List Rec)) (upto : ℕ) (old now : List (ToldBook D)) : Type 0 where
   pub devices : HaveDevicesOf old now
-  pub done : (i : ℕ) (b : Told D) → i < upto → IsRefreshedOnce records (get_or old i b) (get_or now i b)
-  pub to_come : (i : ℕ) (b : Told D) → upto ≤ i → get_or now i b ≡ get_or old i b
+  pub done : (i : ℕ) (b : ToldBook D) → i < upto → IsRefreshedOnce records (get_or old i b) (get_or now i b)
+  pub to_come : (i : ℕ) (b : ToldBook D) → upto ≤ i → get_or now i b ≡ get_or old i b
 
-pub none_refreshed : {D : Type 0} (records : List (List Rec)) (books : List (Told D)) → AreRefreshedTo records 0 books books
+pub none_refreshed : {D : Type 0} (records : List (List Rec)) (books : List (ToldBook D)) → AreRefreshedTo records 0 books books
 none_refreshed records books = record {
   devices = devices_refl books;
   done = λ i b below. absurd (omega (arith, below));
@@ -73,7 +73,7 @@ none_refreshed records books = record {
 }
 
 -- one more
-pub one_refreshed : {D : Type 0} (records : List (List Rec)) (at : ℕ) (old now : List (Told D)) (b d : Told D) → at < length now
+pub one_refreshed : {D : Type 0} (records : List (List Rec)) (at : ℕ) (old now : List (ToldBook D)) (b d : ToldBook D) → at < length now
     → d ≡ get_or now at d → IsRefreshedOnce records d b → AreRefreshedTo records at old now
     → AreRefreshedTo records (at + 1) old (set now at b)
 one_refreshed records at old now b d within is_book one before = record {
@@ -93,9 +93,9 @@ one_refreshed records at old now b d within is_book one before = record {
 
 -- one group
 group_told : {D : Type 0} (trace : D → Option Trace) (ticks faults : D → ℕ) (i : ℕ) (g : GroupDef) (recovered : List (List Rec))
-    (o : Option Trace) (b c : Told D) (h : GroupHistory) → IsBookOpened trace ticks faults i g recovered o b → c.sheet.copies ≡ recovered
+    (o : Option Trace) (b c : ToldBook D) (h : GroupHistory) → IsBookOpened trace ticks faults i g recovered o b → c.sheet.copies ≡ recovered
     → c ≡ record b { tape = c.tape; sheet = c.sheet }
-    → IsHistoryOf trace ticks faults c h → IsGroupTold g recovered o (lists_of h.rows.items)
+    → IsHistoryOfBook trace ticks faults c h → IsGroupTold g recovered o (lists_of h.rows.items)
 group_told trace ticks faults i g recovered o b c h book copies changed told = record {
   opening = b.opening;
   opened = book.opening;
@@ -112,7 +112,7 @@ group_told trace ticks faults i g recovered o b c h book copies changed told = r
 
 -- all groups
 pub all_told : {D : Type 0} (trace : D → Option Trace) (ticks faults : D → ℕ) (groups : List GroupDef) (records : List (List Rec))
-    (old : Devices) (books closed : List (Told D)) (hs : List GroupHistory) → length books ≡ length groups
+    (old : DeviceTraces) (books closed : List (ToldBook D)) (hs : List GroupHistory) → length books ≡ length groups
     → AreBooksOpened trace ticks faults groups records old books → HaveDevicesOf books closed
     → AreRefreshedOnce records books closed → AreHistoriesOf trace ticks faults closed hs
     → AreGroupsTold groups records old (rows_in hs)
@@ -124,22 +124,22 @@ all_told {D} trace ticks faults groups records old books closed hs many opened d
     rows_of : GroupHistory → Rows
     rows_of h = lists_of h.rows.items
 
-    by : (i : ℕ) (g : GroupDef) (r : Rows) → i < length groups → (bs : List (Told D)) (all : List GroupHistory) → bs ≡ books → all ≡ hs
-        → IsGroupTold (get_or groups i g) (records_of records (get_or groups i g)) (trace_at old (get_or groups i g)) (get_or (rows_in hs) i r)
+    by : (i : ℕ) (g : GroupDef) (r : Rows) → i < length groups → (bs : List (ToldBook D)) (all : List GroupHistory) → bs ≡ books → all ≡ hs
+        → IsGroupTold (get_or groups i g) (input_records_of records (get_or groups i g)) (group_trace_at old (get_or groups i g)) (get_or (rows_in hs) i r)
     by i g r below [] all is same = absurd (omega (arith, below, many, ap length is))
     by i g r below (b ∷ bs) [] is same = absurd (omega (arith, below, many, devices.as_many, told.as_many, ap length same))
     by i g r below (b ∷ bs) (h ∷ all) is same =
         let book = opened.each i g b (omega (arith, below, many)) in
         let one = once i b (omega (arith, below, many)) in
-        subst (λ x. IsGroupTold (get_or groups i g) (records_of records (get_or groups i g)) (trace_at old (get_or groups i g)) x)
+        subst (λ x. IsGroupTold (get_or groups i g) (input_records_of records (get_or groups i g)) (group_trace_at old (get_or groups i g)) x)
         (sym (get_or-map rows_of hs i h r (omega (arith, below, many, devices.as_many, told.as_many))))
-        (group_told trace ticks faults i (get_or groups i g) (records_of records (get_or groups i g)) (trace_at old (get_or groups i g))
+        (group_told trace ticks faults i (get_or groups i g) (input_records_of records (get_or groups i g)) (group_trace_at old (get_or groups i g))
         (get_or books i b) (get_or closed i b) (get_or hs i h) book (one.copies ∙ ap (lists_at records) book.tags) one.changed
         (told.each i b h (omega (arith, below, many, devices.as_many))))
 
 -- the device of each is back, and stays the same
 pub all_back : {D : Type 0} (trace : D → Option Trace) (ticks faults : D → ℕ) (groups : List GroupDef) (names : List (String Global))
-    (records : List (List Rec)) (old mid new : Devices) (books closed : List (Told D)) → AreNamesOf groups names
+    (records : List (List Rec)) (old mid new : DeviceTraces) (books closed : List (ToldBook D)) → AreNamesOf groups names
     → length books ≡ length groups → AreBooksOpened trace ticks faults groups records old books → HaveDevicesOf books closed
     → AreGivenBack trace names closed mid new → AllStaySame groups old new
 all_back trace ticks faults groups names records old mid new [] closed are many opened devices given i g below =
@@ -148,16 +148,16 @@ all_back trace ticks faults groups [] records old mid new (b ∷ bs) closed are 
     absurd (omega (arith, below, as_many groups [] are))
 all_back trace ticks faults groups (s ∷ ss) records old mid new (b ∷ bs) closed are many opened devices given i g below =
     let book = opened.each i g b (omega (arith, below, many)) in
-    let is : trace_at new (get_or groups i g) ≡ trace_of trace (get_or (b ∷ bs) i b).dev =
+    let is : group_trace_at new (get_or groups i g) ≡ trace_of trace (get_or (b ∷ bs) i b).dev =
     ap new (sym (named_at groups (s ∷ ss) i g s are below)) ∙ given i b s (omega (arith, below, many, devices.as_many))
     ∙ ap (λ dev. trace_after trace dev (mid (string_bytes (get_or (s ∷ ss) i s)))) (devices.each i b)
     ∙ back_is trace (get_or (b ∷ bs) i b).dev _ book.device in
-    subst (λ o. During (trace_at old (get_or groups i g)) o
-    (StaysSame (text_of (get_or groups i g)) (parts_of (get_or groups i g)) (trace_at old (get_or groups i g)))) (sym is) book.same
+    subst (λ o. During (group_trace_at old (get_or groups i g)) o
+    (BookStaysSame (group_definition_text (get_or groups i g)) (group_parts_of (get_or groups i g)) (group_trace_at old (get_or groups i g)))) (sym is) book.same
 
 -- none has counted a fault
 pub none_counted : {D : Type 0} (trace : D → Option Trace) (ticks faults : D → ℕ) (groups : List GroupDef) (records : List (List Rec))
-    (old : Devices) (books closed : List (Told D)) → length books ≡ length groups
+    (old : DeviceTraces) (books closed : List (ToldBook D)) → length books ≡ length groups
     → AreBooksOpened trace ticks faults groups records old books → HaveDevicesOf books closed
     → All (λ b. count_of faults b.dev ≡ 0) closed
 none_counted trace ticks faults [] records old books closed many opened devices i b below =
@@ -184,15 +184,15 @@ err_and P Q (Err e) x s same follows p = subst (λ v. IfErr v Q) (sym same) (fol
 -- ---- a group that comes to too much
 
 pub over_some : {D : Type 0} (trace : D → Option Trace) (ticks faults : D → ℕ) (groups : List GroupDef) (records : List (List Rec))
-    (old : Devices) (books : List (Told D)) (before now : ℕ) (s : Status) → length books ≡ length groups
+    (old : DeviceTraces) (books : List (ToldBook D)) (before now : ℕ) (s : Status) → length books ≡ length groups
     → AreBooksOpened trace ticks faults groups records old books → IsOverSome records books s
-    → IsRowsRefusal groups records old before now s
+    → IsGroupRowsRefusal groups records old before now s
 over_some trace ticks faults [] records old books before now s many opened over = absurd (omega (arith, over.there, many))
 over_some trace ticks faults (g ∷ gs) records old [] before now s many opened over = absurd (omega (arith, many))
 over_some {D} trace ticks faults (g ∷ gs) records old (b ∷ bs) before now s many opened over =
     by over.why (subst (λ l. IsOverIn (lists_at records l) over.why) (opened.each over.i g b over.there).tags (over.over b)) over.told
   where
-    much : (P : List (List Rec) → Type 0) → P (records_of records (get_or (g ∷ gs) over.i g)) → IsTooMuchAt (g ∷ gs) records old over.i P
+    much : (P : List (List Rec) → Type 0) → P (input_records_of records (get_or (g ∷ gs) over.i g)) → IsTooMuchAt (g ∷ gs) records old over.i P
     much P p = record {
       g = get_or (g ∷ gs) over.i g;
       openings = map (λ b. b.opening) (b ∷ bs);
@@ -202,8 +202,8 @@ over_some {D} trace ticks faults (g ∷ gs) records old (b ∷ bs) before now s 
       over = p;
     }
 
-    by : (why : RefreshNo) → IsOverIn (records_of records (get_or (g ∷ gs) over.i g)) why
-        → s ≡ refresh_status why → IsRowsRefusal (g ∷ gs) records old before now s
+    by : (why : RefreshNo) → IsOverIn (input_records_of records (get_or (g ∷ gs) over.i g)) why
+        → s ≡ refresh_status why → IsGroupRowsRefusal (g ∷ gs) records old before now s
     by (Ahead input version found) is told = absurd is
     by (CellLimit n) is told = OfCells over.i n told (much _ is)
     by (CopyLimit n) is told = OfCopies over.i n told (much _ is)

@@ -14,7 +14,7 @@ use Rattle.plant_files.specs.Reading.{faults_told}
 use Rattle.disk_model.specs.Traces.{Trace}
 use Rattle.plant_store.specs.BookRefusals.{OfDamage, OfFault, OfMemory, OfVersion, OfWindows}
 use Rattle.store_commands.specs.Replies.{IsAsked}
-use Rattle.store_commands.specs.GroupRows.{IsRowsRefusal, OfCells, OfCopies, OfOpening, OfWant}
+use Rattle.store_commands.specs.GroupRows.{IsGroupRowsRefusal, OfCells, OfCopies, OfOpening, OfWant}
 use Rattle.std.proofs.Common.{Option, ◌∷◌}
 
 -- a fact of each image of a list is one of each element
@@ -37,7 +37,7 @@ asked_lists base n m lists tags groups all =
 
 -- the refusal of a group is no fault of a file
 pub rows_no_fault : (groups : List GroupDef) (records : List (List Rec)) (old : List ℕ → Option Trace) (before now : ℕ) (why : Status)
-    → IsRowsRefusal groups records old before now why → (n : ℕ) → faults_told why n ≡ n
+    → IsGroupRowsRefusal groups records old before now why → (n : ℕ) → faults_told why n ≡ n
 rows_no_fault groups records old before now why (OfOpening (OfFault i is at)) n = ap (λ s. faults_told s n) is
 rows_no_fault groups records old before now why (OfOpening (OfDamage i a byte is at)) n = ap (λ s. faults_told s n) is
 rows_no_fault groups records old before now why (OfOpening (OfVersion i input found version is at)) n = ap (λ s. faults_told s n) is

@@ -8,11 +8,11 @@ use Rattle.plant_status.specs.declared.file.FileId.{FileId}
 use Rattle.plant_status.specs.declared.status.Status.{Status}
 use Rattle.plant_status.specs.declared.status.Status.TheVariants.{ReadFault}
 use Rattle.plant_store.specs.BookRefusals.{OfDamage, OfFault, OfMemory, OfVersion, OfWindows}
-use Rattle.store_commands.specs.GroupRows.{IsRowsRefusal, OfCells, OfCopies, OfOpening, OfWant}
+use Rattle.store_commands.specs.GroupRows.{IsGroupRowsRefusal, OfCells, OfCopies, OfOpening, OfWant}
 
 -- the refusal of a group is no read fault
 pub group_is_no_fault : (groups : List GroupDef) (records : List (List Rec)) (old : List ℕ → Option Trace) (before now : ℕ) (why : Status)
-    → IsRowsRefusal groups records old before now why → (which : FileId) → why ≢ ReadFault which
+    → IsGroupRowsRefusal groups records old before now why → (which : FileId) → why ≢ ReadFault which
 group_is_no_fault groups records old before now why (OfOpening (OfFault i is at)) which same = cc
 group_is_no_fault groups records old before now why (OfOpening (OfDamage i a byte is at)) which same = cc
 group_is_no_fault groups records old before now why (OfOpening (OfVersion i input found version is at)) which same = cc

@@ -14,30 +14,30 @@ use Rattle.plant_status.specs.declared.unit.Unit.TheVariants.{Group}
 use Rattle.plant_files.specs.Asked.{ToldFiles}
 use Rattle.plant_files.specs.Reading.{faults_told}
 use Rattle.plant_files.specs.Texts.{IsBaseFile}
-use Rattle.plant_store.specs.Tags.{AllStaySame, AreOthersSame}
+use Rattle.plant_store.specs.Tags.{AllStaySame, AreOtherTagsSame}
 use Rattle.plant_store.specs.Tags as tag
-use Rattle.group_book.specs.Openings.{StaysSame}
-use Rattle.plant_store.specs.Groups.{Devices, parts_of, text_of, trace_at}
+use Rattle.group_book.specs.Openings.{BookStaysSame}
+use Rattle.plant_store.specs.Groups.{DeviceTraces, group_parts_of, group_definition_text, group_trace_at}
 use Rattle.plant_store.specs.Groups as group
 use Rattle.plant_store.specs.BookRefusals as groups
 use Rattle.plant_store.specs.OpenedBases.{CountsDevices}
 use Rattle.store_commands.proofs.Stores.{groups_same, kept_after, names_apart}
 use Rattle.store_commands.specs.FrameCommands.{HaveStayed}
 use Rattle.store_commands.specs.FrameNames.{IsNamed, IsNameRefusal, IsPlaced, NoCalculation, NoGroup}
-use Rattle.store_commands.specs.FrameRows.{AreRows, IsRowsRefusal, OfCells, OfCopies, OfDamage, OfFault, OfMemory, OfVersion, OfWindows}
+use Rattle.store_commands.specs.FrameRows.{AreFrameRows, IsFrameRowsRefusal, OfCells, OfCopies, OfDamage, OfFault, OfMemory, OfVersion, OfWindows}
 use Rattle.store_commands.proofs.FramePlaces.{named_group}
 
 -- ---- devices
 
 -- the devices of tags are as they were where that of one group alone has changed
-pub tags_same : (g : GroupDef) (mid new : Devices) → ((n : List ℕ) → n ≢ group.device_name g.name → new n ≡ mid n)
+pub tags_same : (g : GroupDef) (mid new : DeviceTraces) → ((n : List ℕ) → n ≢ group.device_name g.name → new n ≡ mid n)
     → (t : _) → tag.trace_of new t ≡ tag.trace_of mid t
 tags_same g mid new others t = others (tag.device_name t.name) (λ same. names_apart g.name t.name (sym same))
 
 -- first the tags are opened, and then the group
-pub have_stayed : (name group_name calc_name : List ℕ) (told : ToldFiles) (base : Base) (g : GroupDef) (i k : ℕ) (old mid new : Devices)
+pub have_stayed : (name group_name calc_name : List ℕ) (told : ToldFiles) (base : Base) (g : GroupDef) (i k : ℕ) (old mid new : DeviceTraces)
     → IsBaseFile (told name) base → IsNamed base.groups.items group_name calc_name g i k → AllStaySame base.tags.items old mid
-    → AreOthersSame base.tags.items old mid → During (trace_at mid g) (trace_at new g) (StaysSame (text_of g) (parts_of g) (trace_at mid g))
+    → AreOtherTagsSame base.tags.items old mid → During (group_trace_at mid g) (group_trace_at new g) (BookStaysSame (group_definition_text g) (group_parts_of g) (group_trace_at mid g))
     → ((n : List ℕ) → n ≢ group.device_name g.name → new n ≡ mid n) → HaveStayed name group_name calc_name told old new
 have_stayed name group_name calc_name told base g i k old mid new read named tags others stays rest = record {
   base = base;
@@ -47,15 +47,15 @@ have_stayed name group_name calc_name told base g i k old mid new read named tag
   read = read;
   named = named;
   tags_stay = kept_after base.tags.items old mid new (tags_same g mid new rest) tags;
-  group_stays = subst (λ o. During o (trace_at new g) (StaysSame (text_of g) (parts_of g) o)) (groups_same base.tags.items old mid others g) stays;
+  group_stays = subst (λ o. During o (group_trace_at new g) (BookStaysSame (group_definition_text g) (group_parts_of g) o)) (groups_same base.tags.items old mid others g) stays;
   rest = λ n no_tag no_group. rest n no_group ∙ others n no_tag;
 }
 
 -- so it is of the group that is read at its place
-pub stayed_at : (name group_name calc_name : List ℕ) (told : ToldFiles) (base : Base) (g : GroupDef) (i k : ℕ) (old mid new : Devices)
+pub stayed_at : (name group_name calc_name : List ℕ) (told : ToldFiles) (base : Base) (g : GroupDef) (i k : ℕ) (old mid new : DeviceTraces)
     → IsBaseFile (told name) base → IsPlaced base.groups.items group_name calc_name i k → g ≡ get_or base.groups.items i g
-    → AllStaySame base.tags.items old mid → AreOthersSame base.tags.items old mid
-    → During (trace_at mid g) (trace_at new g) (StaysSame (text_of g) (parts_of g) (trace_at mid g))
+    → AllStaySame base.tags.items old mid → AreOtherTagsSame base.tags.items old mid
+    → During (group_trace_at mid g) (group_trace_at new g) (BookStaysSame (group_definition_text g) (group_parts_of g) (group_trace_at mid g))
     → ((n : List ℕ) → n ≢ group.device_name g.name → new n ≡ mid n) → HaveStayed name group_name calc_name told old new
 stayed_at name group_name calc_name told base g i k old mid new read placed is =
     have_stayed name group_name calc_name told base g i k old mid new read
@@ -63,15 +63,15 @@ stayed_at name group_name calc_name told base g i k old mid new read placed is =
 
 -- what is said of the rows after the tags were opened is so of the device before
 pub rows_before : (g : GroupDef) (k : ℕ) (recovered : List (List Rec)) (o p : Option Trace) (saved refreshed : List CalcValue) → p ≡ o
-    → AreRows g k recovered p saved refreshed → AreRows g k recovered o saved refreshed
-rows_before g k recovered o p saved refreshed same rows = subst (λ x. AreRows g k recovered x saved refreshed) same rows
+    → AreFrameRows g k recovered p saved refreshed → AreFrameRows g k recovered o saved refreshed
+rows_before g k recovered o p saved refreshed same rows = subst (λ x. AreFrameRows g k recovered x saved refreshed) same rows
 
 -- and of a refusal, where no fault was counted until then
 pub refusal_before : (i : ℕ) (g : GroupDef) (recovered : List (List Rec)) (o p : Option Trace) (before mid now : ℕ) (why : Status) → p ≡ o
-    → (before < 2 ^ 64 → mid ≡ before) → IsRowsRefusal i g recovered p mid now why → IsRowsRefusal i g recovered o before now why
-refusal_before i g recovered o p before mid now why same first is = subst (λ x. IsRowsRefusal i g recovered x before now why) same (by is)
+    → (before < 2 ^ 64 → mid ≡ before) → IsFrameRowsRefusal i g recovered p mid now why → IsFrameRowsRefusal i g recovered o before now why
+refusal_before i g recovered o p before mid now why same first is = subst (λ x. IsFrameRowsRefusal i g recovered x before now why) same (by is)
   where
-    by : IsRowsRefusal i g recovered p mid now why → IsRowsRefusal i g recovered p before now why
+    by : IsFrameRowsRefusal i g recovered p mid now why → IsFrameRowsRefusal i g recovered p before now why
     by (OfFault told rose) = OfFault told (λ small. subst (λ n. Rose n now) (first small) (rose (subst (λ n. n < 2 ^ 64) (sym (first small)) small)))
     by (OfDamage at byte told shows) = OfDamage at byte told shows
     by (OfVersion input found version told shows) = OfVersion input found version told shows
@@ -95,7 +95,7 @@ names_no_read groups group_name calc_name why (NoCalculation g told there named 
 
 -- nor is the refusal of a group
 pub rows_no_read : (i : ℕ) (g : GroupDef) (recovered : List (List Rec)) (o : Option Trace) (before now : ℕ) (why : Status)
-    → IsRowsRefusal i g recovered o before now why → (which : FileId) → why ≢ ReadFault which
+    → IsFrameRowsRefusal i g recovered o before now why → (which : FileId) → why ≢ ReadFault which
 rows_no_read i g recovered o before now why (OfFault told rose) which same = cc
 rows_no_read i g recovered o before now why (OfDamage at byte told shows) which same = cc
 rows_no_read i g recovered o before now why (OfVersion input found version told shows) which same = cc

@@ -10,15 +10,15 @@ use Rattle.group_layout.specs.Images.{IsGroupDamage}
 use Rattle.group_book.specs.Openings.{SavesAhead, SavesShape, StandsForGroup}
 use Rattle.tag_base.specs.declared.definition.GroupDef.{GroupDef}
 use Rattle.plant_status.specs.declared.status.Status.{Status}
-use Rattle.plant_store.specs.Groups.{parts_of, text_of}
-use Rattle.store_commands.specs.FrameRows.{IsRowsRefusal, OfCells, OfCopies, OfDamage, OfFault, OfMemory, OfVersion, OfWindows}
+use Rattle.plant_store.specs.Groups.{group_parts_of, group_definition_text}
+use Rattle.store_commands.specs.FrameRows.{IsFrameRowsRefusal, OfCells, OfCopies, OfDamage, OfFault, OfMemory, OfVersion, OfWindows}
 use Rattle.store_commands.specs.FrameSteps.{CellsAreOver, CopiesAreOver, CopyingWants, DeviceFails, DeviceIsDamaged, IsBringRefusal, IsSavedRefusal, OfAhead, OfLimit, OfShape, OfSheet, OpeningWants, RefreshWants, SheetWants, VersionIsAhead, scan_status}
 
 -- why what was saved is not read
 pub saved_refused : (i : ℕ) (g : GroupDef) (o : Option Trace) (before now : ℕ) (why : ScanNo)
     → (before < 2 ^ 64 → why ≡ scan.DeviceFault → Rose before now)
     → ((at : ℕ) (byte : Option ℕ) → why ≡ scan.Damaged at byte
-    → Shows o (λ c. IsGroupDamage (text_of g) (length g.inputs.items) (length g.calcs.calcs) c at byte))
+    → Shows o (λ c. IsGroupDamage (group_definition_text g) (length g.inputs.items) (length g.calcs.calcs) c at byte))
     → IsSavedRefusal i g o before now (scan_status i why)
 saved_refused i g o before now scan.DeviceFault rose damage = DeviceFails refl (λ small. rose small refl)
 saved_refused i g o before now (scan.Damaged at byte) rose damage = DeviceIsDamaged at byte refl (damage at byte refl)
@@ -26,7 +26,7 @@ saved_refused i g o before now scan.WantOfMemory rose damage = OpeningWants refl
 
 -- then there are no rows
 pub of_saved : (i : ℕ) (g : GroupDef) (recovered : List (List Rec)) (o : Option Trace) (before now : ℕ) (why : Status)
-    → IsSavedRefusal i g o before now why → IsRowsRefusal i g recovered o before now why
+    → IsSavedRefusal i g o before now why → IsFrameRowsRefusal i g recovered o before now why
 of_saved i g recovered o before now why (DeviceFails told rose) = OfFault told rose
 of_saved i g recovered o before now why (DeviceIsDamaged at byte told shows) = OfDamage at byte told shows
 of_saved i g recovered o before now why (OpeningWants told) = OfMemory told
@@ -38,16 +38,16 @@ shows_map (Some t) P Q follows shows = follows _ shows
 
 -- nor are there where what the device stood for is not brought up
 pub of_bring : (i : ℕ) (g : GroupDef) (versions : List ℕ) (rows : List (List CalcValue)) (recovered : List (List Rec)) (o : Option Trace)
-    (before now : ℕ) (why : Status) → Shows o (StandsForGroup (text_of g) (parts_of g) versions rows)
-    → IsBringRefusal i g versions rows recovered why → IsRowsRefusal i g recovered o before now why
+    (before now : ℕ) (why : Status) → Shows o (StandsForGroup (group_definition_text g) (group_parts_of g) versions rows)
+    → IsBringRefusal i g versions rows recovered why → IsFrameRowsRefusal i g recovered o before now why
 of_bring i g versions rows recovered o before now why stood (OfSheet (OfAhead (VersionIsAhead input found version told ahead))) =
     OfVersion input found version told
-    (shows_map o (StandsForGroup (text_of g) (parts_of g) versions rows) (SavesAhead (text_of g) (parts_of g) recovered input version found)
+    (shows_map o (StandsForGroup (group_definition_text g) (group_parts_of g) versions rows) (SavesAhead (group_definition_text g) (group_parts_of g) recovered input version found)
     (λ c stands. record { versions = versions; rows = rows; stands = stands; ahead = ahead }) stood)
 of_bring i g versions rows recovered o before now why stood (OfSheet (OfAhead (CopyingWants told))) = OfMemory told
 of_bring i g versions rows recovered o before now why stood (OfSheet (OfShape windows size told shape)) =
     OfWindows windows size told
-    (shows_map o (StandsForGroup (text_of g) (parts_of g) versions rows) (SavesShape (text_of g) (parts_of g) recovered windows size)
+    (shows_map o (StandsForGroup (group_definition_text g) (group_parts_of g) versions rows) (SavesShape (group_definition_text g) (group_parts_of g) recovered windows size)
     (λ c stands. record { versions = versions; rows = rows; stands = stands; shape = shape }) stood)
 of_bring i g versions rows recovered o before now why stood (OfSheet (SheetWants told)) = OfMemory told
 of_bring i g versions rows recovered o before now why stood (OfLimit (CellsAreOver number told is above)) = OfCells number told is above

@@ -10,7 +10,7 @@ use Rattle.event_frames.specs.declared.frame.Edit.TheVariants.{Gone, New}
 use Rattle.event_frames.specs.declared.frame.Frame.{Frame}
 use Rattle.event_frames.specs.Edits.{AreEdits}
 use Rattle.event_frames.specs.Frames.{AreFrames, IsFrame}
-use Rattle.store_commands.specs.FrameLines.{IsTimed, frame_of}
+use Rattle.store_commands.specs.FrameLines.{IsFrameTimed, frame_of}
 use Rattle.store_commands.specs.FrameSteps.{AreTimes}
 
 -- the last window of a frame is one of its row
@@ -25,7 +25,7 @@ within_row truths least f is = elim (cases_lt f.upto (length truths)) [
 
 -- a frame of a row of so many windows that end at times
 pub timed : (g : GroupDef) (n : ℕ) (truths : List Bool) (least : ℕ) (f : Frame) → 1 ≤ g.period → AreTimes g n → length truths ≤ n
-    → IsFrame truths least f → IsTimed g f
+    → IsFrame truths least f → IsFrameTimed g f
 timed g n truths least f some times few is =
     let below = within_row truths least f is in
     let end = times f.upto (omega (arith, below, few)) in
@@ -40,19 +40,19 @@ timed g n truths least f some times few is =
 
 -- all frames of a row
 pub timed_frames : (g : GroupDef) (n : ℕ) (truths : List Bool) (least : ℕ) (fs : List Frame) → 1 ≤ g.period → AreTimes g n
-    → length truths ≤ n → AreFrames truths least fs → All (IsTimed g) fs
+    → length truths ≤ n → AreFrames truths least fs → All (IsFrameTimed g) fs
 timed_frames g n truths least fs some times few are =
-    All-weaker (IsFrame truths least) (IsTimed g) (λ f is. timed g n truths least f some times few is) fs are.only
+    All-weaker (IsFrame truths least) (IsFrameTimed g) (λ f is. timed g n truths least f some times few is) fs are.only
 
 -- all edits from one row to another
 pub timed_edits : (g : GroupDef) (n : ℕ) (old new : List Bool) (least : ℕ) (es : List Edit) → 1 ≤ g.period → AreTimes g n
-    → length old ≤ n → length new ≤ n → AreEdits old new least es → All (λ e. IsTimed g (frame_of e)) es
+    → length old ≤ n → length new ≤ n → AreEdits old new least es → All (λ e. IsFrameTimed g (frame_of e)) es
 timed_edits g n old new least es some times few more are =
-    subst (All (λ e. IsTimed g (frame_of e))) (sym are.told)
-    (All-append (λ e. IsTimed g (frame_of e)) (map Gone are.gone) (map New are.came)
-    (All-map (λ e. IsTimed g (frame_of e)) Gone are.gone
-    (All-weaker (λ f. IsFrame old least f × ¬ IsFrame new least f) (IsTimed g) (λ f is. timed g n old least f some times few is.0)
+    subst (All (λ e. IsFrameTimed g (frame_of e))) (sym are.told)
+    (All-append (λ e. IsFrameTimed g (frame_of e)) (map Gone are.gone) (map New are.came)
+    (All-map (λ e. IsFrameTimed g (frame_of e)) Gone are.gone
+    (All-weaker (λ f. IsFrame old least f × ¬ IsFrame new least f) (IsFrameTimed g) (λ f is. timed g n old least f some times few is.0)
     are.gone are.are_gone.only))
-    (All-map (λ e. IsTimed g (frame_of e)) New are.came
-    (All-weaker (λ f. IsFrame new least f × ¬ IsFrame old least f) (IsTimed g) (λ f is. timed g n new least f some times more is.0)
+    (All-map (λ e. IsFrameTimed g (frame_of e)) New are.came
+    (All-weaker (λ f. IsFrame new least f × ¬ IsFrame old least f) (IsFrameTimed g) (λ f is. timed g n new least f some times more is.0)
     are.came are.have_come.only)))

@@ -11,15 +11,15 @@ use Rattle.group_book.specs.declared.refusal.RefreshNo.{RefreshNo}
 use Rattle.group_book.specs.declared.refusal.RefreshNo.TheVariants.{Ahead, CellLimit, CopyLimit, WantOfMemory}
 use Rattle.group_book.specs.declared.turn.Turn.{Turn}
 use Rattle.group_book.specs.InputLists.{IsListsRefusal, lists_at}
-use Rattle.group_book.specs.Refusals.{IsToldOf}
+use Rattle.group_book.specs.Refusals.{IsBookToldOf}
 use Rattle.group_book.specs.Tapes.{cut, uncut}
-use Rattle.group_book.specs.Told.{IsPublished, Told, versions_of}
+use Rattle.group_book.specs.Told.{IsPublished, ToldBook, versions_of}
 use Rattle.group_book.proofs.Causes.{sheet_refused}
 use Rattle.group_book.proofs.InputLists.{longer-uncut}
 use Rattle.store_commands.specs.Refreshing.{IsCutBook, IsOverIn, IsRefreshedOnce}
 
 -- the first records of lists, and those behind them, are the lists
-whole_book : {D : Type 0} (records : List (List Rec)) (b : Told D) → IsCutBook records b → length b.tags ≡ length b.sheet.copies
+whole_book : {D : Type 0} (records : List (List Rec)) (b : ToldBook D) → IsCutBook records b → length b.tags ≡ length b.sheet.copies
     → longer b.sheet.copies (uncut (versions_of b) (lists_at records b.tags)) ≡ lists_at records b.tags
 whole_book records b so inputs =
     ap (λ l. longer l (uncut (versions_of b) (lists_at records b.tags))) so.copies
@@ -27,7 +27,7 @@ whole_book records b so inputs =
     (length-map b.tags (λ tag. get_or records tag []) ∙ inputs ∙ sym (length-map b.sheet.copies length))
 
 -- a book into which all was taken
-pub refreshed_once : {D : Type 0} (records : List (List Rec)) (old new : Told D) → IsCutBook records old
+pub refreshed_once : {D : Type 0} (records : List (List Rec)) (old new : ToldBook D) → IsCutBook records old
     → length old.tags ≡ length old.sheet.copies → IsPublished (uncut (versions_of old) (lists_at records old.tags)) old new
     → IsRefreshedOnce records old new
 refreshed_once records old new so inputs published = record {
@@ -46,7 +46,7 @@ cut_within (v ∷ vs) (rs ∷ rss) zero = omega (arith, length-take v rs)
 cut_within (v ∷ vs) (rs ∷ rss) (suc i) = cut_within vs rss i
 
 -- so no version is above its list
-none_ahead : {D : Type 0} (records : List (List Rec)) (b : Told D) (i : ℕ) → IsCutBook records b → i < length b.sheet.copies
+none_ahead : {D : Type 0} (records : List (List Rec)) (b : ToldBook D) (i : ℕ) → IsCutBook records b → i < length b.sheet.copies
     → get_or (versions_of b) i 0 ≤ length (get_or (lists_at records b.tags) i [])
 none_ahead records b i so within =
     let version = get_or-map length b.sheet.copies i [] 0 within in
@@ -64,7 +64,7 @@ copies_told cells records n is = by (nat_lt most_cells cells) (nat_lt most_copie
     by false false e = absurd (cc (e))
 
 over_of : (cells : ℕ) (all recovered : List (List Rec)) (no : RefreshNo) → all ≡ recovered
-    → IsToldOf (limit_fault cells (total_length all)) no → IsOverIn recovered no
+    → IsBookToldOf (limit_fault cells (total_length all)) no → IsOverIn recovered no
 over_of cells all recovered (Ahead input version records) same told = absurd told
 over_of cells all recovered (CellLimit n) same told = sheet_refused [] cells (total_length all) (CellLimit n) told
 over_of cells all recovered (CopyLimit n) same told = (
@@ -74,7 +74,7 @@ over_of cells all recovered (CopyLimit n) same told = (
 over_of cells all recovered WantOfMemory same told = tt
 
 -- a book that is refused would have come to too much
-pub over_once : {D : Type 0} (records : List (List Rec)) (b : Told D) (no : RefreshNo) → IsCutBook records b
+pub over_once : {D : Type 0} (records : List (List Rec)) (b : ToldBook D) (no : RefreshNo) → IsCutBook records b
     → length b.tags ≡ length b.sheet.copies → IsListsRefusal (lists_at records b.tags) b no → IsOverIn (lists_at records b.tags) no
 over_once records b (Ahead input version found) so inputs refused =
     absurd (omega (

@@ -13,12 +13,12 @@ use Rattle.plant_files.specs.RowFiles.{ToldFiles}
 use Rattle.plant_files.specs.Texts.{IsBaseFile}
 use Rattle.plant_store.specs.Tags as tag
 use Rattle.plant_store.specs.Groups as group
-use Rattle.plant_store.specs.Groups.{Devices, records_of, trace_at}
+use Rattle.plant_store.specs.Groups.{DeviceTraces, input_records_of, group_trace_at}
 use Rattle.plant_store.specs.BookRefusals.{IsRefusal}
 use Rattle.plant_store.proofs.BookDevices as book
 use Rattle.store_commands.specs.Replies.{Rows}
-use Rattle.store_commands.specs.Commands.{AreAllKept, AreRestSame}
-use Rattle.store_commands.specs.GroupRows.{AreGroupsTold, IsGroupTold, IsRowsRefusal, IsTooMuchAt, OfCells, OfCopies, OfOpening, OfWant}
+use Rattle.store_commands.specs.Commands.{AreAllKept, AreOtherDevicesSame}
+use Rattle.store_commands.specs.GroupRows.{AreGroupsTold, IsGroupTold, IsGroupRowsRefusal, IsTooMuchAt, OfCells, OfCopies, OfOpening, OfWant}
 
 -- no group's device is called as a tag's
 pub names_apart : (g t : List ℕ) → group.device_name g ≢ tag.device_name t
@@ -31,24 +31,24 @@ names_apart g t same =
     absurd (omega (arith, last))
 
 -- so the devices of groups are as they were where those of tags alone have changed
-pub groups_same : (tags : List TagDef) (old new : Devices) → tag.AreOthersSame tags old new → (g : GroupDef)
-    → trace_at new g ≡ trace_at old g
+pub groups_same : (tags : List TagDef) (old new : DeviceTraces) → tag.AreOthersSame tags old new → (g : GroupDef)
+    → group_trace_at new g ≡ group_trace_at old g
 groups_same tags old new others g =
     others (group.device_name g.name) (λ k d below. names_apart g.name (get_or tags k d).name)
 
 -- and those of tags where those of groups alone have
-pub tags_same : (gs : List GroupDef) (old new : Devices) → group.AreOthersSame gs old new → (t : TagDef)
+pub tags_same : (gs : List GroupDef) (old new : DeviceTraces) → group.AreOthersSame gs old new → (t : TagDef)
     → tag.trace_of new t ≡ tag.trace_of old t
 tags_same gs old new others t =
     others (tag.device_name t.name) (λ k d below same. names_apart (get_or gs k d).name t.name (sym same))
 
 -- ---- what is said of groups after the tags were opened is so of the devices before
 
-module _ (gs : List GroupDef) (records : List (List Rec)) (old mid : Devices) (same : (g : GroupDef) → trace_at mid g ≡ trace_at old g) where
+module _ (gs : List GroupDef) (records : List (List Rec)) (old mid : DeviceTraces) (same : (g : GroupDef) → group_trace_at mid g ≡ group_trace_at old g) where
   pub told_before : (rows : List Rows) → AreGroupsTold gs records mid rows → AreGroupsTold gs records old rows
   told_before rows told = record {
     as_many = told.as_many;
-    each = λ i g r below. subst (λ o. IsGroupTold (get_or gs i g) (records_of records (get_or gs i g)) o (get_or rows i r))
+    each = λ i g r below. subst (λ o. IsGroupTold (get_or gs i g) (input_records_of records (get_or gs i g)) o (get_or rows i r))
         (same (get_or gs i g)) (told.each i g r below);
   }
 
@@ -70,23 +70,23 @@ module _ (gs : List GroupDef) (records : List (List Rec)) (old mid : Devices) (s
   }
 
   pub rows_before : (before mid_count now : ℕ) (why : Status) → (before < 2 ^ 64 → mid_count ≡ before)
-      → IsRowsRefusal gs records mid mid_count now why → IsRowsRefusal gs records old before now why
+      → IsGroupRowsRefusal gs records mid mid_count now why → IsGroupRowsRefusal gs records old before now why
   rows_before before count now why first (OfOpening refused) = OfOpening (refusal_before before count now why first refused)
   rows_before before count now why first (OfCells i number is at) = OfCells i number is (much_before i _ at)
   rows_before before count now why first (OfCopies i number is at) = OfCopies i number is (much_before i _ at)
   rows_before before count now why first (OfWant is) = OfWant is
 
-  pub same_before : (new : Devices) → group.AllStaySame gs mid new → group.AllStaySame gs old new
+  pub same_before : (new : DeviceTraces) → group.AllStaySame gs mid new → group.AllStaySame gs old new
   same_before new kept = book.same_before gs records old mid same new new (λ g. refl) kept
 
 -- ---- what is said of tags before the groups were opened is so of the devices after
 
-pub kept_after : (ts : List TagDef) (old mid new : Devices) → ((t : TagDef) → tag.trace_of new t ≡ tag.trace_of mid t)
+pub kept_after : (ts : List TagDef) (old mid new : DeviceTraces) → ((t : TagDef) → tag.trace_of new t ≡ tag.trace_of mid t)
     → tag.AllStaySame ts old mid → tag.AllStaySame ts old new
 kept_after ts old mid new same kept k d below =
     subst (λ o. TagStaysSame (get_or ts k d) (tag.trace_of old (get_or ts k d)) o) (sym (same (get_or ts k d))) (kept k d below)
 
-pub left_after : (ts : List TagDef) (cores : List Core) (old mid new : Devices)
+pub left_after : (ts : List TagDef) (cores : List Core) (old mid new : DeviceTraces)
     → ((t : TagDef) → tag.trace_of new t ≡ tag.trace_of mid t) → tag.AreLeft ts old mid cores → tag.AreLeft ts old new cores
 left_after [] [] old mid new same left = tt
 left_after [] (c ∷ cs) old mid new same left = absurd left
@@ -97,12 +97,12 @@ left_after (t ∷ ts) (c ∷ cs) old mid new same left = (
 )
 
 -- no device but theirs has changed
-rest_same : (base : Base) (old mid new : Devices) → tag.AreOthersSame base.tags.items old mid
-    → group.AreOthersSame base.groups.items mid new → AreRestSame base old new
+rest_same : (base : Base) (old mid new : DeviceTraces) → tag.AreOthersSame base.tags.items old mid
+    → group.AreOthersSame base.groups.items mid new → AreOtherDevicesSame base old new
 rest_same base old mid new first second n no_tag no_group = second n no_group ∙ first n no_tag
 
 -- first the tags are opened, and then the groups
-pub all_kept : (name : List ℕ) (told : ToldFiles) (base : Base) (gs : List GroupDef) (old mid new : Devices) → gs ≡ base.groups.items
+pub all_kept : (name : List ℕ) (told : ToldFiles) (base : Base) (gs : List GroupDef) (old mid new : DeviceTraces) → gs ≡ base.groups.items
     → IsBaseFile (told name) base → tag.AllStaySame base.tags.items old mid → tag.AreOthersSame base.tags.items old mid
     → group.AllStaySame gs mid new → group.AreOthersSame gs mid new → AreAllKept name told old new
 all_kept name told base gs old mid new are read tags_stay first stay second =

@@ -12,22 +12,22 @@ use Rattle.plant_store.specs.Tags.{AllStaySame, device_name}
 use Rattle.trend_report.specs.CheckLines.{check_text}
 use Rattle.plant_store.specs.TagRefusals.{IsRefusal}
 use Rattle.plant_store.specs.Groups as group
-use Rattle.plant_store.specs.Groups.{Devices}
+use Rattle.plant_store.specs.Groups.{DeviceTraces}
 use Rattle.plant_store.specs.OpenedBases.{AreUntouched, IsOpenedBase}
 use Rattle.store_commands.specs.Replies.{Rows, trend_text}
-use Rattle.store_commands.specs.GroupRows.{AreGroupsTold, IsRowsRefusal, tag_records}
+use Rattle.store_commands.specs.GroupRows.{AreGroupsTold, IsGroupRowsRefusal, tag_records}
 
 -- ---- check
 
 -- a base was read and opened, and this is a line for each of its tags
-pub record IsChecked (name : List ℕ) (told : ToldFiles) (old : Devices) (text : List ℕ) : Type 0 where
+pub record IsChecked (name : List ℕ) (told : ToldFiles) (old : DeviceTraces) (text : List ℕ) : Type 0 where
   pub base : Base
   pub cores : List Core
   pub opened : IsOpenedBase name told old base cores
   pub same : text ≡ check_text base.tags.items cores
 
 -- the base is refused, and no device has changed; or its tags are. No memory may be found at any time
-abbrev pub IsCheckRefusal : List ℕ → ToldFiles → Devices → Devices → ℕ → ℕ → Status → Type 0
+abbrev pub IsCheckRefusal : List ℕ → ToldFiles → DeviceTraces → DeviceTraces → ℕ → ℕ → Status → Type 0
 IsCheckRefusal name told old new before now why = (IsBaseRefusal (told name) why × AreUntouched old new)
     ⊎ (((base : Base) × IsBaseFile (told name) base × IsRefusal base.tags.items old new before now why)
     ⊎ (why ≡ WantOfMemory))
@@ -36,7 +36,7 @@ IsCheckRefusal name told old new before now why = (IsBaseRefusal (told name) why
 
 -- a base was read and opened, the plan and the files of its readers were read, these are the rows of the groups, and these the
 -- replies
-pub record IsTrend (name plan_name : List ℕ) (told : ToldFiles) (old : Devices) (text : List ℕ) : Type 0 where
+pub record IsTrend (name plan_name : List ℕ) (told : ToldFiles) (old : DeviceTraces) (text : List ℕ) : Type 0 where
   pub base : Base
   pub plan : Plan
   pub lists : List (List Query)
@@ -50,7 +50,7 @@ pub record IsTrend (name plan_name : List ℕ) (told : ToldFiles) (old : Devices
 
 -- the refusals, in their order: of the base, of the plan, of a reader's file, of a tag, of a group. Before that of a tag no device
 -- has changed
-pub data IsTrendRefusal (name plan_name : List ℕ) (told : ToldFiles) (old new : Devices) (before now : ℕ) (why : Status) : Type 0 where
+pub data IsTrendRefusal (name plan_name : List ℕ) (told : ToldFiles) (old new : DeviceTraces) (before now : ℕ) (why : Status) : Type 0 where
   OfBase : IsBaseRefusal (told name) why → AreUntouched old new → IsTrendRefusal name plan_name told old new before now why
   OfPlan : (base : Base) → IsBaseFile (told name) base
       → IsPlanRefusal base.groups.items (told plan_name) why → AreUntouched old new → IsTrendRefusal name plan_name told old new before now why
@@ -62,20 +62,20 @@ pub data IsTrendRefusal (name plan_name : List ℕ) (told : ToldFiles) (old new 
       → IsRefusal base.tags.items old new before now why → IsTrendRefusal name plan_name told old new before now why
   OfGroup : (base : Base) (plan : Plan) (lists : List (List Query)) (cores : List Core) → IsOpenedBase name told old base cores
       → IsPlanFile base.groups.items (told plan_name) plan → AreQueries base told plan.readers.items lists
-      → IsRowsRefusal base.groups.items (tag_records cores) old before now why
+      → IsGroupRowsRefusal base.groups.items (tag_records cores) old before now why
       → IsTrendRefusal name plan_name told old new before now why
   OfMemory : why ≡ WantOfMemory → IsTrendRefusal name plan_name told old new before now why
 
 -- ---- devices
 
 -- each device but those of these tags and groups is as it was
-abbrev pub AreRestSame : Base → Devices → Devices → Type 0
-AreRestSame base old new = (n : List ℕ) → All (λ def. n ≢ device_name def.name) base.tags.items
+abbrev pub AreOtherDevicesSame : Base → DeviceTraces → DeviceTraces → Type 0
+AreOtherDevicesSame base old new = (n : List ℕ) → All (λ def. n ≢ device_name def.name) base.tags.items
     → All (λ g. n ≢ group.device_name g.name) base.groups.items → new n ≡ old n
 
 -- no device has changed; or those of the base's tags and groups alone have, and a crash at any moment since leaves of each an image
 -- that one before might have left, or that recovers or stands for the same, or, of a tag, that as it is opened
-abbrev pub AreAllKept : List ℕ → ToldFiles → Devices → Devices → Type 0
+abbrev pub AreAllKept : List ℕ → ToldFiles → DeviceTraces → DeviceTraces → Type 0
 AreAllKept name told old new = AreUntouched old new
     ⊎ ((base : Base) × IsBaseFile (told name) base × AllStaySame base.tags.items old new
-    × group.AllStaySame base.groups.items old new × AreRestSame base old new)
+    × group.AllStaySame base.groups.items old new × AreOtherDevicesSame base old new)

@@ -12,18 +12,18 @@ use Rattle.plant_files.specs.Texts.{IsBaseFile, IsBaseRefusal}
 use Rattle.plant_store.specs.TagRefusals.{IsRefusal}
 use Rattle.plant_store.specs.Tags.{AllStaySame}
 use Rattle.plant_store.specs.Tags as tag
-use Rattle.group_book.specs.Openings.{StaysSame}
-use Rattle.plant_store.specs.Groups.{parts_of, records_of, text_of, trace_at, Devices}
+use Rattle.group_book.specs.Openings.{BookStaysSame}
+use Rattle.plant_store.specs.Groups.{group_parts_of, input_records_of, group_definition_text, group_trace_at, DeviceTraces}
 use Rattle.plant_store.specs.Groups as group
 use Rattle.plant_store.specs.OpenedBases.{AreUntouched, IsOpenedBase}
 use Rattle.store_commands.specs.GroupRows.{tag_records}
 use Rattle.store_commands.specs.FrameLines.{TellsFrames}
 use Rattle.store_commands.specs.FrameNames.{IsNamed, IsNameRefusal}
-use Rattle.store_commands.specs.FrameRows.{AreRows, IsRowsRefusal}
+use Rattle.store_commands.specs.FrameRows.{AreFrameRows, IsFrameRowsRefusal}
 
 -- a base was read and opened, the names stand for the calculation at place k of the group at place i, these are the saved row of the
 -- calculation and the refreshed one, and the text tells of their frames
-pub record IsFrames (name group_name calc_name : List ℕ) (least : ℕ) (told : ToldFiles) (old : Devices) (text : List ℕ) : Type 0 where
+pub record IsFrames (name group_name calc_name : List ℕ) (least : ℕ) (told : ToldFiles) (old : DeviceTraces) (text : List ℕ) : Type 0 where
   pub base : Base
   pub g : GroupDef
   pub i : ℕ
@@ -33,12 +33,12 @@ pub record IsFrames (name group_name calc_name : List ℕ) (least : ℕ) (told :
   pub refreshed : List CalcValue
   pub opened : IsOpenedBase name told old base cores
   pub named : IsNamed base.groups.items group_name calc_name g i k
-  pub rows : AreRows g k (records_of (tag_records cores) g) (trace_at old g) saved refreshed
+  pub rows : AreFrameRows g k (input_records_of (tag_records cores) g) (group_trace_at old g) saved refreshed
   pub tells : TellsFrames g least saved refreshed text
 
 -- the refusals, in their order: of the base, of the names, of a tag, of the group. Before that of a tag no device has changed. No
 -- memory may be found at any time
-pub data IsFramesRefusal (name group_name calc_name : List ℕ) (told : ToldFiles) (old new : Devices) (before now : ℕ) (why : Status)
+pub data IsFramesRefusal (name group_name calc_name : List ℕ) (told : ToldFiles) (old new : DeviceTraces) (before now : ℕ) (why : Status)
     : Type 0 where
   OfBase : IsBaseRefusal (told name) why → AreUntouched old new
       → IsFramesRefusal name group_name calc_name told old new before now why
@@ -49,7 +49,7 @@ pub data IsFramesRefusal (name group_name calc_name : List ℕ) (told : ToldFile
       → IsFramesRefusal name group_name calc_name told old new before now why
   OfGroup : (base : Base) (g : GroupDef) (i k : ℕ) (cores : List Core) → IsOpenedBase name told old base cores
       → IsNamed base.groups.items group_name calc_name g i k
-      → IsRowsRefusal i g (records_of (tag_records cores) g) (trace_at old g) before now why
+      → IsFrameRowsRefusal i g (input_records_of (tag_records cores) g) (group_trace_at old g) before now why
       → IsFramesRefusal name group_name calc_name told old new before now why
   OfMemory : why ≡ WantOfMemory → IsFramesRefusal name group_name calc_name told old new before now why
 
@@ -57,7 +57,7 @@ pub data IsFramesRefusal (name group_name calc_name : List ℕ) (told : ToldFile
 
 -- those of the base's tags and of the group of this name alone have changed, and a crash at any moment since leaves of each an image
 -- that one before might have left, or that recovers or stands for the same, or, of a tag, that as it is opened
-pub record HaveStayed (name group_name calc_name : List ℕ) (told : ToldFiles) (old new : Devices) : Type 0 where
+pub record HaveStayed (name group_name calc_name : List ℕ) (told : ToldFiles) (old new : DeviceTraces) : Type 0 where
   pub base : Base
   pub g : GroupDef
   pub i : ℕ
@@ -65,9 +65,9 @@ pub record HaveStayed (name group_name calc_name : List ℕ) (told : ToldFiles) 
   pub read : IsBaseFile (told name) base
   pub named : IsNamed base.groups.items group_name calc_name g i k
   pub tags_stay : AllStaySame base.tags.items old new
-  pub group_stays : During (trace_at old g) (trace_at new g) (StaysSame (text_of g) (parts_of g) (trace_at old g))
+  pub group_stays : During (group_trace_at old g) (group_trace_at new g) (BookStaysSame (group_definition_text g) (group_parts_of g) (group_trace_at old g))
   pub rest : (n : List ℕ) → All (λ def. n ≢ tag.device_name def.name) base.tags.items → n ≢ group.device_name g.name → new n ≡ old n
 
 -- no device has changed; or those of the tags and of the group alone have, which stand for the same
-abbrev pub AreFramesKept : List ℕ → List ℕ → List ℕ → ToldFiles → Devices → Devices → Type 0
+abbrev pub AreFramesKept : List ℕ → List ℕ → List ℕ → ToldFiles → DeviceTraces → DeviceTraces → Type 0
 AreFramesKept name group_name calc_name told old new = AreUntouched old new ⊎ HaveStayed name group_name calc_name told old new

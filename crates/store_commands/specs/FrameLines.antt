@@ -22,7 +22,7 @@ abbrev pub frame_to : GroupDef → Frame → ℕ
 frame_to g f = window_to (grid_of g.start g.period) f.upto
 
 -- a frame that begins and ends at times, and whose windows can be counted
-pub record IsTimed (g : GroupDef) (f : Frame) : Type 0 where
+pub record IsFrameTimed (g : GroupDef) (f : Frame) : Type 0 where
   pub few : f.upto < 2 ^ 63
   pub begins : frame_from g f ≤ last_time
   pub ends : frame_to g f ≤ last_time

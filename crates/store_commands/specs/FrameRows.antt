@@ -19,7 +19,7 @@ use Rattle.plant_status.specs.declared.mismatch.Seen.TheVariants.{Number}
 use Rattle.plant_status.specs.declared.status.Status.{Status}
 use Rattle.plant_status.specs.declared.status.Status.TheVariants.{DeviceFault, Damaged, Limit, Mismatch, WantOfMemory}
 use Rattle.plant_status.specs.declared.unit.Unit.TheVariants.{Group}
-use Rattle.plant_store.specs.Groups.{parts_of, text_of}
+use Rattle.plant_store.specs.Groups.{group_parts_of, group_definition_text}
 
 -- Of calculation k of a group with these saved versions and rows the saved row, and the one after a refresh from all these records
 -- of its tags. Where the saved rows were those from scratch on the first records, as many as the versions say, the rows after the
@@ -37,10 +37,10 @@ pub record AreRefreshed (g : GroupDef) (k : ℕ) (versions : List ℕ) (rows : L
 
 -- Of calculation k of a group, whose tags recovered these records, the saved row and the refreshed one. The group's device stood for
 -- the saved versions and rows.
-pub record AreRows (g : GroupDef) (k : ℕ) (recovered : List (List Rec)) (o : Option Trace) (saved refreshed : List CalcValue) : Type 0 where
+pub record AreFrameRows (g : GroupDef) (k : ℕ) (recovered : List (List Rec)) (o : Option Trace) (saved refreshed : List CalcValue) : Type 0 where
   pub versions : List ℕ
   pub rows : List (List CalcValue)
-  pub stood : Shows o (StandsForGroup (text_of g) (parts_of g) versions rows)
+  pub stood : Shows o (StandsForGroup (group_definition_text g) (group_parts_of g) versions rows)
   pub are : AreRefreshed g k versions rows recovered saved refreshed
 
 -- how many cells a group has of these records
@@ -51,18 +51,18 @@ cells_of g recovered = complete_windows (grid_of g.start g.period) recovered * l
 -- device has failed; the bytes break its layout; a saved version is above the records of a tag, of which the records are told and
 -- then the version; a saved row has not one value for each complete window, of which the windows are told and then the values;
 -- there would be too many cells, or too many records of its tags; or memory is wanting.
-pub data IsRowsRefusal (i : ℕ) (g : GroupDef) (recovered : List (List Rec)) (o : Option Trace) (before now : ℕ) (why : Status)
+pub data IsFrameRowsRefusal (i : ℕ) (g : GroupDef) (recovered : List (List Rec)) (o : Option Trace) (before now : ℕ) (why : Status)
     : Type 0 where
-  OfFault : why ≡ DeviceFault (Group i) → (before < 2 ^ 64 → Rose before now) → IsRowsRefusal i g recovered o before now why
+  OfFault : why ≡ DeviceFault (Group i) → (before < 2 ^ 64 → Rose before now) → IsFrameRowsRefusal i g recovered o before now why
   OfDamage : (at : ℕ) (byte : Option ℕ) → why ≡ Damaged (Group i) at byte
-      → Shows o (λ c. IsGroupDamage (text_of g) (length g.inputs.items) (length g.calcs.calcs) c at byte)
-      → IsRowsRefusal i g recovered o before now why
+      → Shows o (λ c. IsGroupDamage (group_definition_text g) (length g.inputs.items) (length g.calcs.calcs) c at byte)
+      → IsFrameRowsRefusal i g recovered o before now why
   OfVersion : (input found version : ℕ) → why ≡ Mismatch (Version i input) (Number found) (Number version)
-      → Shows o (SavesAhead (text_of g) (parts_of g) recovered input version found) → IsRowsRefusal i g recovered o before now why
+      → Shows o (SavesAhead (group_definition_text g) (group_parts_of g) recovered input version found) → IsFrameRowsRefusal i g recovered o before now why
   OfWindows : (windows rows : ℕ) → why ≡ Mismatch (Windows i) (Number windows) (Number rows)
-      → Shows o (SavesShape (text_of g) (parts_of g) recovered windows rows) → IsRowsRefusal i g recovered o before now why
+      → Shows o (SavesShape (group_definition_text g) (group_parts_of g) recovered windows rows) → IsFrameRowsRefusal i g recovered o before now why
   OfCells : (number : ℕ) → why ≡ Limit Cells number → number ≡ cells_of g recovered → most_cells < number
-      → IsRowsRefusal i g recovered o before now why
+      → IsFrameRowsRefusal i g recovered o before now why
   OfCopies : (number : ℕ) → why ≡ Limit Copies number → number ≡ total_length recovered → most_copies < number
-      → IsRowsRefusal i g recovered o before now why
-  OfMemory : why ≡ WantOfMemory → IsRowsRefusal i g recovered o before now why
+      → IsFrameRowsRefusal i g recovered o before now why
+  OfMemory : why ≡ WantOfMemory → IsFrameRowsRefusal i g recovered o before now why

@@ -24,7 +24,7 @@ use Rattle.plant_status.specs.declared.mismatch.Seen.TheVariants.{Number}
 use Rattle.plant_status.specs.declared.status.Status.{Status}
 use Rattle.plant_status.specs.declared.status.Status.TheVariants.{DeviceFault, Damaged, Limit, Mismatch, WantOfMemory}
 use Rattle.plant_status.specs.declared.unit.Unit.TheVariants.{Group}
-use Rattle.plant_store.specs.Groups.{text_of}
+use Rattle.plant_store.specs.Groups.{group_definition_text}
 
 -- the records of each input behind the first ones, of which there are as many as its version says
 abbrev pub behind : List ℕ → List (List Rec) → List (List Rec)
@@ -41,7 +41,7 @@ AreWithin versions recovered = (i : ℕ) (rs : List Rec) → i < length versions
 pub data IsSavedRefusal (i : ℕ) (g : GroupDef) (o : Option Trace) (before now : ℕ) (why : Status) : Type 0 where
   DeviceFails : why ≡ DeviceFault (Group i) → (before < 2 ^ 64 → Rose before now) → IsSavedRefusal i g o before now why
   DeviceIsDamaged : (at : ℕ) (byte : Option ℕ) → why ≡ Damaged (Group i) at byte
-      → Shows o (λ c. IsGroupDamage (text_of g) (length g.inputs.items) (length g.calcs.calcs) c at byte)
+      → Shows o (λ c. IsGroupDamage (group_definition_text g) (length g.inputs.items) (length g.calcs.calcs) c at byte)
       → IsSavedRefusal i g o before now why
   OpeningWants : why ≡ WantOfMemory → IsSavedRefusal i g o before now why
 

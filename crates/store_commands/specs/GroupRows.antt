@@ -13,7 +13,7 @@ use Rattle.group_book.specs.declared.history.GroupOpening.{GroupOpening}
 use Rattle.group_book.specs.Histories.{IsRight}
 use Rattle.plant_status.specs.declared.status.Status.{Status}
 use Rattle.plant_status.specs.declared.status.Status.TheVariants.{Limit, WantOfMemory}
-use Rattle.plant_store.specs.Groups.{AreOpened, Devices, IsOpening, records_of, trace_at}
+use Rattle.plant_store.specs.Groups.{AreGroupsOpened, DeviceTraces, IsGroupOpening, input_records_of, group_trace_at}
 use Rattle.plant_store.specs.BookRefusals.{IsRefusal}
 use Rattle.store_commands.specs.Replies.{Rows}
 
@@ -25,34 +25,34 @@ tag_records cores = map (λ core. core.state.records) cores
 -- they are the rows from scratch on all records, so there is one value for each complete window and no other.
 pub record IsGroupTold (g : GroupDef) (recovered : List (List Rec)) (o : Option Trace) (rows : Rows) : Type 0 where
   pub opening : GroupOpening
-  pub opened : IsOpening g recovered o opening
+  pub opened : IsGroupOpening g recovered o opening
   pub scratch : IsRight g.calcs (grid_of g.start g.period) opening recovered
       → IsScratch g.calcs (grid_of g.start g.period) recovered rows
 
 -- so are those of each group
-pub record AreGroupsTold (groups : List GroupDef) (records : List (List Rec)) (old : Devices) (groups_rows : List Rows) : Type 0 where
+pub record AreGroupsTold (groups : List GroupDef) (records : List (List Rec)) (old : DeviceTraces) (groups_rows : List Rows) : Type 0 where
   pub as_many : length groups_rows ≡ length groups
   pub each : (i : ℕ) (g : GroupDef) (r : Rows) → i < length groups
-      → IsGroupTold (slice_index_or groups i g) (records_of records (slice_index_or groups i g))
-      (trace_at old (slice_index_or groups i g)) (slice_index_or groups_rows i r)
+      → IsGroupTold (slice_index_or groups i g) (input_records_of records (slice_index_or groups i g))
+      (group_trace_at old (slice_index_or groups i g)) (slice_index_or groups_rows i r)
 
 -- all groups are opened, and the one at place i comes to too much
-pub record IsTooMuchAt (groups : List GroupDef) (records : List (List Rec)) (old : Devices) (i : ℕ) (P : List (List Rec) → Type 0)
+pub record IsTooMuchAt (groups : List GroupDef) (records : List (List Rec)) (old : DeviceTraces) (i : ℕ) (P : List (List Rec) → Type 0)
     : Type 0 where
   pub g : GroupDef
   pub openings : List GroupOpening
   pub there : i < length groups
   pub is_group : slice_index_or groups i g ≡ g
-  pub opened : AreOpened (length groups) groups records old openings
-  pub over : P (records_of records g)
+  pub opened : AreGroupsOpened (length groups) groups records old openings
+  pub over : P (input_records_of records g)
 
 -- Why there are no rows: a group is not opened, would have too many cells, or too many records of its tags; or memory is wanting.
-pub data IsRowsRefusal (groups : List GroupDef) (records : List (List Rec)) (old : Devices) (before now : ℕ) (why : Status)
+pub data IsGroupRowsRefusal (groups : List GroupDef) (records : List (List Rec)) (old : DeviceTraces) (before now : ℕ) (why : Status)
     : Type 0 where
-  OfOpening : IsRefusal groups records old before now why → IsRowsRefusal groups records old before now why
+  OfOpening : IsRefusal groups records old before now why → IsGroupRowsRefusal groups records old before now why
   OfCells : (i number : ℕ) → why ≡ Limit Cells number → IsTooMuchAt groups records old i (λ recovered. most_cells < number)
-      → IsRowsRefusal groups records old before now why
+      → IsGroupRowsRefusal groups records old before now why
   OfCopies : (i number : ℕ) → why ≡ Limit Copies number
       → IsTooMuchAt groups records old i (λ recovered. (number ≡ total_length recovered) × (most_copies < number))
-      → IsRowsRefusal groups records old before now why
-  OfWant : why ≡ WantOfMemory → IsRowsRefusal groups records old before now why
+      → IsGroupRowsRefusal groups records old before now why
+  OfWant : why ≡ WantOfMemory → IsGroupRowsRefusal groups records old before now why

@@ -16,7 +16,7 @@ use Rattle.trend_num.specs.Queries.{IsTagQuery}
 use Rattle.calc_refresh.specs.Lists.{lists_of}
 use Rattle.group_layout.specs.Rows.{cell_of}
 use Rattle.group_book.specs.declared.history.GroupHistory.{GroupHistory}
-use Rattle.plant_store.specs.OpenedBases.{points_in}
+use Rattle.plant_store.specs.OpenedBases.{points_recovered}
 use Rattle.trend_report.specs.Lines.{held_text, number_text, points_text, reading_text, value_text}
 
 -- ---- one tag
@@ -27,9 +27,9 @@ first_points_text ps = points_text (take most_listed ps) (nat_lt most_listed (le
 
 -- what a tag answers to a question
 abbrev pub answer_in : Core → TagQuery → List ℕ
-answer_in core (At t) = reading_text (read_at core.step (points_in core) t)
-answer_in core (Points start end) = first_points_text (points_from_to (points_in core) start end)
-answer_in core (Window m start end) = number_text (window_value core.step m (points_in core) start end)
+answer_in core (At t) = reading_text (read_at core.step (points_recovered core) t)
+answer_in core (Points start end) = first_points_text (points_from_to (points_recovered core) start end)
+answer_in core (Window m start end) = number_text (window_value core.step m (points_recovered core) start end)
 
 -- its snapshot
 abbrev pub snapshot_in : Core → List ℕ

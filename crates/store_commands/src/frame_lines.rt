@@ -2,7 +2,7 @@
 ghost use Rattle.std.specs.Prelude.{◌≡◌, ◌++◌, ◌≤◌, All, IfOk, OnOk, codes, length, string_bytes};
 ghost use Rattle.std.specs.List.{flat_map};
 ghost use Rattle.sheet_law.specs.Windows.{complete_windows};
-ghost use Rattle.store_commands.specs.FrameLines.{IsTimed, edit_text, frame_of, frame_text, frames_text};
+ghost use Rattle.store_commands.specs.FrameLines.{IsFrameTimed, edit_text, frame_of, frame_text, frames_text};
 
 use event_frames::{Edit, Frame};
 use std::alloc::{AllocError, Global};
@@ -16,8 +16,8 @@ pub(crate) fn frames_text(
     edits: &[Edit],
     frames: &[Frame],
 ) -> Result<String, WantOfMemory>
-    requires edits { All (λ edit. IsTimed group.now (frame_of edit)) edits.now }
-    requires frames { All (IsTimed group.now) frames.now }
+    requires edits { All (λ edit. IsFrameTimed group.now (frame_of edit)) edits.now }
+    requires frames { All (IsFrameTimed group.now) frames.now }
     ensures { IfOk result (λ text. string_bytes text ≡ frames_text group.now edits.now frames.now) }
 {
     let mut text = String::new(alloc);
@@ -28,7 +28,7 @@ pub(crate) fn frames_text(
 
 // Adds the line of each edit.
 fn put_edits(text: &mut String, group: &GroupDef, edits: &[Edit]) -> Result<(), AllocError>
-    requires { All (λ edit. IsTimed group.now (frame_of edit)) edits.now }
+    requires { All (λ edit. IsFrameTimed group.now (frame_of edit)) edits.now }
     ensures { OnOk result (string_bytes text.new ≡ string_bytes text.old ++ flat_map (edit_text group.now) edits.now) }
 {
     for edit in edits {
@@ -39,7 +39,7 @@ fn put_edits(text: &mut String, group: &GroupDef, edits: &[Edit]) -> Result<(), 
 
 // Adds the line of an edit.
 fn put_edit(text: &mut String, group: &GroupDef, edit: Edit) -> Result<(), AllocError>
-    requires { IsTimed group.now (frame_of edit) }
+    requires { IsFrameTimed group.now (frame_of edit) }
     ensures { OnOk result (string_bytes text.new ≡ string_bytes text.old ++ edit_text group.now edit) }
 {
     match edit {
@@ -50,7 +50,7 @@ fn put_edit(text: &mut String, group: &GroupDef, edit: Edit) -> Result<(), Alloc
 
 // Adds the line of each frame.
 fn put_frames(text: &mut String, group: &GroupDef, frames: &[Frame]) -> Result<(), AllocError>
-    requires { All (IsTimed group.now) frames.now }
+    requires { All (IsFrameTimed group.now) frames.now }
     ensures { OnOk result (string_bytes text.new
         ≡ string_bytes text.old ++ flat_map (frame_text (codes "frame") group.now) frames.now) }
 {
@@ -67,7 +67,7 @@ fn put_frame(
     group: &GroupDef,
     frame: Frame,
 ) -> Result<(), AllocError>
-    requires { IsTimed group.now frame }
+    requires { IsFrameTimed group.now frame }
     ensures { OnOk result (string_bytes text.new ≡ string_bytes text.old ++ frame_text word.now group.now frame) }
 {
     let from = group.start + frame.from * group.period;

@@ -6,8 +6,8 @@ ghost use Rattle.disk_model.specs.Moments.{During};
 ghost use Rattle.calc_refresh.specs.Lists.{lists_of};
 ghost use Rattle.group_layout.specs.Images.{IsGroupDamage};
 ghost use Rattle.group_layout.specs.Readings.{HasShape};
-ghost use Rattle.group_book.specs.Openings.{StandsForGroup, StaysSame};
-ghost use Rattle.plant_store.specs.Groups.{device_name, parts_of, text_of, trace_at};
+ghost use Rattle.group_book.specs.Openings.{StandsForGroup, BookStaysSame};
+ghost use Rattle.plant_store.specs.Groups.{device_name, group_parts_of, group_definition_text, group_trace_at};
 ghost use Rattle.plant_store.specs.BookRefusals.{CountsStore};
 ghost use Rattle.store_commands.specs.FrameSteps.{IsSavedRefusal, scan_status};
 
@@ -29,14 +29,14 @@ pub(crate) fn saved_of<S: Store>(
     requires name { name.now ≡ device_name group.now.name }
     requires few_inputs { length group.now.inputs.items < 2 ^ 32 }
     requires few_calcs { length group.now.calcs.calcs < 2 ^ 32 }
-    ensures stood { IfOk result (λ saved. Shows (trace_at (S.device_at store.old) group.now)
-        (StandsForGroup (text_of group.now) (parts_of group.now) saved.versions.items (lists_of saved.rows.items))) }
+    ensures stood { IfOk result (λ saved. Shows (group_trace_at (S.device_at store.old) group.now)
+        (StandsForGroup (group_definition_text group.now) (group_parts_of group.now) saved.versions.items (lists_of saved.rows.items))) }
     ensures shape { IfOk result (HasShape (length group.now.inputs.items) (length group.now.calcs.calcs)) }
     ensures few { IfOk result (λ saved. saved.windows < 2 ^ 32) }
-    ensures refused { IfErr result (IsSavedRefusal place group.now (trace_at (S.device_at store.old) group.now)
+    ensures refused { IfErr result (IsSavedRefusal place group.now (group_trace_at (S.device_at store.old) group.now)
         (S.fault_count store.old) (S.fault_count store.new)) }
-    ensures same { During (trace_at (S.device_at store.old) group.now) (trace_at (S.device_at store.new) group.now)
-        (StaysSame (text_of group.now) (parts_of group.now) (trace_at (S.device_at store.old) group.now)) }
+    ensures same { During (group_trace_at (S.device_at store.old) group.now) (group_trace_at (S.device_at store.new) group.now)
+        (BookStaysSame (group_definition_text group.now) (group_parts_of group.now) (group_trace_at (S.device_at store.old) group.now)) }
     ensures others { (n : List ℕ) → n ≢ device_name group.now.name → S.device_at store.new n ≡ S.device_at store.old n }
     ensures counts { S.fault_count store.old < 2 ^ 64
         → CountsStore result (S.fault_count store.old) (S.fault_count store.new) }
@@ -57,15 +57,15 @@ fn open_saved<S: Store>(
     requires name { name.now ≡ device_name group.now.name }
     requires few_inputs { length group.now.inputs.items < 2 ^ 32 }
     requires few_calcs { length group.now.calcs.calcs < 2 ^ 32 }
-    ensures stood { IfOk result (λ saved. Shows (trace_at (S.device_at store.old) group.now)
-        (StandsForGroup (text_of group.now) (parts_of group.now) saved.versions.items (lists_of saved.rows.items))) }
+    ensures stood { IfOk result (λ saved. Shows (group_trace_at (S.device_at store.old) group.now)
+        (StandsForGroup (group_definition_text group.now) (group_parts_of group.now) saved.versions.items (lists_of saved.rows.items))) }
     ensures shape { IfOk result (HasShape (length group.now.inputs.items) (length group.now.calcs.calcs)) }
     ensures few { IfOk result (λ saved. saved.windows < 2 ^ 32) }
     ensures damaged { (at : ℕ) (byte : Option ℕ) → IsErrOf result (Damaged at byte)
-        → Shows (trace_at (S.device_at store.old) group.now)
-        (λ c. IsGroupDamage (text_of group.now) (length group.now.inputs.items) (length group.now.calcs.calcs) c at byte) }
-    ensures same { During (trace_at (S.device_at store.old) group.now) (trace_at (S.device_at store.new) group.now)
-        (StaysSame (text_of group.now) (parts_of group.now) (trace_at (S.device_at store.old) group.now)) }
+        → Shows (group_trace_at (S.device_at store.old) group.now)
+        (λ c. IsGroupDamage (group_definition_text group.now) (length group.now.inputs.items) (length group.now.calcs.calcs) c at byte) }
+    ensures same { During (group_trace_at (S.device_at store.old) group.now) (group_trace_at (S.device_at store.new) group.now)
+        (BookStaysSame (group_definition_text group.now) (group_parts_of group.now) (group_trace_at (S.device_at store.old) group.now)) }
     ensures others { (n : List ℕ) → n ≢ device_name group.now.name → S.device_at store.new n ≡ S.device_at store.old n }
     ensures counts { S.fault_count store.old < 2 ^ 64
         → CountsFault result DeviceFault (S.fault_count store.old) (S.fault_count store.new) }

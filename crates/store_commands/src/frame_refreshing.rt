@@ -6,13 +6,13 @@ ghost use Rattle.calc_refresh.specs.Lists.{lists_of};
 ghost use Rattle.calc_refresh.specs.Refreshed.{fresh};
 ghost use Rattle.calc_refresh.specs.Sheet.{IsCopy, IsGrid, IsGroup, grid_of};
 ghost use Rattle.group_layout.specs.Readings.{HasShape};
-ghost use Rattle.group_book.specs.Openings.{StaysSame};
+ghost use Rattle.group_book.specs.Openings.{BookStaysSame};
 ghost use Rattle.group_book.specs.Tapes.{cut};
-ghost use Rattle.tag_base.specs.Groups.{IsSound};
-ghost use Rattle.plant_store.specs.Groups.{device_name, parts_of, records_of, text_of, trace_at};
+ghost use Rattle.tag_base.specs.Groups.{IsSoundGroup};
+ghost use Rattle.plant_store.specs.Groups.{device_name, group_parts_of, input_records_of, group_definition_text, group_trace_at};
 ghost use Rattle.plant_store.specs.BookRefusals.{CountsStore};
 ghost use Rattle.store_commands.specs.GroupRows.{tag_records};
-ghost use Rattle.store_commands.specs.FrameRows.{AreRefreshed, AreRows, IsRowsRefusal};
+ghost use Rattle.store_commands.specs.FrameRows.{AreRefreshed, AreFrameRows, IsFrameRowsRefusal};
 ghost use Rattle.store_commands.specs.FrameSteps.{AreTimes, AreWithin, IsBringRefusal, IsSheetRefusal};
 
 use crate::frame_inputs::{first_records, records_of};
@@ -48,18 +48,18 @@ pub(crate) fn rows_of<S: Store>(
     cores: &[TagCore],
 ) -> Result<CalcRows, Status>
     requires name { name.now ≡ device_name group.now.name }
-    requires sound { IsSound (length cores.now) group.now }
+    requires sound { IsSoundGroup (length cores.now) group.now }
     requires short { All (λ core. length core.state.records < 2 ^ 32) cores.now }
     requires place { place.group < 2 ^ 32 }
     requires calc { place.calc < length group.now.calcs.calcs }
-    ensures rows { IfOk result (λ rows. AreRows group.now place.calc (records_of (tag_records cores.now) group.now)
-        (trace_at (S.device_at store.old) group.now) rows.saved.items rows.refreshed.items) }
+    ensures rows { IfOk result (λ rows. AreFrameRows group.now place.calc (input_records_of (tag_records cores.now) group.now)
+        (group_trace_at (S.device_at store.old) group.now) rows.saved.items rows.refreshed.items) }
     ensures times { IfOk result (λ rows. AreTimes group.now (length rows.refreshed.items)) }
-    ensures refused { IfErr result (IsRowsRefusal place.group group.now (records_of (tag_records cores.now) group.now)
-        (trace_at (S.device_at store.old) group.now) (S.fault_count store.old) (S.fault_count store.new)) }
+    ensures refused { IfErr result (IsFrameRowsRefusal place.group group.now (input_records_of (tag_records cores.now) group.now)
+        (group_trace_at (S.device_at store.old) group.now) (S.fault_count store.old) (S.fault_count store.new)) }
     ensures no_file_fault { IfErr result (λ why. (n : ℕ) → faults_told why n ≡ n) }
-    ensures same { During (trace_at (S.device_at store.old) group.now) (trace_at (S.device_at store.new) group.now)
-        (StaysSame (text_of group.now) (parts_of group.now) (trace_at (S.device_at store.old) group.now)) }
+    ensures same { During (group_trace_at (S.device_at store.old) group.now) (group_trace_at (S.device_at store.new) group.now)
+        (BookStaysSame (group_definition_text group.now) (group_parts_of group.now) (group_trace_at (S.device_at store.old) group.now)) }
     ensures others { (n : List ℕ) → n ≢ device_name group.now.name → S.device_at store.new n ≡ S.device_at store.old n }
     ensures counts { S.fault_count store.old < 2 ^ 64
         → CountsStore result (S.fault_count store.old) (S.fault_count store.new) }

@@ -1,7 +1,7 @@
 // A sheet is brought up to all records of its inputs.
 ghost use Rattle.std.specs.Prelude.{◌≡◌, ◌<◌, All, IfErr, OnOk, length, map};
 ghost use Rattle.calc_refresh.specs.Lists.{lists_of};
-ghost use Rattle.calc_refresh.specs.Refreshed.{IsRefreshed, IsToldOf, fault_after};
+ghost use Rattle.calc_refresh.specs.Refreshed.{IsRefreshed, IsRefreshToldOf, fault_after};
 ghost use Rattle.calc_refresh.specs.Sheet.{IsCopy};
 ghost use Rattle.group_book.specs.Tapes.{cut};
 ghost use Rattle.store_commands.specs.FrameSteps.{AreWithin, IsBroughtUp, IsLimitRefusal};
@@ -50,7 +50,7 @@ fn apply(sheet: &mut Sheet, more: &[Vec<Rec>]) -> Result<(), SheetNo>
     requires inputs { length more.now ≡ length sheet.old.copies }
     requires copied { All IsCopy (lists_of more.now) }
     ensures refreshed { OnOk result (IsRefreshed sheet.old sheet.new (lists_of more.now)) }
-    ensures fault { IfErr result (IsToldOf (fault_after sheet.old (lists_of more.now))) }
+    ensures fault { IfErr result (IsRefreshToldOf (fault_after sheet.old (lists_of more.now))) }
 {
     apply_on::<Brand>(sheet, more, Blank::new(1))
 }
@@ -63,7 +63,7 @@ fn apply_on<L: Ledger>(sheet: &mut Sheet, more: &[Vec<Rec>], blank: Blank) -> Re
     requires inputs { length more.now ≡ length sheet.old.copies }
     requires copied { All IsCopy (lists_of more.now) }
     ensures refreshed { OnOk result (IsRefreshed sheet.old sheet.new (lists_of more.now)) }
-    ensures fault { IfErr result (IsToldOf (fault_after sheet.old (lists_of more.now))) }
+    ensures fault { IfErr result (IsRefreshToldOf (fault_after sheet.old (lists_of more.now))) }
 {
     let mut steps = Steps::<L>::new(blank);
     sheet.apply(more, &mut steps)

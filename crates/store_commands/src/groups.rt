@@ -2,12 +2,12 @@
 ghost use Rattle.std.specs.Prelude.{◌≡◌, ℕ, ◌^◌, ◌<◌, ◌≤◌, All, IfErr, IfOk, OnErr, OnOk, length, map};
 ghost use Rattle.calc_refresh.specs.Sheet.{IsCopy};
 ghost use Rattle.plant_files.specs.Reading.{faults_told};
-ghost use Rattle.tag_base.specs.Groups.{IsSound};
-ghost use Rattle.plant_store.specs.Groups.{AllStaySame, AreDistinct, AreOthersSame};
+ghost use Rattle.tag_base.specs.Groups.{IsSoundGroup};
+ghost use Rattle.plant_store.specs.Groups.{AllStaySame, AreDistinct, AreOtherGroupsSame};
 ghost use Rattle.plant_store.specs.BookRefusals.{CountsStore};
 ghost use Rattle.group_book.specs.InputLists.{lists_at};
 ghost use Rattle.store_commands.specs.Replies.{rows_in};
-ghost use Rattle.store_commands.specs.GroupRows.{AreGroupsTold, IsRowsRefusal, tag_records};
+ghost use Rattle.store_commands.specs.GroupRows.{AreGroupsTold, IsGroupRowsRefusal, tag_records};
 ghost use Rattle.store_commands.specs.Refreshing.{AreCutBooks, AreRefreshedOnce, HaveDevicesOf, IsCutBook, IsOverIn, IsOverSome, IsRefreshedOnce, refresh_status};
 
 use disk_model::{Disk, Store};
@@ -27,16 +27,16 @@ pub(crate) fn histories_of<S: Store>(
     groups: &[GroupDef],
     cores: &[TagCore],
 ) -> Result<Vec<GroupHistory>, Status>
-    requires sound { All (IsSound (length cores.now)) groups.now }
+    requires sound { All (IsSoundGroup (length cores.now)) groups.now }
     requires few { length groups.now < 2 ^ 32 }
     requires distinct { AreDistinct groups.now }
     requires short { All (λ core. length core.state.records < 2 ^ 32) cores.now }
     ensures told { IfOk result (λ h. AreGroupsTold groups.now (tag_records cores.now) (S.device_at store.old) (rows_in h.items)) }
-    ensures refused { IfErr result (IsRowsRefusal groups.now (tag_records cores.now) (S.device_at store.old)
+    ensures refused { IfErr result (IsGroupRowsRefusal groups.now (tag_records cores.now) (S.device_at store.old)
         (S.fault_count store.old) (S.fault_count store.new)) }
     ensures no_file_fault { IfErr result (λ why. (n : ℕ) → faults_told why n ≡ n) }
     ensures same { AllStaySame groups.now (S.device_at store.old) (S.device_at store.new) }
-    ensures others { AreOthersSame groups.now (S.device_at store.old) (S.device_at store.new) }
+    ensures others { AreOtherGroupsSame groups.now (S.device_at store.old) (S.device_at store.new) }
     ensures counts { S.fault_count store.old < 2 ^ 64
         → CountsStore result (S.fault_count store.old) (S.fault_count store.new) }
 {

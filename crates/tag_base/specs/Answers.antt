@@ -1,4 +1,4 @@
--- What is answered to a text of a plant: steps one after another, of which the first that fails decides.
+-- What is answered to a text of a plant: steps one after_step another, of which the first that fails decides.
 use Rattle.std.specs.Prelude.{◌≡◌, ◌≢◌, ℕ, ◌-◌, ◌^◌, min, nat_le, Bool, true, false, Option, None, Some, Result, Ok, Err}
 use Rattle.tag_base.specs.declared.refusal.TextNo.{TextNo}
 use Rattle.tag_base.specs.declared.refusal.TextNo.TheVariants.{BadText, Limit, WantOfMemory}
@@ -9,34 +9,34 @@ abbrev pub broken : ℕ → ℕ → TextNo
 broken rule place = BadText rule (min place (2 ^ 32 - 1)) 0
 
 -- goes on where a test holds, and else refuses
-abbrev pub when : {A : Type 0} → Bool → TextNo → Result A TextNo → Result A TextNo
-when false why answer = Err why
-when true why answer = answer
+abbrev pub where_held : {A : Type 0} → Bool → TextNo → Result A TextNo → Result A TextNo
+where_held false why answer = Err why
+where_held true why answer = answer
 
 -- goes on where a count is not above its limit, and else tells the count
 abbrev pub limited : {A : Type 0} → What → ℕ → ℕ → Result A TextNo → Result A TextNo
-limited what most count answer = when (nat_le count most) (Limit what count) answer
+limited what most count answer = where_held (nat_le count most) (Limit what count) answer
 
 -- goes on with a value where there is one, and else refuses
-abbrev pub given : {A B : Type 0} → Option A → TextNo → (A → Result B TextNo) → Result B TextNo
-given None why answer = Err why
-given (Some a) why answer = answer a
+abbrev pub where_given : {A B : Type 0} → Option A → TextNo → (A → Result B TextNo) → Result B TextNo
+where_given None why answer = Err why
+where_given (Some a) why answer = answer a
 
 -- goes on with the value of the step before, or hands on its refusal
-abbrev pub after : {A B : Type 0} → Result A TextNo → (A → Result B TextNo) → Result B TextNo
-after (Err why) answer = Err why
-after (Ok a) answer = answer a
+abbrev pub after_step : {A B : Type 0} → Result A TextNo → (A → Result B TextNo) → Result B TextNo
+after_step (Err why) answer = Err why
+after_step (Ok a) answer = answer a
 
 -- what is answered, with a value seen so, is what is due; but want of memory may be answered in its place at any time
-abbrev pub Answers : {A B : Type 0} → (A → B) → Result A TextNo → Result B TextNo → Type 0
-Answers see (Ok a) due = due ≡ Ok (see a)
-Answers see (Err why) due = why ≢ WantOfMemory → due ≡ Err why
+abbrev pub AnswersDue : {A B : Type 0} → (A → B) → Result A TextNo → Result B TextNo → Type 0
+AnswersDue see (Ok a) due = due ≡ Ok (see a)
+AnswersDue see (Err why) due = why ≢ WantOfMemory → due ≡ Err why
 
 -- what is answered, with a value seen so, is an answer that is due; but want of memory may be answered in its place at any
 -- time
-abbrev pub Reads : {A B : Type 0} → (A → B) → Result A TextNo → (Result B TextNo → Type 0) → Type 0
-Reads see (Ok a) IsDue = IsDue (Ok (see a))
-Reads see (Err why) IsDue = why ≢ WantOfMemory → IsDue (Err why)
+abbrev pub AnswersOneDue : {A B : Type 0} → (A → B) → Result A TextNo → (Result B TextNo → Type 0) → Type 0
+AnswersOneDue see (Ok a) IsDue = IsDue (Ok (see a))
+AnswersOneDue see (Err why) IsDue = why ≢ WantOfMemory → IsDue (Err why)
 
 -- what follows a step that may be refused
 abbrev pub Follows : {A B : Type 0} → Result A TextNo → (A → Result B TextNo → Type 0)

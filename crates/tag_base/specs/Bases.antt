@@ -9,7 +9,7 @@ use Rattle.tag_base.specs.declared.definition.GroupDef.{GroupDef}
 use Rattle.tag_base.specs.declared.base.BaseTables.{BaseTables}
 use Rattle.tag_base.specs.declared.definition.Base.{Base}
 use Rattle.tag_base.specs.declared.refusal.TextNo.{TextNo}
-use Rattle.tag_base.specs.Answers.{broken, limited, given, Follows}
+use Rattle.tag_base.specs.Answers.{broken, limited, where_given, Follows}
 use Rattle.tag_base.specs.Tables.{tables_at, tables_if_there}
 use Rattle.tag_base.specs.Tags.{tags_after}
 use Rattle.tag_base.specs.Groups.{GroupsRead}
@@ -51,8 +51,8 @@ base_arrays ms =
 -- tags there are, and how many groups
 abbrev pub base_tables : Option Members → Result BaseForm TextNo
 base_tables found =
-    given found (broken 1 0) (λ ms.
-    given (base_arrays ms) (broken 2 0) (λ tables.
+    where_given found (broken 1 0) (λ ms.
+    where_given (base_arrays ms) (broken 2 0) (λ tables.
     limited Tags most_tags (length tables.tags)
     (limited Groups most_groups (length tables.groups)
     (Ok tables))))

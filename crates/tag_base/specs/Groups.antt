@@ -8,7 +8,7 @@ use Rattle.trend_num.specs.declared.refusal.What.TheVariants.{Calcs}
 use Rattle.trend_num.specs.declared.tag_def.TagDef.{TagDef}
 use Rattle.calc_parser.specs.declared.refusal.ParseNo.{ParseNo}
 use Rattle.calc_parser.specs.declared.refusal.ParseNo.TheVariants as parse_no
-use Rattle.calc_parser.specs.Formulas.{IsFormula, HasCause, most_bytes}
+use Rattle.calc_parser.specs.Formulas.{IsFormula, HasFormulaCause, most_bytes}
 use Rattle.calc_check.specs.Group.{Calculation, Group, fault_of}
 use Rattle.tag_base.specs.declared.calculation.CalcText.{CalcText}
 use Rattle.tag_base.specs.declared.definition.GroupDef.{GroupDef}
@@ -16,7 +16,7 @@ use Rattle.tag_base.specs.declared.group.GroupText.{GroupText}
 use Rattle.tag_base.specs.declared.input.Input.{Input}
 use Rattle.tag_base.specs.declared.refusal.TextNo.{TextNo}
 use Rattle.tag_base.specs.declared.refusal.TextNo.TheVariants.{BadText, WantOfMemory}
-use Rattle.tag_base.specs.Answers.{broken, when, limited, given, Follows}
+use Rattle.tag_base.specs.Answers.{broken, where_held, limited, where_given, Follows}
 use Rattle.tag_base.specs.Tables.{name_at, number_at, tables_at}
 use Rattle.tag_base.specs.Tags.{tag_place}
 
@@ -37,8 +37,8 @@ pub record CalcForm : Type 0 where
   pub name : List ℕ
   pub formula : List ℕ
 
-abbrev pub text_of : CalcText → CalcForm
-text_of text = record { name = text.name; formula = string_bytes text.formula }
+abbrev pub formula_text_of : CalcText → CalcForm
+formula_text_of text = record { name = text.name; formula = string_bytes text.formula }
 
 -- a group, of whose formulas only the texts are known
 pub record GroupForm : Type 0 where
@@ -48,14 +48,14 @@ pub record GroupForm : Type 0 where
   pub period : ℕ
   pub calcs : List CalcForm
 
-abbrev pub form_of : GroupText → GroupForm
-form_of g =
+abbrev pub formula_form_of : GroupText → GroupForm
+formula_form_of g =
     record {
       name = g.name;
       inputs = g.inputs.items;
       start = g.start;
       period = g.period;
-      calcs = map text_of g.calcs.items;
+      calcs = map formula_text_of g.calcs.items;
     }
 
 -- the place of the first group of a name
@@ -125,12 +125,12 @@ group_keys = codes "name" ∷ codes "tags" ∷ codes "start" ∷ codes "period" 
 -- its inputs, 9 its start and period, 10 its calculations; and then how many these are
 abbrev pub group_text : List TagDef → List GroupDef → Members → Result GroupForm TextNo
 group_text tags earlier ms =
-    when (has_keys group_keys [] ms) (broken 6 (length earlier))
-    (given (new_group_name earlier ms) (broken 7 (length earlier)) (λ name.
-    given (inputs_at tags ms) (broken 8 (length earlier)) (λ inputs.
-    given (number_at (codes "start") 0 last_time ms) (broken 9 (length earlier)) (λ start.
-    given (number_at (codes "period") 1 longest_period ms) (broken 9 (length earlier)) (λ period.
-    given (calcs_at ms) (broken 10 (length earlier)) (λ calcs.
+    where_held (has_keys group_keys [] ms) (broken 6 (length earlier))
+    (where_given (new_group_name earlier ms) (broken 7 (length earlier)) (λ name.
+    where_given (inputs_at tags ms) (broken 8 (length earlier)) (λ inputs.
+    where_given (number_at (codes "start") 0 last_time ms) (broken 9 (length earlier)) (λ start.
+    where_given (number_at (codes "period") 1 longest_period ms) (broken 9 (length earlier)) (λ period.
+    where_given (calcs_at ms) (broken 10 (length earlier)) (λ calcs.
     limited Calcs most_calcs (length calcs)
     (Ok (record { name = name; inputs = inputs; start = start; period = period; calcs = calcs }))))))))
 
@@ -170,7 +170,7 @@ pub record IsFirstRefused (place : ℕ) (texts : List CalcForm) (why : TextNo) :
   pub calcs : List Calculation
   pub good : Define front calcs
   pub reason : ParseNo
-  pub cause : HasCause text.formula reason
+  pub cause : HasFormulaCause text.formula reason
   pub told : why ≡ told_of place reason
 
 -- the texts are formulas, in which a name stands for nothing
@@ -194,7 +194,7 @@ CalcsRead place inputs texts (Err why) =
 -- ---- groups
 
 -- the group of a text with these calculations
-pub record IsGroup (text : GroupForm) (calcs : Group) (g : GroupDef) : Type 0 where
+pub record IsGroupOf (text : GroupForm) (calcs : Group) (g : GroupDef) : Type 0 where
   pub name : g.name ≡ text.name
   pub inputs : g.inputs.items ≡ map (λ i. i.place) text.inputs
   pub start : g.start ≡ text.start
@@ -202,12 +202,12 @@ pub record IsGroup (text : GroupForm) (calcs : Group) (g : GroupDef) : Type 0 wh
   pub calcs_are : g.calcs ≡ calcs
 
 abbrev pub IsGroupAnswer : GroupForm → Group → Result GroupDef TextNo → Type 0
-IsGroupAnswer text calcs (Ok g) = IsGroup text calcs g
+IsGroupAnswer text calcs (Ok g) = IsGroupOf text calcs g
 IsGroupAnswer text calcs (Err why) = ⊥
 
 -- what holds of every group that is read, over so many tags: 1 to 64 inputs, each a tag, whose names the
 -- calculations stand on; 1 to 64 calculations; a start that is a time; a period from 1 to the longest
-pub record IsSound (tags : ℕ) (g : GroupDef) : Type 0 where
+pub record IsSoundGroup (tags : ℕ) (g : GroupDef) : Type 0 where
   pub inputs_are_tags : All (λ i. i < tags) g.inputs.items
   pub some_inputs : 1 ≤ length g.inputs.items
   pub few_inputs : length g.inputs.items ≤ most_inputs

@@ -10,7 +10,7 @@ use Rattle.tag_base.specs.declared.plan.PlanTables.{PlanTables}
 use Rattle.tag_base.specs.declared.schedule.Refresher.{Refresher}
 use Rattle.tag_base.specs.declared.schedule.Plan.{Plan}
 use Rattle.tag_base.specs.declared.refusal.TextNo.{TextNo}
-use Rattle.tag_base.specs.Answers.{broken, limited, given, after}
+use Rattle.tag_base.specs.Answers.{broken, limited, where_given, after_step}
 use Rattle.tag_base.specs.Tables.{number_at, tables_if_there}
 use Rattle.tag_base.specs.Groups.{group_place}
 
@@ -72,11 +72,11 @@ file_of ms =
     then option_and_then (λ text. if is_file_name text then Some text else None) (string_at (codes "file") ms)
     else None
 
--- the files of tables, in order, after some files; each table is to keep this rule
+-- the files of tables, in order, after_step some files; each table is to keep this rule
 abbrev pub files_after : ℕ → List (List ℕ) → List Members → Result (List (List ℕ)) TextNo
 files_after rule earlier [] = Ok earlier
 files_after rule earlier (ms ∷ mss) =
-    given (file_of ms) (broken rule (length earlier)) (λ file. files_after rule (earlier ++ file ∷ []) mss)
+    where_given (file_of ms) (broken rule (length earlier)) (λ file. files_after rule (earlier ++ file ∷ []) mss)
 
 -- whether a refresher has the group at a place
 abbrev pub is_refreshed : List Refresher → ℕ → Bool
@@ -88,7 +88,7 @@ new_group groups earlier ms =
     option_and_then (λ place. if is_refreshed earlier place then None else Some place)
     (option_and_then (group_place groups) (string_at (codes "group") ms))
 
--- the refresher of a table, after some refreshers
+-- the refresher of a table, after_step some refreshers
 abbrev pub refresher_of : List GroupDef → List Refresher → Members → Option Refresher
 refresher_of groups earlier ms =
     if has_keys (codes "group" ∷ codes "turns" ∷ []) [] ms
@@ -100,15 +100,15 @@ refresher_of groups earlier ms =
 abbrev pub refreshers_after : List GroupDef → List Refresher → List Members → Result (List Refresher) TextNo
 refreshers_after groups earlier [] = Ok earlier
 refreshers_after groups earlier (ms ∷ mss) =
-    given (refresher_of groups earlier ms) (broken 5 (length earlier))
+    where_given (refresher_of groups earlier ms) (broken 5 (length earlier))
     (λ r. refreshers_after groups (earlier ++ r ∷ []) mss)
 
 -- the tables of what was found in bytes: rule 1 asks for a document, rule 2 for its arrays; then how many
 -- collectors there are, and how many readers
 abbrev pub plan_tables : Option Members → Result PlanForm TextNo
 plan_tables found =
-    given found (broken 1 0) (λ ms.
-    given (plan_arrays ms) (broken 2 0) (λ tables.
+    where_given found (broken 1 0) (λ ms.
+    where_given (plan_arrays ms) (broken 2 0) (λ tables.
     limited Collectors most_files (length tables.collectors)
     (limited Readers most_files (length tables.readers)
     (Ok tables))))
@@ -117,8 +117,8 @@ plan_tables found =
 -- a refresher
 abbrev pub plan : List GroupDef → List ℕ → Result PlanParts TextNo
 plan groups bytes =
-    after (plan_tables (document bytes)) (λ tables.
-    after (files_after 3 [] tables.collectors) (λ collectors.
-    after (files_after 4 [] tables.readers) (λ readers.
-    after (refreshers_after groups [] tables.refreshers) (λ refreshers.
+    after_step (plan_tables (document bytes)) (λ tables.
+    after_step (files_after 3 [] tables.collectors) (λ collectors.
+    after_step (files_after 4 [] tables.readers) (λ readers.
+    after_step (refreshers_after groups [] tables.refreshers) (λ refreshers.
     Ok (record { collectors = collectors; readers = readers; refreshers = refreshers })))))

@@ -5,7 +5,7 @@ use Rattle.trend_num.specs.Ranges.{last_time, largest_value}
 use Rattle.trend_num.specs.declared.tuning.Tuning.{Tuning}
 use Rattle.trend_num.specs.declared.tag_def.TagDef.{TagDef}
 use Rattle.tag_base.specs.declared.refusal.TextNo.{TextNo}
-use Rattle.tag_base.specs.Answers.{broken, when, given, after}
+use Rattle.tag_base.specs.Answers.{broken, where_held, where_given, after_step}
 use Rattle.tag_base.specs.Tables.{name_at, number_at}
 use Rattle.toml_tables.specs.Tables.{has_keys}
 
@@ -60,17 +60,17 @@ new_tag_name earlier ms =
     option_and_then (λ name. if is_none (tag_place earlier name) then Some name else None)
     (name_at (codes "name") ms)
 
--- the tag of a table after some tags, by the rules of a tag in their order: 3 its keys, 4 its name, 5 its
+-- the tag of a table after_step some tags, by the rules of a tag in their order: 3 its keys, 4 its name, 5 its
 -- numbers and whether it is a step tag
 abbrev pub tag_of : List TagDef → Members → Result TagDef TextNo
 tag_of earlier ms =
-    when (has_tag_form ms) (broken 3 (length earlier))
-    (given (new_tag_name earlier ms) (broken 4 (length earlier)) (λ name.
-    given (tuning_at ms) (broken 5 (length earlier)) (λ tuning.
-    given (step_of (get_member (codes "step") ms)) (broken 5 (length earlier)) (λ step.
+    where_held (has_tag_form ms) (broken 3 (length earlier))
+    (where_given (new_tag_name earlier ms) (broken 4 (length earlier)) (λ name.
+    where_given (tuning_at ms) (broken 5 (length earlier)) (λ tuning.
+    where_given (step_of (get_member (codes "step") ms)) (broken 5 (length earlier)) (λ step.
     Ok (record { name = name; tuning = tuning; step = step })))))
 
--- the tags of tables, in order, after some tags
+-- the tags of tables, in order, after_step some tags
 abbrev pub tags_after : List TagDef → List Members → Result (List TagDef) TextNo
 tags_after earlier [] = Ok earlier
-tags_after earlier (ms ∷ mss) = after (tag_of earlier ms) (λ tag. tags_after (earlier ++ tag ∷ []) mss)
+tags_after earlier (ms ∷ mss) = after_step (tag_of earlier ms) (λ tag. tags_after (earlier ++ tag ∷ []) mss)

@@ -3,9 +3,9 @@ ghost use Rattle.std.specs.Prelude.{◌≡◌, ◌≤◌, false, vec_len, All, E
 ghost use Rattle.std.specs.Str.{is_utf8};
 ghost use Rattle.toml.specs.View.{table_view};
 ghost use Rattle.trend_num.specs.Ranges.{TuningInRange};
-ghost use Rattle.tag_base.specs.Answers.{Answers, Reads, broken};
+ghost use Rattle.tag_base.specs.Answers.{AnswersDue, AnswersOneDue, broken};
 ghost use Rattle.tag_base.specs.Bases.{tables_of, base_arrays, base_tables, BaseRead};
-ghost use Rattle.tag_base.specs.Groups.{IsSound};
+ghost use Rattle.tag_base.specs.Groups.{IsSoundGroup};
 
 use crate::access::{tables_at, tables_if_there};
 use crate::definition::Base;
@@ -53,7 +53,7 @@ fn base_arrays<'t>(alloc: Global, table: &'t Table) -> Result<Option<BaseTables<
 // The tables of the tags and of the groups, of which there are not too many.
 fn base_tables<'t>(alloc: Global, document: &'t Option<Table>) -> Result<BaseTables<'t>, TextNo>
     ensures none { document.now ≡ None → result ≡ Err (broken 1 0) }
-    ensures tables { Answers tables_of result (base_tables (option_map table_view document.now)) }
+    ensures tables { AnswersDue tables_of result (base_tables (option_map table_view document.now)) }
     ensures few_tags { IfOk result (λ tables. vec_len tables.tags ≤ 1024) }
     ensures few_groups { IfOk result (λ tables. vec_len tables.groups ≤ 16) }
 {
@@ -72,11 +72,11 @@ fn base_tables<'t>(alloc: Global, document: &'t Option<Table>) -> Result<BaseTab
 /// limit. The order is: that of the whole text, the counts of tags and of groups, each tag in turn, each
 /// group in turn.
 pub fn read_base(alloc: Global, bytes: &[u8]) -> Result<Base, TextNo>
-    ensures base { Reads (λ base. base) result (BaseRead bytes.now) }
+    ensures base { AnswersOneDue (λ base. base) result (BaseRead bytes.now) }
 
     // Bytes that are no text break the first rule, whatever memory there is.
     ensures no_text { is_utf8 bytes.now ≡ false → result ≡ Err (broken 1 0) }
-    ensures sound { IfOk result (λ base. All (IsSound (length base.tags.items)) base.groups.items) }
+    ensures sound { IfOk result (λ base. All (IsSoundGroup (length base.tags.items)) base.groups.items) }
     ensures tuned { IfOk result (λ base. All (λ tag. TuningInRange tag.tuning) base.tags.items) }
 {
     let document = document(alloc, bytes)?;

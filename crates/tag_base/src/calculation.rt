@@ -3,8 +3,8 @@ ghost use Rattle.std.specs.Prelude.{◌≡◌, ◌≢◌, ◌≤◌, [], map, le
 ghost use Rattle.std.specs.List.{list_any};
 ghost use Rattle.toml.specs.View.{table_view};
 ghost use Rattle.calc_check.specs.Group.{calculation};
-ghost use Rattle.tag_base.specs.Answers.{Reads};
-ghost use Rattle.tag_base.specs.Groups.{text_of, told_of, calc_text, calcs_after, calcs_at, Define, IsFirstRefused, CalcsRead};
+ghost use Rattle.tag_base.specs.Answers.{AnswersOneDue};
+ghost use Rattle.tag_base.specs.Groups.{formula_text_of, told_of, calc_text, calcs_after, calcs_at, Define, IsFirstRefused, CalcsRead};
 
 use crate::access::{name_at, tables_at};
 use crate::refusal::TextNo;
@@ -31,8 +31,8 @@ fn calc_text(
     earlier: &[CalcText],
     table: &Table,
 ) -> Result<Option<CalcText>, WantOfMemory>
-    ensures { IfOk result (λ found. option_map text_of found
-        ≡ calc_text (map text_of earlier.now) (table_view table.now)) }
+    ensures { IfOk result (λ found. option_map formula_text_of found
+        ≡ calc_text (map formula_text_of earlier.now) (table_view table.now)) }
 {
     if !has_keys(table, &["name", "formula"], &[]) {
         return Ok(None);
@@ -52,7 +52,7 @@ fn calc_text(
 
 // Whether a calculation has a name.
 fn is_taken(calcs: &[CalcText], name: &Name) -> bool
-    ensures { result ≡ list_any (λ c. bytes_eq c.name name.now) (map text_of calcs.now) }
+    ensures { result ≡ list_any (λ c. bytes_eq c.name name.now) (map formula_text_of calcs.now) }
 {
     for calc in calcs {
         if calc.name.bytes() == name.bytes() {
@@ -65,7 +65,7 @@ fn is_taken(calcs: &[CalcText], name: &Name) -> bool
 // The calculations of tables.
 fn calcs_of(alloc: Global, tables: &[&Table]) -> Result<Option<Vec<CalcText>>, WantOfMemory>
     ensures calcs { IfOk result (λ found.
-        option_map (λ calcs. map text_of calcs.items) found
+        option_map (λ calcs. map formula_text_of calcs.items) found
         ≡ calcs_after [] (map (λ t. table_view t.now) tables.now)) }
     ensures as_many { IfOk result (λ found. IfSome found (λ calcs. vec_len calcs ≡ length tables.now)) }
 {
@@ -82,7 +82,7 @@ fn calcs_of(alloc: Global, tables: &[&Table]) -> Result<Option<Vec<CalcText>>, W
 // The calculations of the table of a group, where there is one or more.
 pub(crate) fn calcs_at(alloc: Global, table: &Table) -> Result<Option<Vec<CalcText>>, WantOfMemory>
     ensures calcs { IfOk result (λ found.
-        option_map (λ calcs. map text_of calcs.items) found ≡ calcs_at (table_view table.now)) }
+        option_map (λ calcs. map formula_text_of calcs.items) found ≡ calcs_at (table_view table.now)) }
     ensures some { IfOk result (λ found. IfSome found (λ calcs. 1 ≤ vec_len calcs)) }
 {
     let Some(tables) = tables_at(alloc, table, "calc")? else {
@@ -96,10 +96,10 @@ pub(crate) fn calcs_at(alloc: Global, table: &Table) -> Result<Option<Vec<CalcTe
 
 // The calculations that texts define, or where the first text that is no formula is refused.
 fn defs_of(alloc: Global, place: u32, texts: &[CalcText]) -> Result<Vec<CalcDef>, TextNo>
-    ensures defined { IfOk result (λ defs. Define (map text_of texts.now) (map calculation defs.items)) }
+    ensures defined { IfOk result (λ defs. Define (map formula_text_of texts.now) (map calculation defs.items)) }
     ensures as_many { IfOk result (λ defs. vec_len defs ≡ length texts.now) }
     ensures refused { IfErr result (λ why. (why ≢ TextNo.WantOfMemory)
-        → IsFirstRefused place (map text_of texts.now) why) }
+        → IsFirstRefused place (map formula_text_of texts.now) why) }
 {
     let mut defs = Vec::new(alloc);
     for text in texts {
@@ -140,7 +140,7 @@ pub(crate) fn checked(
     texts: &[CalcText],
 ) -> Result<Checked, TextNo>
     requires { length texts.now ≤ 64 }
-    ensures calcs { Reads (λ checked. checked) result (CalcsRead place inputs.now (map text_of texts.now)) }
+    ensures calcs { AnswersOneDue (λ checked. checked) result (CalcsRead place inputs.now (map formula_text_of texts.now)) }
     ensures names { IfOk result (λ checked. checked.inputs ≡ inputs.now) }
     ensures as_many { IfOk result (λ checked. length checked.calcs ≡ length texts.now) }
 {

@@ -1,8 +1,8 @@
 // The groups of a base.
 ghost use Rattle.std.specs.Prelude.{◌≡◌, ◌≤◌, ◌<◌, [], map, length, vec_len, IfOk, IfSome, option_map, All};
 ghost use Rattle.toml.specs.View.{table_view};
-ghost use Rattle.tag_base.specs.Answers.{Answers, Reads};
-ghost use Rattle.tag_base.specs.Groups.{group_place, new_group_name, text_of, form_of, group_text, IsSoundText, IsSound, GroupRead, GroupsRead};
+ghost use Rattle.tag_base.specs.Answers.{AnswersDue, AnswersOneDue};
+ghost use Rattle.tag_base.specs.Groups.{group_place, new_group_name, formula_text_of, formula_form_of, group_text, IsSoundText, IsSoundGroup, GroupRead, GroupsRead};
 
 use crate::access::{name_at, number_at};
 use crate::calculation::{CalcText, calcs_at, checked};
@@ -58,7 +58,7 @@ fn group_text(
     table: &Table,
 ) -> Result<GroupText, TextNo>
     requires { length tags.now ≤ 1024 }
-    ensures text { Answers form_of result (group_text tags.now earlier.now (table_view table.now)) }
+    ensures text { AnswersDue formula_form_of result (group_text tags.now earlier.now (table_view table.now)) }
     ensures sound { IfOk result (IsSoundText (length tags.now)) }
 {
     if !has_keys(table, &["name", "tags", "start", "period", "calc"], &[]) {
@@ -116,8 +116,8 @@ fn group_of(
 ) -> Result<GroupDef, TextNo>
     requires few_tags { length tags.now ≤ 1024 }
     requires few_groups { length earlier.now ≤ 16 }
-    ensures group { Reads (λ group. group) result (GroupRead tags.now earlier.now (table_view table.now)) }
-    ensures sound { IfOk result (IsSound (length tags.now)) }
+    ensures group { AnswersOneDue (λ group. group) result (GroupRead tags.now earlier.now (table_view table.now)) }
+    ensures sound { IfOk result (IsSoundGroup (length tags.now)) }
 {
     let text = group_text(alloc, tags, earlier, table)?;
     let inputs = places_of(alloc, &text.inputs)?;
@@ -142,10 +142,10 @@ pub(crate) fn groups_of(
 ) -> Result<Vec<GroupDef>, TextNo>
     requires few_tags { length tags.now ≤ 1024 }
     requires few_groups { length tables.now ≤ 16 }
-    ensures groups { Reads (λ groups. groups.items) result
+    ensures groups { AnswersOneDue (λ groups. groups.items) result
         (GroupsRead tags.now [] (map (λ t. table_view t.now) tables.now)) }
     ensures as_many { IfOk result (λ groups. vec_len groups ≡ length tables.now) }
-    ensures sound { IfOk result (λ groups. All (IsSound (length tags.now)) groups.items) }
+    ensures sound { IfOk result (λ groups. All (IsSoundGroup (length tags.now)) groups.items) }
 {
     let mut groups = Vec::new(alloc);
     for table in tables {

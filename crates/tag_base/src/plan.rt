@@ -2,7 +2,7 @@
 ghost use Rattle.std.specs.Prelude.{◌≡◌, ◌≤◌, ◌<◌, [], false, map, length, Err, IfOk, None, option_map, All, vec_len, IfSome};
 ghost use Rattle.std.specs.Str.{is_utf8};
 ghost use Rattle.toml.specs.View.{table_view};
-ghost use Rattle.tag_base.specs.Answers.{Answers, broken};
+ghost use Rattle.tag_base.specs.Answers.{AnswersDue, broken};
 ghost use Rattle.tag_base.specs.Plans.{most_files, tables_of, plan_arrays, plan_tables, file_of, files_after, is_refreshed, new_group, refresher_of, refreshers_after, plan_parts, plan};
 
 use crate::access::{number_at, tables_if_there};
@@ -59,7 +59,7 @@ fn plan_arrays<'t>(alloc: Global, table: &'t Table) -> Result<Option<PlanTables<
 // The tables of the collectors, the readers and the refreshers, of which the first two are not too many.
 fn plan_tables<'t>(alloc: Global, document: &'t Option<Table>) -> Result<PlanTables<'t>, TextNo>
     ensures none { document.now ≡ None → result ≡ Err (broken 1 0) }
-    ensures tables { Answers tables_of result (plan_tables (option_map table_view document.now)) }
+    ensures tables { AnswersDue tables_of result (plan_tables (option_map table_view document.now)) }
     ensures few_collectors { IfOk result (λ tables. vec_len tables.collectors ≤ most_files) }
     ensures few_readers { IfOk result (λ tables. vec_len tables.readers ≤ most_files) }
 {
@@ -93,7 +93,7 @@ fn file_of(alloc: Global, table: &Table) -> Result<Option<FileName>, WantOfMemor
 
 // The files of tables, or the first table that breaks the rule.
 fn files_of(alloc: Global, rule: u8, tables: &[&Table]) -> Result<Vec<FileName>, TextNo>
-    ensures files { Answers (λ files. files.items) result
+    ensures files { AnswersDue (λ files. files.items) result
         (files_after rule [] (map (λ t. table_view t.now) tables.now)) }
     ensures few { IfOk result (λ files. vec_len files ≤ length tables.now) }
 {
@@ -156,7 +156,7 @@ fn refreshers_of(
 ) -> Result<Vec<Refresher>, TextNo>
     requires { length groups.now ≤ 16 }
     ensures groups { IfOk result (λ rs. All (λ r. r.group < length groups.now) rs.items) }
-    ensures refreshers { Answers (λ rs. rs.items) result
+    ensures refreshers { AnswersDue (λ rs. rs.items) result
         (refreshers_after groups.now [] (map (λ t. table_view t.now) tables.now)) }
 {
     let mut refreshers = Vec::new(alloc);
@@ -173,7 +173,7 @@ fn refreshers_of(
 /// count that is above its limit. The order is: that of the whole text, the counts of collectors and of
 /// readers, each collector in turn, each reader in turn, each refresher in turn.
 pub fn read_plan(alloc: Global, bytes: &[u8], base: &Base) -> Result<Plan, TextNo>
-    ensures plan { Answers plan_parts result (plan base.now.groups.items bytes.now) }
+    ensures plan { AnswersDue plan_parts result (plan base.now.groups.items bytes.now) }
 
     // Bytes that are no text break the first rule, whatever memory there is.
     ensures no_text { is_utf8 bytes.now ≡ false → result ≡ Err (broken 1 0) }

@@ -3,7 +3,7 @@ ghost use Rattle.std.specs.Prelude.{◌≡◌, ◌<◌, [], map, length, vec_len
 ghost use Rattle.toml.specs.Data.{get_member};
 ghost use Rattle.toml.specs.View.{view, table_view};
 ghost use Rattle.trend_num.specs.Ranges.{TuningInRange};
-ghost use Rattle.tag_base.specs.Answers.{Answers};
+ghost use Rattle.tag_base.specs.Answers.{AnswersDue};
 ghost use Rattle.tag_base.specs.Tags.{is_text_if_there, has_tag_form, tuning_at, step_of, tag_place, new_tag_name, tag_of, tags_after};
 
 use crate::access::{name_at, number_at};
@@ -102,7 +102,7 @@ fn tag_of(earlier: &[TagDef], table: &Table) -> Result<TagDef, TextNo>
 
 // The tags of tables, or the first rule that one breaks.
 pub(crate) fn tags_of(alloc: Global, tables: &[&Table]) -> Result<Vec<TagDef>, TextNo>
-    ensures tags { Answers (λ tags. tags.items) result
+    ensures tags { AnswersDue (λ tags. tags.items) result
         (tags_after [] (map (λ t. table_view t.now) tables.now)) }
     ensures as_many { IfOk result (λ tags. vec_len tags ≡ length tables.now) }
     ensures tuned { IfOk result (λ tags. All (λ tag. TuningInRange tag.tuning) tags.items) }

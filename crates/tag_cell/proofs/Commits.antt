@@ -26,15 +26,15 @@ use Rattle.trend_num.specs.declared.archive.Rec.{Rec}
 use Rattle.tag_cell.specs.declared.entry.Entry.{Entry}
 use Rattle.tag_cell.specs.declared.entry.Entry.TheVariants.{Commit}
 use Rattle.tag_cell.specs.declared.history.TagOpening.{TagOpening}
-use Rattle.tag_cell.specs.Tapes.{Walk, start, walked, taken, last_records, acked_at, opened, state_after}
-use Rattle.tag_cell.specs.Replays.{replayed, IsReplayed}
+use Rattle.tag_cell.specs.Tapes.{CellWalk, cell_start, cell_walked, taken, last_records, acked_at, opened, state_after}
+use Rattle.tag_cell.specs.Replays.{replayed, IsTapeReplayed}
 use Rattle.tag_cell.specs.Crashes.{GoesOnBy, IsCountable, IsSafe, RecoversPart, count_written}
-use Rattle.tag_cell.specs.Told.{IsAcknowledged, IsCommitted, IsInStep, IsKept, Told, Waits, waits}
+use Rattle.tag_cell.specs.Told.{AreTakesAcknowledged, IsCommitted, IsInStep, IsKept, ToldCell, Waits, takes_waiting}
 use Rattle.tag_cell.proofs.Tapes.{taken-append, walked-push, fit-push, last_records-append}
 use Rattle.tag_cell.proofs.Entries.{countable_before, points-end}
 use Rattle.tag_cell.proofs.Crashes.{acked_at-most, part_behind, safe_commit, taken-take}
 
--- ---- what waits
+-- ---- what takes_waiting
 
 -- the values of a tape are those before a place and those from it on
 pub taken-parts : (tape rest : List Entry) (next : ℕ) → rest ≡ drop next tape → taken tape ≡ taken (take next tape) ++ taken rest
@@ -60,7 +60,7 @@ fit_behind step s (x ∷ xs) ys fit = fit_behind step (after step s x) xs ys fit
 
 -- the state goes on by the waiting values
 pub goes_by : (def : TagDef) (o : TagOpening) (tape rest : List Entry) (next : ℕ) (core : Core) (content : List Rec) (s : State) (acked : ℕ)
-    → IsReplayed def o tape core.state acked → IsInStep def o tape core content → rest ≡ drop next tape
+    → IsTapeReplayed def o tape core.state acked → IsInStep def o tape core content → rest ≡ drop next tape
     → GoesOnBy def (acked_state def o tape next) core.step core.state (taken rest)
 goes_by def o tape rest next core content s acked is in_step from =
     let all : map Raw (taken tape) ≡ map Raw (taken (take next tape)) ++ map Raw (taken rest) =
@@ -77,19 +77,19 @@ goes_by def o tape rest next core content s acked is in_step from =
 
 -- the tape replays
 pub commit_replayed : (def : TagDef) (o : TagOpening) (tape tape' : List Entry) (s : State) (acked acked' m : ℕ)
-    → IsReplayed def o tape s acked → acked < acked' → acked' ≤ o.summary.taken + length (taken tape)
-    → (walked (start o) tape).moment < m → tape' ≡ tape ++ Commit m acked' ∷ [] → IsReplayed def o tape' s acked'
+    → IsTapeReplayed def o tape s acked → acked < acked' → acked' ≤ o.summary.taken + length (taken tape)
+    → (cell_walked (cell_start o) tape).moment < m → tape' ≡ tape ++ Commit m acked' ∷ [] → IsTapeReplayed def o tape' s acked'
 commit_replayed def o tape tape' s acked acked' m is more within later longer =
     let e : Entry = Commit m acked' in
-    subst (λ t. IsReplayed def o t s acked') (sym longer) (record {
+    subst (λ t. IsTapeReplayed def o t s acked') (sym longer) (record {
       tuning = is.tuning;
-      entries = fit-push (replayed def.step o) def.step o (start o) tape e is.entries (record {
+      entries = fit-push (replayed def.step o) def.step o (cell_start o) tape e is.entries (record {
         more = omega (arith, is.acked_are);
         within = omega (arith, within, ap length (points-end o tape));
         later = later;
       });
       stands = is.stands ∙ ap (state_after def.step o) (sym (taken-append tape (e ∷ []) ∙ append-nil (taken tape)));
-      acked_are = ap (λ (w : Walk). w.acked) (sym (walked-push (start o) tape e));
+      acked_are = ap (λ (w : CellWalk). w.acked) (sym (walked-push (cell_start o) tape e));
     })
 
 -- the written values wait no more
@@ -159,24 +159,24 @@ rest_range def o tape rest next core content in_step from =
     (subst (All InRange) (taken-parts tape rest next from) in_step.in_range))
 
 -- at no moment more is acknowledged than now
-pub most_acked : (def : TagDef) (o : TagOpening) (tape : List Entry) (s : State) (acked : ℕ) → IsReplayed def o tape s acked
+pub most_acked : (def : TagDef) (o : TagOpening) (tape : List Entry) (s : State) (acked : ℕ) → IsTapeReplayed def o tape s acked
     → (t : ℕ) → acked_at t o.summary.taken tape ≤ acked
 most_acked def o tape s acked is t = omega (
   arith,
   is.acked_are,
-  acked_at-most (replayed def.step o) def.step o (start o) tape t o.summary.taken (le_refl o.summary.taken) is.entries,
+  acked_at-most (replayed def.step o) def.step o (cell_start o) tape t o.summary.taken (le_refl o.summary.taken) is.entries,
 )
 
 -- a crash during the device work of a commit
 pub commit_during : (def : TagDef) (o : TagOpening) (tape rest : List Entry) (next durable acked : ℕ) (core : Core) (content : List Rec)
     (failed : Bool) (old new : Option Trace) (ticks faults : ℕ)
-    → IsReplayed def o tape core.state acked → IsInStep def o tape core content → Waits o tape next durable acked
+    → IsTapeReplayed def o tape core.state acked → IsInStep def o tape core content → Waits o tape next durable acked
     → IsKept def o tape next failed old ticks faults → failed ≡ false → rest ≡ drop next tape
     → (core.state.summary.taken < 10 ^ 18 → (d : TagDef) (s : State) → AllRecover d old s
     → GoesOnBy d s core.step core.state (taken rest) → During old new (RecoversPart d s (taken rest) 0))
     → IsCountable o tape → During old new (RecoversPart def (opened o) (taken tape) (acked - o.summary.taken))
-commit_during def o tape rest next durable acked core content failed old new ticks faults replays in_step waits kept fine from work few =
-    during_commit def o tape rest next durable acked old new waits from
+commit_during def o tape rest next durable acked core content failed old new ticks faults replays in_step takes_waiting kept fine from work few =
+    during_commit def o tape rest next durable acked old new takes_waiting from
     (work (omega (arith, few, in_step.counted)) def (acked_state def o tape next) (kept.recovers fine few)
     (goes_by def o tape rest next core content core.state acked replays in_step from))
 
@@ -223,7 +223,7 @@ written_most free n = either_most (nat_eq free 0)
 -- the device keeps what is acknowledged then
 pub commit_kept : (def : TagDef) (o : TagOpening) (tape tape' rest : List Entry) (next n m acked' : ℕ) (failed failed' : Bool)
     (old new : Option Trace) (ticks faults faults' : ℕ) (core : Core) (content : List Rec) (acked : ℕ)
-    → IsReplayed def o tape core.state acked → IsInStep def o tape core content → next ≤ length tape
+    → IsTapeReplayed def o tape core.state acked → IsInStep def o tape core content → next ≤ length tape
     → IsKept def o tape next failed old ticks faults → failed ≡ false → failed' ≡ false → rest ≡ drop next tape → n ≤ length rest
     → (core.state.summary.taken < 10 ^ 18 → (d : TagDef) (s : State) → AllRecover d old s
     → GoesOnBy d s core.step core.state (taken rest) → AllRecover d new (replay d.step s (map Raw (taken (take n rest)))))
@@ -234,8 +234,8 @@ commit_kept def o tape tape' rest next n m acked' failed failed' old new ticks f
       subst (AllRecover def new) (acked_after def o tape tape' rest (Commit m acked' ∷ []) next n from within few_entries longer)
       (work (omega (arith, few', in_step.counted)) def (acked_state def o tape next) (kept.recovers fine few')
       (goes_by def o tape rest next core content core.state acked replays in_step from));
-  past = let e : (walked (start o) tape').moment ≡ m =
-      ap (λ l. (walked (start o) l).moment) longer ∙ ap (λ (w : Walk). w.moment) (walked-push (start o) tape (Commit m acked')) in omega (arith, e);
+  past = let e : (cell_walked (cell_start o) tape').moment ≡ m =
+      ap (λ l. (cell_walked (cell_start o) l).moment) longer ∙ ap (λ (w : CellWalk). w.moment) (walked-push (cell_start o) tape (Commit m acked')) in omega (arith, e);
   opened_before = omega (arith, kept.opened_before, later);
   faultless = λ _. same ∙ kept.faultless fine;
   cause = λ broke. cc (broke, fine');
@@ -262,20 +262,20 @@ commit_safe def o tape tape' trace next n m acked' safe longer within are counte
 
 -- ---- what a commit tells
 
-abbrev pub told : {D : Type 0} → TagDef → TagOpening → State → Logged D → ℕ → List Entry → Told D
+abbrev pub told : {D : Type 0} → TagDef → TagOpening → State → Logged D → ℕ → List Entry → ToldCell D
 told def o state journal room tape = record { def = def; opening = o; tape = tape; state = state; journal = journal; room = room }
 
 -- something waited, and was acknowledged
-pub is_committed : {D : Type 0} (before now : ℕ) (a : Acked) (old new : Told D) → 0 < waits old → IsAcknowledged before now a old new
+pub is_committed : {D : Type 0} (before now : ℕ) (a : Acked) (old new : ToldCell D) → 0 < takes_waiting old → AreTakesAcknowledged before now a old new
     → IsCommitted before now a old new
-is_committed before now a old new some acked = go (nat_eq (waits old) 0) refl
+is_committed before now a old new some acked = go (nat_eq (takes_waiting old) 0) refl
   where
     not_none : (n : ℕ) → 0 < n → nat_eq n 0 ≡ true → ⊥
     not_none n less e = grind (arith, nat_tests)
 
-    go : (b : Bool) → nat_eq (waits old) 0 ≡ b
-        → MatchBool b ((new ≡ old) × (a ≡ record { acked = old.journal.acked; waiting = 0 })) (IsAcknowledged before now a old new)
-    go true is = absurd (not_none (waits old) some is)
+    go : (b : Bool) → nat_eq (takes_waiting old) 0 ≡ b
+        → MatchBool b ((new ≡ old) × (a ≡ record { acked = old.journal.acked; waiting = 0 })) (AreTakesAcknowledged before now a old new)
+    go true is = absurd (not_none (takes_waiting old) some is)
     go false is = acked
 
 -- a cell with another tape

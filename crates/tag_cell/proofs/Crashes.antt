@@ -17,7 +17,7 @@ use Rattle.crash_recovery.proofs.Replays.{replay_append}
 use Rattle.tag_cell.specs.declared.entry.Entry.{Entry}
 use Rattle.tag_cell.specs.declared.entry.Entry.TheVariants.{Take, Ask, Pull, Commit}
 use Rattle.tag_cell.specs.declared.history.TagOpening.{TagOpening}
-use Rattle.tag_cell.specs.Tapes.{Walk, after_entry, walked, taken, acked_at, opened, state_after}
+use Rattle.tag_cell.specs.Tapes.{CellWalk, after_entry, cell_walked, taken, acked_at, opened, state_after}
 use Rattle.tag_cell.specs.Replays.{Shown, FitAll}
 use Rattle.tag_cell.specs.Crashes.{GoesOnBy, IsCountable, IsSafe, RecoversPart}
 use Rattle.tag_cell.proofs.Tapes.{taken-append}
@@ -62,8 +62,8 @@ part_behind def s xs ys c is =
 -- ---- moments
 
 -- at no moment more is acknowledged than at the end
-pub acked_at-most : (show : List Point → Shown) (step : Bool) (o : TagOpening) (w : Walk) (es : List Entry) (t n : ℕ) → n ≤ w.acked
-    → FitAll show step o w es → acked_at t n es ≤ (walked w es).acked
+pub acked_at-most : (show : List Point → Shown) (step : Bool) (o : TagOpening) (w : CellWalk) (es : List Entry) (t n : ℕ) → n ≤ w.acked
+    → FitAll show step o w es → acked_at t n es ≤ (cell_walked w es).acked
 acked_at-most show step o w [] t n le all = le
 acked_at-most show step o w (Take collector row p h k ∷ es) t n le all =
     acked_at-most show step o (after_entry w (Take collector row p h k)) es t n le all.1

@@ -13,8 +13,8 @@ use Rattle.interp_read.specs.declared.query.Reply.{Reply}
 use Rattle.tag_cell.specs.declared.entry.Entry.{Entry}
 use Rattle.tag_cell.specs.declared.entry.Entry.TheVariants.{Take, Ask, Pull}
 use Rattle.tag_cell.specs.declared.history.TagOpening.{TagOpening}
-use Rattle.tag_cell.specs.Tapes.{Walk, start, walked, taken, last_records, acked_at, done, opened, state_after}
-use Rattle.tag_cell.specs.Replays.{IsAnswer, IsPull, replayed, shown_of, IsReplayed}
+use Rattle.tag_cell.specs.Tapes.{CellWalk, cell_start, cell_walked, taken, last_records, acked_at, done, opened, state_after}
+use Rattle.tag_cell.specs.Replays.{IsAnswer, IsPull, replayed, shown_of, IsTapeReplayed}
 use Rattle.tag_cell.specs.Crashes.{IsCountable, IsSafe, RecoversPart}
 use Rattle.tag_cell.specs.Told.{IsKept, Waits}
 use Rattle.tag_cell.proofs.Tapes.{IsCall, moment-call, acked_at-call, walked-push, taken-append, points-walked, fit-push, state_after-push}
@@ -22,55 +22,55 @@ use Rattle.tag_cell.proofs.Tapes.{IsCall, moment-call, acked_at-call, walked-pus
 -- ---- the tape replays
 
 -- the values at the end of a tape are those that were taken
-pub points-end : (o : TagOpening) (tape : List Entry) → (walked (start o) tape).points ≡ taken tape
-points-end o tape = points-walked (start o) tape
+pub points-end : (o : TagOpening) (tape : List Entry) → (cell_walked (cell_start o) tape).points ≡ taken tape
+points-end o tape = points-walked (cell_start o) tape
 
 -- after a take
 pub take_replayed : (def : TagDef) (o : TagOpening) (tape tape' : List Entry) (s s' : State) (acked collector row : ℕ) (p h : Point) (n : ℕ)
-    → IsReplayed def o tape s acked → s' ≡ after def.step s (Raw p) → s'.summary.held ≡ Some h → n ≡ length s'.records
-    → tape' ≡ tape ++ Take collector row p h n ∷ [] → IsReplayed def o tape' s' acked
+    → IsTapeReplayed def o tape s acked → s' ≡ after def.step s (Raw p) → s'.summary.held ≡ Some h → n ≡ length s'.records
+    → tape' ≡ tape ++ Take collector row p h n ∷ [] → IsTapeReplayed def o tape' s' acked
 take_replayed def o tape tape' s s' acked collector row p h n is next held count longer =
     let e : Entry = Take collector row p h n in
     let goes : (ps : List Point) → ps ≡ taken tape → state_after def.step o (ps ++ p ∷ []) ≡ s' =
     λ ps same. state_after-push def.step o ps p
     ∙ (ap (λ (x : State). after def.step x (Raw p)) (ap (state_after def.step o) same ∙ sym is.stands) ∙ sym next) in
-    let here : state_after def.step o ((walked (start o) tape).points ++ p ∷ []) ≡ s' = goes _ (points-end o tape) in
-    subst (λ t. IsReplayed def o t s' acked) (sym longer) (record {
+    let here : state_after def.step o ((cell_walked (cell_start o) tape).points ++ p ∷ []) ≡ s' = goes _ (points-end o tape) in
+    subst (λ t. IsTapeReplayed def o t s' acked) (sym longer) (record {
       tuning = is.tuning;
-      entries = fit-push (replayed def.step o) def.step o (start o) tape e is.entries (record {
+      entries = fit-push (replayed def.step o) def.step o (cell_start o) tape e is.entries (record {
         same_held = ap (λ (x : State). x.summary.held) here ∙ held;
         counted = count ∙ ap (λ (x : State). length x.records) (sym here);
       });
       stands = sym (ap (state_after def.step o) (taken-append tape (e ∷ [])) ∙ goes (taken tape) refl);
-      acked_are = is.acked_are ∙ ap (λ (w : Walk). w.acked) (sym (walked-push (start o) tape e));
+      acked_are = is.acked_are ∙ ap (λ (w : CellWalk). w.acked) (sym (walked-push (cell_start o) tape e));
     })
 
 -- after an answer to a question on the closed content
 pub ask_replayed : (def : TagDef) (o : TagOpening) (tape tape' : List Entry) (s : State) (acked reader row : ℕ) (q : TagQuery) (a : Reply)
-    → IsReplayed def o tape s acked → IsAnswer def.step (shown_of s) q a
-    → tape' ≡ tape ++ Ask reader row q a ∷ [] → IsReplayed def o tape' s acked
+    → IsTapeReplayed def o tape s acked → IsAnswer def.step (shown_of s) q a
+    → tape' ≡ tape ++ Ask reader row q a ∷ [] → IsTapeReplayed def o tape' s acked
 ask_replayed def o tape tape' s acked reader row q a is answer longer =
     let e : Entry = Ask reader row q a in
-    subst (λ t. IsReplayed def o t s acked) (sym longer) (record {
+    subst (λ t. IsTapeReplayed def o t s acked) (sym longer) (record {
       tuning = is.tuning;
-      entries = fit-push (replayed def.step o) def.step o (start o) tape e is.entries
+      entries = fit-push (replayed def.step o) def.step o (cell_start o) tape e is.entries
           (subst (λ (x : State). IsAnswer def.step (shown_of x) q a)
           (is.stands ∙ ap (state_after def.step o) (sym (points-end o tape))) answer);
       stands = is.stands ∙ ap (state_after def.step o) (sym (taken-append tape (e ∷ []) ∙ append-nil (taken tape)));
-      acked_are = is.acked_are ∙ ap (λ (w : Walk). w.acked) (sym (walked-push (start o) tape e));
+      acked_are = is.acked_are ∙ ap (λ (w : CellWalk). w.acked) (sym (walked-push (cell_start o) tape e));
     })
 
 -- after a pull of the records of the acknowledged takes
 pub pull_replayed : (def : TagDef) (o : TagOpening) (tape tape' : List Entry) (s : State) (acked group first upto : ℕ)
-    → IsReplayed def o tape s acked → IsPull (replayed def.step o (done o (walked (start o) tape))) first upto
-    → tape' ≡ tape ++ Pull group first upto ∷ [] → IsReplayed def o tape' s acked
+    → IsTapeReplayed def o tape s acked → IsPull (replayed def.step o (done o (cell_walked (cell_start o) tape))) first upto
+    → tape' ≡ tape ++ Pull group first upto ∷ [] → IsTapeReplayed def o tape' s acked
 pull_replayed def o tape tape' s acked group first upto is pull longer =
     let e : Entry = Pull group first upto in
-    subst (λ t. IsReplayed def o t s acked) (sym longer) (record {
+    subst (λ t. IsTapeReplayed def o t s acked) (sym longer) (record {
       tuning = is.tuning;
-      entries = fit-push (replayed def.step o) def.step o (start o) tape e is.entries pull;
+      entries = fit-push (replayed def.step o) def.step o (cell_start o) tape e is.entries pull;
       stands = is.stands ∙ ap (state_after def.step o) (sym (taken-append tape (e ∷ []) ∙ append-nil (taken tape)));
-      acked_are = is.acked_are ∙ ap (λ (w : Walk). w.acked) (sym (walked-push (start o) tape e));
+      acked_are = is.acked_are ∙ ap (λ (w : CellWalk). w.acked) (sym (walked-push (cell_start o) tape e));
     })
 
 -- ---- what waits, what the device keeps
@@ -99,7 +99,7 @@ kept_entry def o tape tape' e next failed trace ticks faults call within is long
   recovers = λ fine few. subst (λ l. AllRecover def trace (state_after def.step o (taken l)))
       (sym (ap (take next) longer ∙ take-append-le next tape (e ∷ []) within))
       (is.recovers fine (countable_before o tape tape' (e ∷ []) longer few));
-  past = omega (arith, is.past, ap (λ l. (walked (start o) l).moment) longer, ap (λ (w : Walk). w.moment) (walked-push (start o) tape e), moment-call (walked (start o) tape) e call);
+  past = omega (arith, is.past, ap (λ l. (cell_walked (cell_start o) l).moment) longer, ap (λ (w : CellWalk). w.moment) (walked-push (cell_start o) tape e), moment-call (cell_walked (cell_start o) tape) e call);
   opened_before = is.opened_before;
   faultless = is.faultless;
   cause = is.cause;

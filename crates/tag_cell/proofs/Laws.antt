@@ -9,11 +9,11 @@ use Rattle.trend_model.proofs.StateLaw.{stands_followed}
 use Rattle.tag_cell.specs.declared.entry.Entry.{Entry}
 use Rattle.tag_cell.specs.declared.entry.Entry.TheVariants.{Take, Ask, Pull, Commit}
 use Rattle.tag_cell.specs.declared.history.TagOpening.{TagOpening}
-use Rattle.tag_cell.specs.Tapes.{Walk, start, after_entry, taken, opened, state_after, done}
-use Rattle.tag_cell.specs.Replays.{Shown, IsTake, IsAnswer, IsPull, Fits, FitAll, replayed, shown_by, shown_of, shown_after, IsReplayed, IsLegal}
+use Rattle.tag_cell.specs.Tapes.{CellWalk, cell_start, after_entry, taken, opened, state_after, done}
+use Rattle.tag_cell.specs.Replays.{Shown, IsTake, IsAnswer, IsPull, Fits, FitAll, replayed, shown_by, shown_of, shown_after, IsTapeReplayed, IsLegal}
 
 -- two ways to tell what a tag shows agree, so an entry fits the one where it fits the other
-same_fits : (f g : List Point → Shown) (step : Bool) (o : TagOpening) (w : Walk) (e : Entry)
+same_fits : (f g : List Point → Shown) (step : Bool) (o : TagOpening) (w : CellWalk) (e : Entry)
     → ((ps : List Point) → f ps ≡ g ps) → Fits f step o w e → Fits g step o w e
 same_fits f g step o w (Take collector row p h n) same fits =
     subst (λ (s : Shown). IsTake s h n) (same (w.points ++ p ∷ [])) fits
@@ -23,7 +23,7 @@ same_fits f g step o w (Pull group first upto) same fits =
 same_fits f g step o w (Commit moment acked) same fits = fits
 
 -- and so do all entries
-all_same : (f g : List Point → Shown) (step : Bool) (o : TagOpening) (w : Walk) (es : List Entry)
+all_same : (f g : List Point → Shown) (step : Bool) (o : TagOpening) (w : CellWalk) (es : List Entry)
     → ((ps : List Point) → f ps ≡ g ps) → FitAll f step o w es → FitAll g step o w es
 all_same f g step o w [] same fits = fits
 all_same f g step o w (e ∷ es) same fits =
@@ -34,15 +34,15 @@ same_shown : (org : Origin) (h : List Event) (s : State) → Stands org h s → 
 same_shown org h s stands = λ i. record { records = stands.same_records i; held = stands.same_held i }
 
 pub legal : (org : Origin) (h : List Event) (def : TagDef) (o : TagOpening) (tape : List Entry) (s : State) (acked : ℕ)
-    → org.step ≡ def.step → Stands org h (opened o) → IsReplayed def o tape s acked → IsLegal org h def o tape s acked
+    → org.step ≡ def.step → Stands org h (opened o) → IsTapeReplayed def o tape s acked → IsLegal org h def o tape s acked
 legal org h def o tape s acked step stands is =
     let at : (ps : List Point) → Stands org (followed h (map Raw ps)) (state_after def.step o ps) =
     λ ps. subst (λ (b : Bool). Stands org (followed h (map Raw ps)) (replay b (opened o) (map Raw ps))) step
     (stands_followed org h (map Raw ps) (opened o) stands) in
     record {
       tuning = same_there o.summary.tuning def.tuning (in_force org h) is.tuning stands.tuned;
-      entries = subst (λ (b : Bool). FitAll (shown_after org h) b o (start o) tape) (sym step)
-          (all_same (replayed def.step o) (shown_after org h) def.step o (start o) tape
+      entries = subst (λ (b : Bool). FitAll (shown_after org h) b o (cell_start o) tape) (sym step)
+          (all_same (replayed def.step o) (shown_after org h) def.step o (cell_start o) tape
           (λ ps. same_shown org (followed h (map Raw ps)) (state_after def.step o ps) (at ps)) is.entries);
       stands = subst (Stands org (followed h (map Raw (taken tape)))) (sym is.stands) (at (taken tape));
       acked_are = is.acked_are;

@@ -18,17 +18,17 @@ use Rattle.tag_core.specs.Core.{Core}
 use Rattle.tag_cell.specs.declared.entry.Entry.{Entry}
 use Rattle.tag_cell.specs.declared.history.TagOpening.{TagOpening}
 use Rattle.tag_cell.specs.Tapes.{opened}
-use Rattle.tag_cell.specs.Replays.{IsReplayed}
+use Rattle.tag_cell.specs.Replays.{IsTapeReplayed}
 use Rattle.tag_cell.specs.Crashes.{IsSafe}
-use Rattle.tag_cell.specs.Told.{HasRoom, IsInStep, IsKept, IsPosted, Waits}
+use Rattle.tag_cell.specs.Told.{HasRoomForTakes, IsInStep, IsKept, IsPosted, Waits}
 
 -- the state of these records and this summary
 pub same_state : (s : State) (o : TagOpening) → o.recs.items ≡ s.records → o.summary ≡ s.summary → s ≡ opened o
 same_state s o records summary = λ i. record { records = sym records i; summary = sym summary i }
 
 pub open_replayed : (def : TagDef) (o : TagOpening) (tape : List Entry) (s : State) (acked : ℕ) → tape ≡ []
-    → o.summary.tuning ≡ Some def.tuning → s ≡ opened o → acked ≡ o.summary.taken → IsReplayed def o tape s acked
-open_replayed def o tape s acked none tuning is acks = subst (λ (l : List Entry). IsReplayed def o l s acked) (sym none)
+    → o.summary.tuning ≡ Some def.tuning → s ≡ opened o → acked ≡ o.summary.taken → IsTapeReplayed def o tape s acked
+open_replayed def o tape s acked none tuning is acks = subst (λ (l : List Entry). IsTapeReplayed def o l s acked) (sym none)
     (record { tuning = tuning; entries = tt; stands = is; acked_are = acks })
 
 pub open_in_step : (def : TagDef) (o : TagOpening) (tape : List Entry) (core : Core) (content : List Rec) → tape ≡ []
@@ -42,9 +42,9 @@ open_in_step def o tape core content none step is same = subst (λ (l : List Ent
 })
 
 pub open_has_room : (o : TagOpening) (tape : List Entry) (places room core content : ℕ) → tape ≡ [] → room ≤ places
-    → 2 * room ≤ core → 2 * room ≤ content → o.summary.taken < 2 ^ 63 → HasRoom o tape places 0 room core content
+    → 2 * room ≤ core → 2 * room ≤ content → o.summary.taken < 2 ^ 63 → HasRoomForTakes o tape places 0 room core content
 open_has_room o tape places room core content none enough core_room content_room small =
-    subst (λ (l : List Entry). HasRoom o l places 0 room core content) (sym none) (record {
+    subst (λ (l : List Entry). HasRoomForTakes o l places 0 room core content) (sym none) (record {
       takes_are = refl;
       within = omega arith;
       core_room = omega (arith, core_room);

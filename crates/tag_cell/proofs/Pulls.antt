@@ -14,8 +14,8 @@ use Rattle.crash_recovery.proofs.Replays.{replay_more, replay_append}
 use Rattle.tag_cell.specs.declared.entry.Entry.{Entry}
 use Rattle.tag_cell.specs.declared.entry.Entry.TheVariants.{Take, Ask, Pull, Commit}
 use Rattle.tag_cell.specs.declared.history.TagOpening.{TagOpening}
-use Rattle.tag_cell.specs.Tapes.{Walk, start, after_entry, walked, taken, done, last_records, opened, state_after}
-use Rattle.tag_cell.specs.Replays.{Shown, FitAll, IsPull, replayed, IsReplayed}
+use Rattle.tag_cell.specs.Tapes.{CellWalk, cell_start, after_entry, cell_walked, taken, done, last_records, opened, state_after}
+use Rattle.tag_cell.specs.Replays.{Shown, FitAll, IsPull, replayed, IsTapeReplayed}
 use Rattle.tag_cell.specs.Told.{Waits}
 use Rattle.tag_cell.proofs.Tapes.{points-walked}
 use Rattle.tag_cell.proofs.Entries.{points-end}
@@ -51,14 +51,14 @@ held_there step s u p tuned none =
 -- ---- the records of the acknowledged takes
 
 -- a tape that fits begins with a tape that fits
-fit_front : (show : List Point → Shown) (step : Bool) (o : TagOpening) (w : Walk) (xs ys : List Entry) → FitAll show step o w (xs ++ ys)
+fit_front : (show : List Point → Shown) (step : Bool) (o : TagOpening) (w : CellWalk) (xs ys : List Entry) → FitAll show step o w (xs ++ ys)
     → FitAll show step o w xs
 fit_front show step o w [] ys all = tt
 fit_front show step o w (e ∷ xs) ys all = (all.0, fit_front show step o (after_entry w e) xs ys all.1)
 
 -- the last take tells how many records there are
-last_records-are : (step : Bool) (o : TagOpening) (w : Walk) (es : List Entry) (n : ℕ) → FitAll (replayed step o) step o w es
-    → n ≡ length (state_after step o w.points).records → last_records n es ≡ length (state_after step o (walked w es).points).records
+last_records-are : (step : Bool) (o : TagOpening) (w : CellWalk) (es : List Entry) (n : ℕ) → FitAll (replayed step o) step o w es
+    → n ≡ length (state_after step o w.points).records → last_records n es ≡ length (state_after step o (cell_walked w es).points).records
 last_records-are step o w [] n all is = is
 last_records-are step o w (Take collector row p h k ∷ es) n all is =
     last_records-are step o (after_entry w (Take collector row p h k)) es k all.1 all.0.counted
@@ -68,38 +68,38 @@ last_records-are step o w (Commit m a ∷ es) n all is = last_records-are step o
 
 -- the values that are done are those before the place from which values wait
 pub done_are : (def : TagDef) (o : TagOpening) (tape : List Entry) (s : State) (next durable acked : ℕ)
-    → IsReplayed def o tape s acked → Waits o tape next durable acked
-    → done o (walked (start o) tape) ≡ taken (take next tape)
+    → IsTapeReplayed def o tape s acked → Waits o tape next durable acked
+    → done o (cell_walked (cell_start o) tape) ≡ taken (take next tape)
 done_are def o tape s next durable acked is waits =
-    let count : (walked (start o) tape).acked - o.summary.taken ≡ length (taken (take next tape)) =
+    let count : (cell_walked (cell_start o) tape).acked - o.summary.taken ≡ length (taken (take next tape)) =
     omega (arith, is.acked_are, waits.acked_are) in
-    ap (λ (n : ℕ). take n (walked (start o) tape).points) count
+    ap (λ (n : ℕ). take n (cell_walked (cell_start o) tape).points) count
     ∙ (ap (take (length (taken (take next tape)))) (points-end o tape ∙ taken-parts tape (drop next tape) next refl)
     ∙ take-append_seam (taken (take next tape)) (taken (drop next tape)))
 
 -- so many records are durable
 pub durable_are : (def : TagDef) (o : TagOpening) (tape : List Entry) (s : State) (next durable acked : ℕ)
-    → IsReplayed def o tape s acked → Waits o tape next durable acked
-    → durable ≡ length (state_after def.step o (done o (walked (start o) tape))).records
+    → IsTapeReplayed def o tape s acked → Waits o tape next durable acked
+    → durable ≡ length (state_after def.step o (done o (cell_walked (cell_start o) tape))).records
 durable_are def o tape s next durable acked is waits =
-    let front : FitAll (replayed def.step o) def.step o (start o) (take next tape) =
-    fit_front (replayed def.step o) def.step o (start o) (take next tape) (drop next tape)
-    (subst (FitAll (replayed def.step o) def.step o (start o)) (sym (take-append-drop next tape)) is.entries) in
-    waits.durable_are ∙ (last_records-are def.step o (start o) (take next tape) (length o.recs.items) front refl
+    let front : FitAll (replayed def.step o) def.step o (cell_start o) (take next tape) =
+    fit_front (replayed def.step o) def.step o (cell_start o) (take next tape) (drop next tape)
+    (subst (FitAll (replayed def.step o) def.step o (cell_start o)) (sym (take-append-drop next tape)) is.entries) in
+    waits.durable_are ∙ (last_records-are def.step o (cell_start o) (take next tape) (length o.recs.items) front refl
     ∙ ap (λ ps. length (state_after def.step o ps).records)
-    (points-walked (start o) (take next tape) ∙ sym (done_are def o tape s next durable acked is waits)))
+    (points-walked (cell_start o) (take next tape) ∙ sym (done_are def o tape s next durable acked is waits)))
 
 -- a pull hands them out
 pub is_pull : (def : TagDef) (o : TagOpening) (tape : List Entry) (s : State) (next durable acked first : ℕ)
-    → IsReplayed def o tape s acked → Waits o tape next durable acked → first ≤ durable
-    → IsPull (replayed def.step o (done o (walked (start o) tape))) first durable
+    → IsTapeReplayed def o tape s acked → Waits o tape next durable acked → first ≤ durable
+    → IsPull (replayed def.step o (done o (cell_walked (cell_start o) tape))) first durable
 is_pull def o tape s next durable acked first is waits le =
     record { counted = durable_are def o tape s next durable acked is waits; within = le }
 
 -- all records begin with them
 pub durable_front : (def : TagDef) (o : TagOpening) (tape : List Entry) (s : State) (next durable acked : ℕ)
-    → IsReplayed def o tape s acked → Waits o tape next durable acked
-    → (more : List Rec) × (s.records ≡ (state_after def.step o (done o (walked (start o) tape))).records ++ more)
+    → IsTapeReplayed def o tape s acked → Waits o tape next durable acked
+    → (more : List Rec) × (s.records ≡ (state_after def.step o (done o (cell_walked (cell_start o) tape))).records ++ more)
 durable_front def o tape s next durable acked is waits =
     let front : State = state_after def.step o (taken (take next tape)) in
     let goes : s ≡ replay def.step front (map Raw (taken (drop next tape))) =

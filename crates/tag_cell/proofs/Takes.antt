@@ -20,8 +20,8 @@ use Rattle.tag_cell.specs.declared.entry.Entry.{Entry}
 use Rattle.tag_cell.specs.declared.entry.Entry.TheVariants.{Take}
 use Rattle.tag_cell.specs.declared.history.TagOpening.{TagOpening}
 use Rattle.tag_cell.specs.Tapes.{taken, opened}
-use Rattle.tag_cell.specs.Replays.{IsReplayed}
-use Rattle.tag_cell.specs.Told.{HasRoom, IsInStep, IsPosted}
+use Rattle.tag_cell.specs.Replays.{IsTapeReplayed}
+use Rattle.tag_cell.specs.Told.{HasRoomForTakes, IsInStep, IsPosted}
 use Rattle.tag_cell.proofs.Tapes.{taken-append}
 
 -- the values of a tape with one take more
@@ -31,7 +31,7 @@ taken-take tape tape' collector row p h n longer = ap taken longer ∙ taken-app
 
 -- the core and the content are in step
 pub take_in_step : (def : TagDef) (o : TagOpening) (tape tape' : List Entry) (core core' : Core) (content content' : List Rec)
-    (acked : ℕ) (p : Point) → IsInStep def o tape core content → IsReplayed def o tape core.state acked
+    (acked : ℕ) (p : Point) → IsInStep def o tape core content → IsTapeReplayed def o tape core.state acked
     → core'.step ≡ core.step → core'.state.summary.taken ≡ core.state.summary.taken + 1
     → content' ≡ listed core'.state.records → InRange p → length core.state.records + 2 ≤ most_records
     → taken tape' ≡ taken tape ++ p ∷ [] → IsInStep def o tape' core' content'
@@ -48,9 +48,9 @@ take_in_step def o tape tape' core core' content content' acked p is replays ste
 
 -- there is room for those to come
 pub take_has_room : (o : TagOpening) (tape tape' : List Entry) (places takes takes' room core core' content content' : ℕ) (e : Entry)
-    (p : Point) → HasRoom o tape places takes room core content → takes < room → takes' ≡ takes + 1
+    (p : Point) → HasRoomForTakes o tape places takes room core content → takes < room → takes' ≡ takes + 1
     → core ≤ core' + 2 → content ≤ content' + 2 → tape' ≡ tape ++ e ∷ [] → taken tape' ≡ taken tape ++ p ∷ []
-    → HasRoom o tape' places takes' room core' content'
+    → HasRoomForTakes o tape' places takes' room core' content'
 take_has_room o tape tape' places takes takes' room core core' content content' e p is some one core_room content_room longer taken_longer = record {
   takes_are = omega (arith, one, is.takes_are, ap length taken_longer, length-append (taken tape) (p ∷ []));
   within = omega (arith, one, some);
@@ -62,8 +62,8 @@ take_has_room o tape tape' places takes takes' room core core' content content' 
 
 -- another entry takes a place of its own
 pub entry_has_room : (o : TagOpening) (tape tape' : List Entry) (places places' takes room core content : ℕ) (e : Entry)
-    → HasRoom o tape places takes room core content → taken tape' ≡ taken tape → room + length tape + 1 ≤ places' + takes
-    → tape' ≡ tape ++ e ∷ [] → HasRoom o tape' places' takes room core content
+    → HasRoomForTakes o tape places takes room core content → taken tape' ≡ taken tape → room + length tape + 1 ≤ places' + takes
+    → tape' ≡ tape ++ e ∷ [] → HasRoomForTakes o tape' places' takes room core content
 entry_has_room o tape tape' places places' takes room core content e is same place longer = record {
   takes_are = is.takes_are ∙ ap length (sym same);
   within = is.within;

@@ -8,13 +8,13 @@ use Rattle.crash_recovery.proofs.Replays.{replay_append}
 use Rattle.tag_cell.specs.declared.entry.Entry.{Entry}
 use Rattle.tag_cell.specs.declared.entry.Entry.TheVariants.{Take, Ask, Pull, Commit}
 use Rattle.tag_cell.specs.declared.history.TagOpening.{TagOpening}
-use Rattle.tag_cell.specs.Tapes.{Walk, after_entry, walked, taken, last_records, acked_at, opened, state_after}
+use Rattle.tag_cell.specs.Tapes.{CellWalk, after_entry, cell_walked, taken, last_records, acked_at, opened, state_after}
 use Rattle.tag_cell.specs.Replays.{Shown, Fits, FitAll}
 
 -- ---- walks
 
 -- the walk goes on by the entry
-pub walked-push : (w : Walk) (es : List Entry) (e : Entry) → walked w (es ++ e ∷ []) ≡ after_entry (walked w es) e
+pub walked-push : (w : CellWalk) (es : List Entry) (e : Entry) → cell_walked w (es ++ e ∷ []) ≡ after_entry (cell_walked w es) e
 walked-push w [] e = refl
 walked-push w (x ∷ es) e = walked-push (after_entry w x) es e
 
@@ -27,7 +27,7 @@ taken-append (Pull group first upto ∷ xs) ys = taken-append xs ys
 taken-append (Commit moment acked ∷ xs) ys = taken-append xs ys
 
 -- the values of a walk are those that were taken
-pub points-walked : (w : Walk) (es : List Entry) → (walked w es).points ≡ w.points ++ taken es
+pub points-walked : (w : CellWalk) (es : List Entry) → (cell_walked w es).points ≡ w.points ++ taken es
 points-walked w [] = sym (append-nil w.points)
 points-walked w (Take collector row p h n ∷ es) =
     points-walked (after_entry w (Take collector row p h n)) es ∙ append_assoc w.points (p ∷ []) (taken es)
@@ -36,8 +36,8 @@ points-walked w (Pull group first upto ∷ es) = points-walked w es
 points-walked w (Commit moment acked ∷ es) = points-walked (after_entry w (Commit moment acked)) es
 
 -- an entry that fits at the end of a tape
-pub fit-push : (show : List Point → Shown) (step : Bool) (o : TagOpening) (w : Walk) (es : List Entry) (e : Entry)
-    → FitAll show step o w es → Fits show step o (walked w es) e → FitAll show step o w (es ++ e ∷ [])
+pub fit-push : (show : List Point → Shown) (step : Bool) (o : TagOpening) (w : CellWalk) (es : List Entry) (e : Entry)
+    → FitAll show step o w es → Fits show step o (cell_walked w es) e → FitAll show step o w (es ++ e ∷ [])
 fit-push show step o w [] e all fits = (fits, tt)
 fit-push show step o w (x ∷ es) e all fits = (all.0, fit-push show step o (after_entry w x) es e all.1 fits)
 
@@ -56,13 +56,13 @@ IsCall (Ask reader row q a) = Unit {0}
 IsCall (Pull group first upto) = Unit {0}
 IsCall (Commit moment acked) = ⊥
 
-pub acked-call : (w : Walk) (e : Entry) → IsCall e → (after_entry w e).acked ≡ w.acked
+pub acked-call : (w : CellWalk) (e : Entry) → IsCall e → (after_entry w e).acked ≡ w.acked
 acked-call w (Take collector row p h n) call = refl
 acked-call w (Ask reader row q a) call = refl
 acked-call w (Pull group first upto) call = refl
 acked-call w (Commit moment acked) call = absurd call
 
-pub moment-call : (w : Walk) (e : Entry) → IsCall e → (after_entry w e).moment ≡ w.moment
+pub moment-call : (w : CellWalk) (e : Entry) → IsCall e → (after_entry w e).moment ≡ w.moment
 moment-call w (Take collector row p h n) call = refl
 moment-call w (Ask reader row q a) call = refl
 moment-call w (Pull group first upto) call = refl

@@ -13,7 +13,7 @@ use Rattle.interp_read.specs.Replies.{Answers}
 use Rattle.tag_cell.specs.declared.entry.Entry.{Entry}
 use Rattle.tag_cell.specs.declared.entry.Entry.TheVariants.{Take, Ask, Pull, Commit}
 use Rattle.tag_cell.specs.declared.history.TagOpening.{TagOpening}
-use Rattle.tag_cell.specs.Tapes.{Walk, start, after_entry, walked, taken, done, state_after}
+use Rattle.tag_cell.specs.Tapes.{CellWalk, cell_start, after_entry, cell_walked, taken, done, state_after}
 
 -- what a tag shows: its records, and the point that closes its line
 pub record Shown : Type 0 where
@@ -37,20 +37,20 @@ pub record IsPull (s : Shown) (first upto : ℕ) : Type 0 where
   pub within : first ≤ upto
 
 -- a commit acknowledges more than the last one, nothing that was not taken, and at a later moment
-pub record IsCommit (o : TagOpening) (w : Walk) (moment acked : ℕ) : Type 0 where
+pub record IsCommit (o : TagOpening) (w : CellWalk) (moment acked : ℕ) : Type 0 where
   pub more : w.acked < acked
   pub within : acked ≤ o.summary.taken + length w.points
   pub later : w.moment < moment
 
 -- an entry, where this is what the tag shows after so many values
-abbrev pub Fits : (List Point → Shown) → Bool → TagOpening → Walk → Entry → Type 0
+abbrev pub Fits : (List Point → Shown) → Bool → TagOpening → CellWalk → Entry → Type 0
 Fits show step o w (Take collector row p h n) = IsTake (show (w.points ++ p ∷ [])) h n
 Fits show step o w (Ask reader row q a) = IsAnswer step (show w.points) q a
 Fits show step o w (Pull group first upto) = IsPull (show (done o w)) first upto
 Fits show step o w (Commit moment acked) = IsCommit o w moment acked
 
 -- each of these entries
-abbrev pub FitAll : (List Point → Shown) → Bool → TagOpening → Walk → List Entry → Type 0
+abbrev pub FitAll : (List Point → Shown) → Bool → TagOpening → CellWalk → List Entry → Type 0
 FitAll show step o w [] = Unit {0}
 FitAll show step o w (e ∷ es) = Fits show step o w e × FitAll show step o (after_entry w e) es
 
@@ -75,16 +75,16 @@ shown_after org h ps = shown_by org (followed h (map Raw ps))
 -- ---- whole tapes
 
 -- the tape replays from its opening, and leaves this state and so many events acknowledged
-pub record IsReplayed (def : TagDef) (o : TagOpening) (tape : List Entry) (s : State) (acked : ℕ) : Type 0 where
+pub record IsTapeReplayed (def : TagDef) (o : TagOpening) (tape : List Entry) (s : State) (acked : ℕ) : Type 0 where
   pub tuning : o.summary.tuning ≡ Some def.tuning
-  pub entries : FitAll (replayed def.step o) def.step o (start o) tape
+  pub entries : FitAll (replayed def.step o) def.step o (cell_start o) tape
   pub stands : s ≡ state_after def.step o (taken tape)
-  pub acked_are : acked ≡ (walked (start o) tape).acked
+  pub acked_are : acked ≡ (cell_walked (cell_start o) tape).acked
 
 -- the tape is legal for a history of this origin
 pub record IsLegal (org : Origin) (h : List Event) (def : TagDef) (o : TagOpening) (tape : List Entry) (s : State) (acked : ℕ)
     : Type 0 where
   pub tuning : def.tuning ≡ in_force org h
-  pub entries : FitAll (shown_after org h) org.step o (start o) tape
+  pub entries : FitAll (shown_after org h) org.step o (cell_start o) tape
   pub stands : Stands org (followed h (map Raw (taken tape))) s
-  pub acked_are : acked ≡ (walked (start o) tape).acked
+  pub acked_are : acked ≡ (cell_walked (cell_start o) tape).acked

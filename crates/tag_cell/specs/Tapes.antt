@@ -8,26 +8,26 @@ use Rattle.tag_cell.specs.declared.entry.Entry.TheVariants.{Take, Ask, Pull, Com
 use Rattle.tag_cell.specs.declared.history.TagOpening.{TagOpening}
 
 -- where one is on a tape: the values that were taken so far, and what the last commit acknowledged, at which moment
-pub record Walk : Type 0 where
+pub record CellWalk : Type 0 where
   pub points : List Point
   pub acked : ℕ
   pub moment : ℕ
 
 -- at the opening
-abbrev pub start : TagOpening → Walk
-start o = record { points = []; acked = o.summary.taken; moment = o.moment }
+abbrev pub cell_start : TagOpening → CellWalk
+cell_start o = record { points = []; acked = o.summary.taken; moment = o.moment }
 
 -- after one more entry
-abbrev pub after_entry : Walk → Entry → Walk
+abbrev pub after_entry : CellWalk → Entry → CellWalk
 after_entry w (Take collector row p held records) = record w { points = w.points ++ p ∷ [] }
 after_entry w (Ask reader row query reply) = w
 after_entry w (Pull group from upto) = w
 after_entry w (Commit moment acked) = record w { acked = acked; moment = moment }
 
 -- after these entries
-abbrev pub walked : Walk → List Entry → Walk
-walked w [] = w
-walked w (e ∷ es) = walked (after_entry w e) es
+abbrev pub cell_walked : CellWalk → List Entry → CellWalk
+cell_walked w [] = w
+cell_walked w (e ∷ es) = cell_walked (after_entry w e) es
 
 -- the values that were taken
 abbrev pub taken : List Entry → List Point
@@ -54,7 +54,7 @@ acked_at t n (Pull group from upto ∷ es) = acked_at t n es
 acked_at t n (Commit moment acked ∷ es) = acked_at t (if nat_le moment t then acked else n) es
 
 -- the values that are acknowledged, of those taken so far
-abbrev pub done : TagOpening → Walk → List Point
+abbrev pub done : TagOpening → CellWalk → List Point
 done o w = take (w.acked - o.summary.taken) w.points
 
 -- the state of an opening

@@ -26,13 +26,13 @@ use Rattle.tag_cell.specs.declared.entry.TakeNo.{TakeNo}
 use Rattle.tag_cell.specs.declared.entry.TakeNo.TheVariants.{Broken, RoomFull, Full}
 use Rattle.tag_cell.specs.declared.history.TagHistory.{TagHistory}
 use Rattle.tag_cell.specs.declared.history.TagOpening.{TagOpening}
-use Rattle.tag_cell.specs.Tapes.{start, walked, taken, done, last_records, opened, state_after}
-use Rattle.tag_cell.specs.Replays.{IsReplayed}
+use Rattle.tag_cell.specs.Tapes.{cell_start, cell_walked, taken, done, last_records, opened, state_after}
+use Rattle.tag_cell.specs.Replays.{IsTapeReplayed}
 use Rattle.tag_cell.specs.Crashes.{IsCountable, IsSafe, count_written}
 
 -- a cell on a device of this type: the tag's definition, its opening, its tape, its state, what its journal tells, and how many
 -- takes its tape has room for
-pub record Told (D : Type 0) : Type 0 where
+pub record ToldCell (D : Type 0) : Type 0 where
   pub def : TagDef
   pub opening : TagOpening
   pub tape : List Entry
@@ -51,7 +51,7 @@ pub record IsInStep (def : TagDef) (o : TagOpening) (tape : List Entry) (core : 
   pub fits : AllFit def.step (opened o) (map Raw (taken tape))
 
 -- there is room for each take to come: for two records in the core and in the content, and for its entry
-pub record HasRoom (o : TagOpening) (tape : List Entry) (places takes room core_spare content_spare : ℕ) : Type 0 where
+pub record HasRoomForTakes (o : TagOpening) (tape : List Entry) (places takes room core_spare content_spare : ℕ) : Type 0 where
   pub takes_are : takes ≡ length (taken tape)
   pub within : takes ≤ room
   pub core_room : 2 * room ≤ core_spare + 2 * takes
@@ -70,7 +70,7 @@ pub record IsKept (def : TagDef) (o : TagOpening) (tape : List Entry) (next : �
     (ticks faults : ℕ) : Type 0 where
   pub recovers : failed ≡ false → IsCountable o tape
       → AllRecover def trace (state_after def.step o (taken (take next tape)))
-  pub past : (walked (start o) tape).moment ≤ ticks
+  pub past : (cell_walked (cell_start o) tape).moment ≤ ticks
   pub opened_before : o.moment ≤ ticks
   pub faultless : failed ≡ false → faults ≡ o.faults
   pub cause : failed ≡ true → Rose o.faults faults
@@ -83,7 +83,7 @@ pub record IsPosted (board : List TableId) (p : Posting) (s : State) : Type 0 wh
 -- ---- refusals
 
 -- why a cell does not take a value, if it does not
-abbrev pub take_refusal : {D : Type 0} → Told D → Option TakeNo
+abbrev pub take_refusal : {D : Type 0} → ToldCell D → Option TakeNo
 take_refusal s =
     if s.journal.failed then Some Broken
     else (if nat_le s.room (length (taken s.tape)) then Some (RoomFull s.room)
@@ -92,7 +92,7 @@ take_refusal s =
 -- ---- what a call changes
 
 -- the cell has taken this value
-pub record IsTakenBy {D : Type 0} (collector row : ℕ) (p : Point) (old new : Told D) : Type 0 where
+pub record IsTakenBy {D : Type 0} (collector row : ℕ) (p : Point) (old new : ToldCell D) : Type 0 where
   pub held : Point
   pub held_is : (after old.def.step old.state (Raw p)).summary.held ≡ Some held
   pub changed : new ≡ record old {
@@ -101,47 +101,47 @@ pub record IsTakenBy {D : Type 0} (collector row : ℕ) (p : Point) (old new : T
   }
 
 -- the cell has answered this question so
-pub record IsAskedBy {D : Type 0} (reader row : ℕ) (query : TagQuery) (told : Reply) (old new : Told D) : Type 0 where
+pub record IsAskedBy {D : Type 0} (reader row : ℕ) (query : TagQuery) (told : Reply) (old new : ToldCell D) : Type 0 where
   pub kept : Reply
   pub alike : AreAlike kept told
   pub changed : new ≡ record old { tape = old.tape ++ Ask reader row query kept ∷ [] }
 
 -- how many takes wait to be acknowledged
-abbrev pub waits : {D : Type 0} → Told D → ℕ
-waits s = s.state.summary.taken - s.journal.acked
+abbrev pub takes_waiting : {D : Type 0} → ToldCell D → ℕ
+takes_waiting s = s.state.summary.taken - s.journal.acked
 
 -- the oldest waiting values are acknowledged
-pub record IsAcknowledged {D : Type 0} (before now : ℕ) (a : Acked) (old new : Told D) : Type 0 where
-  pub acked_are : new.journal.acked ≡ old.journal.acked + count_written old.journal.free (waits old)
+pub record AreTakesAcknowledged {D : Type 0} (before now : ℕ) (a : Acked) (old new : ToldCell D) : Type 0 where
+  pub acked_are : new.journal.acked ≡ old.journal.acked + count_written old.journal.free (takes_waiting old)
   pub told_acked : a.acked ≡ new.journal.acked
-  pub told_waiting : a.waiting ≡ waits new
+  pub told_waiting : a.waiting ≡ takes_waiting new
   pub usable : new.journal.failed ≡ false
   pub later : before < now
   pub same : new ≡ record old { journal = new.journal; tape = old.tape ++ Commit now a.acked ∷ [] }
 
 -- a commit, at these clocks before it and after: nothing waited, and nothing changed; or so many values as are written at
 -- once are acknowledged, and an entry tells it
-abbrev pub IsCommitted : {D : Type 0} → ℕ → ℕ → Acked → Told D → Told D → Type 0
+abbrev pub IsCommitted : {D : Type 0} → ℕ → ℕ → Acked → ToldCell D → ToldCell D → Type 0
 IsCommitted before now a old new =
-    MatchBool (nat_eq (waits old) 0) ((new ≡ old) × (a ≡ record { acked = old.journal.acked; waiting = 0 }))
-    (IsAcknowledged before now a old new)
+    MatchBool (nat_eq (takes_waiting old) 0) ((new ≡ old) × (a ≡ record { acked = old.journal.acked; waiting = 0 }))
+    (AreTakesAcknowledged before now a old new)
 
 -- a cell whose device failed: nothing else changed
-pub record IsFaulted {D : Type 0} (old new : Told D) : Type 0 where
+pub record IsCellFaulted {D : Type 0} (old new : ToldCell D) : Type 0 where
   pub failed : new.journal.failed ≡ true
   pub same_acked : new.journal.acked ≡ old.journal.acked
   pub same : new ≡ record old { journal = new.journal }
 
 -- the records of the opening and of the acknowledged takes
-abbrev pub durable_records : {D : Type 0} → Told D → List Rec
-durable_records s = (state_after s.def.step s.opening (done s.opening (walked (start s.opening) s.tape))).records
+abbrev pub durable_records : {D : Type 0} → ToldCell D → List Rec
+durable_records s = (state_after s.def.step s.opening (done s.opening (cell_walked (cell_start s.opening) s.tape))).records
 
 -- ---- what is handed out at the end
 
 -- the history of a cell on a device that tells these calls, this clock and these faults
-pub record IsHistory (t : TagHistory) (trace : Option Trace) (ticks faults : ℕ) : Type 0 where
-  pub replayed : IsReplayed t.def t.opening t.tape.items (record { records = t.recs.items; summary = t.summary }) t.acked
+pub record IsCellHistory (t : TagHistory) (trace : Option Trace) (ticks faults : ℕ) : Type 0 where
+  pub replayed : IsTapeReplayed t.def t.opening t.tape.items (record { records = t.recs.items; summary = t.summary }) t.acked
   pub safe : IsSafe t.def t.opening t.tape.items (LeftSince trace)
-  pub past : (walked (start t.opening) t.tape.items).moment ≤ ticks
+  pub past : (cell_walked (cell_start t.opening) t.tape.items).moment ≤ ticks
   pub opened_before : t.opening.moment ≤ ticks
   pub faults_since : (faults ≡ t.opening.faults) ⊎ Rose t.opening.faults faults

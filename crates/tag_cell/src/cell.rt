@@ -1,6 +1,6 @@
 // A cell: a tag with all that lies under its lock.
 ghost use Rattle.std.specs.Prelude.{◌≡◌, ◌↔◌, IsTrue, true, length};
-ghost use Rattle.tag_cell.specs.Told.{IsHistory};
+ghost use Rattle.tag_cell.specs.Told.{IsCellHistory};
 
 use crate::entry::Entry;
 use crate::history::{TagHistory, TagOpening};
@@ -38,11 +38,11 @@ impl<D: Disk> Model for Cell<D> {
     ghost use Rattle.std.specs.Prelude.{vec_capacity};
     ghost use Rattle.std.specs.Arc.{arc_value};
     ghost use Rattle.disk_model.specs.Moments.{LeftSince};
-    ghost use Rattle.tag_cell.specs.Replays.{IsReplayed};
+    ghost use Rattle.tag_cell.specs.Replays.{IsTapeReplayed};
     ghost use Rattle.tag_cell.specs.Crashes.{IsSafe};
-    ghost use Rattle.tag_cell.specs.Told.{Told, IsInStep, HasRoom, Waits, IsKept, IsPosted};
+    ghost use Rattle.tag_cell.specs.Told.{ToldCell, IsInStep, HasRoomForTakes, Waits, IsKept, IsPosted};
 
-    ghost Value = { Told D };
+    ghost Value = { ToldCell D };
 
     ghost view = { λ c. record {
       def = c.def;
@@ -53,9 +53,9 @@ impl<D: Disk> Model for Cell<D> {
       room = c.room;
     } };
 
-    ghost invariant = { λ c. IsReplayed c.def c.opening c.tape.items c.core.state c.journal.acked
+    ghost invariant = { λ c. IsTapeReplayed c.def c.opening c.tape.items c.core.state c.journal.acked
         × IsInStep c.def c.opening c.tape.items c.core c.content.records
-        × HasRoom c.opening c.tape.items (vec_capacity c.tape) c.takes c.room c.core.spare c.content.spare
+        × HasRoomForTakes c.opening c.tape.items (vec_capacity c.tape) c.takes c.room c.core.spare c.content.spare
         × Waits c.opening c.tape.items c.next c.durable c.journal.acked
         × IsKept c.def c.opening c.tape.items c.next c.journal.failed
         (D.trace c.journal.dev) (D.ticks c.journal.dev) (D.fault_count c.journal.dev)
@@ -131,7 +131,7 @@ impl<D: Disk> Cell<D> {
         ensures records { result.1.recs.items ≡ self.state.records }
         ensures summary { result.1.summary ≡ self.state.summary }
         ensures acked { result.1.acked ≡ self.journal.acked }
-        ensures history { IsHistory result.1 (D.trace result.0) (D.ticks result.0) (D.fault_count result.0) }
+        ensures history { IsCellHistory result.1 (D.trace result.0) (D.ticks result.0) (D.fault_count result.0) }
     {
         let Cell {
             def,

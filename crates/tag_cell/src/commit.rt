@@ -2,7 +2,7 @@
 ghost use Rattle.std.specs.Prelude.{◌≡◌, ◌↔◌, Err, Ok, IfOk, IsErrOf, OnErr, false, true};
 ghost use Rattle.disk_model.specs.Calls.{CountsFault};
 ghost use Rattle.tag_cell.specs.declared.entry.CommitNo.TheVariants.{Broken, DeviceFault, WantOfMemory as NoMemory};
-ghost use Rattle.tag_cell.specs.Told.{IsCommitted, IsFaulted, waits};
+ghost use Rattle.tag_cell.specs.Told.{IsCommitted, IsCellFaulted, takes_waiting};
 
 use crate::batch::{records_after, write_waiting};
 use crate::cell::Cell;
@@ -28,10 +28,10 @@ impl<D: Disk> Cell<D> {
     /// broken; after want of memory it is as it was, and nothing was called.
     pub fn commit(&mut self) -> Result<Acked, CommitNo>
         ensures broken { IsErrOf result Broken ↔ (self.old.journal.failed ≡ true) }
-        ensures idle { self.old.journal.failed ≡ false → waits self.old ≡ 0
+        ensures idle { self.old.journal.failed ≡ false → takes_waiting self.old ≡ 0
             → (result ≡ Ok (record { acked = self.old.journal.acked; waiting = 0 })) × (self.new ≡ self.old) }
         ensures committed { IfOk result (λ a. IsCommitted (D.ticks self.old.journal.dev) (D.ticks self.new.journal.dev) a self.old self.new) }
-        ensures faulted { IsErrOf result DeviceFault → IsFaulted self.old self.new }
+        ensures faulted { IsErrOf result DeviceFault → IsCellFaulted self.old self.new }
         ensures cause { CountsFault result DeviceFault (D.fault_count self.old.journal.dev) (D.fault_count self.new.journal.dev) }
         ensures untouched { IsErrOf result NoMemory → self.new ≡ self.old }
         ensures still_broken { IsErrOf result Broken → self.new ≡ self.old }

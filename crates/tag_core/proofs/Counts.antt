@@ -1,4 +1,4 @@
--- How many slopes are compared at most.
+-- How many slopes are compared_values at most.
 use Rattle.std.proofs.Common.{◌+◌, ◌*◌, ◌≤◌, pos, Bool, true, false, cond, List, [], ◌∷◌, Option, None, Some, length, arith}
 use Rattle.trend_num.specs.declared.point.Point.{Point}
 use Rattle.trend_num.specs.declared.tuning.Tuning.{Tuning}
@@ -6,7 +6,7 @@ use Rattle.trend_model.specs.History.{Sent, InOrder, Late, Tuned}
 use Rattle.trend_model.specs.Walk.{is_short}
 use Rattle.trend_model.specs.Doors.{is_admitted, is_not_steeper}
 use Rattle.trend_model.specs.State.{Archive, archived}
-use Rattle.tag_core.specs.Core.{line_compared, compared_on, compared}
+use Rattle.tag_core.specs.Core.{line_compared, compared_on, compared_values}
 
 -- four for one value
 line_most : (t : Tuning) (p : Point) (a q u l : Option Point) → line_compared t p a q u l ≤ 4
@@ -31,7 +31,7 @@ on_most false c (InOrder p) = line_most c.tuning p c.hinge c.held c.upper c.lowe
 on_most true c (InOrder p) = omega arith
 
 -- and for each thing that is sent
-pub compared_most : (step : Bool) (c : Archive) (ss : List Sent) → compared step c ss ≤ 4 * length ss
+pub compared_most : (step : Bool) (c : Archive) (ss : List Sent) → compared_values step c ss ≤ 4 * length ss
 compared_most step c [] = omega arith
 compared_most step c (s ∷ ss) =
     let before = compared_most step c ss in

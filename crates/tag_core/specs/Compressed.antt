@@ -64,8 +64,8 @@ abbrev pub compressed_after : Compressed → Option Point → List Sent → Comp
 compressed_after c held ss = compressed_in c.step (archived c.step (archive_with c held) ss) c.places
 
 -- the free places
-abbrev pub spare_of : Compressed → ℕ
-spare_of c = c.places - length c.records
+abbrev pub free_places_of : Compressed → ℕ
+free_places_of c = c.places - length c.records
 
 -- what was compressed adds two records at most, at the end, in the places that were there
 pub record AddsTwo (old new : Compressed) : Type 0 where

@@ -23,7 +23,7 @@ pub record IsCore (u : Tuning) (step : Bool) (s : State) : Type 0 where
   pub ruled : IsRuled InRange u step s.records s.summary
   pub few : length s.records ≤ most_records
 
--- ---- how many slopes are compared
+-- ---- how many slopes are compared_values
 
 -- for a value p of a tag of lines: where the line to it is not too long, its slope with that of the upper door and, where it
 -- is not steeper, with that of the lower one; and where p joins, one for each door that may swing
@@ -40,14 +40,14 @@ compared_on false c (InOrder p) = line_compared c.tuning p c.hinge c.held c.uppe
 compared_on true c (InOrder p) = 0
 
 -- for all of this, the newest first
-abbrev pub compared : Bool → Archive → List Sent → ℕ
-compared step c [] = 0
-compared step c (s ∷ ss) = compared step c ss + compared_on step (archived step c ss) s
+abbrev pub compared_values : Bool → Archive → List Sent → ℕ
+compared_values step c [] = 0
+compared_values step c (s ∷ ss) = compared_values step c ss + compared_on step (archived step c ss) s
 
 -- for an event, under the tuning of the state
 abbrev pub compared_under : Bool → State → Event → Option Tuning → ℕ
 compared_under step s e None = 0
-compared_under step s e (Some u) = compared step (archive_in u s) (turned u s.summary.held s.summary.pending e).sends
+compared_under step s e (Some u) = compared_values step (archive_in u s) (turned u s.summary.held s.summary.pending e).sends
 
 -- for an event
 abbrev pub comparisons : Bool → State → Event → ℕ

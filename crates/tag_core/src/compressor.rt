@@ -6,8 +6,8 @@ ghost use Rattle.trend_model.specs.History.{InOrder, Tuned};
 ghost use Rattle.trend_model.specs.Lists.{IfThere};
 ghost use Rattle.trend_model.specs.State.{gained, line_after, pushed_out, stair_after};
 ghost use Rattle.trend_model.specs.Walk.{kept, late};
-ghost use Rattle.tag_core.specs.Compressed.{AddsTwo, ArePlaced, Compressed, HangAt, IsNext, IsNextSending, archive_with, compressed_after, compressed_in, lower_of, spare_of, upper_of};
-ghost use Rattle.tag_core.specs.Core.{compared, compared_on, line_compared};
+ghost use Rattle.tag_core.specs.Compressed.{AddsTwo, ArePlaced, Compressed, HangAt, IsNext, IsNextSending, archive_with, compressed_after, compressed_in, lower_of, free_places_of, upper_of};
+ghost use Rattle.tag_core.specs.Core.{compared_values, compared_on, line_compared};
 
 use crate::span::{is_early, is_short, joins, stays};
 use door_slopes::Doors;
@@ -111,7 +111,7 @@ impl Compressor {
 
     // How many places for records are free.
     pub(crate) fn spare(&self) -> u32
-        ensures { result ≡ spare_of self.now }
+        ensures { result ≡ free_places_of self.now }
     {
         (self.recs.capacity() - self.recs.len()) as u32
     }
@@ -179,11 +179,11 @@ impl Compressor {
         requires placed { ArePlaced self.old.hinge held }
         requires first { IfThere (IsNext held) sent.first }
         requires second { IsNextSending (option_or sent.first held) sent.second }
-        requires room { 2 ≤ spare_of self.old }
+        requires room { 2 ≤ free_places_of self.old }
         ensures after { self.new ≡ compressed_after self.old held (gained sent.first sent.second) }
         ensures adds { AddsTwo self.old self.new }
         ensures cost { steps.new ≡ steps.old
-            + compared self.old.step (archive_with self.old held) (gained sent.first sent.second) }
+            + compared_values self.old.step (archive_with self.old held) (gained sent.first sent.second) }
     {
         self.take_pushed_out(held, sent.first, steps);
         match sent.second {
@@ -204,11 +204,11 @@ impl Compressor {
         requires placed { ArePlaced self.old.hinge held }
         requires waiting { IfThere (IsNext held) waiting }
         requires tuned { TuningInRange tuning }
-        requires room { 2 ≤ spare_of self.old }
+        requires room { 2 ≤ free_places_of self.old }
         ensures after { self.new ≡ compressed_after self.old held (Tuned tuning ∷ pushed_out waiting) }
         ensures adds { AddsTwo self.old self.new }
         ensures cost { steps.new ≡ steps.old
-            + compared self.old.step (archive_with self.old held) (Tuned tuning ∷ pushed_out waiting) }
+            + compared_values self.old.step (archive_with self.old held) (Tuned tuning ∷ pushed_out waiting) }
     {
         self.take_pushed_out(held, waiting, steps);
         self.end_span(waiting.or(held), tuning);
@@ -218,7 +218,7 @@ impl Compressor {
     fn end_span(&mut self, held: Option<Point>, tuning: Tuning)
         requires placed { ArePlaced self.old.hinge held }
         requires tuned { TuningInRange tuning }
-        requires room { 0 < spare_of self.old }
+        requires room { 0 < free_places_of self.old }
         ensures { self.new ≡ compressed_after self.old held (Tuned tuning ∷ []) }
     {
         if let (Some(held), Some(_)) = (held, &self.doors) {
@@ -237,11 +237,11 @@ impl Compressor {
     )
         requires placed { ArePlaced self.old.hinge held }
         requires first { IfThere (IsNext held) first }
-        requires room { 0 < spare_of self.old }
+        requires room { 0 < free_places_of self.old }
         ensures after { self.new ≡ compressed_after self.old held (pushed_out first) }
         ensures placed { ArePlaced self.new.hinge (option_or first held) }
-        ensures room { spare_of self.old ≤ spare_of self.new + 1 }
-        ensures cost { steps.new ≡ steps.old + compared self.old.step (archive_with self.old held) (pushed_out first) }
+        ensures room { free_places_of self.old ≤ free_places_of self.new + 1 }
+        ensures cost { steps.new ≡ steps.old + compared_values self.old.step (archive_with self.old held) (pushed_out first) }
     {
         if let Some(p) = first {
             self.take_in_order(held, p, steps);
@@ -251,7 +251,7 @@ impl Compressor {
     // Takes a value that is sent late.
     #[inline]
     fn take_late(&mut self, p: Point)
-        requires { 0 < spare_of self.old }
+        requires { 0 < free_places_of self.old }
         ensures { self.new ≡ record self.old { records = self.old.records ++ (late p ∷ []) } }
     {
         self.recs.push_reserved(Rec {
@@ -265,10 +265,10 @@ impl Compressor {
     fn take_in_order<L: Ledger>(&mut self, held: Option<Point>, p: Point, steps: &mut Steps<L>)
         requires placed { ArePlaced self.old.hinge held }
         requires next { IsNext held p }
-        requires room { 0 < spare_of self.old }
+        requires room { 0 < free_places_of self.old }
         ensures after { self.new ≡ compressed_after self.old held (InOrder p ∷ []) }
         ensures placed { ArePlaced self.new.hinge (Some p) }
-        ensures room { spare_of self.old ≤ spare_of self.new + 1 }
+        ensures room { free_places_of self.old ≤ free_places_of self.new + 1 }
         ensures cost { steps.new ≡ steps.old + compared_on self.old.step (archive_with self.old held) (InOrder p) }
     {
         if self.step {
@@ -283,11 +283,11 @@ impl Compressor {
     fn take_line<L: Ledger>(&mut self, held: Option<Point>, p: Point, steps: &mut Steps<L>)
         requires placed { ArePlaced self.old.hinge held }
         requires next { IsNext held p }
-        requires room { 0 < spare_of self.old }
+        requires room { 0 < free_places_of self.old }
         ensures after { self.new ≡ compressed_in self.old.step
             (line_after (archive_with self.old held) p self.old.hinge held self.old.upper self.old.lower) self.old.places }
         ensures placed { ArePlaced self.new.hinge (Some p) }
-        ensures room { spare_of self.old ≤ spare_of self.new + 1 }
+        ensures room { free_places_of self.old ≤ free_places_of self.new + 1 }
         ensures cost { steps.new ≡ steps.old
             + line_compared self.old.tuning p self.old.hinge held self.old.upper self.old.lower }
     {
@@ -313,11 +313,11 @@ impl Compressor {
     fn take_stair(&mut self, held: Option<Point>, p: Point)
         requires placed { ArePlaced self.old.hinge held }
         requires next { IsNext held p }
-        requires room { 0 < spare_of self.old }
+        requires room { 0 < free_places_of self.old }
         ensures after { self.new ≡ compressed_in self.old.step
             (stair_after (archive_with self.old held) p self.old.hinge) self.old.places }
         ensures placed { ArePlaced self.new.hinge (Some p) }
-        ensures room { spare_of self.old ≤ spare_of self.new + 1 }
+        ensures room { free_places_of self.old ≤ free_places_of self.new + 1 }
     {
         match self.hinge {
             Some(hinge) if stays(&self.tuning, hinge, p) => self.hang(hinge, p),
@@ -340,7 +340,7 @@ impl Compressor {
     // Keeps p, from which the next values go on.
     #[inline]
     fn keep(&mut self, p: Point)
-        requires { 0 < spare_of self.old }
+        requires { 0 < free_places_of self.old }
         ensures { self.new ≡ record self.old {
           records = self.old.records ++ (kept p ∷ []);
           hinge = Some p;

@@ -6,7 +6,7 @@ ghost use Rattle.trend_num.specs.declared.archive.Rec.{Rec};
 ghost use Rattle.trend_num.specs.declared.tuning.Tuning.{Tuning};
 ghost use Rattle.trend_num.specs.Ranges.{InRange, TuningInRange, largest_value};
 ghost use Rattle.trend_model.specs.Lists.{Each, IfThere};
-ghost use Rattle.trend_model.specs.Parts.{AreDoorsAt, ArePartsOk, BeginsKept, DoorsFit, IsBegun, IsBegunOrBlank, IsBlank, IsLateBefore, PendingFits, PointsRise, kept_points, last_point};
+ghost use Rattle.trend_model.specs.Parts.{AreDoorsAt, ArePartsOk, BeginsKept, DoorsFit, IsTagBegun, IsBegunOrBlank, IsBlank, IsLateBefore, PendingFits, PointsRise, kept_points, last_point};
 ghost use Rattle.trend_num.specs.declared.point.Point.{Point};
 ghost use Rattle.trend_num.specs.Limits.{most_records};
 
@@ -117,7 +117,7 @@ fn is_begun(
     requires hinge { InRange hinge }
     requires upper { IfThere InRange summary.now.upper }
     requires lower { IfThere InRange summary.now.lower }
-    ensures { IsTrue result ↔ (IsBegun step dev recs.now held hinge summary.now.upper summary.now.lower
+    ensures { IsTrue result ↔ (IsTagBegun step dev recs.now held hinge summary.now.upper summary.now.lower
         × Each (λ (r : Rec). InRange r.point) recs.now) }
 {
     records_fit(recs, hinge, held)

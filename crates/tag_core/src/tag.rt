@@ -32,7 +32,7 @@ pub struct TagCore {
 
 impl Model for TagCore {
     ghost use Rattle.trend_model.specs.State.{state_with};
-    ghost use Rattle.tag_core.specs.Compressed.{archive_with, spare_of};
+    ghost use Rattle.tag_core.specs.Compressed.{archive_with, free_places_of};
     ghost use Rattle.tag_core.specs.Core.{Core, IsCore};
 
     ghost Value = { Core };
@@ -40,7 +40,7 @@ impl Model for TagCore {
     ghost view = { λ c. record {
       state = state_with (archive_with c.compressor c.gate.last) c.taken c.gate.last c.gate.pending;
       step = c.compressor.step;
-      spare = spare_of c.compressor;
+      spare = free_places_of c.compressor;
     } };
 
     ghost invariant = { λ c. IsCore c.compressor.tuning c.compressor.step

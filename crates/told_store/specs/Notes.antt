@@ -19,9 +19,9 @@ call_of n =
     if n.0 == 4 then ResizedInPart n.1 else
     if n.0 == 5 then Synced else Idle
 
--- a device after one call more
-abbrev pub after : DeviceCall → Trace → Trace
-after e t = record { first = t.first; calls = e ∷ t.calls }
+-- a device after_call one call more
+abbrev pub after_call : DeviceCall → Trace → Trace
+after_call e t = record { first = t.first; calls = e ∷ t.calls }
 
 -- a device of which these bytes were read, with no call since
 abbrev pub read_as : List ℕ → Trace
@@ -31,7 +31,7 @@ read_as bytes = record { first = bytes; calls = [] }
 -- with what was read
 abbrev pub told_by : List Note → Trace
 told_by [] = empty_trace
-told_by (n ∷ ns) = if n.0 == 0 then read_as n.2 else after (call_of n) (told_by ns)
+told_by (n ∷ ns) = if n.0 == 0 then read_as n.2 else after_call (call_of n) (told_by ns)
 
 -- there was no call on the device since it was read
 abbrev pub IsFresh : Trace → Type 0

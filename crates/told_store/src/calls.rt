@@ -1,7 +1,7 @@
 // What is asked of a real file: that it tells its calls, whatever they answer.
 ghost use Rattle.std.specs.Prelude.{◌≡◌, OnErr, OnOk};
 ghost use Rattle.disk_model.specs.Traces.{Trace, Wrote, WroteInPart, Resized, ResizedInPart, Synced, Idle};
-ghost use Rattle.told_store.specs.Notes.{after};
+ghost use Rattle.told_store.specs.Notes.{after_call};
 
 use std::io;
 
@@ -12,20 +12,20 @@ pub trait Calls {
 
     /// Writes all the bytes from `at` on.
     fn write_all(&mut self, at: u64, bytes: &[u8]) -> io::Result<()>
-        ensures done { OnOk result (told self.new ≡ after (Wrote at bytes.now) (told self.old)) }
-        ensures failed { OnErr result (told self.new ≡ after (WroteInPart at bytes.now) (told self.old)) };
+        ensures done { OnOk result (told self.new ≡ after_call (Wrote at bytes.now) (told self.old)) }
+        ensures failed { OnErr result (told self.new ≡ after_call (WroteInPart at bytes.now) (told self.old)) };
 
     /// Cuts the file to a length, or fills it up to it with zeros.
     fn resize(&mut self, len: u64) -> io::Result<()>
-        ensures done { OnOk result (told self.new ≡ after (Resized len) (told self.old)) }
-        ensures failed { OnErr result (told self.new ≡ after (ResizedInPart len) (told self.old)) };
+        ensures done { OnOk result (told self.new ≡ after_call (Resized len) (told self.old)) }
+        ensures failed { OnErr result (told self.new ≡ after_call (ResizedInPart len) (told self.old)) };
 
     /// Brings what was written to the disk.
     fn flush(&mut self) -> io::Result<()>
-        ensures done { OnOk result (told self.new ≡ after Synced (told self.old)) }
-        ensures failed { OnErr result (told self.new ≡ after Idle (told self.old)) };
+        ensures done { OnOk result (told self.new ≡ after_call Synced (told self.old)) }
+        ensures failed { OnErr result (told self.new ≡ after_call Idle (told self.old)) };
 
     /// Makes no call, and tells that.
     fn rest(&mut self)
-        ensures { told self.new ≡ after Idle (told self.old) };
+        ensures { told self.new ≡ after_call Idle (told self.old) };
 }

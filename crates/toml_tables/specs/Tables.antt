@@ -11,8 +11,8 @@ document bytes = if is_utf8 bytes then parse_document bytes else None
 
 -- ---- keys
 
-abbrev pub is_among : List (List ℕ) → List ℕ → Bool
-is_among keys key = list_any (λ k. bytes_eq k key) keys
+abbrev pub is_key_among : List (List ℕ) → List ℕ → Bool
+is_key_among keys key = list_any (λ k. bytes_eq k key) keys
 
 -- every key passes a test
 abbrev pub all_keys : (List ℕ → Bool) → Members → Bool
@@ -25,7 +25,7 @@ has_key ms key = is_some (get_member key ms)
 -- each of the needed keys is there, and no key but these and the others
 abbrev pub has_keys : List (List ℕ) → List (List ℕ) → Members → Bool
 has_keys needed others ms =
-    list_all (has_key ms) needed && all_keys (λ key. is_among needed key || is_among others key) ms
+    list_all (has_key ms) needed && all_keys (λ key. is_key_among needed key || is_key_among others key) ms
 
 -- ---- values
 

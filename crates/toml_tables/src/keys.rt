@@ -2,14 +2,14 @@
 ghost use Rattle.std.specs.Prelude.{◌≡◌, ◌||◌, map};
 ghost use Rattle.std.specs.List.{list_all};
 ghost use Rattle.toml.specs.View.{table_view};
-ghost use Rattle.toml_tables.specs.Tables.{is_among, has_key, all_keys, has_keys};
+ghost use Rattle.toml_tables.specs.Tables.{is_key_among, has_key, all_keys, has_keys};
 
 use crate::values::value_at;
 use toml::Table;
 
 // Whether a key is one of these.
 fn is_among(keys: &[&str], key: &str) -> bool
-    ensures { result ≡ is_among (map (λ k. k.now) keys.now) key.now }
+    ensures { result ≡ is_key_among (map (λ k. k.now) keys.now) key.now }
 {
     for k in keys {
         if *k == key {
@@ -42,7 +42,7 @@ fn has_each(table: &Table, keys: &[&str]) -> bool
 // Whether each key of a table is one of these.
 fn has_only(table: &Table, needed: &[&str], others: &[&str]) -> bool
     ensures { result ≡ all_keys
-        (λ key. is_among (map (λ k. k.now) needed.now) key || is_among (map (λ k. k.now) others.now) key)
+        (λ key. is_key_among (map (λ k. k.now) needed.now) key || is_key_among (map (λ k. k.now) others.now) key)
         (table_view table.now) }
 {
     for key in table.keys() {

@@ -10,7 +10,7 @@ use Rattle.trend_model.specs.Reads.{read_at}
 use Rattle.trend_model.proofs.ContentList.{content_closed, content_listed}
 use Rattle.trend_model.proofs.ReadLaw.{late_read}
 use Rattle.trend_model.specs.Lists.{IsAmong}
-use Rattle.trend_model.specs.History.{Event, Origin, InOrder, in_force, tuning_at, prior, pending, sent, IsInOrder}
+use Rattle.trend_model.specs.History.{Event, Origin, InOrder, in_force, tuning_of_value, prior, pending, sent, IsInOrder}
 use Rattle.trend_model.specs.Walk.{records, passed, held, walked}
 use Rattle.trend_model.specs.Content.{late_at, IsCleanSpan}
 use Rattle.trend_model.specs.Bound.{IsNear, raw_deviation, IsBounded}
@@ -68,14 +68,14 @@ span_near o h l r x c there lx xr =
 
 -- by the tuning of its right end
 sent_near : (o : Origin) (h : List Event) (l r x : Point) → IsCleanOf o h l r → IsAmong (InOrder x) (sent o h)
-    → l.t ≤ x.t → x.t ≤ r.t → IsNear o.step l r x (tuning_at o h r.t).comp_dev
+    → l.t ≤ x.t → x.t ≤ r.t → IsNear o.step l r x (tuning_of_value o h r.t).comp_dev
 sent_near o h l r x c there lx xr =
     let n = span_near o h l r x c there lx xr in
     subst (λ (u : Tuning). IsNear o.step l r x u.comp_dev) (sym (made_at o n.tuning r h n.right_made)) n.near
 
 -- what was sent on a span was made under the tuning of its right end
 made_on_span : (o : Origin) (h : List Event) (l r x : Point) → IsCleanOf o h l r
-    → IsAmong (InOrder x) (sent o h) → l.t < x.t → x.t ≤ r.t → tuning_at o h x.t ≡ tuning_at o h r.t
+    → IsAmong (InOrder x) (sent o h) → l.t < x.t → x.t ≤ r.t → tuning_of_value o h x.t ≡ tuning_of_value o h r.t
 made_on_span o h l r x c there lx xr =
     let n = span_near o h l r x c there (omega arith) xr in
     made_at o n.tuning x h (n.made lx) ∙ sym (made_at o n.tuning r h n.right_made)
@@ -108,7 +108,7 @@ near_between true l r s y z u near_s near_z ls sy yz ys zs =
 
 -- a raw value between two neighbours that were sent is near a clean span
 between_near : (o : Origin) (h : List Event) (l r y s z : Point) → IsCleanOf o h l r → l.t ≤ y.t → y.t ≤ r.t
-    → IsBetween o (flushed o h) y s z → IsNear o.step l r y (raw_deviation o.step (tuning_at o h r.t))
+    → IsBetween o (flushed o h) y s z → IsNear o.step l r y (raw_deviation o.step (tuning_of_value o h r.t))
 between_near o h l r y s z c ly yr b =
     let after = b.after in
     let before = b.before in
@@ -120,9 +120,9 @@ between_near o h l r y s z c ly yr b =
     let sent_s = older_flushed o h (pending o h) refl s r sent_r (omega arith) b.first_sent in
     let flushed_z = sent_of_made o.tuning b.tuning z (flushed o h) b.second_made in
     let sent_z = older_flushed o h (pending o h) refl z r sent_r zr flushed_z in
-    let came : tuning_at o h z.t ≡ b.tuning = made_at_flushed o b.tuning z h b.second_made in
-    let same : b.tuning ≡ tuning_at o h r.t = sym came ∙ made_on_span o h l r z c sent_z (omega arith) zr in
-    near_between o.step l r s y z (tuning_at o h r.t) (sent_near o h l r s c sent_s ls (omega arith))
+    let came : tuning_of_value o h z.t ≡ b.tuning = made_at_flushed o b.tuning z h b.second_made in
+    let same : b.tuning ≡ tuning_of_value o h r.t = sym came ∙ made_on_span o h l r z c sent_z (omega arith) zr in
+    near_between o.step l r s y z (tuning_of_value o h r.t) (sent_near o h l r s c sent_s ls (omega arith))
     (sent_near o h l r z c sent_z (omega arith) zr) ls (omega arith) (omega arith)
     (subst (λ (u : Tuning). unsigned_abs (y.v -ℤ s.v) ≤ u.exc_dev) same b.near)
     (subst (λ (u : Tuning). unsigned_abs (z.v -ℤ s.v) ≤ u.exc_dev) same b.second_near)
@@ -132,11 +132,11 @@ between_near o h l r y s z c ly yr b =
 
 -- each raw value in order is
 pub raw_near : (o : Origin) (h : List Event) (l r y : Point) → IsCleanOf o h l r → IsInOrder y h → l.t ≤ y.t
-    → y.t ≤ r.t → IsNear o.step l r y (raw_deviation o.step (tuning_at o h r.t))
+    → y.t ≤ r.t → IsNear o.step l r y (raw_deviation o.step (tuning_of_value o h r.t))
 raw_near o h l r y c there ly yr = elim (placed o h y there) [
   | was_sent s ↦
       (let sent_y = older_flushed o h (pending o h) refl y r (end_sent o h r (right_end o h l r c)) yr s in
-      near_more o.step l r y (tuning_at o h r.t) (sent_near o h l r y c sent_y ly yr))
+      near_more o.step l r y (tuning_of_value o h r.t) (sent_near o h l r y c sent_y ly yr))
   | lies_between s z b ↦ between_near o h l r y s z c ly yr b
 ]
 

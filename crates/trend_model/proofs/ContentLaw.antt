@@ -8,8 +8,8 @@ use Rattle.trend_num.specs.declared.archive.Kind.{Kind}
 use Rattle.trend_num.specs.declared.archive.Kind.TheVariants as kind
 use Rattle.trend_model.specs.Lists.{IsAmong}
 use Rattle.trend_model.specs.History.{Origin, Sent, InOrder}
-use Rattle.trend_model.specs.Walk.{kept, last_of}
-use Rattle.trend_model.specs.Content.{value_at, is_late_record, late_at, kept_at, point_at, closed_at}
+use Rattle.trend_model.specs.Walk.{kept, last_since_hinge}
+use Rattle.trend_model.specs.Content.{value_at, is_late_record, late_at, kept_at, value_at_point, closed_at}
 use Rattle.trend_model.specs.Orders.{RisesInTime}
 use Rattle.trend_model.specs.Examples.{at}
 use Rattle.trend_model.proofs.Sent.{same_there}
@@ -83,10 +83,10 @@ pub closed_there : (k : Point) (rs : List Rec) (q : Option Point) → IsAmong (k
     ≡ None → ⊥
 closed_there k rs q there none =
     let v = kept_there k rs there in
-    by_late (late_at rs k.t) v.0 (ap (λ o. option_or (option_or (late_at rs k.t) o) (point_at q k.t))
+    by_late (late_at rs k.t) v.0 (ap (λ o. option_or (option_or (late_at rs k.t) o) (value_at_point q k.t))
     (sym v.1) ∙ none)
   where
-    by_late : (late : Option ℤ) (v : ℤ) → option_or (option_or late (Some v)) (point_at q k.t) ≡ None → ⊥
+    by_late : (late : Option ℤ) (v : ℤ) → option_or (option_or late (Some v)) (value_at_point q k.t) ≡ None → ⊥
     by_late None v e = none_some v (sym e)
     by_late (Some u) v e = none_some u (sym e)
 
@@ -98,21 +98,21 @@ IsEnd l rs q = IsAmong (kept l) rs ⊎ (q ≡ Some l)
 pub closed_point : (rs : List Rec) (q : Option Point) (p : Point) → closed_at rs q p.t ≡ Some p.v
     → late_at rs p.t ≡ None → IsEnd p rs q
 closed_point rs q p here in_order =
-    by_kept (kept_at rs p.t) refl (ap (λ o. option_or (option_or o (kept_at rs p.t)) (point_at q p.t))
+    by_kept (kept_at rs p.t) refl (ap (λ o. option_or (option_or o (kept_at rs p.t)) (value_at_point q p.t))
     (sym in_order) ∙ here)
   where
-    by_held : (o : Option Point) → point_at o p.t ≡ Some p.v → o ≡ Some p
+    by_held : (o : Option Point) → value_at_point o p.t ≡ Some p.v → o ≡ Some p
     by_held None e = none_some p.v e
     by_held (Some s) e = ap Some (sym (point_of_value s p.t p.v (nat_eq s.t p.t) refl e))
 
-    by_kept : (o : Option ℤ) → kept_at rs p.t ≡ o → option_or o (point_at q p.t) ≡ Some p.v → IsEnd p rs q
+    by_kept : (o : Option ℤ) → kept_at rs p.t ≡ o → option_or o (value_at_point q p.t) ≡ Some p.v → IsEnd p rs q
     by_kept None here e = inr (by_held q e)
     by_kept (Some u) here e = inl (kept_is rs p.t p.v (here ∙ e))
 
 -- ---- neighbours
 
 -- an end of a span is kept, or is the last value since the hinge
-end_of_walk : (a l : Point) (rs : List Rec) (since : List Point) → IsEnd l rs (last_of (Some a) since)
+end_of_walk : (a l : Point) (rs : List Rec) (since : List Point) → IsEnd l rs (last_since_hinge (Some a) since)
     → IsAmong (kept l) rs ⊎ (l ≡ end_of a since)
 end_of_walk a l rs since (inl k) = inl k
 end_of_walk a l rs [] (inr e) = inr (same_there (Some a) l a e refl)
@@ -139,7 +139,7 @@ span_hung o ss rs a (q ∷ since) passed rises i l r left right =
 -- the same of a walk, whether or not it has begun
 pub span_walked : (o : Origin) (ss : List Sent) (rs : List Rec) (hinge : Option Point)
     (since passed : List Point) → RisesInTime ss → IsWalked o ss rs hinge since passed → (l r : Point)
-    → IsEnd l rs (last_of hinge since) → IsEnd r rs (last_of hinge since) → l.t < r.t → NoneKept rs l r
+    → IsEnd l rs (last_since_hinge hinge since) → IsEnd r rs (last_since_hinge hinge since) → l.t < r.t → NoneKept rs l r
     → IsSpan o ss passed l r
 span_walked o ss rs None [] passed rises i l r left right = λ lr none x there. absurd (i.none_sent x there)
 span_walked o ss rs None (q ∷ since) passed rises i l r left right = absurd i

@@ -8,7 +8,7 @@ use Rattle.trend_model.specs.History.{Sent, InOrder, Late, Tuned}
 use Rattle.trend_model.specs.Walk.{kept, late, is_short, is_early, is_near}
 use Rattle.trend_model.specs.Doors.{down, IsNotSteeper, is_not_steeper, is_admitted, upper_after, lower_after}
 use Rattle.trend_model.specs.State.{Archive, joins, line_after, stair_after, ends_at, archive_on, archived}
-use Rattle.trend_model.specs.Parts.{AreDoorsAt, AreFitDoors, DoorsFit, IsBegun, IsBegunOrBlank}
+use Rattle.trend_model.specs.Parts.{AreDoorsAt, AreFitDoors, DoorsFit, IsTagBegun, IsBegunOrBlank}
 use Rattle.trend_model.proofs.Near.{within_right}
 use Rattle.trend_model.proofs.Doors.{under_of_within, over_of_within, test_fact, steeper_self}
 use Rattle.trend_model.proofs.Listed.{each_push, AreListed, listed_first, listed_on, listed_late, listed_keep}
@@ -33,7 +33,7 @@ pub record IsFine (P : Point → Type 0) (step : Bool) (c : Archive) : Type 0 wh
 
 -- the records of a tag that has begun are listed
 listed_of : (step : Bool) (d : ℕ) (rs : List Rec) (q a : Point) (u l : Option Point)
-    → IsBegun step d rs q a u l → AreListed rs q a
+    → IsTagBegun step d rs q a u l → AreListed rs q a
 listed_of step d rs q a u l begun = record {
   begins_kept = begun.begins_kept;
   kept_rise = begun.kept_rise;
@@ -44,7 +44,7 @@ listed_of step d rs q a u l begun = record {
 -- listed records and doors that fit are those of a tag that has begun
 begun_of : (step : Bool) (d : ℕ) (rs : List Rec) (q a : Point) (u l : Option Point) → AreListed rs q a
     → DoorsFit step d a q u l
-    → IsBegun step d rs q a u l
+    → IsTagBegun step d rs q a u l
 begun_of step d rs q a u l listed doors = record {
   begins_kept = listed.begins_kept;
   kept_rise = listed.kept_rise;

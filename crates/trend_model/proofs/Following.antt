@@ -5,7 +5,7 @@ use Rattle.trend_num.specs.declared.archive.Rec.{Rec}
 use Rattle.trend_model.specs.Lists.{IfThere}
 use Rattle.trend_model.specs.History.{Sent, InOrder, Late, Tuned}
 use Rattle.trend_model.specs.Walk.{kept, late, is_short, is_early, is_near}
-use Rattle.trend_model.specs.State.{Archive, keeps, holds, joins, line_after, stair_after, ends_at, archive_on, archived}
+use Rattle.trend_model.specs.State.{Archive, keeps, holding, joins, line_after, stair_after, ends_at, archive_on, archived}
 use Rattle.trend_model.proofs.SentTunings.{force_sent}
 
 -- what is so of both ways on is so of the one that is taken
@@ -37,12 +37,12 @@ abbrev pub Follows : (Point → Type 0) → Option Point → List Sent → Type 
 Follows P q [] = Unit {0}
 Follows P q (s ∷ ss) = Follows P q ss × IsNext P (held_after q ss) s
 
--- ---- the archive holds what it is sent
+-- ---- the archive holding what it is sent
 
 -- what is so of each way on of an archive of lines by p is so of the one that is taken: p is kept, or held, or the held
 -- point is kept and p is held
-line_ways : (P : Archive → Type 0) (c : Archive) (p : Point) → P (keeps c p) → ((u l : Point) → P (holds c p u l))
-    → ((q : Point) → P (holds (keeps c q) p p p)) → (a q u l : Option Point) → P (line_after c p a q u l)
+line_ways : (P : Archive → Type 0) (c : Archive) (p : Point) → P (keeps c p) → ((u l : Point) → P (holding c p u l))
+    → ((q : Point) → P (holding (keeps c q) p p p)) → (a q u l : Option Point) → P (line_after c p a q u l)
 line_ways P c p keep hold both None q u l = keep
 line_ways P c p keep hold both (Some a) (Some q) (Some u) (Some l) =
     cond_by P (joins c.tuning a u l p) _ _ (λ e. hold _ _)
@@ -52,7 +52,7 @@ line_ways P c p keep hold both (Some a) (Some q) None l = hold p p
 line_ways P c p keep hold both (Some a) (Some q) (Some u) None = hold p p
 
 -- the same of an archive of stairs
-stair_ways : (P : Archive → Type 0) (c : Archive) (p : Point) → P (keeps c p) → P (holds c p p p) → (a : Option Point)
+stair_ways : (P : Archive → Type 0) (c : Archive) (p : Point) → P (keeps c p) → P (holding c p p p) → (a : Option Point)
     → P (stair_after c p a)
 stair_ways P c p keep hold None = keep
 stair_ways P c p keep hold (Some a) =
@@ -61,7 +61,7 @@ stair_ways P c p keep hold (Some a) =
 
 -- the same of both kinds
 pub value_ways : (P : Archive → Type 0) (step : Bool) (c : Archive) (p : Point) → P (keeps c p)
-    → ((u l : Point) → P (holds c p u l)) → ((q : Point) → P (holds (keeps c q) p p p))
+    → ((u l : Point) → P (holding c p u l)) → ((q : Point) → P (holding (keeps c q) p p p))
     → P (archive_on step c (InOrder p))
 value_ways P false c p keep hold both = line_ways P c p keep hold both c.hinge c.held c.upper c.lower
 value_ways P true c p keep hold both = stair_ways P c p keep (hold p p) c.hinge
@@ -73,7 +73,7 @@ held_ends c (Some q) None l e = e
 held_ends c (Some q) (Some u) None e = e
 held_ends c (Some q) (Some u) (Some l) e = refl
 
--- the archive holds the last value sent in order
+-- the archive holding the last value sent in order
 pub held_archived : (step : Bool) (c : Archive) (ss : List Sent)
     → (archived step c ss).held ≡ held_after c.held ss
 held_archived step c [] = refl

@@ -12,7 +12,7 @@ use Rattle.trend_model.specs.Contents.{IsNotBefore, listed, placed}
 use Rattle.trend_model.specs.History.{Event, Origin, in_force}
 use Rattle.trend_model.specs.Walk.{records, held}
 use Rattle.trend_model.specs.Lists.{Each, IfThere}
-use Rattle.trend_model.specs.Parts.{DoorsFit, IsBegun, IsBegunOrBlank, IsLateBefore, IsRuled, RisesAfter}
+use Rattle.trend_model.specs.Parts.{DoorsFit, IsTagBegun, IsBegunOrBlank, IsLateBefore, IsRuled, RisesAfter}
 use Rattle.trend_model.specs.Parts.{PointsRise, kept_points, last_point}
 use Rattle.trend_model.proofs.Placing.{all_placed, time}
 use Rattle.trend_model.proofs.HistoryLaw.{all_points, state_of, state_ruled, state_stands}
@@ -78,7 +78,7 @@ begun_until : (step : Bool) (d : ℕ) (rs : List Rec) (held hinge u l : Option P
 begun_until step d rs None hinge u l whole = tt
 begun_until step d rs (Some q) None u l whole = absurd whole
 begun_until step d rs (Some q) (Some a) u l begun =
-    let begun_is : IsBegun step d rs q a u l = begun in
+    let begun_is : IsTagBegun step d rs q a u l = begun in
     let later = hinge_first step d a q u l begun_is.doors in
     let points = until_held (kept_points rs) a q begun_is.kept_rise begun_is.hinge_last later in
     all_folded (λ t. t ≤ q.t) [] rs (All-nil (λ (r : Rec). r.point.t ≤ q.t))

@@ -8,7 +8,7 @@ use Rattle.trend_num.specs.Ranges.{InRange}
 use Rattle.trend_model.specs.Doors.{AreAfter}
 use Rattle.trend_model.specs.Lists.{IsAmong, Each, IfThere}
 use Rattle.trend_model.specs.History.{Event, Raw, Tune, Origin, Sent, InOrder, in_force, pending, sent}
-use Rattle.trend_model.specs.Walk.{walked, last_of, records, hinge, since, held}
+use Rattle.trend_model.specs.Walk.{walked, last_since_hinge, records, hinge, since, held}
 use Rattle.trend_model.specs.State.{State, nothing_taken, after, AreDoorsFor, DoorsStand, Stands, StandsAsStored, with_made}
 use Rattle.trend_model.specs.Parts.{kept_points, PointsRise, last_point, AreFitDoors, DoorsFit, PendingFits, IsBegunOrBlank, IsRuled, ArePartsOk}
 use Rattle.trend_model.specs.Orders.{AllPoints, tuned_by}
@@ -177,7 +177,7 @@ AreDoorsOf step d q None u l = (u ≡ None) × (l ≡ None)
 doors_of : (o : Origin) (ss : List Sent) (rs : List Rec) (a : Option Point) (since passed : List Point)
     (u l : Option Point)
     → IsWalked o ss rs a since passed → DoorsStand o.step (force_sent o.tuning ss).comp_dev a since u l
-    → AreDoorsOf o.step (force_sent o.tuning ss).comp_dev (last_of a since) a u l
+    → AreDoorsOf o.step (force_sent o.tuning ss).comp_dev (last_since_hinge a since) a u l
 doors_of o ss rs None [] passed u l i stand = stand
 doors_of o ss rs None (q ∷ since) passed u l i stand = absurd i
 doors_of o ss rs (Some a) [] passed u l i stand =

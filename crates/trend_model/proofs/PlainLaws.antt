@@ -4,7 +4,7 @@ use Rattle.std.proofs.lemmas.Bool.{true≢false}
 use Rattle.trend_num.specs.declared.point.Point.{Point}
 use Rattle.trend_num.specs.declared.tuning.Tuning.{Tuning}
 use Rattle.trend_model.specs.Lists.{Each}
-use Rattle.trend_model.specs.History.{Event, Raw, Tune, Origin, InOrder, Tuned, in_force, is_late, prior, pending, sent, tuning_at, IsInOrder}
+use Rattle.trend_model.specs.History.{Event, Raw, Tune, Origin, InOrder, Tuned, in_force, is_late, prior, pending, sent, tuning_of_value, IsInOrder}
 use Rattle.trend_model.specs.Walk.{records, held, passed}
 use Rattle.trend_model.specs.Content.{IsCleanSpan}
 use Rattle.trend_model.specs.Bound.{IsNear, raw_deviation}
@@ -67,9 +67,9 @@ no_deviation false u exc comp = omega arith
 no_deviation true u exc comp = omega arith
 
 -- without deviations each value in order of a clean span is on its line or its stair
-pub on_line : (o : Origin) (h : List Event) (l r y : Point) → (tuning_at o h r.t).exc_dev ≡ 0
-    → (tuning_at o h r.t).comp_dev ≡ 0 → IsCleanSpan (records o h) (held o h) (passed o h) l r → IsInOrder y h
+pub on_line : (o : Origin) (h : List Event) (l r y : Point) → (tuning_of_value o h r.t).exc_dev ≡ 0
+    → (tuning_of_value o h r.t).comp_dev ≡ 0 → IsCleanSpan (records o h) (held o h) (passed o h) l r → IsInOrder y h
     → l.t ≤ y.t → y.t ≤ r.t → IsNear o.step l r y 0
 on_line o h l r y exc comp span there ly yr =
-    subst (IsNear o.step l r y) (no_deviation o.step (tuning_at o h r.t) exc comp)
+    subst (IsNear o.step l r y) (no_deviation o.step (tuning_of_value o h r.t) exc comp)
     (raw_near o h l r y span there ly yr)

@@ -4,7 +4,7 @@ use Rattle.std.proofs.lemmas.Bool.Decides.{nat_tests}
 use Rattle.trend_num.specs.declared.point.Point.{Point}
 use Rattle.trend_num.specs.declared.tuning.Tuning.{Tuning}
 use Rattle.trend_model.specs.Lists.{IsAmong}
-use Rattle.trend_model.specs.History.{Event, Raw, Tune, Origin, Sent, InOrder, Late, Tuned, in_force, is_late, is_far_from, prior, pending, sent, tuning_at}
+use Rattle.trend_model.specs.History.{Event, Raw, Tune, Origin, Sent, InOrder, Late, Tuned, in_force, is_late, is_far_from, prior, pending, sent, tuning_of_value}
 use Rattle.trend_model.specs.State.{pushed_out}
 use Rattle.trend_model.proofs.Sent.{flushed, sent_on, tune_sends, value_sends, comes_late, goes, waits, happens}
 use Rattle.trend_model.proofs.Order.{time_of, IsNew, new_after, new_sent, flushed_rises}
@@ -99,18 +99,18 @@ below_test m n h = grind (arith, nat_tests)
 
 -- one more value in order leaves the tunings of those that were made before it
 made_on : (o : Origin) (u : Tuning) (p x : Point) (h : List Event) (ss : List Sent) → is_late p h ≡ false
-    → IsNew p ss → force_sent o.tuning ss ≡ in_force o h → (IsMade o.tuning u x ss → tuning_at o h x.t ≡ u)
-    → IsMade o.tuning u x (InOrder p ∷ ss) → tuning_at o (Raw p ∷ h) x.t ≡ u
+    → IsNew p ss → force_sent o.tuning ss ≡ in_force o h → (IsMade o.tuning u x ss → tuning_of_value o h x.t ≡ u)
+    → IsMade o.tuning u x (InOrder p ∷ ss) → tuning_of_value o (Raw p ∷ h) x.t ≡ u
 made_on o u p x h ss in_order new force before (inl here) =
-    at_here (is_late p h) (nat_eq p.t x.t) (in_force o h) (tuning_at o h x.t) in_order
+    at_here (is_late p h) (nat_eq p.t x.t) (in_force o h) (tuning_of_value o h x.t) in_order
     (same_test x.t p.t (time_of x p here.0)) ∙ sym force ∙ sym here.1
 made_on o u p x h ss in_order new force before (inr made) =
-    at_before (is_late p h) (nat_eq p.t x.t) (in_force o h) (tuning_at o h x.t)
+    at_before (is_late p h) (nat_eq p.t x.t) (in_force o h) (tuning_of_value o h x.t)
     (below_test x.t p.t (new x (sent_of_made o.tuning u x ss made))) ∙ before made
 
 -- a value that is sent, or waits, is made under the tuning that was in force when it came
 pub made_at_flushed : (o : Origin) (u : Tuning) (x : Point) (h : List Event)
-    → IsMade o.tuning u x (flushed o h) → tuning_at o h x.t ≡ u
+    → IsMade o.tuning u x (flushed o h) → tuning_of_value o h x.t ≡ u
 made_at_flushed o u x [] made = absurd made
 made_at_flushed o u x (Tune w ∷ h) made =
     made_at_flushed o u x h (subst (IsMade o.tuning u x) (tune_sends o w h) made)
@@ -119,7 +119,7 @@ made_at_flushed o u x (Raw p ∷ h) made =
     let before = made_at_flushed o u x h in
     elim (happens o p h) [
       | comes_late late none all ↦
-          at_by (is_late p h) (nat_eq p.t x.t) (in_force o h) (tuning_at o h x.t) late
+          at_by (is_late p h) (nat_eq p.t x.t) (in_force o h) (tuning_of_value o h x.t) late
           ∙ before (subst (IsMade o.tuning u x) all made)
       | goes in_order none all ↦
           made_on o u p x h (flushed o h) in_order (new_after o p h rises in_order) (force_flushed o h) before
@@ -132,5 +132,5 @@ made_at_flushed o u x (Raw p ∷ h) made =
 
 -- a value was made under the tuning that was in force when it came
 pub made_at : (o : Origin) (u : Tuning) (x : Point) (h : List Event) → IsMade o.tuning u x (sent o h)
-    → tuning_at o h x.t ≡ u
+    → tuning_of_value o h x.t ≡ u
 made_at o u x h made = made_at_flushed o u x h (made_in_flushed o.tuning u x (pending o h) (sent o h) made)

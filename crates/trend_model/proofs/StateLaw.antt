@@ -5,9 +5,9 @@ use Rattle.trend_num.specs.declared.archive.Rec.{Rec}
 use Rattle.trend_num.specs.declared.tuning.Tuning.{Tuning}
 use Rattle.trend_model.specs.Lists.{IfThere}
 use Rattle.trend_model.specs.History.{Event, Origin, Sent, InOrder, Late, Tuned, in_force, pending, sent}
-use Rattle.trend_model.specs.Walk.{Walk, walk, walk_on, line_on, stair_on, ended, walked, is_short, is_early, is_fit, is_near, last_of, since}
+use Rattle.trend_model.specs.Walk.{Walk, walk, walk_on, line_on, stair_on, ended, walked, is_short, is_early, is_fit, is_near, last_since_hinge, since}
 use Rattle.trend_model.specs.Doors.{AreAfter, AreDoors, upper_after, lower_after}
-use Rattle.trend_model.specs.State.{Archive, keeps, holds, line_after, stair_after, ends_at, archive_on, archived, State, archive_in, after_under, after, nothing_taken, replay, followed, DoorsStand, Stands, turned}
+use Rattle.trend_model.specs.State.{Archive, keeps, holding, line_after, stair_after, ends_at, archive_on, archived, State, archive_in, after_under, after, nothing_taken, replay, followed, DoorsStand, Stands, turned}
 use Rattle.trend_model.specs.Orders.{RisesInTime}
 use Rattle.trend_model.proofs.Doors.{doors_decide, doors_hang, doors_swing}
 use Rattle.trend_model.proofs.Sent.{same_there, not_both}
@@ -25,7 +25,7 @@ archive_of w u l = record {
   tuning = w.tuning;
   records = w.records;
   hinge = w.hinge;
-  held = last_of w.hinge w.since;
+  held = last_since_hinge w.hinge w.since;
   upper = u;
   lower = l;
 }
@@ -50,7 +50,7 @@ walk_at t rs passed a since = record { records = rs; hinge = a; since = since; p
 -- the three ways on of an archive of lines
 abbrev archive_by : Bool → Bool → Archive → Point → Point → Point → Point → Archive
 archive_by joins early c p q u l =
-    cond joins (holds c p u l) (cond early (holds c p p p) (holds (keeps c q) p p p))
+    cond joins (holding c p u l) (cond early (holding c p p p) (holding (keeps c q) p p p))
 
 -- each way on of an archive of lines follows its walk
 line_by_follows : (joins early : Bool) (t : Tuning) (rs : List Rec) (passed : List Point) (p a q u l : Point)
@@ -88,7 +88,7 @@ line_follows : (t : Tuning) (rs : List Rec) (passed : List Point) (p : Point) (a
     (u l : Option Point) → DoorsStand false t.comp_dev a since u l → ArePlaced a since
     → IfThere (λ (z : Point). z.t < p.t) a
     → FollowsWalk false (line_on (walk_at t rs passed a since) p a since)
-    (line_after (archive_of (walk_at t rs passed a since) u l) p a (last_of a since) u l)
+    (line_after (archive_of (walk_at t rs passed a since) u l) p a (last_since_hinge a since) u l)
 line_follows t rs passed p None since u l stand placed later = record { same = refl; doors = (refl, refl) }
 line_follows t rs passed p (Some a) [] None None stand placed later =
     record { same = refl; doors = (p, p, refl, refl, doors_hang a p t.comp_dev) }
@@ -112,7 +112,7 @@ stair_by_follows : (joins early : Bool) (t : Tuning) (rs : List Rec) (passed : L
     (since : List Point)
     (u l : Option Point) → FollowsWalk true (stair_by joins early (walk_at t rs passed (Some a) since) p)
     (let c = archive_of (walk_at t rs passed (Some a) since) u l in
-    cond joins (holds c p p p) (cond early (holds c p p p) (keeps c p)))
+    cond joins (holding c p p p) (cond early (holding c p p p) (keeps c p)))
 stair_by_follows true early t rs passed p a since u l =
     record { same = refl; doors = (p, p, refl, refl, (refl, refl)) }
 stair_by_follows false true t rs passed p a since u l =
@@ -134,7 +134,7 @@ tuned_follows : (step : Bool) (t v : Tuning) (rs : List Rec) (passed : List Poin
     (since : List Point)
     (u l : Option Point) → DoorsStand step t.comp_dev a since u l → ArePlaced a since
     → FollowsWalk step (record (ended (walk_at t rs passed a since) since) { tuning = v })
-    (record (ends_at (archive_of (walk_at t rs passed a since) u l) (last_of a since) u l) { tuning = v })
+    (record (ends_at (archive_of (walk_at t rs passed a since) u l) (last_since_hinge a since) u l) { tuning = v })
 tuned_follows step t v rs passed None [] u l stand placed = record { same = refl; doors = stand }
 tuned_follows step t v rs passed None (q ∷ since) u l stand placed = absurd placed
 tuned_follows step t v rs passed (Some a) [] None l stand placed = record { same = refl; doors = stand }

@@ -2,7 +2,7 @@
 use Rattle.std.proofs.Common.{◌≡◌, Bool, true, false, cond, ◌&&◌, List, [], ◌∷◌, Option, None, Some, refl, sym, ap, ◌∙◌}
 use Rattle.trend_num.specs.declared.point.Point.{Point}
 use Rattle.trend_model.specs.History.{Event, Origin, Sent, InOrder, Late, Tuned, sent, prior, last_in_order}
-use Rattle.trend_model.specs.Walk.{Walk, walk, walk_on, line_on, stair_on, joined, skipped, replaced, keeping, ended, is_short, is_early, is_fit, is_near, last_of, held}
+use Rattle.trend_model.specs.Walk.{Walk, walk, walk_on, line_on, stair_on, joined, skipped, replaced, keeping, ended, is_short, is_early, is_fit, is_near, last_since_hinge, held}
 use Rattle.trend_model.proofs.Sent.{last_in_order_is}
 
 -- the three ways on of a line from a hinge and the last value since it
@@ -15,7 +15,7 @@ stair_by joins early w p = cond joins (joined w p) (cond early (skipped w p) (ke
 
 -- the point that closes the line of a walk
 abbrev pub last_in : Walk → Option Point
-last_in w = last_of w.hinge w.since
+last_in w = last_since_hinge w.hinge w.since
 
 -- on each of these ways p is held
 last_line_by : (joins early : Bool) (w : Walk) (p q : Point) → last_in (line_by joins early w p q) ≡ Some p
@@ -48,7 +48,7 @@ last_stair w p (Some a) =
 -- the end of a span leaves it held
 last_ended : (w : Walk) (since : List Point) → w.since ≡ since → last_in (ended w since) ≡ last_in w
 last_ended w [] e = refl
-last_ended w (q ∷ since) e = ap (last_of w.hinge) (sym e)
+last_ended w (q ∷ since) e = ap (last_since_hinge w.hinge) (sym e)
 
 -- the walk holds the last value that was sent in order
 last_of_walk : (o : Origin) (ss : List Sent) → last_in (walk o ss) ≡ last_in_order ss

@@ -5,7 +5,7 @@ use Rattle.trend_num.specs.declared.archive.Rec.{Rec}
 use Rattle.trend_num.specs.declared.tuning.Tuning.{Tuning}
 use Rattle.trend_num.specs.Lines.{Within}
 use Rattle.trend_model.specs.Lists.{IsAmong}
-use Rattle.trend_model.specs.History.{Event, Origin, Sent, InOrder, sent, in_force, tuning_at, IsInOrder}
+use Rattle.trend_model.specs.History.{Event, Origin, Sent, InOrder, sent, in_force, tuning_of_value, IsInOrder}
 use Rattle.trend_model.specs.Walk.{records, held, passed}
 use Rattle.trend_model.specs.Content.{late_at, IsCleanSpan}
 use Rattle.trend_model.specs.Contents.{closed_points}
@@ -27,10 +27,10 @@ raw_deviation true u = u.comp_dev + u.exc_dev
 pub record IsBoundedBy (rs : List Rec) (q : Option Point) (gone : List Point) (ss : List Sent) (o : Origin) (h : List Event) : Type 0 where
   -- on each clean span the line is within CompDev of each value sent in order
   pub sent_values : (l r x : Point) → IsCleanSpan rs q gone l r → IsAmong (InOrder x) ss → l.t ≤ x.t → x.t ≤ r.t
-      → IsNear o.step l r x (tuning_at o h r.t).comp_dev
+      → IsNear o.step l r x (tuning_of_value o h r.t).comp_dev
   -- and within CompDev and twice ExcDev of each raw value in order; a stair within CompDev and ExcDev
   pub raw_values : (l r y : Point) → IsCleanSpan rs q gone l r → IsInOrder y h → l.t ≤ y.t → y.t ≤ r.t
-      → IsNear o.step l r y (raw_deviation o.step (tuning_at o h r.t))
+      → IsNear o.step l r y (raw_deviation o.step (tuning_of_value o h r.t))
   -- each value in order after the held point is within ExcDev of it
   pub newest_values : (s y : Point) → q ≡ Some s → IsInOrder y h → s.t < y.t → unsigned_abs (y.v -ℤ s.v) ≤ (in_force o h).exc_dev
   -- at a time with Late records a read is exact, with the value of the last one

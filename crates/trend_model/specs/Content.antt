@@ -33,13 +33,13 @@ abbrev pub content_at : List Rec → ℕ → Option ℤ
 content_at rs t = option_or (late_at rs t) (kept_at rs t)
 
 -- the value of a point that may be there
-abbrev pub point_at : Option Point → ℕ → Option ℤ
-point_at None t = None
-point_at (Some q) t = value_at q t
+abbrev pub value_at_point : Option Point → ℕ → Option ℤ
+value_at_point None t = None
+value_at_point (Some q) t = value_at q t
 
 -- the closed content at t: the content, and the held point where nothing stands at its time
 abbrev pub closed_at : List Rec → Option Point → ℕ → Option ℤ
-closed_at rs q t = option_or (content_at rs t) (point_at q t)
+closed_at rs q t = option_or (content_at rs t) (value_at_point q t)
 
 -- the closed content of a history
 abbrev pub closed : Origin → List Event → ℕ → Option ℤ

@@ -96,12 +96,12 @@ IsInOrder y (Tune u ∷ h) = IsInOrder y h
 IsInOrder y (Raw p ∷ h) = ((y ≡ p) × (is_late p h ≡ false)) ⊎ IsInOrder y h
 
 -- the tuning that was in force when the value in order with the time t came
-abbrev pub tuning_at : Origin → List Event → ℕ → Tuning
-tuning_at o [] t = o.tuning
-tuning_at o (Tune u ∷ h) t = tuning_at o h t
-tuning_at o (Raw p ∷ h) t =
+abbrev pub tuning_of_value : Origin → List Event → ℕ → Tuning
+tuning_of_value o [] t = o.tuning
+tuning_of_value o (Tune u ∷ h) t = tuning_of_value o h t
+tuning_of_value o (Raw p ∷ h) t =
     if not (is_late p h) && nat_eq p.t t then in_force o h
-    else tuning_at o h t
+    else tuning_of_value o h t
 
 -- the last value in order of what was sent
 abbrev pub last_in_order : List Sent → Option Point

@@ -70,7 +70,7 @@ PendingFits u None (Some w) = ⊥
 PendingFits u (Some q) (Some w) = (q.t < w.t) × (unsigned_abs (w.v -ℤ q.v) ≤ u.exc_dev) × (w.t < q.t + u.exc_max)
 
 -- a tag that has begun, with this held point and this hinge
-pub record IsBegun (step : Bool) (d : ℕ) (rs : List Rec) (q a : Point) (upper lower : Option Point) : Type 0 where
+pub record IsTagBegun (step : Bool) (d : ℕ) (rs : List Rec) (q a : Point) (upper lower : Option Point) : Type 0 where
   pub begins_kept : BeginsKept rs
   pub kept_rise : PointsRise (kept_points rs)
   pub hinge_last : last_point (kept_points rs) ≡ Some a
@@ -86,7 +86,7 @@ pub record IsBlank (rs : List Rec) (upper lower : Option Point) : Type 0 where
 -- it has begun exactly where it has a held point, and a hinge
 abbrev pub IsBegunOrBlank : Bool → ℕ → List Rec → Option Point → Option Point → Option Point → Option Point → Type 0
 IsBegunOrBlank step d rs None None upper lower = IsBlank rs upper lower
-IsBegunOrBlank step d rs (Some q) (Some a) upper lower = IsBegun step d rs q a upper lower
+IsBegunOrBlank step d rs (Some q) (Some a) upper lower = IsTagBegun step d rs q a upper lower
 IsBegunOrBlank step d rs held hinge upper lower = ⊥
 
 -- records and a summary that keep the rules of a tag of this tuning and this kind, each point of which has the property P

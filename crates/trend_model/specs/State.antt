@@ -85,8 +85,8 @@ abbrev pub keeps : Archive → Point → Archive
 keeps c q = record c { records = c.records ++ (kept q ∷ []); hinge = Some q; held = Some q; upper = None; lower = None }
 
 -- p is held, between these doors
-abbrev pub holds : Archive → Point → Point → Point → Archive
-holds c p u l = record c { held = Some p; upper = Some u; lower = Some l }
+abbrev pub holding : Archive → Point → Point → Point → Archive
+holding c p u l = record c { held = Some p; upper = Some u; lower = Some l }
 
 -- the line from the hinge to p is not too long, and is admitted by the doors
 abbrev pub joins : Tuning → Point → Point → Point → Point → Bool
@@ -96,17 +96,17 @@ joins t a u l p = is_short t a p && is_admitted a t.comp_dev u l p
 abbrev pub line_after : Archive → Point → Option Point → Option Point → Option Point → Option Point → Archive
 line_after c p None held upper lower = keeps c p
 line_after c p (Some a) (Some q) (Some u) (Some l) =
-    if joins c.tuning a u l p then holds c p (upper_after a c.tuning.comp_dev u p) (lower_after a c.tuning.comp_dev l p)
-    else if is_short c.tuning a p && is_early c.tuning a q then holds c p p p
-    else holds (keeps c q) p p p
-line_after c p (Some a) held upper lower = holds c p p p
+    if joins c.tuning a u l p then holding c p (upper_after a c.tuning.comp_dev u p) (lower_after a c.tuning.comp_dev l p)
+    else if is_short c.tuning a p && is_early c.tuning a q then holding c p p p
+    else holding (keeps c q) p p p
+line_after c p (Some a) held upper lower = holding c p p p
 
 -- the archive of a step tag after one more value in order, from its hinge
 abbrev pub stair_after : Archive → Point → Option Point → Archive
 stair_after c p None = keeps c p
 stair_after c p (Some a) =
-    if is_short c.tuning a p && is_near c.tuning a p then holds c p p p
-    else if is_short c.tuning a p && is_early c.tuning a p then holds c p p p
+    if is_short c.tuning a p && is_near c.tuning a p then holding c p p p
+    else if is_short c.tuning a p && is_early c.tuning a p then holding c p p p
     else keeps c p
 
 -- the span since the hinge is ended: where there are doors the held point is kept

@@ -121,10 +121,10 @@ abbrev pub passed : Origin → List Event → List Point
 passed o h = (walked o h).passed
 
 -- the last of the values since the hinge, or the hinge where there is none
-abbrev pub last_of : Option Point → List Point → Option Point
-last_of hinge [] = hinge
-last_of hinge (q ∷ since) = Some q
+abbrev pub last_since_hinge : Option Point → List Point → Option Point
+last_since_hinge hinge [] = hinge
+last_since_hinge hinge (q ∷ since) = Some q
 
 -- the point that closes a history's line; an exception test calls it the last value sent in order
 abbrev pub held : Origin → List Event → Option Point
-held o h = last_of (hinge o h) (since o h)
+held o h = last_since_hinge (hinge o h) (since o h)

@@ -1,7 +1,7 @@
 // Small histories, worked by hand.
 ghost use Rattle.std.specs.Prelude.{◌≡◌, ◌+◌, ◌*◌, pos, negsuc, true, false, [], ◌∷◌, None, Some};
 ghost use Rattle.trend_model.specs.Lists.{IsAmong};
-ghost use Rattle.trend_model.specs.History.{InOrder, IsInOrder, in_force, pending, sent, tuning_at};
+ghost use Rattle.trend_model.specs.History.{InOrder, IsInOrder, in_force, pending, sent, tuning_of_value};
 ghost use Rattle.trend_num.specs.Lines.{Within};
 ghost use Rattle.trend_model.specs.Walk.{held, kept, late, passed, records};
 ghost use Rattle.trend_model.specs.Content.{IsCleanSpan, closed_at, content_at, late_at};
@@ -82,7 +82,7 @@ pub fn own_tuning_is_needed()
     ensures span { IsCleanSpan (records (lines (tuned 0 5 0 1000000)) sharpened) (held (lines (tuned 0 5 0 1000000)) sharpened)
         (passed (lines (tuned 0 5 0 1000000)) sharpened) (at 0 (pos 0)) (at 20 (pos 0)) }
     ensures sent { IsAmong (InOrder (at 10 (pos 3))) (sent (lines (tuned 0 5 0 1000000)) sharpened) }
-    ensures own { tuning_at (lines (tuned 0 5 0 1000000)) sharpened 20 ≡ tuned 0 5 0 1000000 }
+    ensures own { tuning_of_value (lines (tuned 0 5 0 1000000)) sharpened 20 ≡ tuned 0 5 0 1000000 }
     ensures end { in_force (lines (tuned 0 5 0 1000000)) sharpened ≡ tuned 0 0 0 1000000 }
     ensures far { ¬ Within (at 0 (pos 0)) (at 20 (pos 0)) (at 10 (pos 3)) 0 }
 {}

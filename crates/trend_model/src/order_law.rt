@@ -5,7 +5,7 @@ ghost use Rattle.trend_num.specs.declared.archive.Rec.{Rec};
 ghost use Rattle.trend_num.specs.declared.archive.Summary.{Summary};
 ghost use Rattle.trend_num.specs.declared.tuning.Tuning.{Tuning};
 ghost use Rattle.trend_model.specs.Lists.{Each, IfThere};
-ghost use Rattle.trend_model.specs.History.{Event, Origin, IsInOrder, last_in_order, prior, sent, tuning_at};
+ghost use Rattle.trend_model.specs.History.{Event, Origin, IsInOrder, last_in_order, prior, sent, tuning_of_value};
 ghost use Rattle.trend_model.specs.Walk.{held, hinge, passed, records};
 ghost use Rattle.trend_model.specs.Content.{IsCleanSpan};
 ghost use Rattle.trend_model.specs.Contents.{IsNotBefore, listed};
@@ -55,7 +55,7 @@ pub fn no_wait_sends_all()
 
 /// Every value in order of a clean span whose tuning has ExcDev and CompDev 0 lies exactly on its line or its stair.
 pub fn no_deviation_is_exact()
-    ensures { (o : Origin) (h : List Event) (l r y : Point) → (tuning_at o h r.t).exc_dev ≡ 0
-        → (tuning_at o h r.t).comp_dev ≡ 0 → IsCleanSpan (records o h) (held o h) (passed o h) l r
+    ensures { (o : Origin) (h : List Event) (l r y : Point) → (tuning_of_value o h r.t).exc_dev ≡ 0
+        → (tuning_of_value o h r.t).comp_dev ≡ 0 → IsCleanSpan (records o h) (held o h) (passed o h) l r
         → IsInOrder y h → l.t ≤ y.t → y.t ≤ r.t → IsNear o.step l r y 0 }
 {}

@@ -15,11 +15,11 @@ pub record IsName (bytes : List ℕ) : Type 0 where
   pub spelled : list_all is_name_byte bytes ≡ true
 
 -- the first `len` of 64 bytes are a name, and the others are zeros
-pub record IsStored (len : ℕ) (bytes : List ℕ) : Type 0 where
+pub record IsNameStored (len : ℕ) (bytes : List ℕ) : Type 0 where
   pub name : IsName (take len bytes)
   pub in_array : len ≤ length bytes
   pub zeros : take len bytes ++ replicate (64 - len) 0 ≡ bytes
 
 -- a name that is stored with the length `len` has `len` bytes
-pub stored_len : (len : ℕ) (bytes : List ℕ) → IsStored len bytes → length (take len bytes) ≡ len
+pub stored_len : (len : ℕ) (bytes : List ℕ) → IsNameStored len bytes → length (take len bytes) ≡ len
 stored_len len bytes stored = length-take-le len bytes stored.in_array

@@ -3,26 +3,10 @@ ghost use Rattle.std.specs.Prelude.{◌≡◌, ◌↔◌, IsTrue};
 
 use crate::archive::{Rec, Summary};
 use crate::name::Name;
-use crate::point::Point;
-use crate::sending::Sending;
 use crate::tuning::Tuning;
-
-/// Whether two points have the same time and value, by `==`.
-pub fn same_point(a: &Point, b: &Point) -> bool
-    ensures { IsTrue result ↔ (a.now ≡ b.now) }
-{
-    a == b
-}
 
 /// Whether two records are of one kind and of one point, by `==`.
 pub fn same_rec(a: &Rec, b: &Rec) -> bool
-    ensures { IsTrue result ↔ (a.now ≡ b.now) }
-{
-    a == b
-}
-
-/// Whether two values are sent in one way and are one point, by `==`.
-pub fn same_sending(a: &Sending, b: &Sending) -> bool
     ensures { IsTrue result ↔ (a.now ≡ b.now) }
 {
     a == b

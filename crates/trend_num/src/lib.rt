@@ -26,7 +26,7 @@ mod value;
 pub use archive::{Kind, MAX_RECORDS, Rec, Snap, Summary};
 pub use counter::Steps;
 pub use digits::numeral;
-pub use equality::{same_name, same_point, same_rec, same_sending, same_summary, same_tuning};
+pub use equality::{same_name, same_rec, same_summary, same_tuning};
 pub use fraction::{Frac, line_at, round_half_up};
 pub use measure::Measure;
 pub use name::{Name, name_from};

@@ -18,13 +18,13 @@ pub struct Name {
 
 impl Model for Name {
     ghost use Rattle.std.specs.Prelude.{ℕ, List, length, take, replicate, ◌++◌, ◌-◌};
-    ghost use Rattle.trend_num.specs.Names.{IsStored};
+    ghost use Rattle.trend_num.specs.Names.{IsNameStored};
 
     ghost Value = { List ℕ };
 
     ghost view = { λ n. take n.len n.bytes };
 
-    ghost invariant = { λ n. IsStored n.len n.bytes };
+    ghost invariant = { λ n. IsNameStored n.len n.bytes };
 
     ghost inverse = { λ bytes. record { len = length bytes; bytes = bytes ++ replicate (64 - length bytes) 0 } };
 

@@ -9,14 +9,14 @@ use Rattle.std.specs.List.{range_with_len}
 use Rattle.trend_num.specs.declared.point.Point.{Point}
 use Rattle.trend_report.specs.declared.drill.Signal.{Signal}
 
--- the number after a number, and what is drawn of one
+-- the number signal_after a number, and what is drawn of one
 abbrev pub next_number : ℕ → ℕ
 next_number x = (1103515245 * x + 12345) % 2 ^ 31
 
 abbrev pub drawn : ℕ → ℕ
 drawn x = x / 65536
 
--- how far from the clock, and from the level, an event is that draws after a number
+-- how far from the clock, and from the level, an event is that draws signal_after a number
 abbrev pub gap_of : ℕ → ℕ
 gap_of x = 100 + drawn (next_number x) % 900
 
@@ -35,9 +35,9 @@ event n s =
       v = s.level +ℤ swing_of s.number;
     }
 
--- the signal after it
-abbrev pub after : ℕ → Signal → Signal
-after n s =
+-- the signal signal_after it
+abbrev pub signal_after : ℕ → Signal → Signal
+signal_after n s =
     record {
       number = next_number (next_number s.number);
       clock = if goes_back n then s.clock else s.clock + gap_of s.number;
@@ -50,7 +50,7 @@ first_signal number tag = record { number = (number + 1000 * tag) % 2 ^ 31; cloc
 
 abbrev pub signal_at : ℕ → ℕ → ℕ → Signal
 signal_at number tag zero = first_signal number tag
-signal_at number tag (suc n) = after n (signal_at number tag n)
+signal_at number tag (suc n) = signal_after n (signal_at number tag n)
 
 -- the tag's first points, so many
 abbrev pub drill_points : ℕ → ℕ → ℕ → List Point

@@ -34,8 +34,8 @@ is_kept Kept = true
 is_kept Late = false
 
 -- what is told of a tag of this name, with these records and this state beside them
-abbrev pub line_of : List ℕ → List Rec → Summary → TagLine
-line_of name recs summary = record {
+abbrev pub tag_line_of : List ℕ → List Rec → Summary → TagLine
+tag_line_of name recs summary = record {
   name = name;
   taken = summary.taken;
   records = summary.records;
@@ -142,5 +142,5 @@ abbrev pub group_lines : List ℕ → ℕ → ℕ → ℕ → List LastRow → L
 group_lines name windows refreshes evals lasts =
     heading_text name windows refreshes evals ++ flat_map (last_text name windows) lasts
 
-abbrev pub group_text : GroupLine → List ℕ
-group_text g = group_lines g.name g.windows g.refreshes g.evals g.lasts.items
+abbrev pub group_line_text : GroupLine → List ℕ
+group_line_text g = group_lines g.name g.windows g.refreshes g.evals g.lasts.items

@@ -1,7 +1,7 @@
 // The points that a drill generates.
 ghost use Rattle.std.specs.Prelude.{◌≡◌, ◌<◌, ◌≤◌, ◌+◌, ◌^◌, ◌+ℤ◌, All, IfOk, unsigned_abs};
 ghost use Rattle.trend_num.specs.Ranges.{InRange};
-ghost use Rattle.trend_report.specs.Drill.{after, drill_points, event, first_signal, gap_of, IsNear, next_number, swing_of};
+ghost use Rattle.trend_report.specs.Drill.{signal_after, drill_points, event, first_signal, gap_of, IsNear, next_number, swing_of};
 
 use std::alloc::Global;
 use trend_num::{Point, WantOfMemory};
@@ -61,7 +61,7 @@ impl Signal {
     fn event(&mut self, place: u32) -> Point
         requires { IsNear place self.old }
         ensures event { result ≡ event place self.old }
-        ensures signal { self.new ≡ after place self.old }
+        ensures signal { self.new ≡ signal_after place self.old }
         ensures near { IsNear (place + 1) self.new }
         ensures in_range { InRange result }
     {

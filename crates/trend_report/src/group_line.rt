@@ -1,7 +1,7 @@
 // The lines of a group.
 ghost use Rattle.std.specs.Prelude.{◌≡◌, ◌++◌, codes, IfOk, OnOk, string_bytes};
 ghost use Rattle.std.specs.List.{flat_map};
-ghost use Rattle.trend_report.specs.Lines.{group_text, heading_text, last_text};
+ghost use Rattle.trend_report.specs.Lines.{group_line_text, heading_text, last_text};
 
 use crate::reply_line::put_value;
 use std::alloc::{AllocError, Global};
@@ -32,14 +32,14 @@ pub struct LastRow {
 /// The line `group NAME windows=W refreshes=N evals=E` and behind it, of each calculation, `calc GROUP NAME K VALUE` with the value
 /// in the last complete window K, counted from 0, or `calc GROUP NAME none`; each with its line feed.
 pub fn group_text(alloc: Global, line: &GroupLine) -> Result<String, WantOfMemory>
-    ensures { IfOk result (λ text. string_bytes text ≡ group_text line.now) }
+    ensures { IfOk result (λ text. string_bytes text ≡ group_line_text line.now) }
 {
     Ok(group_lines(alloc, line)?)
 }
 
 // The same, with the allocator's own error.
 fn group_lines(alloc: Global, line: &GroupLine) -> Result<String, AllocError>
-    ensures { IfOk result (λ text. string_bytes text ≡ group_text line.now) }
+    ensures { IfOk result (λ text. string_bytes text ≡ group_line_text line.now) }
 {
     let mut text = String::new(alloc);
     put_heading(&mut text, line)?;

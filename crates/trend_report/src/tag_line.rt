@@ -1,7 +1,7 @@
 // The line of a tag.
 ghost use Rattle.std.specs.Prelude.{◌≡◌, ◌++◌, codes, IfOk, OnOk, string_bytes};
 ghost use Rattle.std.specs.List.{count_by};
-ghost use Rattle.trend_report.specs.Lines.{counts_text, is_kept, is_late, line_of, tag_text};
+ghost use Rattle.trend_report.specs.Lines.{counts_text, is_kept, is_late, tag_line_of, tag_text};
 
 use crate::point_text::put_held;
 use std::alloc::{AllocError, Global};
@@ -24,7 +24,7 @@ pub struct TagLine {
 /// What is told of a tag of this name, with these records and this state beside them. A count that is no `u32` is told as memory
 /// that is not there.
 pub fn line_of(name: Name, recs: &[Rec], summary: &Summary) -> Result<TagLine, WantOfMemory>
-    ensures { IfOk result (λ line. line ≡ line_of name recs.now summary.now) }
+    ensures { IfOk result (λ line. line ≡ tag_line_of name recs.now summary.now) }
 {
     let Summary {
         taken,

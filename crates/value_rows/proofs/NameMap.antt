@@ -12,7 +12,7 @@ use Rattle.std.specs.List.{position, position_from}
 use Rattle.std.specs.Option.{is_some, option_or}
 use Rattle.std.specs.Ordering.{nat_cmp}
 use Rattle.std.specs.Str.{bytes_eq}
-use Rattle.value_rows.specs.Raw.{place_of}
+use Rattle.value_rows.specs.Raw.{first_place_of}
 use Rattle.trend_num.specs.Names.{IsName}
 use Rattle.value_rows.specs.RowReader.{ArePlaces, IsHint}
 
@@ -31,7 +31,7 @@ position_from-push test i (y ∷ ys) x =
 
 -- the place of a name among the first ones and one more
 place_more : (names : List (List ℕ)) (i : ℕ) (name q : List ℕ) → i < length names → get_or names i name ≡ name
-    → place_of (take (i + 1) names) q ≡ option_or (place_of (take i names) q) (cond (bytes_eq q name) (Some i) None)
+    → first_place_of (take (i + 1) names) q ≡ option_or (first_place_of (take i names) q) (cond (bytes_eq q name) (Some i) None)
 place_more names i name q below here =
     let test : List ℕ → Bool = bytes_eq q in
     let first = take i names in
@@ -56,12 +56,12 @@ there_already m names i name below here are there q =
     kept None p none = absurd (cc)
     kept (Some k) p some = refl
 
-    same : (b : Bool) → bytes_eq q name ≡ b → option_or (place_of (take i names) q) (cond b (Some i) None) ≡ place_of (take i names) q
+    same : (b : Bool) → bytes_eq q name ≡ b → option_or (first_place_of (take i names) q) (cond b (Some i) None) ≡ first_place_of (take i names) q
     same true agrees =
         let one : q ≡ name = (bytes_eq-Decides q name).0 agrees in
-        let some : is_some (place_of (take i names) q) ≡ true = ap is_some (ap (place_of (take i names)) one ∙ sym (are name)) ∙ there in
-        kept (place_of (take i names) q) (Some i) some
-    same false differs = option_or-None (place_of (take i names) q)
+        let some : is_some (first_place_of (take i names) q) ≡ true = ap is_some (ap (first_place_of (take i names)) one ∙ sym (are name)) ∙ there in
+        kept (first_place_of (take i names) q) (Some i) some
+    same false differs = option_or-None (first_place_of (take i names) q)
 
 -- a name that is not there is put
 pub put_next : (m n : BTreeMap (Bor (List ℕ)) ℕ) (names : List (List ℕ)) (i : ℕ) (name : List ℕ) → i < length names → get_or names i name ≡ name
@@ -75,11 +75,11 @@ put_next m n names i name below here are gone updates q =
     other (Some k) p some = absurd (cc)
 
     same : (b d : Bool) → bytes_eq q name ≡ b → bytes_eq name q ≡ d
-        → option_or (place_of (take i names) q) (cond b (Some i) None) ≡ cond d (Some i) (get_by (λ k. slice_cmp nat_cmp q k.now) m)
+        → option_or (first_place_of (take i names) q) (cond b (Some i) None) ≡ cond d (Some i) (get_by (λ k. slice_cmp nat_cmp q k.now) m)
     same true true agrees back =
         let one : q ≡ name = (bytes_eq-Decides q name).0 agrees in
-        let none : is_some (place_of (take i names) q) ≡ false = ap is_some (ap (place_of (take i names)) one ∙ sym (are name)) ∙ gone in
-        other (place_of (take i names) q) (Some i) none
+        let none : is_some (first_place_of (take i names) q) ≡ false = ap is_some (ap (first_place_of (take i names)) one ∙ sym (are name)) ∙ gone in
+        other (first_place_of (take i names) q) (Some i) none
     same true false agrees back =
         let one : q ≡ name = (bytes_eq-Decides q name).0 agrees in
         let again : bytes_eq name q ≡ true = (bytes_eq-Decides name q).1 (sym one) in
@@ -88,21 +88,21 @@ put_next m n names i name below here are gone updates q =
         let one : name ≡ q = (bytes_eq-Decides name q).0 back in
         let again : bytes_eq q name ≡ true = (bytes_eq-Decides q name).1 (sym one) in
         absurd (cc)
-    same false false differs back = option_or-None (place_of (take i names) q) ∙ sym (are q)
+    same false false differs back = option_or-None (first_place_of (take i names) q) ∙ sym (are q)
 
 -- a place is one of the names'
-pub place_within : (names : List (List ℕ)) (name : List ℕ) (o : Option ℕ) → o ≡ place_of names name → IfSome o (λ i. i < length names)
+pub place_within : (names : List (List ℕ)) (name : List ℕ) (o : Option ℕ) → o ≡ first_place_of names name → IfSome o (λ i. i < length names)
 place_within names name None is = tt
 place_within names name (Some i) is = (position-Some (bytes_eq name) names i [] (sym is)).0
 
 -- and what stands there is the name
-place_holds : (names : List (List ℕ)) (name : List ℕ) (i : ℕ) → place_of names name ≡ Some i → (i < length names) × (name ≡ get_or names i [])
+place_holds : (names : List (List ℕ)) (name : List ℕ) (i : ℕ) → first_place_of names name ≡ Some i → (i < length names) × (name ≡ get_or names i [])
 place_holds names name i is =
     let at = position-Some (bytes_eq name) names i [] is in
     (at.0, (bytes_eq-Decides name (get_or names i [])).0 at.1)
 
 -- a name that has a place is a name
-pub place_named : (names : List (List ℕ)) (name : List ℕ) (o : Option ℕ) → All IsName names → o ≡ place_of names name
+pub place_named : (names : List (List ℕ)) (name : List ℕ) (o : Option ℕ) → All IsName names → o ≡ first_place_of names name
     → IfSome o (λ _. IsName name)
 place_named names name None named is = tt
 place_named names name (Some i) named is =
@@ -110,10 +110,10 @@ place_named names name (Some i) named is =
     subst IsName (sym same) (All-get_or IsName names i [] below named)
 
 -- the place of a name is a hint
-pub place_hint : (names : List (List ℕ)) (name : List ℕ) (i : ℕ) → place_of names name ≡ Some i → IsHint names i
+pub place_hint : (names : List (List ℕ)) (name : List ℕ) (i : ℕ) → first_place_of names name ≡ Some i → IsHint names i
 place_hint names name i is below =
     let (within, same) = place_holds names name i is in
-    ap (place_of names) (sym same) ∙ is
+    ap (first_place_of names) (sym same) ∙ is
 
 -- no name has the greatest place
 pub no_hint : (names : List (List ℕ)) (i : ℕ) → length names ≤ i → IsHint names i
@@ -121,7 +121,7 @@ no_hint names i past below = absurd (omega arith)
 
 -- a hint at which the name stands is its place
 pub hint_holds : (names : List (List ℕ)) (slots : List ℕ) (slot i : ℕ) (name : List ℕ)
-    → All (IsHint names) slots → slot < length slots → i ≡ get_or slots slot i → i < length names → name ≡ get_or names i [] → Some i ≡ place_of names name
+    → All (IsHint names) slots → slot < length slots → i ≡ get_or slots slot i → i < length names → name ≡ get_or names i [] → Some i ≡ first_place_of names name
 hint_holds names slots slot i name hints within here below same =
     let hint : IsHint names i = subst (IsHint names) (sym here) (All-get_or (IsHint names) slots slot i within hints) in
-    sym (ap (place_of names) same ∙ hint below)
+    sym (ap (first_place_of names) same ∙ hint below)

@@ -21,7 +21,7 @@ use Rattle.trend_num.specs.Numerals.{digits_value, numeral, signed_by, unsigned_
 use Rattle.trend_num.proofs.Numbers.{digit_at, digit_code}
 use Rattle.point_text.specs.FirstPoint.{IsFirstPoint}
 use Rattle.point_text.specs.Row.{point_read, point_of_fields, point_of_line}
-use Rattle.value_rows.specs.Raw.{place_of, raw_row}
+use Rattle.value_rows.specs.Raw.{first_place_of, raw_row}
 use Rattle.value_rows.specs.RowReader.{IsFirstRow, records_left}
 use Rattle.value_rows.specs.declared.raw.RawRow.{RawRow}
 use Rattle.value_rows.proofs.Left.{first_left, same_next}
@@ -291,7 +291,7 @@ stripped P line whole short =
 -- a plain row is the first one
 pub plain_first : (tags : List (List ℕ)) (text name rest after : List ℕ) (tag : ℕ) (p : Point)
     → text ≡ name ++ 44 ∷ rest → IsName name
-    → Some tag ≡ place_of tags name → IsFirstPoint rest after (Ok p)
+    → Some tag ≡ first_place_of tags name → IsFirstPoint rest after (Ok p)
     → IsFirstRow (raw_row tags) text after (record { tag = tag; point = p })
 plain_first tags text name rest after tag p cut is_name place first =
     stripped (λ line front. point_of_line front ≡ Ok p → IsFirstRow (raw_row tags) text after row) first.line fed returned

@@ -7,10 +7,10 @@ use Rattle.trend_num.specs.declared.refusal.Reason.{Reason}
 use Rattle.point_text.specs.declared.failure.RowNo.TheVariants.{BadRow, TooMany}
 use Rattle.point_text.proofs.RowList.{all_read, rows_from-all, rows_from-bad, rows_from-more}
 use Rattle.value_rows.specs.Reading.{rows_read}
-use Rattle.value_rows.specs.RowReader.{HasLeft, IsNext, Reads}
+use Rattle.value_rows.specs.RowReader.{HasLeft, IsNext, ReadsRecords}
 
 -- of records that read so, these rows were read, as many as told and no more than there may be; the reader has the others left
-pub record AreSoFar {R : Type 0} (P : R → Type 0) (row_of : Reads R) (all : List (Result R Reason)) (most : ℕ) (r : Reader (Bor (List ℕ))) (rows : List R) (count : ℕ) : Type 0 where
+pub record AreSoFar {R : Type 0} (P : R → Type 0) (row_of : ReadsRecords R) (all : List (Result R Reason)) (most : ℕ) (r : Reader (Bor (List ℕ))) (rows : List R) (count : ℕ) : Type 0 where
   pub left : List (List (List ℕ))
   pub stands : HasLeft r left
   pub split : all ≡ all_read rows ++ map row_of left
@@ -19,14 +19,14 @@ pub record AreSoFar {R : Type 0} (P : R → Type 0) (row_of : Reads R) (all : Li
   pub each : All P rows
 
 -- the end of the text
-pub all_so_far : {R : Type 0} (row_of : Reads R) (all : List (Result R Reason)) (most count : ℕ) (left : List (List (List ℕ))) (rows : List R)
+pub all_so_far : {R : Type 0} (row_of : ReadsRecords R) (all : List (Result R Reason)) (most count : ℕ) (left : List (List (List ℕ))) (rows : List R)
     → all ≡ all_read rows ++ map row_of left → length rows ≡ count → count ≤ most → left ≡ [] → rows_read most all ≡ Ok rows
 all_so_far row_of all most count left rows split counted few none =
     ap (rows_read most) (split ∙ ap (λ l. all_read rows ++ map row_of l) none ∙ append-nil (all_read rows))
     ∙ rows_from-all most rows (omega arith)
 
 -- a record more than there may be
-pub more_than_most : {R : Type 0} (row_of : Reads R) (all : List (Result R Reason)) (most count : ℕ) (left rest : List (List (List ℕ)))
+pub more_than_most : {R : Type 0} (row_of : ReadsRecords R) (all : List (Result R Reason)) (most count : ℕ) (left rest : List (List (List ℕ)))
     (fields : List (List ℕ)) (rows : List R) → all ≡ all_read rows ++ map row_of left → length rows ≡ count → count ≡ most → left ≡ fields ∷ rest
     → rows_read most all ≡ Err (TooMany (count + 1))
 more_than_most row_of all most count left rest fields rows split counted full next =
@@ -35,7 +35,7 @@ more_than_most row_of all most count left rest fields rows split counted full ne
     ∙ ap (λ n. Err (TooMany (n + 1))) (sym full)
 
 -- a bad record
-pub bad_so_far : {R : Type 0} (row_of : Reads R) (all : List (Result R Reason)) (most count : ℕ) (left rest : List (List (List ℕ)))
+pub bad_so_far : {R : Type 0} (row_of : ReadsRecords R) (all : List (Result R Reason)) (most count : ℕ) (left rest : List (List (List ℕ)))
     (fields : List (List ℕ)) (rows : List R) (reason : Reason) → all ≡ all_read rows ++ map row_of left → length rows ≡ count → count < most
     → left ≡ fields ∷ rest → row_of fields ≡ Err reason → rows_read most all ≡ Err (BadRow (count + 1) reason)
 bad_so_far row_of all most count left rest fields rows reason split counted room next bad =
@@ -44,7 +44,7 @@ bad_so_far row_of all most count left rest fields rows reason split counted room
     ∙ ap (λ n. Err (BadRow (n + 1) reason)) counted
 
 -- of the records that are left the first one is good
-pub split_more : {R : Type 0} (row_of : Reads R) (all : List (Result R Reason)) (left rest : List (List (List ℕ)))
+pub split_more : {R : Type 0} (row_of : ReadsRecords R) (all : List (Result R Reason)) (left rest : List (List (List ℕ)))
     (fields : List (List ℕ)) (rows after : List R) (row : R) → all ≡ all_read rows ++ map row_of left → left ≡ fields ∷ rest
     → row_of fields ≡ Ok row → after ≡ rows ++ row ∷ [] → all ≡ all_read after ++ map row_of rest
 split_more row_of all left rest fields rows after row split next good more =
@@ -58,7 +58,7 @@ pub count_more : {R : Type 0} (rows after : List R) (row : R) (count : ℕ) → 
 count_more rows after row count counted more = ap length more ∙ omega (arith, length-append rows (row ∷ []))
 
 -- a good record
-pub one_more : {R : Type 0} (P : R → Type 0) (row_of : Reads R) (all : List (Result R Reason)) (most count : ℕ) (r : Reader (Bor (List ℕ))) (left rest : List (List (List ℕ)))
+pub one_more : {R : Type 0} (P : R → Type 0) (row_of : ReadsRecords R) (all : List (Result R Reason)) (most count : ℕ) (r : Reader (Bor (List ℕ))) (left rest : List (List (List ℕ)))
     (fields : List (List ℕ)) (rows after : List R) (row : R) → all ≡ all_read rows ++ map row_of left → length rows ≡ count → count < most
     → left ≡ fields ∷ rest → row_of fields ≡ Ok row → after ≡ rows ++ row ∷ [] → HasLeft r rest → All P rows → P row → AreSoFar P row_of all most r after (count + 1)
 one_more P row_of all most count r left rest fields rows after row split counted room next good more has each is_row = record {

@@ -17,7 +17,7 @@ use Rattle.value_rows.specs.declared.asked.Query.{Query}
 use Rattle.value_rows.specs.declared.asked.Query.TheVariants.{Tag, Snap, Row}
 use Rattle.value_rows.specs.declared.verb.Verb.{Verb as VerbOfRow}
 use Rattle.value_rows.specs.declared.verb.Verb.TheVariants as verb
-use Rattle.value_rows.specs.Raw.{place_of}
+use Rattle.value_rows.specs.Raw.{first_place_of}
 use Rattle.value_rows.specs.Reading.{rows_of_text}
 
 -- ---- verbs
@@ -45,13 +45,13 @@ Err why >>= f = Err why
 -- `snap,TAG`
 unfoldable pub snap_row : List (List ℕ) → List ℕ → Result Query Reason
 snap_row tags tag = do
-  place ← ok_or (place_of tags tag) Name
+  place ← ok_or (first_place_of tags tag) Name
   Ok (Snap place)
 
 -- `at,TAG,T`
 unfoldable pub at_row : List (List ℕ) → List ℕ → List ℕ → Result Query Reason
 at_row tags tag t = do
-  place ← ok_or (place_of tags tag) Name
+  place ← ok_or (first_place_of tags tag) Name
   number ← ok_or (numeral t) Number
   time ← ok_or (natural_upto last_time number) Range
   Ok (Tag place (At time))
@@ -59,7 +59,7 @@ at_row tags tag t = do
 -- `TAG,FROM,TO`: a tag, and two times
 unfoldable pub span_of : List (List ℕ) → List ℕ → List ℕ → List ℕ → Result (ℕ × ℕ × ℕ) Reason
 span_of tags tag from to = do
-  place ← ok_or (place_of tags tag) Name
+  place ← ok_or (first_place_of tags tag) Name
   first ← ok_or (numeral from) Number
   second ← ok_or (numeral to) Number
   start ← ok_or (natural_upto last_time first) Range
@@ -83,18 +83,18 @@ abbrev pub last_window : ℕ
 last_window = 1000000000000
 
 -- the place of the first group of this name
-abbrev pub group_place : List GroupNames → List ℕ → Option ℕ
-group_place groups name = position (λ g. bytes_eq name g.name) groups
+abbrev pub asked_group_place : List GroupNames → List ℕ → Option ℕ
+asked_group_place groups name = position (λ g. bytes_eq name g.name) groups
 
 -- the names of the calculations of the group at a place
-abbrev pub calcs_at : List GroupNames → ℕ → List (List ℕ)
-calcs_at groups place = option_map_or (λ g. g.calcs.items) (slice_get groups place) []
+abbrev pub calc_names_at : List GroupNames → ℕ → List (List ℕ)
+calc_names_at groups place = option_map_or (λ g. g.calcs.items) (slice_get groups place) []
 
 -- `row,GROUP,CALC,K`
 unfoldable pub calc_row : List GroupNames → List ℕ → List ℕ → List ℕ → Result Query Reason
 calc_row groups group calc k = do
-  place ← ok_or (group_place groups group) Name
-  calculation ← ok_or (place_of (calcs_at groups place) calc) Name
+  place ← ok_or (asked_group_place groups group) Name
+  calculation ← ok_or (first_place_of (calc_names_at groups place) calc) Name
   number ← ok_or (numeral k) Number
   window ← ok_or (natural_upto last_window number) Range
   Ok (Row place calculation window)
@@ -130,7 +130,7 @@ query_row tags groups fields = Err Fields
 abbrev pub IsQuery : List (List ℕ) → List GroupNames → Query → Type 0
 IsQuery tags groups (Tag tag query) = (tag < length tags) × IsTagQuery query
 IsQuery tags groups (Snap tag) = tag < length tags
-IsQuery tags groups (Row group calc k) = (group < length groups) × (calc < length (calcs_at groups group)) × (k ≤ last_window)
+IsQuery tags groups (Row group calc k) = (group < length groups) × (calc < length (calc_names_at groups group)) × (k ≤ last_window)
 
 -- the queries of a text, of at most `most` records
 abbrev pub query_rows : List (List ℕ) → List GroupNames → ℕ → List ℕ → Result (List Query) RowNo

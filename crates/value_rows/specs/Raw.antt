@@ -12,8 +12,8 @@ use Rattle.value_rows.specs.declared.raw.RawRow.{RawRow}
 use Rattle.value_rows.specs.Reading.{rows_of_text}
 
 -- the place of the first one of this name
-abbrev pub place_of : List (List ℕ) → List ℕ → Option ℕ
-place_of names name = position (bytes_eq name) names
+abbrev pub first_place_of : List (List ℕ) → List ℕ → Option ℕ
+first_place_of names name = position (bytes_eq name) names
 
 -- the row of a point that was read, of the tag at this place
 abbrev pub row_at : ℕ → Result Point Reason → Result RawRow Reason
@@ -26,7 +26,7 @@ row_of_tag (Some tag) read = row_at tag read
 
 -- the row of a record `TAG,T,V`
 abbrev pub raw_row : List (List ℕ) → List (List ℕ) → Result RawRow Reason
-raw_row tags (tag ∷ t ∷ v ∷ []) = row_of_tag (place_of tags tag) (point_read (numeral t) (numeral v))
+raw_row tags (tag ∷ t ∷ v ∷ []) = row_of_tag (first_place_of tags tag) (point_read (numeral t) (numeral v))
 raw_row tags fields = Err Fields
 
 -- a row of a tag that is there, with a point in range

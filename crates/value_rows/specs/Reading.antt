@@ -7,8 +7,8 @@ use Rattle.point_text.specs.declared.failure.RowNo.{RowNo}
 use Rattle.point_text.specs.declared.failure.RowNo.TheVariants.{BadRow, TooMany, WantOfMemory}
 
 -- the records of a text, each by its fields: no header row, records of any length, a byte order mark left out
-abbrev pub records_of : List ℕ → List (List (List ℕ))
-records_of bytes = records default_config (strip_bom bytes)
+abbrev pub text_records_of : List ℕ → List (List (List ℕ))
+text_records_of bytes = records default_config (strip_bom bytes)
 
 -- the rows of records that read so: refused is the first bad one of the first `most`, with its place and its first reason; else
 -- that there are more records
@@ -17,7 +17,7 @@ rows_read most reads = unless_more most (length reads) (all_rows (take most read
 
 -- the rows of a text whose records each read so
 abbrev pub rows_of_text : {R : Type 0} → (List (List ℕ) → Result R Reason) → ℕ → List ℕ → Result (List R) RowNo
-rows_of_text row_of most bytes = rows_read most (map row_of (records_of bytes))
+rows_of_text row_of most bytes = rows_read most (map row_of (text_records_of bytes))
 
 -- the rows are refused for this; want of memory alone may come whatever they are
 abbrev pub AreRefusedFor : {R : Type 0} → Result (List R) RowNo → RowNo → Type 0

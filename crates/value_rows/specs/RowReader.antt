@@ -12,8 +12,8 @@ use Rattle.csv.specs.declared.reader.Reader.{Reader}
 use Rattle.csv.specs.declared.reader.Trim.TheVariants as trim
 use Rattle.trend_num.specs.declared.refusal.Reason.{Reason}
 use Rattle.trend_num.specs.Names.{IsName}
-use Rattle.value_rows.specs.Raw.{place_of}
-use Rattle.value_rows.specs.Reading.{records_of}
+use Rattle.value_rows.specs.Raw.{first_place_of}
+use Rattle.value_rows.specs.Reading.{text_records_of}
 
 -- the states between two records
 abbrev pub is_between : State → Bool
@@ -43,11 +43,11 @@ IsNext r fields left false = left ≡ []
 
 -- the map has the place of each name, and nothing else
 abbrev pub ArePlaces : BTreeMap (Bor (List ℕ)) ℕ → List (List ℕ) → Type 0
-ArePlaces m names = (name : List ℕ) → get_by (λ k. slice_cmp nat_cmp name k.now) m ≡ place_of names name
+ArePlaces m names = (name : List ℕ) → get_by (λ k. slice_cmp nat_cmp name k.now) m ≡ first_place_of names name
 
 -- at this place, if there is one, stands the first one of its name
 abbrev pub IsHint : List (List ℕ) → ℕ → Type 0
-IsHint names i = i < length names → place_of names (get_or names i []) ≡ Some i
+IsHint names i = i < length names → first_place_of names (get_or names i []) ≡ Some i
 
 -- the map has the place of each name, the slots have some of them, and the names are names
 pub record HasPlaces (m : BTreeMap (Bor (List ℕ)) ℕ) (slots : List ℕ) (names : List (List ℕ)) : Type 0 where
@@ -57,24 +57,24 @@ pub record HasPlaces (m : BTreeMap (Bor (List ℕ)) ℕ) (slots : List ℕ) (nam
   pub named : All IsName names
 
 -- how records are read
-abbrev pub Reads : Type 0 → Type 0
-Reads R = List (List ℕ) → Result R Reason
+abbrev pub ReadsRecords : Type 0 → Type 0
+ReadsRecords R = List (List ℕ) → Result R Reason
 
 -- rows that were read, and behind them what the records of a text read as
-abbrev pub reads_behind : {R : Type 0} → Reads R → List R → List ℕ → List (Result R Reason)
-reads_behind row_of rows bytes = map (λ r. Ok r) rows ++ map row_of (records_of bytes)
+abbrev pub reads_behind : {R : Type 0} → ReadsRecords R → List R → List ℕ → List (Result R Reason)
+reads_behind row_of rows bytes = map (λ r. Ok r) rows ++ map row_of (text_records_of bytes)
 
 -- whether a text begins with a byte order mark
 abbrev pub has_mark : List ℕ → Bool
 has_mark text = nat_le 3 (length text) && is_bom (get_or text 0 0) (get_or text 1 0) (get_or text 2 0)
 
 -- the first record of the text is read as this row, and the text after it begins where another record begins
-pub record IsFirstRow {R : Type 0} (row_of : Reads R) (text after : List ℕ) (row : R) : Type 0 where
+pub record IsFirstRow {R : Type 0} (row_of : ReadsRecords R) (text after : List ℕ) (row : R) : Type 0 where
   pub fields : List (List ℕ)
   pub first : records_left st.StartRecord text ≡ fields ∷ records_left st.StartRecord after
   pub reads : row_of fields ≡ Ok row
 
 -- the first records of the text are read as these rows, and its others are those of the text after them
-abbrev pub AreFirstRows : {R : Type 0} → Reads R → List ℕ → List ℕ → List R → Type 0
+abbrev pub AreFirstRows : {R : Type 0} → ReadsRecords R → List ℕ → List ℕ → List R → Type 0
 AreFirstRows row_of text after rows =
     map row_of (records_left st.StartRecord text) ≡ map (λ r. Ok r) rows ++ map row_of (records_left st.StartRecord after)

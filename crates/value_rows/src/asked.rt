@@ -2,8 +2,8 @@
 ghost use Rattle.std.specs.Prelude.{◌≡◌, ◌<◌, ◌^◌, ◌≤◌, All, length, vec_len, Ok, IfOk, IfErr, IfSome};
 ghost use Rattle.csv.specs.Records.{fields_of};
 ghost use Rattle.trend_num.specs.Ranges.{last_time};
-ghost use Rattle.value_rows.specs.Asked.{IsQuery, query_row, query_rows, group_place, calcs_at, snap_row, at_row, span_of, points_row, window_row, calc_row, one_field, two_fields, three_fields};
-ghost use Rattle.value_rows.specs.Raw.{place_of};
+ghost use Rattle.value_rows.specs.Asked.{IsQuery, query_row, query_rows, asked_group_place, calc_names_at, snap_row, at_row, span_of, points_row, window_row, calc_row, one_field, two_fields, three_fields};
+ghost use Rattle.value_rows.specs.Raw.{first_place_of};
 ghost use Rattle.value_rows.specs.Reading.{AreRefusedFor};
 
 use crate::fields::{Fields, fields_in};
@@ -222,7 +222,7 @@ impl<'n> QueryForm<'n> {
 
     // The place of the first group of a name.
     fn group_place(&self, name: &[u8]) -> Option<usize>
-        ensures place { result ≡ group_place self.now.groups.now name.now }
+        ensures place { result ≡ asked_group_place self.now.groups.now name.now }
         ensures within { IfSome result (λ i. i < length self.now.groups.now) }
     {
         self.groups.iter().position(|g| name == g.name.bytes())
@@ -231,7 +231,7 @@ impl<'n> QueryForm<'n> {
     // The names of the calculations of the group at a place.
     fn calcs_at(&self, group: usize) -> &[Name]
         requires { group < length self.now.groups.now }
-        ensures calcs { result.now ≡ calcs_at self.now.groups.now group }
+        ensures calcs { result.now ≡ calc_names_at self.now.groups.now group }
         ensures few { length result.now < 2 ^ 32 }
     {
         self.groups[group].calcs.as_slice()
@@ -240,7 +240,7 @@ impl<'n> QueryForm<'n> {
 
 // The place of the first one of a name.
 fn place_among(names: &[Name], name: &[u8]) -> Option<usize>
-    ensures place { result ≡ place_of names.now name.now }
+    ensures place { result ≡ first_place_of names.now name.now }
     ensures within { IfSome result (λ i. i < length names.now) }
 {
     names.iter().position(|n| name == n.bytes())

@@ -2,7 +2,7 @@
 ghost use Rattle.std.specs.Prelude.{◌≡◌, ◌<◌, ◌^◌, All, length, replicate, IfOk, IfSome};
 ghost use Rattle.std.specs.BTreeMap.{BTreeMap};
 ghost use Rattle.trend_num.specs.Names.{IsName};
-ghost use Rattle.value_rows.specs.Raw.{place_of};
+ghost use Rattle.value_rows.specs.Raw.{first_place_of};
 ghost use Rattle.value_rows.specs.RowReader.{ArePlaces, IsHint};
 
 use std::alloc::Global;
@@ -50,7 +50,7 @@ impl<'n> Places<'n> {
     // The place of the first one of this name.
     #[inline(always)]
     pub(crate) fn place(&self, name: &[u8]) -> Option<u32>
-        ensures place { result ≡ place_of self.now name.now }
+        ensures place { result ≡ first_place_of self.now name.now }
         ensures within { IfSome result (λ i. i < length self.now) }
         ensures name { IfSome result (λ _. IsName name.now) }
     {
@@ -66,7 +66,7 @@ impl<'n> Places<'n> {
     // The same, of a name that does not stand in its slot.
     #[cold]
     fn place_in_map(&self, name: &[u8]) -> Option<u32>
-        ensures place { result ≡ place_of self.now name.now }
+        ensures place { result ≡ first_place_of self.now name.now }
         ensures within { IfSome result (λ i. i < length self.now) }
         ensures name { IfSome result (λ _. IsName name.now) }
     {

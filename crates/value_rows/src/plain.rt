@@ -2,7 +2,7 @@
 ghost use Rattle.std.specs.Prelude.{◌≡◌, ◌<◌, ◌≤◌, ◌++◌, ◌∷◌, All, length, map, IfOk, IfErr, IfSome};
 ghost use Rattle.point_text.specs.declared.failure.RowNo.TheVariants.{WantOfMemory};
 ghost use Rattle.value_rows.specs.Raw.{IsRawRow, raw_row};
-ghost use Rattle.value_rows.specs.Reading.{records_of};
+ghost use Rattle.value_rows.specs.Reading.{text_records_of};
 ghost use Rattle.value_rows.specs.RowReader.{AreFirstRows, IsFirstRow, has_mark, reads_behind};
 
 use crate::places::Places;
@@ -19,7 +19,7 @@ pub(crate) fn front_rows<'b>(
     bytes: &'b [u8],
     most: u64,
 ) -> Result<(Vec<RawRow>, &'b [u8]), RowNo>
-    ensures reads { IfOk result (λ front. map (raw_row tags.now) (records_of bytes.now)
+    ensures reads { IfOk result (λ front. map (raw_row tags.now) (text_records_of bytes.now)
         ≡ reads_behind (raw_row tags.now) front.0.items front.1.now) }
     ensures are_rows { IfOk result (λ front. All (IsRawRow tags.now) front.0.items) }
     ensures few { IfOk result (λ front. length front.0.items ≤ most) }

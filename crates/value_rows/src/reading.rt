@@ -3,7 +3,7 @@ ghost use Rattle.std.specs.Prelude.{◌≡◌, ◌≤◌, ◌∷◌, ◌++◌, [
 ghost use Rattle.csv.specs.Records.{fields_of};
 ghost use Rattle.point_text.specs.declared.failure.RowNo.TheVariants.{WantOfMemory};
 ghost use Rattle.trend_num.specs.declared.refusal.Reason.{Reason};
-ghost use Rattle.value_rows.specs.Reading.{AreRefusedFor, records_of, rows_of_text, rows_read};
+ghost use Rattle.value_rows.specs.Reading.{AreRefusedFor, text_records_of, rows_of_text, rows_read};
 ghost use Rattle.value_rows.specs.RowReader.{HasLeft, IsNext, reads_behind};
 
 use csv::{ByteRecord, ErrorKind, Reader, ReaderBuilder};
@@ -80,7 +80,7 @@ pub(crate) fn rows_behind<F: Form>(
 
 // A reader of the records of a text: no header row, and records of any length.
 fn records(alloc: Global, bytes: &[u8]) -> Reader<&[u8]>
-    ensures { HasLeft result (records_of bytes.now) }
+    ensures { HasLeft result (text_records_of bytes.now) }
 {
     ReaderBuilder::new()
         .has_headers(false)

@@ -1,6 +1,6 @@
 use Rattle.std.proofs.Common.{◌≡◌, drop}
-use Rattle.byte_io.specs.Files.{bytes_of, named}
+use Rattle.byte_io.specs.Files.{bytes_of, files_named}
 use Rattle.byte_io.proofs.memory_files.find.Given as goal
 
 abbrev pub invariant-loop-file : goal.invariant-loop-file
-invariant-loop-file l = bytes_of (named l.files) l.name ≡ bytes_of (named (drop l.file-index l.files)) l.name
+invariant-loop-file l = bytes_of (files_named l.files) l.name ≡ bytes_of (files_named (drop l.file-index l.files)) l.name

@@ -1,6 +1,6 @@
 -- The verdict on the tokens is told of the text.
 use Rattle.std.proofs.Common.{arith, sym, ◌∙◌, ◌≡◌, subst, ap, Err, length, ◌-◌, drop, get_or, []}
-use Rattle.calc_parser.specs.Formulas.{HasCause, Gives}
+use Rattle.calc_parser.specs.Formulas.{HasFormulaCause, Gives}
 use Rattle.calc_parser.specs.Scan.{refusal_of, Stops, scan, whole}
 use Rattle.calc_parser.specs.Tokens.{tokens_of, places_of}
 use Rattle.calc_parser.proofs.Parsing.{is_formula, only_formula, has_cause, no_formula}
@@ -40,7 +40,7 @@ returns-clause-refused c =
     ∙ ap (λ n. refusal_of c.in-Err.stop (get_or places (length tokens - length rest) n)
     (drop (length tokens - length rest) tokens))
     c.as_bytes-bytes.ensures.len in
-    subst (HasCause c.args.text.now) (sym same)
+    subst (HasFormulaCause c.args.text.now) (sym same)
     (has_cause c.args.text.now tokens places (c.in_ok-lexed.ensures.tokens
     ∙ ap tokens_of bytes) (c.in_ok-lexed.ensures.places ∙ ap places_of bytes)
     c.in-Err.stop rest (omega (arith, c.as_bytes-bytes.ensures.len)) verdict)

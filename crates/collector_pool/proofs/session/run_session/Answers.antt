@@ -1,6 +1,6 @@
 use Rattle.std.proofs.Common.{rules}
 use Rattle.plant_status.proofs.Gathering.{stops_told}
-use Rattle.collector_pool.specs.declared.slot.Slot.{Slot}
+use Rattle.collector_pool.specs.declared.session_worker.SessionWorker.{SessionWorker}
 use Rattle.collector_pool.specs.Notes.{halts}
 use Rattle.collector_pool.proofs.Sessions.{all_stopped, notes_of}
 use Rattle.collector_pool.proofs.session.run_session.Goals as goal
@@ -11,7 +11,7 @@ work_all-requires-clause-ready g c κs within = c.seat_all.ensures.seated.ready 
 pub returns-clause-stops : goal.returns-clause-stops
 returns-clause-stops g c =
     rw (c.gather.ensures.notes, c.gather.ensures.stops, c.seat_all.ensures.stops)
-    (stops_told (λ (s : Slot g.row.P-One.Denot). g.P.One.Pass.stops s.pass) (λ s. s.note) (λ n. halts n.ending) c.work_all.new.slots.items _
+    (stops_told (λ (s : SessionWorker g.row.P-One.Denot). g.P.One.Pass.stops s.pass) (λ s. s.note) (λ n. halts n.ending) c.work_all.new.seats.items _
     (all_stopped g.row.D.Denot _ _ c.args.work.now _ _ _ (search rules) c.work_all.ensures.done))
 
 pub returns-clause-notes : goal.returns-clause-notes

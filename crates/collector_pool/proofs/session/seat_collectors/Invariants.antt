@@ -1,12 +1,12 @@
 use Rattle.std.proofs.Common.{◌≡◌, List, vec_capacity, vec_len}
 use Rattle.snapshot_table.specs.Boards.{Looking}
-use Rattle.collector_pool.specs.Slots.{AreSeated}
+use Rattle.collector_pool.specs.SeatedWorkers.{AreSeated}
 use Rattle.collector_pool.proofs.session.seat_collectors.Given as goal
 
 abbrev pub invariant-loop-collector : goal.invariant-loop-collector
 invariant-loop-collector g l = record {
-  count : vec_len l.slots ≡ l.collector;
-  room : vec_capacity l.slots ≡ vec_capacity l.initial.slots;
-  seated : (lookers : List Looking) → AreSeated g.P.One.Pass.stops l.work lookers l.slots.items;
+  count : vec_len l.seats ≡ l.collector;
+  room : vec_capacity l.seats ≡ vec_capacity l.initial.seats;
+  seated : (lookers : List Looking) → AreSeated g.P.One.Pass.stops l.work lookers l.seats.items;
   stops : g.P.Passes.stops l.passes ≡ g.P.Passes.stops l.initial.passes;
 }

@@ -4,5 +4,5 @@ use Rattle.collector_pool.proofs.session.work_all.Goals as goal
 
 pub returns-clause-done : goal.returns-clause-done
 returns-clause-done g c =
-    rw (whole_again c.args.slots.now.len c.args.slots.now.items c.work_each.new.slots (search rules) (search rules), ← c.as_mut_slice.ensures.value)
+    rw (whole_again c.args.seats.now.len c.args.seats.now.items c.work_each.new.seats (search rules) (search rules), ← c.as_mut_slice.ensures.value)
     (record { each = c.work_each.ensures })

@@ -4,8 +4,8 @@ use Rattle.disk_model.specs.Calls.{Shows}
 use Rattle.disk_model.specs.Moments.{During}
 use Rattle.disk_model.specs.Traces.{seen}
 use Rattle.commit_log.specs.declared.row.LogRow.{LogRow}
-use Rattle.commit_log.specs.Images.{LogsNothing, StandsFor}
-use Rattle.commit_log.specs.Openings.{IsCause, IsLeftOrSame, IsLeftOrStands, IsTooMany, StandsSame}
+use Rattle.commit_log.specs.Images.{LogsNothing, StandsForRows}
+use Rattle.commit_log.specs.Openings.{IsLogCause, IsLogLeftOrSame, IsLeftOrStands, IsTooMany, StandsSame}
 use Rattle.archive_file.proofs.ReadImages.{during_same, left_synced, shown_before}
 use Rattle.commit_log.proofs.Opened.{begun_same, begun_stands, found_many, found_new, found_stands}
 use Rattle.commit_log.proofs.Openings.{ok_rows, on_err, parts_cause, read_cause}
@@ -16,11 +16,11 @@ use Rattle.commit_log.proofs.opening.open_parts.Goals.{After-read_log}
 -- what the reading leaves is what was there, or stands for the same
 left_same : (g : given.Over) (c : After-read_log g)
     → let o = g.D.Disk.trace c.args.dev.now in
-    During o (g.D.Disk.trace c.read_log.new.dev) (IsLeftOrSame c.args.plant.now c.args.tags o)
+    During o (g.D.Disk.trace c.read_log.new.dev) (IsLogLeftOrSame c.args.plant.now c.args.tags o)
 left_same g c =
     let o = g.D.Disk.trace c.args.dev.now in
     let mid = g.D.Disk.trace c.sync.new.self in
-    during_same o mid (g.D.Disk.trace c.read_log.new.dev) (IsLeftOrSame c.args.plant.now c.args.tags o) c.read_log.ensures.same
+    during_same o mid (g.D.Disk.trace c.read_log.new.dev) (IsLogLeftOrSame c.args.plant.now c.args.tags o) c.read_log.ensures.same
     (left_synced (StandsSame c.args.plant.now c.args.tags (seen o)) c.sync.result o mid c.sync.ensures.noted)
 
 pub returns-in_default-clause-any_moment_refused : goal.returns-in_default-clause-any_moment_refused
@@ -38,8 +38,8 @@ returns-in_err-stored-clause-cause g c =
     let mid = g.D.Disk.trace c.sync.new.self in
     let out = err_from_is_err_and c.from_residual.result c.from_residual.ensures.1 in
     let read = c.in_err-stored.ensures in
-    subst (λ r. IfErr r (IsCause x.plant.now x.tags x.room o)) (sym out.1)
-    (subst (IsCause x.plant.now x.tags x.room o) (sym out.2)
+    subst (λ r. IfErr r (IsLogCause x.plant.now x.tags x.room o)) (sym out.1)
+    (subst (IsLogCause x.plant.now x.tags x.room o) (sym out.2)
     (read_cause x.plant.now x.tags x.room o mid (Err c.in_err-stored.field-0.0) c.in_err-stored.field-0.0 refl c.in-Ok.ensures.noted
     read.damaged read.other read.not_many))
 
@@ -49,8 +49,8 @@ returns-in-Some-clause-stood g c =
     let o = g.D.Disk.trace x.dev.now in
     let mid = g.D.Disk.trace c.sync.new.self in
     let stored = c.in-Some.stored in
-    ok_rows c.parts_of.result stored.rows.items (λ (l : List LogRow). Shows o (λ i. StandsFor x.plant.now x.tags i l)) c.parts_of.ensures.rows
-    (shown_before o mid (λ i. StandsFor x.plant.now x.tags i stored.rows.items) c.in-Ok.ensures.noted
+    ok_rows c.parts_of.result stored.rows.items (λ (l : List LogRow). Shows o (λ i. StandsForRows x.plant.now x.tags i l)) c.parts_of.ensures.rows
+    (shown_before o mid (λ i. StandsForRows x.plant.now x.tags i stored.rows.items) c.in-Ok.ensures.noted
     (found_stands x.plant.now x.tags mid c.in_ok-stored.field-0 stored c.in-Some.is c.in_ok-stored.ensures.found))
 
 pub returns-in-Some-clause-any_moment : goal.returns-in-Some-clause-any_moment
@@ -62,7 +62,7 @@ returns-in-Some-clause-any_moment g c =
     let rows = c.in-Some.stored.rows.items in
     ok_rows c.parts_of.result rows (λ (l : List LogRow). During o new (IsLeftOrStands x.plant.now x.tags l o)) c.parts_of.ensures.rows
     (during_same o mid new (IsLeftOrStands x.plant.now x.tags rows o) c.read_log.ensures.same
-    (left_synced (λ i. StandsFor x.plant.now x.tags i rows) c.sync.result o mid c.sync.ensures.noted))
+    (left_synced (λ i. StandsForRows x.plant.now x.tags i rows) c.sync.result o mid c.sync.ensures.noted))
 
 pub returns-in-Some-clause-any_moment_refused : goal.returns-in-Some-clause-any_moment_refused
 returns-in-Some-clause-any_moment_refused g c =
@@ -87,7 +87,7 @@ returns-in-None-clause-any_moment g c =
     let new = g.D.Disk.trace c.begin.new.dev in
     ok_rows c.begin.result [] (λ (l : List LogRow). During o new (IsLeftOrStands x.plant.now x.tags l o)) c.begin.ensures.rows
     (begun_stands x.plant.now x.tags [] o mid new refl
-    (left_synced (λ i. StandsFor x.plant.now x.tags i []) c.sync.result o mid c.sync.ensures.noted)
+    (left_synced (λ i. StandsForRows x.plant.now x.tags i []) c.sync.result o mid c.sync.ensures.noted)
     (subst (λ t. During t new (LogsNothing x.plant.now)) c.read_log.ensures.same c.begin.ensures.any_moment))
 
 pub returns-in-None-clause-any_moment_refused : goal.returns-in-None-clause-any_moment_refused
@@ -96,7 +96,7 @@ returns-in-None-clause-any_moment_refused g c =
     let o = g.D.Disk.trace x.dev.now in
     let mid = g.D.Disk.trace c.sync.new.self in
     let new = g.D.Disk.trace c.begin.new.dev in
-    on_err c.begin.result (During o new (IsLeftOrSame x.plant.now x.tags o))
+    on_err c.begin.result (During o new (IsLogLeftOrSame x.plant.now x.tags o))
     (begun_same x.plant.now x.tags o mid new c.in-Ok.ensures.noted
     (found_new x.plant.now x.tags mid c.in_ok-stored.field-0 c.in-None.is c.in_ok-stored.ensures.found)
     (left_synced (StandsSame x.plant.now x.tags (seen o)) c.sync.result o mid c.sync.ensures.noted)

@@ -4,7 +4,7 @@ use Rattle.trend_model.specs.State.{State}
 use Rattle.device_layout.specs.Recovery.{Recovers}
 use Rattle.crash_recovery.specs.Journals.{AllRecover, GoesOnFrom}
 use Rattle.disk_model.specs.Calls.{Shows}
-use Rattle.crash_recovery.specs.Opening.{IsLeftOrSame, IsOpenedAs, StaysSame, RecoversThen, IsReadAs}
+use Rattle.crash_recovery.specs.Opening.{IsTagLeftOrSame, IsOpenedAs, StaysSame, RecoversThen, IsReadAs}
 use Rattle.device_layout.proofs.Shows.{if_ok, if_ok₂, if_err}
 use Rattle.crash_recovery.proofs.Openings.{Promises, during_same, opened_shown, recovers_read, stays_retuned}
 use Rattle.crash_recovery.proofs.Openings.{recovers_retuned, stays_read, now_read, now_retuned}
@@ -25,11 +25,11 @@ read_retuned g c =
 
 left_retuned : (g : _) (c : goal.After-with_checkpoint g)
     → During (g.D.Disk.trace c.args.dev) (g.D.Disk.trace c.new-2.result.dev)
-    (IsLeftOrSame c.args.def.now (g.D.Disk.trace c.args.dev))
+    (IsTagLeftOrSame c.args.def.now (g.D.Disk.trace c.args.dev))
 left_retuned g c =
     let o = g.D.Disk.trace c.args.dev in
     during_same o (g.D.Disk.trace c.read_tag.new.dev) (g.D.Disk.trace c.new-2.result.dev)
-    (IsLeftOrSame c.args.def.now o) (ap (λ j. g.D.Disk.trace j.dev) c.new-2.ensures) c.in-Ok.ensures.any_moment
+    (IsTagLeftOrSame c.args.def.now o) (ap (λ j. g.D.Disk.trace j.dev) c.new-2.ensures) c.in-Ok.ensures.any_moment
 
 pub returns-then-read-clause-any_moment : goal.returns-then-read-clause-any_moment
 returns-then-read-clause-any_moment g c =
@@ -129,7 +129,7 @@ returns-else-read-clause-any_moment g c =
     let mid = g.D.Disk.trace c.read_tag.new.dev in
     let put = g.D.Disk.trace c.new-2.result.dev in
     let same = ap (λ j. g.D.Disk.trace j.dev) c.new-2.ensures in
-    stays_read def o put (during_same o mid put (IsLeftOrSame def o) same c.in-Ok.ensures.any_moment)
+    stays_read def o put (during_same o mid put (IsTagLeftOrSame def o) same c.in-Ok.ensures.any_moment)
 
 pub returns-else-read-clause-opened : goal.returns-else-read-clause-opened
 returns-else-read-clause-opened g c =

@@ -4,7 +4,7 @@ use Rattle.disk_model.specs.Gates.{IsNew}
 use Rattle.device_layout.specs.Recovery.{IsRecovered}
 use Rattle.disk_model.specs.Calls.{Shows}
 use Rattle.device_layout.specs.Readings.{IsCause}
-use Rattle.crash_recovery.specs.Opening.{HasSlots, OpensAs, IsLeftOrSame, IsReadAs}
+use Rattle.crash_recovery.specs.Opening.{HasSlots, OpensAs, IsTagLeftOrSame, IsReadAs}
 use Rattle.crash_recovery.specs.Journals.{IsSeat}
 use Rattle.device_layout.proofs.Shows.{shows_after, if_ok, if_ok₂, if_err}
 use Rattle.crash_recovery.proofs.Openings.{synced_during, during_same, made_during, made_as, read_as, slots_made, slots_kept, cause_synced}
@@ -26,7 +26,7 @@ returns-in-Ok-true-clause-any_moment g c =
     let same = c.in-Ok-true.ensures.same in
     let blank = shows_after _ _ IsNew same (c.in-Ok-true.ensures.new c.in-Ok-true.field-0-test) in
     made_during def _ _ _ (same ∙ c.in-Ok.ensures.noted) blank
-    (during_same _ _ _ (IsLeftOrSame def _) same
+    (during_same _ _ _ (IsTagLeftOrSame def _) same
     (synced_during _ def _ _ c.sync.ensures.noted)) c.made.ensures.any_moment
 
 pub returns-in-Ok-true-clause-opened : goal.returns-in-Ok-true-clause-opened
@@ -55,7 +55,7 @@ returns-in-Ok-true-clause-lane g c =
 pub returns-in-Ok-false-clause-any_moment : goal.returns-in-Ok-false-clause-any_moment
 returns-in-Ok-false-clause-any_moment g c =
     let def = c.args.def.now in
-    during_same _ _ _ (IsLeftOrSame def _) (c.read_back.ensures.same ∙ c.in-Ok-false.ensures.same)
+    during_same _ _ _ (IsTagLeftOrSame def _) (c.read_back.ensures.same ∙ c.in-Ok-false.ensures.same)
     (synced_during _ def _ _ c.sync.ensures.noted)
 
 pub returns-in-Ok-false-clause-opened : goal.returns-in-Ok-false-clause-opened
@@ -92,7 +92,7 @@ returns-in-Ok-false-clause-cause g c =
 pub returns-clause-any_moment : goal.returns-clause-any_moment
 returns-clause-any_moment g c =
     let def = c.args.def.now in
-    during_same _ _ _ (IsLeftOrSame def _) c.in-Err.ensures.same (synced_during _ def _ _ c.sync.ensures.noted)
+    during_same _ _ _ (IsTagLeftOrSame def _) c.in-Err.ensures.same (synced_during _ def _ _ c.sync.ensures.noted)
 
 pub returns-in-Ok-true-clause-free : goal.returns-in-Ok-true-clause-free
 returns-in-Ok-true-clause-free g c =

@@ -1,6 +1,6 @@
 use Rattle.std.proofs.Common.{◌++◌, [], ◌∷◌, sym, ap, ◌∙◌, append_assoc}
 use Rattle.archive_file.specs.Fields.{point_at}
-use Rattle.event_queue.specs.Slots.{points_in}
+use Rattle.event_queue.specs.Slots.{slot_points}
 use Rattle.event_queue.proofs.Batches.{points_in_more, points_behind}
 use Rattle.event_queue.proofs.slot.add_points.Goals as goal
 
@@ -12,8 +12,8 @@ loop-i-preserved c =
       rest = points_behind i bytes _ _ c.loop-i.invariant.rest c.take_point.ensures.rest;
       points = c.in_ok-push.ensures.items ∙ ap (λ l. l ++ c.take_point.result.0 ∷ [])
           c.loop-i.invariant.points
-          ∙ append_assoc c.args.points.now.items (points_in i bytes) (c.take_point.result.0 ∷ [])
-          ∙ ap (λ p. c.args.points.now.items ++ (points_in i bytes ++ p ∷ []))
+          ∙ append_assoc c.args.points.now.items (slot_points i bytes) (c.take_point.result.0 ∷ [])
+          ∙ ap (λ p. c.args.points.now.items ++ (slot_points i bytes ++ p ∷ []))
           (c.take_point.ensures.point ∙ ap point_at c.loop-i.invariant.rest)
           ∙ ap (λ l. c.args.points.now.items ++ l) (sym (points_in_more i bytes));
     }

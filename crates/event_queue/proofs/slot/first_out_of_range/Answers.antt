@@ -3,7 +3,7 @@ use Rattle.std.specs.List.{All}
 use Rattle.std.proofs.lemmas.List.Elements.{All-push}
 use Rattle.trend_num.specs.Ranges.{InRange}
 use Rattle.archive_file.specs.Fields.{point_at}
-use Rattle.event_queue.specs.Slots.{points_in}
+use Rattle.event_queue.specs.Slots.{slot_points}
 use Rattle.event_queue.proofs.Batches.{points_in_more, points_behind}
 use Rattle.event_queue.proofs.slot.first_out_of_range.Goals as goal
 
@@ -17,5 +17,5 @@ loop-i-preserved c =
     record {
       rest = points_behind i bytes _ _ c.loop-i.invariant.rest c.take_point.ensures.rest;
       before = subst (All InRange) (sym (points_in_more i bytes))
-          (All-push InRange (points_in i bytes) _ c.loop-i.invariant.before inside);
+          (All-push InRange (slot_points i bytes) _ c.loop-i.invariant.before inside);
     }

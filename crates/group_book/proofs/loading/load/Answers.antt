@@ -9,9 +9,9 @@ use Rattle.calc_refresh.specs.Sheet.{SheetState, grid_of}
 use Rattle.group_layout.specs.Readings.{IsReadOf}
 use Rattle.group_book.specs.declared.history.GroupOpening.{GroupOpening}
 use Rattle.group_book.specs.declared.turn.Turn.{Turn}
-use Rattle.group_book.specs.Crashes.{IsSafe}
-use Rattle.group_book.specs.Histories.{IsLegal}
-use Rattle.group_book.specs.Openings.{IsCause}
+use Rattle.group_book.specs.Crashes.{IsBookSafe}
+use Rattle.group_book.specs.Histories.{IsBookLegal}
+use Rattle.group_book.specs.Openings.{IsBookCause}
 use Rattle.group_book.specs.Told.{IsDefined, IsKept, IsOnDevice, Saved}
 use Rattle.group_book.proofs.Loaded.{loaded_holds, loaded_ready, opened_kept, opened_legal, opened_safe, scan_cause}
 use Rattle.group_book.proofs.loading.load.Goals as goal
@@ -22,7 +22,7 @@ returns-in-Err-clause-cause g c =
     let recovered = lists_of c.args.recovered.now in
     let o = g.D.Disk.trace c.args.dev in
     let calcs = sym (length-map c.defs.result.now calculation) ∙ ap length c.defs.ensures.calcs in
-    subst (IsCause c.args.text.now def recovered o) (sym c.refusal_of.ensures)
+    subst (IsBookCause c.args.text.now def recovered o) (sym c.refusal_of.ensures)
     (scan_cause c.args.text.now def recovered _ calcs o c.in-Err.why (λ a byte is. c.in-Err.ensures.damaged a byte (ap Err is)))
 
 pub invariant_of-result : goal.invariant_of-result
@@ -60,19 +60,19 @@ invariant_of-result g c =
       tags_are = omega (arith, c.requires.tags, c.args.tags.ok.0);
     } in
     subst (λ (d : GroupDefParts). IsDefined d c.args.tags.items s
-    × IsLegal d.calcs (grid_of d.start d.period) o c.new.result.items vs s.copies s.rows
+    × IsBookLegal d.calcs (grid_of d.start d.period) o c.new.result.items vs s.copies s.rows
     × IsKept r.text.items d o c.new.result.items s.copies saved false (D.trace dev) (D.ticks dev) (D.fault_count dev)
-    × IsSafe r.text.items d.calcs (grid_of d.start d.period) o s.copies c.new.result.items left
+    × IsBookSafe r.text.items d.calcs (grid_of d.start d.period) o s.copies c.new.result.items left
     × IsOnDevice r.text.items (Some dev)) (sym is.def)
     (subst (λ (l : List Turn). IsDefined def c.args.tags.items s
-    × IsLegal def.calcs (grid_of def.start def.period) o l vs s.copies s.rows
+    × IsBookLegal def.calcs (grid_of def.start def.period) o l vs s.copies s.rows
     × IsKept r.text.items def o l s.copies saved false (D.trace dev) (D.ticks dev) (D.fault_count dev)
-    × IsSafe r.text.items def.calcs (grid_of def.start def.period) o s.copies l left
+    × IsBookSafe r.text.items def.calcs (grid_of def.start def.period) o s.copies l left
     × IsOnDevice r.text.items (Some dev)) tape
     (subst (λ (t : List ℕ). IsDefined def c.args.tags.items s
-    × IsLegal def.calcs (grid_of def.start def.period) o [] vs s.copies s.rows
+    × IsBookLegal def.calcs (grid_of def.start def.period) o [] vs s.copies s.rows
     × IsKept t def o [] s.copies saved false (D.trace dev) (D.ticks dev) (D.fault_count dev)
-    × IsSafe t def.calcs (grid_of def.start def.period) o s.copies [] left
+    × IsBookSafe t def.calcs (grid_of def.start def.period) o s.copies [] left
     × IsOnDevice t (Some dev)) (sym is.text) (
       defined,
       opened_legal c.args.text.now def o s.copies s.rows vs saved copied opened opened_rows saved_versions saved_rows,

@@ -1,7 +1,7 @@
 use Rattle.std.proofs.Common.{◌≡◌, ◌∙◌, List, length, map, sym, ap, subst, arith}
 use Rattle.std.proofs.lemmas.List.{length-map}
 use Rattle.calc_refresh.specs.Lists.{lists_of}
-use Rattle.calc_refresh.specs.Refreshed.{IsToldOf, shape_fault}
+use Rattle.calc_refresh.specs.Refreshed.{IsRefreshToldOf, shape_fault}
 use Rattle.calc_refresh.specs.Sheet.{grid_of}
 use Rattle.sheet_law.specs.Windows.{complete_windows}
 use Rattle.group_book.specs.Tapes.{cut}
@@ -45,5 +45,5 @@ returns-in-Err-Shape-clause-refused c =
     let rows = c.in_ok-rows.ensures ∙ ap lists_of c.deref-2.ensures.value in
     ap (λ l. shape_fault (complete_windows grid l) (lists_of saved.rows.items)) (sym are)
     ∙ ap (shape_fault (complete_windows grid (lists_of copies))) (sym rows)
-    ∙ subst (IsToldOf (shape_fault (complete_windows grid (lists_of copies)) (lists_of c.in_ok-rows.rows.items)))
+    ∙ subst (IsRefreshToldOf (shape_fault (complete_windows grid (lists_of copies)) (lists_of c.in_ok-rows.rows.items)))
     c.in-Err-Shape.field-0-is c.in-Err-Shape.ensures.fault

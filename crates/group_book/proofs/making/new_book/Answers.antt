@@ -4,8 +4,8 @@ use Rattle.calc_check.specs.Group.{calculation}
 use Rattle.calc_refresh.specs.Lists.{lists_of}
 use Rattle.calc_refresh.specs.Sheet.{grid_of}
 use Rattle.disk_model.specs.Moments.{LeftSince}
-use Rattle.group_book.specs.Crashes.{IsSafe}
-use Rattle.group_book.specs.Histories.{IsLegal}
+use Rattle.group_book.specs.Crashes.{IsBookSafe}
+use Rattle.group_book.specs.Histories.{IsBookLegal}
 use Rattle.group_book.specs.Told.{IsKept, Saved}
 use Rattle.group_book.specs.declared.history.GroupOpening.{GroupOpening}
 use Rattle.group_book.proofs.Fresh.{fresh_defined, fresh_kept, fresh_legal, fresh_safe}
@@ -35,14 +35,14 @@ invariant_of-result g c =
       fresh_defined def made c.in_ok-def.ensures o s c.in_ok-versions.versions.items saved c.in_ok-sheet.ensures.empty
           c.in_ok-sheet.ensures.scratch versions c.in_ok-zeros.ensures rows saved_versions saved_rows c.args.tags.items
           c.requires.group c.requires.grid (omega (arith, c.requires.tags)),
-      subst (λ tape. IsLegal made.calcs (grid_of made.start made.period) o tape c.in_ok-versions.versions.items s.copies s.rows) empty
+      subst (λ tape. IsBookLegal made.calcs (grid_of made.start made.period) o tape c.in_ok-versions.versions.items s.copies s.rows) empty
           (fresh_legal def made c.in_ok-def.ensures o s c.in_ok-versions.versions.items saved c.in_ok-sheet.ensures.empty
           c.in_ok-sheet.ensures.scratch versions c.in_ok-zeros.ensures rows saved_versions saved_rows),
       subst (λ tape. IsKept c.new.result.items made o tape s.copies saved false None 0 0) empty
           (fresh_kept def made c.in_ok-def.ensures o s c.in_ok-versions.versions.items saved c.in_ok-sheet.ensures.empty
           c.in_ok-sheet.ensures.scratch versions c.in_ok-zeros.ensures rows saved_versions saved_rows c.new.result.items 0 0
           (omega arith) refl),
-      subst (λ tape. IsSafe c.new.result.items made.calcs (grid_of made.start made.period) o s.copies tape (LeftSince None)) empty
+      subst (λ tape. IsBookSafe c.new.result.items made.calcs (grid_of made.start made.period) o s.copies tape (LeftSince None)) empty
           (fresh_safe def made c.in_ok-def.ensures o s c.in_ok-versions.versions.items saved c.in_ok-sheet.ensures.empty
           c.in_ok-sheet.ensures.scratch versions c.in_ok-zeros.ensures rows saved_versions saved_rows c.new.result.items),
       λ some. absurd (some c.new.ensures.items),

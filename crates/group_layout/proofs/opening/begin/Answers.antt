@@ -2,7 +2,7 @@ use Rattle.std.proofs.Common.{◌∙◌, ◌<◌, [], List, map, ap, subst, arit
 use Rattle.std.proofs.lemmas.Result.{err_from_is_err_and}
 use Rattle.group_layout.specs.declared.block.Block.{Block}
 use Rattle.group_layout.specs.Blocks.{last_of, parts_of, unsaved}
-use Rattle.group_layout.specs.Rows.{AreRowsOf, lists_of}
+use Rattle.group_layout.specs.Rows.{AreRowsOf, block_lists_of}
 use Rattle.group_layout.proofs.Beginnings.{nothing_yet}
 use Rattle.archive_file.proofs.FieldLaws.{told_through}
 use Rattle.group_layout.proofs.Openings.{no_rows, none_shape}
@@ -26,9 +26,9 @@ returns-in-Ok-clause-rows g c =
     let saved = c.in_ok-saved.saved in
     let windows = c.in_ok-saved.ensures.windows
     ∙ ap (λ (bs : List Block). (last_of (unsaved c.args.inputs) (map parts_of bs)).windows) c.new.ensures.items in
-    no_rows c.args.calcs (lists_of saved.rows.items)
-    (subst (λ n. AreRowsOf c.args.calcs n [] (lists_of saved.rows.items)) windows
-    (subst (λ (bs : List Block). AreRowsOf c.args.calcs saved.windows (map parts_of bs) (lists_of saved.rows.items)) c.new.ensures.items
+    no_rows c.args.calcs (block_lists_of saved.rows.items)
+    (subst (λ n. AreRowsOf c.args.calcs n [] (block_lists_of saved.rows.items)) windows
+    (subst (λ (bs : List Block). AreRowsOf c.args.calcs saved.windows (map parts_of bs) (block_lists_of saved.rows.items)) c.new.ensures.items
     c.in_ok-saved.ensures.rows))
 
 pub returns-in-Ok-clause-shape : goal.returns-in-Ok-clause-shape

@@ -4,7 +4,7 @@ use Rattle.disk_model.specs.Moments.{During}
 use Rattle.disk_model.specs.Traces.{seen}
 use Rattle.group_layout.specs.Images.{IsGroupDamage, IsUnsaved, StandsFor}
 use Rattle.group_layout.specs.Readings.{IsLeftOrSame, SavesNothing, StandsSame}
-use Rattle.group_layout.specs.Rows.{lists_of}
+use Rattle.group_layout.specs.Rows.{block_lists_of}
 use Rattle.archive_file.proofs.FieldLaws.{told_through}
 use Rattle.archive_file.proofs.ReadImages.{during_same, left_synced, shown_before}
 use Rattle.group_layout.proofs.Openings.{found_unsaved, left_begun, read_stands, unsaved_stands}
@@ -31,7 +31,7 @@ pub returns-in-Saved-clause-stood : goal.returns-in-Saved-clause-stood
 returns-in-Saved-clause-stood g c =
     let x = c.args in
     let saved = c.in-Saved.saved in
-    shown_before _ _ (λ l. StandsFor x.text.now x.inputs x.calcs l saved.versions.items (lists_of saved.rows.items)) c.in-Ok.ensures.noted
+    shown_before _ _ (λ l. StandsFor x.text.now x.inputs x.calcs l saved.versions.items (block_lists_of saved.rows.items)) c.in-Ok.ensures.noted
     (read_stands x.text.now x.inputs x.calcs _ c.in_ok-saved.field-0 saved c.in-Saved.is c.in_ok-saved.ensures.found)
 
 pub returns-in-Saved-clause-any_moment : goal.returns-in-Saved-clause-any_moment

@@ -2,32 +2,32 @@ use Rattle.std.proofs.Common.{◌≡◌, ◌≢◌, Some, sym, ◌∙◌}
 use Rattle.std.specs.Prelude.{slice_get}
 use Rattle.trend_num.specs.declared.point.Point.{Point}
 use Rattle.trend_model.specs.Contents.{points_of}
-use Rattle.late_insert.specs.Pages.{records_of}
+use Rattle.late_insert.specs.Pages.{page_records_of}
 use Rattle.late_insert.proofs.Reading.{count_gap}
 use Rattle.late_insert.proofs.Nearest.{upto_there, upto_gap}
 use Rattle.late_insert.proofs.gap.around_in.Goals as goal
 
 pub returns-in-Some-clause-below : goal.returns-in-Some-clause-below
 returns-in-Some-clause-below c =
-    let l = records_of c.args.pool.now c.args.pages.now.items in
+    let l = page_records_of c.args.pool.now c.args.pages.now.items in
     let gap = c.gap_in-gap.ensures in
     count_gap c.args.t c.gap_in-gap.result.place l gap.bound gap.before gap.after
 
 pub returns-in_default-clause-below : goal.returns-in_default-clause-below
 returns-in_default-clause-below c =
-    let l = records_of c.args.pool.now c.args.pages.now.items in
+    let l = page_records_of c.args.pool.now c.args.pages.now.items in
     let gap = c.gap_in-gap.ensures in
     count_gap c.args.t c.gap_in-gap.result.place l gap.bound gap.before gap.after
 
 pub returns-in_default-2-clause-below : goal.returns-in_default-2-clause-below
 returns-in_default-2-clause-below c =
-    let l = records_of c.args.pool.now c.args.pages.now.items in
+    let l = page_records_of c.args.pool.now c.args.pages.now.items in
     let gap = c.gap_in-gap.ensures in
     count_gap c.args.t c.gap_in-gap.result.place l gap.bound gap.before gap.after
 
 pub returns-in-Some-clause-upto : goal.returns-in-Some-clause-upto
 returns-in-Some-clause-upto c =
-    let l = records_of c.args.pool.now c.args.pages.now.items in
+    let l = page_records_of c.args.pool.now c.args.pages.now.items in
     let gap = c.gap_in-gap.ensures in
     upto_there l c.args.t c.gap_in-gap.result.place c.requires.pages.rising gap.bound gap.before gap.after
     c.in-Some.q
@@ -35,7 +35,7 @@ returns-in-Some-clause-upto c =
 
 pub returns-in_default-clause-upto : goal.returns-in_default-clause-upto
 returns-in_default-clause-upto c =
-    let l = records_of c.args.pool.now c.args.pages.now.items in
+    let l = page_records_of c.args.pool.now c.args.pages.now.items in
     let gap = c.gap_in-gap.ensures in
     let other : (q : Point) → slice_get (points_of l) c.gap_in-gap.result.place ≡ Some q → q.t ≢ c.args.t =
     λ q is. let found = sym c.first_from.ensures.value
@@ -44,7 +44,7 @@ returns-in_default-clause-upto c =
 
 pub returns-in_default-2-clause-upto : goal.returns-in_default-2-clause-upto
 returns-in_default-2-clause-upto c =
-    let l = records_of c.args.pool.now c.args.pages.now.items in
+    let l = page_records_of c.args.pool.now c.args.pages.now.items in
     let gap = c.gap_in-gap.ensures in
     let other : (q : Point) → slice_get (points_of l) c.gap_in-gap.result.place ≡ Some q → q.t ≢ c.args.t =
     λ q is. let found = sym c.first_from.ensures.value ∙ c.in_default.is in cc in

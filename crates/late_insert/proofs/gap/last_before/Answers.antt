@@ -1,13 +1,13 @@
 use Rattle.std.proofs.Common.{◌≡◌, ◌+◌, ◌-◌, sym, arith}
 use Rattle.trend_model.specs.Contents.{points_of}
-use Rattle.late_insert.specs.Pages.{records_of}
+use Rattle.late_insert.specs.Pages.{page_records_of}
 use Rattle.late_insert.proofs.Nearest.{point_get}
 use Rattle.late_insert.proofs.Ranges.{last_take}
 use Rattle.late_insert.proofs.gap.last_before.Goals as goal
 
 pub returns-clause-value : goal.returns-clause-value
 returns-clause-value c =
-    let l = records_of c.args.pool.now c.args.pages.now.items in
+    let l = page_records_of c.args.pool.now c.args.pages.now.items in
     let n = c.args.gap.place in
     let r = c.rec_near.result in
     let whole : n ≡ n - 1 + 1 = omega arith in

@@ -3,7 +3,7 @@ use Rattle.std.specs.Prelude.{FitsSigned, insert}
 use Rattle.std.specs.Int.{w64, w128, int_min, int_max}
 use Rattle.std.proofs.lemmas.Int.{to_z-of_z}
 use Rattle.std.proofs.lemmas.List.Edits.{insert_end}
-use Rattle.late_insert.specs.Pages.{records_in}
+use Rattle.late_insert.specs.Pages.{frame_records_in}
 use Rattle.late_insert.proofs.Summing.{is_pushed, length-records_in, area_of_fits, area_pushed}
 use Rattle.late_insert.proofs.Summing.{area_pushed_fits, page_pushed, value_fits}
 use Rattle.late_insert.proofs.page.append.Goals as goal
@@ -45,9 +45,9 @@ returns-clause-page c =
 
 pub returns-clause-records : goal.returns-clause-records
 returns-clause-records c =
-    c.store.ensures.records ∙ (ap (λ n. insert (records_in c.args.frame.now) n c.args.rec)
+    c.store.ensures.records ∙ (ap (λ n. insert (frame_records_in c.args.frame.now) n c.args.rec)
     (sym (length-records_in c.args.frame.now))
-    ∙ insert_end (records_in c.args.frame.now) c.args.rec)
+    ∙ insert_end (frame_records_in c.args.frame.now) c.args.rec)
 
 pub overflow_add-result : goal.overflow_add-result
 overflow_add-result c =

@@ -1,7 +1,7 @@
 use Rattle.std.proofs.Common.{length, sym, ap, ◌∙◌, arith}
 use Rattle.std.proofs.lemmas.List.{length_push, length-set}
 use Rattle.std.proofs.lemmas.List.Edits.{length-insert}
-use Rattle.late_insert.specs.Pages.{rec_in, records_in}
+use Rattle.late_insert.specs.Pages.{rec_in, frame_records_in}
 use Rattle.trend_model.specs.Contents.{over}
 use Rattle.late_insert.proofs.Summing.{length-records_in}
 use Rattle.late_insert.proofs.Sorted.{placed_end, placed_there, placed_gap, grown_by}
@@ -15,7 +15,7 @@ returns-then-i-frame-clause-records c =
 pub returns-then-i-frame-clause-grown : goal.returns-then-i-frame-clause-grown
 returns-then-i-frame-clause-grown c =
     grown_by c.args.frame.now c.push-stair.new.frame c.args.rec 1
-    (ap length c.push-stair.ensures.records ∙ length_push (records_in c.args.frame.now) c.args.rec)
+    (ap length c.push-stair.ensures.records ∙ length_push (frame_records_in c.args.frame.now) c.args.rec)
 
 pub returns-then-frame-i-clause-records : goal.returns-then-frame-i-clause-records
 returns-then-frame-i-clause-records c =
@@ -30,7 +30,7 @@ returns-then-frame-i-clause-grown c =
     (omega (
       arith,
       ap length c.replace-stair.ensures.records,
-      length-set (records_in c.args.frame.now)
+      length-set (frame_records_in c.args.frame.now)
           c.below_in-i.result (over c.args.rec (rec_in c.args.frame.now c.below_in-i.result)),
     ))
 
@@ -49,7 +49,7 @@ returns-clause-records c =
 
 pub returns-clause-grown : goal.returns-clause-grown
 returns-clause-grown c =
-    let fits = length-insert (records_in c.args.frame.now) c.below_in-i.result c.args.rec
+    let fits = length-insert (frame_records_in c.args.frame.now) c.below_in-i.result c.args.rec
     (omega (arith, c.below_in-i.ensures.bound, length-records_in c.args.frame.now)) in
     grown_by c.args.frame.now c.refresh-stair.new.frame c.args.rec 1
     (omega (arith, ap length c.refresh-stair.ensures.records, ap length c.store.ensures.records, fits))

@@ -1,7 +1,7 @@
 use Rattle.std.proofs.Common.{ap, ◌∙◌, set}
 use Rattle.std.specs.Int.{w64}
 use Rattle.std.proofs.lemmas.Int.{to_z-of_z}
-use Rattle.late_insert.specs.Pages.{records_in}
+use Rattle.late_insert.specs.Pages.{frame_records_in}
 use Rattle.trend_model.specs.Contents.{over}
 use Rattle.late_insert.proofs.Summing.{value_fits}
 use Rattle.late_insert.proofs.Storing.{records-rewritten, recorded-rewritten}
@@ -25,5 +25,5 @@ returns-clause-records c =
     (to_z-of_z w64 now.point.v (value_fits now.point c.over-now.ensures.range)) c.mark_put-frame.ensures.marks
     c.mark_put-frame.ensures.there
     c.mark_put-frame.ensures.others
-    ∙ ap (set (records_in c.args.frame.now) c.args.i)
+    ∙ ap (set (frame_records_in c.args.frame.now) c.args.i)
     (c.over-now.ensures.value ∙ ap (over c.args.rec) c.rec_at.ensures.value))

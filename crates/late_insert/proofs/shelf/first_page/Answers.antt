@@ -1,11 +1,11 @@
 use Rattle.std.proofs.Common.{◌≡◌, pos, [], ◌∷◌, ◌++◌, ap, ◌∙◌}
-use Rattle.page_pool.specs.Pool.{Takes}
+use Rattle.page_pool.specs.Pool.{TakesFrame}
 use Rattle.late_insert.proofs.Opening.{first_page_is, no_records, no_lengths}
 use Rattle.late_insert.specs.Moves.{Listed}
 use Rattle.late_insert.proofs.shelf.first_page.Goals as goal
 
 -- the frame that was taken, and the list of its page alone
-takes_here : (c : goal.After-push) → Takes c.args.pool.now c.unwrap-id.result c.take_frame.new.self
+takes_here : (c : goal.After-push) → TakesFrame c.args.pool.now c.unwrap-id.result c.take_frame.new.self
 takes_here c = rw c.unwrap-id.ensures at c.take_frame.ensures.taken
 
 alone : (c : goal.After-push) → c.push.new.self.items ≡ record

@@ -3,10 +3,10 @@ use Rattle.std.specs.Prelude.{FitsSigned}
 use Rattle.std.specs.Int.{w128}
 use mir.Val.{of_z, to_z}
 use Rattle.std.proofs.lemmas.Int.{to_z-of_z}
-use Rattle.page_pool.specs.Pool.{Takes}
+use Rattle.page_pool.specs.Pool.{TakesFrame}
 use Rattle.trend_model.specs.Contents.{points_of}
 use Rattle.trend_model.specs.Windows.{area}
-use Rattle.late_insert.specs.Pages.{IsRecorded, records_in}
+use Rattle.late_insert.specs.Pages.{IsRecorded, frame_records_in}
 use Rattle.late_insert.proofs.Opening.{empty_page, taken_empty, pages_opened, records-opened}
 use Rattle.late_insert.proofs.Opening.{lengths-opened}
 use Rattle.late_insert.proofs.Summing.{length-records_in}
@@ -15,7 +15,7 @@ use Rattle.late_insert.proofs.shelf.open_page.Goals as goal
 
 pub store_run-requires-clause-recorded : goal.store_run-requires-clause-recorded
 store_run-requires-clause-recorded c =
-    let takes : Takes c.args.pool.now c.unwrap-id.result c.take_frame.new.self = rw c.unwrap-id.ensures at
+    let takes : TakesFrame c.args.pool.now c.unwrap-id.result c.take_frame.new.self = rw c.unwrap-id.ensures at
     c.take_frame.ensures.taken in
     subst IsRecorded (sym (taken_empty _ _ _ c.frame_mut-frame.result.now takes c.frame_mut-frame.ensures.value))
     empty_page.recorded
@@ -25,14 +25,14 @@ refresh-stair-requires-clause-some c =
     omega (arith, length-records_in c.store_run.new.frame, ap length c.store_run.ensures.records, c.requires.some)
 
 -- what the pages take of the frame, that it was taken, and its stair
-records : (c : goal.After-push) → records_in c.refresh-stair.new.frame ≡ c.args.run.now
+records : (c : goal.After-push) → frame_records_in c.refresh-stair.new.frame ≡ c.args.run.now
 records c = c.refresh-stair.ensures.records ∙ c.store_run.ensures.records
 
-takes_here : (c : goal.After-push) → Takes c.args.pool.now c.unwrap-id.result c.take_frame.new.self
+takes_here : (c : goal.After-push) → TakesFrame c.args.pool.now c.unwrap-id.result c.take_frame.new.self
 takes_here c = rw c.unwrap-id.ensures at c.take_frame.ensures.taken
 
 stair_here : (c : goal.After-push)
-    → to_z w128 (of_z w128 c.refresh-stair.result) ≡ area true (points_of (records_in c.refresh-stair.new.frame))
+    → to_z w128 (of_z w128 c.refresh-stair.result) ≡ area true (points_of (frame_records_in c.refresh-stair.new.frame))
 stair_here c =
     let fits : FitsSigned w128 c.refresh-stair.result = search rules in
     to_z-of_z w128 c.refresh-stair.result fits ∙ (c.refresh-stair.ensures.stair

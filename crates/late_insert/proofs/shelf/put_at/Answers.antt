@@ -6,7 +6,7 @@ use mir.Syntax.{w128}
 use mir.Val.{of_z, to_z}
 use Rattle.trend_model.specs.Contents.{points_of}
 use Rattle.trend_model.specs.Windows.{area}
-use Rattle.late_insert.specs.Pages.{records_in}
+use Rattle.late_insert.specs.Pages.{frame_records_in}
 use Rattle.std.proofs.lemmas.List.{get_or_default, length-set}
 use Rattle.late_insert.proofs.Moving.{length-moved}
 use Rattle.late_insert.specs.Moves.{Listed}
@@ -68,7 +68,7 @@ read_here c = read_by c.args.pool.now c.args.pages.now.items c.args.k c.id.resul
 
 stair_here : (c : goal.After-move_on)
     → to_z w128 (of_z w128 c.put_rec-grown.result.stair) ≡ area true
-    (points_of (records_in c.put_rec-grown.new.frame))
+    (points_of (frame_records_in c.put_rec-grown.new.frame))
 stair_here c =
     let fits : FitsSigned w128 c.put_rec-grown.result.stair = search rules in
     to_z-of_z w128 c.put_rec-grown.result.stair fits ∙ c.put_rec-grown.ensures.stair

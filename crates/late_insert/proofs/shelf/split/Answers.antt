@@ -4,12 +4,12 @@ use Rattle.std.specs.Int.{w128}
 use Rattle.std.proofs.lemmas.Int.{to_z-of_z}
 use Rattle.std.proofs.lemmas.List.{get_or_default, length-set}
 use Rattle.late_insert.specs.declared.directory.Page.{Page}
-use Rattle.page_pool.specs.Pool.{Takes}
+use Rattle.page_pool.specs.Pool.{TakesFrame}
 use Rattle.page_pool.proofs.Stored.{spare-written}
 use mir.Val.{of_z, to_z}
 use Rattle.trend_model.specs.Contents.{points_of}
 use Rattle.trend_model.specs.Windows.{area}
-use Rattle.late_insert.specs.Pages.{records_in}
+use Rattle.late_insert.specs.Pages.{frame_records_in}
 use Rattle.late_insert.specs.Moves.{Listed, rewritten}
 use Rattle.late_insert.proofs.Finding.{no_page}
 use Rattle.late_insert.proofs.Reading.{IsRead, held_by, read_by, frame_page}
@@ -101,22 +101,22 @@ read_here c = read_by c.args.pool.now c.args.pages.now.items c.args.k c.id.resul
     c.requires.pages c.requires.within (c.id.ensures.value no_page) c.frame_mut.ensures.value
 
 takes_here : (c : goal.After-insert)
-    → Takes (set c.args.pool.now (get_or c.args.pages.now.items c.args.k no_page).id (Some c.cut-halves.new.frame))
+    → TakesFrame (set c.args.pool.now (get_or c.args.pages.now.items c.args.k no_page).id (Some c.cut-halves.new.frame))
     c.unwrap-id.result c.take_frame.new.self
 takes_here c =
-    subst (λ id. Takes (set c.args.pool.now id (Some c.cut-halves.new.frame)) c.unwrap-id.result c.take_frame.new.self)
+    subst (λ id. TakesFrame (set c.args.pool.now id (Some c.cut-halves.new.frame)) c.unwrap-id.result c.take_frame.new.self)
     (sym (c.id.ensures.value no_page)) (rw c.unwrap-id.ensures at c.take_frame.ensures.taken)
 
 lower_here : (c : goal.After-insert)
     → to_z w128 (of_z w128 c.cut-halves.result.lower_stair) ≡ area true
-    (points_of (records_in c.cut-halves.new.frame))
+    (points_of (frame_records_in c.cut-halves.new.frame))
 lower_here c =
     let fits : FitsSigned w128 c.cut-halves.result.lower_stair = search rules in
     to_z-of_z w128 c.cut-halves.result.lower_stair fits ∙ c.cut-halves.ensures.lower_stair
 
 upper_here : (c : goal.After-insert)
     → to_z w128 (of_z w128 c.cut-halves.result.upper_stair) ≡ area true
-    (points_of (records_in c.cut-halves.result.upper))
+    (points_of (frame_records_in c.cut-halves.result.upper))
 upper_here c =
     let fits : FitsSigned w128 c.cut-halves.result.upper_stair = search rules in
     to_z-of_z w128 c.cut-halves.result.upper_stair fits ∙ c.cut-halves.ensures.upper_stair

@@ -1,13 +1,13 @@
 use Rattle.std.proofs.Common.{◌+◌, ◌-◌, ◌≤◌, ℕ, List, [], true, take}
 use Rattle.trend_model.specs.History.{Origin}
 use Rattle.point_text.specs.FirstPoint.{HasNoFeed}
-use Rattle.pack_command.specs.Pack.{most_bytes}
+use Rattle.pack_command.specs.Pack.{most_input_bytes}
 use Rattle.pack_command.specs.Coming.{AreTakenFrom, HasCome, IsReady}
 use Rattle.pack_command.proofs.input.read_pieces.Given as goal
 
 abbrev pub invariant-loop-count : goal.invariant-loop-count
 invariant-loop-count g l = record {
-  within : l.total ≤ most_bytes;
+  within : l.total ≤ most_input_bytes;
   short : l.begun ≤ 64;
   ready : IsReady l.intake.core l.intake.rows;
   one : HasNoFeed (take l.begun l.buffer);
@@ -17,4 +17,4 @@ invariant-loop-count g l = record {
 }
 
 abbrev pub decreases-loop-count : goal.decreases-loop-count
-decreases-loop-count g l = most_bytes + 1 - l.total
+decreases-loop-count g l = most_input_bytes + 1 - l.total

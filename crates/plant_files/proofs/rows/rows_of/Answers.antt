@@ -4,7 +4,7 @@ use Rattle.std.proofs.lemmas.Result.{IfOk-weaker, IfErr-weaker}
 use Rattle.value_rows.specs.Raw.{IsRawRow}
 use Rattle.plant_status.specs.declared.status.Status.TheVariants.{WantOfMemory}
 use Rattle.plant_files.specs.Texts.{tag_names}
-use Rattle.plant_files.specs.Collected.{AreCollectorFiles, AreRows, IsCollectorRefused, IsRowOfBase, IsRowsRefusal}
+use Rattle.plant_files.specs.Collected.{AreCollectorFiles, AreCollectedRows, IsCollectorRefused, IsRowOfBase, IsCollectedRefusal}
 use Rattle.plant_files.proofs.Named.{rows_of_base}
 use Rattle.plant_files.proofs.rows.rows_of.Goals as goal
 
@@ -16,7 +16,7 @@ returns-clause-rows g c =
     c.deref-3.ensures.value ∙ c.in-Ok.ensures.names ∙ ap tag_names c.deref.ensures.value in
     IfOk-weaker c.rows_over.result
     (λ lists. AreCollectorFiles c.deref-3.result.now told c.deref-2.result.now (map (λ rows. rows.items) lists.items))
-    (λ lists. AreRows base told c.args.plan.now.collectors.items (map (λ rows. rows.items) lists.items))
+    (λ lists. AreCollectedRows base told c.args.plan.now.collectors.items (map (λ rows. rows.items) lists.items))
     (λ lists read. record {
       read = subst (λ files. AreCollectorFiles (tag_names base.tags.items) told files (map (λ rows. rows.items) lists.items))
           c.deref-2.ensures.value
@@ -41,7 +41,7 @@ returns-clause-refused g c =
     let tags : c.deref-3.result.now ≡ tag_names base.tags.items =
     c.deref-3.ensures.value ∙ c.in-Ok.ensures.names ∙ ap tag_names c.deref.ensures.value in
     IfErr-weaker c.rows_over.result (λ why. why ≢ WantOfMemory → IsCollectorRefused c.deref-3.result.now told c.deref-2.result.now why)
-    (IsRowsRefusal base told c.args.plan.now.collectors.items)
+    (IsCollectedRefusal base told c.args.plan.now.collectors.items)
     (λ why first other. subst (λ files. IsCollectorRefused (tag_names base.tags.items) told files why) c.deref-2.ensures.value
     (subst (λ ts. IsCollectorRefused ts told c.deref-2.result.now why) tags (first other)))
     c.rows_over.ensures.refused

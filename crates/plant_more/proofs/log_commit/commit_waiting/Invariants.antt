@@ -1,4 +1,4 @@
-use Rattle.commit_log.specs.Told.{waits}
+use Rattle.commit_log.specs.Told.{rows_waiting}
 use Rattle.plant_more.specs.LogTurns.{IsCommitted}
 use Rattle.plant_more.proofs.log_commit.commit_waiting.Given as goal
 
@@ -6,4 +6,4 @@ abbrev pub invariant-loop-done : goal.invariant-loop-done
 invariant-loop-done g l = IsCommitted l.fn.log l.log
 
 abbrev pub decreases-loop-done : goal.decreases-loop-done
-decreases-loop-done g l = waits l.log
+decreases-loop-done g l = rows_waiting l.log

@@ -1,4 +1,4 @@
-use Rattle.plant_more.specs.LogNotes.{lists_of}
+use Rattle.plant_more.specs.LogNotes.{row_lists_of}
 use Rattle.plant_more.proofs.LogFound.{commit_turn, put_turn}
 use Rattle.plant_more.proofs.log_finding.find_puts.Goals as goal
 use Rattle.plant_more.proofs.log_finding.find_puts.Goals.{in-Put+in_default, in-Commit}
@@ -6,9 +6,9 @@ use Rattle.plant_more.proofs.log_finding.find_puts.Goals.{in-Put+in_default, in-
 pub loop-place-preserved : goal.loop-place-preserved
 loop-place-preserved c = elim c.match-tape-place.branch [
   | in-Put+in_default w ↦ rw w.next-is
-      (put_turn (lists_of c.args.files.now) c.args.tape.now c.loop-place.place _ w.in-Put.row c.loop-place.next _ c.loop-place-test.true
+      (put_turn (row_lists_of c.args.files.now) c.args.tape.now c.loop-place.place _ w.in-Put.row c.loop-place.next _ c.loop-place-test.true
       w.in-Put.is c.loop-place.invariant w.in_default.ensures.followed)
   | in-Commit w ↦ rw w.next-is
-      (commit_turn (lists_of c.args.files.now) c.args.tape.now c.loop-place.place _ _ _ c.loop-place.next c.loop-place-test.true
+      (commit_turn (row_lists_of c.args.files.now) c.args.tape.now c.loop-place.place _ _ _ c.loop-place.next c.loop-place-test.true
       w.in-Commit.is c.loop-place.invariant)
 ]

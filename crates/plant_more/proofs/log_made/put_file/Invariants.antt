@@ -1,13 +1,13 @@
 use Rattle.std.proofs.Common.{◌≡◌}
 use Rattle.std.specs.Prelude.{slice_index}
-use Rattle.plant_more.specs.LogNotes.{lists_of}
+use Rattle.plant_more.specs.LogNotes.{row_lists_of}
 use Rattle.plant_more.specs.LogTurns.{IsSameLog}
 use Rattle.plant_more.specs.LogFinding.{AreFound, AreOthersSame}
 use Rattle.plant_more.proofs.log_made.put_file.Given as goal
 
 abbrev pub invariant-loop-place : goal.invariant-loop-place
 invariant-loop-place g l = record {
-  found : AreFound (lists_of l.files) l.log.tape l.next;
+  found : AreFound (row_lists_of l.files) l.log.tape l.next;
   at : slice_index l.next l.collector ≡ l.place;
   others : AreOthersSame l.collector l.fn.next l.next;
   same : IsSameLog l.fn.log l.log;

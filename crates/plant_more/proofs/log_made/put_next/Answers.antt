@@ -1,6 +1,6 @@
 use Rattle.std.proofs.Common.{refl, Some, arith}
 use Rattle.std.specs.Prelude.{slice_index}
-use Rattle.plant_more.specs.LogNotes.{lists_of}
+use Rattle.plant_more.specs.LogNotes.{row_lists_of}
 use Rattle.plant_more.proofs.LogCounting.{few_puts}
 use Rattle.plant_more.proofs.LogRows.{files_length, next_is}
 use Rattle.plant_more.proofs.LogPutting.{row_found, row_good}
@@ -23,7 +23,7 @@ put_row-requires-clause-fewer g c =
     omega (
       arith,
       c.requires.total,
-      few_puts (lists_of c.args.files.now) c.args.log.now.tape c.args.next.now c.args.collector c.requires.found
+      few_puts (row_lists_of c.args.files.now) c.args.log.now.tape c.args.next.now c.args.collector c.requires.found
           (omega (arith, files_length c.args.files.now, c.requires.known)) c.requires.lacks,
     )
 

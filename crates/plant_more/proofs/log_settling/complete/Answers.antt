@@ -1,5 +1,5 @@
 use Rattle.std.proofs.lemmas.Result.{err_from_is_err_and}
-use Rattle.plant_more.specs.LogNotes.{lists_of}
+use Rattle.plant_more.specs.LogNotes.{row_lists_of}
 use Rattle.plant_more.proofs.LogCommitting.{same_log_on}
 use Rattle.plant_more.specs.LogRefusals.{OfPut, OfStop}
 use Rattle.plant_more.proofs.LogSettled.{commit_refused, made_on}
@@ -18,7 +18,7 @@ returns-in_err-put_missing-clause-refused g c =
 
 pub returns-clause-made : goal.returns-clause-made
 returns-clause-made g c =
-    made_on (lists_of c.args.files.now) c.put_missing.new.log c.commit_rest.new.log c.commit_rest.result c.commit_rest.ensures.committed
+    made_on (row_lists_of c.args.files.now) c.put_missing.new.log c.commit_rest.new.log c.commit_rest.result c.commit_rest.ensures.committed
     c.in_ok-put_missing.ensures.whole c.commit_rest.ensures.none_waits
 
 pub returns-clause-same : goal.returns-clause-same
@@ -27,5 +27,5 @@ returns-clause-same g c = same_log_on _ _ _ c.put_missing.ensures.same c.commit_
 pub returns-clause-refused : goal.returns-clause-refused
 returns-clause-refused g c =
     let good = c.in_ok-check_endings.ensures in
-    commit_refused _ (lists_of c.args.files.now) c.args.notes.now c.commit_rest.new.log c.commit_rest.result
+    commit_refused _ (row_lists_of c.args.files.now) c.args.notes.now c.commit_rest.new.log c.commit_rest.result
     (record { none_halted = good.none_halted; all_found = good.all_found }) c.commit_rest.ensures.refused

@@ -1,5 +1,5 @@
 use Rattle.std.proofs.lemmas.Result.{err_from_is_err_and}
-use Rattle.plant_more.specs.LogNotes.{lists_of}
+use Rattle.plant_more.specs.LogNotes.{row_lists_of}
 use Rattle.plant_more.specs.LogRefusals.{OfFinding, OfOpening}
 use Rattle.plant_more.proofs.LogSettled.{mismatch_is_opening, rows_on}
 use Rattle.plant_more.proofs.log_settling.settle.Goals as goal
@@ -20,4 +20,4 @@ returns-in_err-find_puts-clause-refused g c =
     rw (p.1, p.2) (OfFinding c.in_ok-compare_log.ensures.same (rw c.tape.ensures.tape at c.in_err-find_puts.ensures.differs))
 
 pub complete-requires-clause-rows : goal.complete-requires-clause-rows
-complete-requires-clause-rows g c = rows_on (lists_of c.args.files.now) _ c.args.known.now c.in_ok-compare_log.ensures.same c.requires.rows
+complete-requires-clause-rows g c = rows_on (row_lists_of c.args.files.now) _ c.args.known.now c.in_ok-compare_log.ensures.same c.requires.rows

@@ -1,5 +1,5 @@
 use Rattle.std.proofs.Common.{length}
-use Rattle.plant_more.specs.LogNotes.{lists_of}
+use Rattle.plant_more.specs.LogNotes.{row_lists_of}
 use Rattle.plant_more.proofs.LogRuns.{is_run, rows_known}
 use Rattle.plant_more.proofs.logging.log_open.Goals as goal
 
@@ -9,7 +9,7 @@ reported-requires-clause-rows g c =
 
 pub returns-in-Ok-clause-run : goal.returns-in-Ok-clause-run
 returns-in-Ok-clause-run g c old others was =
-    is_run _ _ _ c.args.base.now (lists_of c.args.rows.now) c.args.known.now c.args.log c.in-Ok.field-0 old
+    is_run _ _ _ c.args.base.now (row_lists_of c.args.rows.now) c.args.known.now c.args.log c.in-Ok.field-0 old
     (g.S.Store.device_at c.args.store.now) (g.S.Store.device_at c.give_back.new.self) (g.S.Store.fault_count c.args.store.now)
     (g.S.Store.fault_count c.give_back.new.self) _ _ _ c.in-Ok.ensures.ended was c.requires.kept c.requires.plant c.requires.tags others
     c.give_back.ensures.others c.give_back.ensures.told c.give_back.ensures.counted c.reported.ensures

@@ -3,7 +3,7 @@ use Rattle.std.specs.Prelude.{IfErr, IfSome}
 use Rattle.std.specs.declared.alloc.Global.{Global}
 use Rattle.plant_status.specs.declared.status.Status.{Status}
 use Rattle.value_rows.specs.declared.raw.RawRow.{RawRow}
-use Rattle.plant_more.specs.LogNotes.{lists_of}
+use Rattle.plant_more.specs.LogNotes.{row_lists_of}
 use Rattle.plant_more.specs.LogHeadline.{IsRun, IsUnopened}
 use Rattle.plant_more.specs.LogMaking.{total_rows}
 use Rattle.plant_more.specs.LogTexts.{log_name, plant_text}
@@ -15,7 +15,7 @@ returns-in-Err-clause-unopened g c = λ none.
     let old = g.S.Store.device_at c.args.store.now in
     let faults = g.S.Store.fault_count c.args.store.now in
     let base = c.args.read.now.base in
-    let total = total_rows (lists_of c.args.read.now.rows.items) in
+    let total = total_rows (row_lists_of c.args.read.now.rows.items) in
     subst (λ (r : Result (String Global) Status). IfErr r (IsUnopened base total old old faults faults)) (sym c.refused.ensures.answer)
     (unready_for base total old old faults faults (untouched _ _ old old (λ n. refl)))
 
@@ -27,7 +27,7 @@ returns-in-Err-known_of-clause-unopened g c = λ none.
     let before = g.S.Store.fault_count c.args.store.now in
     let now = g.S.Store.fault_count c.unready.new.store in
     let base = c.args.read.now.base in
-    let total = total_rows (lists_of c.args.read.now.rows.items) in
+    let total = total_rows (row_lists_of c.args.read.now.rows.items) in
     subst (λ (r : Result (String Global) Status). IfErr r (IsUnopened base total old new before now)) (sym c.unready.ensures.answer)
     (unready_for base total old new before now
     (kept_ready g.S.Dev.Disk.trace g.S.Dev.Disk.ticks g.S.Dev.Disk.fault_count (plant_text base.tags.items) (length base.tags.items) old mid new
@@ -44,7 +44,7 @@ returns-in-Ok-known_of-clause-unopened g c = λ none.
     let before = g.S.Store.fault_count c.args.store.now in
     let now = g.S.Store.fault_count c.log_open.new.store in
     let base = c.args.read.now.base in
-    let total = total_rows (lists_of c.args.read.now.rows.items) in
+    let total = total_rows (row_lists_of c.args.read.now.rows.items) in
     subst (λ (r : Result (String Global) Status). IfErr r (IsUnopened base total old new before now)) (sym (c.log_open.ensures.answer none))
     (unready_for base total old new before now
     (kept_ready g.S.Dev.Disk.trace g.S.Dev.Disk.ticks g.S.Dev.Disk.fault_count (plant_text base.tags.items) (length base.tags.items) old mid new
@@ -60,11 +60,11 @@ returns-in-Ok-known_of-clause-run g c =
     let faults = g.S.Dev.Disk.fault_count in
     let old = g.S.Store.device_at c.args.store.now in
     let base = c.args.read.now.base in
-    subst (λ (rows : List (Vec RawRow Global)). IfSome c.log_open.result.log (IsRun trace ticks faults base (lists_of rows)
+    subst (λ (rows : List (Vec RawRow Global)). IfSome c.log_open.result.log (IsRun trace ticks faults base (row_lists_of rows)
     old (g.S.Store.device_at c.log_open.new.store) (g.S.Store.fault_count c.args.store.now) (g.S.Store.fault_count c.log_open.new.store)
     (g.P.Passes.stops c.args.passes.now) (g.P.Passes.stops c.log_open.new.passes) c.log_open.result.answer))
     c.deref-in-Ok-known_of.ensures.value
-    (subst (λ (n : ℕ). IfSome c.log_open.result.log (IsRun trace ticks faults base (lists_of c.deref-in-Ok-known_of.result.now)
+    (subst (λ (n : ℕ). IfSome c.log_open.result.log (IsRun trace ticks faults base (row_lists_of c.deref-in-Ok-known_of.result.now)
     old (g.S.Store.device_at c.log_open.new.store) n (g.S.Store.fault_count c.log_open.new.store)
     (g.P.Passes.stops c.args.passes.now) (g.P.Passes.stops c.log_open.new.passes) c.log_open.result.answer))
     c.in-Ok-take_log.ensures.faultless

@@ -4,7 +4,7 @@ use Rattle.trend_num.specs.Limits.{most_stored}
 use Rattle.trend_num.specs.declared.tag_def.TagDef.{TagDef}
 use Rattle.plant_files.specs.Reading.{faults_told}
 use Rattle.plant_files.specs.Texts.{tag_names}
-use Rattle.plant_store.specs.Tags.{AreDistinct, records_in}
+use Rattle.plant_store.specs.Tags.{AreDistinct, tag_records_in}
 use Rattle.plant_store.specs.TagRefusals.{IsRefusal}
 use Rattle.plant_files.proofs.Distinct.{distinct_tags}
 use Rattle.plant_store.proofs.OpenedBases.{few_each, no_file_fault}
@@ -43,5 +43,5 @@ returns-clause-left g c =
 
 pub returns-clause-short : goal.returns-clause-short
 returns-clause-short g c =
-    IfOk-weaker c.open_tags.result (λ cores. records_in cores.items ≤ most_stored)
+    IfOk-weaker c.open_tags.result (λ cores. tag_records_in cores.items ≤ most_stored)
     (λ cores. All (λ core. length core.state.records < 2 ^ 32) cores.items) (λ cores few. few_each cores.items few) c.open_tags.ensures.few_records

@@ -1,8 +1,8 @@
 use Rattle.std.proofs.Common.{◌≡◌, ◌∙◌, ◌≤◌, ◌∷◌, [], ap, arith, get_or, length, length-append, subst, sym}
 use Rattle.std.specs.Vec.Iter.{into_iter_items}
 use Rattle.group_book.specs.declared.history.GroupHistory.{GroupHistory}
-use Rattle.group_book.specs.Told.{Told}
-use Rattle.plant_store.specs.BookEndings.{HasRisen, IsHistoryOf, counts_after}
+use Rattle.group_book.specs.Told.{ToldBook}
+use Rattle.plant_store.specs.BookEndings.{HasFaultCountRisen, IsHistoryOfBook, counts_after}
 use Rattle.plant_store.proofs.BookReturns.{AreTold, counted_all, counts_later, counts_none, counts_rose, one_back_at, one_told, taken_is, taken_rest}
 use Rattle.plant_store.proofs.book_closing.close_books.Goals as goal
 
@@ -11,7 +11,7 @@ loop-book-preserved g c =
     let D = g.S.Dev.Disk in
     let before = c.loop-book.invariant in
     let is : into_iter_items c.loop-book.rest ≡ c.in-Some.book ∷ into_iter_items c.next.new.self = c.in-Some.ensures.items in
-    let many = ap (length {A = Told g.row.S-Dev.Denot}) is in
+    let many = ap (length {A = ToldBook g.row.S-Dev.Denot}) is in
     let left = before.rest ∙ is in
     record {
       rest = taken_rest c.args.books.items c.loop-book.place c.in-Some.book _ left;
@@ -20,9 +20,9 @@ loop-book-preserved g c =
       room = omega (arith, before.room, c.in-Some.ensures.len, c.push_reserved.ensures.capacity, c.push_reserved.ensures.len);
       told = subst (λ l. AreTold D.trace D.ticks D.fault_count c.args.books.items l) (sym c.push_reserved.ensures.items)
           (one_told D.trace D.ticks D.fault_count c.args.books.items c.loop-book.histories.items c.close_book-history.result before.told
-          (λ b. subst (λ k. IsHistoryOf D.trace D.ticks D.fault_count (get_or c.args.books.items k b) c.close_book-history.result)
+          (λ b. subst (λ k. IsHistoryOfBook D.trace D.ticks D.fault_count (get_or c.args.books.items k b) c.close_book-history.result)
           (sym before.as_many)
-          (subst (λ x. IsHistoryOf D.trace D.ticks D.fault_count x c.close_book-history.result)
+          (subst (λ x. IsHistoryOfBook D.trace D.ticks D.fault_count x c.close_book-history.result)
           (sym (taken_is c.args.books.items c.loop-book.place c.in-Some.book b _ left)) c.close_book-history.ensures.history)));
       as_many = omega (
         arith,
@@ -55,7 +55,7 @@ returns-clause-rose g c = λ small i b below some.
     let first = g.S.Store.fault_count c.args.store.now in
     let last = counted_all fault_count c.args.books.items (into_iter_items c.loop-book.rest) first
     (g.S.Store.fault_count c.loop-book.store) _ c.in_default.ensures.variant c.loop-book.invariant.count c.loop-book.invariant.faults in
-    subst (HasRisen first) (sym last) (counts_rose fault_count c.args.books.items first i b small below some)
+    subst (HasFaultCountRisen first) (sym last) (counts_rose fault_count c.args.books.items first i b small below some)
 
 pub returns-clause-faultless : goal.returns-clause-faultless
 returns-clause-faultless g c = λ small none.

@@ -1,6 +1,6 @@
 use Rattle.std.proofs.Common.{◌≡◌, ◌∙◌, ◌∷◌, ap, arith, length, sym}
 use Rattle.std.specs.Vec.Iter.{into_iter_items}
-use Rattle.group_book.specs.Told.{Told}
+use Rattle.group_book.specs.Told.{ToldBook}
 use Rattle.plant_store.specs.BookEndings.{counts_after}
 use Rattle.plant_store.proofs.BookReturns.{one_back_at, taken_rest}
 use Rattle.plant_store.proofs.book_closing.give_back_all.Goals as goal
@@ -10,7 +10,7 @@ loop-book-preserved g c =
     let D = g.S.Dev.Disk in
     let before = c.loop-book.invariant in
     let is : into_iter_items c.loop-book.rest ≡ c.in-Some.book ∷ into_iter_items c.next.new.self = c.in-Some.ensures.items in
-    let many = ap (length {A = Told g.row.S-Dev.Denot}) is in
+    let many = ap (length {A = ToldBook g.row.S-Dev.Denot}) is in
     let left = before.rest ∙ is in
     record {
       rest = taken_rest c.args.books.items c.loop-book.place c.in-Some.book _ left;

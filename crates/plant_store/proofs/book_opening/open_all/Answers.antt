@@ -1,6 +1,6 @@
 use Rattle.std.proofs.Common.{◌∙◌, ◌^◌, ◌<◌, ◌∷◌, [], ap, arith, length, length-append, map, subst, sym}
 use Rattle.std.proofs.lemmas.Result.{err_from_is_err_and}
-use Rattle.group_book.specs.Told.{Told}
+use Rattle.group_book.specs.Told.{ToldBook}
 use Rattle.plant_store.proofs.BookCauses.{counted_since}
 use Rattle.plant_store.proofs.BookNames.{as_many, one_place}
 use Rattle.plant_store.proofs.BookTurns.{IsSoFar, at_place, cause_at, next_at, others_at, others_same, rest_at}
@@ -24,7 +24,7 @@ loop-place-preserved g c =
           (g.S.Store.device_at c.args.store.now) (g.S.Store.device_at c.open_book.new.store) l) (sym c.push_reserved.ensures.items) next;
       count = omega (
         arith,
-        ap (length {A = Told g.row.S-Dev.Denot}) c.push_reserved.ensures.items,
+        ap (length {A = ToldBook g.row.S-Dev.Denot}) c.push_reserved.ensures.items,
         length-append c.loop-place.books.items (c.in_ok-book.book ∷ []),
         before.count,
       );

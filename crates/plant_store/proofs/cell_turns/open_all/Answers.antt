@@ -9,7 +9,7 @@ use Rattle.snapshot_table.specs.Boards.{new_posters}
 use Rattle.snapshot_table.proofs.Places.{length-new_posters}
 use Rattle.crash_recovery.specs.Opening.{StaysSame}
 use Rattle.device_layout.specs.Readings.{IsCause}
-use Rattle.tag_cell.specs.Told.{Told}
+use Rattle.tag_cell.specs.Told.{ToldCell}
 use Rattle.plant_store.specs.TagRefusals.{status_of}
 use Rattle.plant_store.proofs.TagEndings.{of_all}
 use Rattle.plant_store.specs.CellOpenings.{records_opened}
@@ -77,7 +77,7 @@ returns-in-Err-clause-stopped g c =
     (λ n apart. c.open_one.ensures.others n (λ e. apart (e ∙ at.named)))
     (subst (λ (n : List ℕ). StaysSame def (now n) (new n)) at.named c.in-Err.ensures.same)
     (subst (λ (n : List ℕ). IsCause def (now n) c.in-Err.why) at.named c.in-Err.ensures.cause)
-    (counted_since {T = Told g.row.S-Dev.Denot} (g.S.Store.fault_count c.args.store.now) (g.S.Store.fault_count c.loop-def.store)
+    (counted_since {T = ToldCell g.row.S-Dev.Denot} (g.S.Store.fault_count c.args.store.now) (g.S.Store.fault_count c.loop-def.store)
     (g.S.Store.fault_count c.open_one.new.store) c.in-Err.why inv.passed c.in-Err.ensures.counts))
 
 pub returns-then-records-gt-MAX_STORE_RECORDS-clause-others :

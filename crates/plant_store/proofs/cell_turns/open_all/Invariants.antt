@@ -3,7 +3,7 @@ use Rattle.std.specs.Prelude.{IsTrue}
 use Rattle.std.specs.Arc.{arc_value}
 use Rattle.std.specs.Vec.Iter.{into_iter_items, into_iter_len}
 use Rattle.snapshot_table.specs.Boards.{new_posters}
-use Rattle.plant_store.specs.Tags.{AreOthersSame}
+use Rattle.plant_store.specs.Tags.{AreOtherTagsSame}
 use Rattle.plant_store.specs.CellNames.{HasPlaces, texts}
 use Rattle.plant_store.specs.CellOpenings.{records_opened}
 use Rattle.plant_store.proofs.CellHalts.{AreFirst}
@@ -16,7 +16,7 @@ invariant-loop-def g l = record {
   records : l.records ≡ records_opened l.cells.items;
   room : vec_capacity l.cells ≡ vec_capacity l.fn.cells;
   rooms : map (λ c. c.room) l.cells.items ≡ take l.def-index l.rooms;
-  others : AreOthersSame (take l.def-index l.tags) (g.S.Store.device_at l.fn.store) (g.S.Store.device_at l.store);
+  others : AreOtherTagsSame (take l.def-index l.tags) (g.S.Store.device_at l.fn.store) (g.S.Store.device_at l.store);
   places : HasPlaces (g.S.Store.has_place l.store) (take l.def-index (texts l.names));
   kept_places : (n : List ℕ) → IsTrue (g.S.Store.has_place l.fn.store n) → IsTrue (g.S.Store.has_place l.store n);
   posters : into_iter_items l.posters ≡ drop l.def-index (new_posters 0 (arc_value l.board));

@@ -3,13 +3,13 @@ use Rattle.std.specs.Prelude.{IfErr, IfOk, OnErr, OnOk}
 use Rattle.std.proofs.lemmas.List.{length-map}
 use Rattle.trend_num.specs.declared.archive.Rec.{Rec}
 use Rattle.calc_refresh.specs.Sheet.{IsCopy}
-use Rattle.tag_base.specs.Groups.{IsSound}
+use Rattle.tag_base.specs.Groups.{IsSoundGroup}
 use Rattle.plant_store.specs.Groups as group
 use Rattle.plant_store.specs.BookRefusals as groups
 use Rattle.plant_store.specs.BookRefusals.{OfMemory}
 use Rattle.plant_store.specs.BookSteps.{HavePlaces}
 use Rattle.plant_store.proofs.BookTurns.{still}
-use Rattle.plant_store.specs.Openings.{records_in}
+use Rattle.plant_store.specs.Openings.{cell_records_in}
 use Rattle.plant_store.proofs.opening.open_groups.Goals as goal
 
 pub returns-in_default-clause-refused : goal.returns-in_default-clause-refused
@@ -24,8 +24,8 @@ open_books-requires-clause-sound g c κs within =
     let many : length c.args.cells.now ≡ length c.deref-2.result.now =
     sym (length-map c.args.cells.now (λ cell. cell.state.records)) ∙ sym (ap (length {A = List Rec}) lists)
     ∙ length-map c.deref-2.result.now (λ r. r.now) in
-    subst (λ l. All (IsSound (length c.deref-2.result.now)) l) (sym c.deref.ensures.value)
-    (subst (λ n. All (IsSound n) c.args.base.now.groups.items) many c.requires.sound)
+    subst (λ l. All (IsSoundGroup (length c.deref-2.result.now)) l) (sym c.deref.ensures.value)
+    (subst (λ n. All (IsSoundGroup n) c.args.base.now.groups.items) many c.requires.sound)
 
 pub open_books-requires-clause-copied : goal.open_books-requires-clause-copied
 open_books-requires-clause-copied g c κs within =
@@ -36,7 +36,7 @@ returns-clause-opened g c =
     let D = g.S.Dev.Disk in
     let old = g.S.Store.device_at c.args.store.now in
     let lists = ap (map (λ r. r.now)) c.deref-2.ensures.value ∙ c.in-Ok.ensures.records in
-    subst (λ gs. IfOk c.open_books.result (λ books. group.AreBooksOpened D.trace D.ticks D.fault_count gs (records_in c.args.cells.now) old
+    subst (λ gs. IfOk c.open_books.result (λ books. group.AreBooksOpened D.trace D.ticks D.fault_count gs (cell_records_in c.args.cells.now) old
     books.items)) c.deref.ensures.value
     (subst (λ l. IfOk c.open_books.result (λ books. group.AreBooksOpened D.trace D.ticks D.fault_count c.deref.result.now l old
     books.items)) lists c.open_books.ensures.opened)
@@ -56,7 +56,7 @@ returns-clause-refused g c =
     let before = g.S.Store.fault_count c.args.store.now in
     let now = g.S.Store.fault_count c.open_books.new.store in
     let lists = ap (map (λ r. r.now)) c.deref-2.ensures.value ∙ c.in-Ok.ensures.records in
-    subst (λ gs. IfErr c.open_books.result (groups.IsRefusal gs (records_in c.args.cells.now) old before now)) c.deref.ensures.value
+    subst (λ gs. IfErr c.open_books.result (groups.IsRefusal gs (cell_records_in c.args.cells.now) old before now)) c.deref.ensures.value
     (subst (λ l. IfErr c.open_books.result (groups.IsRefusal c.deref.result.now l old before now)) lists c.open_books.ensures.refused)
 
 pub returns-clause-any_moment : goal.returns-clause-any_moment

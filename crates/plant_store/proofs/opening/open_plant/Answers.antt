@@ -4,20 +4,20 @@ use Rattle.std.specs.declared.alloc.Global.{Global}
 use Rattle.std.proofs.lemmas.List.Elements.{All-weaker}
 use Rattle.std.proofs.lemmas.Result.{err_from_is_err_and}
 use Rattle.trend_num.specs.declared.tag_def.TagDef.{TagDef}
-use Rattle.tag_base.specs.Groups.{IsSound}
-use Rattle.tag_cell.specs.Told.{Told}
+use Rattle.tag_base.specs.Groups.{IsSoundGroup}
+use Rattle.tag_cell.specs.Told.{ToldCell}
 use Rattle.plant_store.specs.TagRefusals as tags
 use Rattle.plant_store.specs.Tags as tag
 use Rattle.plant_store.proofs.TagDevices.{still}
 use Rattle.plant_store.specs.CellClosings.{AreGivenBack}
-use Rattle.plant_store.specs.CellNames.{AreApart, HasPlaces, names_of, texts}
+use Rattle.plant_store.specs.CellNames.{AreApart, HasPlaces, device_names_of, texts}
 use Rattle.plant_store.specs.CellOpenings.{AreCellsOpened}
 use Rattle.plant_store.specs.Groups as group
 use Rattle.plant_store.specs.BookRefusals as groups
 use Rattle.plant_store.specs.BookSteps.{HavePlaces}
 use Rattle.plant_store.proofs.BookDevices.{books_before, same_untouched}
 use Rattle.plant_store.proofs.BookTurns.{still as still_group}
-use Rattle.plant_store.specs.Openings.{OfTags, records_in}
+use Rattle.plant_store.specs.Openings.{OfTags, cell_records_in}
 use Rattle.plant_store.proofs.Endings.{count_kept, given_up_counts, given_up_groups, given_up_refused, others_kept, rest_same, tags_count, tags_kept}
 use Rattle.plant_store.proofs.Labels.{groups_same}
 use Rattle.plant_store.proofs.opening.open_plant.Goals as goal
@@ -37,7 +37,7 @@ returns-in_default-clause-same_groups g c = λ k d there. still_group (get_or c.
 
 pub open_cells-requires-clause-names : goal.open_cells-requires-clause-names
 open_cells-requires-clause-names g c κs within =
-    ap texts c.deref-2.ensures.value ∙ c.requires.shelf.tag_names_are ∙ ap names_of (sym c.deref.ensures.value)
+    ap texts c.deref-2.ensures.value ∙ c.requires.shelf.tag_names_are ∙ ap device_names_of (sym c.deref.ensures.value)
 
 pub returns-in_err-cells-clause-refused : goal.returns-in_err-cells-clause-refused
 returns-in_err-cells-clause-refused g c =
@@ -76,11 +76,11 @@ pub open_groups-requires-clause-sound : goal.open_groups-requires-clause-sound
 open_groups-requires-clause-sound g c κs within =
     let many : length c.args.base.now.tags.items ≡ length c.deref-4.result.now = omega (
       arith,
-      ap (length {A = Told g.row.S-Dev.Denot}) c.deref-4.ensures.value,
+      ap (length {A = ToldCell g.row.S-Dev.Denot}) c.deref-4.ensures.value,
       c.in_ok-cells.ensures.as_many,
       ap (length {A = TagDef}) c.deref.ensures.value,
     ) in
-    subst (λ n. All (IsSound n) c.args.base.now.groups.items) many c.requires.sound
+    subst (λ n. All (IsSoundGroup n) c.args.base.now.groups.items) many c.requires.sound
 
 pub open_groups-requires-clause-names : goal.open_groups-requires-clause-names
 open_groups-requires-clause-names g c κs within =
@@ -95,10 +95,10 @@ returns-in-Ok-open_groups-clause-groups g c =
     let books = c.in-Ok-open_groups.books.items in
     let old = g.S.Store.device_at c.args.store.now in
     let mid = g.S.Store.device_at c.open_cells.new.store in
-    books_before gs (records_in cells) old mid
+    books_before gs (cell_records_in cells) old mid
     (groups_same ts old mid (subst (λ l. tag.AreOthersSame l old mid) c.deref.ensures.value c.open_cells.ensures.others))
     D.trace D.ticks D.fault_count books
-    (subst (λ l. group.AreBooksOpened D.trace D.ticks D.fault_count gs (records_in l) mid books) c.deref-4.ensures.value
+    (subst (λ l. group.AreBooksOpened D.trace D.ticks D.fault_count gs (cell_records_in l) mid books) c.deref-4.ensures.value
     c.in-Ok-open_groups.ensures.opened)
 
 pub returns-in-Ok-open_groups-clause-places : goal.returns-in-Ok-open_groups-clause-places
@@ -171,7 +171,7 @@ returns-clause-refused g c =
     (subst (λ l. tag.AreOthersSame l old mid) c.deref.ensures.value c.open_cells.ensures.others) passed
     (count_kept D.trace D.ticks D.fault_count ts old cells before first last now why opened passed c.in-Err.ensures.counts
     c.close_cells.ensures.counts)
-    (subst (λ l. groups.IsRefusal gs (records_in l) mid first last why) c.deref-4.ensures.value c.in-Err.ensures.refused)
+    (subst (λ l. groups.IsRefusal gs (cell_records_in l) mid first last why) c.deref-4.ensures.value c.in-Err.ensures.refused)
 
 pub returns-clause-same_tags : goal.returns-clause-same_tags
 returns-clause-same_tags g c =

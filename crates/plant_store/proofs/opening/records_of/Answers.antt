@@ -3,7 +3,7 @@ use Rattle.std.proofs.lemmas.Grind.{common_steps}
 use Rattle.std.proofs.lemmas.List.{map_push, take_more}
 use Rattle.std.proofs.lemmas.List.Elements.{All-push}
 use Rattle.calc_refresh.specs.Sheet.{IsCopy}
-use Rattle.plant_store.specs.Openings.{records_in}
+use Rattle.plant_store.specs.Openings.{cell_records_in}
 use Rattle.plant_store.proofs.opening.records_of.Goals as goal
 
 pub loop-cell-preserved : goal.loop-cell-preserved
@@ -18,8 +18,8 @@ loop-cell-preserved g c =
     record {
       lists = ap (map (λ r. r.now)) grown ∙ map_push (λ r. r.now) old new
           ∙ ap (λ l. l ++ new.now ∷ []) c.loop-cell.invariant.lists
-          ∙ ap (λ r. records_in (take i cells) ++ r ∷ []) is
-          ∙ sym (ap records_in (take_more cells i cell c.loop-cell-test.true) ∙ map_push (λ t. t.state.records) (take i cells) _);
+          ∙ ap (λ r. cell_records_in (take i cells) ++ r ∷ []) is
+          ∙ sym (ap cell_records_in (take_more cells i cell c.loop-cell-test.true) ∙ map_push (λ t. t.state.records) (take i cells) _);
       copied = subst (All (λ r. IsCopy r.now)) (sym grown)
           (All-push (λ r. IsCopy r.now) old new c.loop-cell.invariant.copied
           (record { short = c.recs.ensures.short; range = c.recs.ensures.range }));

@@ -4,10 +4,10 @@ use Rattle.disk_model.specs.Moments.{During}
 use Rattle.disk_model.specs.Traces.{Trace}
 use Rattle.calc_refresh.specs.declared.definition.GroupDefParts.{GroupDefParts}
 use Rattle.calc_refresh.specs.Lists.{lists_of}
-use Rattle.group_book.specs.Openings.{StandsForGroup, StaysSame}
+use Rattle.group_book.specs.Openings.{StandsForGroup, BookStaysSame}
 use Rattle.group_book.specs.Tapes.{cut}
 use Rattle.group_book.specs.Told.{trace_of}
-use Rattle.plant_store.specs.Groups.{parts_of, records_of, text_of}
+use Rattle.plant_store.specs.Groups.{group_parts_of, input_records_of, group_definition_text}
 use Rattle.plant_store.proofs.BookTurns.{same_of, still, untouched}
 use Rattle.plant_store.proofs.single_book.open_book.Goals as goal
 
@@ -25,20 +25,20 @@ returns-in-Ok-load-clause-opened g c =
     let told = c.in-Ok-device.ensures in
     let is = c.in-Ok-load.ensures in
     let b = c.in-Ok-load.book in
-    let text : c.deref.result.now ≡ text_of group = c.deref.ensures.value ∙ made.text in
-    let lists : lists_of c.deref-2.result.now ≡ records_of (map (λ r. r.now) c.args.records.now) group =
+    let text : c.deref.result.now ≡ group_definition_text group = c.deref.ensures.value ∙ made.text in
+    let lists : lists_of c.deref-2.result.now ≡ input_records_of (map (λ r. r.now) c.args.records.now) group =
     ap lists_of c.deref-2.ensures.value ∙ made.recovered in
     let vs = b.opening.versions.items in
     let rows = lists_of b.opening.rows.items in
-    let copies : b.sheet.copies ≡ cut vs (records_of (map (λ r. r.now) c.args.records.now) group) = is.copies ∙ ap (cut vs) lists in
+    let copies : b.sheet.copies ≡ cut vs (input_records_of (map (λ r. r.now) c.args.records.now) group) = is.copies ∙ ap (cut vs) lists in
     record {
       group = is.group;
       def = is.def ∙ made.def;
       text = is.text ∙ text;
       tags = is.tags ∙ made.tags;
       opening = record {
-        stood = subst (λ (o : Option Trace). Shows o (StandsForGroup (text_of group) (parts_of group) vs rows)) told.told
-            (subst (λ (t : List ℕ). Shows (D.trace c.in-Ok-device.dev) (StandsForGroup t (parts_of group) vs rows)) text
+        stood = subst (λ (o : Option Trace). Shows o (StandsForGroup (group_definition_text group) (group_parts_of group) vs rows)) told.told
+            (subst (λ (t : List ℕ). Shows (D.trace c.in-Ok-device.dev) (StandsForGroup t (group_parts_of group) vs rows)) text
             (subst (λ (d : GroupDefParts). Shows (D.trace c.in-Ok-device.dev) (StandsForGroup c.deref.result.now d vs rows)) made.def
             is.opened));
         within = sym (is.versions ∙ ap (map length) copies);
@@ -53,9 +53,9 @@ returns-in-Ok-load-clause-opened g c =
       usable = is.usable;
       device = is.device;
       faultless = is.faultless ∙ told.faultless;
-      same = subst (λ (o : Option Trace). During o (trace_of D.trace b.dev) (StaysSame (text_of group) (parts_of group) o)) told.told
-          (subst (λ (t : List ℕ). During (D.trace c.in-Ok-device.dev) (trace_of D.trace b.dev) (StaysSame t (parts_of group) (D.trace c.in-Ok-device.dev))) text
+      same = subst (λ (o : Option Trace). During o (trace_of D.trace b.dev) (BookStaysSame (group_definition_text group) (group_parts_of group) o)) told.told
+          (subst (λ (t : List ℕ). During (D.trace c.in-Ok-device.dev) (trace_of D.trace b.dev) (BookStaysSame t (group_parts_of group) (D.trace c.in-Ok-device.dev))) text
           (subst (λ (d : GroupDefParts). During (D.trace c.in-Ok-device.dev) (trace_of D.trace b.dev)
-          (StaysSame c.deref.result.now d (D.trace c.in-Ok-device.dev))) made.def
+          (BookStaysSame c.deref.result.now d (D.trace c.in-Ok-device.dev))) made.def
           (same_of D.trace b.dev (D.trace c.in-Ok-device.dev) _ is.device is.any_moment)));
     }

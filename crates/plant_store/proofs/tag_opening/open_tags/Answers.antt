@@ -4,7 +4,7 @@ use Rattle.std.proofs.lemmas.List.Sums.{sum_by_push}
 use Rattle.trend_num.specs.declared.archive.Rec.{Rec}
 use Rattle.std.specs.declared.alloc.Global.{Global}
 use Rattle.tag_core.specs.Core.{Core}
-use Rattle.plant_store.specs.Tags.{records_in}
+use Rattle.plant_store.specs.Tags.{tag_records_in}
 use Rattle.device_layout.specs.declared.failure.OpenNo.{OpenNo}
 use Rattle.device_layout.specs.declared.failure.OpenNo.TheVariants.{DeviceFault}
 use Rattle.disk_model.specs.Calls.{CountsFault}
@@ -100,7 +100,7 @@ loop-def-init g c = record {
       (g.S.Store.device_at c.args.store.now))
       (sym c.new-cores.ensures.items) (begun c.args.tags.now (g.S.Store.device_at c.args.store.now));
   count = ap (length {A = Core}) c.new-cores.ensures.items;
-  records = sym (ap records_in c.new-cores.ensures.items);
+  records = sym (ap tag_records_in c.new-cores.ensures.items);
   few = omega arith;
   faults = λ small. refl;
 }
@@ -122,7 +122,7 @@ loop-def-preserved g c = record {
   );
   records = omega (
     arith,
-    ap records_in c.in-Ok-push.ensures.items,
+    ap tag_records_in c.in-Ok-push.ensures.items,
     ap (length {A = Rec}) c.recs.ensures.value,
     sum_by_push (λ (core : Core). length core.state.records) c.loop-def.cores.items c.in-Ok.core,
     c.loop-def.invariant.records,

@@ -1,6 +1,6 @@
 use Rattle.std.proofs.Common.{◌≡◌, ◌^◌, ◌<◌, ◌≤◌, length}
 use Rattle.trend_num.specs.Limits.{most_stored}
-use Rattle.plant_store.specs.Tags.{records_in}
+use Rattle.plant_store.specs.Tags.{tag_records_in}
 use Rattle.plant_store.proofs.TagTurns.{IsSoFar}
 use Rattle.plant_store.proofs.tag_opening.open_tags.Given as goal
 
@@ -9,7 +9,7 @@ invariant-loop-def g l = record {
   so_far : IsSoFar l.tags l.def-index (g.S.Store.device_at l.fn.store)
       (g.S.Store.device_at l.store) l.cores.items;
   count : length l.cores.items ≡ l.def-index;
-  records : l.records ≡ records_in l.cores.items;
+  records : l.records ≡ tag_records_in l.cores.items;
   few : l.records ≤ most_stored;
   faults : g.S.Store.fault_count l.fn.store < 2 ^ 64
       → g.S.Store.fault_count l.store ≡ g.S.Store.fault_count l.fn.store;

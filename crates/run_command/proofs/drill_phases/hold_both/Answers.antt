@@ -5,7 +5,7 @@ use Rattle.plant_status.specs.declared.status.Status.{Status}
 use Rattle.run_command.specs.Refusals.{IsOfOpening}
 use Rattle.run_command.specs.Runs.{IsUndone}
 use Rattle.run_command.specs.Sessions.{OfNone}
-use Rattle.run_command.specs.Steps.{IsMade}
+use Rattle.run_command.specs.Steps.{AreStepsMade}
 use Rattle.run_command.proofs.Continued.{books_on, cells_on, inputs_continued}
 use Rattle.run_command.proofs.Results.{err_weaker}
 use Rattle.run_command.specs.DrillPhases.{OfFirst, OfSecond}
@@ -33,7 +33,7 @@ pub returns-in-Ok-clause-undone : goal.returns-in-Ok-clause-undone
 returns-in-Ok-clause-undone g c = err_weaker c.go_on.result.answer
     (λ why is. OfSecond c.hold_phase-cells.result.cells.items c.hold_phase-cells.result.books.items
     c.hold_phase-cells.result.notes.items
-    (subst (λ (r : Result (Unit {0}) Status). OnOk r (IsMade c.args.first.now c.hold_phase-cells.result.cells.items
+    (subst (λ (r : Result (Unit {0}) Status). OnOk r (AreStepsMade c.args.first.now c.hold_phase-cells.result.cells.items
     c.hold_phase-cells.result.books.items)) c.in-Ok.is c.hold_phase-cells.ensures.made)
     is)
     c.go_on.ensures.undone

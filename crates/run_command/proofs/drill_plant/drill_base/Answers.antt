@@ -2,7 +2,7 @@ use Rattle.std.proofs.Common.{◌≡◌, ◌≢◌, All, AllPairs, length, sym, 
 use Rattle.std.proofs.lemmas.List.Elements.{All-nil, All-push, All-same}
 use Rattle.trend_num.specs.Ranges.{TuningInRange}
 use Rattle.tag_base.specs.declared.definition.GroupDef.{GroupDef}
-use Rattle.tag_base.specs.Groups.{IsSound}
+use Rattle.tag_base.specs.Groups.{IsSoundGroup}
 use Rattle.run_command.proofs.DrillNaming.{as_many_tags, distinct_tags}
 use Rattle.run_command.proofs.DrillSound.{sound_group, tuned_tags}
 use Rattle.run_command.proofs.drill_plant.drill_base.Goals as goal
@@ -21,12 +21,12 @@ returns-clause-tuned c = All-same (λ def. TuningInRange def.tuning) _ _ c.in_ok
 pub returns-clause-sound : goal.returns-clause-sound
 returns-clause-sound c =
     let tags = c.args.tags in
-    let Sound : GroupDef → Type 0 = λ g. IsSound tags g in
+    let Sound : GroupDef → Type 0 = λ g. IsSoundGroup tags g in
     let many = ap length c.in_ok-defs.ensures ∙ as_many_tags tags in
     let group = sound_group tags c.in_ok-group.group c.requires.some c.requires.few c.in_ok-group.ensures in
     let none = All-same Sound _ _ c.new-groups.ensures.items (All-nil Sound) in
     let all = All-same Sound _ _ c.in_ok-push.ensures.items (All-push Sound _ _ none group) in
-    subst (λ n. All (IsSound n) c.push.new.self.items) (sym many) all
+    subst (λ n. All (IsSoundGroup n) c.push.new.self.items) (sym many) all
 
 pub returns-clause-distinct : goal.returns-clause-distinct
 returns-clause-distinct c =

@@ -1,7 +1,7 @@
 use Rattle.std.proofs.Common.{◌<◌, ◌∙◌, length, ap, sym, subst, inl, inr, arith, get_or, set}
 use Rattle.std.proofs.lemmas.Bool.{cases_eq}
 use Rattle.std.proofs.lemmas.List.{get_or-set_same, get_or-set_other}
-use Rattle.tag_cell.specs.Told.{waits}
+use Rattle.tag_cell.specs.Told.{takes_waiting}
 use Rattle.session_audit.specs.Cells.{IsCommitEntry}
 use Rattle.session_audit.specs.CellRefusals.{IsCellRefusal}
 use Rattle.session_audit.specs.Agendas.{ask_item, phase_item}
@@ -30,9 +30,9 @@ loop-tag-preserved g c =
     let within : tag < length cells = omega (arith, c.loop-tag-test.true, c.loop-tag.invariant.longer.as_many) in
     record {
       none_waits = λ i d below. elim (cases_eq i tag) [
-        | inl same ↦ ap (λ n. waits (get_or (set cells tag new) n d)) same
-            ∙ (ap waits (get_or-set_same cells tag new d within) ∙ c.in_default.ensures.none_waits)
-        | inr differ ↦ ap waits (get_or-set_other cells tag i new d differ)
+        | inl same ↦ ap (λ n. takes_waiting (get_or (set cells tag new) n d)) same
+            ∙ (ap takes_waiting (get_or-set_same cells tag new d within) ∙ c.in_default.ensures.none_waits)
+        | inr differ ↦ ap takes_waiting (get_or-set_other cells tag i new d differ)
             ∙ c.loop-tag.invariant.none_waits i d (omega (arith, below, differ))
       ];
       longer = longer_set IsCommitEntry c.args.cells.now cells tag new c.index-cells-tag.result within

@@ -1,6 +1,6 @@
 use Rattle.std.proofs.Common.{◌+◌, ◌∙◌, sym, subst, take}
 use Rattle.calc_refresh.specs.Lists.{lists_of}
-use Rattle.session_report.specs.Places.{HasShape, IsFilled}
+use Rattle.session_report.specs.Places.{HasPlaceOfEach, ArePlacesFilled}
 use Rattle.session_report.proofs.Filling.{filled_answer, filled_other, none_of}
 use Rattle.session_report.proofs.places.fill.Goals.{in-Some, in_default}
 use Rattle.session_report.proofs.places.fill.Goals as goal
@@ -23,14 +23,14 @@ loop-place-preserved g c =
           let filled = filled_answer asker readers its tape i e old now there is before.filled w.in-Some.by
           (lists_of w.keep.new.table.items) (sym c.asked_by.ensures ∙ w.in-Some.is) w.keep.ensures.kept in
           record {
-            filled = subst (λ t. IsFilled asker readers its (take (i + 1) tape) old (lists_of t.items)) (sym w.table-is) filled;
-            shape = subst (λ t. HasShape readers (lists_of t.items)) (sym w.table-is) w.keep.ensures.shape;
+            filled = subst (λ t. ArePlacesFilled asker readers its (take (i + 1) tape) old (lists_of t.items)) (sym w.table-is) filled;
+            shape = subst (λ t. HasPlaceOfEach readers (lists_of t.items)) (sym w.table-is) w.keep.ensures.shape;
           }
       | in_default w ↦
           let none = none_of c.asked_by.result w.in_default.not-Some in
           let filled = filled_other asker readers its tape i e old now there is before.filled (sym c.asked_by.ensures ∙ none) in
           record {
-            filled = subst (λ t. IsFilled asker readers its (take (i + 1) tape) old (lists_of t.items)) (sym w.table-is) filled;
-            shape = subst (λ t. HasShape readers (lists_of t.items)) (sym w.table-is) before.shape;
+            filled = subst (λ t. ArePlacesFilled asker readers its (take (i + 1) tape) old (lists_of t.items)) (sym w.table-is) filled;
+            shape = subst (λ t. HasPlaceOfEach readers (lists_of t.items)) (sym w.table-is) before.shape;
           }
     ]

@@ -4,7 +4,7 @@ use Rattle.calc_refresh.specs.Lists.{lists_of}
 use Rattle.group_book.specs.declared.history.GroupHistory.{GroupHistory}
 use Rattle.plant_status.specs.declared.unit.Unit.TheVariants.{Group}
 use Rattle.session_report.specs.Askers.{group_asker}
-use Rattle.session_report.specs.Places.{IsFilled, place_of, query_in}
+use Rattle.session_report.specs.Places.{ArePlacesFilled, answer_place_of, query_in}
 use Rattle.session_report.proofs.Filling.{groups_more}
 use Rattle.session_report.proofs.places.fill_groups.Goals as goal
 
@@ -19,7 +19,7 @@ loop-group-preserved c =
     record {
       places = λ tags are. groups_more readers tags c.args.groups.now i group old new c.loop-group-test.true (sym c.index-groups-group.is)
           (c.loop-group.invariant.places tags are)
-          (subst (λ t. IsFilled group_asker readers (Group i) t old new) tape c.fill.ensures.filled);
+          (subst (λ t. ArePlacesFilled group_asker readers (Group i) t old new) tape c.fill.ensures.filled);
       shape = c.fill.ensures.shape;
     }
 
@@ -27,5 +27,5 @@ pub returns-clause-places : goal.returns-clause-places
 returns-clause-places c = λ tags are reader k.
     let groups = c.args.groups.now in
     c.loop-group.invariant.places tags are reader k
-    ∙ ap (λ l. place_of tags l reader k (query_in (lists_of c.args.readers.now) reader k))
+    ∙ ap (λ l. answer_place_of tags l reader k (query_in (lists_of c.args.readers.now) reader k))
     (take_all c.loop-group.group groups (omega (arith, c.loop-group-test.false, c.loop-group.auto)))

@@ -3,7 +3,7 @@ use Rattle.tag_cell.specs.declared.history.TagHistory.{TagHistory}
 use Rattle.calc_refresh.specs.Lists.{lists_of}
 use Rattle.plant_status.specs.declared.unit.Unit.TheVariants.{Tag}
 use Rattle.session_report.specs.Askers.{tag_asker}
-use Rattle.session_report.specs.Places.{IsFilled}
+use Rattle.session_report.specs.Places.{ArePlacesFilled}
 use Rattle.session_report.proofs.Filling.{tags_more}
 use Rattle.session_report.proofs.places.fill_tags.Goals as goal
 
@@ -17,6 +17,6 @@ loop-tag-preserved c =
     let tape : c.as_slice.result.now ≡ tag.tape.items = c.as_slice.ensures.value ∙ ap (λ (h : TagHistory). h.tape.items) (sym c.index-tags-tag.is) in
     record {
       places = tags_more readers c.args.tags.now i tag old new c.loop-tag-test.true (sym c.index-tags-tag.is) c.loop-tag.invariant.places
-          (subst (λ t. IsFilled tag_asker readers (Tag i) t old new) tape c.fill.ensures.filled);
+          (subst (λ t. ArePlacesFilled tag_asker readers (Tag i) t old new) tape c.fill.ensures.filled);
       shape = c.fill.ensures.shape;
     }

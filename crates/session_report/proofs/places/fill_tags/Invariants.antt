@@ -1,10 +1,10 @@
 use Rattle.std.proofs.Common.{[], take}
 use Rattle.calc_refresh.specs.Lists.{lists_of}
-use Rattle.session_report.specs.Places.{ArePlaces, HasShape}
+use Rattle.session_report.specs.Places.{ArePlaces, HasPlaceOfEach}
 use Rattle.session_report.proofs.places.fill_tags.Given as goal
 
 abbrev pub invariant-loop-tag : goal.invariant-loop-tag
 invariant-loop-tag l = record {
   places : ArePlaces (lists_of l.readers) (take l.tag l.tags) [] (lists_of l.table.items);
-  shape : HasShape (lists_of l.readers) (lists_of l.table.items);
+  shape : HasPlaceOfEach (lists_of l.readers) (lists_of l.table.items);
 }

@@ -2,7 +2,7 @@ use Rattle.std.proofs.Common.{◌≡◌, [], set, ◌<◌, ◌+◌, ◌&&◌, No
 use Rattle.std.specs.Option.{option_or}
 use Rattle.std.proofs.lemmas.List.{length-map, length-set}
 use Rattle.calc_refresh.specs.Lists.{lists_of}
-use Rattle.session_report.specs.Places.{HasShape, kept_first, place_in, query_in}
+use Rattle.session_report.specs.Places.{HasPlaceOfEach, kept_first, place_in, query_in}
 use Rattle.session_report.proofs.Keeping.{kept_some, lists_kept}
 use Rattle.session_report.proofs.Tables.{HasShape_set}
 use Rattle.session_report.proofs.places.keep.Goals as goal
@@ -28,6 +28,6 @@ returns-in-Some-clause-shape c =
     let within : by.reader < length vs = omega (arith, about.reader, c.requires.shape.as_many, length-map vs (λ v. v.items)) in
     let row = get_or (lists_of vs) by.reader [] in
     let place = option_or (place_in (lists_of vs) by.reader n) (Some c.args.place) in
-    subst (HasShape (lists_of c.args.readers.now))
+    subst (HasPlaceOfEach (lists_of c.args.readers.now))
     (sym (lists_kept vs by c.args.place n c.index_mut.result.now c.keep_first.new.places within c.index_mut.ensures.value c.keep_first.ensures))
     (HasShape_set (lists_of c.args.readers.now) (lists_of vs) by.reader (set row n place) c.requires.shape (length-set row n place))

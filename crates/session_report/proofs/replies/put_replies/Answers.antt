@@ -4,7 +4,7 @@ use Rattle.std.specs.List.{slice_get}
 use Rattle.std.proofs.lemmas.List.{get_or_default, length-map}
 use Rattle.value_rows.specs.declared.asked.Query.{Query}
 use Rattle.calc_refresh.specs.Lists.{lists_of}
-use Rattle.session_report.specs.Places.{place_of}
+use Rattle.session_report.specs.Places.{answer_place_of}
 use Rattle.session_report.specs.Report.{replies_to}
 use Rattle.session_report.proofs.Keeping.{as_many_found, found_at, list_at}
 use Rattle.session_report.proofs.Placed.{text_more}
@@ -32,9 +32,9 @@ put_reader-requires-clause-found c = λ k.
     ap (λ l. get_or l k None) c.as_slice-found.ensures.value
     ∙ found_at c.args.readers.now c.in_ok-places.places.items i queries found c.in_ok-places.ensures.shape c.loop-reader-test.true
     c.index-readers-reader.is is_row c.deref.result.now groups c.in_ok-places.ensures.places k
-    ∙ ap (λ ts. place_of ts groups i k (slice_get queries.items k)) c.deref.ensures.value
-    ∙ ap (λ gs. place_of c.args.session.now.tags.items gs i k (slice_get queries.items k)) c.deref-2.ensures.value
-    ∙ ap (λ l. place_of c.args.session.now.tags.items c.args.session.now.groups.items i k (slice_get l k)) (sym c.as_slice-queries.ensures.value)
+    ∙ ap (λ ts. answer_place_of ts groups i k (slice_get queries.items k)) c.deref.ensures.value
+    ∙ ap (λ gs. answer_place_of c.args.session.now.tags.items gs i k (slice_get queries.items k)) c.deref-2.ensures.value
+    ∙ ap (λ l. answer_place_of c.args.session.now.tags.items c.args.session.now.groups.items i k (slice_get l k)) (sym c.as_slice-queries.ensures.value)
 
 pub put_reader-requires-clause-held : goal.put_reader-requires-clause-held
 put_reader-requires-clause-held c = λ k d below.

@@ -6,7 +6,7 @@ use Rattle.trend_num.specs.declared.point.Point.{Point}
 use Rattle.tag_cell.specs.declared.history.TagHistory.{TagHistory}
 use Rattle.calc_refresh.specs.Lists.{lists_of}
 use Rattle.session_report.specs.Places.{is_snapped}
-use Rattle.session_report.specs.Report.{placed}
+use Rattle.session_report.specs.Report.{placed_answers}
 use Rattle.session_report.specs.Snaps.{held_points}
 use Rattle.session_report.proofs.Placed.{placed_more}
 use Rattle.session_report.proofs.snap.held_lists.Goals as goal
@@ -27,5 +27,5 @@ loop-place-preserved c =
     ∙ ap (λ t. cond (is_snapped readers i) (held_points t) []) tape in
     let grown : c.push.new.self.items ≡ c.loop-place.lists.items ++ new ∷ [] = grind (arith, common_steps) in
     ap lists_of grown ∙ map_push items c.loop-place.lists.items new ∙ ap (λ l. l ++ new.items ∷ []) c.loop-place.invariant
-    ∙ ap (λ p. placed points 0 (take i tags) ++ p ∷ []) (is ∙ ap (points i) c.index-tags-place.is)
+    ∙ ap (λ p. placed_answers points 0 (take i tags) ++ p ∷ []) (is ∙ ap (points i) c.index-tags-place.is)
     ∙ sym (placed_more points tags i tag c.loop-place-test.true)

@@ -1,7 +1,7 @@
 use Rattle.std.proofs.Common.{◌≡◌, ◌∙◌, ◌++◌, ◌∷◌, ◌+◌, [], map, length, All, ap, sym, subst, arith, append_assoc, FitsSigned, w32, to_z, of_z, to_z-of_z}
 use Rattle.std.proofs.lemmas.Grind.{common_steps}
 use Rattle.std.proofs.lemmas.List.Elements.{All-push}
-use Rattle.shift_calendar.specs.Windows.{shift_at, below, AreWindows, IsTimed}
+use Rattle.shift_calendar.specs.Windows.{shift_at, below, AreWindows, IsWindowTimed}
 use Rattle.shift_calendar.proofs.Lists.{AreWindows-push, shifts-more}
 use Rattle.shift_calendar.proofs.window.push_day.Goals as goal
 
@@ -37,6 +37,6 @@ loop-place-preserved c =
           (subst (AreWindows zone ((done ++ earlier) ++ shift ∷ [])) (sym grown)
           (AreWindows-push zone (done ++ earlier) c.loop-place.windows.items shift window (c.loop-place.invariant.added done all)
           c.window_of.ensures.window));
-      timed = λ all. subst (All IsTimed) (sym grown)
-          (All-push IsTimed c.loop-place.windows.items window (c.loop-place.invariant.timed all) c.window_of.ensures.timed);
+      timed = λ all. subst (All IsWindowTimed) (sym grown)
+          (All-push IsWindowTimed c.loop-place.windows.items window (c.loop-place.invariant.timed all) c.window_of.ensures.timed);
     }

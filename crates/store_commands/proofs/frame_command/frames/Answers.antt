@@ -6,10 +6,10 @@ use Rattle.trend_num.specs.declared.value.CalcValue.{CalcValue}
 use Rattle.disk_model.specs.Calls.{Rose}
 use Rattle.calc_check.specs.Group.{Calculation, names_of}
 use Rattle.tag_core.specs.Core.{Core}
-use Rattle.tag_base.specs.Groups.{IsSound}
+use Rattle.tag_base.specs.Groups.{IsSoundGroup}
 use Rattle.tag_base.specs.declared.definition.GroupDef.{GroupDef}
 use Rattle.plant_status.specs.declared.unit.Unit.TheVariants.{Group, Tag}
-use Rattle.plant_store.specs.Groups.{AreNamesOf, device_name, records_of, trace_at}
+use Rattle.plant_store.specs.Groups.{AreNamesOf, device_name, input_records_of, group_trace_at}
 use Rattle.plant_store.proofs.BookNames.{as_many, named_at}
 use Rattle.plant_store.proofs.BookTurns.{still}
 use Rattle.store_commands.specs.GroupRows.{tag_records}
@@ -17,7 +17,7 @@ use Rattle.plant_store.proofs.OpenedBases.{tag_is_no_fault}
 use Rattle.store_commands.proofs.Stores.{groups_same, left_after}
 use Rattle.store_commands.specs.FrameCommands.{OfGroup, OfName, OfTag}
 use Rattle.store_commands.specs.FrameLines.{TellsFrames}
-use Rattle.store_commands.specs.FrameRows.{AreRows, IsRowsRefusal}
+use Rattle.store_commands.specs.FrameRows.{AreFrameRows, IsFrameRowsRefusal}
 use Rattle.store_commands.proofs.FrameEnds.{have_stayed, refusal_before, rows_before, rows_no_read, stayed_at, tags_same}
 use Rattle.store_commands.proofs.FramePlaces.{named_group}
 use Rattle.store_commands.proofs.frame_command.frames.Goals as goal
@@ -98,8 +98,8 @@ rows_of-requires-clause-sound g c κs within =
     let place = c.in_ok-place.place in
     let placed = c.in_ok-place.ensures.placed in
     let group = c.index.result.now in
-    subst (λ n. IsSound n group) (sym (ap (length {A = Core}) c.deref-2.ensures.value ∙ c.in_ok-cores.ensures.as_many))
-    (subst (λ (x : GroupDef). IsSound (length base.tags.items) x) (sym c.index.ensures)
+    subst (λ n. IsSoundGroup n group) (sym (ap (length {A = Core}) c.deref-2.ensures.value ∙ c.in_ok-cores.ensures.as_many))
+    (subst (λ (x : GroupDef). IsSoundGroup (length base.tags.items) x) (sym c.index.ensures)
     (c.in_ok-base.ensures.sound place.group group (slice_get_within base.groups.items place.group placed.0 placed.1.there)))
 
 pub rows_of-requires-clause-place : goal.rows_of-requires-clause-place
@@ -138,10 +138,10 @@ returns-in_err-rows-clause-refused g c =
     let p = err_from_is_err_and c.from_residual-in_err-rows.result c.from_residual-in_err-rows.ensures.1 in
     rw (p.1, p.2) (OfGroup base group place.group place.calc cores
     (record { read = c.in_ok-base.ensures.base; opened = c.in_ok-cores.ensures.opened }) named
-    (refusal_before place.group group (records_of (tag_records cores) group) (trace_at old group) (trace_at mid group)
+    (refusal_before place.group group (input_records_of (tag_records cores) group) (group_trace_at old group) (group_trace_at mid group)
     (g.S.Store.fault_count c.args.store.now) count now c.in_err-rows.field-0.0
     (groups_same base.tags.items old mid c.open_base.ensures.others group) c.in_ok-cores.ensures.counts
-    (subst (λ (l : List Core). IsRowsRefusal place.group group (records_of (tag_records l) group) (trace_at mid group) count now
+    (subst (λ (l : List Core). IsFrameRowsRefusal place.group group (input_records_of (tag_records l) group) (group_trace_at mid group) count now
     c.in_err-rows.field-0.0) c.deref-2.ensures.value c.in_err-rows.ensures.refused)))
 
 pub returns-in_err-rows-clause-kept : goal.returns-in_err-rows-clause-kept
@@ -173,7 +173,7 @@ tell_frames-requires-clause-period g c =
     let place = c.in_ok-place.place in
     let placed = c.in_ok-place.ensures.placed in
     let group = c.index.result.now in
-    let sound = subst (λ (x : GroupDef). IsSound (length base.tags.items) x) (sym c.index.ensures)
+    let sound = subst (λ (x : GroupDef). IsSoundGroup (length base.tags.items) x) (sym c.index.ensures)
     (c.in_ok-base.ensures.sound place.group group (slice_get_within base.groups.items place.group placed.0 placed.1.there)) in
     sound.some_period
 
@@ -196,9 +196,9 @@ returns-in-Ok-tell_frames-clause-text g c =
       refreshed = rows.refreshed.items;
       opened = record { read = c.in_ok-base.ensures.base; opened = c.in_ok-cores.ensures.opened };
       named = named_group _ c.args.group.now c.args.calc.now place.group place.calc group c.in_ok-place.ensures.placed c.index.ensures;
-      rows = rows_before group place.calc (records_of (tag_records cores) group) (trace_at old group) (trace_at mid group) rows.saved.items
+      rows = rows_before group place.calc (input_records_of (tag_records cores) group) (group_trace_at old group) (group_trace_at mid group) rows.saved.items
           rows.refreshed.items (groups_same base.tags.items old mid c.open_base.ensures.others group)
-          (subst (λ (l : List Core). AreRows group place.calc (records_of (tag_records l) group) (trace_at mid group) rows.saved.items
+          (subst (λ (l : List Core). AreFrameRows group place.calc (input_records_of (tag_records l) group) (group_trace_at mid group) rows.saved.items
           rows.refreshed.items) c.deref-2.ensures.value c.in_ok-rows.ensures.rows);
       tells = subst (λ (l : List CalcValue). TellsFrames group c.args.least rows.saved.items l (string_bytes c.in-Ok-tell_frames.text))
           c.deref-4.ensures.value

@@ -2,10 +2,10 @@ use Rattle.std.proofs.Common.{◌≡◌, ◌∙◌, [], List, ap, get_or, map, s
 use Rattle.std.proofs.lemmas.Result.{err_from_is_err_and, IfErr-weaker, IfOk-weaker}
 use Rattle.trend_num.specs.declared.archive.Rec.{Rec}
 use Rattle.calc_refresh.specs.Lists.{lists_of}
-use Rattle.plant_store.specs.Groups.{records_of, trace_at}
+use Rattle.plant_store.specs.Groups.{input_records_of, group_trace_at}
 use Rattle.plant_store.proofs.BookTurns.{still}
 use Rattle.store_commands.specs.GroupRows.{tag_records}
-use Rattle.store_commands.specs.FrameRows.{AreRefreshed, AreRows, IsRowsRefusal}
+use Rattle.store_commands.specs.FrameRows.{AreRefreshed, AreFrameRows, IsFrameRowsRefusal}
 use Rattle.store_commands.specs.FrameSteps.{IsBringRefusal}
 use Rattle.store_commands.proofs.FrameScans.{of_bring, of_saved}
 use Rattle.store_commands.proofs.frame_refreshing.rows_of.Goals as goal
@@ -24,14 +24,14 @@ returns-clause-rows g c =
     let k = c.args.place.calc in
     let records = tag_records c.args.cores.now in
     let saved = c.in_ok-saved.saved in
-    let o = trace_at (g.S.Store.device_at c.args.store.now) group in
-    let lists : map (λ r. r.now) c.deref-2.result.now ≡ records_of records group =
+    let o = group_trace_at (g.S.Store.device_at c.args.store.now) group in
+    let lists : map (λ r. r.now) c.deref-2.result.now ≡ input_records_of records group =
     ap (map (λ r. r.now)) c.deref-2.ensures.value ∙ c.in-Ok.ensures.records
     ∙ ap (map (λ tag. get_or records tag [])) c.deref.ensures.value in
     IfOk-weaker c.bring_up.result
     (λ rows. AreRefreshed group k saved.versions.items (lists_of saved.rows.items) (map (λ r. r.now) c.deref-2.result.now) rows.saved.items
     rows.refreshed.items)
-    (λ rows. AreRows group k (records_of records group) o rows.saved.items rows.refreshed.items)
+    (λ rows. AreFrameRows group k (input_records_of records group) o rows.saved.items rows.refreshed.items)
     (λ rows are. record {
       versions = saved.versions.items;
       rows = lists_of saved.rows.items;
@@ -47,16 +47,16 @@ returns-clause-refused g c =
     let i = c.args.place.group in
     let records = tag_records c.args.cores.now in
     let saved = c.in_ok-saved.saved in
-    let o = trace_at (g.S.Store.device_at c.args.store.now) group in
+    let o = group_trace_at (g.S.Store.device_at c.args.store.now) group in
     let before = g.S.Store.fault_count c.args.store.now in
     let now = g.S.Store.fault_count c.saved_of.new.store in
-    let lists : map (λ r. r.now) c.deref-2.result.now ≡ records_of records group =
+    let lists : map (λ r. r.now) c.deref-2.result.now ≡ input_records_of records group =
     ap (map (λ r. r.now)) c.deref-2.ensures.value ∙ c.in-Ok.ensures.records
     ∙ ap (map (λ tag. get_or records tag [])) c.deref.ensures.value in
     IfErr-weaker c.bring_up.result
     (IsBringRefusal i group saved.versions.items (lists_of saved.rows.items) (map (λ r. r.now) c.deref-2.result.now))
-    (IsRowsRefusal i group (records_of records group) o before now)
-    (λ why is. of_bring i group saved.versions.items (lists_of saved.rows.items) (records_of records group) o before now why
+    (IsFrameRowsRefusal i group (input_records_of records group) o before now)
+    (λ why is. of_bring i group saved.versions.items (lists_of saved.rows.items) (input_records_of records group) o before now why
     c.in_ok-saved.ensures.stood
     (subst (λ (l : List (List Rec)). IsBringRefusal i group saved.versions.items (lists_of saved.rows.items) l why) lists is))
     c.bring_up.ensures.refused

@@ -5,7 +5,7 @@ use Rattle.trend_num.specs.declared.archive.Rec.{Rec}
 use Rattle.calc_refresh.specs.declared.definition.GroupDefParts.{GroupDefParts}
 use Rattle.calc_refresh.specs.declared.refusal.SheetNo.TheVariants as sheet
 use Rattle.calc_refresh.specs.Lists.{lists_of}
-use Rattle.calc_refresh.specs.Refreshed.{IsToldOf, shape_fault}
+use Rattle.calc_refresh.specs.Refreshed.{IsRefreshToldOf, shape_fault}
 use Rattle.calc_refresh.specs.Sheet.{grid_of}
 use Rattle.sheet_law.specs.Windows.{complete_windows}
 use Rattle.store_commands.specs.FrameSteps.{OfAhead, OfShape}
@@ -47,5 +47,5 @@ returns-in-Err-Shape-clause-refused c =
     c.in_ok-copies.ensures.cut
     (subst (λ (d : GroupDefParts). shape_fault (complete_windows (grid_of d.start d.period) copies) rows ≡ Some (sheet.Shape windows size))
     c.in-Ok.ensures.parts
-    (subst (IsToldOf (shape_fault (complete_windows (grid_of def.start def.period) copies) rows)) c.in-Err-Shape.field-0-is
+    (subst (IsRefreshToldOf (shape_fault (complete_windows (grid_of def.start def.period) copies) rows)) c.in-Err-Shape.field-0-is
     c.in-Err-Shape.ensures.fault)))

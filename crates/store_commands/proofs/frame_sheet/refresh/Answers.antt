@@ -1,7 +1,7 @@
 use Rattle.std.proofs.Common.{◌≡◌, ◌*◌, ◌∙◌, ap, ap₂, length, map, refl, subst, sym}
 use Rattle.std.proofs.lemmas.List.{length-map}
 use Rattle.calc_refresh.specs.Lists.{lists_of, total_length}
-use Rattle.calc_refresh.specs.Refreshed.{IsToldOf, fault_after}
+use Rattle.calc_refresh.specs.Refreshed.{IsRefreshToldOf, fault_after}
 use Rattle.sheet_law.specs.Touched.{longer}
 use Rattle.sheet_law.specs.Windows.{complete_windows}
 use Rattle.store_commands.specs.FrameSteps.{CellsAreOver, CopiesAreOver}
@@ -41,7 +41,7 @@ returns-in-Err-CellLimit-clause-refused c =
     let whole = whole (goal.at.returns-in-Err-CellLimit-clause-refused c).After-apply in
     let told = cells_told (complete_windows s.grid (longer s.copies more) * length s.group.calcs) (total_length (longer s.copies more))
     c.in-Err-CellLimit.cells
-    (subst (IsToldOf (fault_after s more)) c.in-Err-CellLimit.field-0-is c.in-Err-CellLimit.ensures.fault) in
+    (subst (IsRefreshToldOf (fault_after s more)) c.in-Err-CellLimit.field-0-is c.in-Err-CellLimit.ensures.fault) in
     CellsAreOver c.in-Err-CellLimit.cells refl (told.0 ∙ ap (λ l. complete_windows s.grid l * length s.group.calcs) whole) told.1
 
 pub returns-in-Err-CopyLimit-clause-refused : goal.returns-in-Err-CopyLimit-clause-refused
@@ -51,5 +51,5 @@ returns-in-Err-CopyLimit-clause-refused c =
     let whole = whole (goal.at.returns-in-Err-CopyLimit-clause-refused c).After-apply in
     let told = copies_told (complete_windows s.grid (longer s.copies more) * length s.group.calcs) (total_length (longer s.copies more))
     c.in-Err-CopyLimit.records
-    (subst (IsToldOf (fault_after s more)) c.in-Err-CopyLimit.field-0-is c.in-Err-CopyLimit.ensures.fault) in
+    (subst (IsRefreshToldOf (fault_after s more)) c.in-Err-CopyLimit.field-0-is c.in-Err-CopyLimit.ensures.fault) in
     CopiesAreOver c.in-Err-CopyLimit.records refl (told.0 ∙ ap total_length whole) told.1

@@ -6,7 +6,7 @@ use Rattle.plant_store.specs.Groups as group
 use Rattle.plant_store.proofs.BookDevices.{same_untouched}
 use Rattle.store_commands.specs.Replies.{rows_in, trend_text}
 use Rattle.store_commands.specs.Commands.{OfGroup, OfPlan, OfReader, OfTag}
-use Rattle.store_commands.specs.GroupRows.{AreGroupsTold, IsRowsRefusal, tag_records}
+use Rattle.store_commands.specs.GroupRows.{AreGroupsTold, IsGroupRowsRefusal, tag_records}
 use Rattle.store_commands.proofs.Commands.{as_many_lists}
 use Rattle.store_commands.proofs.Faults.{group_is_no_fault}
 use Rattle.plant_store.proofs.OpenedBases.{tag_is_no_fault}
@@ -46,10 +46,10 @@ returns-in_err-groups-clause-refused g c =
     let old = g.S.Store.device_at c.args.store.now in
     let mid = g.S.Store.device_at c.open_base.new.store in
     let stays = c.in_ok-plan.ensures.stays ∙ c.in_ok-base.ensures.stays in
-    let refused = subst (λ l. IsRowsRefusal l (tag_records c.deref-2.result.now) mid (g.S.Store.fault_count c.open_base.new.store)
+    let refused = subst (λ l. IsGroupRowsRefusal l (tag_records c.deref-2.result.now) mid (g.S.Store.fault_count c.open_base.new.store)
     (g.S.Store.fault_count c.histories_of.new.store) c.in_err-groups.field-0.0) c.deref.ensures.value
     c.in_err-groups.ensures.refused in
-    let refused_cores = subst (λ l. IsRowsRefusal base.groups.items (tag_records l) mid (g.S.Store.fault_count c.open_base.new.store)
+    let refused_cores = subst (λ l. IsGroupRowsRefusal base.groups.items (tag_records l) mid (g.S.Store.fault_count c.open_base.new.store)
     (g.S.Store.fault_count c.histories_of.new.store) c.in_err-groups.field-0.0) c.deref-2.ensures.value refused in
     let p = err_from_is_err_and c.from_residual-in_err-groups.result c.from_residual-in_err-groups.ensures.1 in
     rw (p.1, p.2) (OfGroup base plan (map (λ list. list.items) c.in_ok-readers.readers.items) cores

@@ -3,7 +3,7 @@ use Rattle.std.proofs.lemmas.List.{drop_more}
 use Rattle.std.proofs.lemmas.List.Elements.{All-push}
 use Rattle.std.proofs.lemmas.Result.{err_from_is_err_and}
 use Rattle.toml.specs.View.{table_view}
-use Rattle.tag_base.specs.Groups.{GroupRead, GroupsRead, IsSound}
+use Rattle.tag_base.specs.Groups.{GroupRead, GroupsRead, IsSoundGroup}
 use Rattle.tag_base.proofs.group.groups_of.Goals as goal
 use Rattle.tag_base.proofs.group.groups_of.Goals.{After-group_of}
 
@@ -28,8 +28,8 @@ loop-table-preserved c =
           (subst (λ l. GroupsRead c.args.tags.now c.loop-table.groups.items (map (λ x. table_view x.now) l) answer)
           (sym (next (goal.at.loop-table-preserved c).After-group_of))
           (Ok group, first, subst (λ gs. GroupsRead c.args.tags.now gs (map (λ x. table_view x.now) left) answer) longer rest));
-      sound = subst (All (IsSound (length c.args.tags.now))) (sym longer)
-          (All-push (IsSound (length c.args.tags.now)) c.loop-table.groups.items group c.loop-table.invariant.sound c.in_ok-group.ensures.sound);
+      sound = subst (All (IsSoundGroup (length c.args.tags.now))) (sym longer)
+          (All-push (IsSoundGroup (length c.args.tags.now)) c.loop-table.groups.items group c.loop-table.invariant.sound c.in_ok-group.ensures.sound);
       as_many = search rules;
     }
 

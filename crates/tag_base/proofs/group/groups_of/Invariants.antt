@@ -2,13 +2,13 @@ use Rattle.std.proofs.Common.{◌≡◌, List, [], map, drop, length, vec_len, A
 use Rattle.toml.specs.View.{table_view}
 use Rattle.tag_base.specs.declared.definition.GroupDef.{GroupDef}
 use Rattle.tag_base.specs.declared.refusal.TextNo.{TextNo}
-use Rattle.tag_base.specs.Groups.{GroupsRead, IsSound}
+use Rattle.tag_base.specs.Groups.{GroupsRead, IsSoundGroup}
 use Rattle.tag_base.proofs.group.groups_of.Given as goal
 
 abbrev pub invariant-loop-table : goal.invariant-loop-table
 invariant-loop-table l = record {
   read : (answer : Result (List GroupDef) TextNo) → GroupsRead l.tags l.groups.items (map (λ t. table_view t.now) (drop l.table-index l.tables)) answer
       → GroupsRead l.tags [] (map (λ t. table_view t.now) l.tables) answer;
-  sound : All (IsSound (length l.tags)) l.groups.items;
+  sound : All (IsSoundGroup (length l.tags)) l.groups.items;
   as_many : vec_len l.groups ≡ l.table-index;
 }

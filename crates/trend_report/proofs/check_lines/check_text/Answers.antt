@@ -3,7 +3,7 @@ use Rattle.std.proofs.Common.{ap₂, ◌∙◌, ℕ, List}
 use Rattle.std.specs.Iterator.Adapters.{zip_first, zip_second}
 use Rattle.std.specs.Slice.Iter.{iter_rest}
 use Rattle.std.proofs.lemmas.Slice.Zip.{zip_turn, zip_end}
-use Rattle.trend_report.specs.Lines.{line_of, tag_text}
+use Rattle.trend_report.specs.Lines.{tag_line_of, tag_text}
 use Rattle.trend_report.proofs.CheckLines.{lines_before, one_line, all_lines}
 use Rattle.trend_report.proofs.check_lines.check_text.Goals as goal
 
@@ -19,7 +19,7 @@ loop-def-preserved c =
     c.in-Ok.ensures.bytes
     ∙ ap₂ (λ (a b : List ℕ). a ++ b) c.loop-def.invariant
     (c.as_str.ensures.value ∙ c.in_ok-line-2.ensures ∙ ap tag_text (c.in_ok-line.ensures
-    ∙ ap₂ (λ rs summary. line_of c.in-Some.def.now.name rs summary) c.recs.ensures.value c.summary-summary.ensures.value))
+    ∙ ap₂ (λ rs summary. tag_line_of c.in-Some.def.now.name rs summary) c.recs.ensures.value c.summary-summary.ensures.value))
     ∙ sym (one_line c.args.tags.now c.args.cores.now
     (length c.loop-def.yielded) c.in-Some.def.now c.in-Some.core.now
     turn.0 turn.1 (turn.2 _) (turn.3 _))

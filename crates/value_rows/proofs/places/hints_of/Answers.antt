@@ -1,7 +1,7 @@
 use Rattle.std.proofs.Common.{All, ◌≡◌, replicate, Some, sym, ◌∙◌, subst, rules, arith}
 use Rattle.std.proofs.lemmas.List.{length-set}
 use Rattle.std.proofs.lemmas.List.Elements.{All-replicate, All-set}
-use Rattle.value_rows.specs.Raw.{place_of}
+use Rattle.value_rows.specs.Raw.{first_place_of}
 use Rattle.value_rows.specs.RowReader.{IsHint}
 use Rattle.value_rows.proofs.NameMap.{no_hint, place_hint}
 use Rattle.value_rows.proofs.places.hints_of.Goals as goal
@@ -24,7 +24,7 @@ loop-name-preserved c =
       | in-Some w ↦
           let place = w.in-Some.place.now in
           let slots = c.loop-name.hints.items in
-          let found : place_of names c.bytes.result.now ≡ Some place = search rules in
+          let found : first_place_of names c.bytes.result.now ≡ Some place = search rules in
           rw w.hints-is (record {
             slots = length-set slots w.slot_of.result place ∙ c.loop-name.invariant.slots;
             hints = All-set (IsHint names) slots w.slot_of.result place (place_hint names c.bytes.result.now place found)

@@ -6,9 +6,9 @@ use Rattle.disk_model.specs.Traces.{seen, written}
 use Rattle.commit_log.specs.declared.history.LogAcked.{LogAcked}
 use Rattle.commit_log.specs.declared.history.LogTurn.{LogTurn}
 use Rattle.commit_log.specs.declared.history.LogTurn.TheVariants.{Commit}
-use Rattle.commit_log.specs.Blocks.{block_size, most_in_block}
+use Rattle.commit_log.specs.Blocks.{log_block_size, most_in_block}
 use Rattle.commit_log.specs.Tapes.{puts}
-use Rattle.commit_log.specs.Told.{IsAcknowledged, IsKept, Told}
+use Rattle.commit_log.specs.Told.{AreRowsAcknowledged, IsKept, ToldLog}
 use Rattle.commit_log.specs.Writes.{IsBlockOf}
 use Rattle.commit_log.proofs.Acks.{oldest_are}
 use Rattle.commit_log.proofs.Beginnings.{length-block_image}
@@ -102,7 +102,7 @@ ends : (g : given.Over) (c : After-push_reserved g)
     → IsBlockOf c.self.inside.acked c.min-count.result (drop c.self.inside.next c.self.inside.tape.items) c.deref-2.result.now
     c.in_ok-block.block.turns
     → c.in-Some.end ≡ c.self.inside.end
-    + block_size (puts (take c.in_ok-block.block.turns (drop c.self.inside.next c.self.inside.tape.items)))
+    + log_block_size (puts (take c.in_ok-block.block.turns (drop c.self.inside.next c.self.inside.tape.items)))
 ends g c is =
     let s = c.self.inside in
     let rest : List LogTurn = take (length c.deref.result.now - s.next) (drop s.next c.deref.result.now) in
@@ -201,7 +201,7 @@ returns-in-Ok-clause-committed g c = λ more.
     let at = goal.at.returns-in-Ok-clause-committed g c in
     let is = block g at.After-write_guarded in
     let count_is = counted g at.After-write_guarded in
-    let told : Told _ = record {
+    let told : ToldLog _ = record {
       plant = s.plant.items;
       tags = s.tags;
       opening = o;
@@ -214,14 +214,14 @@ returns-in-Ok-clause-committed g c = λ more.
       failed = s.failed;
       dev = s.dev;
     } in
-    let done : Told _ = record told {
+    let done : ToldLog _ = record told {
       tape = c.push_reserved.new.self.items;
       acked = s.acked + count;
       end = c.in-Some.end;
       dev = c.write_guarded.new.dev;
     } in
     let a : LogAcked = record { acked = s.acked + count; waiting = c.len.result + c.from.result - s.acked - count } in
-    subst (λ t. IsAcknowledged D.trace D.ticks a t done) c.self.view_is (record {
+    subst (λ t. AreRowsAcknowledged D.trace D.ticks a t done) c.self.view_is (record {
       rows = puts (take turns (drop s.next tape));
       rows_are = oldest_are o tape s.next s.acked turns was.2 (is.long ∙ count_is);
       acked_are = ap (λ (n : ℕ). s.acked + n) count_is;

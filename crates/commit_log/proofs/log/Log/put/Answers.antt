@@ -2,8 +2,8 @@ use Rattle.std.proofs.Common.{◌+◌, ◌<◌, List, sym, subst, arith}
 use Rattle.std.specs.Prelude.{vec_capacity}
 use Rattle.disk_model.specs.Moments.{LeftSince}
 use Rattle.commit_log.specs.declared.history.LogTurn.{LogTurn}
-use Rattle.commit_log.specs.Histories.{IsLegal, IsSafe}
-use Rattle.commit_log.specs.Told.{HasRoom, IsKept, Waits}
+use Rattle.commit_log.specs.Histories.{IsLogLegal, IsLogSafe}
+use Rattle.commit_log.specs.Told.{HasRoomForPuts, IsKept, Waits}
 use Rattle.commit_log.proofs.Puts.{put_kept, put_legal, put_room, put_safe, put_waits}
 use Rattle.commit_log.proofs.log.Log.put.Goals as goal
 
@@ -17,9 +17,9 @@ invariant_of-self g c =
     let tape = s.tape.items in
     let places = vec_capacity c.push_reserved.new.self in
     let tag : row.tag < s.tags = omega (arith, c.if-row-self.false) in
-    subst (λ (l : List LogTurn). IsLegal s.tags o s.moment l s.acked × HasRoom o l places (s.count + 1) s.room × Waits o l s.next s.acked
+    subst (λ (l : List LogTurn). IsLogLegal s.tags o s.moment l s.acked × HasRoomForPuts o l places (s.count + 1) s.room × Waits o l s.next s.acked
     × IsKept s.plant.items s.tags o s.moment s.faults l s.next s.end s.failed (D.trace s.dev) (D.ticks s.dev) (D.fault_count s.dev)
-    × IsSafe s.plant.items s.tags o s.moment l (LeftSince (D.trace s.dev))) (sym c.push_reserved.ensures.items) (
+    × IsLogSafe s.plant.items s.tags o s.moment l (LeftSince (D.trace s.dev))) (sym c.push_reserved.ensures.items) (
       put_legal s.tags o s.moment tape row s.acked was.0 (record { tag = tag; point = c.requires }),
       put_room s.tags o s.moment tape row (vec_capacity s.tape) places s.count s.room was.1
           (omega (arith, was.1.within, c.if-self-2.false)) c.push_reserved.ensures.capacity,

@@ -2,7 +2,7 @@ use Rattle.std.proofs.Common.{◌≡◌, ◌+◌, ◌*◌, ◌<◌, ◌⊎◌, i
 use Rattle.std.proofs.Common.{arith}
 use Rattle.std.proofs.lemmas.Bool.{cond-true, cond-false, true≢false}
 use Rattle.archive_file.specs.declared.failure.ScanNo.TheVariants.{Damaged}
-use Rattle.event_queue.specs.Slots.{points_in}
+use Rattle.event_queue.specs.Slots.{slot_points}
 use Rattle.event_queue.proofs.Steps.{damage_here}
 use Rattle.event_queue.proofs.Taken.{fields_read, within_more, count_breaks, first_breaks, point_breaks}
 use Rattle.event_queue.proofs.Taken.{taken_in}
@@ -82,7 +82,7 @@ returns-clause-within c =
     rest s _ c.is_stale-stale.result c.requires.within
     (c.follows.ensures.0 c.if-not-follows.false) (omega arith) c.in_default.ensures.none refl refl
     (ap (λ n. s.lane.next + n) (c.from.ensures ∙ beyond_is c))
-    (c.in-Ok.ensures ∙ ap (λ n. s.points.items ++ points_in n rest) (beyond_is c)) refl
+    (c.in-Ok.ensures ∙ ap (λ n. s.points.items ++ slot_points n rest) (beyond_is c)) refl
 
 pub returns-clause-read : goal.returns-clause-read
 returns-clause-read c = λ bytes at_slot read.
@@ -94,4 +94,4 @@ returns-clause-read c = λ bytes at_slot read.
     taken_in s.lane.slots c.args.taken bytes c.args.k _ _ slot rest fields at_slot (omega arith) (omega arith)
     s read c.requires.within _ c.is_stale-stale.ensures
     (c.follows.ensures.0 c.if-not-follows.false) _ c.in_default.ensures.none
-    (c.in-Ok.ensures ∙ ap (λ n. s.points.items ++ points_in n rest) (beyond_is c)) refl refl
+    (c.in-Ok.ensures ∙ ap (λ n. s.points.items ++ slot_points n rest) (beyond_is c)) refl refl

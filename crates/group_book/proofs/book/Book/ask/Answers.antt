@@ -4,8 +4,8 @@ use Rattle.calc_refresh.specs.Sheet.{grid_of}
 use Rattle.disk_model.specs.Moments.{LeftSince}
 use Rattle.group_layout.specs.Rows.{cell_of}
 use Rattle.group_book.specs.declared.turn.Turn.TheVariants.{Ask}
-use Rattle.group_book.specs.Crashes.{IsSafe}
-use Rattle.group_book.specs.Histories.{IsLegal}
+use Rattle.group_book.specs.Crashes.{IsBookSafe}
+use Rattle.group_book.specs.Histories.{IsBookLegal}
 use Rattle.group_book.specs.Told.{IsKept, Saved, count_of, trace_of}
 use Rattle.group_book.proofs.LegalTurns.{kept_asked, legal_asked, safe_asked}
 use Rattle.group_book.proofs.book.Book.ask.Goals as goal
@@ -23,14 +23,14 @@ invariant_of-self-2 g c =
     ∙ ap (λ r. tape ++ Ask a.reader a.row a.calc a.k r ∷ []) c.row-reply.ensures.value in
     let left = LeftSince (trace_of g.D.Disk.trace b.dev) in (
       c.self.invariant.0,
-      subst (λ l. IsLegal b.def.calcs grid b.opening l b.versions.items b.sheet.copies b.sheet.rows) (sym told)
+      subst (λ l. IsBookLegal b.def.calcs grid b.opening l b.versions.items b.sheet.copies b.sheet.rows) (sym told)
           (legal_asked b.def.calcs grid b.opening tape b.versions.items b.sheet.copies b.sheet.rows c.self.invariant.1 a.reader a.row
           a.calc a.k),
       subst (λ l. IsKept b.text.items b.def b.opening l b.sheet.copies saved b.failed (trace_of g.D.Disk.trace b.dev)
           (count_of g.D.Disk.ticks b.dev) (count_of g.D.Disk.fault_count b.dev)) (sym told)
           (kept_asked b.text.items b.def b.opening tape b.sheet.copies saved b.failed (trace_of g.D.Disk.trace b.dev)
           (count_of g.D.Disk.ticks b.dev) (count_of g.D.Disk.fault_count b.dev) a.reader a.row a.calc a.k reply c.self.invariant.2),
-      subst (λ l. IsSafe b.text.items b.def.calcs grid b.opening b.sheet.copies l left) (sym told)
+      subst (λ l. IsBookSafe b.text.items b.def.calcs grid b.opening b.sheet.copies l left) (sym told)
           (safe_asked b.text.items b.def.calcs grid b.opening b.sheet.copies tape left a.reader a.row a.calc a.k reply
           c.self.invariant.3),
       c.self.invariant.4,

@@ -4,7 +4,7 @@ use Rattle.calc_refresh.specs.Lists.{lists_of}
 use Rattle.calc_refresh.specs.Refreshed.{IsRefreshed, evaluated}
 use Rattle.group_book.specs.declared.turn.Turn.{Turn}
 use Rattle.group_book.specs.declared.turn.Turn.TheVariants.{Refresh}
-use Rattle.group_book.specs.Told.{GoesOn, Told, pulled_records}
+use Rattle.group_book.specs.Told.{GoesOn, ToldBook, pulled_records}
 use Rattle.group_book.proofs.Pulls.{book_refreshed, published_by, versions_reached}
 use Rattle.group_book.proofs.book.Book.publish.Given as given
 use Rattle.group_book.proofs.book.Book.publish.Goals as goal
@@ -12,10 +12,10 @@ use Rattle.group_book.proofs.book.Book.publish.Goals.{After-push_reserved}
 
 -- what was pulled goes on from the copies, with one pull for each input
 goes : (g : given.Over) (c : After-push_reserved g) → GoesOn c.self.inside.sheet.copies c.args.pulled.items
-goes g c = subst (λ (t : Told _). GoesOn t.sheet.copies c.args.pulled.items) (sym c.self.view_is) c.requires.goes_on
+goes g c = subst (λ (t : ToldBook _). GoesOn t.sheet.copies c.args.pulled.items) (sym c.self.view_is) c.requires.goes_on
 
 inputs : (g : given.Over) (c : After-push_reserved g) → length c.args.pulled.items ≡ length c.self.inside.sheet.copies
-inputs g c = c.requires.inputs ∙ sym (ap (λ (t : Told _). t.def.inputs) c.self.view_is) ∙ sym c.self.invariant.0.copies
+inputs g c = c.requires.inputs ∙ sym (ap (λ (t : ToldBook _). t.def.inputs) c.self.view_is) ∙ sym c.self.invariant.0.copies
 
 -- so the sheet is refreshed by it
 refreshed : (g : given.Over) (c : After-push_reserved g)
@@ -38,7 +38,7 @@ apply-requires-clause-inputs g c =
     let ps = c.args.pulled.items in
     ap length c.deref-3.ensures.value
     ∙ sym (length-map c.in_ok-deltas.deltas.items (λ v. v.items)) ∙ ap length c.in_ok-deltas.ensures ∙ length-map ps (λ p. p.recs.items)
-    ∙ c.requires.inputs ∙ sym (ap (λ (t : Told _). t.def.inputs) c.self.view_is) ∙ sym c.self.invariant.0.copies
+    ∙ c.requires.inputs ∙ sym (ap (λ (t : ToldBook _). t.def.inputs) c.self.view_is) ∙ sym c.self.invariant.0.copies
 
 pub invariant_of-self-2 : goal.invariant_of-self-2
 invariant_of-self-2 g c =
@@ -70,4 +70,4 @@ pub returns-clause-steps : goal.returns-clause-steps
 returns-clause-steps g c =
     c.in_ok-apply.ensures.steps
     ∙ ap (λ mores. c.args.steps.now + evaluated c.self.inside.sheet mores) (ap lists_of c.deref-3.ensures.value ∙ c.in_ok-deltas.ensures)
-    ∙ ap (λ (t : Told _). c.args.steps.now + evaluated t.sheet (pulled_records c.args.pulled.items)) c.self.view_is
+    ∙ ap (λ (t : ToldBook _). c.args.steps.now + evaluated t.sheet (pulled_records c.args.pulled.items)) c.self.view_is

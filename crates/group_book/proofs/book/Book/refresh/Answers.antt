@@ -3,7 +3,7 @@ use Rattle.calc_refresh.specs.Refreshed.{cells_after}
 use Rattle.calc_refresh.specs.Lists.{total_length}
 use Rattle.sheet_law.specs.Touched.{longer}
 use Rattle.group_book.specs.Refusals.{IsPullCause}
-use Rattle.group_book.specs.Told.{GivesNone, GoesOn, Told, pulled_records, versions_of}
+use Rattle.group_book.specs.Told.{GivesNone, GoesOn, ToldBook, pulled_records, versions_of}
 use Rattle.group_book.proofs.Causes.{goes_from, pull_refused, sheet_refuses, with_pulls}
 use Rattle.group_book.proofs.book.Book.refresh.Goals as goal
 
@@ -13,7 +13,7 @@ publish-requires-clause-goes_on g c =
     let ps = c.in-Ok.pulled.items in
     let inputs : length ps ≡ length b.sheet.copies
     = c.in-Ok.ensures.len ∙ ap length c.deref.ensures.value ∙ c.self.invariant.0.tags_are ∙ sym c.self.invariant.0.copies in
-    subst (λ (t : Told _). GoesOn t.sheet.copies ps) c.self.view_is
+    subst (λ (t : ToldBook _). GoesOn t.sheet.copies ps) c.self.view_is
     (goes_from c.deref-2.result.now b.sheet.copies ps (c.deref-2.ensures.value ∙ c.self.invariant.1.copied) inputs
     c.in-Ok.ensures.goes_on)
 
@@ -23,7 +23,7 @@ returns-in-Ok-clause-published g c =
     with_pulls c.publish.result (pulled_records ps) c.args.self.now c.publish.new.self c.args.self.now.tags (length c.args.cells.now)
     c.publish.ensures.published
     (subst (λ (l : List ℕ). GivesNone l (length c.args.cells.now) (pulled_records ps))
-    (c.deref.ensures.value ∙ ap (λ (t : Told _). t.tags) c.self.view_is) c.in-Ok.ensures.none)
+    (c.deref.ensures.value ∙ ap (λ (t : ToldBook _). t.tags) c.self.view_is) c.in-Ok.ensures.none)
 
 pub returns-in-Ok-clause-cause : goal.returns-in-Ok-clause-cause
 returns-in-Ok-clause-cause g c =
@@ -36,4 +36,4 @@ pub returns-in-Err-clause-cause : goal.returns-in-Err-clause-cause
 returns-in-Err-clause-cause g c =
     pull_refused (versions_of c.args.self.now) c.in-Err.why
     (subst (λ (l : List ℕ). IsPullCause l c.in-Err.why)
-    (c.deref-2.ensures.value ∙ c.self.invariant.1.copied ∙ ap (λ (t : Told _). versions_of t) c.self.view_is) c.in-Err.ensures.cause)
+    (c.deref-2.ensures.value ∙ c.self.invariant.1.copied ∙ ap (λ (t : ToldBook _). versions_of t) c.self.view_is) c.in-Err.ensures.cause)

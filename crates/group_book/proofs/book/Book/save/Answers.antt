@@ -7,10 +7,10 @@ use Rattle.calc_refresh.specs.Lists.{lists_of}
 use Rattle.calc_refresh.specs.Sheet.{grid_of}
 use Rattle.group_layout.specs.Blocks.{block_size, parts_of}
 use Rattle.group_book.specs.declared.turn.Turn.TheVariants.{Save}
-use Rattle.group_book.specs.Crashes.{IsSafe}
-use Rattle.group_book.specs.Histories.{IsLegal}
+use Rattle.group_book.specs.Crashes.{IsBookSafe}
+use Rattle.group_book.specs.Histories.{IsBookLegal}
 use Rattle.group_book.specs.Saves.{IsSaved, ListsChanges}
-use Rattle.group_book.specs.Told.{IsKept, Saved, Told, trace_of}
+use Rattle.group_book.specs.Told.{IsKept, Saved, ToldBook, trace_of}
 use Rattle.group_book.proofs.Saving.{IsNextBlock, book_saved, kept_faulted, kept_there, next_block_is, safe_writing}
 use Rattle.group_book.proofs.book.Book.save.Given as given
 use Rattle.group_book.proofs.book.Book.save.Goals as goal
@@ -36,11 +36,11 @@ kept g c =
 
 safe : (g : given.Over) (c : After-put_block g)
     → let s = c.self.inside in
-    IsSafe s.text.items s.def.calcs (grid_of s.def.start s.def.period) s.opening s.sheet.copies s.tape.items
+    IsBookSafe s.text.items s.def.calcs (grid_of s.def.start s.def.period) s.opening s.sheet.copies s.tape.items
     (LeftSince (g.D.Disk.trace c.in-Some.dev))
 safe g c =
     let s = c.self.inside in
-    subst (λ d. IsSafe s.text.items s.def.calcs (grid_of s.def.start s.def.period) s.opening s.sheet.copies s.tape.items
+    subst (λ d. IsBookSafe s.text.items s.def.calcs (grid_of s.def.start s.def.period) s.opening s.sheet.copies s.tape.items
     (LeftSince (trace_of g.D.Disk.trace d))) c.in-Some.is c.self.invariant.3
 
 -- the block is the next one
@@ -105,7 +105,7 @@ returns-in-Ok-clause-saved g c = λ d there.
     let D = g.D.Disk in
     let b = parts_of c.in_ok-block.block in
     let before = c.in-Some.dev in
-    let told : Told _ = record {
+    let told : ToldBook _ = record {
       group = s.group;
       def = s.def;
       text = s.text.items;
@@ -117,13 +117,13 @@ returns-in-Ok-clause-saved g c = λ d there.
       saved = record { number = s.number; versions = s.saved_versions.items; rows = lists_of s.saved_rows.items; end = s.end };
       failed = s.failed;
     } in
-    let same : Some before ≡ Some d = sym c.in-Some.is ∙ ap (λ (t : Told _). t.dev) c.self.view_is ∙ there in
+    let same : Some before ≡ Some d = sym c.in-Some.is ∙ ap (λ (t : ToldBook _). t.dev) c.self.view_is ∙ there in
     let device : before ≡ d = cc (same) in
     let longer = longer g (goal.at.returns-in-Ok-clause-saved g c).After-push_reserved in
     let versions_are = c.in_ok-versions.ensures ∙ c.deref.ensures.value ∙ c.self.invariant.1.copied in
     let rows_are = c.in_ok-rows.ensures ∙ c.rows.ensures.rows in
     let end_is : c.in-Ok.end ≡ s.end + block_size b = c.in-Ok.ensures.next in
-    let saved : Told _ = record told {
+    let saved : ToldBook _ = record told {
       tape = c.push_reserved.new.self.items;
       dev = Some c.put_block.new.dev;
       saved = record {
@@ -179,12 +179,12 @@ invariant_of-self-in-Err-DeviceFault g c =
     let faults' : ℕ = D.fault_count c.put_block.new.dev in
     let same = c.make_place.ensures.same in (
       was.0,
-      subst (λ l. IsLegal s.def.calcs grid s.opening l s.versions.items copies s.sheet.rows) (sym same) was.1,
+      subst (λ l. IsBookLegal s.def.calcs grid s.opening l s.versions.items copies s.sheet.rows) (sym same) was.1,
       subst (λ l. IsKept s.text.items s.def s.opening l copies saved true new ticks' faults') (sym same)
           (kept_faulted s.text.items s.def s.opening tape s.versions.items copies s.sheet.rows saved (D.trace c.in-Some.dev)
           (D.ticks c.in-Some.dev) (D.fault_count c.in-Some.dev) was.0.group was.0.grid was.0.copies was.1 kept b is new ticks' faults'
           c.put_block.ensures.later (c.in-Err-DeviceFault.ensures.cause.failed (ap Err c.in-Err-DeviceFault.field-0-is))),
-      subst (λ l. IsSafe s.text.items s.def.calcs grid s.opening copies l (LeftSince new)) (sym same)
+      subst (λ l. IsBookSafe s.text.items s.def.calcs grid s.opening copies l (LeftSince new)) (sym same)
           (safe_writing s.text.items s.def s.opening tape s.versions.items copies s.sheet.rows saved (D.trace c.in-Some.dev)
           (D.ticks c.in-Some.dev) (D.fault_count c.in-Some.dev) was.0.group was.0.grid was.0.copies was.1 kept b is safe new
           c.put_block.ensures.any_moment),

@@ -1,7 +1,7 @@
 use Rattle.std.proofs.Common.{◌≡◌, [], ◌∷◌, ◌++◌, fold, take, subst, sym, ap, ◌∙◌, arith}
 use Rattle.trend_model.specs.Contents.{IsContentOf, placed}
 use Rattle.trend_model.proofs.ContentList.{content_more}
-use Rattle.late_insert.specs.PageLengths.{IsFilled}
+use Rattle.late_insert.specs.PageLengths.{ArePagesFilled}
 use Rattle.late_insert.proofs.content.Content.put.Goals as goal
 
 pub returns-clause-content : goal.returns-clause-content
@@ -15,7 +15,7 @@ returns-clause-content c = λ rs is.
 pub returns-clause-behind : goal.returns-clause-behind
 returns-clause-behind c = λ before.
     let one : c.put_front.result ≡ 1 = omega (arith, c.put_front.ensures.some, c.put_front.ensures.within) in
-    subst (λ n. IsFilled c.args.self.now.pages n c.put_front.new.self.pages) one
+    subst (λ n. ArePagesFilled c.args.self.now.pages n c.put_front.new.self.pages) one
     (c.put_front.ensures.behind c.args.rec before)
 
 pub returns-clause-among : goal.returns-clause-among

@@ -6,8 +6,8 @@ use Rattle.tag_cell.specs.declared.entry.Entry.{Entry}
 use Rattle.tag_cell.specs.declared.entry.Entry.TheVariants.{Commit}
 use Rattle.tag_cell.specs.Tapes.{taken, last_records}
 use Rattle.tag_cell.specs.Crashes.{IsSafe, count_written}
-use Rattle.tag_cell.specs.Replays.{IsReplayed}
-use Rattle.tag_cell.specs.Told.{IsCommitted, IsKept, Told, Waits, waits}
+use Rattle.tag_cell.specs.Replays.{IsTapeReplayed}
+use Rattle.tag_cell.specs.Told.{IsCommitted, IsKept, ToldCell, Waits, takes_waiting}
 use Rattle.tag_cell.proofs.Tapes.{taken-append}
 use Rattle.tag_cell.proofs.Takes.{entry_in_step, entry_has_room}
 use Rattle.tag_cell.proofs.Crashes.{safe_more}
@@ -16,14 +16,14 @@ use Rattle.tag_cell.proofs.cell.Cell.commit.Given as given
 use Rattle.tag_cell.proofs.cell.Cell.commit.Goals as goal
 use Rattle.tag_cell.proofs.cell.Cell.commit.Goals.{After-deref, After-make_places}
 
--- a value waits
-not_idle : (g : given.Over) (c : After-make_places g) → waits c.args.self.now ≡ 0 → ⊥
+-- a value takes_waiting
+not_idle : (g : given.Over) (c : After-make_places g) → takes_waiting c.args.self.now ≡ 0 → ⊥
 not_idle g c none =
     let s = c.self.inside in
     let was = c.self.invariant in
     let count = waiting s.def s.opening s.tape.items (drop s.next s.tape.items) s.next s.durable s.journal.acked s.core s.content.records
     was.1 was.3 refl in
-    let shown = ap (λ (t : Told _). waits t) c.self.view_is in
+    let shown = ap (λ (t : ToldCell _). takes_waiting t) c.self.view_is in
     omega (arith, count, shown, none, c.if-acked-taken.false, c.acked-acked.ensures, c.taken-taken.ensures)
 
 -- the entries that are handed on are those behind the last commit
@@ -76,8 +76,8 @@ invariant_of-self-in_err-entries g c =
     let fine : s.journal.failed ≡ false = sym c.failed.ensures ∙ c.if-failed.false in
     let refused = c.in_err-entries.ensures in
     let acked : journal'.acked ≡ s.journal.acked = refused.unmoved in (
-      subst (λ (l : List Entry). IsReplayed s.def o l s.core.state journal'.acked) (sym same)
-          (subst (λ (a : ℕ). IsReplayed s.def o tape s.core.state a) (sym acked) was.0),
+      subst (λ (l : List Entry). IsTapeReplayed s.def o l s.core.state journal'.acked) (sym same)
+          (subst (λ (a : ℕ). IsTapeReplayed s.def o tape s.core.state a) (sym acked) was.0),
       entry_in_step s.def o tape tape' s.core s.content.records was.1 (ap taken same),
       record {
         takes_are = was.2.takes_are ∙ ap (λ (l : List Entry). length (taken l)) (sym same);
@@ -191,7 +191,7 @@ returns-clause-committed g c =
     ∙ (ap (λ (l : List Entry). l ++ Commit c.clock.result acked' ∷ []) same
     ∙ ap (λ (k : ℕ). tape ++ Commit k acked' ∷ []) c.clock.ensures) in
     let waited : length (taken rest) ≡ s.core.state.summary.taken - s.journal.acked = omega (arith, count) in
-    subst (λ (t : Told _). IsCommitted (g.D.Disk.ticks t.journal.dev) ticks' (record { acked = acked'; waiting = c.taken-taken.result - acked' }) t
+    subst (λ (t : ToldCell _). IsCommitted (g.D.Disk.ticks t.journal.dev) ticks' (record { acked = acked'; waiting = c.taken-taken.result - acked' }) t
     (told s.def s.opening s.core.state journal' s.room c.push_reserved.new.self.items)) c.self.view_is
     (is_committed (g.D.Disk.ticks s.journal.dev) ticks' (record { acked = acked'; waiting = c.taken-taken.result - acked' })
     (told s.def s.opening s.core.state s.journal s.room tape)

@@ -8,8 +8,8 @@ use Rattle.tag_cell.specs.declared.entry.Entry.TheVariants.{Pull}
 use Rattle.tag_cell.specs.declared.entry.Pulled.{Pulled}
 use Rattle.tag_cell.specs.declared.entry.PullNo.{PullNo}
 use Rattle.tag_cell.specs.declared.entry.PullNo.TheVariants.{Ahead, WantOfMemory}
-use Rattle.tag_cell.specs.Tapes.{taken, done, walked, start, state_after}
-use Rattle.tag_cell.specs.Told.{Told, durable_records}
+use Rattle.tag_cell.specs.Tapes.{taken, done, cell_walked, cell_start, state_after}
+use Rattle.tag_cell.specs.Told.{ToldCell, durable_records}
 use Rattle.tag_cell.proofs.Tapes.{taken-append}
 use Rattle.tag_cell.proofs.Entries.{pull_replayed, waits_entry, kept_entry, safe_entry}
 use Rattle.tag_cell.proofs.Takes.{entry_in_step, entry_has_room}
@@ -26,7 +26,7 @@ returns-then-from-upto-clause-ahead g c =
     let s = c.self.inside in
     let are = durable_are s.def s.opening s.tape.items s.core.state s.next s.durable s.journal.acked c.self.invariant.0 c.self.invariant.3 in
     let now : s.durable ≡ length (durable_records c.args.self.now) =
-    are ∙ ap (λ (t : Told _). length (durable_records t)) c.self.view_is in
+    are ∙ ap (λ (t : ToldCell _). length (durable_records t)) c.self.view_is in
     (λ _. ap (λ (n : ℕ). Err (Ahead c.args.from n)) now, λ _. omega (arith, now, c.if-from-upto.true))
 
 pub returns-in_err-make_places-clause-ahead : goal.returns-in_err-make_places-clause-ahead
@@ -34,7 +34,7 @@ returns-in_err-make_places-clause-ahead g c =
     let s = c.self.inside in
     let are = durable_are s.def s.opening s.tape.items s.core.state s.next s.durable s.journal.acked c.self.invariant.0 c.self.invariant.3 in
     let now : s.durable ≡ length (durable_records c.args.self.now) =
-    are ∙ ap (λ (t : Told _). length (durable_records t)) c.self.view_is in
+    are ∙ ap (λ (t : ToldCell _). length (durable_records t)) c.self.view_is in
     (λ less. absurd (omega (arith, now, less, c.if-from-upto.false)), λ e. absurd (not_ahead c.from_residual.result c.args.from _ c.from_residual.ensures.1 e))
 
 pub returns-in_err-recs-clause-ahead : goal.returns-in_err-recs-clause-ahead
@@ -42,7 +42,7 @@ returns-in_err-recs-clause-ahead g c =
     let s = c.self.inside in
     let are = durable_are s.def s.opening s.tape.items s.core.state s.next s.durable s.journal.acked c.self.invariant.0 c.self.invariant.3 in
     let now : s.durable ≡ length (durable_records c.args.self.now) =
-    are ∙ ap (λ (t : Told _). length (durable_records t)) c.self.view_is in
+    are ∙ ap (λ (t : ToldCell _). length (durable_records t)) c.self.view_is in
     (λ less. absurd (omega (arith, now, less, c.if-from-upto.false)), λ e. absurd (not_ahead c.from_residual-in_err-recs.result c.args.from _ c.from_residual-in_err-recs.ensures.1 e))
 
 pub returns-clause-ahead : goal.returns-clause-ahead
@@ -50,31 +50,31 @@ returns-clause-ahead g c =
     let s = c.self.inside in
     let are = durable_are s.def s.opening s.tape.items s.core.state s.next s.durable s.journal.acked c.self.invariant.0 c.self.invariant.3 in
     let now : s.durable ≡ length (durable_records c.args.self.now) =
-    are ∙ ap (λ (t : Told _). length (durable_records t)) c.self.view_is in
+    are ∙ ap (λ (t : ToldCell _). length (durable_records t)) c.self.view_is in
     (λ less. absurd (omega (arith, now, less, c.if-from-upto.false)), λ e. absurd cc)
 
 pub returns-clause-upto : goal.returns-clause-upto
 returns-clause-upto g c =
     let s = c.self.inside in
     durable_are s.def s.opening s.tape.items s.core.state s.next s.durable s.journal.acked c.self.invariant.0 c.self.invariant.3
-    ∙ ap (λ (t : Told _). length (durable_records t)) c.self.view_is
+    ∙ ap (λ (t : ToldCell _). length (durable_records t)) c.self.view_is
 
 pub returns-clause-records : goal.returns-clause-records
 returns-clause-records g c =
     let s = c.self.inside in
     let are = durable_are s.def s.opening s.tape.items s.core.state s.next s.durable s.journal.acked c.self.invariant.0 c.self.invariant.3 in
     let front = durable_front s.def s.opening s.tape.items s.core.state s.next s.durable s.journal.acked c.self.invariant.0 c.self.invariant.3 in
-    let durable : List Rec = (state_after s.def.step s.opening (done s.opening (walked (start s.opening) s.tape.items))).records in
+    let durable : List Rec = (state_after s.def.step s.opening (done s.opening (cell_walked (cell_start s.opening) s.tape.items))).records in
     c.in_ok-recs.ensures.records ∙ (ap (λ (l : List Rec). take (s.durable - c.args.from) (drop c.args.from l)) (c.recs.ensures.value ∙ front.1)
     ∙ (handed durable front.0 c.args.from s.durable are c.if-from-upto.false
-    ∙ ap (λ (t : Told _). drop c.args.from (durable_records t)) c.self.view_is))
+    ∙ ap (λ (t : ToldCell _). drop c.args.from (durable_records t)) c.self.view_is))
 
 pub copied-requires-clause-within : goal.copied-requires-clause-within
 copied-requires-clause-within g c =
     let s = c.self.inside in
     let are = durable_are s.def s.opening s.tape.items s.core.state s.next s.durable s.journal.acked c.self.invariant.0 c.self.invariant.3 in
     let front = durable_front s.def s.opening s.tape.items s.core.state s.next s.durable s.journal.acked c.self.invariant.0 c.self.invariant.3 in
-    let durable : List Rec = (state_after s.def.step s.opening (done s.opening (walked (start s.opening) s.tape.items))).records in
+    let durable : List Rec = (state_after s.def.step s.opening (done s.opening (cell_walked (cell_start s.opening) s.tape.items))).records in
     omega (arith, are, ap length (c.recs.ensures.value ∙ front.1), length-append durable front.0)
 
 pub invariant_of-self-2 : goal.invariant_of-self-2
@@ -106,7 +106,7 @@ returns-clause-long g c =
     let s = c.self.inside in
     let are = durable_are s.def s.opening s.tape.items s.core.state s.next s.durable s.journal.acked c.self.invariant.0 c.self.invariant.3 in
     let front = durable_front s.def s.opening s.tape.items s.core.state s.next s.durable s.journal.acked c.self.invariant.0 c.self.invariant.3 in
-    let durable : List Rec = (state_after s.def.step s.opening (done s.opening (walked (start s.opening) s.tape.items))).records in
+    let durable : List Rec = (state_after s.def.step s.opening (done s.opening (cell_walked (cell_start s.opening) s.tape.items))).records in
     let recs = c.recs.result.now in
     let within : s.durable ≤ length recs = omega (arith, are, ap length (c.recs.ensures.value ∙ front.1), length-append durable front.0) in
     omega (
@@ -124,4 +124,4 @@ returns-then-from-upto-clause-carried g c = λ f a told.
     let are = durable_are s.def s.opening s.tape.items s.core.state s.next s.durable s.journal.acked c.self.invariant.0 c.self.invariant.3 in
     let place : f ≡ c.args.from = cc (told) in
     let carried : a ≡ s.durable = cc (told) in
-    (place, carried ∙ are ∙ ap (λ (t : Told _). length (durable_records t)) c.self.view_is, omega (arith, carried, c.if-from-upto.true))
+    (place, carried ∙ are ∙ ap (λ (t : ToldCell _). length (durable_records t)) c.self.view_is, omega (arith, carried, c.if-from-upto.true))

@@ -9,7 +9,7 @@ use Rattle.crash_recovery.proofs.Takes.{few_enough}
 use Rattle.tag_cell.specs.declared.entry.Entry.{Entry}
 use Rattle.tag_cell.specs.declared.entry.Entry.TheVariants.{Take}
 use Rattle.tag_cell.specs.Tapes.{taken}
-use Rattle.tag_cell.specs.Told.{HasRoom}
+use Rattle.tag_cell.specs.Told.{HasRoomForTakes}
 use Rattle.tag_cell.proofs.Entries.{take_replayed, waits_entry, kept_entry, safe_entry}
 use Rattle.tag_cell.proofs.Takes.{taken-take, take_in_step, take_has_room, take_posted}
 use Rattle.tag_cell.proofs.cell.Cell.take.Goals as goal
@@ -37,7 +37,7 @@ invariant_of-self-2 g c =
           was.0 next took.held c.record_count.ensures.value longer,
       take_in_step s.def s.opening tape tape' s.core core' s.content.records c.take_value.new.content.records s.journal.acked p
           was.1 was.0 took.step took.counted took.same c.requires room one,
-      subst (λ (k : ℕ). HasRoom s.opening tape' k (s.takes + 1) s.room core'.spare c.take_value.new.content.spare) (sym places)
+      subst (λ (k : ℕ). HasRoomForTakes s.opening tape' k (s.takes + 1) s.room core'.spare c.take_value.new.content.spare) (sym places)
           (take_has_room s.opening tape tape' (vec_capacity s.tape) s.takes (s.takes + 1) s.room s.core.spare core'.spare
           s.content.spare c.take_value.new.content.spare e p was.2 (omega (arith, was.2.within, c.if-self.false)) refl
           took.room took.content_room longer one),

@@ -8,9 +8,9 @@ use Rattle.value_rows.specs.declared.raw.RawRow.{RawRow}
 use Rattle.snapshot_table.specs.Boards.{Looking, LooksAt}
 use Rattle.collector_pool.specs.declared.group_turns.TurnNo.{TurnNo}
 use Rattle.collector_pool.specs.declared.note.WorkerNote.{WorkerNote}
-use Rattle.collector_pool.specs.declared.slot.Role.{Role}
-use Rattle.collector_pool.specs.declared.slot.Role.TheVariants.{Collector, Reader, Refresher}
-use Rattle.collector_pool.specs.declared.slot.Slot.{Slot}
+use Rattle.collector_pool.specs.declared.session_worker.Role.{Role}
+use Rattle.collector_pool.specs.declared.session_worker.Role.TheVariants.{Collector, Reader, Refresher}
+use Rattle.collector_pool.specs.declared.session_worker.SessionWorker.{SessionWorker}
 use Rattle.collector_pool.specs.declared.work.Refresh.{Refresh}
 use Rattle.collector_pool.specs.declared.work.Work.{Work}
 use Rattle.collector_pool.specs.Notes.{IsCollectorNote, IsReaderNote, IsRefresherNote, halts}
@@ -38,34 +38,34 @@ IsNoteAs D tells refuses w (Reader reader looker) n =
 IsNoteAs D tells refuses w (Refresher refresher) n =
     (refresh : Refresh) → IsRefresherNote refuses (slice_index_or w.refreshers.items refresher refresh) n
 
--- a slot whose worker may begin
-pub record IsReady {O : Type 0} (stops : O → ℕ) (w : Work) (board : List TableId) (s : Slot O) : Type 0 where
+-- a seat whose worker may begin
+pub record IsReady {O : Type 0} (stops : O → ℕ) (w : Work) (board : List TableId) (s : SessionWorker O) : Type 0 where
   pub role : IsRoleOf w board s.role
   pub worker : s.note.worker ≡ worker_of w s.role
   pub fresh : stops s.pass ≡ 0
 
--- one more worker has its slot, in this role
-pub record IsSeatedAs {O : Type 0} (stops : O → ℕ) (role : Role) (old new : List (Slot O)) : Type 0 where
-  pub slot : Slot O
-  pub slots : new ≡ old ++ slot ∷ []
-  pub role_is : slot.role ≡ role
-  pub worker : slot.note.worker ≡ length old
-  pub fresh : stops slot.pass ≡ 0
+-- one more worker has its seat, in this role
+pub record IsSeatedAs {O : Type 0} (stops : O → ℕ) (role : Role) (old new : List (SessionWorker O)) : Type 0 where
+  pub seat : SessionWorker O
+  pub seats : new ≡ old ++ seat ∷ []
+  pub role_is : seat.role ≡ role
+  pub worker : seat.note.worker ≡ length old
+  pub fresh : stops seat.pass ≡ 0
 
--- the workers of these slots are numbered, and may begin where the lookers look at a board
-pub record AreSeated {O : Type 0} (stops : O → ℕ) (w : Work) (lookers : List Looking) (slots : List (Slot O)) : Type 0 where
-  pub numbered : (place : ℕ) (d : Slot O) → place < length slots → (slice_index_or slots place d).note.worker ≡ place
-  pub ready : (board : List TableId) → All (LooksAt board) lookers → All (IsReady stops w board) slots
+-- the workers of these seats are numbered, and may begin where the lookers look at a board
+pub record AreSeated {O : Type 0} (stops : O → ℕ) (w : Work) (lookers : List Looking) (seats : List (SessionWorker O)) : Type 0 where
+  pub numbered : (place : ℕ) (d : SessionWorker O) → place < length seats → (slice_index_or seats place d).note.worker ≡ place
+  pub ready : (board : List TableId) → All (LooksAt board) lookers → All (IsReady stops w board) seats
 
--- a slot whose worker has ended
+-- a seat whose worker has ended
 pub record IsDone {O : Type 0} (D : Type 0) (tells : RowAsk → ℕ → Option CalcValue → Type 0) (refuses : ℕ → TurnNo → Type 0)
-    (stops : O → ℕ) (w : Work) (old new : Slot O) : Type 0 where
+    (stops : O → ℕ) (w : Work) (old new : SessionWorker O) : Type 0 where
   pub worker : new.note.worker ≡ old.note.worker
   pub note : IsNoteAs D tells refuses w old.role new.note
   pub stopped : stops new.pass ≡ halts new.note.ending
 
--- slots whose workers have ended
+-- seats whose workers have ended
 pub record AreDone {O : Type 0} (D : Type 0) (tells : RowAsk → ℕ → Option CalcValue → Type 0) (refuses : ℕ → TurnNo → Type 0)
-    (stops : O → ℕ) (w : Work) (old new : List (Slot O)) : Type 0 where
-  pub each : (i : ℕ) (d : Slot O) → i < length old
+    (stops : O → ℕ) (w : Work) (old new : List (SessionWorker O)) : Type 0 where
+  pub each : (i : ℕ) (d : SessionWorker O) → i < length old
       → IsDone D tells refuses stops w (slice_index_or old i d) (slice_index_or new i d)

@@ -1,6 +1,6 @@
 // A worker's place in a session: its role, its pass and its note.
 use crate::note::WorkerNote;
-use plant_status::Seat;
+use plant_status::Worker;
 use snapshot_table::Looker;
 
 /// What a worker is, with its number among its kind.
@@ -12,19 +12,19 @@ pub enum Role {
 }
 
 /// What a worker has, from before it begins until its pass is given back.
-pub struct Slot<O> {
+pub struct SessionWorker<O> {
     pub role: Role,
     pub pass: O,
     pub note: WorkerNote,
 }
 
-impl<O> Seat<O, WorkerNote> for Slot<O> {
+impl<O> Worker<O, WorkerNote> for SessionWorker<O> {
     ghost pass = { λ s. s.pass };
 
     ghost note = { λ s. s.note };
 
     fn leave(self) -> (O, WorkerNote) {
-        let Slot { role, pass, note } = self;
+        let SessionWorker { role, pass, note } = self;
         drop(role);
         (pass, note)
     }

@@ -1,11 +1,11 @@
-// The places of workers in a run, once they have ended.
+// The workers of a run, once they have ended.
 ghost use Rattle.std.specs.Prelude.{◌≡◌, ◌≤◌, [], map, vec_capacity, vec_len};
 ghost use Rattle.plant_status.specs.Pass.{sum_from};
 
 use crate::pass::{Pass, Passes};
 
-/// A worker's place in a run: it keeps its pass, and a note of what it did.
-pub trait Seat<O, N> {
+/// A worker of a run: it keeps its pass, and a note of what it did.
+pub trait Worker<O, N> {
     ghost pass: { Self → O };
 
     ghost note: { Self → N };
@@ -17,15 +17,19 @@ pub trait Seat<O, N> {
 }
 
 /// Gives back the pass of each worker, all of which have ended, and keeps their notes in order.
-pub fn gather<P: Passes, N, S: Seat<P::One, N>>(seats: Vec<S>, passes: &mut P, notes: &mut Vec<N>)
+pub fn gather<P: Passes, N, S: Worker<P::One, N>>(
+    workers: Vec<S>,
+    passes: &mut P,
+    notes: &mut Vec<N>,
+)
     requires none { notes.old.items ≡ [] }
-    requires room { vec_len seats ≤ vec_capacity notes.old }
-    ensures notes { notes.new.items ≡ map S.note seats.items }
-    ensures stops { P.stops passes.new ≡ sum_from (P.stops passes.old) (map (λ s. P.One.stops (S.pass s)) seats.items) }
+    requires room { vec_len workers ≤ vec_capacity notes.old }
+    ensures notes { notes.new.items ≡ map S.note workers.items }
+    ensures stops { P.stops passes.new ≡ sum_from (P.stops passes.old) (map (λ s. P.One.stops (S.pass s)) workers.items) }
 {
-    let mut rest = seats.into_iter();
-    while let Some(seat) = rest.next() {
-        let (pass, note) = seat.leave();
+    let mut rest = workers.into_iter();
+    while let Some(worker) = rest.next() {
+        let (pass, note) = worker.leave();
         passes.give_back(pass);
         notes.push_reserved(note);
     }

@@ -5,7 +5,7 @@ use Rattle.disk_model.specs.Traces.{content}
 use Rattle.disk_model.specs.Memory.{picked}
 use Rattle.disk_model.specs.Logs.{log_first, call_of, idles, calls_after}
 use Rattle.disk_model.proofs.Logs.{calls_after-push, content-idles, picked-idles}
-use Rattle.disk_model.proofs.memory_log.Log.picked.Goals as goal
+use Rattle.disk_model.proofs.memory_log.CallLog.picked.Goals as goal
 
 -- the calls of one note more
 events_more : (ns : List Note) (i : ℕ) (n : Note) → i < length ns → n ≡ get_or ns i n
