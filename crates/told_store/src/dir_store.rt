@@ -4,7 +4,7 @@ ghost use Rattle.disk_model.specs.Stores.{empty_trace};
 ghost use Rattle.told_store.specs.Notes.{IsFresh, told_by};
 ghost use Rattle.told_store.specs.Places.{AllFresh, is_placed, is_stopped_in, told_in};
 
-use crate::folder::{FOLDER, lock_folder, lock_or_make, open_device, read_device};
+use crate::folder::{FOLDER, lock_folder, lock_or_make, open_device, read_device, settle};
 use crate::host::Host;
 use crate::kept::Kept;
 use crate::places::{exchange, insert, is_stopped, make_place};
@@ -69,7 +69,7 @@ impl<R: Files<File = File> + AllocGlobal> DirStore<R> {
             return Ok(());
         };
         self.folder = Some(folder);
-        read_devices(&self.rt, &mut self.places)
+        read_devices(&self.rt, &self.folder, &mut self.places)
     }
 
     // The device of a name, over its file.
@@ -104,6 +104,7 @@ impl<R: Files<File = File> + AllocGlobal> DirStore<R> {
 // Reads the devices of the folder.
 fn read_devices<R: Files<File = File> + AllocGlobal + Clone + Drop>(
     rt: &R,
+    folder: &Option<File>,
     places: &mut BTreeMap<String, Kept>,
 ) -> io::Result<()>
     requires { AllFresh places.old }
@@ -111,7 +112,7 @@ fn read_devices<R: Files<File = File> + AllocGlobal + Clone + Drop>(
 {
     for entry in fs::read_dir(rt, FOLDER)? {
         match entry {
-            Ok(entry) => keep(rt, places, entry.file_name())?,
+            Ok(entry) => keep(rt, folder, places, entry.file_name())?,
             // No device has such a name.
             Err(error) if error.kind() == ErrorKind::InvalidFilename => {}
             Err(error) => return Err(error),
@@ -123,6 +124,7 @@ fn read_devices<R: Files<File = File> + AllocGlobal + Clone + Drop>(
 // Reads a file of the folder, if it is a device.
 fn keep<R: Files<File = File> + AllocGlobal>(
     rt: &R,
+    folder: &Option<File>,
     places: &mut BTreeMap<String, Kept>,
     name: &str,
 ) -> io::Result<()>
@@ -133,7 +135,7 @@ fn keep<R: Files<File = File> + AllocGlobal>(
         return Ok(());
     }
     let alloc = rt.alloc();
-    let kept = Kept::of_file(alloc, read_device(rt, alloc, name));
+    let kept = Kept::of_file(alloc, read_device(rt, alloc, folder, name));
     insert(alloc, places, name, kept)?;
     Ok(())
 }
@@ -164,6 +166,10 @@ impl<R: Files<File = File> + AllocGlobal> Store for DirStore<R> {
 
     fn give_back(&mut self, name: &str, dev: DirDisk<Host<File>>) {
         self.faults = self.faults.saturating_add(dev.counts.faults);
-        let _ = exchange(&mut self.places, name, Kept::of(dev));
+        let kept = Kept::of(dev);
+        if kept.is_stopped {
+            settle(&self.rt, self.rt.alloc(), &self.folder, name, &kept.mirror);
+        }
+        let _ = exchange(&mut self.places, name, kept);
     }
 }

@@ -2,7 +2,7 @@
 use crate::kept::Kept;
 use std::alloc::Global;
 use std::fs::{self, File, OpenOptions};
-use std::io::{self, ErrorKind};
+use std::io::{self, ErrorKind, Write};
 use std::os::unix::fs::{FileExt, MetadataExt};
 use std::rt::Files;
 
@@ -12,9 +12,25 @@ pub(crate) const FOLDER: &str = "historian.d";
 // No longer file is read.
 const MOST_BYTES: u64 = 1 << 30;
 
+// How often a call is made at most that a signal interrupts.
+const MOST_TRIES: u32 = 1 << 20;
+
+// Makes a call, and makes it again where a signal interrupts it.
+fn again<T: Drop, Call: Fn() -> io::Result<T>>(call: Call) -> io::Result<T>
+    requires { Call.IsAlwaysCallable call }
+{
+    for _ in 0..MOST_TRIES {
+        match call() {
+            Err(error) if error.kind() == ErrorKind::Interrupted => {}
+            answer => return answer,
+        }
+    }
+    Err(ErrorKind::Interrupted.into())
+}
+
 /// Locks the folder, where there is one: no other process has it while the answer is open.
 pub(crate) fn lock_folder<R: Files<File = File>>(rt: &R) -> io::Result<Option<File>> {
-    if fs::exists(rt, FOLDER)? {
+    if again(|| fs::exists(rt, FOLDER))? {
         return Ok(Some(lock(rt)?));
     }
     Ok(None)
@@ -22,8 +38,8 @@ pub(crate) fn lock_folder<R: Files<File = File>>(rt: &R) -> io::Result<Option<Fi
 
 /// Locks the folder, which is made where it is missing.
 pub(crate) fn lock_or_make<R: Files<File = File>>(rt: &R) -> io::Result<File> {
-    if !fs::exists(rt, FOLDER)? {
-        fs::create_dir(rt, FOLDER)?;
+    if !again(|| fs::exists(rt, FOLDER))? {
+        again(|| fs::create_dir(rt, FOLDER))?;
     }
     lock(rt)
 }
@@ -35,22 +51,87 @@ fn lock<R: Files<File = File>>(rt: &R) -> io::Result<File> {
     Ok(folder)
 }
 
-/// Syncs the file of a device, and reads all its bytes.
+/// Syncs the file of a device, and reads all its bytes. A file with a mark is written anew.
 pub(crate) fn read_device<R: Files<File = File>>(
     rt: &R,
     alloc: Global,
+    folder: &Option<File>,
     name: &str,
 ) -> io::Result<Vec<u8>> {
     let path = path_of(alloc, name)?;
     let file = open_plain(rt, path.as_str(), OpenOptions::new().read(true))?;
-    let len = file.metadata()?.len();
+    let len = again(|| file.metadata())?.len();
     if len > MOST_BYTES {
         return Err(ErrorKind::FileTooLarge.into());
     }
     file.sync_all()?;
     let mut bytes = vec![in alloc; 0; len as usize]?;
     file.read_exact_at(&mut bytes, 0)?;
+    if is_marked(rt, alloc, name)? {
+        renew(rt, alloc, folder, name, &bytes)?;
+    }
     Ok(bytes)
+}
+
+/// Writes the file of a device anew, whole, after a call on it has failed: what the system shows of it then may not be on the disk. Where
+/// that fails the file gets a mark, and the next run that can write does it.
+pub(crate) fn settle<R: Files<File = File>>(
+    rt: &R,
+    alloc: Global,
+    folder: &Option<File>,
+    name: &str,
+    bytes: &[u8],
+) {
+    if renew(rt, alloc, folder, name, bytes).is_err() {
+        let _ = set_mark(rt, alloc, folder, name);
+    }
+}
+
+// Writes a new file, brings it to the disk, gives it the name of the old one, and takes its mark away.
+fn renew<R: Files<File = File>>(
+    rt: &R,
+    alloc: Global,
+    folder: &Option<File>,
+    name: &str,
+    bytes: &[u8],
+) -> io::Result<()> {
+    let path = path_of(alloc, name)?;
+    let new_path = format!(in alloc; "{FOLDER}/{name}.new")?;
+    let mut file = File::create(rt, new_path.as_str())?;
+    file.write_all(bytes)?;
+    file.sync_all()?;
+    fs::rename(rt, new_path.as_str(), path.as_str())?;
+    sync(folder)?;
+    if is_marked(rt, alloc, name)? {
+        fs::remove_file(rt, mark_of(alloc, name)?.as_str())?;
+        sync(folder)?;
+    }
+    Ok(())
+}
+
+// Marks the file of a device: what it shows may not be on the disk.
+fn set_mark<R: Files<File = File>>(
+    rt: &R,
+    alloc: Global,
+    folder: &Option<File>,
+    name: &str,
+) -> io::Result<()> {
+    File::create(rt, mark_of(alloc, name)?.as_str())?.sync_all()?;
+    sync(folder)
+}
+
+// Whether the file of a device has a mark.
+fn is_marked<R: Files<File = File>>(rt: &R, alloc: Global, name: &str) -> io::Result<bool> {
+    let mark = mark_of(alloc, name)?;
+    again(|| fs::exists(rt, mark.as_str()))
+}
+
+// Brings the names in the folder to the disk.
+fn sync(folder: &Option<File>) -> io::Result<()> {
+    match folder {
+        Some(folder) => folder.sync_all(),
+        None => Ok(()),
+    }
 }
 
 /// Opens the file of a device that is kept. One that is empty may be missing, and is made then.
@@ -93,7 +174,7 @@ fn reopen<R: Files<File = File>>(rt: &R, path: &str, len: usize) -> io::Result<F
         }
         Err(error) => return Err(error),
     };
-    if file.metadata()?.len() != len as u64 {
+    if again(|| file.metadata())?.len() != len as u64 {
         return Err(ErrorKind::InvalidData.into());
     }
     Ok(file)
@@ -106,12 +187,12 @@ fn is_denied(kind: ErrorKind) -> bool {
 
 // Opens a plain file that has one name. A link is not followed, and refused, as is what is no file.
 fn open_plain<R: Files<File = File>>(rt: &R, path: &str, how: &OpenOptions) -> io::Result<File> {
-    let named = fs::symlink_metadata(rt, path)?;
+    let named = again(|| fs::symlink_metadata(rt, path))?;
     if !named.is_file() {
         return Err(ErrorKind::Unsupported.into());
     }
     let file = how.open(rt, path)?;
-    let found = file.metadata()?;
+    let found = again(|| file.metadata())?;
     let is_same = found.dev() == named.dev() && found.ino() == named.ino();
     if !is_same || found.nlink() != 1 {
         return Err(ErrorKind::Unsupported.into());
@@ -122,4 +203,9 @@ fn open_plain<R: Files<File = File>>(rt: &R, path: &str, how: &OpenOptions) -> i
 // The path of a device.
 fn path_of(alloc: Global, name: &str) -> io::Result<String> {
     Ok(format!(in alloc; "{FOLDER}/{name}")?)
+}
+
+// The path of the mark of a device.
+fn mark_of(alloc: Global, name: &str) -> io::Result<String> {
+    Ok(format!(in alloc; "{FOLDER}/{name}.fault")?)
 }
