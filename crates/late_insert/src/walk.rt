@@ -9,7 +9,7 @@ ghost use Rattle.late_insert.specs.Pages.{ArePages, page_records_of};
 ghost use Rattle.late_insert.specs.Totals.{greatest_of, least_of};
 
 use crate::directory::Directory;
-use crate::total::{area_between, high_between, low_between, point_at};
+use crate::total::{Extreme, area_between, extreme_between, point_at};
 use page_pool::{Frame, Pool};
 use std::marker::Model;
 use trend_num::Point;
@@ -71,7 +71,12 @@ impl<'a> Run<'a> {
         ensures { result ≡ least_of self.now }
     {
         if self.end - self.start < self.frame.len {
-            return low_between(self.frame, self.start as usize, self.end as usize);
+            return extreme_between(
+                self.frame,
+                Extreme::Least,
+                self.start as usize,
+                self.end as usize,
+            );
         }
         self.frame.low
     }
@@ -81,7 +86,12 @@ impl<'a> Run<'a> {
         ensures { result ≡ greatest_of self.now }
     {
         if self.end - self.start < self.frame.len {
-            return high_between(self.frame, self.start as usize, self.end as usize);
+            return extreme_between(
+                self.frame,
+                Extreme::Greatest,
+                self.start as usize,
+                self.end as usize,
+            );
         }
         self.frame.high
     }
