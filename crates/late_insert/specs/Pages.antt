@@ -110,6 +110,14 @@ pub record ArePages (pool : List (Option Frame)) (pages : List Page) : Type 0 wh
   -- and none of several is empty
   pub filled : 1 < length pages → All (λ p. 0 < length (page_in pool p)) pages
 
+-- p is the page at k, and f its frame
+pub record IsRead (pool : List (Option Frame)) (pages : List Page) (k : ℕ) (p : Page) (f : Frame) : Type 0
+  where
+    pub paged : ArePages pool pages
+    pub within : k < length pages
+    pub read : p ≡ slice_index_or pages k p
+    pub there : frame_at pool p.id ≡ Some f
+
 -- the page k is the one for the time t: no page before it has a record from t on, and none after it one up to t
 pub record IsFor (pool : List (Option Frame)) (pages : List Page) (k t : ℕ) : Type 0 where
   pub within : k < length pages

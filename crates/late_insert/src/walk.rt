@@ -9,6 +9,7 @@ ghost use Rattle.late_insert.specs.Pages.{ArePages, page_records_of};
 ghost use Rattle.late_insert.specs.Totals.{greatest_of, least_of};
 
 use crate::directory::Directory;
+use crate::gap::frame_of;
 use crate::total::{Extreme, area_between, extreme_between, point_at};
 use page_pool::{Frame, Pool};
 use std::marker::Model;
@@ -148,7 +149,7 @@ impl<'a> Runs<'a> {
             return None;
         }
         let first = self.pages.first(self.page);
-        let frame = self.pool.frame(self.pages.id(self.page));
+        let frame = frame_of(self.pool, self.pages, self.page);
         let run = Run {
             frame,
             stair: self.pages.stair(self.page),
