@@ -20,7 +20,7 @@ use Rattle.trend_model.specs.Windows.{area}
 use Rattle.late_insert.specs.declared.directory.Key.TheVariants.{Time}
 use Rattle.late_insert.specs.Moves.{IsLastUpto, moved}
 use Rattle.late_insert.specs.Pages.{frame_records_in, records_at, page_in, page_records_of, IsPage, ArePagesFrom, IsRead}
-use Rattle.late_insert.specs.Pages.{ArePages, IsFor, IsSplit, lengths_of}
+use Rattle.late_insert.specs.Pages.{ArePages, IsFor, IsHalfFor, IsSplit, lengths_of}
 use Rattle.late_insert.specs.PageLengths.{IsGrown, place_in}
 use Rattle.trend_model.proofs.Placing.{time, placed_middle}
 use Rattle.late_insert.proofs.Summing.{length-records_in}
@@ -348,7 +348,7 @@ module _ (pool : List (Option Frame)) (now old : List Page) (k t : ℕ) (e : Pag
       subst (λ n. t < (get_or now n d).start) (add-one j)
       (subst (λ (x : Page). t < x.start) (sym here) (late j d (omega arith) (omega arith)))
 
-  pub upper_found : (get_or now (k + 1) e).start ≤ t → IsFor pool now (k + 1) t
+  upper_found : (get_or now (k + 1) e).start ≤ t → IsFor pool now (k + 1) t
   upper_found starts =
       let long = now_len in
       found_for pool now (k + 1) t paged (omega (arith, within)) (record {
@@ -362,7 +362,7 @@ module _ (pool : List (Option Frame)) (now old : List Page) (k t : ℕ) (e : Pag
         after = kept_late;
       })
 
-  pub lower_found : t < (get_or now (k + 1) e).start → IsFor pool now k t
+  lower_found : t < (get_or now (k + 1) e).start → IsFor pool now k t
   lower_found starts =
       let long = now_len in
       found_for pool now k t paged (omega (arith, within)) (record {
@@ -375,6 +375,12 @@ module _ (pool : List (Option Frame)) (now old : List Page) (k t : ℕ) (e : Pag
               (get_or_default now (k + 1) e d (omega (arith, within))) starts)
         ];
       })
+
+  pub half_found : (j : ℕ) → IsHalfFor now k t j → IsFor pool now j t
+  half_found j half = elim (half e) [
+    | inl upper ↦ rw upper.0 (upper_found upper.1)
+    | inr lower ↦ rw lower.0 (lower_found lower.1)
+  ]
 
 -- the upper half is one of the pages
 pub within_split : (now old : List Page) (k : ℕ) → IsSplit old now k → k < length old → k + 1 < length now

@@ -6,7 +6,7 @@ ghost use Rattle.trend_num.specs.Ranges.{InRange};
 ghost use Rattle.page_pool.specs.Pool.{full_page, spare_of};
 ghost use Rattle.late_insert.specs.declared.directory.Page.{Page};
 ghost use Rattle.trend_model.specs.Contents.{IsRising, placed};
-ghost use Rattle.late_insert.specs.Pages.{ArePages, IsFor, IsSplit, half_page, lengths_of, page_in, page_records_of};
+ghost use Rattle.late_insert.specs.Pages.{ArePages, IsFor, IsHalfFor, IsSplit, half_page, lengths_of, page_in, page_records_of};
 ghost use Rattle.late_insert.specs.PageLengths.{AreBefore, IsGrown, IsHalved, place_in};
 
 use crate::directory::{Directory, Page};
@@ -102,6 +102,15 @@ pub(crate) fn make_room(pool: &mut Pool, pages: &mut Directory, t: u64) -> usize
         return k;
     }
     split(pool, pages, k);
+    half_for(pages, k, t)
+}
+
+// Of the page k and the next one that for the time t.
+fn half_for(pages: &Directory, k: usize, t: u64) -> usize
+    requires within { k + 1 < length pages.now.items }
+    requires next { k + 1 < 2 ^ 64 }
+    ensures { IsHalfFor pages.now.items k t result }
+{
     if pages.start(k + 1) <= t { k + 1 } else { k }
 }
 

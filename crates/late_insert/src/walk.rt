@@ -6,7 +6,7 @@ ghost use Rattle.trend_model.specs.Contents.{points_of};
 ghost use Rattle.trend_model.specs.Parts.{last_point};
 ghost use Rattle.trend_model.specs.Windows.{area};
 ghost use Rattle.late_insert.specs.Pages.{ArePages, page_records_of};
-ghost use Rattle.late_insert.specs.Totals.{greatest_of, least_of};
+ghost use Rattle.late_insert.specs.Totals.{extreme_of, greatest_of, least_of};
 
 use crate::directory::Directory;
 use crate::gap::frame_of;
@@ -71,30 +71,27 @@ impl<'a> Run<'a> {
     pub fn low(&self) -> i64
         ensures { result ≡ least_of self.now }
     {
-        if self.end - self.start < self.frame.len {
-            return extreme_between(
-                self.frame,
-                Extreme::Least,
-                self.start as usize,
-                self.end as usize,
-            );
-        }
-        self.frame.low
+        self.extreme(Extreme::Least)
     }
 
     /// Their greatest value.
     pub fn high(&self) -> i64
         ensures { result ≡ greatest_of self.now }
     {
+        self.extreme(Extreme::Greatest)
+    }
+
+    // An extreme of their values.
+    fn extreme(&self, extreme: Extreme) -> i64
+        ensures { result ≡ extreme_of extreme self.now }
+    {
         if self.end - self.start < self.frame.len {
-            return extreme_between(
-                self.frame,
-                Extreme::Greatest,
-                self.start as usize,
-                self.end as usize,
-            );
+            return extreme_between(self.frame, extreme, self.start as usize, self.end as usize);
         }
-        self.frame.high
+        match extreme {
+            Extreme::Least => self.frame.low,
+            Extreme::Greatest => self.frame.high,
+        }
     }
 }
 
