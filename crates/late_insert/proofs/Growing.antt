@@ -11,7 +11,7 @@ use Rattle.std.proofs.lemmas.List.Elements.{All-weaker}
 use Rattle.trend_num.specs.declared.archive.Rec.{Rec}
 use Rattle.page_pool.specs.declared.frame.Frame.{Frame}
 use Rattle.late_insert.specs.declared.directory.Page.{Page}
-use Rattle.late_insert.specs.Pages.{records_at, page_in, page_records_of, lengths_of, ArePages, ArePagesFrom, IsFor}
+use Rattle.late_insert.specs.Pages.{records_at, page_in, page_records_of, lengths_of, ArePages, ArePagesFrom, IsFor, IsRead}
 use Rattle.late_insert.specs.PageLengths.{AreFull, ArePagesFilled, IsGrown, IsHalved, IsPutAmong, place_in}
 use Rattle.trend_model.specs.Contents.{placed}
 use Rattle.trend_model.proofs.Placing.{time, AllBefore}
@@ -19,7 +19,7 @@ use Rattle.late_insert.proofs.Filling.{placed_last}
 use Rattle.late_insert.proofs.Summing.{length-records_in}
 use Rattle.late_insert.proofs.Finding.{no_page}
 use Rattle.late_insert.proofs.Joining.{all_right, records-around, lengths-around}
-use Rattle.late_insert.proofs.Reading.{IsRead, at_place, frame_page, page_len}
+use Rattle.late_insert.proofs.Reading.{at_place, frame_page, page_len}
 use Rattle.late_insert.proofs.Reading.{count_all, count_none}
 
 -- together they are all records

@@ -18,21 +18,13 @@ use Rattle.late_insert.specs.Moves.{IsLastUpto}
 use Rattle.trend_model.specs.Contents.{IsRising, points_of}
 use Rattle.trend_model.specs.Windows.{area}
 use Rattle.late_insert.specs.Pages.{rec_in, frame_records_in, records_at, page_in, page_records_of, IsPage, IsPageAt}
-use Rattle.late_insert.specs.Pages.{ArePages, IsFor, IsOn}
+use Rattle.late_insert.specs.Pages.{ArePages, IsRead, IsFor, IsOn}
 use Rattle.trend_model.proofs.Placing.{time, AllBefore, rising_left, rising_right}
 use Rattle.late_insert.proofs.Summing.{length-records_in, get_or-records_in}
 use Rattle.late_insert.proofs.Joining.{records-around, records-append, page_at}
 use Rattle.late_insert.proofs.Finding.{no_page, no_rec}
 
 -- ---- a page among the others
-
--- p is the page at k, and f its frame
-pub record IsRead (pool : List (Option Frame)) (pages : List Page) (k : ℕ) (p : Page) (f : Frame) : Type 0
-  where
-    pub paged : ArePages pool pages
-    pub within : k < length pages
-    pub read : p ≡ get_or pages k p
-    pub there : frame_at pool p.id ≡ Some f
 
 -- it is read so by its place
 pub is_read : (pool : List (Option Frame)) (pages : List Page) (k : ℕ) (p : Page) (f : Frame)
@@ -55,15 +47,7 @@ pub held_by : (pool : List (Option Frame)) (pages : List Page) (k id : ℕ) → 
 held_by pool pages k id paged within same =
     subst (IsHeld pool) same (ap is_some (page_at pool pages k no_page within paged.each).there)
 
--- so is the last one
-pub last_read : (pool : List (Option Frame)) (pages : List Page) (id n : ℕ) (f : Frame) → ArePages pool pages
-    → n ≡ length pages → (get_or pages (n - 1) no_page).id ≡ id → frame_at pool id ≡ Some f
-    → IsRead pool pages (length pages - 1) (get_or pages (length pages - 1) no_page) f
-last_read pool pages id n f paged len same there =
-    read_by pool pages (length pages - 1) id f paged (omega (arith, paged.some))
-    (subst (λ m. (get_or pages (m - 1) no_page).id ≡ id) len same) there
-
--- so is each page
+-- each page is read
 pub each_read : (pool : List (Option Frame)) (pages : List Page) (k : ℕ) (d : Page)
     (paged : ArePages pool pages) (within : k < length pages)
     → IsRead pool pages k (get_or pages k d) (page_at pool pages k d within paged.each).frame
