@@ -19,7 +19,7 @@ use Rattle.trend_model.specs.Contents.{placed, points_of}
 use Rattle.trend_model.specs.Windows.{area}
 use Rattle.late_insert.specs.declared.directory.Key.TheVariants.{Time}
 use Rattle.late_insert.specs.Moves.{IsLastUpto, moved}
-use Rattle.late_insert.specs.Pages.{frame_records_in, records_at, page_in, page_records_of, IsPage, ArePagesFrom, IsRead}
+use Rattle.late_insert.specs.Pages.{frame_records_in, records_at, page_in, page_records_of, IsPage, ArePagesFrom, IsPageRead}
 use Rattle.late_insert.specs.Pages.{ArePages, IsFor, IsHalfFor, IsSplit, lengths_of}
 use Rattle.late_insert.specs.PageLengths.{IsGrown, place_in}
 use Rattle.trend_model.proofs.Placing.{time, placed_middle}
@@ -39,7 +39,7 @@ pub record IsShelved (pages M S : List Page) (k by : ℕ) (q : Page) (g : Frame)
 
 module _ (pool : List (Option Frame)) (pages M S : List Page) (k by : ℕ) (p q : Page) (f g : Frame)
     (r : Rec) (s : ℤ) (stair : s ≡ area true (points_of (frame_records_in g)))
-    (is : IsRead pool pages k p f) (found : IsFor pool pages k (time r)) (page : IsPage g)
+    (is : IsPageRead pool pages k p f) (found : IsFor pool pages k (time r)) (page : IsPage g)
     (records : frame_records_in g ≡ placed r (frame_records_in f)) (grown : g.len ≡ f.len + by)
     (shelved : IsShelved pages M S k by q g s) where
   same_page : q ≡ p
@@ -173,7 +173,7 @@ pub record IsCut (pool_old pool : List (Option Frame)) (old now : List Page) (k 
 module _ (pool taken : List (Option Frame)) (pages : List Page) (k id : ℕ) (p q : Page) (f lo hi : Frame)
     (s t : ℤ)
     (lower_stair : s ≡ area true (points_of (frame_records_in lo)))
-    (upper_stair : t ≡ area true (points_of (frame_records_in hi))) (is : IsRead pool pages k p f)
+    (upper_stair : t ≡ area true (points_of (frame_records_in hi))) (is : IsPageRead pool pages k p f)
     (full : f.len ≡ 128) (lower : IsPage lo) (upper : IsPage hi)
     (low : frame_records_in lo ≡ take 64 (frame_records_in f))
     (high : frame_records_in hi ≡ drop 64 (frame_records_in f)) (takes : TakesFrame (set pool p.id (Some lo)) id taken)
@@ -279,7 +279,7 @@ module _ (pool taken : List (Option Frame)) (pages : List Page) (k id : ℕ) (p 
 
 -- the frame of a full page is full
 pub full_frame : (pool : List (Option Frame)) (pages : List Page) (k : ℕ) (p : Page) (f : Frame)
-    → IsRead pool pages k p f
+    → IsPageRead pool pages k p f
     → length (page_in pool (get_or pages k p)) ≡ 128 → f.len ≡ 128
 full_frame pool pages k p f is full =
     let same = ap (λ x. length (page_in pool x)) is.read in
@@ -288,7 +288,7 @@ full_frame pool pages k p f is full =
 
 -- a page's place and half a page fit
 pub first_small : (pool : List (Option Frame)) (pages : List Page) (k : ℕ) (p q : Page) (f : Frame)
-    → IsRead pool pages k p f → f.len ≡ 128
+    → IsPageRead pool pages k p f → f.len ≡ 128
     → q ≡ get_or pages k q → length (page_records_of pool pages) < 2 ^ 32 → q.first + 64 < 2 ^ 32
 first_small pool pages k p q f is full again few =
     let same : q ≡ p = again ∙ (get_or_default pages k q p is.within ∙ sym is.read) in

@@ -111,7 +111,7 @@ pub record ArePages (pool : List (Option Frame)) (pages : List Page) : Type 0 wh
   pub filled : 1 < length pages → All (λ p. 0 < length (page_in pool p)) pages
 
 -- p is the page at k, and f its frame
-pub record IsRead (pool : List (Option Frame)) (pages : List Page) (k : ℕ) (p : Page) (f : Frame) : Type 0
+pub record IsPageRead (pool : List (Option Frame)) (pages : List Page) (k : ℕ) (p : Page) (f : Frame) : Type 0
   where
     pub paged : ArePages pool pages
     pub within : k < length pages

@@ -5,7 +5,7 @@ ghost use Rattle.trend_num.specs.declared.archive.Rec.{Rec};
 ghost use Rattle.trend_num.specs.Ranges.{InRange};
 ghost use Rattle.trend_model.specs.Contents.{points_of};
 ghost use Rattle.trend_model.specs.Parts.{last_point};
-ghost use Rattle.late_insert.specs.Pages.{ArePages, IsRead, page_records_of};
+ghost use Rattle.late_insert.specs.Pages.{ArePages, IsPageRead, page_records_of};
 ghost use Rattle.late_insert.specs.declared.directory.Page.{Page};
 
 use crate::directory::Directory;
@@ -26,7 +26,7 @@ pub(crate) struct Gap {
 pub(crate) fn frame_of<'p>(pool: &'p Pool, pages: &Directory, k: usize) -> &'p Frame
     requires pages { ArePages pool.now pages.now.items }
     requires within { k < length pages.now.items }
-    ensures read { (d : Page) → IsRead pool.now pages.now.items k (slice_index_or pages.now.items k d) result.now }
+    ensures read { (d : Page) → IsPageRead pool.now pages.now.items k (slice_index_or pages.now.items k d) result.now }
     ensures next { k + 1 < 2 ^ 64 }
 {
     pool.frame(pages.id(k))

@@ -9,7 +9,7 @@ use Rattle.page_pool.proofs.Stored.{spare-written}
 use mir.Val.{of_z, to_z}
 use Rattle.trend_model.specs.Contents.{points_of}
 use Rattle.trend_model.specs.Windows.{area}
-use Rattle.late_insert.specs.Pages.{frame_records_in, IsRead}
+use Rattle.late_insert.specs.Pages.{frame_records_in, IsPageRead}
 use Rattle.late_insert.specs.Moves.{Listed, rewritten}
 use Rattle.late_insert.proofs.Finding.{no_page}
 use Rattle.late_insert.proofs.Reading.{held_by, read_by, frame_page}
@@ -95,7 +95,7 @@ returns-clause-frames c =
 
 -- the page that is cut, the frame that is taken, and the stairs of the halves
 read_here : (c : goal.After-insert)
-    → IsRead c.args.pool.now c.args.pages.now.items c.args.k (get_or c.args.pages.now.items c.args.k no_page)
+    → IsPageRead c.args.pool.now c.args.pages.now.items c.args.k (get_or c.args.pages.now.items c.args.k no_page)
     c.frame_mut.result.now
 read_here c = read_by c.args.pool.now c.args.pages.now.items c.args.k c.id.result.now c.frame_mut.result.now
     c.requires.pages c.requires.within (c.id.ensures.value no_page) c.frame_mut.ensures.value
