@@ -11,10 +11,13 @@
 //! out, that has failed, or whose file was refused is not handed out.
 //!
 //! **Only trusted, and to be read**: `host.rt`, where each method makes the one call that it notes, since no clause knows what the
-//! system does; and `folder.rt`, which reads and opens the file that a device's name says, locks the folder, and refuses what is
-//! to be refused: a link, a file with two names, one of more than 1 GB, and one that is no longer as long as it was told. Each
-//! refusal is a fault of that device, and its file stays untouched; where another process has the folder, or it cannot be read,
-//! each device is refused so. A file that may not be written is opened for reading, and a write of it is then a fault.
+//! system does; and `folder.rt`, which locks the folder, reads and opens the file that a device's name says, and refuses a link, a
+//! file with two names, one of more than 1 GB, and one that is no longer as long as it was read. A device that is refused counts a
+//! fault, and its file stays untouched; where another process has the folder, or it cannot be read, each device is refused so. A
+//! file that may not be written is opened for reading, and a write of it is then a fault. A device on which a call has failed is
+//! written anew, whole, when it is given back, since the system may show bytes that never came to the disk: the new file is synced
+//! and takes the old one's name. Where that fails, a file `NAME.fault` marks the device, and the next run that can do it writes the
+//! device anew before it believes what it reads.
 //!
 //! **Premises**, which no program can prove: a crash leaves of a file one of the images that the model allows for these calls;
 //! only this process, which holds the lock, writes to the folder; the next run reads what the crash has left.
