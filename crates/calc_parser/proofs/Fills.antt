@@ -1,6 +1,7 @@
 -- What may stand can be completed: tokens that lead somewhere begin some formula.
 use Rattle.std.proofs.Common.{◌≡◌, ℕ, ◌+◌, true, false, pos, List, [], ◌∷◌, ◌++◌, None, Some, refl, sym, ap, ◌∙◌, subst, append_assoc}
 use Rattle.std.proofs.lemmas.List.{append-nil}
+use Rattle.calc_parser.specs.declared.token.Sum.{Sum}
 use Rattle.calc_parser.specs.declared.token.Sum.TheVariants.{Plus, Minus}
 use Rattle.calc_parser.specs.declared.token.Product.{Product}
 use Rattle.calc_parser.specs.declared.token.Token.{Token}
@@ -81,6 +82,18 @@ abbrev FillsNext : Next → List Token → Type 0
 FillsNext None ts = ⊥
 FillsNext (Some next) ts = Fills next.1 ts
 
+-- a sum goes on with a sign, and with a factor or its last term
+summed : (s : Reading sums) (sign : Sum) (d : Reading factor) (ts rest end : List Token) → ts ≡ words d ++ rest
+    → words (more_terms s sign (one_factor d)) ++ rest ≡ end → words s ++ Summing sign ∷ ts ≡ end
+summed s sign d ts rest end cut is = ap (λ l. words s ++ Summing sign ∷ l) cut
+    ∙ sym (append_assoc (words s) (Summing sign ∷ words d) rest) ∙ is
+
+multiplied : (s : Reading sums) (sign : Product) (d : Reading factor) (ts rest end : List Token) → ts ≡ words d ++ rest
+    → words (extended s sign d) ++ rest ≡ end → words s ++ Multiplying sign ∷ ts ≡ end
+multiplied s sign d ts rest end cut is = ap (λ l. words s ++ Multiplying sign ∷ l) cut
+    ∙ sym (append_assoc (words s) (Multiplying sign ∷ words d) rest)
+    ∙ ap (λ l. l ++ rest) (sym (extended_words s sign d)) ∙ is
+
 -- one token back: a token that may stand, before what may come after it
 back : (k : Stack) (t : Token) (ts : List Token) → FillsNext (step k t) ts → Fills k (t ∷ ts)
 back [] t ts f = absurd f
@@ -146,22 +159,9 @@ back (operand n ∷ k) Choice ts f =
     (chosen c.reading a.reading b.reading, e.0, ap (λ l. Choice ∷ l) (f.1 ∙ ap (λ l. Open ∷ l) inner), e.2)
 back (operand n ∷ k) t ts f = absurd f
 back (more n true ∷ k) (Summing sign) ts f = λ s.
-    let g = f.3 (more_terms s sign (one_factor f.0)) in (
-      g.0,
-      g.1,
-      ap (λ l. words s ++ Summing sign ∷ l) f.2
-          ∙ sym (append_assoc (words s) (Summing sign ∷ words f.0) f.1) ∙ g.2,
-      g.3,
-    )
+    let g = f.3 (more_terms s sign (one_factor f.0)) in (g.0, g.1, summed s sign f.0 ts f.1 _ f.2 g.2, g.3)
 back (more n true ∷ k) (Multiplying sign) ts f = λ s.
-    let g = f.3 (extended s sign f.0) in (
-      g.0,
-      g.1,
-      ap (λ l. words s ++ Multiplying sign ∷ l) f.2
-          ∙ sym (append_assoc (words s) (Multiplying sign ∷ words f.0) f.1)
-          ∙ ap (λ l. l ++ f.1) (sym (extended_words s sign f.0)) ∙ g.2,
-      g.3,
-    )
+    let g = f.3 (extended s sign f.0) in (g.0, g.1, multiplied s sign f.0 ts f.1 _ f.2 g.2, g.3)
 back (more n true ∷ k) (Comparing cmp) ts f = λ s.
     let g = f.3 (one_term (one_factor f.0)) in (
       compared s cmp g.0,
@@ -172,22 +172,9 @@ back (more n true ∷ k) (Comparing cmp) ts f = λ s.
     )
 back (more n true ∷ k) t ts f = λ s. (plain s, t ∷ ts, refl, back k t ts f)
 back (more n false ∷ k) (Summing sign) ts f = λ s.
-    let g = f.3 (more_terms s sign (one_factor f.0)) in (
-      g.0,
-      g.1,
-      ap (λ l. words s ++ Summing sign ∷ l) f.2
-          ∙ sym (append_assoc (words s) (Summing sign ∷ words f.0) f.1) ∙ g.2,
-      g.3,
-    )
+    let g = f.3 (more_terms s sign (one_factor f.0)) in (g.0, g.1, summed s sign f.0 ts f.1 _ f.2 g.2, g.3)
 back (more n false ∷ k) (Multiplying sign) ts f = λ s.
-    let g = f.3 (extended s sign f.0) in (
-      g.0,
-      g.1,
-      ap (λ l. words s ++ Multiplying sign ∷ l) f.2
-          ∙ sym (append_assoc (words s) (Multiplying sign ∷ words f.0) f.1)
-          ∙ ap (λ l. l ++ f.1) (sym (extended_words s sign f.0)) ∙ g.2,
-      g.3,
-    )
+    let g = f.3 (extended s sign f.0) in (g.0, g.1, multiplied s sign f.0 ts f.1 _ f.2 g.2, g.3)
 back (more n false ∷ k) t ts f = λ s. (s, t ∷ ts, refl, back k t ts f)
 back (bracket n ∷ k) Open ts f = (ts, refl, f)
 back (bracket n ∷ k) t ts f = absurd f

@@ -206,29 +206,20 @@ highest-append : (xs ys : List ℕ) → highest (xs ++ ys) ≡ max (highest xs) 
 highest-append [] ys = omega arith
 highest-append (x ∷ xs) ys = omega (arith, highest-append xs ys)
 
+-- the highest of two derivations beside each other
+opened_beside : {K L : Level} (a : Reading K) (b : Reading L) (n : ℕ) → max n (highest (opens n a)) ≡ n + height a
+    → max n (highest (opens n b)) ≡ n + height b
+    → max n (highest (opens n a ++ 0 ∷ opens n b)) ≡ n + max (height a) (height b)
+opened_beside a b n first second = omega (arith, highest-append (opens n a) (0 ∷ opens n b), first, second)
+
 -- the highest of them, where `n` are open before it
 opened : {level : Level} (d : Reading level) (n : ℕ) → max n (highest (opens n d)) ≡ n + height d
 opened (plain s) n = opened s n
-opened (compared a cmp b) n = omega (
-  arith,
-  highest-append (opens n a) (0 ∷ opens n b),
-  opened a n,
-  opened b n,
-)
+opened (compared a cmp b) n = opened_beside a b n (opened a n) (opened b n)
 opened (one_term t) n = opened t n
-opened (more_terms a sign b) n = omega (
-  arith,
-  highest-append (opens n a) (0 ∷ opens n b),
-  opened a n,
-  opened b n,
-)
+opened (more_terms a sign b) n = opened_beside a b n (opened a n) (opened b n)
 opened (one_factor f) n = opened f n
-opened (more_factors a sign b) n = omega (
-  arith,
-  highest-append (opens n a) (0 ∷ opens n b),
-  opened a n,
-  opened b n,
-)
+opened (more_factors a sign b) n = opened_beside a b n (opened a n) (opened b n)
 opened (negated f) n = omega (arith, opened f (n + 1))
 opened (numeral m) n = omega arith
 opened (grouped a) n = omega (arith, highest-append (opens (n + 1) a) (0 ∷ []), opened a (n + 1))
@@ -288,6 +279,12 @@ pub spelled_length : (xs ys : List Token)
     → length (spelled (xs ++ ys)) ≡ length (spelled xs) + length (spelled ys)
 spelled_length xs ys = ap length (flat_map-append spelling xs ys) ∙ length-append (spelled xs) (spelled ys)
 
+-- two formulas and what stands behind them
+two_weigh : (a b : Reading formula) → length (spelled (words a)) ≡ weight a → length (spelled (words b)) ≡ weight b
+    → length (spelled (words a ++ Comma ∷ (words b ++ Close ∷ []))) ≡ weight a + weight b + 2
+two_weigh a b first second =
+    omega (arith, spelled_length (words a) (Comma ∷ (words b ++ Close ∷ [])), spelled_length (words b) (Close ∷ []), first, second)
+
 -- the weight is the number of bytes
 weighs : {level : Level} (d : Reading level) → length (spelled (words d)) ≡ weight d
 weighs (plain s) = weighs s
@@ -343,34 +340,14 @@ weighs (measured m tag) =
     )
 weighs (calculated tag) = omega (arith, length-append (tag ++ 39 ∷ []) (41 ∷ []), length-append tag (39 ∷ []))
 weighs (absolute a) = omega (arith, spelled_length (words a) (Close ∷ []), weighs a)
-weighs (picked Least a b) =
-    omega (
-      arith,
-      spelled_length (words a) (Comma ∷ (words b
-          ++ Close ∷ [])),
-      spelled_length (words b) (Close ∷ []),
-      weighs a,
-      weighs b,
-    )
-weighs (picked Greatest a b) =
-    omega (
-      arith,
-      spelled_length (words a) (Comma ∷ (words b
-          ++ Close ∷ [])),
-      spelled_length (words b) (Close ∷ []),
-      weighs a,
-      weighs b,
-    )
+weighs (picked Least a b) = omega (arith, two_weigh a b (weighs a) (weighs b))
+weighs (picked Greatest a b) = omega (arith, two_weigh a b (weighs a) (weighs b))
 weighs (chosen c a b) =
     omega (
       arith,
       spelled_length (words c) (Comma ∷ (words a ++ Comma ∷ (words b ++ Close ∷ []))),
-      spelled_length (words a) (Comma ∷ (words b
-          ++ Close ∷ [])),
-      spelled_length (words b) (Close ∷ []),
+      two_weigh a b (weighs a) (weighs b),
       weighs c,
-      weighs a,
-      weighs b,
     )
 
 -- the canonical text is as short

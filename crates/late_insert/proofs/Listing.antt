@@ -179,6 +179,17 @@ module _ (ls : List Leaf) (is ns : List ℕ) (ordered : AreOrdered ls is ns) whe
   pub number_read : (k n : ℕ) → k < length (placed_pages (picked ls is) ns) → n ≡ get_or is k n → n ≡ get_or is k 0
   number_read k n within read = read ∙ get_or_default is k n 0 (has_number k within)
 
+  -- of a list that is seen so, the place of a number and that of a leaf are there
+  module _ (pages : List Page) (k : ℕ) (seen : placed_pages (picked ls is) ns ≡ pages) (within : k < length pages) where
+    pub in_seen : k < length (placed_pages (picked ls is) ns)
+    in_seen = subst (λ l. k < length l) (sym seen) within
+
+    pub number_there : k < length is
+    number_there = has_number k in_seen
+
+    pub leaf_there : (n : ℕ) → n ≡ get_or is k n → n < length ls
+    leaf_there n read = omega (arith, number_read k n in_seen read, number_within k in_seen)
+
   -- a page is what has its number, and its place
   pub listed_read : (k n : ℕ) (d : Page) → k < length (placed_pages (picked ls is) ns)
       → get_or (placed_pages (picked ls is) ns) k d ≡ with_place (get_or ls (get_or is k 0) no_leaf) (get_or ns k n)

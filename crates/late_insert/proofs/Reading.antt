@@ -24,6 +24,12 @@ use Rattle.late_insert.proofs.Summing.{length-records_in, get_or-records_in}
 use Rattle.late_insert.proofs.Joining.{records-around, records-append, page_at}
 use Rattle.late_insert.proofs.Finding.{no_page, no_rec}
 
+-- all records up to a place are before the time t, and none from it on is
+pub record IsGap (records : List Rec) (t place : ℕ) : Type 0 where
+  pub bound : place ≤ length records
+  pub before : All (λ r. time r < t) (take place records)
+  pub after : All (λ r. t ≤ time r) (drop place records)
+
 -- ---- a page among the others
 
 -- it is read so by its place
@@ -185,10 +191,10 @@ module _ (pool : List (Option Frame)) (pages : List Page) (k : ℕ) (p : Page) (
   module _ (t i : ℕ) (found : IsFor pool pages k t) (upto : i ≤ f.len)
       (less : (j : ℕ) → j < i → get_or f.times j 0 < t)
       (more : (j : ℕ) → i ≤ j → j < f.len → t ≤ get_or f.times j 0) where
-    pub gap_within : p.first + i ≤ length (page_records_of pool pages)
+    gap_within : p.first + i ≤ length (page_records_of pool pages)
     gap_within = omega (arith, long)
 
-    pub gap_before : All (λ r. time r < t) (take (p.first + i) (page_records_of pool pages))
+    gap_before : All (λ r. time r < t) (take (p.first + i) (page_records_of pool pages))
     gap_before j d inside =
         let reach : j < p.first + i = omega
         (arith, length-take-le (p.first + i) (page_records_of pool pages) gap_within) in
@@ -210,7 +216,7 @@ module _ (pool : List (Option Frame)) (pages : List Page) (k : ℕ) (p : Page) (
             ∙ on_page (j - p.first) d (omega arith) in
             subst (λ r. time r < t) (sym here) (less (j - p.first) (omega arith))
 
-    pub gap_after : All (λ r. t ≤ time r) (drop (p.first + i) (page_records_of pool pages))
+    gap_after : All (λ r. t ≤ time r) (drop (p.first + i) (page_records_of pool pages))
     gap_after j d inside =
         subst (λ r. t ≤ time r) (sym (get_or-drop (p.first + i) (page_records_of pool pages) j d))
         (by_place (cases_lt (i + j) f.len))
@@ -235,6 +241,9 @@ module _ (pool : List (Option Frame)) (pages : List Page) (k : ℕ) (p : Page) (
             ∙ get_or-append-add (frame_records_in f) behind (i + j - f.len) d)) in
             let later = found.after (i + j - f.len) d reach in
             subst (λ r. t ≤ time r) (sym here) (omega arith)
+
+    pub gap_on : IsGap (page_records_of pool pages) t (p.first + i)
+    gap_on = record { bound = gap_within; before = gap_before; after = gap_after }
 
   -- ---- the page of a place
 

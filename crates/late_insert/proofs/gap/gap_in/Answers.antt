@@ -1,7 +1,9 @@
-use Rattle.std.proofs.Common.{sym, arith}
+use Rattle.std.proofs.Common.{◌+◌, sym, arith}
+use Rattle.late_insert.specs.Pages.{page_records_of}
 use Rattle.late_insert.proofs.Finding.{no_page, starts_rise, found_for}
-use Rattle.late_insert.proofs.Reading.{frame_page, frame_rises, gap_within, gap_before, gap_after}
+use Rattle.late_insert.proofs.Reading.{IsGap, frame_page, frame_rises, gap_on}
 use Rattle.late_insert.proofs.gap.gap_in.Goals as goal
+use Rattle.late_insert.proofs.gap.gap_in.Goals.{After-below_in}
 
 pub page_for-k-requires-clause-rising : goal.page_for-k-requires-clause-rising
 page_for-k-requires-clause-rising c =
@@ -22,39 +24,24 @@ overflow_cast-result c =
     let is = c.frame_of.ensures.read no_page in
     omega (arith, c.below_in.ensures.bound, (frame_page _ _ _ _ _ is).recorded.few)
 
+gap : (c : After-below_in)
+    → IsGap (page_records_of c.args.pool.now c.args.pages.now.items) c.args.t (c.first.result + c.below_in.result)
+gap c =
+    let is = c.frame_of.ensures.read no_page in
+    let found = found_for c.args.pool.now c.args.pages.now.items c.page_for-k.result c.args.t c.requires.pages
+    is.within c.page_for-k.ensures.last in
+    rw (sym (c.first.ensures no_page)) (gap_on _ _ _ _ _ is c.args.t c.below_in.result found
+    c.below_in.ensures.bound c.below_in.ensures.before c.below_in.ensures.after)
+
 pub overflow_add-result : goal.overflow_add-result
 overflow_add-result c =
-    let is = c.frame_of.ensures.read no_page in
-    let found = found_for c.args.pool.now c.args.pages.now.items c.page_for-k.result c.args.t c.requires.pages
-    is.within c.page_for-k.ensures.last in
-    omega (
-      arith,
-      c.first.ensures no_page,
-      gap_within _ _ _ _ _ is c.args.t c.below_in.result found c.below_in.ensures.bound
-          c.below_in.ensures.before c.below_in.ensures.after,
-      c.requires.few,
-    )
+    omega (arith, (gap (goal.at.overflow_add-result c).After-below_in).bound, c.requires.few)
 
 pub returns-clause-bound : goal.returns-clause-bound
-returns-clause-bound c =
-    let is = c.frame_of.ensures.read no_page in
-    let found = found_for c.args.pool.now c.args.pages.now.items c.page_for-k.result c.args.t c.requires.pages
-    is.within c.page_for-k.ensures.last in
-    rw (sym (c.first.ensures no_page)) (gap_within _ _ _ _ _ is c.args.t c.below_in.result found
-    c.below_in.ensures.bound c.below_in.ensures.before c.below_in.ensures.after)
+returns-clause-bound c = (gap (goal.at.returns-clause-bound c).After-below_in).bound
 
 pub returns-clause-before : goal.returns-clause-before
-returns-clause-before c =
-    let is = c.frame_of.ensures.read no_page in
-    let found = found_for c.args.pool.now c.args.pages.now.items c.page_for-k.result c.args.t c.requires.pages
-    is.within c.page_for-k.ensures.last in
-    rw (sym (c.first.ensures no_page)) (gap_before _ _ _ _ _ is c.args.t c.below_in.result found
-    c.below_in.ensures.bound c.below_in.ensures.before c.below_in.ensures.after)
+returns-clause-before c = (gap (goal.at.returns-clause-before c).After-below_in).before
 
 pub returns-clause-after : goal.returns-clause-after
-returns-clause-after c =
-    let is = c.frame_of.ensures.read no_page in
-    let found = found_for c.args.pool.now c.args.pages.now.items c.page_for-k.result c.args.t c.requires.pages
-    is.within c.page_for-k.ensures.last in
-    rw (sym (c.first.ensures no_page)) (gap_after _ _ _ _ _ is c.args.t c.below_in.result found
-    c.below_in.ensures.bound c.below_in.ensures.before c.below_in.ensures.after)
+returns-clause-after c = (gap (goal.at.returns-clause-after c).After-below_in).after

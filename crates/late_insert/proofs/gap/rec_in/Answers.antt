@@ -1,7 +1,8 @@
-use Rattle.std.proofs.Common.{sym, ◌∙◌, arith}
+use Rattle.std.proofs.Common.{◌+◌, ◌<◌, ◌≤◌, sym, ◌∙◌, arith}
 use Rattle.late_insert.proofs.Finding.{no_page, firsts_rise}
 use Rattle.late_insert.proofs.Reading.{frame_page, page_from, page_upto, read_at}
 use Rattle.late_insert.proofs.gap.rec_in.Goals as goal
+use Rattle.late_insert.proofs.gap.rec_in.Goals.{After-first}
 
 pub page_of-k-requires-clause-rising : goal.page_of-k-requires-clause-rising
 page_of-k-requires-clause-rising c = firsts_rise c.args.pool.now 0 c.args.pages.now.items c.requires.pages.each
@@ -11,27 +12,24 @@ rec_at-requires-clause-recorded c =
     let is = c.frame_of.ensures.read no_page in
     (frame_page _ _ _ _ _ is).recorded
 
+-- the place is on the page
+place : (c : After-first) → (c.first.result ≤ c.args.i) × (c.args.i < c.first.result + c.frame_of.result.now.len)
+place c =
+    let is = c.frame_of.ensures.read no_page in
+    rw (sym (c.first.ensures no_page)) (
+      page_from _ _ _ _ _ is c.args.i c.requires.within c.page_of-k.ensures.last,
+      page_upto _ _ _ _ _ is c.args.i c.requires.within c.page_of-k.ensures.last,
+    )
+
 pub rec_at-requires-clause-within : goal.rec_at-requires-clause-within
 rec_at-requires-clause-within c =
-    let is = c.frame_of.ensures.read no_page in
-    omega (
-      arith,
-      c.first.ensures no_page,
-      page_upto _ _ _ _ _ is c.args.i c.requires.within c.page_of-k.ensures.last,
-      page_from _ _ _ _ _ is c.args.i c.requires.within c.page_of-k.ensures.last,
-    )
+    let on = place (goal.at.rec_at-requires-clause-within c).After-first in omega (arith, on.0, on.1)
+
+pub overflow_sub-i : goal.overflow_sub-i
+overflow_sub-i c = omega (arith, (place (goal.at.overflow_sub-i c).After-first).0)
 
 pub returns-clause-value : goal.returns-clause-value
 returns-clause-value c = λ d.
     let is = c.frame_of.ensures.read no_page in
     let read = read_at _ _ _ _ _ is c.args.i c.requires.within c.page_of-k.ensures.last d in
     rw (c.first.ensures no_page) at read ∙ sym c.rec_at.ensures.value
-
-pub overflow_sub-i : goal.overflow_sub-i
-overflow_sub-i c =
-    let is = c.frame_of.ensures.read no_page in
-    omega (
-      arith,
-      c.first.ensures no_page,
-      page_from _ _ _ _ _ is c.args.i c.requires.within c.page_of-k.ensures.last,
-    )

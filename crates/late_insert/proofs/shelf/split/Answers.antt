@@ -15,6 +15,7 @@ use Rattle.late_insert.proofs.Finding.{no_page}
 use Rattle.late_insert.proofs.Reading.{held_by, read_by, frame_page}
 use Rattle.late_insert.proofs.Shelving.{IsCut, cut_in_two, first_small, full_frame}
 use Rattle.late_insert.proofs.shelf.split.Goals as goal
+use Rattle.late_insert.proofs.shelf.split.Goals.{After-write}
 
 -- what is no error is a value
 ok_from : {A E : Type 0} (r : Result A E) → (is_err r ≡ true → ⊥) → IsOk r
@@ -56,28 +57,21 @@ overflow_add-first c =
       first_small _ _ _ _ (get_or c.args.pages.now.items c.args.k no_page) _ is full is.read c.requires.few,
     )
 
+-- a page that is written is one of as many
+written : (c : After-write) → length c.write.new.self.items ≡ length c.args.pages.now.items
+written c =
+    ap (λ (s : Listed). length s.items) (c.write.ensures no_page)
+    ∙ length-set c.args.pages.now.items c.args.k (rewritten c.start-start.result
+    (to_z w128 (of_z w128 c.cut-halves.result.lower_stair)) (get_or c.args.pages.now.items c.args.k no_page))
+
 pub insert-requires-clause-within : goal.insert-requires-clause-within
 insert-requires-clause-within c =
-    let q = get_or c.args.pages.now.items c.args.k no_page in
-    let s = to_z w128 (of_z w128 c.cut-halves.result.lower_stair) in
-    omega (
-      arith,
-      ap (λ (s : Listed). length s.items) (c.write.ensures no_page),
-      length-set c.args.pages.now.items c.args.k (rewritten c.start-start.result s q),
-      c.requires.within,
-    )
+    omega (arith, written (goal.at.insert-requires-clause-within c).After-write, c.requires.within)
 
 pub insert-requires-clause-room : goal.insert-requires-clause-room
 insert-requires-clause-room c =
-    let q = get_or c.args.pages.now.items c.args.k no_page in
-    let s = to_z w128 (of_z w128 c.cut-halves.result.lower_stair) in
-    omega (
-      arith,
-      ap (λ (s : Listed). length s.items) (c.write.ensures no_page),
-      ap (λ (s : Listed). s.places) (c.write.ensures no_page),
-      length-set c.args.pages.now.items c.args.k (rewritten c.start-start.result s q),
-      c.requires.room,
-    )
+    let long = written (goal.at.insert-requires-clause-room c).After-write in
+    omega (arith, ap (λ (s : Listed). s.places) (c.write.ensures no_page), c.requires.room)
 
 pub returns-clause-capacity : goal.returns-clause-capacity
 returns-clause-capacity c =

@@ -1,10 +1,12 @@
-use Rattle.std.proofs.Common.{false, ◌+◌, ◌-◌, ◌<◌, ◌≤◌, take, drop, ap, sym, ◌∙◌, get_or}
+use Rattle.std.proofs.Common.{false, ℕ, ◌+◌, ◌-◌, ◌<◌, ◌≤◌, take, drop, ap, sym, ◌∙◌, get_or}
 use Rattle.std.proofs.Common.{length, subst, rules}
 use Rattle.std.specs.Prelude.{FitsSigned}
 use Rattle.std.specs.Int.{w64, w128}
 use Rattle.std.proofs.lemmas.Int.{to_z-of_z}
 use Rattle.trend_model.specs.Contents.{points_of}
 use Rattle.trend_model.specs.Windows.{area}
+use Rattle.page_pool.specs.declared.frame.Frame.{Frame}
+use Rattle.late_insert.specs.declared.content.PageTotals.{PageTotals}
 use Rattle.late_insert.specs.Totals.{least_of, greatest_of}
 use Rattle.late_insert.proofs.Finding.{no_page, firsts_rise}
 use Rattle.late_insert.specs.Pages.{lengths_of}
@@ -14,6 +16,16 @@ use mir.Val.{of_z, to_z}
 use Rattle.late_insert.specs.PageTotals.{IsPageOf}
 use Rattle.late_insert.specs.PageLengths.{IsOneOf}
 use Rattle.late_insert.proofs.content.Content.page.Goals as goal
+
+-- the totals that are handed out
+abbrev totals_in : Frame → ℕ → PageTotals
+totals_in f n = record {
+  first = n;
+  len = f.len;
+  area = to_z w128 (of_z w128 f.area);
+  low = to_z w64 (of_z w64 f.low);
+  high = to_z w64 (of_z w64 f.high);
+}
 
 pub page_of-k-requires-clause-rising : goal.page_of-k-requires-clause-rising
 page_of-k-requires-clause-rising c =
@@ -33,13 +45,7 @@ returns-clause-page c =
     let fits : FitsSigned w128 f.area = search rules in
     let low : FitsSigned w64 f.low = search rules in
     let high : FitsSigned w64 f.high = search rules in
-    subst (λ n. IsPageOf c.args.self.now.records c.args.i (record {
-      first = n;
-      len = f.len;
-      area = to_z w128 (of_z w128 f.area);
-      low = to_z w64 (of_z w64 f.low);
-      high = to_z w64 (of_z w64 f.high);
-    })) (c.first.ensures no_page) (record {
+    subst (λ n. IsPageOf c.args.self.now.records c.args.i (totals_in f n)) (c.first.ensures no_page) (record {
       from = page_from _ _ _ _ _ is c.args.i inside last;
       upto = page_upto _ _ _ _ _ is c.args.i inside last;
       within = subst (λ l. first + f.len ≤ length l) seen (end_within _ _ _ _ _ is);
@@ -52,13 +58,7 @@ pub returns-clause-one : goal.returns-clause-one
 returns-clause-one c =
     let is = c.frame_of-frame.ensures.read no_page in
     let f = c.frame_of-frame.result.now in
-    subst (λ n. IsOneOf c.args.self.now.pages (record {
-      first = n;
-      len = f.len;
-      area = to_z w128 (of_z w128 f.area);
-      low = to_z w64 (of_z w64 f.low);
-      high = to_z w64 (of_z w64 f.high);
-    })) (c.first.ensures no_page) (record {
+    subst (λ n. IsOneOf c.args.self.now.pages (totals_in f n)) (c.first.ensures no_page) (record {
       front = lengths_of c.self.inside.pool (take c.page_of-k.result c.self.inside.pages.items);
       back = lengths_of c.self.inside.pool (drop (c.page_of-k.result + 1) c.self.inside.pages.items);
       are = ap (λ s. s.pages) (sym c.self.view_is) ∙ length_at _ _ _ _ _ is;

@@ -5,27 +5,24 @@ use Rattle.std.proofs.lemmas.Int.{to_z-of_z}
 use Rattle.std.proofs.lemmas.List.{get_or_default, get_or-map, length-map}
 use Rattle.late_insert.specs.declared.directory.Leaf.{Leaf}
 use Rattle.late_insert.specs.Moves.{Listed, AreOrdered, no_leaf, picked, placed_pages, rewritten}
-use Rattle.late_insert.proofs.Listing.{even_length, has_number, number_read, number_within, placed_pages-set, picked-set}
+use Rattle.late_insert.proofs.Listing.{number_there, leaf_there, even_length, has_number, number_read, number_within, placed_pages-set, picked-set}
 use Rattle.late_insert.proofs.directory.Directory.write.Goals as goal
 
 pub index-requires : goal.index-requires
-index-requires c =
-    let within = subst (λ (s : Listed). c.args.k < length s.items) (sym c.self.view_is) c.requires in
-    let inside = has_number c.self.inside.leaves.items c.self.inside.order.items c.self.inside.firsts.items c.self.invariant.0
-    c.args.k within in
-    omega (arith, inside, c.self.inside.order.ok.0)
+index-requires c = omega (
+  arith,
+  number_there c.self.inside.leaves.items c.self.inside.order.items c.self.inside.firsts.items c.self.invariant.0
+      _ c.args.k (ap (λ (s : Listed). s.items) c.self.view_is) c.requires,
+  c.self.inside.order.ok.0,
+)
 
 pub index_mut-leaf-requires : goal.index_mut-leaf-requires
-index_mut-leaf-requires c =
-    let ordered : AreOrdered c.self.inside.leaves.items c.self.inside.order.items c.self.inside.firsts.items =
-    c.self.invariant.0 in
-    let within = subst (λ (s : Listed). c.args.k < length s.items) (sym c.self.view_is) c.requires in
-    omega (
-      arith,
-      number_read _ _ _ ordered c.args.k c.index.result.now within c.index.ensures,
-      number_within _ _ _ ordered c.args.k within,
-      c.self.inside.leaves.ok.0,
-    )
+index_mut-leaf-requires c = omega (
+  arith,
+  leaf_there c.self.inside.leaves.items c.self.inside.order.items c.self.inside.firsts.items c.self.invariant.0
+      _ c.args.k (ap (λ (s : Listed). s.items) c.self.view_is) c.requires c.index.result.now c.index.ensures,
+  c.self.inside.leaves.ok.0,
+)
 
 pub returns : goal.returns
 returns c = λ d.

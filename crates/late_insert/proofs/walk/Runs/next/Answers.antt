@@ -1,4 +1,4 @@
-use Rattle.std.proofs.Common.{◌≡◌, ◌-◌, ◌<◌, get_or, sym, ap, ◌∙◌, rules, arith}
+use Rattle.std.proofs.Common.{◌≡◌, ◌-◌, ◌<◌, ◌≤◌, get_or, sym, ap, ◌∙◌, rules, arith}
 use Rattle.std.specs.Prelude.{min, FitsSigned}
 use Rattle.std.specs.Int.{w128}
 use Rattle.std.proofs.lemmas.Int.{to_z-of_z}
@@ -6,7 +6,7 @@ use Rattle.late_insert.proofs.Reading.{place_on, page_stair}
 use Rattle.late_insert.proofs.Walking.{run_is, run_some, walk_on, walk_split}
 use Rattle.late_insert.proofs.Finding.{no_page}
 use Rattle.late_insert.proofs.walk.Runs.next.Goals as goal
-use Rattle.late_insert.proofs.walk.Runs.next.Goals.{After-first-first, After-min}
+use Rattle.late_insert.proofs.walk.Runs.next.Goals.{After-first-first, After-frame_of-frame, After-min}
 
 -- a point is left
 more : (c : After-first-first) → c.self.inside.place < c.self.inside.end
@@ -26,23 +26,17 @@ frame_of-frame-requires-clause-within c =
 pub frame_of-frame-requires-clause-pages : goal.frame_of-frame-requires-clause-pages
 frame_of-frame-requires-clause-pages c = c.self.invariant.paged
 
+-- the page begins no later than the run
+begun : (c : After-frame_of-frame) → c.first-first.result ≤ c.self.inside.place
+begun c = rw (sym (c.first-first.ensures no_page)) (place_on _ _ _ _ _ (c.frame_of-frame.ensures.read no_page)
+    c.self.inside.place (c.self.invariant.at (omega (arith, c.self.invariant.ordered)))).0
+
 pub overflow_sub-run : goal.overflow_sub-run
-overflow_sub-run c =
-    let at = goal.at.overflow_sub-run c in
-    omega (
-      arith,
-      c.first-first.ensures no_page,
-      (place_on _ _ _ _ _ (c.frame_of-frame.ensures.read no_page) c.self.inside.place (c.self.invariant.at (more at.After-first-first))).0,
-    )
+overflow_sub-run c = omega (arith, begun (goal.at.overflow_sub-run c).After-frame_of-frame)
 
 pub overflow_sub-self-inside : goal.overflow_sub-self-inside
 overflow_sub-self-inside c =
-    let at = goal.at.overflow_sub-self-inside c in
-    omega (
-      arith,
-      c.first-first.ensures no_page,
-      (place_on _ _ _ _ _ (c.frame_of-frame.ensures.read no_page) c.self.inside.place (c.self.invariant.at (more at.After-first-first))).0,
-    )
+    omega (arith, begun (goal.at.overflow_sub-self-inside c).After-frame_of-frame, c.self.invariant.ordered)
 
 pub invariant_of-run : goal.invariant_of-run
 invariant_of-run c =
