@@ -179,7 +179,7 @@ module _ (plant : List ℕ) (tags : ℕ) (opening : List LogRow) (moment faults 
     walk_is = ap (log_walked (log_begin (length opening) moment)) longer_is ∙ walked-push (log_begin (length opening) moment) tape (Commit ticks' (acked + count))
 
     -- so many rows waited, and so many of them are written
-    pub commit_legal : count ≡ min most_in_block (length opening + length (puts tape) - acked) → IsLogLegal tags opening moment longer (acked + count)
+    commit_legal : count ≡ min most_in_block (length opening + length (puts tape) - acked) → IsLogLegal tags opening moment longer (acked + count)
     commit_legal count_is = record {
       opened = legal.opened;
       turns = subst (LogTurnsFit tags (log_begin (length opening) moment)) (sym longer_is)
@@ -197,7 +197,7 @@ module _ (plant : List ℕ) (tags : ℕ) (opening : List LogRow) (moment faults 
         rows : (log_walked (log_begin (length opening) moment) tape).rows ≡ length opening + length (puts tape)
         rows = walked-rows (log_begin (length opening) moment) tape
 
-    pub commit_room : (places places' n room : ℕ) → HasRoomForPuts opening tape places n room → length tape + (room - n) + 1 ≤ places'
+    commit_room : (places places' n room : ℕ) → HasRoomForPuts opening tape places n room → length tape + (room - n) + 1 ≤ places'
         → HasRoomForPuts opening longer places' n room
     commit_room places places' n room has enough = record {
       count_is = has.count_is ∙ ap length (sym same_puts);
@@ -215,7 +215,7 @@ module _ (plant : List ℕ) (tags : ℕ) (opening : List LogRow) (moment faults 
     upto_rows : puts (take (next + turns) longer) ≡ first ++ block
     upto_rows = ap puts upto ∙ puts-append (take next tape) (take turns (drop next tape))
 
-    pub commit_waits : Waits opening longer (next + turns) (acked + count)
+    commit_waits : Waits opening longer (next + turns) (acked + count)
     commit_waits = record {
       within = omega (arith, is.within, length-drop next tape, waits.within, long);
       acked_are = omega (arith, waits.acked_are, ap length upto_rows, length-append first block, is.long);
@@ -238,7 +238,7 @@ module _ (plant : List ℕ) (tags : ℕ) (opening : List LogRow) (moment faults 
             ∙ written_byte (written (seen (Some t)) (end + 1) bytes) end open_byte
             (omega (arith, there, length-written (seen (Some t)) (end + 1) bytes (omega (arith, there))))
 
-    pub commit_kept : (end' : ℕ) → end' ≡ end + log_block_size block → faults' ≡ faults_now
+    commit_kept : (end' : ℕ) → end' ≡ end + log_block_size block → faults' ≡ faults_now
         → IsKept plant tags opening moment faults longer (next + turns) end' false new ticks' faults'
     commit_kept end' end_is same = record {
       ready = λ usable. subst (λ (n : ℕ). IfSome new (IsReady plant tags (opening ++ puts (take (next + turns) longer)) n)) (sym end_is)
@@ -257,7 +257,7 @@ module _ (plant : List ℕ) (tags : ℕ) (opening : List LogRow) (moment faults 
         shown None settled has = tt
         shown (Some t) settled has = record { settled = settled; stores = has (seen (Some t)) (present t) }
 
-    pub commit_safe : IsLogSafe plant tags opening moment tape (LeftSince old) → IsLogSafe plant tags opening moment longer (LeftSince new)
+    commit_safe : IsLogSafe plant tags opening moment tape (LeftSince old) → IsLogSafe plant tags opening moment longer (LeftSince new)
     commit_safe safe = record {
       images = λ t c since left.
           subst (λ (l : List LogRow). StandsForPart plant tags opening l (acked_at t (length opening) longer) c) (sym same_puts)
@@ -274,3 +274,21 @@ module _ (plant : List ℕ) (tags : ℕ) (opening : List LogRow) (moment faults 
             (subst (StandsForRows plant tags c) both_are (stores_stand plant tags (done ++ block) (end + log_block_size block) c
             (stored_now c (only_since new ticks' t c told (le_when ticks' t e) left))))
         by_moment t c since left false e = (writing_safe new safe during).images t c since left
+
+    -- all that a log keeps
+    pub committed : (places places' n room end' : ℕ) (failed : Bool) → failed ≡ false
+        → count ≡ min most_in_block (length opening + length (puts tape) - acked) → HasRoomForPuts opening tape places n room
+        → length tape + (room - n) + 1 ≤ places' → end' ≡ end + log_block_size block → faults' ≡ faults_now
+        → IsLogSafe plant tags opening moment tape (LeftSince old)
+        → IsLogLegal tags opening moment longer (acked + count) × HasRoomForPuts opening longer places' n room
+        × Waits opening longer (next + turns) (acked + count)
+        × IsKept plant tags opening moment faults longer (next + turns) end' failed new ticks' faults'
+        × IsLogSafe plant tags opening moment longer (LeftSince new)
+    committed places places' n room end' failed usable count_is has enough end_is same safe = (
+      commit_legal count_is,
+      commit_room places places' n room has enough,
+      commit_waits,
+      subst (λ f. IsKept plant tags opening moment faults longer (next + turns) end' f new ticks' faults') (sym usable)
+          (commit_kept end' end_is same),
+      commit_safe safe,
+    )

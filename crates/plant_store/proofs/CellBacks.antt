@@ -148,31 +148,25 @@ begun {D} trace ticks faults names cells rest histories traces count is none =
     (subst (λ (l : List (ToldCell D)). AreClosed trace ticks faults names cells l [] traces traces count count) (sym is)
     (none_closed trace ticks faults names cells traces count))
 
--- all devices are given back
-pub all_back : {D : Type 0} (trace : D → Option Trace) (ticks faults : D → ℕ) (names : List (List ℕ)) (cells rest : List (ToldCell D))
+-- all devices are given back, so each history is that of the device under its name
+pub all_closed : {D : Type 0} (trace : D → Option Trace) (ticks faults : D → ℕ) (names : List (List ℕ)) (cells rest : List (ToldCell D))
     (histories : List TagHistory) (old now : List ℕ → Option Trace) (before count : ℕ)
     → AreClosed trace ticks faults names cells rest histories old now before count → length histories ≡ length cells
-    → length names ≡ length cells → AreGivenBack trace names cells old now
-all_back trace ticks faults names cells rest histories old now before count closed all long =
-    subst (λ l. AreGivenBack trace l cells old now) (take_all (length histories) names (omega (arith, all, long)))
+    → length names ≡ length cells → AreGivenBack trace names cells old now × AreHistoriesAt now names histories
+all_closed {D} trace ticks faults names cells rest histories old now before count closed all long =
+    let back = subst (λ l. AreGivenBack trace l cells old now) (take_all (length histories) names (omega (arith, all, long)))
     (subst (λ l. AreGivenBack trace (take (length histories) names) l old now)
-    (take_all (length histories) cells (omega (arith, all))) closed.back)
-
--- so each history is that of the device under its name
-pub all_at : {D : Type 0} (trace : D → Option Trace) (ticks faults : D → ℕ) (names : List (List ℕ)) (cells rest : List (ToldCell D))
-    (histories : List TagHistory) (old now : List ℕ → Option Trace) (before count : ℕ)
-    → AreClosed trace ticks faults names cells rest histories old now before count → length histories ≡ length cells
-    → length names ≡ length cells → AreHistoriesAt now names histories
-all_at {D} trace ticks faults names cells rest histories old now before count closed all long =
-    let back = all_back trace ticks faults names cells rest histories old now before count closed all long in
+    (take_all (length histories) cells (omega (arith, all))) closed.back) in
     let told = subst (λ l. AreHistoriesOf trace ticks faults l histories) (take_all (length histories) cells (omega (arith, all)))
-    closed.told in
-    zip_joined (λ name (c : ToldCell D). now name ≡ trace c.journal.dev) (λ (c : ToldCell D) (h : TagHistory). IsHistoryOfCell
-    (trace c.journal.dev) (ticks c.journal.dev) (faults c.journal.dev) c h)
-    (λ name (h : TagHistory). (t : ℕ) × (n : ℕ) × IsCellHistory h (now name) t n)
-    (λ name c h says is. (
-      ticks c.journal.dev,
-      faults c.journal.dev,
-      subst (λ o. IsCellHistory h o (ticks c.journal.dev)
-          (faults c.journal.dev)) (sym says) is.history,
-    )) names cells histories back.given told
+    closed.told in (
+      back,
+      zip_joined (λ name (c : ToldCell D). now name ≡ trace c.journal.dev) (λ (c : ToldCell D) (h : TagHistory). IsHistoryOfCell
+      (trace c.journal.dev) (ticks c.journal.dev) (faults c.journal.dev) c h)
+      (λ name (h : TagHistory). (t : ℕ) × (n : ℕ) × IsCellHistory h (now name) t n)
+      (λ name c h says is. (
+        ticks c.journal.dev,
+        faults c.journal.dev,
+        subst (λ o. IsCellHistory h o (ticks c.journal.dev)
+            (faults c.journal.dev)) (sym says) is.history,
+      )) names cells histories back.given told,
+    )

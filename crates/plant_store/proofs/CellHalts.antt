@@ -219,19 +219,25 @@ rooms_more {D} cells more c rooms i k all before is at there = ap (λ l. map (λ
 
 -- once the devices of the opened cells are given back, it is a refusal of the tags, a crash has left nothing else, the faults
 -- are counted, and the devices of other tags are as they were
+pub record IsGivenUp (tags opened : List TagDef) (old now new : List ℕ → Option Trace) (before after : ℕ) (why : Status) : Type 0 where
+  pub refused : IsRefusal tags old new before after why
+  pub same : AllStaySame tags old new
+  pub counts : before < 2 ^ 64 → CountsStore {T = Unit {0}} (Err why) before after
+  pub others : AreOtherTagsSame opened now new
+
 pub given_up : {D : Type 0} (trace : D → Option Trace) (ticks faults : D → ℕ) (names : List (String Global))
     (tags : List TagDef) (cells : List (ToldCell D)) (n : ℕ) (old now new : List ℕ → Option Trace) (before count after : ℕ) (why : Status)
     → texts names ≡ device_names_of tags → n ≡ length cells → AreCellsOpened trace ticks faults (take (length cells) tags) old cells
     → IsStopped trace tags cells old now before count why → AreGivenBack trace (texts (take n names)) cells now new
     → (count < 2 ^ 64 → CountsCells faults cells count after)
-    → IsRefusal tags old new before after why × AllStaySame tags old new × (before < 2 ^ 64 → CountsStore {T = Unit {0}} (Err why) before after)
-    × AreOtherTagsSame (take (length cells) tags) now new
+    → IsGivenUp tags (take (length cells) tags) old now new before after why
 given_up trace ticks faults names tags cells n old now new before count after why same is opened stopped back counts =
     let given = given_of trace names tags cells now new same
     (subst (λ k. AreGivenBack trace (texts (take k names)) cells now new) is back) in
-    let kept = count_kept trace ticks faults (take (length cells) tags) tags old now cells before count after why opened stopped counts in (
-      stopped.refused new after given.0 kept,
-      stopped.same new given.0 given.1,
-      λ small. subst (λ k. CountsStore {T = Unit {0}} (Err why) before k) (sym (kept small)) (stopped.counts small),
-      given.0,
-    )
+    let kept = count_kept trace ticks faults (take (length cells) tags) tags old now cells before count after why opened stopped counts in
+    record {
+      refused = stopped.refused new after given.0 kept;
+      same = stopped.same new given.0 given.1;
+      counts = λ small. subst (λ k. CountsStore {T = Unit {0}} (Err why) before k) (sym (kept small)) (stopped.counts small);
+      others = given.0;
+    }

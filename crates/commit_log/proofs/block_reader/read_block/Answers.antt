@@ -31,53 +31,37 @@ kept c are = subst (All (Keeps c.args.c.now)) are c.in_ok-check.ensures.kept
 pub returns-in_err-check-clause-damaged : goal.returns-in_err-check-clause-damaged
 returns-in_err-check-clause-damaged c = λ a byte told.
     let s = c.args.c.now in
-    let gate = c.args.gate in
-    let n = length c.args.rows.now.items in
-    let count = c.short_at-count.result in
     let out = err_from_is_err_and c.from_residual.result c.from_residual.ensures.1 in
-    breaks_part s _ _ _ a byte (at_first s c.args.tags gate n count c.short_at-count.ensures)
+    breaks_part s _ _ _ a byte
+    (at_first s c.args.tags c.args.gate (length c.args.rows.now.items) c.short_at-count.result c.short_at-count.ensures)
     (subst (λ fs. BreaksFirst s fs a byte) (heads (goal.at.returns-in_err-check-clause-damaged c).After-check)
     (c.in_err-check.ensures.damaged a byte (told_through c.from_residual.result out.0 _ a byte out.1 out.2 told)))
 
 pub returns-in_err-read_rows-clause-damaged : goal.returns-in_err-read_rows-clause-damaged
 returns-in_err-read_rows-clause-damaged c = λ a byte told.
-    let s = c.args.c.now in
-    let gate = c.args.gate in
-    let n = length c.args.rows.now.items in
-    let count = c.short_at-count.result in
     let at = goal.at.returns-in_err-read_rows-clause-damaged c in
-    let kept = kept at.After-read_rows (heads at.After-check) in
     let out = err_from_is_err_and c.from_residual-in_err-read_rows.result c.from_residual-in_err-read_rows.ensures.1 in
-    breaks_part s _ _ _ a byte (at_rows s c.args.tags gate n count c.short_at-count.ensures kept)
+    breaks_part _ _ _ _ a byte
+    (at_rows _ c.args.tags _ _ _ c.short_at-count.ensures (kept at.After-read_rows (heads at.After-check)))
     (c.in_err-read_rows.ensures.damaged a byte
     (told_through c.from_residual-in_err-read_rows.result out.0 _ a byte out.1 out.2 told))
 
 pub returns-in_err-check-2-clause-damaged : goal.returns-in_err-check-2-clause-damaged
 returns-in_err-check-2-clause-damaged c = λ a byte told.
-    let s = c.args.c.now in
-    let gate = c.args.gate in
-    let n = length c.args.rows.now.items in
-    let count = c.short_at-count.result in
     let at = goal.at.returns-in_err-check-2-clause-damaged c in
-    let kept = kept at.After-read_rows (heads at.After-check) in
     let last = c.new-3.ensures in
     let out = err_from_is_err_and c.from_residual-in_err-check-2.result c.from_residual-in_err-check-2.ensures.1 in
-    breaks_part s _ _ _ a byte
-    (at_gate s c.args.tags gate n count c.short_at-count.ensures kept c.in_ok-read_rows.ensures.kept)
-    (subst (λ f. BreaksFirst s (f ∷ []) a byte) last
+    breaks_part _ _ _ _ a byte
+    (at_gate _ c.args.tags _ _ _ c.short_at-count.ensures (kept at.After-read_rows (heads at.After-check)) c.in_ok-read_rows.ensures.kept)
+    (subst (λ f. BreaksFirst c.args.c.now (f ∷ []) a byte) last
     (c.in_err-check-2.ensures.damaged a byte
     (told_through c.from_residual-in_err-check-2.result out.0 _ a byte out.1 out.2 told)))
 
 pub returns-clause-added : goal.returns-clause-added
 returns-clause-added c =
-    let s = c.args.c.now in
-    let gate = c.args.gate in
-    let n = length c.args.rows.now.items in
-    let count = c.short_at-count.result in
     let at = goal.at.returns-clause-added c in
-    let kept = kept at.After-read_rows (heads at.After-check) in
-    block_added s c.args.tags gate count _ c.args.rows.now.items c.read_rows.new.rows.items c.short_at-count.ensures
-    (λ i. omega (arith, c.type_inv.c i)) kept c.in_ok-read_rows.ensures.added refl
+    block_added _ c.args.tags _ _ _ c.args.rows.now.items _ c.short_at-count.ensures (λ i. omega (arith, c.type_inv.c i))
+    (kept at.After-read_rows (heads at.After-check)) c.in_ok-read_rows.ensures.added refl
 
 pub returns-clause-next : goal.returns-clause-next
 returns-clause-next c =

@@ -34,35 +34,31 @@ returns-in_err-stored-clause-any_moment_refused g c =
 pub returns-in_err-stored-clause-cause : goal.returns-in_err-stored-clause-cause
 returns-in_err-stored-clause-cause g c =
     let x = c.args in
-    let o = g.D.Disk.trace x.dev.now in
-    let mid = g.D.Disk.trace c.sync.new.self in
+    let is_cause = IsLogCause x.plant.now x.tags x.room (g.D.Disk.trace x.dev.now) in
     let out = err_from_is_err_and c.from_residual.result c.from_residual.ensures.1 in
     let read = c.in_err-stored.ensures in
-    subst (λ r. IfErr r (IsLogCause x.plant.now x.tags x.room o)) (sym out.1)
-    (subst (IsLogCause x.plant.now x.tags x.room o) (sym out.2)
-    (read_cause x.plant.now x.tags x.room o mid (Err c.in_err-stored.field-0.0) c.in_err-stored.field-0.0 refl c.in-Ok.ensures.noted
+    subst (λ r. IfErr r is_cause) (sym out.1) (subst is_cause (sym out.2)
+    (read_cause x.plant.now x.tags x.room _ _ (Err c.in_err-stored.field-0.0) c.in_err-stored.field-0.0 refl c.in-Ok.ensures.noted
     read.damaged read.other read.not_many))
 
 pub returns-in-Some-clause-stood : goal.returns-in-Some-clause-stood
 returns-in-Some-clause-stood g c =
     let x = c.args in
     let o = g.D.Disk.trace x.dev.now in
-    let mid = g.D.Disk.trace c.sync.new.self in
-    let stored = c.in-Some.stored in
-    ok_rows c.parts_of.result stored.rows.items (λ (l : List LogRow). Shows o (λ i. StandsForRows x.plant.now x.tags i l)) c.parts_of.ensures.rows
-    (shown_before o mid (λ i. StandsForRows x.plant.now x.tags i stored.rows.items) c.in-Ok.ensures.noted
-    (found_stands x.plant.now x.tags mid c.in_ok-stored.field-0 stored c.in-Some.is c.in_ok-stored.ensures.found))
+    let rows = c.in-Some.stored.rows.items in
+    ok_rows c.parts_of.result rows (λ (l : List LogRow). Shows o (λ i. StandsForRows x.plant.now x.tags i l)) c.parts_of.ensures.rows
+    (shown_before o _ (λ i. StandsForRows x.plant.now x.tags i rows) c.in-Ok.ensures.noted
+    (found_stands x.plant.now x.tags _ c.in_ok-stored.field-0 c.in-Some.stored c.in-Some.is c.in_ok-stored.ensures.found))
 
 pub returns-in-Some-clause-any_moment : goal.returns-in-Some-clause-any_moment
 returns-in-Some-clause-any_moment g c =
     let x = c.args in
     let o = g.D.Disk.trace x.dev.now in
-    let mid = g.D.Disk.trace c.sync.new.self in
     let new = g.D.Disk.trace c.read_log.new.dev in
     let rows = c.in-Some.stored.rows.items in
     ok_rows c.parts_of.result rows (λ (l : List LogRow). During o new (IsLeftOrStands x.plant.now x.tags l o)) c.parts_of.ensures.rows
-    (during_same o mid new (IsLeftOrStands x.plant.now x.tags rows o) c.read_log.ensures.same
-    (left_synced (λ i. StandsForRows x.plant.now x.tags i rows) c.sync.result o mid c.sync.ensures.noted))
+    (during_same o _ new (IsLeftOrStands x.plant.now x.tags rows o) c.read_log.ensures.same
+    (left_synced (λ i. StandsForRows x.plant.now x.tags i rows) c.sync.result _ _ c.sync.ensures.noted))
 
 pub returns-in-Some-clause-any_moment_refused : goal.returns-in-Some-clause-any_moment_refused
 returns-in-Some-clause-any_moment_refused g c =
@@ -72,32 +68,28 @@ pub returns-in-Some-clause-cause : goal.returns-in-Some-clause-cause
 returns-in-Some-clause-cause g c =
     let x = c.args in
     let o = g.D.Disk.trace x.dev.now in
-    let mid = g.D.Disk.trace c.sync.new.self in
-    let stored = c.in-Some.stored in
     let told = c.parts_of.ensures in
-    parts_cause x.plant.now x.tags x.room o c.parts_of.result (length stored.rows.items + x.room) told.many told.undamaged told.not_other
-    (λ n is. shown_before o mid (IsTooMany x.plant.now x.tags x.room n) c.in-Ok.ensures.noted
-    (found_many x.plant.now x.tags x.room n mid c.in_ok-stored.field-0 stored c.in-Some.is is c.in_ok-stored.ensures.found))
+    parts_cause x.plant.now x.tags x.room o c.parts_of.result _ told.many told.undamaged told.not_other
+    (λ n is. shown_before o _ (IsTooMany x.plant.now x.tags x.room n) c.in-Ok.ensures.noted
+    (found_many x.plant.now x.tags x.room n _ c.in_ok-stored.field-0 c.in-Some.stored c.in-Some.is is c.in_ok-stored.ensures.found))
 
 pub returns-in-None-clause-any_moment : goal.returns-in-None-clause-any_moment
 returns-in-None-clause-any_moment g c =
     let x = c.args in
     let o = g.D.Disk.trace x.dev.now in
-    let mid = g.D.Disk.trace c.sync.new.self in
     let new = g.D.Disk.trace c.begin.new.dev in
     ok_rows c.begin.result [] (λ (l : List LogRow). During o new (IsLeftOrStands x.plant.now x.tags l o)) c.begin.ensures.rows
-    (begun_stands x.plant.now x.tags [] o mid new refl
-    (left_synced (λ i. StandsForRows x.plant.now x.tags i []) c.sync.result o mid c.sync.ensures.noted)
+    (begun_stands x.plant.now x.tags [] o _ new refl
+    (left_synced (λ i. StandsForRows x.plant.now x.tags i []) c.sync.result _ _ c.sync.ensures.noted)
     (subst (λ t. During t new (LogsNothing x.plant.now)) c.read_log.ensures.same c.begin.ensures.any_moment))
 
 pub returns-in-None-clause-any_moment_refused : goal.returns-in-None-clause-any_moment_refused
 returns-in-None-clause-any_moment_refused g c =
     let x = c.args in
     let o = g.D.Disk.trace x.dev.now in
-    let mid = g.D.Disk.trace c.sync.new.self in
     let new = g.D.Disk.trace c.begin.new.dev in
-    on_err c.begin.result (During o new (IsLogLeftOrSame x.plant.now x.tags o))
-    (begun_same x.plant.now x.tags o mid new c.in-Ok.ensures.noted
-    (found_new x.plant.now x.tags mid c.in_ok-stored.field-0 c.in-None.is c.in_ok-stored.ensures.found)
-    (left_synced (StandsSame x.plant.now x.tags (seen o)) c.sync.result o mid c.sync.ensures.noted)
+    on_err c.begin.result _ (begun_same x.plant.now x.tags o _ new c.in-Ok.ensures.noted
+    (found_new x.plant.now x.tags _ c.in_ok-stored.field-0 c.in-None.is c.in_ok-stored.ensures.found)
+    (left_synced (StandsSame x.plant.now x.tags (seen o)) c.sync.result _ _ c.sync.ensures.noted)
     (subst (λ t. During t new (LogsNothing x.plant.now)) c.read_log.ensures.same c.begin.ensures.any_moment))
+

@@ -1,6 +1,7 @@
-use Rattle.std.proofs.Common.{◌≡◌, ◌<◌, ◌^◌, ap, sym, subst, true, false}
+use Rattle.std.proofs.Common.{◌≡◌, ◌<◌, ◌^◌, Option, IfOk, ap, sym, subst, true, false}
 use Rattle.trend_num.specs.declared.tag_def.TagDef.{TagDef}
 use Rattle.trend_model.specs.State.{State}
+use Rattle.disk_model.specs.Traces.{Trace}
 use Rattle.device_layout.specs.Recovery.{Recovers}
 use Rattle.crash_recovery.specs.Journals.{AllRecover, GoesOnFrom}
 use Rattle.disk_model.specs.Calls.{Shows}
@@ -31,28 +32,21 @@ left_retuned g c =
     during_same o (g.D.Disk.trace c.read_tag.new.dev) (g.D.Disk.trace c.new-2.result.dev)
     (IsTagLeftOrSame c.args.def.now o) (ap (λ j. g.D.Disk.trace j.dev) c.new-2.ensures) c.in-Ok.ensures.any_moment
 
+-- what the checkpoint promises of each image until then
+stays : (g : _) (c : goal.After-with_checkpoint g) (x : Option Trace)
+    → Promises (g.D.Disk.trace c.new-2.result.dev) x c.in-Ok.read.core.step c.in-Ok.read.core.state
+    → StaysSame c.args.def.now (g.D.Disk.trace c.args.dev) x
+stays g c x promise = stays_retuned _ _ _ x c.in-Ok.read.core.step c.in-Ok.read.core.state c.in-Ok.ensures.step (read_retuned g c)
+    (left_retuned g c) promise
+
 pub returns-then-read-clause-any_moment : goal.returns-then-read-clause-any_moment
 returns-then-read-clause-any_moment g c =
-    let def = c.args.def.now in
-    let o = g.D.Disk.trace c.args.dev in
-    let put = g.D.Disk.trace c.new-2.result.dev in
-    let core = c.in-Ok.read.core in
-    if_ok c.with_checkpoint.result (λ x. Promises put (g.D.Disk.trace x.journal.dev) core.step core.state)
-    (λ x. StaysSame def o (g.D.Disk.trace x.journal.dev))
-    (λ x promise. stays_retuned def o put (g.D.Disk.trace x.journal.dev) core.step core.state c.in-Ok.ensures.step
-    (read_retuned g c) (left_retuned g c) promise)
+    if_ok c.with_checkpoint.result _ _ (λ x promise. stays g c (g.D.Disk.trace x.journal.dev) promise)
     c.with_checkpoint.ensures.any_moment
 
 pub returns-then-read-clause-any_moment_refused : goal.returns-then-read-clause-any_moment_refused
 returns-then-read-clause-any_moment_refused g c =
-    let def = c.args.def.now in
-    let o = g.D.Disk.trace c.args.dev in
-    let put = g.D.Disk.trace c.new-2.result.dev in
-    let core = c.in-Ok.read.core in
-    if_err c.with_checkpoint.result (λ x. Promises put (g.D.Disk.trace x.dev) core.step core.state)
-    (λ x. StaysSame def o (g.D.Disk.trace x.dev))
-    (λ x promise. stays_retuned def o put (g.D.Disk.trace x.dev) core.step core.state c.in-Ok.ensures.step
-    (read_retuned g c) (left_retuned g c) promise)
+    if_err c.with_checkpoint.result _ _ (λ x promise. stays g c (g.D.Disk.trace x.dev) promise)
     c.with_checkpoint.ensures.any_moment_refused
 
 pub returns-then-read-clause-opened : goal.returns-then-read-clause-opened
@@ -66,70 +60,60 @@ returns-then-read-clause-opened g c =
     (opened_shown def o (g.D.Disk.trace c.read_tag.new.dev) c.in-Ok.read.retuned core.state c.in-Ok.ensures.opened))
     c.with_checkpoint.ensures.core
 
-pub returns-then-read-clause-recovers : goal.returns-then-read-clause-recovers
-returns-then-read-clause-recovers g c =
-    let def = c.args.def.now in
-    let o = g.D.Disk.trace c.args.dev in
-    let put = g.D.Disk.trace c.new-2.result.dev in
+-- what holds once a checkpoint has made the retuned tag durable
+then_kept : (g : _) (c : goal.After-with_checkpoint g) (P : Option Trace → State → Type 0)
+    → let core = c.in-Ok.read.core in
+    ((x : Option Trace) → (core.state.summary.taken < 10 ^ 18 → (d : TagDef) (s : State)
+    → AllRecover d (g.D.Disk.trace c.new-2.result.dev) s → GoesOnFrom d s core.step core.state → AllRecover d x core.state)
+    → P x core.state)
+    → IfOk c.with_checkpoint.result (λ x. P (g.D.Disk.trace x.journal.dev) x.core.state)
+then_kept g c P holds =
     let core = c.in-Ok.read.core in
     if_ok₂ c.with_checkpoint.result (λ x. core.state.summary.taken < 10 ^ 18 → (d : TagDef) (s : State)
-    → AllRecover d put s
+    → AllRecover d (g.D.Disk.trace c.new-2.result.dev) s
     → GoesOnFrom d s core.step core.state → AllRecover d (g.D.Disk.trace x.journal.dev) core.state)
-    (λ x. x.core ≡ core)
-    (λ x. RecoversThen def o (g.D.Disk.trace x.journal.dev) x.core.state)
-    (λ x durable kept. subst (λ k. RecoversThen def o (g.D.Disk.trace x.journal.dev) k.state) (sym kept)
-    (recovers_retuned def o put (g.D.Disk.trace x.journal.dev) core.step core.state c.in-Ok.ensures.step
-    (read_retuned g c) durable))
+    (λ x. x.core ≡ core) (λ x. P (g.D.Disk.trace x.journal.dev) x.core.state)
+    (λ x durable kept. subst (λ k. P (g.D.Disk.trace x.journal.dev) k.state) (sym kept) (holds _ durable))
     c.with_checkpoint.ensures.durable c.with_checkpoint.ensures.core
 
-pub returns-else-read-clause-recovers : goal.returns-else-read-clause-recovers
-returns-else-read-clause-recovers g c =
-    let def = c.args.def.now in
-    let o = g.D.Disk.trace c.args.dev in
-    let mid = g.D.Disk.trace c.read_tag.new.dev in
-    let put = g.D.Disk.trace c.new-2.result.dev in
-    let same = ap (λ j. g.D.Disk.trace j.dev) c.new-2.ensures in
-    let state = c.in-Ok.read.core.state in
-    recovers_read def o put state (subst (λ x. IsReadAs def o x false state) (sym same)
-    (subst (λ b. IsReadAs def o mid b state) c.if-read.false c.in-Ok.ensures.opened))
+pub returns-then-read-clause-recovers : goal.returns-then-read-clause-recovers
+returns-then-read-clause-recovers g c =
+    let core = c.in-Ok.read.core in
+    then_kept g c (RecoversThen c.args.def.now (g.D.Disk.trace c.args.dev))
+    (λ x durable. recovers_retuned _ _ _ x core.step core.state c.in-Ok.ensures.step (read_retuned g c) durable)
 
 pub returns-then-read-clause-recovers_now : goal.returns-then-read-clause-recovers_now
 returns-then-read-clause-recovers_now g c =
+    let core = c.in-Ok.read.core in
+    then_kept g c (λ x state. state.summary.taken < 10 ^ 18 → AllRecover c.args.def.now x state)
+    (λ x durable small. now_retuned _ (g.D.Disk.trace c.args.dev) _ x core.step core.state c.in-Ok.ensures.step
+    (left_retuned g c).later (read_retuned g c) (durable small))
+
+-- what was read, where it was not retuned, as the device that the journal has shows it
+read_else : (g : _) (c : goal.Else-read g)
+    → IsReadAs c.args.def.now (g.D.Disk.trace c.args.dev) (g.D.Disk.trace c.new-2.result.dev) false c.in-Ok.read.core.state
+read_else g c =
     let def = c.args.def.now in
     let o = g.D.Disk.trace c.args.dev in
-    let put = g.D.Disk.trace c.new-2.result.dev in
-    let core = c.in-Ok.read.core in
-    if_ok₂ c.with_checkpoint.result (λ x. core.state.summary.taken < 10 ^ 18 → (d : TagDef) (s : State)
-    → AllRecover d put s
-    → GoesOnFrom d s core.step core.state → AllRecover d (g.D.Disk.trace x.journal.dev) core.state)
-    (λ x. x.core ≡ core)
-    (λ x. x.core.state.summary.taken < 10 ^ 18 → AllRecover def (g.D.Disk.trace x.journal.dev) x.core.state)
-    (λ x durable kept. subst
-    (λ k. k.state.summary.taken < 10 ^ 18 → AllRecover def (g.D.Disk.trace x.journal.dev) k.state) (sym kept)
-    (λ small. now_retuned def o put (g.D.Disk.trace x.journal.dev) core.step core.state c.in-Ok.ensures.step
-    (left_retuned g c).later (read_retuned g c) (durable small)))
-    c.with_checkpoint.ensures.durable c.with_checkpoint.ensures.core
+    let state = c.in-Ok.read.core.state in
+    subst (λ j. IsReadAs def o (g.D.Disk.trace j.dev) false state) (sym c.new-2.ensures)
+    (subst (λ b. IsReadAs def o (g.D.Disk.trace c.read_tag.new.dev) b state) c.if-read.false c.in-Ok.ensures.opened)
+
+pub returns-else-read-clause-recovers : goal.returns-else-read-clause-recovers
+returns-else-read-clause-recovers g c =
+    recovers_read c.args.def.now (g.D.Disk.trace c.args.dev) _ c.in-Ok.read.core.state (read_else g c)
 
 pub returns-else-read-clause-recovers_now : goal.returns-else-read-clause-recovers_now
 returns-else-read-clause-recovers_now g c =
-    let def = c.args.def.now in
     let o = g.D.Disk.trace c.args.dev in
-    let mid = g.D.Disk.trace c.read_tag.new.dev in
-    let put = g.D.Disk.trace c.new-2.result.dev in
-    let same = ap (λ j. g.D.Disk.trace j.dev) c.new-2.ensures in
-    let state = c.in-Ok.read.core.state in
-    λ small. now_read def o put state (subst (ComesAfter o) (sym same) c.in-Ok.ensures.any_moment.later)
-    (subst (λ x. IsReadAs def o x false state) (sym same)
-    (subst (λ b. IsReadAs def o mid b state) c.if-read.false c.in-Ok.ensures.opened))
+    λ small. now_read c.args.def.now o _ c.in-Ok.read.core.state
+    (subst (λ j. ComesAfter o (g.D.Disk.trace j.dev)) (sym c.new-2.ensures) c.in-Ok.ensures.any_moment.later) (read_else g c)
 
 pub returns-else-read-clause-any_moment : goal.returns-else-read-clause-any_moment
 returns-else-read-clause-any_moment g c =
-    let def = c.args.def.now in
     let o = g.D.Disk.trace c.args.dev in
-    let mid = g.D.Disk.trace c.read_tag.new.dev in
-    let put = g.D.Disk.trace c.new-2.result.dev in
-    let same = ap (λ j. g.D.Disk.trace j.dev) c.new-2.ensures in
-    stays_read def o put (during_same o mid put (IsTagLeftOrSame def o) same c.in-Ok.ensures.any_moment)
+    stays_read _ o _ (during_same o _ _ (IsTagLeftOrSame c.args.def.now o) (ap (λ j. g.D.Disk.trace j.dev) c.new-2.ensures)
+    c.in-Ok.ensures.any_moment)
 
 pub returns-else-read-clause-opened : goal.returns-else-read-clause-opened
 returns-else-read-clause-opened g c =
@@ -137,46 +121,24 @@ returns-else-read-clause-opened g c =
     c.in-Ok.read.retuned c.in-Ok.read.core.state c.in-Ok.ensures.opened
 
 pub returns-then-read-clause-free : goal.returns-then-read-clause-free
-returns-then-read-clause-free g c =
-    let def = c.args.def.now in
-    let o = g.D.Disk.trace c.args.dev in
-    let put = g.D.Disk.trace c.new-2.result.dev in
-    let state = c.in-Ok.read.core.state in
-    if_ok c.with_checkpoint.result (λ x. x.journal.free ≡ x.journal.slots)
-    (λ x. Shows o (LeavesFree def x.journal.slots x.journal.free))
-    (λ x all. free_retuned def o put state x.journal.slots x.journal.free (read_retuned g c) all) c.with_checkpoint.ensures.free
+returns-then-read-clause-free g c = if_ok c.with_checkpoint.result _ _
+    (λ x all. free_retuned c.args.def.now _ _ _ x.journal.slots x.journal.free (read_retuned g c) all)
+    c.with_checkpoint.ensures.free
 
 pub returns-then-read-clause-made : goal.returns-then-read-clause-made
-returns-then-read-clause-made g c =
-    let def = c.args.def.now in
-    let o = g.D.Disk.trace c.args.dev in
-    let put = g.D.Disk.trace c.new-2.result.dev in
-    let state = c.in-Ok.read.core.state in
-    if_ok c.with_checkpoint.result (λ x. x.journal.free ≡ x.journal.slots)
-    (λ x. MakesLayout def c.args.lane_slots o (g.D.Disk.trace x.journal.dev))
-    (λ x all. layout_retuned def o put (g.D.Disk.trace x.journal.dev) state c.args.lane_slots (read_retuned g c))
+returns-then-read-clause-made g c = if_ok c.with_checkpoint.result _ _
+    (λ x all. layout_retuned c.args.def.now _ _ (g.D.Disk.trace x.journal.dev) _ c.args.lane_slots (read_retuned g c))
     c.with_checkpoint.ensures.free
 
 pub returns-then-read-clause-synced : goal.returns-then-read-clause-synced
-returns-then-read-clause-synced g c =
-    let def = c.args.def.now in
-    let o = g.D.Disk.trace c.args.dev in
-    let put = g.D.Disk.trace c.new-2.result.dev in
-    let state = c.in-Ok.read.core.state in
-    if_ok c.with_checkpoint.result (λ x. x.journal.free ≡ x.journal.slots)
-    (λ x. GainsSync def o (g.D.Disk.trace x.journal.dev))
-    (λ x all. synced_retuned def o put (g.D.Disk.trace x.journal.dev) state (read_retuned g c)) c.with_checkpoint.ensures.free
+returns-then-read-clause-synced g c = if_ok c.with_checkpoint.result _ _
+    (λ x all. synced_retuned c.args.def.now _ _ (g.D.Disk.trace x.journal.dev) _ (read_retuned g c))
+    c.with_checkpoint.ensures.free
 
 pub returns-else-read-clause-free : goal.returns-else-read-clause-free
 returns-else-read-clause-free g c =
-    let def = c.args.def.now in
-    let o = g.D.Disk.trace c.args.dev in
-    let mid = g.D.Disk.trace c.read_tag.new.dev in
-    let state = c.in-Ok.read.core.state in
-    let read = subst (λ b. IsReadAs def o mid b state) c.if-read.false c.in-Ok.ensures.opened in
-    let same = c.new-2.ensures in
-    subst (λ j. Shows o (LeavesFree def j.slots j.free)) (sym same)
-    (free_read def o mid state _ _ read c.in-Ok.ensures.free)
+    subst (λ j. Shows (g.D.Disk.trace c.args.dev) (LeavesFree c.args.def.now j.slots j.free)) (sym c.new-2.ensures)
+    (free_read c.args.def.now _ _ _ _ _ (read_else g c) c.in-Ok.ensures.free)
 
 pub returns-else-read-clause-made : goal.returns-else-read-clause-made
 returns-else-read-clause-made g c =

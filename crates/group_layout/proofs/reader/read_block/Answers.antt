@@ -1,25 +1,29 @@
-use Rattle.std.proofs.Common.{◌≡◌, ◌+◌, ◌*◌, ◌≤◌, ◌∷◌, [], true, All, length, nat_eq, nat_le, refl, ap, ◌∙◌, subst, arith, lit<}
+use Rattle.std.proofs.Common.{◌≡◌, ◌+◌, ◌*◌, ◌≤◌, ◌∷◌, [], true, All, length, nat_le, refl, ap, ◌∙◌, subst, arith, lit<}
 use Rattle.std.proofs.lemmas.Result.{err_from_is_err_and}
-use Rattle.archive_file.specs.LayoutFields.{BreaksFirst, Keeps, short_at}
-use Rattle.group_layout.specs.Blocks.{parts_of}
-use Rattle.archive_file.proofs.FieldLaws.{breaks_part, field_of, told_through}
-use Rattle.group_layout.proofs.BlockLaws.{at_number, at_versions, at_counts, at_rows, at_gate, block_follows, block_spelled}
+use Rattle.archive_file.specs.LayoutFields.{BreaksFirst, Keeps}
+use Rattle.group_layout.specs.Blocks.{block_fields, parts_of}
+use Rattle.archive_file.proofs.FieldLaws.{breaks_part, field_of, kept_none, told_through}
+use Rattle.group_layout.proofs.BlockLaws.{IsRead, at_counts, at_gate, at_rows, at_versions, block_follows, block_spelled, number_field, number_read}
 use Rattle.group_layout.proofs.reader.read_block.Goals as goal
-use Rattle.group_layout.proofs.reader.read_block.Goals.{After-check, After-read_versions, After-read_rows}
+use Rattle.group_layout.proofs.reader.read_block.Goals.{After-check-2, After-read_versions, After-read_rows}
 
--- the number is that behind the block before
-number_is : (c : After-check)
-    → c.new.result ≡ field_of (c.args.gate + 1) 8 (nat_eq c.long_at-number.result ((parts_of c.args.before.now).number + 1))
-number_is c = c.new.ensures ∙ ap (field_of (c.args.gate + 1) 8) c.is_next.ensures
+-- the number was read, and it and the versions are kept
+kept : (c : After-read_versions) → All (Keeps c.args.c.now) (number_field c.args.c.now c.args.gate (parts_of c.args.before.now) ∷ [])
+kept c = subst (λ f. All (Keeps c.args.c.now) (f ∷ []))
+    (number_read _ _ (parts_of c.args.before.now) _ _ _ c.new.ensures c.is_next.ensures c.long_at-number.ensures) c.in_ok-check.ensures.kept
 
--- so it keeps what it has to
-kept : (c : After-read_versions)
-    → c.new.result ≡ field_of (c.args.gate + 1) 8 (nat_eq c.long_at-number.result ((parts_of c.args.before.now).number + 1))
-    → All (Keeps c.args.c.now)
-    (field_of (c.args.gate + 1) 8 (nat_eq c.long_at-number.result ((parts_of c.args.before.now).number + 1)) ∷ [])
-kept c is = subst (λ f. All (Keeps c.args.c.now) (f ∷ [])) is c.in_ok-check.ensures.kept
+read : (c : After-check-2) → All (Keeps c.args.c.now) (number_field c.args.c.now c.args.gate (parts_of c.args.before.now) ∷ [])
+    → IsRead c.args.c.now c.args.gate (parts_of c.args.before.now) (c.args.gate + 9 + 4 * c.len.result) c.short_at-windows.result
+    c.deref.result.now
+read c kept = record {
+  vs_is = c.deref.ensures.value;
+  at_is = omega (arith, c.len.ensures, c.in_ok-versions.ensures.len);
+  windows_is = c.short_at-windows.ensures;
+  number = kept;
+  versions = c.in_ok-versions.ensures.kept;
+}
 
--- and so do the counts behind the versions
+-- and so are the counts behind the versions
 counts : (c : After-read_rows)
     → let at = c.args.gate + 9 + 4 * c.len.result in
     All (Keeps c.args.c.now)
@@ -33,29 +37,18 @@ pub returns-in_err-check-clause-damaged : goal.returns-in_err-check-clause-damag
 returns-in_err-check-clause-damaged c = λ a byte told.
     let s = c.args.c.now in
     let b = parts_of c.args.before.now in
-    let gate = c.args.gate in
     let out = err_from_is_err_and c.from_residual.result c.from_residual.ensures.1 in
-    let is = number_is (goal.at.returns-in_err-check-clause-damaged c).After-check in
-    let at = gate + 9 + 4 * length b.versions in
-    breaks_part s _ _ _ a byte
-    (at_number s c.args.calcs gate b c.long_at-number.result at (short_at s at) (short_at s (at + 4)) b.versions refl
-    c.long_at-number.ensures refl refl refl)
-    (subst (λ f. BreaksFirst s (f ∷ []) a byte) is
+    breaks_part s _ (number_field s c.args.gate b ∷ []) _ a byte (kept_none s (block_fields s c.args.calcs b c.args.gate))
+    (subst (λ f. BreaksFirst s (f ∷ []) a byte)
+    (number_read _ _ b _ _ _ c.new.ensures c.is_next.ensures c.long_at-number.ensures)
     (c.in_err-check.ensures.damaged a byte (told_through c.from_residual.result out.0 _ a byte out.1 out.2 told)))
 
 pub returns-in_err-versions-clause-damaged : goal.returns-in_err-versions-clause-damaged
 returns-in_err-versions-clause-damaged c = λ a byte told.
     let here = goal.at.returns-in_err-versions-clause-damaged c in
-    let s = c.args.c.now in
-    let b = parts_of c.args.before.now in
-    let gate = c.args.gate in
-    let vs = c.deref.result.now in
     let out = err_from_is_err_and c.from_residual-in_err-versions.result c.from_residual-in_err-versions.ensures.1 in
-    let kept = kept here.After-read_versions (number_is here.After-check) in
-    let at = gate + 9 + 4 * length vs in
-    breaks_part s _ _ _ a byte
-    (at_versions s c.args.calcs gate b c.long_at-number.result at (short_at s at) (short_at s (at + 4)) vs c.deref.ensures.value
-    c.long_at-number.ensures refl refl refl kept)
+    breaks_part c.args.c.now _ _ _ a byte
+    (at_versions _ c.args.calcs _ (parts_of c.args.before.now) _ c.deref.ensures.value (kept here.After-read_versions))
     (c.in_err-versions.ensures.damaged a byte
     (told_through c.from_residual-in_err-versions.result out.0 _ a byte out.1 out.2 told))
 
@@ -63,18 +56,10 @@ pub returns-in_err-check-2-clause-damaged : goal.returns-in_err-check-2-clause-d
 returns-in_err-check-2-clause-damaged c = λ a byte told.
     let here = goal.at.returns-in_err-check-2-clause-damaged c in
     let s = c.args.c.now in
-    let b = parts_of c.args.before.now in
-    let gate = c.args.gate in
-    let vs = c.deref.result.now in
-    let at = gate + 9 + 4 * c.len.result in
     let out = err_from_is_err_and c.from_residual-in_err-check-2.result c.from_residual-in_err-check-2.ensures.1 in
-    let kept = kept here.After-read_versions (number_is here.After-check) in
-    let at_is : at ≡ gate + 9 + 4 * length vs = omega (arith, c.len.ensures, c.in_ok-versions.ensures.len) in
     let first = c.new-2.ensures in
     let second = c.new-3.ensures in
-    breaks_part s _ _ _ a byte
-    (at_counts s c.args.calcs gate b c.long_at-number.result at c.short_at-windows.result (short_at s (at + 4)) vs
-    c.deref.ensures.value c.long_at-number.ensures at_is c.short_at-windows.ensures refl kept c.in_ok-versions.ensures.kept)
+    breaks_part s _ _ _ a byte (at_counts c.args.calcs (read here.After-check-2 (kept here.After-read_versions)) refl)
     (subst (λ fs. BreaksFirst s fs a byte) (λ i. first i ∷ second i ∷ [])
     (c.in_err-check-2.ensures.damaged a byte
     (told_through c.from_residual-in_err-check-2.result out.0 _ a byte out.1 out.2 told)))
@@ -82,19 +67,9 @@ returns-in_err-check-2-clause-damaged c = λ a byte told.
 pub returns-in_err-rows-clause-damaged : goal.returns-in_err-rows-clause-damaged
 returns-in_err-rows-clause-damaged c = λ a byte told.
     let here = goal.at.returns-in_err-rows-clause-damaged c in
-    let s = c.args.c.now in
-    let b = parts_of c.args.before.now in
-    let gate = c.args.gate in
-    let vs = c.deref.result.now in
-    let at = gate + 9 + 4 * c.len.result in
     let out = err_from_is_err_and c.from_residual-in_err-rows.result c.from_residual-in_err-rows.ensures.1 in
-    let kept = kept here.After-read_versions (number_is here.After-check) in
-    let at_is : at ≡ gate + 9 + 4 * length vs = omega (arith, c.len.ensures, c.in_ok-versions.ensures.len) in
-    let counts = counts here.After-read_rows in
-    breaks_part s _ _ _ a byte
-    (at_rows s c.args.calcs gate b c.long_at-number.result at c.short_at-windows.result c.short_at-count.result vs
-    c.deref.ensures.value c.long_at-number.ensures at_is c.short_at-windows.ensures c.short_at-count.ensures kept
-    c.in_ok-versions.ensures.kept counts)
+    breaks_part c.args.c.now _ _ _ a byte
+    (at_rows c.args.calcs (read here.After-check-2 (kept here.After-read_versions)) c.short_at-count.ensures (counts here.After-read_rows))
     (c.in_err-rows.ensures.damaged a byte
     (told_through c.from_residual-in_err-rows.result out.0 _ a byte out.1 out.2 told))
 
@@ -102,20 +77,13 @@ pub returns-in_err-check-3-clause-damaged : goal.returns-in_err-check-3-clause-d
 returns-in_err-check-3-clause-damaged c = λ a byte told.
     let here = goal.at.returns-in_err-check-3-clause-damaged c in
     let s = c.args.c.now in
-    let b = parts_of c.args.before.now in
-    let gate = c.args.gate in
-    let vs = c.deref.result.now in
-    let at = gate + 9 + 4 * c.len.result in
+    let at = c.args.gate + 9 + 4 * c.len.result in
     let out = err_from_is_err_and c.from_residual-in_err-check-3.result c.from_residual-in_err-check-3.ensures.1 in
-    let kept = kept here.After-read_versions (number_is here.After-check) in
-    let at_is : at ≡ gate + 9 + 4 * length vs = omega (arith, c.len.ensures, c.in_ok-versions.ensures.len) in
-    let counts = counts here.After-read_rows in
     let long : c.len-2.result ≡ c.short_at-count.result = omega (arith, c.len-2.ensures, c.in_ok-rows.ensures.len) in
     let last = c.new-4.ensures ∙ ap (λ n. field_of (at + 8 + 17 * n) 1 true) long in
     breaks_part s _ _ _ a byte
-    (at_gate s c.args.calcs gate b c.long_at-number.result at c.short_at-windows.result c.short_at-count.result vs
-    c.deref.ensures.value c.long_at-number.ensures at_is c.short_at-windows.ensures c.short_at-count.ensures kept
-    c.in_ok-versions.ensures.kept counts c.in_ok-rows.ensures.kept)
+    (at_gate c.args.calcs (read here.After-check-2 (kept here.After-read_versions)) c.short_at-count.ensures (counts here.After-read_rows)
+    c.in_ok-rows.ensures.kept)
     (subst (λ f. BreaksFirst s (f ∷ []) a byte) last
     (c.in_err-check-3.ensures.damaged a byte
     (told_through c.from_residual-in_err-check-3.result out.0 _ a byte out.1 out.2 told)))
@@ -123,34 +91,17 @@ returns-in_err-check-3-clause-damaged c = λ a byte told.
 pub returns-clause-follows : goal.returns-clause-follows
 returns-clause-follows c =
     let here = goal.at.returns-clause-follows c in
-    let s = c.args.c.now in
-    let b = parts_of c.args.before.now in
-    let gate = c.args.gate in
-    let vs = c.deref.result.now in
-    let at = gate + 9 + 4 * c.len.result in
-    let kept = kept here.After-read_versions (number_is here.After-check) in
-    let at_is : at ≡ gate + 9 + 4 * length vs = omega (arith, c.len.ensures, c.in_ok-versions.ensures.len) in
-    let counts = counts here.After-read_rows in
-    block_follows s c.args.calcs gate b c.long_at-number.result at c.short_at-windows.result c.short_at-count.result vs
-    c.deref.ensures.value c.long_at-number.ensures at_is c.short_at-windows.ensures c.short_at-count.ensures kept counts
-    c.in_ok-versions.versions.items c.in_ok-rows.rows.items c.in_ok-versions.ensures.len c.in_ok-versions.ensures.rises
-    c.in_ok-rows.ensures.rows
+    block_follows c.args.calcs (read here.After-check-2 (kept here.After-read_versions)) c.short_at-count.ensures (counts here.After-read_rows)
+    c.long_at-number.result c.long_at-number.ensures c.in_ok-versions.versions.items c.in_ok-rows.rows.items
+    c.in_ok-versions.ensures.len c.in_ok-versions.ensures.rises c.in_ok-rows.ensures.rows
 
 pub returns-clause-spelled : goal.returns-clause-spelled
 returns-clause-spelled c =
     let here = goal.at.returns-clause-spelled c in
-    let s = c.args.c.now in
-    let b = parts_of c.args.before.now in
-    let gate = c.args.gate in
-    let vs = c.deref.result.now in
-    let at = gate + 9 + 4 * c.len.result in
-    let kept = kept here.After-read_versions (number_is here.After-check) in
-    let at_is : at ≡ gate + 9 + 4 * length vs = omega (arith, c.len.ensures, c.in_ok-versions.ensures.len) in
-    let counts = counts here.After-read_rows in
-    block_spelled s c.args.calcs gate b c.long_at-number.result at c.short_at-windows.result c.short_at-count.result vs
-    c.deref.ensures.value c.long_at-number.ensures at_is c.short_at-windows.ensures c.short_at-count.ensures kept counts
-    c.in_ok-versions.versions.items c.in_ok-rows.rows.items c.in_ok-versions.ensures.len (λ i. omega (arith, c.type_inv.c i))
-    c.in_ok-versions.ensures.spelled c.in_ok-rows.ensures.spelled c.in_ok-rows.ensures.len
+    block_spelled c.args.calcs (read here.After-check-2 (kept here.After-read_versions)) c.short_at-count.ensures
+    (counts here.After-read_rows) c.long_at-number.result c.long_at-number.ensures c.in_ok-versions.versions.items
+    c.in_ok-rows.rows.items c.in_ok-versions.ensures.len (λ i. omega (arith, c.type_inv.c i)) c.in_ok-versions.ensures.spelled
+    c.in_ok-rows.ensures.spelled c.in_ok-rows.ensures.len
 
 pub returns-clause-next : goal.returns-clause-next
 returns-clause-next c =

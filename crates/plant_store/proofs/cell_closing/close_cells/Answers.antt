@@ -3,8 +3,9 @@ use Rattle.std.specs.Vec.Iter.{into_iter_items, into_iter_len}
 use Rattle.std.proofs.lemmas.List.{length-map}
 use Rattle.std.proofs.lemmas.List.Elements.{All-get_or}
 use Rattle.std.proofs.lemmas.Grind.{common_steps}
+use Rattle.plant_store.specs.CellClosings.{AreGivenBack, AreHistoriesAt}
 use Rattle.plant_store.specs.CellNames.{texts}
-use Rattle.plant_store.proofs.CellBacks.{all_at, all_back, begun, one_closed}
+use Rattle.plant_store.proofs.CellBacks.{all_closed, begun, one_closed}
 use Rattle.plant_store.proofs.CellLabels.{text_at}
 use Rattle.plant_store.proofs.cell_closing.close_cells.Goals as goal
 
@@ -67,24 +68,17 @@ loop-cell-preserved g c =
       places = λ n was. c.close_cell-history.ensures.places n (inv.places n was);
     }
 
-pub returns-clause-given_back : goal.returns-clause-given_back
-returns-clause-given_back g c =
-    let inv = c.loop-cell.invariant in
-    let names = c.args.names.now in
+-- all cells are closed
+closed : (g : _) (c : goal.After-destroy_empty g) → let now = g.S.Store.device_at c.loop-cell.store in
+    AreGivenBack g.S.Dev.Disk.trace (texts c.args.names.now) c.args.cells.items (g.S.Store.device_at c.args.store.now) now
+    × AreHistoriesAt now (texts c.args.names.now) c.loop-cell.histories.items
+closed g c =
     let none : into_iter_len c.loop-cell.rest ≡ 0 = grind (arith, common_steps) in
-    all_back g.S.Dev.Disk.trace g.S.Dev.Disk.ticks g.S.Dev.Disk.fault_count (texts names) c.args.cells.items
-    (into_iter_items c.loop-cell.rest) c.loop-cell.histories.items (g.S.Store.device_at c.args.store.now)
-    (g.S.Store.device_at c.loop-cell.store) (g.S.Store.fault_count c.args.store.now) (g.S.Store.fault_count c.loop-cell.store)
-    inv.closed (omega (arith, inv.count, none))
-    (omega (arith, length-map names string_bytes, c.requires.as_many, c.args.cells.ok.0))
+    all_closed _ _ _ _ _ _ _ _ _ _ _ c.loop-cell.invariant.closed (omega (arith, c.loop-cell.invariant.count, none))
+    (omega (arith, length-map c.args.names.now string_bytes, c.requires.as_many, c.args.cells.ok.0))
+
+pub returns-clause-given_back : goal.returns-clause-given_back
+returns-clause-given_back g c = (closed g (goal.at.returns-clause-given_back g c).After-destroy_empty).0
 
 pub returns-clause-devices : goal.returns-clause-devices
-returns-clause-devices g c =
-    let inv = c.loop-cell.invariant in
-    let names = c.args.names.now in
-    let none : into_iter_len c.loop-cell.rest ≡ 0 = grind (arith, common_steps) in
-    all_at g.S.Dev.Disk.trace g.S.Dev.Disk.ticks g.S.Dev.Disk.fault_count (texts names) c.args.cells.items
-    (into_iter_items c.loop-cell.rest) c.loop-cell.histories.items (g.S.Store.device_at c.args.store.now)
-    (g.S.Store.device_at c.loop-cell.store) (g.S.Store.fault_count c.args.store.now) (g.S.Store.fault_count c.loop-cell.store)
-    inv.closed (omega (arith, inv.count, none))
-    (omega (arith, length-map names string_bytes, c.requires.as_many, c.args.cells.ok.0))
+returns-clause-devices g c = (closed g (goal.at.returns-clause-devices g c).After-destroy_empty).1

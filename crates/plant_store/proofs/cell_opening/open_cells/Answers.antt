@@ -1,9 +1,9 @@
-use Rattle.std.proofs.Common.{length, ◌∙◌, sym, arith}
+use Rattle.std.proofs.Common.{length, take, ◌∙◌, sym, arith}
 use Rattle.std.proofs.lemmas.List.{length-take-le}
 use Rattle.plant_store.proofs.TagDevices.{still}
 use Rattle.plant_store.proofs.TagEndings.{of_all}
 use Rattle.plant_store.proofs.CellLabels.{apart_texts, as_many_names, places_front, places_whole}
-use Rattle.plant_store.proofs.CellHalts.{given_up}
+use Rattle.plant_store.proofs.CellHalts.{IsGivenUp, given_up}
 use Rattle.plant_store.proofs.cell_opening.open_cells.Goals as goal
 
 pub returns-in_default-clause-any_moment : goal.returns-in_default-clause-any_moment
@@ -44,43 +44,27 @@ close_cells-requires-clause-places g c κs within = places_front (g.S.Store.has_
     (length c.open_all.new.cells.items) c.len-opened.result (omega (arith, c.len-opened.ensures, c.open_all.new.cells.ok.0))
     c.open_all.ensures.places
 
-pub returns-clause-refused : goal.returns-clause-refused
-returns-clause-refused g c =
-    let up = given_up g.S.Dev.Disk.trace g.S.Dev.Disk.ticks g.S.Dev.Disk.fault_count c.args.names.now c.args.tags.now
-    c.open_all.new.cells.items c.len-opened.result (g.S.Store.device_at c.args.store.now) (g.S.Store.device_at c.open_all.new.store)
-    (g.S.Store.device_at c.close_cells.new.store) (g.S.Store.fault_count c.args.store.now)
-    (g.S.Store.fault_count c.open_all.new.store) (g.S.Store.fault_count c.close_cells.new.store) c.in-Err.why c.requires.names
+-- the opened cells are given back
+up : (g : _) (c : goal.After-close_cells g)
+    → IsGivenUp c.args.tags.now (take (length c.open_all.new.cells.items) c.args.tags.now) (g.S.Store.device_at c.args.store.now)
+    (g.S.Store.device_at c.open_all.new.store) (g.S.Store.device_at c.close_cells.new.store) (g.S.Store.fault_count c.args.store.now)
+    (g.S.Store.fault_count c.close_cells.new.store) c.in-Err.why
+up g c = given_up g.S.Dev.Disk.trace g.S.Dev.Disk.ticks g.S.Dev.Disk.fault_count c.args.names.now c.args.tags.now
+    c.open_all.new.cells.items c.len-opened.result _ _ _ _ (g.S.Store.fault_count c.open_all.new.store) _ _ c.requires.names
     (omega (arith, c.len-opened.ensures, c.open_all.new.cells.ok.0)) c.open_all.ensures.opened c.in-Err.ensures.stopped
-    c.close_cells.ensures.given_back c.close_cells.ensures.counts in
-    up.0
+    c.close_cells.ensures.given_back c.close_cells.ensures.counts
+
+pub returns-clause-refused : goal.returns-clause-refused
+returns-clause-refused g c = (up g (goal.at.returns-clause-refused g c).After-close_cells).refused
 
 pub returns-clause-any_moment : goal.returns-clause-any_moment
-returns-clause-any_moment g c =
-    let up = given_up g.S.Dev.Disk.trace g.S.Dev.Disk.ticks g.S.Dev.Disk.fault_count c.args.names.now c.args.tags.now
-    c.open_all.new.cells.items c.len-opened.result (g.S.Store.device_at c.args.store.now) (g.S.Store.device_at c.open_all.new.store)
-    (g.S.Store.device_at c.close_cells.new.store) (g.S.Store.fault_count c.args.store.now)
-    (g.S.Store.fault_count c.open_all.new.store) (g.S.Store.fault_count c.close_cells.new.store) c.in-Err.why c.requires.names
-    (omega (arith, c.len-opened.ensures, c.open_all.new.cells.ok.0)) c.open_all.ensures.opened c.in-Err.ensures.stopped
-    c.close_cells.ensures.given_back c.close_cells.ensures.counts in
-    up.1
+returns-clause-any_moment g c = (up g (goal.at.returns-clause-any_moment g c).After-close_cells).same
 
 pub returns-clause-others : goal.returns-clause-others
-returns-clause-others g c =
-    let up = given_up g.S.Dev.Disk.trace g.S.Dev.Disk.ticks g.S.Dev.Disk.fault_count c.args.names.now c.args.tags.now
-    c.open_all.new.cells.items c.len-opened.result (g.S.Store.device_at c.args.store.now) (g.S.Store.device_at c.open_all.new.store)
-    (g.S.Store.device_at c.close_cells.new.store) (g.S.Store.fault_count c.args.store.now)
-    (g.S.Store.fault_count c.open_all.new.store) (g.S.Store.fault_count c.close_cells.new.store) c.in-Err.why c.requires.names
-    (omega (arith, c.len-opened.ensures, c.open_all.new.cells.ok.0)) c.open_all.ensures.opened c.in-Err.ensures.stopped
-    c.close_cells.ensures.given_back c.close_cells.ensures.counts in
-    λ n none. of_all c.args.tags.now (length c.open_all.new.cells.items) (g.S.Store.device_at c.open_all.new.store)
-    (g.S.Store.device_at c.close_cells.new.store) up.3 n none ∙ c.open_all.ensures.others n none
+returns-clause-others g c = λ n none.
+    let up = up g (goal.at.returns-clause-others g c).After-close_cells in
+    of_all c.args.tags.now (length c.open_all.new.cells.items) (g.S.Store.device_at c.open_all.new.store)
+    (g.S.Store.device_at c.close_cells.new.store) up.others n none ∙ c.open_all.ensures.others n none
 
 pub returns-clause-counts : goal.returns-clause-counts
-returns-clause-counts g c =
-    let up = given_up g.S.Dev.Disk.trace g.S.Dev.Disk.ticks g.S.Dev.Disk.fault_count c.args.names.now c.args.tags.now
-    c.open_all.new.cells.items c.len-opened.result (g.S.Store.device_at c.args.store.now) (g.S.Store.device_at c.open_all.new.store)
-    (g.S.Store.device_at c.close_cells.new.store) (g.S.Store.fault_count c.args.store.now)
-    (g.S.Store.fault_count c.open_all.new.store) (g.S.Store.fault_count c.close_cells.new.store) c.in-Err.why c.requires.names
-    (omega (arith, c.len-opened.ensures, c.open_all.new.cells.ok.0)) c.open_all.ensures.opened c.in-Err.ensures.stopped
-    c.close_cells.ensures.given_back c.close_cells.ensures.counts in
-    up.2
+returns-clause-counts g c = (up g (goal.at.returns-clause-counts g c).After-close_cells).counts

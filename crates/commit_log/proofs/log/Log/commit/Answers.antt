@@ -12,7 +12,7 @@ use Rattle.commit_log.specs.Told.{AreRowsAcknowledged, IsKept, ToldLog}
 use Rattle.commit_log.specs.Writes.{IsBlockOf}
 use Rattle.commit_log.proofs.Acks.{oldest_are}
 use Rattle.commit_log.proofs.Beginnings.{length-block_image}
-use Rattle.commit_log.proofs.Commits.{commit_kept, commit_legal, commit_room, commit_safe, commit_waits, kept_faulted, writing_safe}
+use Rattle.commit_log.proofs.Commits.{committed, kept_faulted, writing_safe}
 use Rattle.commit_log.proofs.Keeps.{rest_waits, same_tape}
 use Rattle.commit_log.proofs.Tapes.{rest_is}
 use Rattle.commit_log.proofs.log.Log.commit.Given as given
@@ -120,73 +120,31 @@ pub invariant_of-self-in-Ok : goal.invariant_of-self-in-Ok
 invariant_of-self-in-Ok g c =
     let s = c.self.inside in
     let was = c.self.invariant in
-    let D = g.D.Disk in
-    let o = s.opening.items in
-    let tape = s.tape.items in
-    let count = c.min-count.result in
-    let turns = c.in_ok-block.block.turns in
-    let at = goal.at.invariant_of-self-in-Ok g c in
-    let is = block g at.After-write_guarded in
-    let kept_so = kept g at.After-write_guarded in
-    let some_so = some g at.After-write_guarded in
-    let few_so = few g at.After-write_guarded in
-    let longer_by = longer g at.After-push_reserved in
-    let new = D.trace c.write_guarded.new.dev in
-    let ticks' : ℕ = D.ticks c.write_guarded.new.dev in
-    let faults' : ℕ = D.fault_count c.write_guarded.new.dev in
-    let tape' = c.push_reserved.new.self.items in
-    let bytes = c.deref-2.result.now in
-    let places = vec_capacity c.push_reserved.new.self in
-    let room : length tape + (s.room - s.count) + 1 ≤ places
-    = omega (arith, c.in_ok-make_places.ensures.room, c.push_reserved.ensures.capacity, was.1.within, s.tape.ok) in (
-      commit_legal s.plant.items s.tags o s.moment s.faults tape s.next s.acked s.end (D.trace s.dev) (D.ticks s.dev)
-          (D.fault_count s.dev) was.0 was.2 kept_so count turns bytes is some_so few_so new ticks' faults'
-          c.in-Ok.ensures.clock c.write_guarded.ensures.any_moment c.in-Ok.ensures.reads c.in-Ok.ensures.settled
-          (g.met.D.Disk.told c.write_guarded.new.dev) tape' longer_by (counted g at.After-write_guarded),
-      commit_room s.plant.items s.tags o s.moment s.faults tape s.next s.acked s.end (D.trace s.dev) (D.ticks s.dev)
-          (D.fault_count s.dev) was.0 was.2 kept_so count turns bytes is some_so few_so new ticks' faults'
-          c.in-Ok.ensures.clock c.write_guarded.ensures.any_moment c.in-Ok.ensures.reads c.in-Ok.ensures.settled
-          (g.met.D.Disk.told c.write_guarded.new.dev) tape' longer_by (vec_capacity s.tape) places s.count s.room was.1 room,
-      commit_waits s.plant.items s.tags o s.moment s.faults tape s.next s.acked s.end (D.trace s.dev) (D.ticks s.dev)
-          (D.fault_count s.dev) was.0 was.2 kept_so count turns bytes is some_so few_so new ticks' faults'
-          c.in-Ok.ensures.clock c.write_guarded.ensures.any_moment c.in-Ok.ensures.reads c.in-Ok.ensures.settled
-          (g.met.D.Disk.told c.write_guarded.new.dev) tape' longer_by,
-      subst (λ f. IsKept s.plant.items s.tags o s.moment s.faults tape' (s.next + turns) c.in-Some.end f new ticks' faults')
-          (sym c.if-self.false)
-          (commit_kept s.plant.items s.tags o s.moment s.faults tape s.next s.acked s.end (D.trace s.dev) (D.ticks s.dev)
-          (D.fault_count s.dev) was.0 was.2 kept_so count turns bytes is some_so few_so new ticks' faults'
-          c.in-Ok.ensures.clock c.write_guarded.ensures.any_moment c.in-Ok.ensures.reads c.in-Ok.ensures.settled
-          (g.met.D.Disk.told c.write_guarded.new.dev) tape' longer_by c.in-Some.end (ends g at.After-push_reserved is)
-          c.in-Ok.ensures.cause.passed),
-      commit_safe s.plant.items s.tags o s.moment s.faults tape s.next s.acked s.end (D.trace s.dev) (D.ticks s.dev)
-          (D.fault_count s.dev) was.0 was.2 kept_so count turns bytes is some_so few_so new ticks' faults'
-          c.in-Ok.ensures.clock c.write_guarded.ensures.any_moment c.in-Ok.ensures.reads c.in-Ok.ensures.settled
-          (g.met.D.Disk.told c.write_guarded.new.dev) tape' longer_by was.4,
-    )
+    let here = goal.at.invariant_of-self-in-Ok g c in
+    let at = here.After-write_guarded in
+    let is = block g at in
+    let room : length s.tape.items + (s.room - s.count) + 1 ≤ vec_capacity c.push_reserved.new.self
+    = omega (arith, c.in_ok-make_places.ensures.room, c.push_reserved.ensures.capacity, was.1.within, s.tape.ok) in
+    committed _ _ _ _ _ _ _ _ _ _ _ _ was.0 was.2 (kept g at) _ _ _ is (some g at) (few g at) _ _ _ c.in-Ok.ensures.clock
+    c.write_guarded.ensures.any_moment c.in-Ok.ensures.reads c.in-Ok.ensures.settled (g.met.D.Disk.told c.write_guarded.new.dev) _
+    (longer g here.After-push_reserved) _ _ s.count s.room c.in-Some.end s.failed c.if-self.false (counted g at) was.1 room
+    (ends g here.After-push_reserved is) c.in-Ok.ensures.cause.passed was.4
 
 pub invariant_of-self-in-Err : goal.invariant_of-self-in-Err
 invariant_of-self-in-Err g c =
     let s = c.self.inside in
     let was = c.self.invariant in
-    let D = g.D.Disk in
-    let o = s.opening.items in
-    let tape = s.tape.items in
     let at = (goal.at.invariant_of-self-in-Err g c).After-write_guarded in
-    let new = D.trace c.write_guarded.new.dev in
-    let ticks' : ℕ = D.ticks c.write_guarded.new.dev in
-    let faults' : ℕ = D.fault_count c.write_guarded.new.dev in
-    same_tape s.plant.items s.tags o s.moment s.faults tape c.make_places.new.tape.items (vec_capacity s.tape)
-    (vec_capacity c.make_places.new.tape) s.count s.room s.next s.acked s.end true new ticks' faults' c.make_places.ensures.same
+    same_tape _ _ _ _ s.faults s.tape.items c.make_places.new.tape.items (vec_capacity s.tape) (vec_capacity c.make_places.new.tape)
+    s.count s.room s.next s.acked s.end true (g.D.Disk.trace c.write_guarded.new.dev) _ _ c.make_places.ensures.same
     c.make_places.ensures.more (
       was.0,
       was.1,
       was.2,
-      kept_faulted s.plant.items s.tags o s.moment s.faults tape s.next s.acked s.end (D.trace s.dev) (D.ticks s.dev)
-          (D.fault_count s.dev) was.0 was.2 (kept g at) c.min-count.result c.in_ok-block.block.turns c.deref-2.result.now (block g at)
-          (some g at) (few g at) new ticks' faults' c.write_guarded.ensures.later c.in-Err.ensures.cause.failed,
-      writing_safe s.plant.items s.tags o s.moment s.faults tape s.next s.acked s.end (D.trace s.dev) (D.ticks s.dev)
-          (D.fault_count s.dev) was.0 was.2 (kept g at) c.min-count.result c.in_ok-block.block.turns c.deref-2.result.now (block g at)
-          (some g at) (few g at) new was.4 c.write_guarded.ensures.any_moment,
+      kept_faulted _ _ _ _ _ _ _ _ _ _ _ _ was.0 was.2 (kept g at) _ _ _ (block g at) (some g at) (few g at) _ _ _
+          c.write_guarded.ensures.later c.in-Err.ensures.cause.failed,
+      writing_safe _ _ _ _ _ _ _ _ _ _ _ _ was.0 was.2 (kept g at) _ _ _ (block g at) (some g at) (few g at) _ was.4
+          c.write_guarded.ensures.any_moment,
     )
 
 pub returns-in-Ok-clause-committed : goal.returns-in-Ok-clause-committed

@@ -3,13 +3,13 @@ use Rattle.trend_model.specs.State.{State}
 use Rattle.disk_model.specs.Moments.{During}
 use Rattle.disk_model.proofs.Moments.{during_now}
 use Rattle.device_layout.specs.Recovery.{Recovers}
-use Rattle.crash_recovery.specs.Journals.{AllRecover}
+use Rattle.crash_recovery.specs.Journals.{AllRecover, GoesOnFrom, RecoversEither}
 use Rattle.crash_recovery.proofs.Done.{done_recovers}
 use Rattle.crash_recovery.proofs.Places.{laid_on, overrun_on}
 use Rattle.crash_recovery.proofs.Turns.{either_kept, either_first, then_same, then_either, then_second}
 use Rattle.crash_recovery.proofs.seat.Seat.checkpoint.Given as given
 use Rattle.crash_recovery.proofs.seat.Seat.checkpoint.Goals as goal
-use Rattle.crash_recovery.proofs.seat.Seat.checkpoint.Goals.{After-log_records}
+use Rattle.crash_recovery.proofs.seat.Seat.checkpoint.Goals.{After-close_stale-2, After-log_records}
 
 -- each image recovers what it did before, until the records are written
 logged : (g : given.Over) (c : After-log_records g) (def : TagDef) (s : State)
@@ -55,31 +55,36 @@ returns-in_default-put_summary-clause-any_moment g c = λ small def s all goes.
     let logged = logged g (goal.at.returns-in_default-put_summary-clause-any_moment g c).After-log_records def s all in
     then_either _ _ _ def s _ logged (λ now. c.put_summary.ensures.any_moment def s now goes)
 
+-- once the summary counts, each image recovers the core
+counted : (g : given.Over) (c : After-close_stale-2 g) (def : TagDef) (s : State)
+    → During (g.D.Disk.trace c.args.dev.now) (g.D.Disk.trace c.log_records.new.dev) (λ x. Recovers def x s)
+    → GoesOnFrom def s c.args.core.now.step c.args.core.now.state
+    → During (g.D.Disk.trace c.put_summary.new.dev) (g.D.Disk.trace c.close_stale-2.new.dev) (λ x. Recovers def x c.args.core.now.state)
+counted g c def s logged goes =
+    let now = during_now _ _ (λ x. Recovers def x s) logged in
+    c.close_stale-2.ensures.any_moment def c.args.core.now.state (c.in-Ok-put_summary.ensures.durable def s now goes)
+    (λ stale. c.in-Ok-put_summary.ensures.overrun def s now goes)
+
+-- and each one until then either state
+either : (g : given.Over) (c : After-close_stale-2 g) (def : TagDef) (s : State)
+    → During (g.D.Disk.trace c.args.dev.now) (g.D.Disk.trace c.log_records.new.dev) (λ x. Recovers def x s)
+    → GoesOnFrom def s c.args.core.now.step c.args.core.now.state
+    → During (g.D.Disk.trace c.args.dev.now) (g.D.Disk.trace c.close_stale-2.new.dev) (RecoversEither def s c.args.core.now.state)
+either g c def s logged goes = then_second _ _ _ def s _
+    (then_either _ _ _ def s _ logged (λ now. c.put_summary.ensures.any_moment def s now goes)) (counted g c def s logged goes)
+
 pub returns-in_default-close_stale-clause-any_moment : goal.returns-in_default-close_stale-clause-any_moment
 returns-in_default-close_stale-clause-any_moment g c = λ small def s all goes.
-    let logged = logged g (goal.at.returns-in_default-close_stale-clause-any_moment g c).After-log_records def s all in
-    let now = during_now _ _ (λ x. Recovers def x s) logged in
-    let then = c.close_stale-2.ensures.any_moment def c.args.core.now.state
-    (c.in-Ok-put_summary.ensures.durable def s now goes)
-    (λ stale. c.in-Ok-put_summary.ensures.overrun def s now goes) in
-    then_second _ _ _ def s _ (then_either _ _ _ def s _ logged
-    (λ now. c.put_summary.ensures.any_moment def s now goes)) then
+    let here = goal.at.returns-in_default-close_stale-clause-any_moment g c in
+    either g here.After-close_stale-2 def s (logged g here.After-log_records def s all) goes
 
 pub returns-clause-any_moment : goal.returns-clause-any_moment
 returns-clause-any_moment g c = λ small def s all goes.
-    let logged = logged g (goal.at.returns-clause-any_moment g c).After-log_records def s all in
-    let now = during_now _ _ (λ x. Recovers def x s) logged in
-    let then = c.close_stale-2.ensures.any_moment def c.args.core.now.state
-    (c.in-Ok-put_summary.ensures.durable def s now goes)
-    (λ stale. c.in-Ok-put_summary.ensures.overrun def s now goes) in
-    then_second _ _ _ def s _ (then_either _ _ _ def s _ logged
-    (λ now. c.put_summary.ensures.any_moment def s now goes)) then
+    let here = goal.at.returns-clause-any_moment g c in
+    either g here.After-close_stale-2 def s (logged g here.After-log_records def s all) goes
 
 pub returns-clause-durable : goal.returns-clause-durable
 returns-clause-durable g c = λ small def s all goes.
-    let logged = logged g (goal.at.returns-clause-durable g c).After-log_records def s all in
-    let now = during_now _ _ (λ x. Recovers def x s) logged in
-    let then = c.close_stale-2.ensures.any_moment def c.args.core.now.state
-    (c.in-Ok-put_summary.ensures.durable def s now goes)
-    (λ stale. c.in-Ok-put_summary.ensures.overrun def s now goes) in
-    during_now _ _ (λ x. Recovers def x c.args.core.now.state) then
+    let here = goal.at.returns-clause-durable g c in
+    let counted = counted g here.After-close_stale-2 def s (logged g here.After-log_records def s all) goes in
+    during_now _ _ (λ x. Recovers def x c.args.core.now.state) counted
