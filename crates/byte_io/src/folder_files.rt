@@ -17,7 +17,11 @@ struct Opened {
 
 impl Opened {
     // Opens a file and goes to a place of it. A file without places, as a pipe is, can be read from its beginning alone.
-    fn at<R: rt::Files<File = File> + AllocGlobal>(rt: &R, name: &str, at: u64) -> io::Result<Opened> {
+    fn at<R: rt::Files<File = File> + AllocGlobal>(
+        rt: &R,
+        name: &str,
+        at: u64,
+    ) -> io::Result<Opened> {
         let mut file = File::open(rt, name)?;
         if at > 0 {
             file.seek(SeekFrom::Start(at))?;

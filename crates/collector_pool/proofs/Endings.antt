@@ -8,7 +8,7 @@ use Rattle.value_rows.specs.declared.raw.RawRow.{RawRow}
 use Rattle.tag_cell.specs.declared.entry.CommitNo.{CommitNo}
 use Rattle.tag_cell.specs.declared.entry.CommitNo.TheVariants as commit
 use Rattle.tag_cell.specs.declared.entry.TakeNo.{TakeNo}
-use Rattle.tag_cell.specs.Told.{Told as CellTold, IsTakenBy, take_refusal}
+use Rattle.tag_cell.specs.Told.{ToldCell as CellTold, IsTakenBy, take_refusal}
 use Rattle.collector_pool.specs.declared.group_turns.TurnNo.{TurnNo}
 use Rattle.collector_pool.specs.declared.group_turns.TurnNo.TheVariants as turn
 use Rattle.collector_pool.specs.declared.note.CellNo.{CellNo}

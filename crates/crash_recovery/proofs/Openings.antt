@@ -16,7 +16,7 @@ use Rattle.disk_model.proofs.Images.{synced_now, settled}
 use Rattle.disk_model.proofs.Moments.{started, goes_on, weaker, in_turn, during_now}
 use Rattle.crash_recovery.specs.declared.seat.Seat.{Seat}
 use Rattle.disk_model.specs.Gates.{IsNew}
-use Rattle.device_layout.specs.Recovery.{IsRecovered, Recovers, in_force as in_force_of}
+use Rattle.device_layout.specs.Recovery.{IsRecovered, Recovers, recovered_tuning as in_force_of}
 use Rattle.crash_recovery.specs.Journals.{AllRecover, GoesOnFrom, RecoversEither, IsSeat, SeatedOn}
 use Rattle.disk_model.specs.Calls.{Shows}
 use Rattle.crash_recovery.specs.Opening.{IsOpenedAs, IsCountable, RecoversSame, IsTagLeftOrSame, StaysSame}

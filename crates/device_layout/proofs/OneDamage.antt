@@ -18,7 +18,7 @@ use Rattle.archive_file.specs.Places.{HasRecords, BreaksAt, IsRecordBroken, IsDa
 use Rattle.event_queue.specs.Slots.{place_of, slot_at, batch_at}
 use Rattle.event_queue.proofs.Batches.{length-points_in}
 use Rattle.event_queue.specs.Lanes.{points_before, lane_points, IsLane}
-use Rattle.event_queue.specs.Damages.{BreaksAt as SlotBreaksAt, IsPointBroken, IsLaneDamage}
+use Rattle.event_queue.specs.Damages.{BreaksSlotAt as SlotBreaksAt, IsPointBroken, IsLaneDamage}
 use Rattle.device_layout.specs.declared.slot.Slot.{Slot}
 use Rattle.device_layout.specs.declared.slot.Slot.TheVariants.{First}
 use Rattle.device_layout.specs.Firsts.{HoldsFrom, FailsFirst}

@@ -20,7 +20,7 @@ use Rattle.archive_file.proofs.Points.{point_at-bytes}
 use Rattle.archive_file.proofs.Logs.{part_of}
 use Rattle.event_queue.specs.Slots.{slot_at, batch_at, slot_points}
 use Rattle.event_queue.specs.Lanes.{slot_points_of, points_before, lane_points, IsSound, IsLane}
-use Rattle.event_queue.specs.Damages.{BreaksAt as SlotBreaksAt, IsLaneDamage}
+use Rattle.event_queue.specs.Damages.{BreaksSlotAt as SlotBreaksAt, IsLaneDamage}
 use Rattle.event_queue.proofs.Batches.{length-points_in}
 use Rattle.event_queue.proofs.Steps.{points_open, points_more}
 use Rattle.device_layout.specs.Headers.{is_field_ok, slots_in, tuning_in}

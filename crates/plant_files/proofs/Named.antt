@@ -9,7 +9,7 @@ use Rattle.tag_base.specs.declared.definition.GroupDef.{GroupDef}
 use Rattle.value_rows.specs.Asked.{IsQuery}
 use Rattle.value_rows.specs.Raw.{IsRawRow}
 use Rattle.value_rows.specs.declared.raw.RawRow.{RawRow}
-use Rattle.value_rows.specs.Asked.{asked_calcs_at as names_at}
+use Rattle.value_rows.specs.Asked.{calc_names_at as names_at}
 use Rattle.value_rows.specs.declared.asked.GroupNames.{GroupNames}
 use Rattle.value_rows.specs.declared.asked.Query.{Query}
 use Rattle.value_rows.specs.declared.asked.Query.TheVariants.{Tag, Snap, Row}

@@ -5,8 +5,8 @@ use Rattle.std.proofs.lemmas.Bool.{cases_lt}
 use Rattle.std.proofs.lemmas.List.{get_or-map, length-map}
 use Rattle.std.proofs.lemmas.List.Elements.{All-weaker}
 use Rattle.disk_model.specs.Traces.{Trace}
-use Rattle.tag_cell.specs.Told.{Told as Cell}
-use Rattle.group_book.specs.Told.{Told as Book, count_of}
+use Rattle.tag_cell.specs.Told.{ToldCell as Cell}
+use Rattle.group_book.specs.Told.{ToldBook as Book, count_of}
 use Rattle.plant_store.specs.CellClosings.{AreGivenBack, CountsCells, HasRisen}
 use Rattle.plant_store.specs.CellNames.{texts}
 use Rattle.plant_store.specs.BookEndings.{AreGivenBack as AreBooksBack, counts_after}

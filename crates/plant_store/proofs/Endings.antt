@@ -31,10 +31,10 @@ use Rattle.plant_store.proofs.Labels.{groups_same}
 
 -- a cell that was opened stands for an opened tag
 pub cores_opened : {D : Type 0} (trace : D → Option Trace) (ticks faults : D → ℕ) (ts : List TagDef) (old : DeviceTraces)
-    (cells : List (ToldCell D)) → AreCellsOpened trace ticks faults ts old cells → tag.AreOpened ts old (map (λ (c : ToldCell D). core_of c) cells)
+    (cells : List (ToldCell D)) → AreCellsOpened trace ticks faults ts old cells → tag.AreTagsOpened ts old (map (λ (c : ToldCell D). core_of c) cells)
 cores_opened {D} trace ticks faults ts old cells opened =
-    zip_as (λ def (c : ToldCell D). IsCellOpened def (tag.trace_of old def) (trace c.journal.dev) (ticks c.journal.dev)
-    (faults c.journal.dev) c) (λ def core. tag.IsOpened def (tag.trace_of old def) core) (λ (c : ToldCell D). core_of c)
+    zip_as (λ def (c : ToldCell D). IsCellOpened def (tag.tag_trace_of old def) (trace c.journal.dev) (ticks c.journal.dev)
+    (faults c.journal.dev) c) (λ def core. tag.IsOpened def (tag.tag_trace_of old def) core) (λ (c : ToldCell D). core_of c)
     (λ def c is. is.found) ts cells opened
 
 -- with the records that the cell has
@@ -53,10 +53,10 @@ pub tags_kept : {D : Type 0} (trace : D → Option Trace) (ticks faults : D → 
     (cells : List (ToldCell D)) (old mid new : DeviceTraces) → texts names ≡ device_names_of ts → AreCellsOpened trace ticks faults ts old cells
     → AreGivenBack trace (texts names) cells mid new → tag.AllStaySame ts old new
 tags_kept {D} trace ticks faults names ts cells old mid new same opened back =
-    zip_both (λ def (c : ToldCell D). IsCellOpened def (tag.trace_of old def) (trace c.journal.dev) (ticks c.journal.dev)
-    (faults c.journal.dev) c) (λ def (c : ToldCell D). tag.trace_of new def ≡ trace c.journal.dev)
-    (λ def. StaysSame def (tag.trace_of old def) (tag.trace_of new def))
-    (λ def c is told. subst (λ o. StaysSame def (tag.trace_of old def) o) (sym told) is.same) ts cells opened
+    zip_both (λ def (c : ToldCell D). IsCellOpened def (tag.tag_trace_of old def) (trace c.journal.dev) (ticks c.journal.dev)
+    (faults c.journal.dev) c) (λ def (c : ToldCell D). tag.tag_trace_of new def ≡ trace c.journal.dev)
+    (λ def. StaysSame def (tag.tag_trace_of old def) (tag.tag_trace_of new def))
+    (λ def c is told. subst (λ o. StaysSame def (tag.tag_trace_of old def) o) (sym told) is.same) ts cells opened
     (zip_seen (λ name (c : ToldCell D). new name ≡ trace c.journal.dev) (λ (def : TagDef). tag.device_name def.name) ts cells
     (subst (λ l. AllZip (λ name (c : ToldCell D). new name ≡ trace c.journal.dev) l cells) same back.given))
 
@@ -64,12 +64,12 @@ tags_kept {D} trace ticks faults names ts cells old mid new same opened back =
 
 -- what no tag's device is called is as it was
 pub others_kept : {D : Type 0} (trace : D → Option Trace) (names : List (String Global)) (ts : List TagDef) (cells : List (ToldCell D))
-    (old new : DeviceTraces) → texts names ≡ device_names_of ts → AreGivenBack trace (texts names) cells old new → tag.AreOthersSame ts old new
+    (old new : DeviceTraces) → texts names ≡ device_names_of ts → AreGivenBack trace (texts names) cells old new → tag.AreOtherTagsSame ts old new
 others_kept trace names ts cells old new same back n none = back.others n (none_named names ts n same none)
 
 -- no device but those of the base has changed
-pub rest_same : (base : Base) (old mid after new : DeviceTraces) → tag.AreOthersSame base.tags.items old mid
-    → group.AreOthersSame base.groups.items mid after → tag.AreOthersSame base.tags.items after new → AreRestSame base old new
+pub rest_same : (base : Base) (old mid after new : DeviceTraces) → tag.AreOtherTagsSame base.tags.items old mid
+    → group.AreOtherGroupsSame base.groups.items mid after → tag.AreOtherTagsSame base.tags.items after new → AreRestSame base old new
 rest_same base old mid after new first second third n no_tag no_group = third n no_tag ∙ (second n no_group ∙ first n no_tag)
 
 -- ---- faults
@@ -111,7 +111,7 @@ count_kept trace ticks faults ts old cells before first last now why opened same
 -- it is one of the plant, over the devices before
 pub given_up_refused : {D : Type 0} (trace : D → Option Trace) (ticks faults : D → ℕ) (base : Base) (cells : List (ToldCell D))
     (old mid new : DeviceTraces) (before first last now : ℕ) (why : Status) → AreCellsOpened trace ticks faults base.tags.items old cells
-    → tag.AreOthersSame base.tags.items old mid → first ≡ before → (before < 2 ^ 64 → now ≡ last)
+    → tag.AreOtherTagsSame base.tags.items old mid → first ≡ before → (before < 2 ^ 64 → now ≡ last)
     → groups.IsRefusal base.groups.items (cell_records_in cells) mid first last why → IsPlantRefusal base old new before now why
 given_up_refused trace ticks faults base cells old mid new before first last now why opened others passed kept refused =
     OfGroups (map (λ c. core_of c) cells) (cores_opened trace ticks faults base.tags.items old cells opened)
@@ -123,7 +123,7 @@ given_up_refused trace ticks faults base cells old mid new before first last now
 
 -- the devices of groups stay the same
 pub given_up_groups : {D : Type 0} (trace : D → Option Trace) (base : Base) (names : List (String Global)) (cells : List (ToldCell D))
-    (old mid after new : DeviceTraces) → texts names ≡ device_names_of base.tags.items → tag.AreOthersSame base.tags.items old mid
+    (old mid after new : DeviceTraces) → texts names ≡ device_names_of base.tags.items → tag.AreOtherTagsSame base.tags.items old mid
     → AreGivenBack trace (texts names) cells after new → group.AllStaySame base.groups.items mid after
     → group.AllStaySame base.groups.items old new
 given_up_groups trace base names cells old mid after new same others back kept =

@@ -25,14 +25,14 @@ names_apart t g same =
     absurd (omega (arith, ends.1))
 
 -- so the devices of groups are as they were where those of tags alone have changed
-pub groups_same : (tags : List TagDef) (old new : DeviceTraces) → tag.AreOthersSame tags old new → (g : GroupDef)
+pub groups_same : (tags : List TagDef) (old new : DeviceTraces) → tag.AreOtherTagsSame tags old new → (g : GroupDef)
     → group_trace_at new g ≡ group_trace_at old g
 groups_same tags old new others g =
     others (group.device_name g.name) (λ k d below same. names_apart (get_or tags k d).name g.name (sym same))
 
 -- and those of tags where those of groups alone have
-pub tags_same : (gs : List GroupDef) (old new : DeviceTraces) → group.AreOthersSame gs old new → (t : TagDef)
-    → tag.trace_of new t ≡ tag.trace_of old t
+pub tags_same : (gs : List GroupDef) (old new : DeviceTraces) → group.AreOtherGroupsSame gs old new → (t : TagDef)
+    → tag.tag_trace_of new t ≡ tag.tag_trace_of old t
 tags_same gs old new others t =
     others (tag.device_name t.name) (λ k d below. names_apart t.name (get_or gs k d).name)
 

@@ -2,8 +2,8 @@
 use Rattle.std.specs.Prelude.{◌≡◌, ◌≢◌, ℕ, ◌<◌, ◌≤◌, true, List, Option, All}
 use Rattle.std.specs.List.{AllZip}
 use Rattle.disk_model.specs.Traces.{Trace}
-use Rattle.tag_cell.specs.Told.{Told as Cell}
-use Rattle.group_book.specs.Told.{Told as Book, count_of}
+use Rattle.tag_cell.specs.Told.{ToldCell as Cell}
+use Rattle.group_book.specs.Told.{ToldBook as Book, count_of}
 use Rattle.plant_store.specs.CellClosings.{HasRisen}
 use Rattle.plant_store.specs.CellNames.{texts}
 use Rattle.plant_store.specs.BookEndings.{AreGivenBack}

@@ -26,7 +26,7 @@ opened_records_of cores = map (λ (core : Core). core.state.records) cores
 -- all are opened, and its groups are refused over their records.
 pub data IsPlantRefusal (base : Base) (old new : DeviceTraces) (before now : ℕ) (why : Status) : Type 0 where
   OfTags : tags.IsRefusal base.tags.items old new before now why → IsPlantRefusal base old new before now why
-  OfGroups : (cores : List Core) → tag.AreOpened base.tags.items old cores
+  OfGroups : (cores : List Core) → tag.AreTagsOpened base.tags.items old cores
       → groups.IsRefusal base.groups.items (opened_records_of cores) old before now why → IsPlantRefusal base old new before now why
 
 -- each device but those of the base's tags and groups is as it was

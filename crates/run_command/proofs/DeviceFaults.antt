@@ -3,13 +3,13 @@ use Rattle.std.proofs.Common.{◌≡◌, ◌+◌, ◌-◌, ◌<◌, ℕ, List, O
 use Rattle.std.specs.Prelude.{◌^◌, IfErr, slice_get, true}
 use Rattle.std.specs.declared.alloc.Global.{Global}
 use Rattle.disk_model.specs.Traces.{Trace}
-use Rattle.tag_cell.specs.Told.{Told as Cell}
+use Rattle.tag_cell.specs.Told.{ToldCell as Cell}
 use Rattle.plant_status.specs.declared.status.Status.{Status}
 use Rattle.plant_status.specs.declared.status.Status.TheVariants.{DeviceFault}
 use Rattle.plant_status.specs.declared.unit.Unit.{Unit as Device}
 use Rattle.plant_status.specs.declared.unit.Unit.TheVariants.{Tag, Group, Log}
 use Rattle.session_audit.proofs.Walking.{at_place}
-use Rattle.group_book.specs.Told.{Told as Book}
+use Rattle.group_book.specs.Told.{ToldBook as Book}
 use Rattle.group_book.specs.declared.refusal.RefreshNo.TheVariants as refresh
 use Rattle.group_book.specs.declared.refusal.SaveNo.{SaveNo}
 use Rattle.group_book.specs.declared.refusal.SaveNo.TheVariants as save

@@ -5,8 +5,8 @@ use Rattle.disk_model.specs.Traces.{Trace}
 use Rattle.plant_status.specs.declared.status.Status.{Status}
 use Rattle.plant_status.specs.declared.status.Status.TheVariants.{Done, BadWords, BadText, BadRow, ReadFault, WriteFault, DeviceFault, Damaged, OtherTag, Limit, Mismatch, Halted, WantOfMemory, OtherPlant, BadName}
 use Rattle.tag_base.specs.declared.definition.Base.{Base}
-use Rattle.tag_cell.specs.Told.{Told as Cell}
-use Rattle.group_book.specs.Told.{Told as Book}
+use Rattle.tag_cell.specs.Told.{ToldCell as Cell}
+use Rattle.group_book.specs.Told.{ToldBook as Book}
 use Rattle.plant_store.specs.Groups.{DeviceTraces}
 use Rattle.collector_pool.specs.declared.note.WorkerNote.{WorkerNote}
 use Rattle.collector_pool.specs.declared.work.Work.{Work}

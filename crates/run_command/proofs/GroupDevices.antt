@@ -5,7 +5,7 @@ use Rattle.std.specs.declared.alloc.Global.{Global}
 use Rattle.std.proofs.lemmas.List.{get_or-map, length-map}
 use Rattle.disk_model.specs.Traces.{Trace}
 use Rattle.group_book.specs.declared.history.GroupHistory.{GroupHistory}
-use Rattle.group_book.specs.Told.{IsBookHistory, Told as Book, count_of, trace_of}
+use Rattle.group_book.specs.Told.{IsBookHistory, ToldBook as Book, count_of, trace_of}
 use Rattle.tag_base.specs.declared.definition.GroupDef.{GroupDef}
 use Rattle.plant_store.specs.BookEndings.{AreGivenBack, AreHistoriesOf, trace_after}
 use Rattle.plant_store.specs.Groups.{AreNamesOf, DeviceTraces, device_name, group_trace_at}

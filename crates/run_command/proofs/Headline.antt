@@ -19,14 +19,14 @@ use Rattle.tag_cell.specs.declared.history.TagHistory.{TagHistory}
 use Rattle.tag_cell.specs.declared.history.TagOpening.{TagOpening}
 use Rattle.tag_cell.specs.Replays.{FitAll, IsTapeReplayed, Shown, replayed}
 use Rattle.tag_cell.specs.Tapes.{CellWalk, after_entry, opened, cell_start, taken, cell_walked}
-use Rattle.tag_cell.specs.Told.{IsCellHistory, Told as Cell, durable_records, takes_waiting}
+use Rattle.tag_cell.specs.Told.{IsCellHistory, ToldCell as Cell, durable_records, takes_waiting}
 use Rattle.tag_cell.proofs.Entries.{points-end}
 use Rattle.tag_cell.proofs.Laws.{legal}
 use Rattle.calc_refresh.specs.Lists.{lists_of}
 use Rattle.group_book.specs.declared.history.GroupHistory.{GroupHistory}
 use Rattle.group_book.specs.declared.history.GroupOpening.{GroupOpening}
 use Rattle.group_book.specs.Openings.{StandsForGroup}
-use Rattle.group_book.specs.Told.{Told as Book, versions_of}
+use Rattle.group_book.specs.Told.{ToldBook as Book, versions_of}
 use Rattle.value_rows.specs.declared.asked.Query.{Query}
 use Rattle.value_rows.specs.declared.raw.RawRow.{RawRow}
 use Rattle.plant_status.specs.declared.status.Status.{Status}

@@ -1,9 +1,9 @@
 -- Cells and books that keep what they were opened as, while entries are added to their tapes.
 use Rattle.std.proofs.Common.{◌≡◌, ◌∙◌, ◌<◌, List, All, ap, sym, subst, get_or}
 use Rattle.tag_cell.specs.declared.entry.Entry.{Entry}
-use Rattle.tag_cell.specs.Told.{Told as Cell, takes_waiting}
+use Rattle.tag_cell.specs.Told.{ToldCell as Cell, takes_waiting}
 use Rattle.session_audit.specs.Cells.{AreLonger}
-use Rattle.group_book.specs.Told.{Told as Book}
+use Rattle.group_book.specs.Told.{ToldBook as Book}
 use Rattle.session_audit.specs.Each.{AreEach}
 use Rattle.session_audit.specs.Books.{IsAskedMore, IsRefreshedMore}
 use Rattle.session_audit.specs.Refreshing.{IsPulledMore}

@@ -9,7 +9,7 @@ use Rattle.session_audit.specs.Found.{Reached}
 use Rattle.session_audit.specs.Workers.{AreOver}
 use Rattle.collector_pool.specs.Work.{IsQueryOf}
 use Rattle.session_audit.specs.Cells.{IsKnownAsk}
-use Rattle.group_book.specs.Told.{Told as Book}
+use Rattle.group_book.specs.Told.{ToldBook as Book}
 use Rattle.session_audit.specs.Each.{AreEach}
 use Rattle.session_audit.specs.Books.{IsKnownRowAsk}
 use Rattle.session_audit.specs.Inputs.{AreInputs}

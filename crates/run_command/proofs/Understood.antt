@@ -5,11 +5,11 @@ use Rattle.std.specs.declared.alloc.Global.{Global}
 use Rattle.trend_num.specs.declared.archive.Rec.{Rec}
 use Rattle.disk_model.specs.Traces.{Trace}
 use Rattle.tag_base.specs.declared.definition.Base.{Base}
-use Rattle.tag_cell.specs.Told.{Told as Cell}
+use Rattle.tag_cell.specs.Told.{ToldCell as Cell}
 use Rattle.plant_status.specs.declared.status.Status.{Status}
 use Rattle.plant_status.specs.declared.status.Status.TheVariants.{BadWords}
 use Rattle.plant_files.specs.RowFiles.{ToldFiles}
-use Rattle.group_book.specs.Told.{Told as Book}
+use Rattle.group_book.specs.Told.{ToldBook as Book}
 use Rattle.group_book.specs.declared.refusal.RefreshNo.TheVariants as refresh
 use Rattle.group_book.specs.declared.refusal.SaveNo.{SaveNo}
 use Rattle.group_book.specs.declared.refusal.SaveNo.TheVariants as save

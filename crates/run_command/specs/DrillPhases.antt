@@ -3,8 +3,8 @@ use Rattle.std.specs.Prelude.{◌≡◌, ℕ, List, ◌++◌}
 use Rattle.plant_status.specs.declared.status.Status.{Status}
 use Rattle.collector_pool.specs.declared.note.WorkerNote.{WorkerNote}
 use Rattle.collector_pool.specs.declared.work.Work.{Work}
-use Rattle.group_book.specs.Told.{Told as Book}
-use Rattle.tag_cell.specs.Told.{Told as Cell}
+use Rattle.group_book.specs.Told.{ToldBook as Book}
+use Rattle.tag_cell.specs.Told.{ToldCell as Cell}
 use Rattle.run_command.specs.declared.work.Given.{Given}
 use Rattle.run_command.specs.Runs.{IsUndone}
 use Rattle.run_command.specs.Sessions.{AreNotes}

@@ -11,11 +11,11 @@ use Rattle.tag_base.specs.declared.definition.Base.{Base}
 use Rattle.tag_base.specs.declared.definition.GroupDef.{GroupDef}
 use Rattle.tag_cell.specs.declared.history.TagHistory.{TagHistory}
 use Rattle.tag_cell.specs.Tapes.{opened as opened_state}
-use Rattle.tag_cell.specs.Told.{Told as Cell}
+use Rattle.tag_cell.specs.Told.{ToldCell as Cell}
 use Rattle.plant_store.specs.Tags.{tag_trace_of}
 use Rattle.calc_refresh.specs.Lists.{lists_of}
 use Rattle.group_book.specs.declared.history.GroupHistory.{GroupHistory}
-use Rattle.group_book.specs.Told.{Told as Book}
+use Rattle.group_book.specs.Told.{ToldBook as Book}
 use Rattle.plant_store.specs.Groups.{DeviceTraces, group_parts_of, group_definition_text}
 use Rattle.plant_status.specs.declared.status.Status.{Status}
 use Rattle.plant_status.specs.declared.status.Status.TheVariants.{DeviceFault, WantOfMemory}

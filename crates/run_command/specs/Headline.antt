@@ -21,8 +21,8 @@ use Rattle.calc_refresh.specs.Lists.{lists_of}
 use Rattle.calc_refresh.specs.Sheet.{grid_of}
 use Rattle.group_book.specs.declared.history.GroupHistory.{GroupHistory}
 use Rattle.group_book.specs.declared.turn.Turn.{Turn}
-use Rattle.group_book.specs.Crashes.{IsSafe as IsGroupSafe}
-use Rattle.group_book.specs.Histories.{IsLegal as IsGroupLegal}
+use Rattle.group_book.specs.Crashes.{IsBookSafe as IsGroupSafe}
+use Rattle.group_book.specs.Histories.{IsBookLegal as IsGroupLegal}
 use Rattle.group_book.specs.Openings.{StandsForGroup}
 use Rattle.plant_store.specs.Groups.{DeviceTraces, group_parts_of, group_definition_text, group_trace_at}
 use Rattle.tag_base.specs.declared.definition.Base.{Base}

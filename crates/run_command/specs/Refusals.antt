@@ -8,14 +8,14 @@ use Rattle.plant_status.specs.declared.status.Status.TheVariants.{Mismatch, Want
 use Rattle.session_audit.specs.Agendas.{ask_item, phase_item, row_item}
 use Rattle.session_audit.specs.Found.{Reached}
 use Rattle.calc_refresh.specs.Lists.{lists_of}
-use Rattle.tag_cell.specs.Told.{Told as Cell}
+use Rattle.tag_cell.specs.Told.{ToldCell as Cell}
 use Rattle.collector_pool.specs.declared.note.WorkerNote.{WorkerNote}
 use Rattle.session_audit.specs.declared.cell_opening.Kept.{Kept}
 use Rattle.session_audit.specs.Finding.{IsAskMismatch, IsRowAskMismatch, IsTakeMismatch}
 use Rattle.session_audit.specs.CellRefusals.{AreUnlike, IsCellRefusal, IsTakeRefusal}
 use Rattle.session_audit.specs.Starting.{AreUnfound}
 use Rattle.session_audit.specs.Workers.{AreOver}
-use Rattle.group_book.specs.Told.{Told as Book}
+use Rattle.group_book.specs.Told.{ToldBook as Book}
 use Rattle.session_audit.specs.declared.book_opening.KeptGroup.{KeptGroup}
 use Rattle.session_audit.specs.BookOpenings.{IsGroupMismatch}
 use Rattle.session_audit.specs.Pulls.{IsPullMismatch}

@@ -15,9 +15,9 @@ use Rattle.plant_status.specs.declared.status.Status.TheVariants.{ReadFault, Wan
 use Rattle.plant_files.specs.RowFiles.{ToldFiles}
 use Rattle.plant_files.specs.PlanRows.{IsGoodBase, IsPlanned, IsPlanningRefusal}
 use Rattle.calc_refresh.specs.Lists.{lists_of}
-use Rattle.tag_cell.specs.Told.{Told as Cell}
+use Rattle.tag_cell.specs.Told.{ToldCell as Cell}
 use Rattle.group_book.specs.declared.history.GroupHistory.{GroupHistory}
-use Rattle.group_book.specs.Told.{IsHistory as IsGroupHistory, Told as Book}
+use Rattle.group_book.specs.Told.{IsBookHistory as IsGroupHistory, ToldBook as Book}
 use Rattle.collector_pool.specs.declared.note.WorkerNote.{WorkerNote}
 use Rattle.session_audit.specs.declared.cell_opening.Kept.{Kept}
 use Rattle.session_audit.specs.declared.book_opening.KeptGroup.{KeptGroup}

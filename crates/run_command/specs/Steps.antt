@@ -3,11 +3,11 @@ use Rattle.std.specs.Prelude.{◌≡◌, ℕ, ◌+◌, ◌^◌, ◌<◌, ◌≤�
 use Rattle.session_audit.specs.Agendas.{ask_item, phase_item, row_item}
 use Rattle.session_audit.specs.Found.{Reached}
 use Rattle.session_audit.specs.Tapes.{ask_of, take_of}
-use Rattle.tag_cell.specs.Told.{Told as Cell, takes_waiting}
+use Rattle.tag_cell.specs.Told.{ToldCell as Cell, takes_waiting}
 use Rattle.session_audit.specs.Cells.{AreAllFound, AreAllShown}
 use Rattle.session_audit.specs.CellRefusals.{tag_rows}
 use Rattle.session_audit.specs.Workers.{AreOver, AreTapesFound, AreTapesWhole}
-use Rattle.group_book.specs.Told.{Told as Book}
+use Rattle.group_book.specs.Told.{ToldBook as Book}
 use Rattle.session_audit.specs.declared.book_opening.KeptGroup.{KeptGroup}
 use Rattle.session_audit.specs.Books.{book_tape}
 use Rattle.session_audit.specs.Inputs.{AreInputs}

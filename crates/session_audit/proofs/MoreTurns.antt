@@ -11,7 +11,7 @@ use Rattle.session_audit.proofs.EntryKinds.{same_shown}
 use Rattle.group_book.specs.declared.refusal.RefreshNo.{RefreshNo}
 use Rattle.group_book.specs.declared.turn.Turn.{Turn}
 use Rattle.group_book.specs.declared.turn.Turn.TheVariants.{Refresh, Ask, Save}
-use Rattle.group_book.specs.Told.{IsPublished, Told as Book}
+use Rattle.group_book.specs.Told.{IsPublished, ToldBook as Book}
 use Rattle.session_audit.specs.Each.{AreEach}
 use Rattle.session_audit.specs.Books.{IsNoAsk, IsRefreshedMore, book_tape}
 use Rattle.session_audit.specs.Inputs.{IsInputsOf}

@@ -5,7 +5,7 @@ use Rattle.std.proofs.lemmas.List.Elements.{All-append, All-head, All-tail}
 use Rattle.tag_cell.specs.declared.entry.Entry.{Entry}
 use Rattle.tag_cell.specs.declared.entry.Entry.TheVariants as entry
 use Rattle.tag_cell.specs.Tapes.{CellWalk, after_entry, done, cell_start, state_after, cell_walked}
-use Rattle.tag_cell.specs.Told.{Told as Cell, durable_records}
+use Rattle.tag_cell.specs.Told.{ToldCell as Cell, durable_records}
 use Rattle.session_audit.specs.Agendas.{ask_item, phase_item}
 use Rattle.session_audit.specs.Tapes.{ask_of, take_of}
 use Rattle.value_rows.specs.declared.asked.Query.{Query}

@@ -9,7 +9,7 @@ use Rattle.group_book.specs.declared.turn.Turn.TheVariants.{Save}
 use Rattle.group_book.specs.Saves.{IsBookFaulted, IsSaved}
 use Rattle.trend_num.specs.declared.archive.Rec.{Rec}
 use Rattle.plant_status.specs.declared.status.Status.{Status}
-use Rattle.group_book.specs.Told.{Told as Book, versions_of}
+use Rattle.group_book.specs.Told.{ToldBook as Book, versions_of}
 use Rattle.session_audit.specs.Books.{IsNoAsk, IsRefreshedMore}
 use Rattle.session_audit.specs.Refreshing.{IsRefreshedTo, IsSavedOn, durable_numbers}
 use Rattle.session_audit.specs.BookRefusals.{IsBookRefusal, IsSaveCause, IsSaveRefusal}

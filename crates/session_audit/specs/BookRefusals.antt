@@ -14,7 +14,7 @@ use Rattle.group_book.specs.declared.refusal.RefreshNo.TheVariants.{Ahead, CellL
 use Rattle.group_book.specs.declared.refusal.SaveNo.{SaveNo}
 use Rattle.group_book.specs.declared.refusal.SaveNo.TheVariants as save
 use Rattle.group_book.specs.InputLists.{IsListsRefusal, lists_at}
-use Rattle.group_book.specs.Told.{Told as Book}
+use Rattle.group_book.specs.Told.{ToldBook as Book}
 
 -- what a refused pull of an input is answered with
 abbrev pub pull_refusal : ℕ → PullNo → RefreshNo

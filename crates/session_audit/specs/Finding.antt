@@ -4,8 +4,8 @@ use Rattle.plant_status.specs.declared.mismatch.Place.TheVariants.{Take, Ask, Ro
 use Rattle.plant_status.specs.declared.mismatch.Seen.{Seen}
 use Rattle.plant_status.specs.declared.status.Status.{Status}
 use Rattle.plant_status.specs.declared.status.Status.TheVariants.{Mismatch}
-use Rattle.tag_cell.specs.Told.{Told as Cell}
-use Rattle.group_book.specs.Told.{Told as Book}
+use Rattle.tag_cell.specs.Told.{ToldCell as Cell}
+use Rattle.group_book.specs.Told.{ToldBook as Book}
 use Rattle.session_audit.specs.declared.kind.Shown.{Shown}
 use Rattle.session_audit.specs.Found.{IsDifference, Reached}
 use Rattle.session_audit.specs.Tapes.{ask_of, take_of}

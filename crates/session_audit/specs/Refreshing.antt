@@ -3,10 +3,10 @@ use Rattle.std.specs.Prelude.{◌≡◌, ℕ, ◌+◌, ◌<◌, List, [], ◌∷
 use Rattle.trend_num.specs.declared.archive.Rec.{Rec}
 use Rattle.tag_cell.specs.declared.entry.Entry.{Entry}
 use Rattle.tag_cell.specs.declared.entry.Entry.TheVariants.{Pull}
-use Rattle.tag_cell.specs.Told.{Told as Cell, durable_records}
+use Rattle.tag_cell.specs.Told.{ToldCell as Cell, durable_records}
 use Rattle.group_book.specs.declared.turn.Turn.{Turn}
 use Rattle.group_book.specs.declared.turn.Turn.TheVariants.{Save}
-use Rattle.group_book.specs.Told.{Told as Book, versions_of}
+use Rattle.group_book.specs.Told.{ToldBook as Book, versions_of}
 use Rattle.session_audit.specs.GroupTapes.{refreshes}
 
 -- ---- records that no crash takes away

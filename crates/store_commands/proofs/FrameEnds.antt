@@ -31,7 +31,7 @@ use Rattle.store_commands.proofs.FramePlaces.{named_group}
 
 -- the devices of tags are as they were where that of one group alone has changed
 pub tags_same : (g : GroupDef) (mid new : DeviceTraces) → ((n : List ℕ) → n ≢ group.device_name g.name → new n ≡ mid n)
-    → (t : _) → tag.trace_of new t ≡ tag.trace_of mid t
+    → (t : _) → tag.tag_trace_of new t ≡ tag.tag_trace_of mid t
 tags_same g mid new others t = others (tag.device_name t.name) (λ same. names_apart g.name t.name (sym same))
 
 -- first the tags are opened, and then the group

@@ -31,14 +31,14 @@ names_apart g t same =
     absurd (omega (arith, last))
 
 -- so the devices of groups are as they were where those of tags alone have changed
-pub groups_same : (tags : List TagDef) (old new : DeviceTraces) → tag.AreOthersSame tags old new → (g : GroupDef)
+pub groups_same : (tags : List TagDef) (old new : DeviceTraces) → tag.AreOtherTagsSame tags old new → (g : GroupDef)
     → group_trace_at new g ≡ group_trace_at old g
 groups_same tags old new others g =
     others (group.device_name g.name) (λ k d below. names_apart g.name (get_or tags k d).name)
 
 -- and those of tags where those of groups alone have
-pub tags_same : (gs : List GroupDef) (old new : DeviceTraces) → group.AreOthersSame gs old new → (t : TagDef)
-    → tag.trace_of new t ≡ tag.trace_of old t
+pub tags_same : (gs : List GroupDef) (old new : DeviceTraces) → group.AreOtherGroupsSame gs old new → (t : TagDef)
+    → tag.tag_trace_of new t ≡ tag.tag_trace_of old t
 tags_same gs old new others t =
     others (tag.device_name t.name) (λ k d below same. names_apart (get_or gs k d).name t.name (sym same))
 
@@ -81,32 +81,32 @@ module _ (gs : List GroupDef) (records : List (List Rec)) (old mid : DeviceTrace
 
 -- ---- what is said of tags before the groups were opened is so of the devices after
 
-pub kept_after : (ts : List TagDef) (old mid new : DeviceTraces) → ((t : TagDef) → tag.trace_of new t ≡ tag.trace_of mid t)
+pub kept_after : (ts : List TagDef) (old mid new : DeviceTraces) → ((t : TagDef) → tag.tag_trace_of new t ≡ tag.tag_trace_of mid t)
     → tag.AllStaySame ts old mid → tag.AllStaySame ts old new
 kept_after ts old mid new same kept k d below =
-    subst (λ o. TagStaysSame (get_or ts k d) (tag.trace_of old (get_or ts k d)) o) (sym (same (get_or ts k d))) (kept k d below)
+    subst (λ o. TagStaysSame (get_or ts k d) (tag.tag_trace_of old (get_or ts k d)) o) (sym (same (get_or ts k d))) (kept k d below)
 
 pub left_after : (ts : List TagDef) (cores : List Core) (old mid new : DeviceTraces)
-    → ((t : TagDef) → tag.trace_of new t ≡ tag.trace_of mid t) → tag.AreLeft ts old mid cores → tag.AreLeft ts old new cores
+    → ((t : TagDef) → tag.tag_trace_of new t ≡ tag.tag_trace_of mid t) → tag.AreLeft ts old mid cores → tag.AreLeft ts old new cores
 left_after [] [] old mid new same left = tt
 left_after [] (c ∷ cs) old mid new same left = absurd left
 left_after (t ∷ ts) [] old mid new same left = absurd left
 left_after (t ∷ ts) (c ∷ cs) old mid new same left = (
-  subst (λ o. tag.IsLeft t (tag.trace_of old t) o c) (sym (same t)) left.0,
+  subst (λ o. tag.IsLeft t (tag.tag_trace_of old t) o c) (sym (same t)) left.0,
   left_after ts cs old mid new same left.1,
 )
 
 -- no device but theirs has changed
-rest_same : (base : Base) (old mid new : DeviceTraces) → tag.AreOthersSame base.tags.items old mid
-    → group.AreOthersSame base.groups.items mid new → AreOtherDevicesSame base old new
+rest_same : (base : Base) (old mid new : DeviceTraces) → tag.AreOtherTagsSame base.tags.items old mid
+    → group.AreOtherGroupsSame base.groups.items mid new → AreOtherDevicesSame base old new
 rest_same base old mid new first second n no_tag no_group = second n no_group ∙ first n no_tag
 
 -- first the tags are opened, and then the groups
 pub all_kept : (name : List ℕ) (told : ToldFiles) (base : Base) (gs : List GroupDef) (old mid new : DeviceTraces) → gs ≡ base.groups.items
-    → IsBaseFile (told name) base → tag.AllStaySame base.tags.items old mid → tag.AreOthersSame base.tags.items old mid
-    → group.AllStaySame gs mid new → group.AreOthersSame gs mid new → AreAllKept name told old new
+    → IsBaseFile (told name) base → tag.AllStaySame base.tags.items old mid → tag.AreOtherTagsSame base.tags.items old mid
+    → group.AllStaySame gs mid new → group.AreOtherGroupsSame gs mid new → AreAllKept name told old new
 all_kept name told base gs old mid new are read tags_stay first stay second =
-    let others = subst (λ l. group.AreOthersSame l mid new) are second in
+    let others = subst (λ l. group.AreOtherGroupsSame l mid new) are second in
     inr (
       base,
       read,

@@ -8,7 +8,7 @@ use Rattle.group_book.specs.declared.refusal.RefreshNo.{RefreshNo}
 use Rattle.group_book.specs.declared.refusal.RefreshNo.TheVariants.{Ahead, CellLimit, CopyLimit, WantOfMemory}
 use Rattle.group_book.specs.InputLists.{lists_at}
 use Rattle.group_book.specs.Tapes.{cut}
-use Rattle.group_book.specs.Told.{Told as Book, versions_of}
+use Rattle.group_book.specs.Told.{ToldBook as Book, versions_of}
 use Rattle.plant_status.specs.declared.status.Status.{Status}
 use Rattle.plant_status.specs.declared.status.Status.TheVariants as status
 

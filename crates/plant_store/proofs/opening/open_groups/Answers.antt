@@ -69,4 +69,4 @@ pub returns-clause-others : goal.returns-clause-others
 returns-clause-others g c =
     let old = g.S.Store.device_at c.args.store.now in
     let new = g.S.Store.device_at c.open_books.new.store in
-    subst (λ l. group.AreOthersSame l old new) c.deref.ensures.value c.open_books.ensures.others
+    subst (λ l. group.AreOtherGroupsSame l old new) c.deref.ensures.value c.open_books.ensures.others

@@ -55,13 +55,13 @@ returns-in_err-cells-clause-same_groups g c =
     let new = g.S.Store.device_at c.open_cells.new.store in
     rw out.1
     (same_untouched c.args.base.now.groups.items [] old new
-    (groups_same ts old new (subst (λ l. tag.AreOthersSame l old new) c.deref.ensures.value c.open_cells.ensures.others)))
+    (groups_same ts old new (subst (λ l. tag.AreOtherTagsSame l old new) c.deref.ensures.value c.open_cells.ensures.others)))
 
 pub returns-in_err-cells-clause-others : goal.returns-in_err-cells-clause-others
 returns-in_err-cells-clause-others g c =
     let old = g.S.Store.device_at c.args.store.now in
     let new = g.S.Store.device_at c.open_cells.new.store in
-    λ n no_tag no_group. subst (λ l. tag.AreOthersSame l old new) c.deref.ensures.value c.open_cells.ensures.others n no_tag
+    λ n no_tag no_group. subst (λ l. tag.AreOtherTagsSame l old new) c.deref.ensures.value c.open_cells.ensures.others n no_tag
 
 pub returns-in_err-cells-clause-counts : goal.returns-in_err-cells-clause-counts
 returns-in_err-cells-clause-counts g c = λ small.
@@ -96,7 +96,7 @@ returns-in-Ok-open_groups-clause-groups g c =
     let old = g.S.Store.device_at c.args.store.now in
     let mid = g.S.Store.device_at c.open_cells.new.store in
     books_before gs (cell_records_in cells) old mid
-    (groups_same ts old mid (subst (λ l. tag.AreOthersSame l old mid) c.deref.ensures.value c.open_cells.ensures.others))
+    (groups_same ts old mid (subst (λ l. tag.AreOtherTagsSame l old mid) c.deref.ensures.value c.open_cells.ensures.others))
     D.trace D.ticks D.fault_count books
     (subst (λ l. group.AreBooksOpened D.trace D.ticks D.fault_count gs (cell_records_in l) mid books) c.deref-4.ensures.value
     c.in-Ok-open_groups.ensures.opened)
@@ -119,7 +119,7 @@ returns-in-Ok-open_groups-clause-others g c =
     let old = g.S.Store.device_at c.args.store.now in
     let mid = g.S.Store.device_at c.open_cells.new.store in
     λ n no_tag no_group. c.open_groups.ensures.others n no_group
-    ∙ subst (λ l. tag.AreOthersSame l old mid) c.deref.ensures.value c.open_cells.ensures.others n no_tag
+    ∙ subst (λ l. tag.AreOtherTagsSame l old mid) c.deref.ensures.value c.open_cells.ensures.others n no_tag
 
 pub returns-in-Ok-open_groups-clause-counts : goal.returns-in-Ok-open_groups-clause-counts
 returns-in-Ok-open_groups-clause-counts g c = λ small.
@@ -168,7 +168,7 @@ returns-clause-refused g c =
     let opened = subst (λ l. AreCellsOpened D.trace D.ticks D.fault_count l old cells) c.deref.ensures.value
     c.in_ok-cells.ensures.opened in
     given_up_refused D.trace D.ticks D.fault_count c.args.base.now cells old mid new before first last now why opened
-    (subst (λ l. tag.AreOthersSame l old mid) c.deref.ensures.value c.open_cells.ensures.others) passed
+    (subst (λ l. tag.AreOtherTagsSame l old mid) c.deref.ensures.value c.open_cells.ensures.others) passed
     (count_kept D.trace D.ticks D.fault_count ts old cells before first last now why opened passed c.in-Err.ensures.counts
     c.close_cells.ensures.counts)
     (subst (λ l. groups.IsRefusal gs (cell_records_in l) mid first last why) c.deref-4.ensures.value c.in-Err.ensures.refused)
@@ -194,7 +194,7 @@ returns-clause-same_groups g c =
     let after = g.S.Store.device_at c.open_groups.new.store in
     let new = g.S.Store.device_at c.close_cells.new.store in
     given_up_groups D.trace c.args.base.now c.args.shelf.now.tag_names.items cells old mid after new c.requires.shelf.tag_names_are
-    (subst (λ l. tag.AreOthersSame l old mid) c.deref.ensures.value c.open_cells.ensures.others)
+    (subst (λ l. tag.AreOtherTagsSame l old mid) c.deref.ensures.value c.open_cells.ensures.others)
     (subst (λ l. AreGivenBack D.trace (texts l) cells after new) c.deref-in-Err.ensures.value c.close_cells.ensures.given_back)
     c.in-Err.ensures.any_moment
 
@@ -209,7 +209,7 @@ returns-clause-others g c =
     let after = g.S.Store.device_at c.open_groups.new.store in
     let new = g.S.Store.device_at c.close_cells.new.store in
     rest_same c.args.base.now old mid after new
-    (subst (λ l. tag.AreOthersSame l old mid) c.deref.ensures.value c.open_cells.ensures.others) c.open_groups.ensures.others
+    (subst (λ l. tag.AreOtherTagsSame l old mid) c.deref.ensures.value c.open_cells.ensures.others) c.open_groups.ensures.others
     (others_kept D.trace names ts cells after new c.requires.shelf.tag_names_are
     (subst (λ l. AreGivenBack D.trace (texts l) cells after new) c.deref-in-Err.ensures.value c.close_cells.ensures.given_back))
 

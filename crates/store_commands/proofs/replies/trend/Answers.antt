@@ -121,7 +121,7 @@ returns-in-Ok-clause-durable g c = record {
   opened = record { read = c.in_ok-base.ensures.base; opened = c.in_ok-cores.ensures.opened };
   left = left_after c.in_ok-base.base.tags.items c.in_ok-cores.cores.items (g.S.Store.device_at c.args.store.now)
       (g.S.Store.device_at c.open_base.new.store) (g.S.Store.device_at c.histories_of.new.store)
-      (tags_same c.in_ok-base.base.groups.items _ _ (subst (λ l. group.AreOthersSame l (g.S.Store.device_at c.open_base.new.store)
+      (tags_same c.in_ok-base.base.groups.items _ _ (subst (λ l. group.AreOtherGroupsSame l (g.S.Store.device_at c.open_base.new.store)
       (g.S.Store.device_at c.histories_of.new.store)) c.deref.ensures.value c.histories_of.ensures.others))
       c.in_ok-cores.ensures.left;
 }
