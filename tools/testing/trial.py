@@ -210,8 +210,13 @@ def feed_and_kill(trial, delay, whom):
 
 
 def wait_for_orphans(trial):
-    """Waits until a program that outlived its feeder ends: it holds the lock until then."""
-    with open(trial.path("historian.d", "feed.lock"), "a") as lock:
+    """Waits until a program that outlived its feeder ends: it holds the lock until then. A feeder that was killed before it made its lock
+    has started none."""
+    try:
+        lock = open(trial.path("historian.d", "feed.lock"), "a")
+    except FileNotFoundError:
+        return
+    with lock:
         fcntl.flock(lock, fcntl.LOCK_EX)
 
 

@@ -127,7 +127,7 @@ breaks_below b k (inr (inl time)) = omega (arith, time.0)
 breaks_below b k (inr (inr value)) = omega (arith, value.0)
 
 -- so the damage of the part is one of the device
-pub damage_at : (o : Option Trace) (at count a : ℕ) (byte : Option ℕ) (part : List ℕ)
+damage_at : (o : Option Trace) (at count a : ℕ) (byte : Option ℕ) (part : List ℕ)
     → Reaches o (at + 17 * count) → length part ≡ 17 * count → Reads o at part
     → (p : ℕ) × (a ≡ at + p) × (rs : List Rec) × (k : ℕ) × IsRecordBroken part 0 count p byte rs k
     → IfSome o (λ t. IsDamage (seen (Some t)) at count a byte)
@@ -194,7 +194,7 @@ added_all (Some t) at count old new none adds =
     subst (HasRecords (seen (Some t)) at count) (sym (adds.behind ∙ ap (λ l. l ++ adds.added) none)) adds.there
 
 -- damage in a piece behind whole records is damage of the whole
-pub damage_behind : (o : Option Trace) (at k m count a : ℕ) (byte : Option ℕ) (old mid : List Rec)
+damage_behind : (o : Option Trace) (at k m count a : ℕ) (byte : Option ℕ) (old mid : List Rec)
     → Reaches o (at + 17 * count) → k + m ≤ count → IfSome o (λ t. Adds (seen (Some t)) at k old mid)
     → IfSome o (λ t. IsDamage (seen (Some t)) (at + 17 * k) m a byte)
     → IfSome o (λ t. IsDamage (seen (Some t)) at count a byte)
@@ -221,6 +221,17 @@ damage_behind (Some t) at k m count a byte old mid room fits before (inr broken)
         byte_there = b.byte_there;
       },
     )
+
+-- so is damage in the next piece that is read
+pub damage_next : (o : Option Trace) (at k m count a : ℕ) (byte : Option ℕ) (part : List ℕ) (old mid : List Rec)
+    → Reaches o (at + 17 * count) → k + m ≤ count → IfSome o (λ t. Adds (seen (Some t)) at k old mid)
+    → length part ≡ 17 * m → Reads o (at + 17 * k) part
+    → (p : ℕ) × (a ≡ at + 17 * k + p) × (rs : List Rec) × (i : ℕ) × IsRecordBroken part 0 m p byte rs i
+    → IfSome o (λ t. IsDamage (seen (Some t)) at count a byte)
+damage_next None at k m count a byte part old mid room fits before long reads broken = tt
+damage_next (Some t) at k m count a byte part old mid room fits before long reads broken =
+    damage_behind (Some t) at k m count a byte old mid room fits before
+    (damage_at (Some t) (at + 17 * k) m a byte part (omega (arith, room, fits)) long reads broken)
 
 -- a device of this length reaches as far
 pub reaches_from : (o : Option Trace) (len n : ℕ) → HasLength o len → n ≤ len → Reaches o n

@@ -110,38 +110,13 @@ fn read_pieces<D: Disk>(
         let next = (count - done).min(PIECE_MOST);
         let place = at + REC_LEN as u64 * u64::from(done);
         let part = &mut buf[..REC_LEN * next as usize];
-        read_piece(dev, place, next, part, recs)?;
+        let Ok(()) = dev.read(place, part) else {
+            return Err(ScanNo::DeviceFault);
+        };
+        parse(place, next, part, recs)?;
         done += next;
     }
     Ok(())
-}
-
-// Reads so many records at a place, through a buffer of their size, and adds them.
-fn read_piece<D: Disk>(
-    dev: &mut D,
-    at: u64,
-    count: u32,
-    buf: &mut [u8],
-    recs: &mut Vec<Rec>,
-) -> Result<(), ScanNo>
-    requires there { Reaches (D.trace dev.old) (at + 17 * count) }
-    requires end { at + 17 * count < 2 ^ 64 }
-    requires whole { length buf.old ≡ 17 * count }
-    requires room { vec_len recs.old + count ≤ vec_capacity recs.old }
-    ensures ok { OnOk result (IfSome (D.trace dev.old)
-        (λ t. Adds (seen (Option.Some t)) at count recs.old.items recs.new.items)) }
-    ensures damaged { (a : ℕ) (byte : Option ℕ) → IsErrOf result (Damaged a byte) →
-        IfSome (D.trace dev.old) (λ t. IsDamage (seen (Option.Some t)) at count a byte) }
-    ensures cause { CountsFault result DeviceFault (D.fault_count dev.old) (D.fault_count dev.new) }
-    ensures same { D.trace dev.new ≡ D.trace dev.old }
-    ensures untimed { D.ticks dev.new ≡ D.ticks dev.old }
-    ensures len { OnOk result (vec_len recs.new ≡ vec_len recs.old + count) }
-    ensures capacity { vec_capacity recs.new ≡ vec_capacity recs.old }
-{
-    let Ok(()) = dev.read(at, buf) else {
-        return Err(ScanNo::DeviceFault);
-    };
-    parse(at, count, buf, recs)
 }
 
 /// So many bytes of a device, from `at` on. They all lie within the device, so nothing is told as damaged. Want of memory

@@ -1,5 +1,5 @@
 // The bytes of a summary.
-ghost use Rattle.std.specs.Prelude.{◌≡◌, ◌↔◌, ◌+◌, ◌≤◌, ◌^◌, ◌<◌, ◌++◌, length, take, drop, None, Some, IfSome, is_some, IsTrue, if◌then◌else◌};
+ghost use Rattle.std.specs.Prelude.{◌≡◌, ◌↔◌, ◌+◌, ◌≤◌, ◌^◌, ◌<◌, ◌++◌, length, take, drop, None, Option, Some, IfSome, is_some, IsTrue, if◌then◌else◌};
 ghost use Rattle.archive_file.specs.Fields.{point_at};
 ghost use Rattle.arrayvec.specs.ArrayVec.{array_vec_len};
 ghost use Rattle.trend_num.specs.declared.archive.Summary.{Summary};
@@ -108,11 +108,7 @@ fn read(b: &[u8; SUMMARY_LEN]) -> Summary
     let (hinge, rest) = take_place(rest, there / 4 % 2 == 1);
     let (upper, rest) = take_place(rest, there / 8 % 2 == 1);
     let (lower, rest) = take_place(rest, there / 8 % 2 == 1);
-    let tuning = if there / 16 % 2 == 1 {
-        Some(tuning_at(rest))
-    } else {
-        None
-    };
+    let tuning = tuning_if(rest, there / 16 % 2 == 1);
     Summary {
         taken,
         records,
@@ -134,6 +130,14 @@ fn take_place(bytes: &[u8], there: bool) -> (Option<Point>, &[u8])
 {
     let (p, rest) = take_point(bytes);
     (if there { Some(p) } else { None }, rest)
+}
+
+// The tuning in the 32 bytes at the front, if it is there.
+fn tuning_if(bytes: &[u8], there: bool) -> Option<Tuning>
+    requires { 32 ≤ length bytes.now }
+    ensures { (o : Option Tuning) → there ≡ is_some o → IfSome o TuningInRange → bytes.now ≡ tuning_bytes o → result ≡ o }
+{
+    if there { Some(tuning_at(bytes)) } else { None }
 }
 
 // The tuning in the 32 bytes at the front.

@@ -11,7 +11,7 @@ use Rattle.std.proofs.lemmas.List.Elements.{All-weaker}
 use Rattle.trend_num.specs.declared.archive.Rec.{Rec}
 use Rattle.page_pool.specs.declared.frame.Frame.{Frame}
 use Rattle.late_insert.specs.declared.directory.Page.{Page}
-use Rattle.late_insert.specs.Pages.{records_at, page_in, page_records_of, lengths_of, ArePages, ArePagesFrom, IsFor}
+use Rattle.late_insert.specs.Pages.{records_at, page_in, page_records_of, lengths_of, ArePages, ArePagesFrom, IsFor, IsPageRead}
 use Rattle.late_insert.specs.PageLengths.{AreFull, ArePagesFilled, IsGrown, IsHalved, IsPutAmong, place_in}
 use Rattle.trend_model.specs.Contents.{placed}
 use Rattle.trend_model.proofs.Placing.{time, AllBefore}
@@ -19,7 +19,7 @@ use Rattle.late_insert.proofs.Filling.{placed_last}
 use Rattle.late_insert.proofs.Summing.{length-records_in}
 use Rattle.late_insert.proofs.Finding.{no_page}
 use Rattle.late_insert.proofs.Joining.{all_right, records-around, lengths-around}
-use Rattle.late_insert.proofs.Reading.{IsRead, at_place, frame_page, page_len}
+use Rattle.late_insert.proofs.Reading.{at_place, frame_page, page_len}
 use Rattle.late_insert.proofs.Reading.{count_all, count_none}
 
 -- together they are all records
@@ -39,7 +39,7 @@ most_lengths pool place (p ∷ ps) each =
 
 -- a page among the others, and where it begins
 pub length_at : (pool : List (Option Frame)) (pages : List Page) (k : ℕ) (p : Page) (f : Frame)
-    → IsRead pool pages k p f
+    → IsPageRead pool pages k p f
     → lengths_of pool pages ≡ lengths_of pool (take k pages) ++ f.len ∷ lengths_of pool (drop (k + 1) pages)
 length_at pool pages k p f is =
     lengths-around pool pages k p is.within
@@ -47,7 +47,7 @@ length_at pool pages k p f is =
     (page_len pool pages k p f is p)
 
 pub first_at : (pool : List (Option Frame)) (pages : List Page) (k : ℕ) (p : Page) (f : Frame)
-    → IsRead pool pages k p f → p.first ≡ sum (lengths_of pool (take k pages))
+    → IsPageRead pool pages k p f → p.first ≡ sum (lengths_of pool (take k pages))
 first_at pool pages k p f is = (at_place pool pages k p f is).first ∙ sym (sum_lengths pool (take k pages))
 
 -- ---- the place of a time
@@ -99,7 +99,7 @@ module _ (pool : List (Option Frame)) (pages : List Page) (k t : ℕ) (d : Page)
   }
 
 -- also where it was read
-pub halved_at : (pool : List (Option Frame)) (pages : List Page) (k t : ℕ) (p : Page) (f : Frame) → IsRead pool pages k p f
+pub halved_at : (pool : List (Option Frame)) (pages : List Page) (k t : ℕ) (p : Page) (f : Frame) → IsPageRead pool pages k p f
     → IsFor pool pages k t → 128 ≤ f.len → (new : List ℕ)
     → new ≡ lengths_of pool (take k pages) ++ 64 ∷ 64 ∷ lengths_of pool (drop (k + 1) pages)
     → IsHalved (lengths_of pool pages) (place_in (page_records_of pool pages) t) new

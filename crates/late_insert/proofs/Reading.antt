@@ -18,7 +18,7 @@ use Rattle.late_insert.specs.Moves.{IsLastUpto}
 use Rattle.trend_model.specs.Contents.{IsRising, points_of}
 use Rattle.trend_model.specs.Windows.{area}
 use Rattle.late_insert.specs.Pages.{rec_in, frame_records_in, records_at, page_in, page_records_of, IsPage, IsPageAt}
-use Rattle.late_insert.specs.Pages.{ArePages, IsFor, IsOn}
+use Rattle.late_insert.specs.Pages.{ArePages, IsPageRead, IsFor, IsOn}
 use Rattle.trend_model.proofs.Placing.{time, AllBefore, rising_left, rising_right}
 use Rattle.late_insert.proofs.Summing.{length-records_in, get_or-records_in}
 use Rattle.late_insert.proofs.Joining.{records-around, records-append, page_at}
@@ -26,25 +26,17 @@ use Rattle.late_insert.proofs.Finding.{no_page, no_rec}
 
 -- ---- a page among the others
 
--- p is the page at k, and f its frame
-pub record IsRead (pool : List (Option Frame)) (pages : List Page) (k : ℕ) (p : Page) (f : Frame) : Type 0
-  where
-    pub paged : ArePages pool pages
-    pub within : k < length pages
-    pub read : p ≡ get_or pages k p
-    pub there : frame_at pool p.id ≡ Some f
-
 -- it is read so by its place
 pub is_read : (pool : List (Option Frame)) (pages : List Page) (k : ℕ) (p : Page) (f : Frame)
     → ArePages pool pages → k < length pages
-    → p ≡ get_or pages k p → frame_at pool p.id ≡ Some f → IsRead pool pages k p f
+    → p ≡ get_or pages k p → frame_at pool p.id ≡ Some f → IsPageRead pool pages k p f
 is_read pool pages k p f paged within read there =
     record { paged = paged; within = within; read = read; there = there }
 
 -- or by the id of its frame
 pub read_by : (pool : List (Option Frame)) (pages : List Page) (k id : ℕ) (f : Frame) → ArePages pool pages
     → k < length pages → (get_or pages k no_page).id ≡ id → frame_at pool id ≡ Some f
-    → IsRead pool pages k (get_or pages k no_page) f
+    → IsPageRead pool pages k (get_or pages k no_page) f
 read_by pool pages k id f paged within same there =
     is_read pool pages k (get_or pages k no_page) f paged within
     (get_or_default pages k no_page (get_or pages k no_page) within) (ap (frame_at pool) same ∙ there)
@@ -55,18 +47,10 @@ pub held_by : (pool : List (Option Frame)) (pages : List Page) (k id : ℕ) → 
 held_by pool pages k id paged within same =
     subst (IsHeld pool) same (ap is_some (page_at pool pages k no_page within paged.each).there)
 
--- so is the last one
-pub last_read : (pool : List (Option Frame)) (pages : List Page) (id n : ℕ) (f : Frame) → ArePages pool pages
-    → n ≡ length pages → (get_or pages (n - 1) no_page).id ≡ id → frame_at pool id ≡ Some f
-    → IsRead pool pages (length pages - 1) (get_or pages (length pages - 1) no_page) f
-last_read pool pages id n f paged len same there =
-    read_by pool pages (length pages - 1) id f paged (omega (arith, paged.some))
-    (subst (λ m. (get_or pages (m - 1) no_page).id ≡ id) len same) there
-
--- so is each page
+-- each page is read
 pub each_read : (pool : List (Option Frame)) (pages : List Page) (k : ℕ) (d : Page)
     (paged : ArePages pool pages) (within : k < length pages)
-    → IsRead pool pages k (get_or pages k d) (page_at pool pages k d within paged.each).frame
+    → IsPageRead pool pages k (get_or pages k d) (page_at pool pages k d within paged.each).frame
 each_read pool pages k d paged within =
     is_read pool pages k (get_or pages k d) _ paged within
     (get_or_default pages k d (get_or pages k d) within)
@@ -74,14 +58,14 @@ each_read pool pages k d paged within =
 
 -- how many records the page that is read has
 pub page_len : (pool : List (Option Frame)) (pages : List Page) (k : ℕ) (p : Page) (f : Frame)
-    → IsRead pool pages k p f → (d : Page)
+    → IsPageRead pool pages k p f → (d : Page)
     → length (page_in pool (get_or pages k d)) ≡ f.len
 page_len pool pages k p f is d =
     ap (λ x. length (page_in pool x)) (get_or_default pages k d p is.within ∙ sym is.read)
     ∙ (ap (λ o. length (records_at o)) is.there ∙ length-records_in f)
 
 module _ (pool : List (Option Frame)) (pages : List Page) (k : ℕ) (p : Page) (f : Frame)
-    (is : IsRead pool pages k p f) where
+    (is : IsPageRead pool pages k p f) where
   abbrev front : List Rec
   front = page_records_of pool (take k pages)
 

@@ -19,8 +19,8 @@ use Rattle.trend_model.specs.Contents.{placed, points_of}
 use Rattle.trend_model.specs.Windows.{area}
 use Rattle.late_insert.specs.declared.directory.Key.TheVariants.{Time}
 use Rattle.late_insert.specs.Moves.{IsLastUpto, moved}
-use Rattle.late_insert.specs.Pages.{frame_records_in, records_at, page_in, page_records_of, IsPage, ArePagesFrom}
-use Rattle.late_insert.specs.Pages.{ArePages, IsFor, IsSplit, lengths_of}
+use Rattle.late_insert.specs.Pages.{frame_records_in, records_at, page_in, page_records_of, IsPage, ArePagesFrom, IsPageRead}
+use Rattle.late_insert.specs.Pages.{ArePages, IsFor, IsHalfFor, IsSplit, lengths_of}
 use Rattle.late_insert.specs.PageLengths.{IsGrown, place_in}
 use Rattle.trend_model.proofs.Placing.{time, placed_middle}
 use Rattle.late_insert.proofs.Summing.{length-records_in}
@@ -28,7 +28,7 @@ use Rattle.late_insert.proofs.Joining.{pages_around, records-around, lengths-aro
 use Rattle.late_insert.proofs.Replacing.{pages_put, records-put, lengths-put, pages_in_halves, records-split}
 use Rattle.late_insert.proofs.Replacing.{lengths-split, low_len, high_len}
 use Rattle.late_insert.proofs.Growing.{place_from, place_upto}
-use Rattle.late_insert.proofs.Reading.{IsRead, end_within}
+use Rattle.late_insert.proofs.Reading.{end_within}
 
 -- the pages after a record was put into the page at k: its start and stair are written, and the others are
 -- moved on
@@ -39,7 +39,7 @@ pub record IsShelved (pages M S : List Page) (k by : ℕ) (q : Page) (g : Frame)
 
 module _ (pool : List (Option Frame)) (pages M S : List Page) (k by : ℕ) (p q : Page) (f g : Frame)
     (r : Rec) (s : ℤ) (stair : s ≡ area true (points_of (frame_records_in g)))
-    (is : IsRead pool pages k p f) (found : IsFor pool pages k (time r)) (page : IsPage g)
+    (is : IsPageRead pool pages k p f) (found : IsFor pool pages k (time r)) (page : IsPage g)
     (records : frame_records_in g ≡ placed r (frame_records_in f)) (grown : g.len ≡ f.len + by)
     (shelved : IsShelved pages M S k by q g s) where
   same_page : q ≡ p
@@ -161,11 +161,19 @@ small_places pool pages S k by q s z paged within again wrote few one =
 
 -- ---- a page that was split
 
+-- the page k was cut into two halves
+pub record IsCut (pool_old pool : List (Option Frame)) (old now : List Page) (k : ℕ) : Type 0 where
+  pub pages : ArePages pool now
+  pub records : page_records_of pool now ≡ page_records_of pool_old old
+  pub lengths : lengths_of pool now ≡ lengths_of pool_old (take k old) ++ 64 ∷ 64 ∷ lengths_of pool_old (drop (k + 1) old)
+  pub lower : (d : Page) → length (page_in pool (get_or now k d)) ≡ 64
+  pub upper : (d : Page) → length (page_in pool (get_or now (k + 1) d)) ≡ 64
+
 -- what a split leaves: the lower half, a frame that was taken for the upper half, and the upper half there
 module _ (pool taken : List (Option Frame)) (pages : List Page) (k id : ℕ) (p q : Page) (f lo hi : Frame)
     (s t : ℤ)
     (lower_stair : s ≡ area true (points_of (frame_records_in lo)))
-    (upper_stair : t ≡ area true (points_of (frame_records_in hi))) (is : IsRead pool pages k p f)
+    (upper_stair : t ≡ area true (points_of (frame_records_in hi))) (is : IsPageRead pool pages k p f)
     (full : f.len ≡ 128) (lower : IsPage lo) (upper : IsPage hi)
     (low : frame_records_in lo ≡ take 64 (frame_records_in f))
     (high : frame_records_in hi ≡ drop 64 (frame_records_in f)) (takes : TakesFrame (set pool p.id (Some lo)) id taken)
@@ -218,7 +226,7 @@ module _ (pool taken : List (Option Frame)) (pages : List Page) (k id : ℕ) (p 
   high_part : frame_records_in hi ≡ drop 64 (page_in pool p)
   high_part = high ∙ ap (drop 64) (sym split_held)
 
-  pub pages_cut : ArePages (set taken id (Some hi)) split_list
+  pages_cut : ArePages (set taken id (Some hi)) split_list
   pages_cut =
       subst (λ ps. ArePages ps split_list) (sym split_pool_is)
       (subst (ArePages (set (set (set pool p.id (Some lo)) id (Some empty_frame)) id (Some hi)))
@@ -226,14 +234,14 @@ module _ (pool taken : List (Option Frame)) (pages : List Page) (k id : ℕ) (p 
       (pages_in_halves pool (take k pages) (drop (k + 1) pages) p lo hi empty_frame id s t lower_stair
       upper_stair split_paged lower upper low_part high_part split_full takes.within takes.was_spare))
 
-  pub records-cut : page_records_of (set taken id (Some hi)) split_list ≡ page_records_of pool pages
+  records-cut : page_records_of (set taken id (Some hi)) split_list ≡ page_records_of pool pages
   records-cut =
       ap₂ page_records_of split_pool_is split_is
       ∙ (records-split pool (take k pages) (drop (k + 1) pages) p lo hi empty_frame id s t lower_stair
       upper_stair split_paged lower upper low_part high_part split_full takes.within takes.was_spare
       ∙ ap (page_records_of pool) (sym split_around))
 
-  pub lengths-cut : lengths_of (set taken id (Some hi)) split_list ≡ lengths_of pool (take k pages) ++ 64 ∷ 64
+  lengths-cut : lengths_of (set taken id (Some hi)) split_list ≡ lengths_of pool (take k pages) ++ 64 ∷ 64
       ∷ lengths_of pool (drop (k + 1) pages)
   lengths-cut =
       ap₂ lengths_of split_pool_is split_is
@@ -241,7 +249,7 @@ module _ (pool taken : List (Option Frame)) (pages : List Page) (k id : ℕ) (p 
       upper_stair split_paged lower upper low_part high_part split_full takes.within takes.was_spare
 
   -- how many records the halves have
-  pub lower_len : (d : Page) → length (page_in (set taken id (Some hi)) (get_or split_list k d)) ≡ 64
+  lower_len : (d : Page) → length (page_in (set taken id (Some hi)) (get_or split_list k d)) ≡ 64
   lower_len d =
       let here : get_or split_list k d ≡ record { id = p.id; first = p.first; start = p.start; stair = s } =
       ap (λ ps. get_or ps k d) split_is ∙ get_or_at (take k pages) _ _ d k
@@ -250,7 +258,7 @@ module _ (pool taken : List (Option Frame)) (pages : List Page) (k id : ℕ) (p 
       ∙ low_len pool (take k pages) (drop (k + 1) pages) p lo hi empty_frame id s t lower_stair upper_stair
       split_paged lower upper low_part high_part split_full takes.within takes.was_spare
 
-  pub upper_len : (d : Page) → length (page_in (set taken id (Some hi)) (get_or split_list (k + 1) d)) ≡ 64
+  upper_len : (d : Page) → length (page_in (set taken id (Some hi)) (get_or split_list (k + 1) d)) ≡ 64
   upper_len d =
       let here : get_or split_list (k + 1) d ≡ new_page =
       get_or-insert_at (set pages k old_page) (k + 1) new_page d
@@ -259,9 +267,19 @@ module _ (pool taken : List (Option Frame)) (pages : List Page) (k id : ℕ) (p 
       ∙ high_len pool (take k pages) (drop (k + 1) pages) p lo hi empty_frame id s t lower_stair upper_stair
       split_paged lower upper low_part high_part split_full takes.within takes.was_spare
 
+  -- all that a split says
+  pub cut_in_two : IsCut pool (set taken id (Some hi)) pages split_list k
+  cut_in_two = record {
+    pages = pages_cut;
+    records = records-cut;
+    lengths = lengths-cut;
+    lower = lower_len;
+    upper = upper_len;
+  }
+
 -- the frame of a full page is full
 pub full_frame : (pool : List (Option Frame)) (pages : List Page) (k : ℕ) (p : Page) (f : Frame)
-    → IsRead pool pages k p f
+    → IsPageRead pool pages k p f
     → length (page_in pool (get_or pages k p)) ≡ 128 → f.len ≡ 128
 full_frame pool pages k p f is full =
     let same = ap (λ x. length (page_in pool x)) is.read in
@@ -270,7 +288,7 @@ full_frame pool pages k p f is full =
 
 -- a page's place and half a page fit
 pub first_small : (pool : List (Option Frame)) (pages : List Page) (k : ℕ) (p q : Page) (f : Frame)
-    → IsRead pool pages k p f → f.len ≡ 128
+    → IsPageRead pool pages k p f → f.len ≡ 128
     → q ≡ get_or pages k q → length (page_records_of pool pages) < 2 ^ 32 → q.first + 64 < 2 ^ 32
 first_small pool pages k p q f is full again few =
     let same : q ≡ p = again ∙ (get_or_default pages k q p is.within ∙ sym is.read) in
@@ -330,7 +348,7 @@ module _ (pool : List (Option Frame)) (now old : List Page) (k t : ℕ) (e : Pag
       subst (λ n. t < (get_or now n d).start) (add-one j)
       (subst (λ (x : Page). t < x.start) (sym here) (late j d (omega arith) (omega arith)))
 
-  pub upper_found : (get_or now (k + 1) e).start ≤ t → IsFor pool now (k + 1) t
+  upper_found : (get_or now (k + 1) e).start ≤ t → IsFor pool now (k + 1) t
   upper_found starts =
       let long = now_len in
       found_for pool now (k + 1) t paged (omega (arith, within)) (record {
@@ -344,7 +362,7 @@ module _ (pool : List (Option Frame)) (now old : List Page) (k t : ℕ) (e : Pag
         after = kept_late;
       })
 
-  pub lower_found : t < (get_or now (k + 1) e).start → IsFor pool now k t
+  lower_found : t < (get_or now (k + 1) e).start → IsFor pool now k t
   lower_found starts =
       let long = now_len in
       found_for pool now k t paged (omega (arith, within)) (record {
@@ -357,6 +375,12 @@ module _ (pool : List (Option Frame)) (now old : List Page) (k t : ℕ) (e : Pag
               (get_or_default now (k + 1) e d (omega (arith, within))) starts)
         ];
       })
+
+  pub half_found : (j : ℕ) → IsHalfFor now k t j → IsFor pool now j t
+  half_found j half = elim (half e) [
+    | inl upper ↦ rw upper.0 (upper_found upper.1)
+    | inr lower ↦ rw lower.0 (lower_found lower.1)
+  ]
 
 -- the upper half is one of the pages
 pub within_split : (now old : List Page) (k : ℕ) → IsSplit old now k → k < length old → k + 1 < length now

@@ -17,7 +17,9 @@ use Rattle.page_pool.specs.declared.frame.Frame.{Frame}
 use Rattle.late_insert.specs.Pages.{rec_in, frame_records_in, IsRecorded, IsPage}
 use Rattle.trend_model.specs.Contents.{points_of}
 use Rattle.trend_model.specs.Windows.{area, piece}
-use Rattle.late_insert.specs.Totals.{least_of, greatest_of}
+use Rattle.late_insert.specs.declared.total.Extreme.{Extreme}
+use Rattle.late_insert.specs.declared.total.Extreme.TheVariants.{Least, Greatest}
+use Rattle.late_insert.specs.Totals.{least_of, greatest_of, extreme_of, outer}
 use Rattle.late_insert.proofs.Areas.{area_put, area_more, least_more, greatest_more, least_push}
 use Rattle.late_insert.proofs.Areas.{greatest_push, area_fits}
 
@@ -138,6 +140,18 @@ module _ (f : Frame) (start i : ℕ) (from : start < i) (within : i < f.len) whe
       more_by greatest_of (int_max a q.v)
       (ap₂ int_max was.is (sym (ap (λ (x : Point). x.v) here))
       ∙ sym (greatest_more upto (i - start) q (omega arith) places.1.0))
+
+  -- an extreme of them, of words
+  pub extreme_total : (e : Extreme) (q : Point) (a b : ℤ) → IsTotal (extreme_of e) f start i a
+      → q ≡ (rec_in f i).point → b ≡ outer e a q.v → IsTotal (extreme_of e) f start (i + 1) b
+  extreme_total Least q a b was next is = subst (IsTotal least_of f start (i + 1)) (sym is) (least_total q a was next)
+  extreme_total Greatest q a b was next is =
+      subst (IsTotal greatest_of f start (i + 1)) (sym is) (greatest_total q a was next)
+
+-- of one value it is that value
+pub extreme_one : (e : Extreme) (p : Point) → p.v ≡ extreme_of e (p ∷ [])
+extreme_one Least p = refl
+extreme_one Greatest p = refl
 
 -- an area fits its type
 pub total_fits : (step : Bool) (f : Frame) (start i : ℕ) (a : ℤ) → IsRecorded f

@@ -11,12 +11,12 @@ use Rattle.late_insert.specs.declared.directory.Page.{Page}
 use Rattle.late_insert.specs.Moves.{IsLastUpto}
 use Rattle.trend_model.specs.Contents.{points_of}
 use Rattle.trend_model.specs.Windows.{area}
-use Rattle.late_insert.specs.Pages.{rec_in, records_at, frame_records_in, page_records_of, ArePages, IsOn, IsWalk, IsRun}
+use Rattle.late_insert.specs.Pages.{rec_in, records_at, frame_records_in, page_records_of, ArePages, IsOn, IsWalk, IsRun, IsPageRead}
 use Rattle.late_insert.proofs.Summing.{length-records_in, points_in, length-points_in, get_or-points_in}
 use Rattle.late_insert.proofs.Joining.{page_at}
 use Rattle.late_insert.proofs.Finding.{no_rec, no_page}
 use Rattle.late_insert.proofs.Ranges.{range_joined, get_or-range, length-range}
-use Rattle.late_insert.proofs.Reading.{IsRead, each_read, at_place, frame_page, read_on, records_upto}
+use Rattle.late_insert.proofs.Reading.{each_read, at_place, frame_page, read_on, records_upto}
 use Rattle.late_insert.proofs.Reading.{place_on, is_on, page_from, page_upto}
 
 -- a walk from a place, on the page that was found for it
@@ -40,7 +40,7 @@ walk_first pool pages k first behind paged within order reach few last = record 
 -- a walk that has come to a place on the page k, and goes on by what of the page is before the end
 module _ (pool : List (Option Frame)) (pages : List Page) (k place end stop : ℕ) (p : Page) (f : Frame)
     (walk : IsWalk pool pages k place end)
-    (more : place < end) (is : IsRead pool pages k p f) (stops : stop ≡ min f.len (end - p.first)) where
+    (more : place < end) (is : IsPageRead pool pages k p f) (stops : stop ≡ min f.len (end - p.first)) where
   on : (p.first ≤ place) × (place < p.first + f.len)
   on = place_on _ _ _ _ _ is place (walk.at more)
 

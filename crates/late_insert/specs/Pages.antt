@@ -1,5 +1,5 @@
 -- How a content is kept in pages, each in a frame.
-use Rattle.std.specs.Prelude.{◌≡◌, ◌≢◌, true, false, ℕ, ℤ, zero, suc, pos, ◌+◌, ◌*◌, ◌/◌, ◌^◌, ◌<◌, ◌≤◌, List, []}
+use Rattle.std.specs.Prelude.{◌≡◌, ◌≢◌, true, false, ℕ, ℤ, zero, suc, pos, ◌+◌, ◌*◌, ◌/◌, ◌^◌, ◌<◌, ◌≤◌, ◌⊎◌, List, []}
 use Rattle.std.specs.Prelude.{◌∷◌, Option, None, Some, length, map, slice_index, slice_index_or, take, drop}
 use Rattle.std.specs.Prelude.{insert, slice_set, All}
 use Rattle.std.specs.Int.{bit_at}
@@ -110,6 +110,14 @@ pub record ArePages (pool : List (Option Frame)) (pages : List Page) : Type 0 wh
   -- and none of several is empty
   pub filled : 1 < length pages → All (λ p. 0 < length (page_in pool p)) pages
 
+-- p is the page at k, and f its frame
+pub record IsPageRead (pool : List (Option Frame)) (pages : List Page) (k : ℕ) (p : Page) (f : Frame) : Type 0
+  where
+    pub paged : ArePages pool pages
+    pub within : k < length pages
+    pub read : p ≡ slice_index_or pages k p
+    pub there : frame_at pool p.id ≡ Some f
+
 -- the page k is the one for the time t: no page before it has a record from t on, and none after it one up to t
 pub record IsFor (pool : List (Option Frame)) (pages : List Page) (k t : ℕ) : Type 0 where
   pub within : k < length pages
@@ -122,6 +130,11 @@ pub record IsSplit (old new : List Page) (k : ℕ) : Type 0 where
   pub upper : Page
   pub list : new ≡ insert (slice_set old k lower) (k + 1) upper
   pub start : lower.start ≡ (slice_index_or old k lower).start
+
+-- of the page k and the next one j is that for the time t
+abbrev pub IsHalfFor : List Page → ℕ → ℕ → ℕ → Type 0
+IsHalfFor pages k t j = (d : Page) → ((j ≡ k + 1) × ((slice_index_or pages (k + 1) d).start ≤ t))
+    ⊎ ((j ≡ k) × (t < (slice_index_or pages (k + 1) d).start))
 
 -- the place is on the page k
 pub record IsOn (pool : List (Option Frame)) (pages : List Page) (k place : ℕ) : Type 0 where

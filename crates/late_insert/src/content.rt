@@ -13,7 +13,7 @@ ghost use Rattle.late_insert.specs.PageTotals.{IsPageOf};
 ghost use Rattle.late_insert.specs.PageLengths.{AreBefore, AreFull, ArePagesFilled, IsOneOf, IsPutAmong, place_in};
 
 use crate::directory::Directory;
-use crate::gap::{Around, around_in, gap_in, rec_in};
+use crate::gap::{Around, around_in, frame_of, gap_in, rec_in};
 use crate::page::{HALF, run_len};
 use crate::shelf::{first_page, is_full_before, make_room, open_page, put_at};
 use crate::walk::{Runs, runs_in};
@@ -258,7 +258,7 @@ impl Content {
         ensures one { IsOneOf self.now.pages result }
     {
         let k = self.pages.page_of(i);
-        let frame = self.pool.frame(self.pages.id(k));
+        let frame = frame_of(&self.pool, &self.pages, k);
         PageTotals {
             first: self.pages.first(k),
             len: frame.len,

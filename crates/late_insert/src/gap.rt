@@ -5,11 +5,12 @@ ghost use Rattle.trend_num.specs.declared.archive.Rec.{Rec};
 ghost use Rattle.trend_num.specs.Ranges.{InRange};
 ghost use Rattle.trend_model.specs.Contents.{points_of};
 ghost use Rattle.trend_model.specs.Parts.{last_point};
-ghost use Rattle.late_insert.specs.Pages.{ArePages, page_records_of};
+ghost use Rattle.late_insert.specs.Pages.{ArePages, IsPageRead, page_records_of};
+ghost use Rattle.late_insert.specs.declared.directory.Page.{Page};
 
 use crate::directory::Directory;
 use crate::page::{below_in, rec_at};
-use page_pool::Pool;
+use page_pool::{Frame, Pool};
 use trend_num::{Point, Rec};
 
 // Where a time stands among the records of pages.
@@ -19,6 +20,16 @@ pub(crate) struct Gap {
     pub page: usize,
     /// How many records are before the time.
     pub place: u32,
+}
+
+// The frame of a page.
+pub(crate) fn frame_of<'p>(pool: &'p Pool, pages: &Directory, k: usize) -> &'p Frame
+    requires pages { ArePages pool.now pages.now.items }
+    requires within { k < length pages.now.items }
+    ensures read { (d : Page) → IsPageRead pool.now pages.now.items k (slice_index_or pages.now.items k d) result.now }
+    ensures next { k + 1 < 2 ^ 64 }
+{
+    pool.frame(pages.id(k))
 }
 
 // The gap up to which all records are before the time t, and from which on none is.
@@ -33,7 +44,7 @@ pub(crate) fn gap_in(pool: &Pool, pages: &Directory, t: u64) -> Gap
     let k = pages.page_for(t);
     Gap {
         page: k,
-        place: pages.first(k) + below_in(pool.frame(pages.id(k)), t) as u32,
+        place: pages.first(k) + below_in(frame_of(pool, pages, k), t) as u32,
     }
 }
 
@@ -45,7 +56,7 @@ pub(crate) fn rec_in(pool: &Pool, pages: &Directory, i: u32) -> Rec
     ensures range { InRange result.point }
 {
     let k = pages.page_of(i);
-    rec_at(pool.frame(pages.id(k)), (i - pages.first(k)) as usize)
+    rec_at(frame_of(pool, pages, k), (i - pages.first(k)) as usize)
 }
 
 // The record at a place. It is mostly on the page k, which is tried before any search.
@@ -57,7 +68,7 @@ pub(crate) fn rec_near(pool: &Pool, pages: &Directory, k: usize, i: u32) -> Rec
     ensures range { InRange result.point }
 {
     let first = pages.first(k);
-    let frame = pool.frame(pages.id(k));
+    let frame = frame_of(pool, pages, k);
     if first <= i && i - first < frame.len {
         return rec_at(frame, (i - first) as usize);
     }

@@ -6,10 +6,11 @@ ghost use Rattle.trend_num.specs.Ranges.{InRange};
 ghost use Rattle.page_pool.specs.Pool.{full_page, spare_of};
 ghost use Rattle.late_insert.specs.declared.directory.Page.{Page};
 ghost use Rattle.trend_model.specs.Contents.{IsRising, placed};
-ghost use Rattle.late_insert.specs.Pages.{ArePages, IsFor, IsSplit, half_page, lengths_of, page_in, page_records_of};
+ghost use Rattle.late_insert.specs.Pages.{ArePages, IsFor, IsHalfFor, IsSplit, half_page, lengths_of, page_in, page_records_of};
 ghost use Rattle.late_insert.specs.PageLengths.{AreBefore, IsGrown, IsHalved, place_in};
 
 use crate::directory::{Directory, Page};
+use crate::gap::frame_of;
 use crate::page::{HALF, cut, put_rec, store_run};
 use crate::total::refresh;
 use page_pool::{PAGE, Pool};
@@ -45,7 +46,7 @@ pub(crate) fn is_full_before(pool: &Pool, pages: &Directory, t: u64) -> bool
     ensures room { IsFalse result → AreBefore (page_records_of pool.now pages.now.items) t → (d : Page)
         → length (page_in pool.now (slice_index_or pages.now.items (length pages.now.items - 1) d)) < full_page }
 {
-    let frame = pool.frame(pages.id(pages.len() - 1));
+    let frame = frame_of(pool, pages, pages.len() - 1);
     frame.len as usize == PAGE && frame.times[PAGE - 1] < t
 }
 
@@ -97,10 +98,19 @@ pub(crate) fn make_room(pool: &mut Pool, pages: &mut Directory, t: u64) -> usize
     ensures not_full { (d : Page) → length (page_in pool.new (slice_index_or pages.new.items result d)) < full_page }
 {
     let k = pages.page_for(t);
-    if (pool.frame(pages.id(k)).len as usize) < PAGE {
+    if (frame_of(pool, pages, k).len as usize) < PAGE {
         return k;
     }
     split(pool, pages, k);
+    half_for(pages, k, t)
+}
+
+// Of the page k and the next one that for the time t.
+fn half_for(pages: &Directory, k: usize, t: u64) -> usize
+    requires within { k + 1 < length pages.now.items }
+    requires next { k + 1 < 2 ^ 64 }
+    ensures { IsHalfFor pages.now.items k t result }
+{
     if pages.start(k + 1) <= t { k + 1 } else { k }
 }
 

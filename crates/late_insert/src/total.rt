@@ -5,7 +5,7 @@ ghost use Rattle.trend_num.specs.Ranges.{InRange, largest_value, last_time};
 ghost use Rattle.trend_model.specs.Contents.{points_of};
 ghost use Rattle.late_insert.specs.Pages.{IsPage, IsRecorded, rec_in, frame_records_in};
 ghost use Rattle.trend_model.specs.Windows.{area, piece};
-ghost use Rattle.late_insert.specs.Totals.{greatest_of, least_of};
+ghost use Rattle.late_insert.specs.Totals.{extreme_of, greatest_of, least_of, outer};
 
 use page_pool::Frame;
 use trend_num::Point;
@@ -64,32 +64,35 @@ pub(crate) fn area_between(frame: &Frame, step: bool, start: usize, end: usize) 
     area
 }
 
-// The least value of the points from a place on, before another.
-pub(crate) fn low_between(frame: &Frame, start: usize, end: usize) -> i64
-    requires recorded { IsRecorded frame.now }
-    requires some { start < end }
-    requires within { end ≤ frame.now.len }
-    ensures { result ≡ least_of (slice_range (points_of (frame_records_in frame.now)) start end) }
-{
-    let mut low = point_at(frame, start).v;
-    for i in start + 1..end {
-        low = low.min(point_at(frame, i).v);
-    }
-    low
+// Which extreme of values is meant.
+#[derive(Clone, Copy)]
+pub(crate) enum Extreme {
+    Least,
+    Greatest,
 }
 
-// The greatest value of the points from a place on, before another.
-pub(crate) fn high_between(frame: &Frame, start: usize, end: usize) -> i64
+// The lesser of two values, or the greater.
+fn outer(extreme: Extreme, a: i64, b: i64) -> i64
+    ensures { result ≡ outer extreme a b }
+{
+    match extreme {
+        Extreme::Least => a.min(b),
+        Extreme::Greatest => a.max(b),
+    }
+}
+
+// An extreme value of the points from a place on, before another.
+pub(crate) fn extreme_between(frame: &Frame, extreme: Extreme, start: usize, end: usize) -> i64
     requires recorded { IsRecorded frame.now }
     requires some { start < end }
     requires within { end ≤ frame.now.len }
-    ensures { result ≡ greatest_of (slice_range (points_of (frame_records_in frame.now)) start end) }
+    ensures { result ≡ extreme_of extreme (slice_range (points_of (frame_records_in frame.now)) start end) }
 {
-    let mut high = point_at(frame, start).v;
+    let mut value = point_at(frame, start).v;
     for i in start + 1..end {
-        high = high.max(point_at(frame, i).v);
+        value = outer(extreme, value, point_at(frame, i).v);
     }
-    high
+    value
 }
 
 // Totals of all points of a page.

@@ -6,10 +6,11 @@ ghost use Rattle.trend_model.specs.Contents.{points_of};
 ghost use Rattle.trend_model.specs.Parts.{last_point};
 ghost use Rattle.trend_model.specs.Windows.{area};
 ghost use Rattle.late_insert.specs.Pages.{ArePages, page_records_of};
-ghost use Rattle.late_insert.specs.Totals.{greatest_of, least_of};
+ghost use Rattle.late_insert.specs.Totals.{extreme_of, greatest_of, least_of};
 
 use crate::directory::Directory;
-use crate::total::{area_between, high_between, low_between, point_at};
+use crate::gap::frame_of;
+use crate::total::{Extreme, area_between, extreme_between, point_at};
 use page_pool::{Frame, Pool};
 use std::marker::Model;
 use trend_num::Point;
@@ -70,20 +71,27 @@ impl<'a> Run<'a> {
     pub fn low(&self) -> i64
         ensures { result ≡ least_of self.now }
     {
-        if self.end - self.start < self.frame.len {
-            return low_between(self.frame, self.start as usize, self.end as usize);
-        }
-        self.frame.low
+        self.extreme(Extreme::Least)
     }
 
     /// Their greatest value.
     pub fn high(&self) -> i64
         ensures { result ≡ greatest_of self.now }
     {
+        self.extreme(Extreme::Greatest)
+    }
+
+    // An extreme of their values.
+    fn extreme(&self, extreme: Extreme) -> i64
+        ensures { result ≡ extreme_of extreme self.now }
+    {
         if self.end - self.start < self.frame.len {
-            return high_between(self.frame, self.start as usize, self.end as usize);
+            return extreme_between(self.frame, extreme, self.start as usize, self.end as usize);
         }
-        self.frame.high
+        match extreme {
+            Extreme::Least => self.frame.low,
+            Extreme::Greatest => self.frame.high,
+        }
     }
 }
 
@@ -138,7 +146,7 @@ impl<'a> Runs<'a> {
             return None;
         }
         let first = self.pages.first(self.page);
-        let frame = self.pool.frame(self.pages.id(self.page));
+        let frame = frame_of(self.pool, self.pages, self.page);
         let run = Run {
             frame,
             stair: self.pages.stair(self.page),

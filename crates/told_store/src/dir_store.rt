@@ -4,10 +4,10 @@ ghost use Rattle.disk_model.specs.Stores.{empty_trace};
 ghost use Rattle.told_store.specs.Notes.{IsFresh, told_by};
 ghost use Rattle.told_store.specs.Places.{AllFresh, is_placed, is_stopped_in, told_in};
 
-use crate::folder::{FOLDER, lock_folder, lock_or_make, open_device, read_device};
+use crate::folder::{FOLDER, Folder};
 use crate::host::Host;
 use crate::kept::Kept;
-use crate::places::{exchange, insert, is_stopped, make_place};
+use crate::places::{exchange, insert, is_stopped, len_of, make_place};
 use crate::told_disk::DirDisk;
 use disk_model::{Failed, Store};
 use std::collections::BTreeMap;
@@ -19,8 +19,7 @@ use std::rt::Files;
 /// file's. A device that is out, one that has failed, and one whose file is refused, is not handed out.
 #[derive(Drop)]
 pub struct DirStore<R> {
-    rt: R,
-    folder: Option<File>,
+    folder: Folder<R>,
     pub(crate) places: BTreeMap<String, Kept>,
     pub(crate) faults: u64,
     is_refused: bool,
@@ -36,8 +35,7 @@ impl<R: Files<File = File> + AllocGlobal> DirStore<R> {
     {
         let places = BTreeMap::new(rt.alloc());
         DirStore {
-            rt,
-            folder: None,
+            folder: Folder::new(rt),
             places,
             faults: 0,
             is_refused: false,
@@ -65,11 +63,10 @@ impl<R: Files<File = File> + AllocGlobal> DirStore<R> {
         ensures told { AllFresh self.new.places }
         ensures faults { self.new.faults ≡ self.old.faults }
     {
-        let Some(folder) = lock_folder(&self.rt)? else {
-            return Ok(());
-        };
-        self.folder = Some(folder);
-        read_devices(&self.rt, &mut self.places)
+        if self.folder.lock_if_there()? {
+            read_devices(&self.folder, &mut self.places)?;
+        }
+        Ok(())
     }
 
     // The device of a name, over its file.
@@ -88,12 +85,10 @@ impl<R: Files<File = File> + AllocGlobal> DirStore<R> {
         if self.is_refused || is_stopped(&self.places, name) {
             return Err(ErrorKind::ResourceBusy.into());
         }
-        if self.folder.is_none() {
-            self.folder = Some(lock_or_make(&self.rt)?);
-        }
-        let alloc = self.rt.alloc();
+        self.folder.lock()?;
+        let alloc = self.folder.rt.alloc();
         make_place(alloc, &mut self.places, name)?;
-        let file = open_device(&self.rt, alloc, &self.folder, self.places.get(name), name)?;
+        let file = self.folder.open(name, len_of(&self.places, name))?;
         match exchange(&mut self.places, name, Kept::stopped(alloc)) {
             Some(kept) => Ok(kept.over(file)),
             None => Err(ErrorKind::NotFound.into()),
@@ -103,15 +98,15 @@ impl<R: Files<File = File> + AllocGlobal> DirStore<R> {
 
 // Reads the devices of the folder.
 fn read_devices<R: Files<File = File> + AllocGlobal + Clone + Drop>(
-    rt: &R,
+    folder: &Folder<R>,
     places: &mut BTreeMap<String, Kept>,
 ) -> io::Result<()>
     requires { AllFresh places.old }
     ensures { AllFresh places.new }
 {
-    for entry in fs::read_dir(rt, FOLDER)? {
+    for entry in fs::read_dir(&folder.rt, FOLDER)? {
         match entry {
-            Ok(entry) => keep(rt, places, entry.file_name())?,
+            Ok(entry) => keep(folder, places, entry.file_name())?,
             // No device has such a name.
             Err(error) if error.kind() == ErrorKind::InvalidFilename => {}
             Err(error) => return Err(error),
@@ -122,7 +117,7 @@ fn read_devices<R: Files<File = File> + AllocGlobal + Clone + Drop>(
 
 // Reads a file of the folder, if it is a device.
 fn keep<R: Files<File = File> + AllocGlobal>(
-    rt: &R,
+    folder: &Folder<R>,
     places: &mut BTreeMap<String, Kept>,
     name: &str,
 ) -> io::Result<()>
@@ -132,8 +127,8 @@ fn keep<R: Files<File = File> + AllocGlobal>(
     if !is_device(name) {
         return Ok(());
     }
-    let alloc = rt.alloc();
-    let kept = Kept::of_file(alloc, read_device(rt, alloc, name));
+    let alloc = folder.rt.alloc();
+    let kept = Kept::of_file(alloc, folder.read(name));
     insert(alloc, places, name, kept)?;
     Ok(())
 }
@@ -164,6 +159,10 @@ impl<R: Files<File = File> + AllocGlobal> Store for DirStore<R> {
 
     fn give_back(&mut self, name: &str, dev: DirDisk<Host<File>>) {
         self.faults = self.faults.saturating_add(dev.counts.faults);
-        let _ = exchange(&mut self.places, name, Kept::of(dev));
+        let kept = Kept::of(dev);
+        if kept.is_stopped {
+            self.folder.settle(name, &kept.mirror);
+        }
+        let _ = exchange(&mut self.places, name, kept);
     }
 }

@@ -1,125 +1,175 @@
 // The files of the folder of devices. No clause says what a call of the system does, so these lines are to be read.
-use crate::kept::Kept;
-use std::alloc::Global;
 use std::fs::{self, File, OpenOptions};
-use std::io::{self, ErrorKind};
+use std::io::{self, ErrorKind, Write};
 use std::os::unix::fs::{FileExt, MetadataExt};
 use std::rt::Files;
 
 /// The folder of the devices, in the working folder.
 pub(crate) const FOLDER: &str = "historian.d";
 
+// What stands behind the name of a file that is written anew, and of the mark of a file.
+const NEW: &str = ".new";
+
+const MARK: &str = ".fault";
+
 // No longer file is read.
 const MOST_BYTES: u64 = 1 << 30;
 
-/// Locks the folder, where there is one: no other process has it while the answer is open.
-pub(crate) fn lock_folder<R: Files<File = File>>(rt: &R) -> io::Result<Option<File>> {
-    if fs::exists(rt, FOLDER)? {
-        return Ok(Some(lock(rt)?));
-    }
-    Ok(None)
-}
+// How often a call is made at most that a signal interrupts.
+const MOST_TRIES: u32 = 1 << 20;
 
-/// Locks the folder, which is made where it is missing.
-pub(crate) fn lock_or_make<R: Files<File = File>>(rt: &R) -> io::Result<File> {
-    if !fs::exists(rt, FOLDER)? {
-        fs::create_dir(rt, FOLDER)?;
-    }
-    lock(rt)
-}
-
-// Opens the folder and locks it. It fails where another process has it.
-fn lock<R: Files<File = File>>(rt: &R) -> io::Result<File> {
-    let folder = File::open(rt, FOLDER)?;
-    folder.try_lock()?;
-    Ok(folder)
-}
-
-/// Syncs the file of a device, and reads all its bytes.
-pub(crate) fn read_device<R: Files<File = File>>(
-    rt: &R,
-    alloc: Global,
-    name: &str,
-) -> io::Result<Vec<u8>> {
-    let path = path_of(alloc, name)?;
-    let file = open_plain(rt, path.as_str(), OpenOptions::new().read(true))?;
-    let len = file.metadata()?.len();
-    if len > MOST_BYTES {
-        return Err(ErrorKind::FileTooLarge.into());
-    }
-    file.sync_all()?;
-    let mut bytes = vec![in alloc; 0; len as usize]?;
-    file.read_exact_at(&mut bytes, 0)?;
-    Ok(bytes)
-}
-
-/// Opens the file of a device that is kept. One that is empty may be missing, and is made then.
-pub(crate) fn open_device<R: Files<File = File>>(
-    rt: &R,
-    alloc: Global,
-    folder: &Option<File>,
-    kept: Option<&Kept>,
-    name: &str,
-) -> io::Result<File> {
-    let (Some(folder), Some(kept)) = (folder, kept) else {
-        return Err(ErrorKind::NotFound.into());
-    };
-    let path = path_of(alloc, name)?;
-    match kept.mirror.len() {
-        0 => make_file(rt, folder, path.as_str()),
-        len => reopen(rt, path.as_str(), len),
-    }
-}
-
-// Makes a file, or opens the empty one that is there, and writes its name to the disk.
-fn make_file<R: Files<File = File>>(rt: &R, folder: &File, path: &str) -> io::Result<File> {
-    let file = match File::create_new(rt, path) {
-        Ok(file) => file,
-        Err(error) if error.kind() == ErrorKind::AlreadyExists => reopen(rt, path, 0)?,
-        Err(error) => return Err(error),
-    };
-    file.sync_all()?;
-    folder.sync_all()?;
-    File::open(rt, ".")?.sync_all()?;
-    Ok(file)
-}
-
-// Opens a file that was read and has this length, for reads alone where it may not be written.
-fn reopen<R: Files<File = File>>(rt: &R, path: &str, len: usize) -> io::Result<File> {
-    let file = match open_plain(rt, path, OpenOptions::new().read(true).write(true)) {
-        Ok(file) => file,
-        Err(error) if is_denied(error.kind()) => {
-            open_plain(rt, path, OpenOptions::new().read(true))?
+// Makes a call, and makes it again where a signal interrupts it.
+fn again<T: Drop, Call: Fn() -> io::Result<T>>(call: Call) -> io::Result<T>
+    requires { Call.IsAlwaysCallable call }
+{
+    for _ in 0..MOST_TRIES {
+        match call() {
+            Err(error) if error.kind() == ErrorKind::Interrupted => {}
+            answer => return answer,
         }
-        Err(error) => return Err(error),
-    };
-    if file.metadata()?.len() != len as u64 {
-        return Err(ErrorKind::InvalidData.into());
     }
-    Ok(file)
+    Err(ErrorKind::Interrupted.into())
+}
+
+/// The folder of the devices. While it is locked no other process has it.
+#[derive(Drop)]
+pub(crate) struct Folder<R> {
+    pub(crate) rt: R,
+    locked: Option<File>,
+}
+
+impl<R: Files<File = File> + AllocGlobal> Folder<R> {
+    /// The folder, which is not locked yet.
+    pub(crate) fn new(rt: R) -> Folder<R> {
+        Folder { rt, locked: None }
+    }
+
+    /// Locks the folder, where there is one, and says whether there is. It fails where another process has it.
+    pub(crate) fn lock_if_there(&mut self) -> io::Result<bool> {
+        let is_there = again(|| fs::exists(&self.rt, FOLDER))?;
+        if is_there {
+            let folder = File::open(&self.rt, FOLDER)?;
+            folder.try_lock()?;
+            self.locked = Some(folder);
+        }
+        Ok(is_there)
+    }
+
+    /// Locks the folder where it is not locked yet, and makes it where it is missing.
+    pub(crate) fn lock(&mut self) -> io::Result<()> {
+        if self.locked.is_none() && !self.lock_if_there()? {
+            again(|| fs::create_dir(&self.rt, FOLDER))?;
+            self.lock_if_there()?;
+        }
+        Ok(())
+    }
+
+    /// Syncs the file of a device, and reads all its bytes. A file that has a mark is written anew.
+    pub(crate) fn read(&self, name: &str) -> io::Result<Vec<u8>> {
+        let file = self.open_plain(name, OpenOptions::new().read(true))?;
+        let len = again(|| file.metadata())?.len();
+        if len > MOST_BYTES {
+            return Err(ErrorKind::FileTooLarge.into());
+        }
+        file.sync_all()?;
+        let mut bytes = vec![in self.rt.alloc(); 0; len as usize]?;
+        file.read_exact_at(&mut bytes, 0)?;
+        let mark = self.path(name, MARK)?;
+        if again(|| fs::exists(&self.rt, mark.as_str()))? {
+            self.renew(name, &bytes)?;
+        }
+        Ok(bytes)
+    }
+
+    /// Opens the file of a device that has so many bytes. One that has none may be missing, and is made then.
+    pub(crate) fn open(&self, name: &str, len: usize) -> io::Result<File> {
+        if len > 0 {
+            return self.reopen(name, len);
+        }
+        let path = self.path(name, "")?;
+        let file = match File::create_new(&self.rt, path.as_str()) {
+            Err(error) if error.kind() == ErrorKind::AlreadyExists => self.reopen(name, 0)?,
+            answer => answer?,
+        };
+        file.sync_all()?;
+        self.sync_names()?;
+        File::open(&self.rt, ".")?.sync_all()?;
+        Ok(file)
+    }
+
+    /// Writes the file of a device anew after a call on it has failed: what the system shows of it then may not be on the disk. Where
+    /// that fails too the file gets a mark, and the next run that can write it anew does so before it believes what it reads.
+    pub(crate) fn settle(&self, name: &str, bytes: &[u8]) {
+        if self.renew(name, bytes).is_err() {
+            let _ = self.mark(name);
+        }
+    }
+
+    // Writes a new file, brings it to the disk, gives it the name of the old one, and takes the mark away.
+    fn renew(&self, name: &str, bytes: &[u8]) -> io::Result<()> {
+        let path = self.path(name, NEW)?;
+        let mut file = File::create(&self.rt, path.as_str())?;
+        file.write_all(bytes)?;
+        file.sync_all()?;
+        fs::rename(&self.rt, path.as_str(), self.path(name, "")?.as_str())?;
+        self.sync_names()?;
+        match fs::remove_file(&self.rt, self.path(name, MARK)?.as_str()) {
+            Err(error) if error.kind() != ErrorKind::NotFound => Err(error),
+            _ => self.sync_names(),
+        }
+    }
+
+    // Marks the file of a device: what it shows may not be on the disk.
+    fn mark(&self, name: &str) -> io::Result<()> {
+        File::create(&self.rt, self.path(name, MARK)?.as_str())?.sync_all()?;
+        self.sync_names()
+    }
+
+    // Opens a file that was read and has this length, for reads alone where it may not be written.
+    fn reopen(&self, name: &str, len: usize) -> io::Result<File> {
+        let file = match self.open_plain(name, OpenOptions::new().read(true).write(true)) {
+            Err(error) if is_denied(error.kind()) => {
+                self.open_plain(name, OpenOptions::new().read(true))?
+            }
+            answer => answer?,
+        };
+        if again(|| file.metadata())?.len() != len as u64 {
+            return Err(ErrorKind::InvalidData.into());
+        }
+        Ok(file)
+    }
+
+    // Opens a plain file that has one name. A link is not followed, and refused, as is what is no file.
+    fn open_plain(&self, name: &str, how: &OpenOptions) -> io::Result<File> {
+        let path = self.path(name, "")?;
+        let named = again(|| fs::symlink_metadata(&self.rt, path.as_str()))?;
+        if !named.is_file() {
+            return Err(ErrorKind::Unsupported.into());
+        }
+        let file = how.open(&self.rt, path.as_str())?;
+        let found = again(|| file.metadata())?;
+        let is_same = found.dev() == named.dev() && found.ino() == named.ino();
+        if !is_same || found.nlink() != 1 {
+            return Err(ErrorKind::Unsupported.into());
+        }
+        Ok(file)
+    }
+
+    // Brings the names in the folder to the disk.
+    fn sync_names(&self) -> io::Result<()> {
+        match &self.locked {
+            Some(folder) => folder.sync_all(),
+            None => Err(ErrorKind::NotFound.into()),
+        }
+    }
+
+    // The path of a device, with what stands behind its name.
+    fn path(&self, name: &str, behind: &str) -> io::Result<String> {
+        Ok(format!(in self.rt.alloc(); "{FOLDER}/{name}{behind}")?)
+    }
 }
 
 // Whether a file may not be written, by this user or by anybody.
 fn is_denied(kind: ErrorKind) -> bool {
     kind == ErrorKind::PermissionDenied || kind == ErrorKind::ReadOnlyFilesystem
-}
-
-// Opens a plain file that has one name. A link is not followed, and refused, as is what is no file.
-fn open_plain<R: Files<File = File>>(rt: &R, path: &str, how: &OpenOptions) -> io::Result<File> {
-    let named = fs::symlink_metadata(rt, path)?;
-    if !named.is_file() {
-        return Err(ErrorKind::Unsupported.into());
-    }
-    let file = how.open(rt, path)?;
-    let found = file.metadata()?;
-    let is_same = found.dev() == named.dev() && found.ino() == named.ino();
-    if !is_same || found.nlink() != 1 {
-        return Err(ErrorKind::Unsupported.into());
-    }
-    Ok(file)
-}
-
-// The path of a device.
-fn path_of(alloc: Global, name: &str) -> io::Result<String> {
-    Ok(format!(in alloc; "{FOLDER}/{name}")?)
 }

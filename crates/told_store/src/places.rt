@@ -61,3 +61,11 @@ pub(crate) fn is_stopped(places: &BTreeMap<String, Kept>, name: &str) -> bool
         None => false,
     }
 }
+
+// How many bytes the device of a name has; one that is not there has none.
+pub(crate) fn len_of(places: &BTreeMap<String, Kept>, name: &str) -> usize {
+    match places.get(name) {
+        Some(kept) => kept.mirror.len(),
+        None => 0,
+    }
+}

@@ -1,46 +1,60 @@
-use Rattle.std.proofs.Common.{◌≡◌, ℕ, ◌+◌, ◌*◌, ◌≤◌, Option, IfSome, Some, Err, subst, sym, ap, ◌∙◌, arith}
+use Rattle.std.proofs.Common.{◌≡◌, ◌+◌, ◌*◌, IfSome, Some, Err, length, subst, sym, ap, ◌∙◌, arith}
+use Rattle.std.proofs.lemmas.List.{length-take}
 use Rattle.std.proofs.lemmas.Result.{err_from_is_err_and}
-use Rattle.disk_model.specs.Traces.{Trace, seen}
-use Rattle.archive_file.specs.Places.{Adds, IsDamage}
-use Rattle.archive_file.proofs.Logs.{added_next, damage_behind}
+use Rattle.disk_model.specs.Traces.{seen}
+use Rattle.disk_model.specs.Calls.{Reads}
+use Rattle.archive_file.specs.Places.{Adds}
+use Rattle.archive_file.proofs.Logs.{added_at, added_next, damage_next}
 use Rattle.archive_file.proofs.log.read_pieces.Goals as goal
+use Rattle.archive_file.proofs.log.read_pieces.Goals.{After-parse}
 
--- what is said of a place of one device is said of the same place of the same device
-moved : (o p : Option Trace) (i j : ℕ) (P : ℕ → Trace → Type 0) → p ≡ o → i ≡ j → IfSome p (P i) → IfSome o (P j)
-moved o p i j P device place said = subst (λ n. IfSome o (P n)) place (subst (λ x. IfSome x (P i)) device said)
+-- the piece that was read has its size, and is the next one
+long : (g : _) (c : After-parse g) → length c.read.new.buf ≡ 17 * c.min-next.result
+long g c = omega (
+  arith,
+  c.requires.whole,
+  c.min-next.ensures,
+  c.read.auto.buf,
+  c.loop-done.auto.buf,
+  length-take (17 * c.min-next.result) c.loop-done.buf,
+)
 
-pub returns-in_err-read_piece-clause-damaged : goal.returns-in_err-read_piece-clause-damaged
-returns-in_err-read_piece-clause-damaged g c = λ a byte told.
-    let o = g.D.Disk.trace c.args.dev.now in
-    let at = c.args.at in
-    let done = c.loop-done.done in
-    let next = c.min-next.result in
+piece : (g : _) (c : After-parse g)
+    → Reads (g.D.Disk.trace c.args.dev.now) (c.args.at + 17 * c.from.result) c.read.new.buf
+piece g c = subst (λ o. Reads o (c.args.at + 17 * c.from.result) c.read.new.buf) c.loop-done.invariant.same
+    c.in-Ok.ensures.bytes
+
+-- the records before it
+before : (g : _) (c : After-parse g) → IfSome (g.D.Disk.trace c.args.dev.now)
+    (λ t. Adds (seen (Some t)) c.args.at c.from.result c.args.recs.now.items c.loop-done.recs.items)
+before g c = rw c.from.ensures c.loop-done.invariant.added
+
+pub returns-in_err-parse-clause-damaged : goal.returns-in_err-parse-clause-damaged
+returns-in_err-parse-clause-damaged g c = λ a byte told.
+    let at = (goal.at.returns-in_err-parse-clause-damaged g c).After-parse in
     let out = err_from_is_err_and c.from_residual.result c.from_residual.ensures.1 in
-    let fits : done + next ≤ c.args.count = omega (arith, c.loop-done-test.true, c.min-next.ensures) in
-    damage_behind o at done next c.args.count a byte c.args.recs.now.items c.loop-done.recs.items c.requires.there
-    fits c.loop-done.invariant.added
-    (moved o (g.D.Disk.trace c.loop-done.dev) (at + 17 * c.from.result) (at + 17 * done)
-    (λ n t. IsDamage (seen (Some t)) n next a byte) c.loop-done.invariant.same
-    (ap (λ n. at + 17 * n) c.from.ensures) (c.in_err-read_piece.ensures.damaged a byte (ap Err (sym out.2) ∙ sym out.1 ∙ told)))
+    damage_next (g.D.Disk.trace c.args.dev.now) c.args.at c.from.result c.min-next.result c.args.count a byte
+    c.read.new.buf c.args.recs.now.items c.loop-done.recs.items c.requires.there
+    (omega (arith, c.loop-done-test.true, c.min-next.ensures, c.from.ensures)) (before g at) (long g at) (piece g at)
+    (c.in_err-parse.ensures.damaged a byte (ap Err (sym out.2) ∙ sym out.1 ∙ told))
 
 pub loop-done-preserved : goal.loop-done-preserved
 loop-done-preserved g c =
+    let at = (goal.at.loop-done-preserved g c).After-parse in
     let o = g.D.Disk.trace c.args.dev.now in
-    let at = c.args.at in
-    let done = c.loop-done.done in
     let next = c.min-next.result in
-    let mid = c.loop-done.recs.items in
-    let new = c.read_piece.new.recs.items in
+    let old = c.args.recs.now.items in
+    let new = c.parse.new.recs.items in
     record {
       added =
-          added_next o at done next c.args.recs.now.items mid new c.loop-done.invariant.added
-          (moved o (g.D.Disk.trace c.loop-done.dev) (at + 17 * c.from.result) (at + 17 * done)
-          (λ n t. Adds (seen (Some t)) n next mid new) c.loop-done.invariant.same
-          (ap (λ n. at + 17 * n) c.from.ensures) c.in_ok-read_piece.ensures.ok);
+          subst (λ n. IfSome o (λ t. Adds (seen (Some t)) c.args.at (n + next) old new)) c.from.ensures
+          (added_next o c.args.at c.from.result next old c.loop-done.recs.items new (before g at)
+          (added_at o (c.args.at + 17 * c.from.result) next c.read.new.buf c.loop-done.recs.items new (long g at)
+          (piece g at) c.in_ok-parse.ensures.ok));
       within = omega (arith, c.loop-done-test.true, c.min-next.ensures);
-      same = c.in_ok-read_piece.ensures.same ∙ c.loop-done.invariant.same;
-      untimed = c.in_ok-read_piece.ensures.untimed ∙ c.loop-done.invariant.untimed;
-      faults = c.in_ok-read_piece.ensures.cause.passed ∙ c.loop-done.invariant.faults;
-      len = omega (arith, c.in_ok-read_piece.ensures.len, c.loop-done.invariant.len);
-      capacity = c.in_ok-read_piece.ensures.capacity ∙ c.loop-done.invariant.capacity;
+      same = c.in-Ok.ensures.same ∙ c.loop-done.invariant.same;
+      untimed = c.in-Ok.ensures.untimed ∙ c.loop-done.invariant.untimed;
+      faults = c.in-Ok.ensures.cause.passed ∙ c.loop-done.invariant.faults;
+      len = omega (arith, c.in_ok-parse.ensures.len, c.loop-done.invariant.len);
+      capacity = c.in_ok-parse.ensures.capacity ∙ c.loop-done.invariant.capacity;
     }

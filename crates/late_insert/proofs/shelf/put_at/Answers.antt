@@ -6,12 +6,12 @@ use mir.Syntax.{w128}
 use mir.Val.{of_z, to_z}
 use Rattle.trend_model.specs.Contents.{points_of}
 use Rattle.trend_model.specs.Windows.{area}
-use Rattle.late_insert.specs.Pages.{frame_records_in}
+use Rattle.late_insert.specs.Pages.{frame_records_in, IsPageRead}
 use Rattle.std.proofs.lemmas.List.{get_or_default, length-set}
 use Rattle.late_insert.proofs.Moving.{length-moved}
 use Rattle.late_insert.specs.Moves.{Listed}
 use Rattle.late_insert.proofs.Finding.{no_page}
-use Rattle.late_insert.proofs.Reading.{IsRead, held_by, read_by, frame_page, frame_rises, page_stair, page_len}
+use Rattle.late_insert.proofs.Reading.{held_by, read_by, frame_page, frame_rises, page_stair, page_len}
 use Rattle.late_insert.proofs.Shelving.{IsShelved, pages_shelved, records-shelved, len-shelved, small_places}
 use Rattle.late_insert.proofs.Shelving.{grown-shelved}
 use Rattle.late_insert.proofs.shelf.put_at.Goals as goal
@@ -61,7 +61,7 @@ move_on-requires-clause-small c =
 
 -- the page that is written, its stair, and the pages after that
 read_here : (c : goal.After-move_on)
-    → IsRead c.args.pool.now c.args.pages.now.items c.args.k (get_or c.args.pages.now.items c.args.k no_page)
+    → IsPageRead c.args.pool.now c.args.pages.now.items c.args.k (get_or c.args.pages.now.items c.args.k no_page)
     c.frame_mut-frame.result.now
 read_here c = read_by c.args.pool.now c.args.pages.now.items c.args.k c.id.result.now c.frame_mut-frame.result.now
     c.requires.pages c.requires.page.within (c.id.ensures.value no_page) c.frame_mut-frame.ensures.value

@@ -9,11 +9,11 @@ use Rattle.page_pool.proofs.Stored.{spare-written}
 use mir.Val.{of_z, to_z}
 use Rattle.trend_model.specs.Contents.{points_of}
 use Rattle.trend_model.specs.Windows.{area}
-use Rattle.late_insert.specs.Pages.{frame_records_in}
+use Rattle.late_insert.specs.Pages.{frame_records_in, IsPageRead}
 use Rattle.late_insert.specs.Moves.{Listed, rewritten}
 use Rattle.late_insert.proofs.Finding.{no_page}
-use Rattle.late_insert.proofs.Reading.{IsRead, held_by, read_by, frame_page}
-use Rattle.late_insert.proofs.Shelving.{pages_cut, records-cut, lengths-cut, lower_len, upper_len, first_small, full_frame}
+use Rattle.late_insert.proofs.Reading.{held_by, read_by, frame_page}
+use Rattle.late_insert.proofs.Shelving.{IsCut, cut_in_two, first_small, full_frame}
 use Rattle.late_insert.proofs.shelf.split.Goals as goal
 
 -- what is no error is a value
@@ -95,7 +95,7 @@ returns-clause-frames c =
 
 -- the page that is cut, the frame that is taken, and the stairs of the halves
 read_here : (c : goal.After-insert)
-    → IsRead c.args.pool.now c.args.pages.now.items c.args.k (get_or c.args.pages.now.items c.args.k no_page)
+    → IsPageRead c.args.pool.now c.args.pages.now.items c.args.k (get_or c.args.pages.now.items c.args.k no_page)
     c.frame_mut.result.now
 read_here c = read_by c.args.pool.now c.args.pages.now.items c.args.k c.id.result.now c.frame_mut.result.now
     c.requires.pages c.requires.within (c.id.ensures.value no_page) c.frame_mut.ensures.value
@@ -145,50 +145,32 @@ list_here c =
     (to_z w128 (of_z w128 c.cut-halves.result.lower_stair)) q))
     (c.args.k + 1) (half m)) (sym (c.start-start.ensures no_page)) (sym (c.first-first.ensures no_page)))
 
-pub returns-clause-pages : goal.returns-clause-pages
-returns-clause-pages c =
+-- the page is cut
+cut_here : (c : goal.After-insert) → IsCut c.args.pool.now
+    (set c.take_frame.new.self c.unwrap-id.result (Some c.cut-halves.result.upper)) c.args.pages.now.items
+    c.insert.new.self.items c.args.k
+cut_here c =
     let is = read_here c in
     let full = full_frame _ _ _ _ _ is (c.requires.full _) in
     rw (list_here c)
-    (pages_cut _ _ _ _ _ _ _ _ _ _ _ _ (lower_here c) (upper_here c) is full
+    (cut_in_two _ _ _ _ _ _ _ _ _ _ _ _ (lower_here c) (upper_here c) is full
     c.cut-halves.ensures.lower c.cut-halves.ensures.upper c.cut-halves.ensures.lower_records
     c.cut-halves.ensures.upper_records (takes_here c) is.read)
+
+pub returns-clause-pages : goal.returns-clause-pages
+returns-clause-pages c = (cut_here c).pages
 
 pub returns-clause-records : goal.returns-clause-records
-returns-clause-records c =
-    let is = read_here c in
-    let full = full_frame _ _ _ _ _ is (c.requires.full _) in
-    rw (list_here c)
-    (records-cut _ _ _ _ _ _ _ _ _ _ _ _ (lower_here c) (upper_here c) is full
-    c.cut-halves.ensures.lower c.cut-halves.ensures.upper c.cut-halves.ensures.lower_records
-    c.cut-halves.ensures.upper_records (takes_here c) is.read)
+returns-clause-records c = (cut_here c).records
 
 pub returns-clause-lengths : goal.returns-clause-lengths
-returns-clause-lengths c =
-    let is = read_here c in
-    let full = full_frame _ _ _ _ _ is (c.requires.full _) in
-    rw (list_here c)
-    (lengths-cut _ _ _ _ _ _ _ _ _ _ _ _ (lower_here c) (upper_here c) is full
-    c.cut-halves.ensures.lower c.cut-halves.ensures.upper c.cut-halves.ensures.lower_records
-    c.cut-halves.ensures.upper_records (takes_here c) is.read)
+returns-clause-lengths c = (cut_here c).lengths
 
 pub returns-clause-lower : goal.returns-clause-lower
-returns-clause-lower c = λ d.
-    let is = read_here c in
-    let full = full_frame _ _ _ _ _ is (c.requires.full _) in
-    rw (list_here c)
-    (lower_len _ _ _ _ _ _ _ _ _ _ _ _ (lower_here c) (upper_here c) is full
-    c.cut-halves.ensures.lower c.cut-halves.ensures.upper c.cut-halves.ensures.lower_records
-    c.cut-halves.ensures.upper_records (takes_here c) is.read d)
+returns-clause-lower c = (cut_here c).lower
 
 pub returns-clause-upper : goal.returns-clause-upper
-returns-clause-upper c = λ d.
-    let is = read_here c in
-    let full = full_frame _ _ _ _ _ is (c.requires.full _) in
-    rw (list_here c)
-    (upper_len _ _ _ _ _ _ _ _ _ _ _ _ (lower_here c) (upper_here c) is full
-    c.cut-halves.ensures.lower c.cut-halves.ensures.upper c.cut-halves.ensures.lower_records
-    c.cut-halves.ensures.upper_records (takes_here c) is.read d)
+returns-clause-upper c = (cut_here c).upper
 
 pub returns-clause-list : goal.returns-clause-list
 returns-clause-list c = record {

@@ -9,7 +9,7 @@ use Rattle.late_insert.specs.Totals.{least_of, greatest_of}
 use Rattle.late_insert.proofs.Finding.{no_page, firsts_rise}
 use Rattle.late_insert.specs.Pages.{lengths_of}
 use Rattle.late_insert.proofs.Growing.{length_at, first_at}
-use Rattle.late_insert.proofs.Reading.{held_by, read_by, frame_page, page_from, page_upto, end_within, points_read}
+use Rattle.late_insert.proofs.Reading.{frame_page, page_from, page_upto, end_within, points_read}
 use mir.Val.{of_z, to_z}
 use Rattle.late_insert.specs.PageTotals.{IsPageOf}
 use Rattle.late_insert.specs.PageLengths.{IsOneOf}
@@ -19,19 +19,13 @@ pub page_of-k-requires-clause-rising : goal.page_of-k-requires-clause-rising
 page_of-k-requires-clause-rising c =
     firsts_rise c.self.inside.pool 0 c.self.inside.pages.items c.self.invariant.paged.each
 
-pub frame-frame-requires : goal.frame-frame-requires
-frame-frame-requires c = held_by c.self.inside.pool c.self.inside.pages.items c.page_of-k.result c.id.result.now
-    c.self.invariant.paged c.page_of-k.ensures.within (c.id.ensures.value no_page)
-
 pub returns-clause-page : goal.returns-clause-page
 returns-clause-page c =
-    let is = read_by c.self.inside.pool c.self.inside.pages.items c.page_of-k.result c.id.result.now
-    c.frame-frame.result.now c.self.invariant.paged c.page_of-k.ensures.within (c.id.ensures.value no_page)
-    c.frame-frame.ensures in
+    let is = c.frame_of-frame.ensures.read no_page in
     let last = c.page_of-k.ensures.last in
     let inside = subst (λ s. c.args.i < length s.records) (sym c.self.view_is) c.requires in
     let seen = ap (λ s. s.records) c.self.view_is in
-    let f = c.frame-frame.result.now in
+    let f = c.frame_of-frame.result.now in
     let first = (get_or c.self.inside.pages.items c.page_of-k.result no_page).first in
     let page = frame_page _ _ _ _ _ is in
     let points = ap (λ l. take (first + f.len - first) (drop first (points_of l))) (sym seen)
@@ -56,10 +50,8 @@ returns-clause-page c =
 
 pub returns-clause-one : goal.returns-clause-one
 returns-clause-one c =
-    let is = read_by c.self.inside.pool c.self.inside.pages.items c.page_of-k.result c.id.result.now
-    c.frame-frame.result.now c.self.invariant.paged c.page_of-k.ensures.within (c.id.ensures.value no_page)
-    c.frame-frame.ensures in
-    let f = c.frame-frame.result.now in
+    let is = c.frame_of-frame.ensures.read no_page in
+    let f = c.frame_of-frame.result.now in
     subst (λ n. IsOneOf c.args.self.now.pages (record {
       first = n;
       len = f.len;
