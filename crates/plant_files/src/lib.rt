@@ -19,14 +19,13 @@
 
 mod answer_text;
 mod base_file;
-mod collector_file;
 mod names;
 mod number_word;
 mod plan_file;
 mod plan_rows;
 mod queries;
-mod reader_file;
 mod row_file;
+mod row_files;
 mod rows;
 mod text;
 mod whole;

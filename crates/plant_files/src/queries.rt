@@ -1,53 +1,59 @@
 // What the readers of a plan ask.
-ghost use Rattle.std.specs.Prelude.{◌≡◌, ◌≢◌, ◌<◌, ◌^◌, ℕ, All, length, map, vec_len, IfOk, IfErr, IsErrOf};
+ghost use Rattle.std.specs.Prelude.{◌≡◌, ◌<◌, ◌^◌, ℕ, All, length, map, vec_len, IfOk, IfErr, IsErrOf};
+ghost use Rattle.trend_num.specs.declared.refusal.What.TheVariants.{Queries};
 ghost use Rattle.plant_status.specs.declared.file.FileId.TheVariants.{Reader};
-ghost use Rattle.plant_status.specs.declared.status.Status.TheVariants.{ReadFault, WantOfMemory};
+ghost use Rattle.plant_status.specs.declared.status.Status.TheVariants.{ReadFault};
 ghost use Rattle.tag_base.specs.Groups.{IsSoundGroup};
-ghost use Rattle.value_rows.specs.Asked.{IsQuery};
+ghost use Rattle.value_rows.specs.Asked.{IsQuery, query_row};
 ghost use Rattle.plant_files.specs.Reading.{IsFaultAt, faults_after};
-ghost use Rattle.plant_files.specs.Asked.{AreReaderFiles, AreQueries, IsQueryOfBase, IsQueriesRefusal, IsReaderRefused};
+ghost use Rattle.plant_files.specs.Asked.{AreQueries, IsQueryOfBase, IsQueriesRefusal, most_queries, reader_at};
 
 use crate::names::{names_of_groups, names_of_tags};
-use crate::reader_file::{queries_in, reader_at};
+use crate::row_files::{RowFiles, row_lists};
 use byte_io::Files;
-use plant_status::Status;
+use plant_status::{FileId, Status, What};
 use std::alloc::Global;
-use tag_base::{Base, FileName, Plan};
+use tag_base::{Base, Plan};
 use trend_num::Name;
-use value_rows::{GroupNames, Query};
+use value_rows::{GroupNames, Query, RowNo, query_rows};
 
-// The queries of readers' files over these names, or the first refusal.
-fn queries_over<F: Files>(
-    alloc: Global,
-    files: &mut F,
-    readers: &[FileName],
-    tags: &[Name],
-    groups: &[GroupNames],
-) -> Result<Vec<Vec<Query>>, Status>
-    requires few_readers { length readers.now < 2 ^ 32 }
-    requires few_tags { length tags.now < 2 ^ 32 }
-    requires few_groups { length groups.now < 2 ^ 32 }
-    requires few_calcs { All (λ g. vec_len g.calcs < 2 ^ 32) groups.now }
-    ensures queries { IfOk result (λ lists.
-        AreReaderFiles tags.now groups.now (F.told files.old) readers.now
-        (map (λ queries. queries.items) lists.items)) }
-    ensures in_range { IfOk result (λ lists. All (λ queries. All (IsQuery tags.now groups.now) queries.items) lists.items) }
-    ensures refused { IfErr result (λ why. why ≢ WantOfMemory →
-        IsReaderRefused tags.now groups.now (F.told files.old) readers.now why) }
-    ensures stays { F.told files.new ≡ F.told files.old }
-    ensures faults { F.fault_count files.new ≡ faults_after result (F.fault_count files.old) }
-    ensures whose { (place : ℕ) → IsErrOf result (ReadFault (Reader place))
-        → IsFaultAt readers.now place (F.failed_name files.new) }
-{
-    let mut lists = Vec::new(alloc);
-    for reader in readers {
-        let file = reader_at(lists.len());
-        let queries = queries_in(alloc, files, reader, file, tags, groups)?;
-        if lists.push(queries).is_err() {
-            return Err(Status::WantOfMemory);
-        }
+// The most queries of a reader.
+const MAX_QUERIES: u64 = 4096;
+
+// The files of readers, over these names of tags and of groups.
+#[derive(Drop)]
+struct ReaderFiles<'n> {
+    tags: &'n [Name],
+    groups: &'n [GroupNames],
+    ghost few_tags: { length tags.now < 2 ^ 32 },
+    ghost few_groups: { length groups.now < 2 ^ 32 },
+    ghost few_calcs: { All (λ g. vec_len g.calcs < 2 ^ 32) groups.now },
+}
+
+impl<'n> RowFiles for ReaderFiles<'n> {
+    type Row = Query;
+
+    ghost row_of = { λ files. query_row files.tags.now files.groups.now };
+
+    ghost is_row = { λ files. IsQuery files.tags.now files.groups.now };
+
+    ghost most = { λ files. most_queries };
+
+    ghost what = { λ files. Queries };
+
+    ghost file_at = { λ files. reader_at };
+
+    fn rows(&self, alloc: Global, bytes: &[u8]) -> Result<Vec<Query>, RowNo> {
+        query_rows(alloc, bytes, self.tags, self.groups, MAX_QUERIES)
     }
-    Ok(lists)
+
+    fn what(&self) -> What {
+        What::Queries
+    }
+
+    fn file_at(&self, place: usize) -> FileId {
+        FileId::Reader(u32::try_from(place).unwrap_or(u32::MAX))
+    }
 }
 
 /// The queries of the plan's reader files, in plan order. A file has at most 67,108,864 bytes and 4,096
@@ -74,5 +80,9 @@ pub fn queries_of<F: Files>(
     let Ok(groups) = names_of_groups(alloc, &base.groups) else {
         return Err(Status::WantOfMemory);
     };
-    queries_over(alloc, files, &plan.readers, &tags, &groups)
+    let asked = ReaderFiles {
+        tags: &tags,
+        groups: &groups,
+    };
+    row_lists(alloc, files, &plan.readers, &asked)
 }

@@ -1,48 +1,55 @@
 // What the collectors of a plant take.
-ghost use Rattle.std.specs.Prelude.{◌≡◌, ◌≢◌, ◌<◌, ◌≤◌, ◌^◌, ℕ, All, length, map, IfOk, IfErr, IsErrOf, OnOk};
+ghost use Rattle.std.specs.Prelude.{◌≡◌, ◌<◌, ◌≤◌, ◌^◌, ℕ, All, length, map, IfOk, IfErr, IsErrOf, OnOk};
+ghost use Rattle.trend_num.specs.declared.refusal.What.TheVariants.{Rows};
 ghost use Rattle.plant_status.specs.declared.file.FileId.TheVariants.{Collector};
-ghost use Rattle.plant_status.specs.declared.status.Status.TheVariants.{ReadFault, WantOfMemory};
-ghost use Rattle.value_rows.specs.Raw.{IsRawRow};
+ghost use Rattle.plant_status.specs.declared.status.Status.TheVariants.{ReadFault};
+ghost use Rattle.value_rows.specs.Raw.{IsRawRow, raw_row};
 ghost use Rattle.plant_files.specs.Reading.{IsFaultAt, faults_after};
-ghost use Rattle.plant_files.specs.Collected.{AreCollectorFiles, AreCollectedRows, AreRowsTooMany, IsCollectorRefused, IsRowOfBase, IsCollectedRefusal, most_collector_rows, row_count};
+ghost use Rattle.plant_files.specs.Collected.{AreCollectedRows, AreRowsTooMany, IsRowOfBase, IsCollectedRefusal, collector_at, most_collector_rows, row_count};
 
-use crate::collector_file::{MAX_ROWS, collector_at, rows_in};
 use crate::names::names_of_tags;
+use crate::row_files::{RowFiles, row_lists};
 use byte_io::Files;
-use plant_status::{Status, What};
+use plant_status::{FileId, Status, What};
 use std::alloc::Global;
-use tag_base::{Base, FileName, Plan};
+use tag_base::{Base, Plan};
 use trend_num::Name;
-use value_rows::RawRow;
+use value_rows::{RawRow, RowNo, raw_rows};
 
-// The rows of collectors' files over these names, or the first refusal.
-fn rows_over<F: Files>(
-    alloc: Global,
-    files: &mut F,
-    collectors: &[FileName],
-    tags: &[Name],
-) -> Result<Vec<Vec<RawRow>>, Status>
-    requires few_collectors { length collectors.now < 2 ^ 32 }
-    requires few_tags { length tags.now < 2 ^ 32 }
-    ensures rows { IfOk result (λ lists.
-        AreCollectorFiles tags.now (F.told files.old) collectors.now (map (λ rows. rows.items) lists.items)) }
-    ensures in_range { IfOk result (λ lists. All (λ rows. All (IsRawRow tags.now) rows.items) lists.items) }
-    ensures refused { IfErr result (λ why. why ≢ WantOfMemory →
-        IsCollectorRefused tags.now (F.told files.old) collectors.now why) }
-    ensures stays { F.told files.new ≡ F.told files.old }
-    ensures faults { F.fault_count files.new ≡ faults_after result (F.fault_count files.old) }
-    ensures whose { (place : ℕ) → IsErrOf result (ReadFault (Collector place))
-        → IsFaultAt collectors.now place (F.failed_name files.new) }
-{
-    let mut lists = Vec::new(alloc);
-    for collector in collectors {
-        let file = collector_at(lists.len());
-        let rows = rows_in(alloc, files, collector, file, tags)?;
-        if lists.push(rows).is_err() {
-            return Err(Status::WantOfMemory);
-        }
+// The most rows of a collector, and of all collectors together.
+const MAX_ROWS: u64 = 4_000_000;
+
+// The files of collectors, over these names of tags.
+#[derive(Drop)]
+struct CollectorFiles<'n> {
+    tags: &'n [Name],
+    ghost few_tags: { length tags.now < 2 ^ 32 },
+}
+
+impl<'n> RowFiles for CollectorFiles<'n> {
+    type Row = RawRow;
+
+    ghost row_of = { λ files. raw_row files.tags.now };
+
+    ghost is_row = { λ files. IsRawRow files.tags.now };
+
+    ghost most = { λ files. most_collector_rows };
+
+    ghost what = { λ files. Rows };
+
+    ghost file_at = { λ files. collector_at };
+
+    fn rows(&self, alloc: Global, bytes: &[u8]) -> Result<Vec<RawRow>, RowNo> {
+        raw_rows(alloc, bytes, self.tags, MAX_ROWS)
     }
-    Ok(lists)
+
+    fn what(&self) -> What {
+        What::Rows
+    }
+
+    fn file_at(&self, place: usize) -> FileId {
+        FileId::Collector(u32::try_from(place).unwrap_or(u32::MAX))
+    }
 }
 
 /// The rows of the plan's collector files, in plan order. A file has at most 67,108,864 bytes and 4,000,000
@@ -65,7 +72,8 @@ pub fn rows_of<F: Files>(
     let Ok(tags) = names_of_tags(alloc, &base.tags) else {
         return Err(Status::WantOfMemory);
     };
-    rows_over(alloc, files, &plan.collectors, &tags)
+    let taken = CollectorFiles { tags: &tags };
+    row_lists(alloc, files, &plan.collectors, &taken)
 }
 
 /// Looks whether the collectors have at most 4,000,000 rows together. Where they have more, `Limit` tells 4,000,001,

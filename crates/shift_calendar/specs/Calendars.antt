@@ -11,7 +11,7 @@ use Rattle.trend_num.specs.declared.measure.Measure.TheVariants.{Area, Avg, Tota
 use Rattle.shift_calendar.specs.declared.refusal.CalNo.{CalNo}
 use Rattle.shift_calendar.specs.declared.refusal.CalNo.TheVariants.{BadText}
 use Rattle.shift_calendar.specs.Answers.{when, given}
-use Rattle.toml_tables.specs.Tables.{document, has_keys, string_at, array_at, is_count}
+use Rattle.toml_tables.specs.Tables.{document, has_keys, places_at, string_at, array_at, is_count}
 
 -- the most shifts of a day, and the most tags, of a calendar
 abbrev pub most_starts : ℕ
@@ -75,19 +75,6 @@ untaken earlier place = if is_taken earlier place then None else Some place
 -- the place of the tag of a name, where it is among no earlier places
 abbrev pub new_place : List (List ℕ) → List ℕ → List ℕ → Option ℕ
 new_place names earlier name = option_and_then (untaken earlier) (tag_place_of names name)
-
--- the places of the tags that items name, each a text, after some places
-abbrev pub places_after : List (List ℕ) → List ℕ → Items → Option (List ℕ)
-places_after names earlier no_items = Some earlier
-places_after names earlier (item d ds) =
-    option_and_then (λ place. places_after names (earlier ++ place ∷ []) ds)
-    (option_and_then (new_place names earlier) (as_str d))
-
-abbrev pub places_of : List (List ℕ) → Items → Option (List ℕ)
-places_of names items = if is_count most_tags items then places_after names [] items else None
-
-abbrev pub places_at : List (List ℕ) → Members → Option (List ℕ)
-places_at names ms = option_and_then (places_of names) (array_at (codes "tags") ms)
 
 -- ---- measure and zone
 
@@ -153,7 +140,7 @@ calendar names bytes =
     when (has_keys calendar_keys [] ms) (BadText 2)
     (given (zone_at ms) (BadText 3) (λ zone.
     given (starts_at ms) (BadText 4) (λ starts.
-    given (places_at names ms) (BadText 5) (λ tags.
+    given (places_at (new_place names) most_tags (codes "tags") ms) (BadText 5) (λ tags.
     given (measure_at ms) (BadText 6) (λ measure.
     Ok (record { zone = Some zone; starts = starts; tags = tags; measure = measure })))))))
 

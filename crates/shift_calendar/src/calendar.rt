@@ -12,15 +12,18 @@ ghost use Rattle.shift_calendar.specs.declared.refusal.CalNo.TheVariants.{BadTex
 
 use crate::instant::instant;
 use crate::measure::measure_at;
-use crate::places::places_at;
+use crate::places::TagNames;
 use crate::refusal::CalNo;
 use crate::start::{Start, starts_at};
 use jiff::tz::TimeZone;
 use std::alloc::Global;
 use std::marker::Model;
 use toml::Table;
-use toml_tables::{document, has_keys, string_at};
+use toml_tables::{document, has_keys, places_at, string_at};
 use trend_num::{Measure, Name, WantOfMemory};
+
+// The most tags of a calendar.
+const MAX_TAGS: usize = 64;
 
 /// When the shifts of a day begin, in which zone, and what is told of each: a clause sees the zone, the
 /// minutes of the day of the starts, the places of the tags and the measure.
@@ -123,7 +126,7 @@ pub fn read_calendar(alloc: Global, bytes: &[u8], tags: &[Name]) -> Result<Calen
     let Some(starts) = starts_at(alloc, &table)? else {
         return Err(CalNo::BadText { rule: 4 });
     };
-    let Some(tags) = places_at(alloc, tags, &table)? else {
+    let Some(tags) = places_at(alloc, &TagNames { names: tags }, &table, "tags", MAX_TAGS)? else {
         return Err(CalNo::BadText { rule: 5 });
     };
     let Some(measure) = measure_at(&table) else {

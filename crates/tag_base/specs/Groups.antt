@@ -1,8 +1,8 @@
 -- What the tables of groups say.
 use Rattle.std.specs.Prelude.{◌≡◌, ◌≢◌, ◌⊎◌, ℕ, Bool, if◌then◌else◌, ◌||◌, List, [], ◌∷◌, ◌++◌, length, map, position, slice_get, codes, bytes_eq, string_bytes, nat_eq, Option, None, Some, is_none, option_and_then, Result, Ok, Err, ⊤, ◌<◌, ◌≤◌, All, vec_len}
 use Rattle.std.specs.List.{list_any}
-use Rattle.toml.specs.Data.{Items, Members, no_items, item, as_str}
-use Rattle.toml_tables.specs.Tables.{has_keys, string_at, array_at, is_count}
+use Rattle.toml.specs.Data.{Members}
+use Rattle.toml_tables.specs.Tables.{has_keys, places_at, string_at}
 use Rattle.trend_num.specs.Ranges.{last_time}
 use Rattle.trend_num.specs.declared.refusal.What.TheVariants.{Calcs}
 use Rattle.trend_num.specs.declared.tag_def.TagDef.{TagDef}
@@ -82,18 +82,9 @@ new_input tags earlier place =
 abbrev pub named_input : List TagDef → List Input → List ℕ → Option Input
 named_input tags earlier name = option_and_then (new_input tags earlier) (tag_place tags name)
 
--- the inputs that items name, each a text, after some inputs
-abbrev pub inputs_after : List TagDef → List Input → Items → Option (List Input)
-inputs_after tags earlier no_items = Some earlier
-inputs_after tags earlier (item d ds) =
-    option_and_then (λ input. inputs_after tags (earlier ++ input ∷ []) ds)
-    (option_and_then (named_input tags earlier) (as_str d))
-
-abbrev pub inputs_of : List TagDef → Items → Option (List Input)
-inputs_of tags items = if is_count most_inputs items then inputs_after tags [] items else None
-
+-- the inputs that the table of a group names
 abbrev pub inputs_at : List TagDef → Members → Option (List Input)
-inputs_at tags ms = option_and_then (inputs_of tags) (array_at (codes "tags") ms)
+inputs_at tags ms = places_at (named_input tags) most_inputs (codes "tags") ms
 
 -- a calculation of two texts, whose name no earlier one has
 abbrev pub calc_text : List CalcForm → Members → Option CalcForm

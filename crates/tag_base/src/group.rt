@@ -7,12 +7,15 @@ ghost use Rattle.tag_base.specs.Groups.{group_place, new_group_name, formula_tex
 use crate::access::{name_at, number_at};
 use crate::calculation::{CalcText, calcs_at, checked};
 use crate::definition::GroupDef;
-use crate::input::{Input, inputs_at};
+use crate::input::{Input, InputTags};
 use crate::refusal::{TextNo, broken, limited};
 use std::alloc::Global;
 use toml::Table;
-use toml_tables::has_keys;
+use toml_tables::{has_keys, places_at};
 use trend_num::{MAX_T, Name, TagDef, WantOfMemory, What};
+
+// The most inputs of a group.
+const MAX_INPUTS: usize = 64;
 
 // The most calculations of a group.
 const MAX_CALCS: usize = 64;
@@ -67,7 +70,7 @@ fn group_text(
     let Some(name) = new_group_name(earlier, table) else {
         return Err(broken(7, earlier.len()));
     };
-    let Some(inputs) = inputs_at(alloc, tags, table)? else {
+    let Some(inputs) = places_at(alloc, &InputTags { tags }, table, "tags", MAX_INPUTS)? else {
         return Err(broken(8, earlier.len()));
     };
     let Some(start) = number_at(table, "start", 0, MAX_T) else {

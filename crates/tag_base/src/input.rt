@@ -1,16 +1,10 @@
 // The inputs of a group.
-ghost use Rattle.std.specs.Prelude.{◌≡◌, ◌<◌, ◌≤◌, [], length, vec_len, All, IfOk, IfSome, option_map};
-ghost use Rattle.toml.specs.View.{items_view, table_view};
-ghost use Rattle.tag_base.specs.Groups.{is_input, new_input, named_input, inputs_after, inputs_of, inputs_at};
+ghost use Rattle.std.specs.Prelude.{◌≡◌, ◌<◌, ◌≤◌, length, IfSome};
+ghost use Rattle.tag_base.specs.Groups.{is_input, new_input, named_input};
 
 use crate::tag::tag_place;
-use std::alloc::Global;
-use toml::{Table, Value};
-use toml_tables::{has_count, items_at};
-use trend_num::{Name, TagDef, WantOfMemory};
-
-// The most inputs of a group.
-const MAX_INPUTS: usize = 64;
+use toml_tables::Places;
+use trend_num::{Name, TagDef};
 
 // An input of a group: the place of its tag, and the tag's name.
 #[derive(Clone, Copy, Debug, PartialEq, Eq)]
@@ -44,63 +38,24 @@ fn new_input(tags: &[TagDef], earlier: &[Input], place: usize) -> Option<Input>
     })
 }
 
-// The input that a text names.
-fn named_input(tags: &[TagDef], earlier: &[Input], name: &str) -> Option<Input>
-    requires { length tags.now ≤ 1024 }
-    ensures input { result ≡ named_input tags.now earlier.now name.now }
-    ensures is_tag { IfSome result (λ input. input.place < length tags.now) }
-{
-    match tag_place(tags, name.as_bytes()) {
-        Some(place) => new_input(tags, earlier, place),
-        None => None,
-    }
+// The tags of a base, of which inputs are named.
+#[derive(Drop)]
+pub(crate) struct InputTags<'t> {
+    pub(crate) tags: &'t [TagDef],
+    ghost few_tags: { length tags.now ≤ 1024 },
 }
 
-// The inputs that items name.
-fn inputs_of(
-    alloc: Global,
-    tags: &[TagDef],
-    items: &[Value],
-) -> Result<Option<Vec<Input>>, WantOfMemory>
-    requires { length tags.now ≤ 1024 }
-    ensures inputs { IfOk result (λ found.
-        option_map (λ inputs. inputs.items) found ≡ inputs_after tags.now [] (items_view items.now)) }
-    ensures are_tags { IfOk result (λ found. IfSome found
-        (λ inputs. All (λ i. i.place < length tags.now) inputs.items)) }
-    ensures as_many { IfOk result (λ found. IfSome found (λ inputs. vec_len inputs ≡ length items.now)) }
-{
-    let mut inputs = Vec::new(alloc);
-    for item in items {
-        let Some(name) = item.as_str() else {
-            return Ok(None);
-        };
-        let Some(input) = named_input(tags, &inputs, name) else {
-            return Ok(None);
-        };
-        inputs.push(input)?;
-    }
-    Ok(Some(inputs))
-}
+impl<'t> Places for InputTags<'t> {
+    type Place = Input;
 
-// The inputs of the table of a group, where they are 1 to 64 tags that are no step tags, none twice.
-pub(crate) fn inputs_at(
-    alloc: Global,
-    tags: &[TagDef],
-    table: &Table,
-) -> Result<Option<Vec<Input>>, WantOfMemory>
-    requires { length tags.now ≤ 1024 }
-    ensures inputs { IfOk result (λ found.
-        option_map (λ inputs. inputs.items) found ≡ inputs_at tags.now (table_view table.now)) }
-    ensures are_tags { IfOk result (λ found. IfSome found
-        (λ inputs. All (λ i. i.place < length tags.now) inputs.items)) }
-    ensures some { IfOk result (λ found. IfSome found (λ inputs. 1 ≤ vec_len inputs)) }
-    ensures few { IfOk result (λ found. IfSome found (λ inputs. vec_len inputs ≤ 64)) }
-{
-    let Some(items) = items_at(table, "tags") else {
-        return Ok(None);
-    };
-    if !has_count(items, MAX_INPUTS) {
-        return Ok(None);
+    ghost place_of = { λ tags. named_input tags.tags.now };
+
+    ghost is_place = { λ tags input. input.place < length tags.tags.now };
+
+    fn place_of(&self, earlier: &[Input], name: &str) -> Option<Input> {
+        match tag_place(self.tags, name.as_bytes()) {
+            Some(place) => new_input(self.tags, earlier, place),
+            None => None,
+        }
     }
-    inputs_of(alloc, tags, items)
 }

@@ -1,5 +1,5 @@
 -- What a table of a TOML document has, and what stands at its keys.
-use Rattle.std.specs.Prelude.{ℕ, Bool, true, if◌then◌else◌, ◌&&◌, ◌||◌, ◌+◌, List, Option, None, is_some, option_and_then, bytes_eq, nat_le}
+use Rattle.std.specs.Prelude.{ℕ, Bool, true, if◌then◌else◌, ◌&&◌, ◌||◌, ◌+◌, List, [], ◌∷◌, ◌++◌, Option, None, Some, is_some, option_and_then, bytes_eq, nat_le}
 use Rattle.std.specs.List.{list_any, list_all}
 use Rattle.std.specs.Str.{is_utf8}
 use Rattle.toml.specs.Data.{Items, Members, no_items, item, no_members, member, get_member, as_str, as_array}
@@ -44,3 +44,19 @@ item_count (item d ds) = item_count ds + 1
 -- an item or more, and no more than so many
 abbrev pub is_count : ℕ → Items → Bool
 is_count most items = nat_le 1 (item_count items) && nat_le (item_count items) most
+
+-- ---- places
+
+-- the places that items name, each a text, after some places
+abbrev pub places_after : {A : Type 0} → (List A → List ℕ → Option A) → List A → Items → Option (List A)
+places_after place_of earlier no_items = Some earlier
+places_after place_of earlier (item d ds) =
+    option_and_then (λ place. places_after place_of (earlier ++ place ∷ []) ds)
+    (option_and_then (place_of earlier) (as_str d))
+
+abbrev pub places_of : {A : Type 0} → (List A → List ℕ → Option A) → ℕ → Items → Option (List A)
+places_of place_of most items = if is_count most items then places_after place_of [] items else None
+
+-- the places that the array at a key names, one or more, and no more than so many
+abbrev pub places_at : {A : Type 0} → (List A → List ℕ → Option A) → ℕ → List ℕ → Members → Option (List A)
+places_at place_of most key ms = option_and_then (places_of place_of most) (array_at key ms)

@@ -7,9 +7,11 @@
 #![tactic(auto)]
 
 mod keys;
+mod places;
 mod text;
 mod values;
 
 pub use keys::has_keys;
+pub use places::{Places, places_at};
 pub use text::document;
 pub use values::{has_count, items_at, string_at, value_at};

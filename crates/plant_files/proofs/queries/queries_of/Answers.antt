@@ -11,32 +11,32 @@ use Rattle.plant_files.proofs.queries.queries_of.Goals as goal
 pub returns-clause-in_range : goal.returns-clause-in_range
 returns-clause-in_range g c =
     let base = c.args.base.now in
-    let groups = c.deref-5.result.now in
-    let tags : c.deref-4.result.now ≡ tag_names base.tags.items =
-    c.deref-4.ensures.value ∙ c.in-Ok.ensures.names ∙ ap tag_names c.deref.ensures.value in
-    let named : AreNamed base.groups.items groups = subst (AreNamed base.groups.items) (sym c.deref-5.ensures.value)
+    let groups = c.deref-4.result.now in
+    let tags : c.deref-3.result.now ≡ tag_names base.tags.items =
+    c.deref-3.ensures.value ∙ c.in-Ok.ensures.names ∙ ap tag_names c.deref.ensures.value in
+    let named : AreNamed base.groups.items groups = subst (AreNamed base.groups.items) (sym c.deref-4.ensures.value)
     (subst (λ gs. AreNamed gs c.in-Ok-names_of_groups.groups.items) c.deref-2.ensures.value c.in-Ok-names_of_groups.ensures.named) in
-    IfOk-weaker c.queries_over.result (λ lists. All (λ q. All (IsQuery c.deref-4.result.now groups) q.items) lists.items)
+    IfOk-weaker c.row_lists.result (λ lists. All (λ q. All (IsQuery c.deref-3.result.now groups) q.items) lists.items)
     (λ lists. All (λ q. All (IsQueryOfBase base) q.items) lists.items)
     (λ lists asked. queries_of_base base groups lists.items named
     (subst (λ ts. All (λ q. All (IsQuery ts groups) q.items) lists.items) tags asked))
-    c.queries_over.ensures.in_range
+    c.row_lists.ensures.are_rows
 
 pub returns-clause-refused : goal.returns-clause-refused
 returns-clause-refused g c =
     let base = c.args.base.now in
     let told = g.F.Files.told c.args.files.now in
-    let groups = c.deref-5.result.now in
-    let tags : c.deref-4.result.now ≡ tag_names base.tags.items =
-    c.deref-4.ensures.value ∙ c.in-Ok.ensures.names ∙ ap tag_names c.deref.ensures.value in
-    let named : AreNamed base.groups.items groups = subst (AreNamed base.groups.items) (sym c.deref-5.ensures.value)
+    let groups = c.deref-4.result.now in
+    let tags : c.deref-3.result.now ≡ tag_names base.tags.items =
+    c.deref-3.ensures.value ∙ c.in-Ok.ensures.names ∙ ap tag_names c.deref.ensures.value in
+    let named : AreNamed base.groups.items groups = subst (AreNamed base.groups.items) (sym c.deref-4.ensures.value)
     (subst (λ gs. AreNamed gs c.in-Ok-names_of_groups.groups.items) c.deref-2.ensures.value c.in-Ok-names_of_groups.ensures.named) in
-    IfErr-weaker c.queries_over.result (λ why. why ≢ WantOfMemory → IsReaderRefused c.deref-4.result.now groups told c.deref-3.result.now why)
+    IfErr-weaker c.row_lists.result (λ why. why ≢ WantOfMemory → IsReaderRefused c.deref-3.result.now groups told c.deref-5.result.now why)
     (IsQueriesRefusal base told c.args.plan.now.readers.items)
     (λ why first other. record {
       groups = groups;
       named = named;
-      first = subst (λ files. IsReaderRefused (tag_names base.tags.items) groups told files why) c.deref-3.ensures.value
-          (subst (λ ts. IsReaderRefused ts groups told c.deref-3.result.now why) tags (first other));
+      first = subst (λ files. IsReaderRefused (tag_names base.tags.items) groups told files why) c.deref-5.ensures.value
+          (subst (λ ts. IsReaderRefused ts groups told c.deref-5.result.now why) tags (first other));
     })
-    c.queries_over.ensures.refused
+    c.row_lists.ensures.refused

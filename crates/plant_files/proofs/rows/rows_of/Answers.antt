@@ -12,36 +12,36 @@ pub returns-clause-rows : goal.returns-clause-rows
 returns-clause-rows g c =
     let base = c.args.base.now in
     let told = g.F.Files.told c.args.files.now in
-    let tags : c.deref-3.result.now ≡ tag_names base.tags.items =
-    c.deref-3.ensures.value ∙ c.in-Ok.ensures.names ∙ ap tag_names c.deref.ensures.value in
-    IfOk-weaker c.rows_over.result
-    (λ lists. AreCollectorFiles c.deref-3.result.now told c.deref-2.result.now (map (λ rows. rows.items) lists.items))
+    let tags : c.deref-2.result.now ≡ tag_names base.tags.items =
+    c.deref-2.ensures.value ∙ c.in-Ok.ensures.names ∙ ap tag_names c.deref.ensures.value in
+    IfOk-weaker c.row_lists.result
+    (λ lists. AreCollectorFiles c.deref-2.result.now told c.deref-3.result.now (map (λ rows. rows.items) lists.items))
     (λ lists. AreCollectedRows base told c.args.plan.now.collectors.items (map (λ rows. rows.items) lists.items))
     (λ lists read. record {
       read = subst (λ files. AreCollectorFiles (tag_names base.tags.items) told files (map (λ rows. rows.items) lists.items))
-          c.deref-2.ensures.value
-          (subst (λ ts. AreCollectorFiles ts told c.deref-2.result.now (map (λ rows. rows.items) lists.items)) tags read);
+          c.deref-3.ensures.value
+          (subst (λ ts. AreCollectorFiles ts told c.deref-3.result.now (map (λ rows. rows.items) lists.items)) tags read);
     })
-    c.rows_over.ensures.rows
+    c.row_lists.ensures.rows
 
 pub returns-clause-in_range : goal.returns-clause-in_range
 returns-clause-in_range g c =
     let base = c.args.base.now in
-    let tags : c.deref-3.result.now ≡ tag_names base.tags.items =
-    c.deref-3.ensures.value ∙ c.in-Ok.ensures.names ∙ ap tag_names c.deref.ensures.value in
-    IfOk-weaker c.rows_over.result (λ lists. All (λ rows. All (IsRawRow c.deref-3.result.now) rows.items) lists.items)
+    let tags : c.deref-2.result.now ≡ tag_names base.tags.items =
+    c.deref-2.ensures.value ∙ c.in-Ok.ensures.names ∙ ap tag_names c.deref.ensures.value in
+    IfOk-weaker c.row_lists.result (λ lists. All (λ rows. All (IsRawRow c.deref-2.result.now) rows.items) lists.items)
     (λ lists. All (λ rows. All (IsRowOfBase base) rows.items) lists.items)
     (λ lists read. rows_of_base base lists.items (subst (λ ts. All (λ rows. All (IsRawRow ts) rows.items) lists.items) tags read))
-    c.rows_over.ensures.in_range
+    c.row_lists.ensures.are_rows
 
 pub returns-clause-refused : goal.returns-clause-refused
 returns-clause-refused g c =
     let base = c.args.base.now in
     let told = g.F.Files.told c.args.files.now in
-    let tags : c.deref-3.result.now ≡ tag_names base.tags.items =
-    c.deref-3.ensures.value ∙ c.in-Ok.ensures.names ∙ ap tag_names c.deref.ensures.value in
-    IfErr-weaker c.rows_over.result (λ why. why ≢ WantOfMemory → IsCollectorRefused c.deref-3.result.now told c.deref-2.result.now why)
+    let tags : c.deref-2.result.now ≡ tag_names base.tags.items =
+    c.deref-2.ensures.value ∙ c.in-Ok.ensures.names ∙ ap tag_names c.deref.ensures.value in
+    IfErr-weaker c.row_lists.result (λ why. why ≢ WantOfMemory → IsCollectorRefused c.deref-2.result.now told c.deref-3.result.now why)
     (IsCollectedRefusal base told c.args.plan.now.collectors.items)
-    (λ why first other. subst (λ files. IsCollectorRefused (tag_names base.tags.items) told files why) c.deref-2.ensures.value
-    (subst (λ ts. IsCollectorRefused ts told c.deref-2.result.now why) tags (first other)))
-    c.rows_over.ensures.refused
+    (λ why first other. subst (λ files. IsCollectorRefused (tag_names base.tags.items) told files why) c.deref-3.ensures.value
+    (subst (λ ts. IsCollectorRefused ts told c.deref-3.result.now why) tags (first other)))
+    c.row_lists.ensures.refused
