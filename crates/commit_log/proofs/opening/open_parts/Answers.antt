@@ -92,4 +92,3 @@ returns-in-None-clause-any_moment_refused g c =
     (found_new x.plant.now x.tags _ c.in_ok-stored.field-0 c.in-None.is c.in_ok-stored.ensures.found)
     (left_synced (StandsSame x.plant.now x.tags (seen o)) c.sync.result _ _ c.sync.ensures.noted)
     (subst (λ t. During t new (LogsNothing x.plant.now)) c.read_log.ensures.same c.begin.ensures.any_moment))
-
