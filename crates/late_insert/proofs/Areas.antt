@@ -12,7 +12,9 @@ use Rattle.std.proofs.lemmas.Nat.{mul-le}
 use Rattle.trend_num.specs.declared.point.Point.{Point}
 use Rattle.trend_num.specs.Ranges.{InRange, last_time, largest_value}
 use Rattle.trend_model.specs.Windows.{area, piece}
-use Rattle.late_insert.specs.Totals.{least_of, greatest_of}
+use Rattle.late_insert.specs.declared.total.Extreme.{Extreme}
+use Rattle.late_insert.specs.declared.total.Extreme.TheVariants.{Least, Greatest}
+use Rattle.late_insert.specs.Totals.{least_of, greatest_of, extreme_of, outer}
 
 -- ---- one point more
 
@@ -59,17 +61,16 @@ pub greatest_push : (l : List Point) (y : Point) → 0 < length l → greatest_o
 greatest_push [] y some = absurd (omega arith)
 greatest_push (x ∷ l) y some = fold_push (λ (m : ℤ) (z : Point). int_max m z.v) x.v l y
 
-pub least_more : (l : List Point) (i : ℕ) (d : Point) → 0 < i → i < length l
-    → least_of (take (i + 1) l) ≡ int_min (least_of (take i l)) (get_or l i d).v
-least_more l i d some within =
-    let long = length-take-le i l (omega arith) in
-    ap least_of (take_more l i d within) ∙ least_push (take i l) (get_or l i d) (omega arith)
+extreme_push : (e : Extreme) (l : List Point) (p : Point) → 0 < length l
+    → extreme_of e (l ++ p ∷ []) ≡ outer e (extreme_of e l) p.v
+extreme_push Least = least_push
+extreme_push Greatest = greatest_push
 
-pub greatest_more : (l : List Point) (i : ℕ) (d : Point) → 0 < i → i < length l
-    → greatest_of (take (i + 1) l) ≡ int_max (greatest_of (take i l)) (get_or l i d).v
-greatest_more l i d some within =
+pub extreme_more : (e : Extreme) (l : List Point) (i : ℕ) (d : Point) → 0 < i → i < length l
+    → extreme_of e (take (i + 1) l) ≡ outer e (extreme_of e (take i l)) (get_or l i d).v
+extreme_more e l i d some within =
     let long = length-take-le i l (omega arith) in
-    ap greatest_of (take_more l i d within) ∙ greatest_push (take i l) (get_or l i d) (omega arith)
+    ap (extreme_of e) (take_more l i d within) ∙ extreme_push e (take i l) (get_or l i d) (omega arith)
 
 -- ---- how large an area is
 

@@ -20,7 +20,7 @@ use Rattle.trend_model.specs.Windows.{area, piece}
 use Rattle.late_insert.specs.declared.total.Extreme.{Extreme}
 use Rattle.late_insert.specs.declared.total.Extreme.TheVariants.{Least, Greatest}
 use Rattle.late_insert.specs.Totals.{least_of, greatest_of, extreme_of, outer}
-use Rattle.late_insert.proofs.Areas.{area_put, area_more, least_more, greatest_more, least_push}
+use Rattle.late_insert.proofs.Areas.{area_put, area_more, extreme_more, least_push}
 use Rattle.late_insert.proofs.Areas.{greatest_push, area_fits}
 
 -- ---- the records of a frame
@@ -125,28 +125,13 @@ module _ (f : Frame) (start i : ℕ) (from : start < i) (within : i < f.len) whe
       (ap₂ (λ x y. x +ℤ y) was.is (sym (ap₂ (piece step) behind here))
       ∙ sym (area_more step upto (i - start) p (omega arith) places.1.0))
 
-  pub least_total : (q : Point) (a : ℤ) → IsTotal least_of f start i a → q ≡ (rec_in f i).point
-      → IsTotal least_of f start (i + 1) (int_min a q.v)
-  least_total q a was next =
-      let here : get_or upto (i - start) q ≡ q = on_range f start i q (omega arith) within ∙ sym next in
-      more_by least_of (int_min a q.v)
-      (ap₂ int_min was.is (sym (ap (λ (x : Point). x.v) here))
-      ∙ sym (least_more upto (i - start) q (omega arith) places.1.0))
-
-  pub greatest_total : (q : Point) (a : ℤ) → IsTotal greatest_of f start i a → q ≡ (rec_in f i).point
-      → IsTotal greatest_of f start (i + 1) (int_max a q.v)
-  greatest_total q a was next =
-      let here : get_or upto (i - start) q ≡ q = on_range f start i q (omega arith) within ∙ sym next in
-      more_by greatest_of (int_max a q.v)
-      (ap₂ int_max was.is (sym (ap (λ (x : Point). x.v) here))
-      ∙ sym (greatest_more upto (i - start) q (omega arith) places.1.0))
-
-  -- an extreme of them, of words
   pub extreme_total : (e : Extreme) (q : Point) (a b : ℤ) → IsTotal (extreme_of e) f start i a
       → q ≡ (rec_in f i).point → b ≡ outer e a q.v → IsTotal (extreme_of e) f start (i + 1) b
-  extreme_total Least q a b was next is = subst (IsTotal least_of f start (i + 1)) (sym is) (least_total q a was next)
-  extreme_total Greatest q a b was next is =
-      subst (IsTotal greatest_of f start (i + 1)) (sym is) (greatest_total q a was next)
+  extreme_total e q a b was next is =
+      let here : get_or upto (i - start) q ≡ q = on_range f start i q (omega arith) within ∙ sym next in
+      more_by (extreme_of e) b
+      (is ∙ (ap₂ (outer e) was.is (sym (ap (λ (x : Point). x.v) here))
+      ∙ sym (extreme_more e upto (i - start) q (omega arith) places.1.0)))
 
 -- of one value it is that value
 pub extreme_one : (e : Extreme) (p : Point) → p.v ≡ extreme_of e (p ∷ [])

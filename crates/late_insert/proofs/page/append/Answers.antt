@@ -1,17 +1,25 @@
-use Rattle.std.proofs.Common.{true, false, sym, ap, ap₂, ◌∙◌, rules}
+use Rattle.std.proofs.Common.{◌≡◌, ◌+ℤ◌, true, false, sym, ap, ap₂, ◌∙◌, rules}
 use Rattle.std.specs.Prelude.{FitsSigned, insert}
 use Rattle.std.specs.Int.{w64, w128, int_min, int_max}
 use Rattle.std.proofs.lemmas.Int.{to_z-of_z}
 use Rattle.std.proofs.lemmas.List.Edits.{insert_end}
+use mir.Val.{of_z, to_z}
+use Rattle.trend_model.specs.Contents.{points_of}
+use Rattle.trend_model.specs.Windows.{area}
 use Rattle.late_insert.specs.Pages.{frame_records_in}
-use Rattle.late_insert.proofs.Summing.{is_pushed, length-records_in, area_of_fits, area_pushed}
+use Rattle.late_insert.proofs.Summing.{IsPushed, is_pushed, length-records_in, area_of_fits, area_pushed}
 use Rattle.late_insert.proofs.Summing.{area_pushed_fits, page_pushed, value_fits}
 use Rattle.late_insert.proofs.page.append.Goals as goal
+use Rattle.late_insert.proofs.page.append.Goals.{After-store, After-piece-2}
+
+-- the record stands behind the others
+pushed : (c : After-store) → IsPushed c.args.frame.now c.store.new.frame c.args.rec c.point_at-last.result
+pushed c = is_pushed _ c.store.new.frame c.args.rec _ c.requires.page c.requires.some c.point_at-last.ensures.value
+    c.store.ensures.recorded c.store.ensures.records c.store.ensures.area c.store.ensures.low c.store.ensures.high
 
 pub overflow_add-frame : goal.overflow_add-frame
 overflow_add-frame c =
-    let push = is_pushed _ c.store.new.frame c.args.rec _ c.requires.page c.requires.some c.point_at-last.ensures.value
-    c.store.ensures.recorded c.store.ensures.records c.store.ensures.area c.store.ensures.low c.store.ensures.high in
+    let push = pushed (goal.at.overflow_add-frame c).After-store in
     let line : FitsSigned w128 c.piece.result = search rules in
     rw (
       to_z-of_z w128 c.piece.result line,
@@ -23,8 +31,7 @@ overflow_add-frame c =
 
 pub returns-clause-page : goal.returns-clause-page
 returns-clause-page c =
-    let push = is_pushed _ c.store.new.frame c.args.rec _ c.requires.page c.requires.some c.point_at-last.ensures.value
-    c.store.ensures.recorded c.store.ensures.records c.store.ensures.area c.store.ensures.low c.store.ensures.high in
+    let push = pushed (goal.at.returns-clause-page c).After-store in
     let line : FitsSigned w128 c.piece.result = search rules in
     let least : FitsSigned w64 c.min-frame.result = search rules in
     let greatest : FitsSigned w64 c.max-frame.result = search rules in
@@ -49,27 +56,23 @@ returns-clause-records c =
     (sym (length-records_in c.args.frame.now))
     ∙ insert_end (frame_records_in c.args.frame.now) c.args.rec)
 
-pub overflow_add-result : goal.overflow_add-result
-overflow_add-result c =
+-- the area under the stair with one piece more, and that it fits
+stair_more : (c : After-piece-2) → (to_z w128 (of_z w128 c.args.stair) +ℤ to_z w128 (of_z w128 c.piece-2.result)
+    ≡ area true (points_of (frame_records_in c.store.new.frame)))
+    × FitsSigned w128 (to_z w128 (of_z w128 c.args.stair) +ℤ to_z w128 (of_z w128 c.piece-2.result))
+stair_more c =
     let push = is_pushed _ c.store.new.frame c.args.rec _ c.requires.page c.requires.some c.point_at-last.ensures.value
     c.store.ensures.recorded c.store.ensures.records c.store.ensures.area c.store.ensures.low c.store.ensures.high in
     let line : FitsSigned w128 c.piece-2.result = search rules in
-    rw (
-      to_z-of_z w128 c.piece-2.result line,
-      to_z-of_z w128 c.args.stair
-          (area_of_fits _ _ _ _ push true _ c.requires.stair),
+    let fits = area_of_fits _ _ _ _ push true _ c.requires.stair in
+    rw (to_z-of_z w128 c.piece-2.result line, to_z-of_z w128 c.args.stair fits) (
+      area_pushed _ _ _ _ push true c.args.stair c.piece-2.result c.requires.stair c.piece-2.ensures,
+      area_pushed_fits _ _ _ _ push true c.args.stair c.piece-2.result c.requires.stair c.piece-2.ensures,
     )
-    (area_pushed_fits _ _ _ _ push true c.args.stair c.piece-2.result c.requires.stair c.piece-2.ensures)
+
+pub overflow_add-result : goal.overflow_add-result
+overflow_add-result c = (stair_more (goal.at.overflow_add-result c).After-piece-2).1
 
 pub returns-clause-stair : goal.returns-clause-stair
 returns-clause-stair c =
-    let push = is_pushed _ c.store.new.frame c.args.rec _ c.requires.page c.requires.some c.point_at-last.ensures.value
-    c.store.ensures.recorded c.store.ensures.records c.store.ensures.area c.store.ensures.low c.store.ensures.high in
-    let line : FitsSigned w128 c.piece-2.result = search rules in
-    rw (
-      to_z-of_z w128 c.piece-2.result line,
-      to_z-of_z w128 c.args.stair (area_of_fits _ _ _ _ push true _ c.requires.stair),
-      to_z-of_z w128 _ (area_pushed_fits _ _ _ _ push true c.args.stair c.piece-2.result c.requires.stair
-          c.piece-2.ensures),
-    )
-    (area_pushed _ _ _ _ push true c.args.stair c.piece-2.result c.requires.stair c.piece-2.ensures)
+    let more = stair_more (goal.at.returns-clause-stair c).After-piece-2 in to_z-of_z w128 _ more.1 ∙ more.0

@@ -1,13 +1,14 @@
-use Rattle.std.proofs.Common.{◌≡◌, ℤ, Bool, ◌+◌, ◌+ℤ◌, ◌-◌, true, false, take, drop, subst, sym, ap, ◌∙◌, arith, rules}
+use Rattle.std.proofs.Common.{◌≡◌, ℤ, Bool, ◌+◌, ◌+ℤ◌, ◌-◌, true, false, take, drop, subst, sym, ap, ◌∙◌, refl, arith, rules}
 use Rattle.std.specs.Prelude.{FitsSigned}
 use Rattle.std.specs.Int.{w64, w128}
 use Rattle.std.proofs.lemmas.Int.{to_z-of_z}
 use Rattle.trend_num.specs.Ranges.{InRange}
 use mir.Val.{of_z, to_z}
 use Rattle.trend_model.specs.Windows.{area, piece}
+use Rattle.late_insert.specs.declared.total.Extreme.TheVariants.{Least, Greatest}
 use Rattle.late_insert.specs.Totals.{least_of, greatest_of}
-use Rattle.late_insert.proofs.Summing.{IsTotal, points_in, rec_in_range, value_fits, area_total, least_total}
-use Rattle.late_insert.proofs.Summing.{greatest_total, total_fits, whole_range}
+use Rattle.late_insert.proofs.Summing.{IsTotal, points_in, rec_in_range, value_fits, area_total, extreme_total}
+use Rattle.late_insert.proofs.Summing.{total_fits, whole_range}
 use Rattle.late_insert.proofs.total.totals_of.Goals as goal
 use Rattle.late_insert.proofs.total.totals_of.Goals.{After-point_at-p}
 
@@ -81,13 +82,13 @@ loop-i-preserved c =
         c.min.ensures.value,
         to_z-of_z w64 c.loop-i.all.low low,
         to_z-of_z w64 p.v value,
-      ) (least_total f 0 i some within p _ was.low next);
+      ) (extreme_total f 0 i some within Least p _ _ was.low next refl);
       high = rw (
         to_z-of_z w64 c.max.result greatest,
         c.max.ensures.value,
         to_z-of_z w64 c.loop-i.all.high high,
         to_z-of_z w64 p.v value,
-      ) (greatest_total f 0 i some within p _ was.high next);
+      ) (extreme_total f 0 i some within Greatest p _ _ was.high next refl);
       last = rw back next;
     }
 
