@@ -15,6 +15,25 @@ use std::fs::{self, File};
 use std::io::{self, ErrorKind};
 use std::rt::Files;
 
+/// Which devices of the folder a command opens.
+#[derive(Clone, Copy)]
+pub enum Wanted {
+    /// Those of tags and of groups.
+    Archives,
+    /// The log of the plant.
+    Log,
+}
+
+impl Wanted {
+    // Whether the device of a name is one of these.
+    fn has(self, name: &str) -> bool {
+        match self {
+            Wanted::Archives => name.ends_with(".tag") || name.ends_with(".grp"),
+            Wanted::Log => name == "plant.log",
+        }
+    }
+}
+
 /// The files of the folder `historian.d`, which lies in the working folder and is made where it is missing. A device's name is its
 /// file's. A device that is out, one that has failed, and one whose file is refused, is not handed out.
 #[derive(Drop)]
@@ -42,21 +61,21 @@ impl<R: Files<File = File> + AllocGlobal> DirStore<R> {
         }
     }
 
-    /// The folder, locked, with each device as it reads now. Where another process has the folder, or it cannot be read, each device
-    /// is refused.
-    pub fn read(rt: R) -> DirStore<R>
+    /// The folder, locked, with each wanted device as it reads now; any other is told as empty, and refused where its file has a byte.
+    /// Where another process has the folder, or it cannot be read, each device is refused.
+    pub fn read(rt: R, wanted: Wanted) -> DirStore<R>
     where
         R: Clone + Drop,
         ensures told { (n : List ℕ) → IsFresh (told_at result n) }
         ensures faults { folder_faults result ≡ 0 }
     {
         let mut store = DirStore::new(rt);
-        store.is_refused = store.read_all().is_err();
+        store.is_refused = store.read_all(wanted).is_err();
         store
     }
 
-    // Locks the folder where there is one, and reads its devices.
-    fn read_all(&mut self) -> io::Result<()>
+    // Locks the folder where there is one, and reads its wanted devices.
+    fn read_all(&mut self, wanted: Wanted) -> io::Result<()>
     where
         R: Clone + Drop,
         requires { AllFresh self.old.places }
@@ -64,7 +83,7 @@ impl<R: Files<File = File> + AllocGlobal> DirStore<R> {
         ensures faults { self.new.faults ≡ self.old.faults }
     {
         if self.folder.lock_if_there()? {
-            read_devices(&self.folder, &mut self.places)?;
+            read_devices(&self.folder, wanted, &mut self.places)?;
         }
         Ok(())
     }
@@ -96,9 +115,10 @@ impl<R: Files<File = File> + AllocGlobal> DirStore<R> {
     }
 }
 
-// Reads the devices of the folder.
+// Reads the wanted devices of the folder.
 fn read_devices<R: Files<File = File> + AllocGlobal + Clone + Drop>(
     folder: &Folder<R>,
+    wanted: Wanted,
     places: &mut BTreeMap<String, Kept>,
 ) -> io::Result<()>
     requires { AllFresh places.old }
@@ -106,7 +126,10 @@ fn read_devices<R: Files<File = File> + AllocGlobal + Clone + Drop>(
 {
     for entry in fs::read_dir(&folder.rt, FOLDER)? {
         match entry {
-            Ok(entry) => keep(folder, places, entry.file_name())?,
+            Ok(entry) if wanted.has(entry.file_name()) => {
+                keep(folder, places, entry.file_name())?;
+            }
+            Ok(_) => {}
             // No device has such a name.
             Err(error) if error.kind() == ErrorKind::InvalidFilename => {}
             Err(error) => return Err(error),
@@ -115,7 +138,7 @@ fn read_devices<R: Files<File = File> + AllocGlobal + Clone + Drop>(
     Ok(())
 }
 
-// Reads a file of the folder, if it is a device.
+// Reads the file of a device.
 fn keep<R: Files<File = File> + AllocGlobal>(
     folder: &Folder<R>,
     places: &mut BTreeMap<String, Kept>,
@@ -124,18 +147,10 @@ fn keep<R: Files<File = File> + AllocGlobal>(
     requires { AllFresh places.old }
     ensures { AllFresh places.new }
 {
-    if !is_device(name) {
-        return Ok(());
-    }
     let alloc = folder.rt.alloc();
     let kept = Kept::of_file(alloc, folder.read(name));
     insert(alloc, places, name, kept)?;
     Ok(())
-}
-
-// A tag's device, a group's, or the log of the plant.
-fn is_device(name: &str) -> bool {
-    name.ends_with(".tag") || name.ends_with(".grp") || name == "plant.log"
 }
 
 impl<R: Files<File = File> + AllocGlobal> Store for DirStore<R> {

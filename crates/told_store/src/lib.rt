@@ -1,6 +1,6 @@
 //! The devices of a plant as files, each of which tells what was read of it and the calls on it since.
 //!
-//! [`DirStore::read`] locks the folder `historian.d`, and syncs and reads each device once, whole. From then on a device is read
+//! [`DirStore::read`] locks the folder `historian.d`, and syncs and reads each wanted device once, whole. From then on a device is read
 //! from memory, and each write, cut or sync is a call on its file that is noted with its answer. So no answer of the disk
 //! is believed twice, and what the devices tell needs no premise on the disk's answers.
 //!
@@ -38,7 +38,7 @@ mod record;
 mod told_disk;
 
 pub use calls::Calls;
-pub use dir_store::DirStore;
+pub use dir_store::{DirStore, Wanted};
 pub use host::Host;
 pub use law::a_fresh_device_is_what_was_read;
 pub use told_disk::DirDisk;
