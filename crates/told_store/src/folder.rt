@@ -101,6 +101,7 @@ impl<R: Files<File = File> + AllocGlobal> Folder<R> {
     /// that fails too the file gets a mark, and the next run that can write it anew does so before it believes what it reads.
     pub(crate) fn settle(&self, name: &str, bytes: &[u8]) {
         if self.renew(name, bytes).is_err() {
+            let _ = self.remove(name, NEW);
             let _ = self.mark(name);
         }
     }
@@ -113,9 +114,15 @@ impl<R: Files<File = File> + AllocGlobal> Folder<R> {
         file.sync_all()?;
         fs::rename(&self.rt, path.as_str(), self.path(name, "")?.as_str())?;
         self.sync_names()?;
-        match fs::remove_file(&self.rt, self.path(name, MARK)?.as_str()) {
+        self.remove(name, MARK)?;
+        self.sync_names()
+    }
+
+    // Removes a file behind the name of a device, if it is there.
+    fn remove(&self, name: &str, behind: &str) -> io::Result<()> {
+        match fs::remove_file(&self.rt, self.path(name, behind)?.as_str()) {
             Err(error) if error.kind() != ErrorKind::NotFound => Err(error),
-            _ => self.sync_names(),
+            _ => Ok(()),
         }
     }
 
