@@ -17,22 +17,17 @@ use Rattle.group_book.proofs.Causes.{goes_from, goes_more}
 
 -- ---- what is behind the first records
 
--- one input more, of parts of lists that are made of each list by its version
-pub part_more : (part : List ℕ → List (List Rec) → List (List Rec)) (of : ℕ → List Rec → List Rec) → part [] [] ≡ []
-    → ((v : ℕ) (vs : List ℕ) (rs : List Rec) (rss : List (List Rec)) → part (v ∷ vs) (rs ∷ rss) ≡ of v rs ∷ part vs rss)
-    → (vs : List ℕ) (rss : List (List Rec)) (i : ℕ) → length rss ≡ length vs → i < length vs
-    → part (take (i + 1) vs) (take (i + 1) rss) ≡ part (take i vs) (take i rss) ++ of (get_or vs i 0) (get_or rss i []) ∷ []
-part_more part of none more [] rss i same below = absurd (omega (arith, below))
-part_more part of none more (v ∷ vs) [] i same below = absurd (omega (arith, same))
-part_more part of none more (v ∷ vs) (rs ∷ rss) zero same below =
-    more v [] rs [] ∙ ap (λ l. of v rs ∷ l) none ∙ sym (ap (λ l. l ++ of v rs ∷ []) none)
-part_more part of none more (v ∷ vs) (rs ∷ rss) (suc i) same below =
+-- one input more
+uncut_more : (vs : List ℕ) (rss : List (List Rec)) (i : ℕ) → length rss ≡ length vs → i < length vs
+    → uncut (take (i + 1) vs) (take (i + 1) rss) ≡ uncut (take i vs) (take i rss) ++ drop (get_or vs i 0) (get_or rss i []) ∷ []
+uncut_more [] rss i same below = absurd (omega (arith, below))
+uncut_more (v ∷ vs) [] i same below = absurd (omega (arith, same))
+uncut_more (v ∷ vs) (rs ∷ rss) zero same below = refl
+uncut_more (v ∷ vs) (rs ∷ rss) (suc i) same below =
     let next : suc (i + 1) ≡ suc i + 1 = omega arith in
-    let last = of (get_or vs i 0) (get_or rss i []) in
-    subst (λ n. part (take n (v ∷ vs)) (take n (rs ∷ rss)) ≡ part (v ∷ take i vs) (rs ∷ take i rss) ++ last ∷ []) next
-    (more v (take (i + 1) vs) rs (take (i + 1) rss)
-    ∙ ap (λ l. of v rs ∷ l) (part_more part of none more vs rss i (omega (arith, same)) (omega (arith, below)))
-    ∙ sym (ap (λ l. l ++ last ∷ []) (more v (take i vs) rs (take i rss))))
+    subst (λ n. uncut (take n (v ∷ vs)) (take n (rs ∷ rss))
+    ≡ (drop v rs ∷ uncut (take i vs) (take i rss)) ++ drop (get_or vs i 0) (get_or rss i []) ∷ []) next
+    (ap (λ l. drop v rs ∷ l) (uncut_more vs rss i (omega (arith, same)) (omega (arith, below))))
 
 -- both together are the lists
 pub longer-uncut : (vs : List ℕ) (rss : List (List Rec)) → length rss ≡ length vs → longer (cut vs rss) (uncut vs rss) ≡ rss
@@ -62,7 +57,7 @@ pulls_more lists versions i ps one same within is before = record {
   as_many = omega (arith, length_push ps one, many, length-take (i + 1) lists, within);
   records = map-append (λ p. p.recs.items) ps (one ∷ [])
       ∙ ap₂ (λ l rs. l ++ rs ∷ []) before.records is.records
-      ∙ sym (part_more uncut drop refl (λ v vs rs rss. refl) versions lists i same (omega (arith, within, same)));
+      ∙ sym (uncut_more versions lists i same (omega (arith, within, same)));
   ends = map-append (λ p. p.upto) ps (one ∷ [])
       ∙ ap₂ (λ l n. l ++ n ∷ []) before.ends is.ends
       ∙ sym (ap (map length) (take_more lists i [] within) ∙ map-append length (take i lists) (get_or lists i [] ∷ []));

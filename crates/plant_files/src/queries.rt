@@ -20,6 +20,37 @@ use value_rows::{GroupNames, Query, RowNo, query_rows};
 // The most queries of a reader.
 const MAX_QUERIES: u64 = 4096;
 
+/// The queries of the plan's reader files, in plan order. A file has at most 67,108,864 bytes and 4,096
+/// queries. The first file that is refused decides.
+pub fn queries_of<F: Files>(
+    alloc: Global,
+    files: &mut F,
+    plan: &Plan,
+    base: &Base,
+) -> Result<Vec<Vec<Query>>, Status>
+    requires { All (IsSoundGroup (length base.now.tags.items)) base.now.groups.items }
+    ensures queries { IfOk result (λ lists.
+        AreQueries base.now (F.told files.old) plan.now.readers.items (map (λ queries. queries.items) lists.items)) }
+    ensures in_range { IfOk result (λ lists. All (λ queries. All (IsQueryOfBase base.now) queries.items) lists.items) }
+    ensures refused { IfErr result (IsQueriesRefusal base.now (F.told files.old) plan.now.readers.items) }
+    ensures stays { F.told files.new ≡ F.told files.old }
+    ensures faults { F.fault_count files.new ≡ faults_after result (F.fault_count files.old) }
+    ensures whose { (place : ℕ) → IsErrOf result (ReadFault (Reader place))
+        → IsFaultAt plan.now.readers.items place (F.failed_name files.new) }
+{
+    let Ok(tags) = names_of_tags(alloc, &base.tags) else {
+        return Err(Status::WantOfMemory);
+    };
+    let Ok(groups) = names_of_groups(alloc, &base.groups) else {
+        return Err(Status::WantOfMemory);
+    };
+    let asked = ReaderFiles {
+        tags: &tags,
+        groups: &groups,
+    };
+    row_lists(alloc, files, &plan.readers, &asked)
+}
+
 // The files of readers, over these names of tags and of groups.
 #[derive(Drop)]
 struct ReaderFiles<'n> {
@@ -54,35 +85,4 @@ impl<'n> RowFiles for ReaderFiles<'n> {
     fn file_at(&self, place: usize) -> FileId {
         FileId::Reader(u32::try_from(place).unwrap_or(u32::MAX))
     }
-}
-
-/// The queries of the plan's reader files, in plan order. A file has at most 67,108,864 bytes and 4,096
-/// queries. The first file that is refused decides.
-pub fn queries_of<F: Files>(
-    alloc: Global,
-    files: &mut F,
-    plan: &Plan,
-    base: &Base,
-) -> Result<Vec<Vec<Query>>, Status>
-    requires { All (IsSoundGroup (length base.now.tags.items)) base.now.groups.items }
-    ensures queries { IfOk result (λ lists.
-        AreQueries base.now (F.told files.old) plan.now.readers.items (map (λ queries. queries.items) lists.items)) }
-    ensures in_range { IfOk result (λ lists. All (λ queries. All (IsQueryOfBase base.now) queries.items) lists.items) }
-    ensures refused { IfErr result (IsQueriesRefusal base.now (F.told files.old) plan.now.readers.items) }
-    ensures stays { F.told files.new ≡ F.told files.old }
-    ensures faults { F.fault_count files.new ≡ faults_after result (F.fault_count files.old) }
-    ensures whose { (place : ℕ) → IsErrOf result (ReadFault (Reader place))
-        → IsFaultAt plan.now.readers.items place (F.failed_name files.new) }
-{
-    let Ok(tags) = names_of_tags(alloc, &base.tags) else {
-        return Err(Status::WantOfMemory);
-    };
-    let Ok(groups) = names_of_groups(alloc, &base.groups) else {
-        return Err(Status::WantOfMemory);
-    };
-    let asked = ReaderFiles {
-        tags: &tags,
-        groups: &groups,
-    };
-    row_lists(alloc, files, &plan.readers, &asked)
 }

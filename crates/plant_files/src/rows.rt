@@ -19,39 +19,6 @@ use value_rows::{RawRow, RowNo, raw_rows};
 // The most rows of a collector, and of all collectors together.
 const MAX_ROWS: u64 = 4_000_000;
 
-// The files of collectors, over these names of tags.
-#[derive(Drop)]
-struct CollectorFiles<'n> {
-    tags: &'n [Name],
-    ghost few_tags: { length tags.now < 2 ^ 32 },
-}
-
-impl<'n> RowFiles for CollectorFiles<'n> {
-    type Row = RawRow;
-
-    ghost row_of = { λ files. raw_row files.tags.now };
-
-    ghost is_row = { λ files. IsRawRow files.tags.now };
-
-    ghost most = { λ files. most_collector_rows };
-
-    ghost what = { λ files. Rows };
-
-    ghost file_at = { λ files. collector_at };
-
-    fn rows(&self, alloc: Global, bytes: &[u8]) -> Result<Vec<RawRow>, RowNo> {
-        raw_rows(alloc, bytes, self.tags, MAX_ROWS)
-    }
-
-    fn what(&self) -> What {
-        What::Rows
-    }
-
-    fn file_at(&self, place: usize) -> FileId {
-        FileId::Collector(u32::try_from(place).unwrap_or(u32::MAX))
-    }
-}
-
 /// The rows of the plan's collector files, in plan order. A file has at most 67,108,864 bytes and 4,000,000
 /// rows. The first file that is refused decides.
 pub fn rows_of<F: Files>(
@@ -93,5 +60,38 @@ pub fn check_row_count(collectors: &[Vec<RawRow>]) -> Result<(), Status>
             what: What::Rows,
             number: MAX_ROWS + 1,
         })
+    }
+}
+
+// The files of collectors, over these names of tags.
+#[derive(Drop)]
+struct CollectorFiles<'n> {
+    tags: &'n [Name],
+    ghost few_tags: { length tags.now < 2 ^ 32 },
+}
+
+impl<'n> RowFiles for CollectorFiles<'n> {
+    type Row = RawRow;
+
+    ghost row_of = { λ files. raw_row files.tags.now };
+
+    ghost is_row = { λ files. IsRawRow files.tags.now };
+
+    ghost most = { λ files. most_collector_rows };
+
+    ghost what = { λ files. Rows };
+
+    ghost file_at = { λ files. collector_at };
+
+    fn rows(&self, alloc: Global, bytes: &[u8]) -> Result<Vec<RawRow>, RowNo> {
+        raw_rows(alloc, bytes, self.tags, MAX_ROWS)
+    }
+
+    fn what(&self) -> What {
+        What::Rows
+    }
+
+    fn file_at(&self, place: usize) -> FileId {
+        FileId::Collector(u32::try_from(place).unwrap_or(u32::MAX))
     }
 }
