@@ -1,5 +1,5 @@
 -- Versions that never fall, and copies cut to them.
-use Rattle.std.proofs.Common.{◌≡◌, ℕ, zero, suc, ◌<◌, ◌≤◌, List, [], ◌∷◌, ◌++◌, length, map, get_or, refl, sym, ap, ◌∙◌, subst, arith, length-append}
+use Rattle.std.proofs.Common.{◌≡◌, ℕ, zero, suc, ◌+◌, ◌<◌, ◌≤◌, List, [], ◌∷◌, ◌++◌, length, map, get_or, take, refl, sym, ap, ◌∙◌, subst, arith, length-append}
 use Rattle.std.proofs.lemmas.List.{take-append-le, take_all}
 use Rattle.trend_num.specs.declared.archive.Rec.{Rec}
 use Rattle.sheet_law.specs.Touched.{longer}
@@ -54,3 +54,20 @@ cut-longer (v ∷ vs) (rs ∷ rss) (more ∷ mores) never =
 pub cut-all : (rss : List (List Rec)) → cut (map length rss) rss ≡ rss
 cut-all [] = refl
 cut-all (rs ∷ rss) = λ i. take_all (length rs) rs (omega arith) i ∷ cut-all rss i
+
+-- one input more, of parts of lists that are made of each list by its version
+pub part_more : (part : List ℕ → List (List Rec) → List (List Rec)) (of : ℕ → List Rec → List Rec) → part [] [] ≡ []
+    → ((v : ℕ) (vs : List ℕ) (rs : List Rec) (rss : List (List Rec)) → part (v ∷ vs) (rs ∷ rss) ≡ of v rs ∷ part vs rss)
+    → (vs : List ℕ) (rss : List (List Rec)) (i : ℕ) → length rss ≡ length vs → i < length vs
+    → part (take (i + 1) vs) (take (i + 1) rss) ≡ part (take i vs) (take i rss) ++ of (get_or vs i 0) (get_or rss i []) ∷ []
+part_more part of none more [] rss i same below = absurd (omega (arith, below))
+part_more part of none more (v ∷ vs) [] i same below = absurd (omega (arith, same))
+part_more part of none more (v ∷ vs) (rs ∷ rss) zero same below =
+    more v [] rs [] ∙ ap (λ l. of v rs ∷ l) none ∙ sym (ap (λ l. l ++ of v rs ∷ []) none)
+part_more part of none more (v ∷ vs) (rs ∷ rss) (suc i) same below =
+    let next : suc (i + 1) ≡ suc i + 1 = omega arith in
+    let last = of (get_or vs i 0) (get_or rss i []) in
+    subst (λ n. part (take n (v ∷ vs)) (take n (rs ∷ rss)) ≡ part (v ∷ take i vs) (rs ∷ take i rss) ++ last ∷ []) next
+    (more v (take (i + 1) vs) rs (take (i + 1) rss)
+    ∙ ap (λ l. of v rs ∷ l) (part_more part of none more vs rss i (omega (arith, same)) (omega (arith, below)))
+    ∙ sym (ap (λ l. l ++ last ∷ []) (more v (take i vs) rs (take i rss))))

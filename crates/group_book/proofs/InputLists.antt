@@ -1,5 +1,5 @@
 -- Lists of records, one for each input, that are taken into account one after the other.
-use Rattle.std.proofs.Common.{◌≡◌, ℕ, zero, suc, ◌+◌, ◌<◌, ◌≤◌, List, [], ◌∷◌, ◌++◌, All, length, map, get_or, take, drop, refl, sym, ap, ap₂, subst, ◌∙◌, arith}
+use Rattle.std.proofs.Common.{◌≡◌, ℕ, ◌+◌, ◌<◌, ◌≤◌, List, [], ◌∷◌, ◌++◌, All, length, map, get_or, take, drop, refl, sym, ap, ap₂, subst, ◌∙◌, arith}
 use Rattle.std.proofs.lemmas.List.{get_or-map, get_or-take, length-take, length_push, map-append, take-append-drop, take_all, take_more}
 use Rattle.std.proofs.lemmas.List.Elements.{All-push}
 use Rattle.trend_num.specs.declared.archive.Rec.{Rec}
@@ -14,20 +14,9 @@ use Rattle.group_book.specs.Refusals.{IsBookToldOf}
 use Rattle.group_book.specs.Tapes.{cut, uncut}
 use Rattle.group_book.specs.Told.{GoesOn, ToldBook, pulled_records, versions_of}
 use Rattle.group_book.proofs.Causes.{goes_from, goes_more}
+use Rattle.group_book.proofs.Cuts.{part_more}
 
 -- ---- what is behind the first records
-
--- one input more
-uncut_more : (vs : List ℕ) (rss : List (List Rec)) (i : ℕ) → length rss ≡ length vs → i < length vs
-    → uncut (take (i + 1) vs) (take (i + 1) rss) ≡ uncut (take i vs) (take i rss) ++ drop (get_or vs i 0) (get_or rss i []) ∷ []
-uncut_more [] rss i same below = absurd (omega (arith, below))
-uncut_more (v ∷ vs) [] i same below = absurd (omega (arith, same))
-uncut_more (v ∷ vs) (rs ∷ rss) zero same below = refl
-uncut_more (v ∷ vs) (rs ∷ rss) (suc i) same below =
-    let next : suc (i + 1) ≡ suc i + 1 = omega arith in
-    subst (λ n. uncut (take n (v ∷ vs)) (take n (rs ∷ rss))
-    ≡ (drop v rs ∷ uncut (take i vs) (take i rss)) ++ drop (get_or vs i 0) (get_or rss i []) ∷ []) next
-    (ap (λ l. drop v rs ∷ l) (uncut_more vs rss i (omega (arith, same)) (omega (arith, below))))
 
 -- both together are the lists
 pub longer-uncut : (vs : List ℕ) (rss : List (List Rec)) → length rss ≡ length vs → longer (cut vs rss) (uncut vs rss) ≡ rss
@@ -57,7 +46,7 @@ pulls_more lists versions i ps one same within is before = record {
   as_many = omega (arith, length_push ps one, many, length-take (i + 1) lists, within);
   records = map-append (λ p. p.recs.items) ps (one ∷ [])
       ∙ ap₂ (λ l rs. l ++ rs ∷ []) before.records is.records
-      ∙ sym (uncut_more versions lists i same (omega (arith, within, same)));
+      ∙ sym (part_more uncut drop refl (λ v vs rs rss. refl) versions lists i same (omega (arith, within, same)));
   ends = map-append (λ p. p.upto) ps (one ∷ [])
       ∙ ap₂ (λ l n. l ++ n ∷ []) before.ends is.ends
       ∙ sym (ap (map length) (take_more lists i [] within) ∙ map-append length (take i lists) (get_or lists i [] ∷ []));

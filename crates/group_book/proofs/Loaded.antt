@@ -2,7 +2,7 @@
 use Rattle.std.proofs.Common.{◌≡◌, inl, inr, ℕ, suc, ◌+◌, ◌^◌, ◌<◌, ◌≤◌, All, false, List, [], ◌∷◌, ◌++◌, Contains, Option, None, Some, IfSome, lit<, Vec, vec_len, length, map, get_or, take, refl, sym, ap, ◌∙◌, subst, arith, length-take}
 use Rattle.std.specs.declared.alloc.Global.{Global}
 use Rattle.std.proofs.lemmas.Bool.{cases_lt}
-use Rattle.std.proofs.lemmas.List.{get_or-map, length-map, map-append, take_all, take_more}
+use Rattle.std.proofs.lemmas.List.{get_or-map, length-map, map-append, take_all}
 use Rattle.std.proofs.lemmas.List.Elements.{All-cons, All-head, All-nil, All-tail, All-take}
 use Rattle.trend_num.specs.Ranges.{InRange}
 use Rattle.trend_num.specs.declared.archive.Rec.{Rec}
@@ -31,18 +31,10 @@ use Rattle.group_book.specs.Histories.{IsBookLegal, IsRight}
 use Rattle.group_book.specs.Openings.{IsAhead, IsBookCause, IsRefused, StandsForGroup, scan_refusal}
 use Rattle.group_book.specs.Tapes.{cut}
 use Rattle.group_book.specs.Told.{HoldsBlocks, IsKept, IsReady, Saved}
-use Rattle.group_book.proofs.Cuts.{cut-all}
+use Rattle.group_book.proofs.Cuts.{cut-all, part_more}
 use Rattle.group_book.proofs.Saving.{holds_now}
 
 -- ---- the first records of each input
-
--- one input more
-cut-push : (vs : List ℕ) (rss : List (List Rec)) (v : ℕ) (rs : List Rec) → length vs ≡ length rss
-    → cut (vs ++ v ∷ []) (rss ++ rs ∷ []) ≡ cut vs rss ++ take v rs ∷ []
-cut-push [] [] v rs same = refl
-cut-push [] (r ∷ rss) v rs same = absurd (omega (arith, same))
-cut-push (u ∷ vs) [] v rs same = absurd (omega (arith, same))
-cut-push (u ∷ vs) (r ∷ rss) v rs same = ap (λ l. take u r ∷ l) (cut-push vs rss v rs (omega (arith, same)))
 
 -- where no version is above the records they are as long as it says
 pub cut_lengths : (vs : List ℕ) (rss : List (List Rec)) → length vs ≡ length rss
@@ -73,18 +65,7 @@ module _ (versions : List ℕ) (recovered : List (Vec Rec Global)) (same : lengt
       ap lists_of pushed ∙ map-append (λ x. x.items) copies (one ∷ [])
       ∙ ap (λ l. l ++ one.items ∷ []) so_far
       ∙ ap (λ l. cut (take i versions) (take i rss) ++ l ∷ []) (taken ∙ ap (take (get_or versions i 0)) (sym (here [])))
-      ∙ sym (cut-push (take i versions) (take i rss) (get_or versions i 0) (get_or rss i []) as_long)
-      ∙ ap (λ l. cut l (take i rss ++ get_or rss i [] ∷ [])) (sym (take_more versions i 0 low))
-      ∙ ap (cut (take (i + 1) versions)) (sym (take_more rss i [] long))
-    where
-      many : length (lists_of recovered) ≡ length versions
-      many = length-map recovered (λ x. x.items) ∙ same
-
-      long : i < length (lists_of recovered)
-      long = omega (arith, many, low)
-
-      as_long : length (take i versions) ≡ length (take i (lists_of recovered))
-      as_long = omega (arith, length-take i versions, length-take i (lists_of recovered), many, low)
+      ∙ sym (part_more cut take refl (λ v vs rs rss. refl) versions rss i (length-map recovered (λ x. x.items) ∙ same) low)
 
   -- the version is not above them
   pub low_more : ((k : ℕ) (rs : List Rec) → k < i → get_or versions k 0 ≤ length (get_or (lists_of recovered) k rs))
@@ -128,7 +109,7 @@ first_lengths versions recovered i same end low =
 -- ---- what a sheet is made of
 
 -- the first of records that can be copied can be
-cut_copied : (vs : List ℕ) (rss : List (List Rec)) → All IsCopy rss → All IsCopy (cut vs rss)
+pub cut_copied : (vs : List ℕ) (rss : List (List Rec)) → All IsCopy rss → All IsCopy (cut vs rss)
 cut_copied [] rss all = All-nil IsCopy
 cut_copied (v ∷ vs) [] all = All-nil IsCopy
 cut_copied (v ∷ vs) (rs ∷ rss) all =

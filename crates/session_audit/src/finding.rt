@@ -32,13 +32,10 @@ pub fn find_all_takes<D: Disk>(cells: &[Cell<D>], works: &mut [Progress<'_>]) ->
 {
     match find_all::<Cell<D>, Takes>(cells, works) {
         Ok(()) => Ok(()),
-        Err((tag, differs)) => Err(Status::Mismatch {
-            place: Place::Take {
-                tag,
-                place: differs.place,
-            },
-            kept: differs.kept,
-            told: differs.told,
+        Err((tag, Differs { place, kept, told })) => Err(Status::Mismatch {
+            place: Place::Take { tag, place },
+            kept,
+            told,
         }),
     }
 }
@@ -55,13 +52,10 @@ pub fn find_all_asks<D: Disk>(cells: &[Cell<D>], works: &mut [Progress<'_>]) -> 
 {
     match find_all::<Cell<D>, Asks>(cells, works) {
         Ok(()) => Ok(()),
-        Err((tag, differs)) => Err(Status::Mismatch {
-            place: Place::Ask {
-                tag,
-                place: differs.place,
-            },
-            kept: differs.kept,
-            told: differs.told,
+        Err((tag, Differs { place, kept, told })) => Err(Status::Mismatch {
+            place: Place::Ask { tag, place },
+            kept,
+            told,
         }),
     }
 }
@@ -82,13 +76,10 @@ pub fn find_all_row_asks<D: Disk>(
 {
     match find_all::<Book<D>, RowAsks>(books, works) {
         Ok(()) => Ok(()),
-        Err((group, differs)) => Err(Status::Mismatch {
-            place: Place::RowAsk {
-                group,
-                place: differs.place,
-            },
-            kept: differs.kept,
-            told: differs.told,
+        Err((group, Differs { place, kept, told })) => Err(Status::Mismatch {
+            place: Place::RowAsk { group, place },
+            kept,
+            told,
         }),
     }
 }

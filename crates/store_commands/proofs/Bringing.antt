@@ -12,11 +12,11 @@ use Rattle.calc_refresh.specs.Refreshed.{fresh}
 use Rattle.calc_refresh.specs.Sheet.{IsCopy, IsGrid, SheetState, grid_of}
 use Rattle.calc_refresh.proofs.Refreshing.{complete_is_time}
 use Rattle.tag_base.specs.declared.definition.GroupDef.{GroupDef}
-use Rattle.group_book.specs.Tapes.{cut}
+use Rattle.group_book.specs.Tapes.{cut, uncut}
 use Rattle.group_book.proofs.Loaded.{cut_lengths}
 use Rattle.store_commands.specs.FrameRows.{AreRefreshed}
-use Rattle.store_commands.specs.FrameSteps.{AreTimes, AreWithin, IsBroughtUp, behind}
-use Rattle.store_commands.proofs.FrameCuts.{longer-behind}
+use Rattle.store_commands.specs.FrameSteps.{AreTimes, AreWithin, IsBroughtUp}
+use Rattle.group_book.proofs.InputLists.{longer-uncut}
 
 -- the sheet `s` of the saved versions and rows has become the sheet `t` of all records
 module _ (g : GroupDef) (versions : List ℕ) (rows : List (List CalcValue)) (recovered : List (List Rec)) (s t : SheetState)
@@ -43,8 +43,8 @@ module _ (g : GroupDef) (versions : List ℕ) (rows : List (List CalcValue)) (re
       let w = grid_of g.start g.period in
       let first : complete_windows s.grid s.copies ≡ complete_windows w (cut versions recovered) =
       ap (λ (x : SheetState). complete_windows x.grid x.copies) is in
-      let last = ap (complete_windows w) (longer-behind versions recovered many) in
-      let more = complete_grow w (cut versions recovered) (behind versions recovered) grid.some in
+      let last = ap (complete_windows w) (longer-uncut versions recovered many) in
+      let more = complete_grow w (cut versions recovered) (uncut versions recovered) grid.some in
       omega (arith, first, last, more)
 
   -- both rows of a calculation

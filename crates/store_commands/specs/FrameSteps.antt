@@ -1,5 +1,5 @@
 -- What single steps of `frames` leave.
-use Rattle.std.specs.Prelude.{◌≡◌, ℕ, ◌*◌, ◌^◌, ◌<◌, ◌≤◌, List, [], ◌∷◌, drop, length, slice_index, slice_index_or, Option, Some}
+use Rattle.std.specs.Prelude.{◌≡◌, ℕ, ◌*◌, ◌^◌, ◌<◌, ◌≤◌, List, length, slice_index, slice_index_or, Option, Some}
 use Rattle.trend_num.specs.Ranges.{last_time}
 use Rattle.trend_num.specs.declared.archive.Rec.{Rec}
 use Rattle.trend_num.specs.declared.refusal.What.TheVariants.{Cells, Copies}
@@ -25,12 +25,6 @@ use Rattle.plant_status.specs.declared.status.Status.{Status}
 use Rattle.plant_status.specs.declared.status.Status.TheVariants.{DeviceFault, Damaged, Limit, Mismatch, WantOfMemory}
 use Rattle.plant_status.specs.declared.unit.Unit.TheVariants.{Group}
 use Rattle.plant_store.specs.Groups.{group_definition_text}
-
--- the records of each input behind the first ones, of which there are as many as its version says
-abbrev pub behind : List ℕ → List (List Rec) → List (List Rec)
-behind [] rss = []
-behind (v ∷ vs) [] = []
-behind (v ∷ vs) (rs ∷ rss) = drop v rs ∷ behind vs rss
 
 -- no version is above the records of its input
 abbrev pub AreWithin : List ℕ → List (List Rec) → Type 0

@@ -2,9 +2,9 @@
 ghost use Rattle.std.specs.Prelude.{◌≡◌, ◌^◌, ◌<◌, ◌≤◌, [], ◌∷◌, ◌++◌, All, IfErr, IfOk, OnOk, drop, length, map, slice_index_or, take};
 ghost use Rattle.calc_refresh.specs.Lists.{lists_of};
 ghost use Rattle.calc_refresh.specs.Sheet.{IsCopy};
-ghost use Rattle.group_book.specs.Tapes.{cut};
+ghost use Rattle.group_book.specs.Tapes.{cut, uncut};
 ghost use Rattle.store_commands.specs.GroupRows.{tag_records};
-ghost use Rattle.store_commands.specs.FrameSteps.{AreWithin, IsAheadRefusal, behind};
+ghost use Rattle.store_commands.specs.FrameSteps.{AreWithin, IsAheadRefusal};
 
 use plant_status::{Place, Seen, Status};
 use std::alloc::{AllocError, Global};
@@ -75,7 +75,7 @@ pub(crate) fn new_records(
     requires as_many { length records.now ≡ length versions.now }
     requires copied { All (λ r. IsCopy r.now) records.now }
     requires within { AreWithin versions.now (map (λ r. r.now) records.now) }
-    ensures behind { IfOk result (λ v. lists_of v.items ≡ behind versions.now (map (λ r. r.now) records.now)) }
+    ensures behind { IfOk result (λ v. lists_of v.items ≡ uncut versions.now (map (λ r. r.now) records.now)) }
     ensures copied { IfOk result (λ v. All IsCopy (lists_of v.items)) }
 {
     let mut behind = Vec::new(alloc);

@@ -3,8 +3,10 @@ use Rattle.std.proofs.lemmas.List.{get_or-map, length-map, take_all}
 use Rattle.std.proofs.lemmas.List.Elements.{All-map}
 use Rattle.calc_refresh.specs.Sheet.{IsCopy}
 use Rattle.group_book.specs.Tapes.{cut}
+use Rattle.group_book.proofs.Cuts.{part_more}
+use Rattle.group_book.proofs.Loaded.{cut_copied}
 use Rattle.store_commands.specs.FrameSteps.{VersionIsAhead}
-use Rattle.store_commands.proofs.FrameCuts.{cut_copied, cut_more, low_more}
+use Rattle.store_commands.proofs.FrameCuts.{low_more}
 use Rattle.store_commands.proofs.frame_inputs.first_records.Goals as goal
 
 pub returns-then-list-version-clause-refused : goal.returns-then-list-version-clause-refused
@@ -32,7 +34,7 @@ loop-input-preserved c =
       cut = c.in-Ok.ensures ∙ ap (λ l. l ++ take (get_or versions i 0) list ∷ []) c.loop-input.invariant.cut
           ∙ ap (λ l. cut (take i versions) (take i recovered) ++ take (get_or versions i 0) l ∷ [])
           (sym (get_or-map (λ r. r.now) c.args.records.now i (record { ref_ptr = (0, 0); now = [] }) [] within))
-          ∙ sym (cut_more versions recovered i same c.loop-input-test.true);
+          ∙ sym (part_more cut take refl (λ v vs rs rss. refl) versions recovered i same c.loop-input-test.true);
       low = low_more versions recovered i c.loop-input.invariant.low (λ rs.
           let here = ap length (get_or-map (λ r. r.now) c.args.records.now i (record { ref_ptr = (0, 0); now = [] }) rs within) in
           omega (arith, here, c.if-list-version.false));

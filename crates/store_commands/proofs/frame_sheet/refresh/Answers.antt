@@ -5,7 +5,8 @@ use Rattle.calc_refresh.specs.Refreshed.{IsRefreshToldOf, fault_after}
 use Rattle.sheet_law.specs.Touched.{longer}
 use Rattle.sheet_law.specs.Windows.{complete_windows}
 use Rattle.store_commands.specs.FrameSteps.{CellsAreOver, CopiesAreOver}
-use Rattle.store_commands.proofs.FrameCuts.{length-behind, longer-behind}
+use Rattle.group_book.proofs.InputLists.{longer-uncut}
+use Rattle.store_commands.proofs.FrameCuts.{length-uncut}
 use Rattle.store_commands.proofs.FrameLimits.{cells_told, copies_told}
 use Rattle.store_commands.proofs.frame_sheet.refresh.Goals as goal
 use Rattle.store_commands.proofs.frame_sheet.refresh.Goals.{After-apply}
@@ -14,7 +15,7 @@ use Rattle.store_commands.proofs.frame_sheet.refresh.Goals.{After-apply}
 whole : (c : After-apply) → longer c.args.sheet.now.copies (lists_of c.deref.result.now) ≡ map (λ r. r.now) c.args.records.now
 whole c =
     ap₂ (λ a b. longer a b) c.requires.copies (ap lists_of c.deref.ensures.value ∙ c.in-Ok.ensures.behind)
-    ∙ longer-behind c.args.versions.now (map (λ r. r.now) c.args.records.now)
+    ∙ longer-uncut c.args.versions.now (map (λ r. r.now) c.args.records.now)
     (length-map c.args.records.now (λ r. r.now) ∙ c.requires.inputs)
 
 pub apply-requires-clause-inputs : goal.apply-requires-clause-inputs
@@ -22,7 +23,7 @@ apply-requires-clause-inputs c =
     let versions = c.args.versions.now in
     let recovered = map (λ r. r.now) c.args.records.now in
     sym (length-map c.deref.result.now (λ v. v.items)) ∙ ap (λ l. length (lists_of l)) c.deref.ensures.value
-    ∙ ap length c.in-Ok.ensures.behind ∙ length-behind versions recovered ∙ ap length (sym c.requires.copies)
+    ∙ ap length c.in-Ok.ensures.behind ∙ length-uncut versions recovered ∙ ap length (sym c.requires.copies)
 
 pub returns-in-Ok-apply-clause-refreshed : goal.returns-in-Ok-apply-clause-refreshed
 returns-in-Ok-apply-clause-refreshed c =
