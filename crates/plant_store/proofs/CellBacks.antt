@@ -161,12 +161,12 @@ all_closed {D} trace ticks faults names cells rest histories old now before coun
     closed.told in (
       back,
       zip_joined (λ name (c : ToldCell D). now name ≡ trace c.journal.dev) (λ (c : ToldCell D) (h : TagHistory). IsHistoryOfCell
-      (trace c.journal.dev) (ticks c.journal.dev) (faults c.journal.dev) c h)
-      (λ name (h : TagHistory). (t : ℕ) × (n : ℕ) × IsCellHistory h (now name) t n)
-      (λ name c h says is. (
-        ticks c.journal.dev,
-        faults c.journal.dev,
-        subst (λ o. IsCellHistory h o (ticks c.journal.dev)
-            (faults c.journal.dev)) (sym says) is.history,
-      )) names cells histories back.given told,
+          (trace c.journal.dev) (ticks c.journal.dev) (faults c.journal.dev) c h)
+          (λ name (h : TagHistory). (t : ℕ) × (n : ℕ) × IsCellHistory h (now name) t n)
+          (λ name c h says is. (
+            ticks c.journal.dev,
+            faults c.journal.dev,
+            subst (λ o. IsCellHistory h o (ticks c.journal.dev)
+                (faults c.journal.dev)) (sym says) is.history,
+          )) names cells histories back.given told,
     )
