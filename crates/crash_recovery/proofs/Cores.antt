@@ -30,6 +30,7 @@ use Rattle.device_layout.specs.Recovery.{header_of, start_of, HasSummary}
 use Rattle.device_layout.specs.Recovery.{AllFit, IsRecovered}
 use Rattle.device_layout.specs.Damages.{IsValuePlace, StandsThere, IsTagDamage}
 use Rattle.device_layout.specs.Damages.IsTagDamage.{BadQueue, BadValue}
+use Rattle.crash_recovery.specs.declared.seat.Seat.{Seat}
 use Rattle.crash_recovery.specs.Journals.{IsInUse, IsSeat}
 use Rattle.disk_model.specs.Calls.{Shows}
 use Rattle.device_layout.specs.Readings.{IsReadFrom, IsCause}
@@ -46,6 +47,10 @@ log_long : (c : List ℕ) (at n : ℕ) (rs : List Rec) → at ≤ length c → H
 log_long c at n rs within has =
     let size = ap length has.records.image in
     omega (arith, size, length-recs rs, has.counted, length-take (17 * n) (drop at c), length-drop at c, within)
+
+-- the seat that was read
+abbrev pub seat_of : Stored → Scanned → Seat
+seat_of x s = record { lane = s.lane; stale = s.stale; counts = x.slot; taken = x.summary.taken; records = x.summary.records }
 
 module _ (def : TagDef) (slots : ℕ) (x : Stored) (c : List ℕ) (read : IsReadFrom def slots x c) (s : Scanned)
     (scanned : IsRead slots x.summary.taken c slots s) (inside : IsWithin slots x.summary.taken slots s) where
@@ -97,14 +102,7 @@ module _ (def : TagDef) (slots : ℕ) (x : Stored) (c : List ℕ) (read : IsRead
     number = f.number ∙ ap (λ l. x.summary.taken + length l) (sym f.points);
   }
 
-  pub seated : IsSeat (record {
-    lane = s.lane;
-    stale = s.stale;
-    counts = x.slot;
-    taken =
-        x.summary.taken;
-    records = x.summary.records;
-  }) c
+  pub seated : IsSeat (seat_of x s) c
   seated =
       let slots_same : s.lane.slots ≡ slots_in (header_of c) = inside.slots_same ∙ read.slots_are in
       let summary_there : HasSummary c x.slot x.summary = subst
@@ -183,14 +181,7 @@ recovered_shown def (Some t) slots x s step core new inside read scanned same_st
 pub seated_shown : (def : TagDef) (o : Option Trace) (slots : ℕ) (x : Stored) (s : Scanned)
     → IsWithin slots x.summary.taken slots s → Shows o (IsReadFrom def slots x)
     → Shows o (λ c. IsRead slots x.summary.taken c slots s)
-    → Shows o (IsSeat (record {
-      lane = s.lane;
-      stale = s.stale;
-      counts = x.slot;
-      taken =
-          x.summary.taken;
-      records = x.summary.records;
-    }))
+    → Shows o (IsSeat (seat_of x s))
 seated_shown def None slots x s inside read scanned = tt
 seated_shown def (Some t) slots x s inside read scanned = seated def slots x (seen (Some t)) read s scanned inside
 

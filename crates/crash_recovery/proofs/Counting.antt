@@ -94,23 +94,15 @@ pub counting_left : (counts : Option Slot) (a b : List ℕ) → counting a ≡ c
     → counting b ≡ counts
 counting_left None a b is leaves =
     let other = leaves.others Second (λ e. absurd (cc (e))) in
-    none_stays (is_open a First) (is_open a Second) (nat_le (taken_in a Second) (taken_in a First))
-    (is_open b First) (is_open b Second) (nat_le (taken_in b Second) (taken_in b First)) is
-    (same_gate a b Second other.0)
+    none_stays _ _ _ _ _ _ is (same_gate a b Second other.0)
     (⊎_elim (λ shut. inl (shut_gate b First shut)) (λ same. inr (same_gate a b First same.0)) leaves.spare)
 counting_left (Some First) a b is leaves =
     let other = leaves.others First (λ e. absurd (cc (e))) in
-    first_stays (is_open a First) (is_open a Second) (nat_le (taken_in a Second) (taken_in a First))
-    (is_open b First) (is_open b Second) (nat_le (taken_in b Second) (taken_in b First)) is
-    (same_gate a b First other.0)
-    (⊎_elim (λ shut. inl (shut_gate b Second shut))
+    first_stays _ _ _ _ _ _ is (same_gate a b First other.0) (⊎_elim (λ shut. inl (shut_gate b Second shut))
     (λ same. inr (same_gate a b Second same.0, same_order a b other.1 same.1)) leaves.spare)
 counting_left (Some Second) a b is leaves =
     let other = leaves.others Second (λ e. absurd (cc (e))) in
-    second_stays (is_open a First) (is_open a Second) (nat_le (taken_in a Second) (taken_in a First))
-    (is_open b First) (is_open b Second) (nat_le (taken_in b Second) (taken_in b First)) is
-    (same_gate a b Second other.0)
-    (⊎_elim (λ shut. inl (shut_gate b First shut))
+    second_stays _ _ _ _ _ _ is (same_gate a b Second other.0) (⊎_elim (λ shut. inl (shut_gate b First shut))
     (λ same. inr (same_gate a b First same.0, same_order a b same.1 other.1)) leaves.spare)
 
 -- the other slot was opened, and counts more events than that which counted: then it is the one that counts

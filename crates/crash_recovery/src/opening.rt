@@ -182,8 +182,7 @@ fn read_tag<L: Ledger, D: Disk>(
     ensures step { IfOk result (λ r. r.core.step ≡ def.now.step) }
     ensures tuning { IfOk result (λ r. r.core.state.summary.tuning ≡ Some def.now.tuning) }
     ensures room { IfOk result (λ r. 2 * room ≤ r.core.spare) }
-    ensures cause { IfErr result
-        (IsCause def.now (D.trace dev.old)) }
+    ensures cause { IfErr result (IsCause def.now (D.trace dev.old)) }
     ensures counts { CountsFault result DeviceFault (D.fault_count dev.old) (D.fault_count dev.new) }
 {
     let Ok(()) = dev.sync() else {
@@ -221,8 +220,7 @@ fn made<D: Disk>(
     ensures retuned { IfOk result (λ r. r.retuned ≡ false) }
     ensures step { IfOk result (λ r. r.core.step ≡ def.now.step) }
     ensures room { IfOk result (λ r. r.core.spare ≡ 2 * room) }
-    ensures cause { IfErr result
-        (IsCause def.now (D.trace dev.old)) }
+    ensures cause { IfErr result (IsCause def.now (D.trace dev.old)) }
     ensures counts { CountsFault result DeviceFault (D.fault_count dev.old) (D.fault_count dev.new) }
 {
     let Ok(core) = TagCore::new(alloc, def.tuning, def.step, room) else {
@@ -270,8 +268,7 @@ fn read_back<L: Ledger, D: Disk>(
     ensures step { IfOk result (λ r. r.core.step ≡ def.now.step) }
     ensures tuning { IfOk result (λ r. r.core.state.summary.tuning ≡ Some def.now.tuning) }
     ensures room { IfOk result (λ r. 2 * room ≤ r.core.spare) }
-    ensures cause { IfErr result
-        (IsCause def.now (D.trace dev.old)) }
+    ensures cause { IfErr result (IsCause def.now (D.trace dev.old)) }
     ensures same { D.trace dev.new ≡ D.trace dev.old }
     ensures untimed { D.ticks dev.new ≡ D.ticks dev.old }
     ensures counts { CountsFault result DeviceFault (D.fault_count dev.old) (D.fault_count dev.new) }

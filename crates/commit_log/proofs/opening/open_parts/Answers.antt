@@ -1,4 +1,4 @@
-use Rattle.std.proofs.Common.{◌+◌, [], List, length, Err, IfErr, refl, sym, subst}
+use Rattle.std.proofs.Common.{[], List, Err, IfErr, refl, sym, subst}
 use Rattle.std.proofs.lemmas.Result.{err_from_is_err_and}
 use Rattle.disk_model.specs.Calls.{Shows}
 use Rattle.disk_model.specs.Moments.{During}

@@ -45,12 +45,11 @@ returns-in-Ok-true-clause-opened g c =
 pub returns-in-Ok-true-clause-lane : goal.returns-in-Ok-true-clause-lane
 returns-in-Ok-true-clause-lane g c =
     let o = g.D.Disk.trace c.args.dev.now in
-    let mid = g.D.Disk.trace c.is_new.new.dev in
     let same = c.in-Ok-true.ensures.same in
     let blank = shows_after _ _ IsNew same (c.in-Ok-true.ensures.new c.in-Ok-true.field-0-test) in
     if_ok c.made.result (λ r. r.seat.lane ≡ record { slots = c.args.lane_slots; used = 0; next = 0 })
     (λ r. Shows o (HasSlots c.args.lane_slots r.seat.lane.slots))
-    (λ r lane. slots_made o mid _ _ (same ∙ c.in-Ok.ensures.noted) (ap (λ l. l.slots) lane) blank) c.made.ensures.lane
+    (λ r lane. slots_made o _ _ _ (same ∙ c.in-Ok.ensures.noted) (ap (λ l. l.slots) lane) blank) c.made.ensures.lane
 
 pub returns-in-Ok-false-clause-any_moment : goal.returns-in-Ok-false-clause-any_moment
 returns-in-Ok-false-clause-any_moment g c =
@@ -97,12 +96,11 @@ returns-clause-any_moment g c =
 pub returns-in-Ok-true-clause-free : goal.returns-in-Ok-true-clause-free
 returns-in-Ok-true-clause-free g c =
     let o = g.D.Disk.trace c.args.dev.now in
-    let mid = g.D.Disk.trace c.is_new.new.dev in
     let same = c.in-Ok-true.ensures.same in
     let blank = shows_after _ _ IsNew same (c.in-Ok-true.ensures.new c.in-Ok-true.field-0-test) in
     if_ok c.made.result (λ r. free_in r.seat ≡ r.seat.lane.slots)
     (λ r. Shows o (HasFreeAtFirst r.seat.lane.slots (free_in r.seat)))
-    (λ r all. free_made o mid _ _ (same ∙ c.in-Ok.ensures.noted) all blank) c.made.ensures.free
+    (λ r all. free_made o _ _ _ (same ∙ c.in-Ok.ensures.noted) all blank) c.made.ensures.free
 
 pub returns-in-Ok-true-clause-made : goal.returns-in-Ok-true-clause-made
 returns-in-Ok-true-clause-made g c =

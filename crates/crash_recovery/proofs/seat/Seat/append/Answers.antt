@@ -69,24 +69,8 @@ returns-in-Ok-clause-seated g c =
     let batch = batch g at in
     let new = g.D.Disk.trace c.append_batch.new.dev in
     let r : Seat = moved q false (q.lane.used + 1) (q.lane.next + length c.args.points.now) in
-    subst (λ l. SeatedOn (record {
-      lane = l;
-      stale = q.stale;
-      counts = q.counts;
-      taken = q.taken;
-      records
-          = q.records;
-    }) new)
-    (sym c.in-Ok.ensures.moved)
-    (subst (λ b. SeatedOn (record {
-      lane = r.lane;
-      stale = b;
-      counts = q.counts;
-      taken = q.taken;
-      records
-          = q.records;
-    }) new)
-    (sym batch.fresh)
+    subst (λ l. SeatedOn (record q { lane = l }) new) (sym c.in-Ok.ensures.moved)
+    (subst (λ b. SeatedOn (record q { lane = r.lane; stale = b }) new) (sym batch.fresh)
     (append_seated q c.args.points.now batch _ _ c.in_ok-close_stale.ensures.laid
     (c.append_batch.ensures.any_moment (clear g at).free)
     c.in-Ok.ensures.settled c.in-Ok.ensures.reads))

@@ -1,4 +1,4 @@
-use Rattle.std.proofs.Common.{◌≡◌, ◌∙◌, refl, ap, length, drop, rules}
+use Rattle.std.proofs.Common.{◌∙◌, refl, ap, length, drop, rules}
 use Rattle.archive_file.specs.Records.{recs_image}
 use Rattle.device_layout.specs.Recovery.{summary_gate}
 use Rattle.crash_recovery.specs.Seats.{spare_slot}
@@ -15,16 +15,14 @@ returns-in_err-put_new_records-clause-any_moment g c = λ def s all.
 pub close_gates-requires-clause-gates : goal.close_gates-requires-clause-gates
 close_gates-requires-clause-gates g c =
     let p = c.args.self.now in
-    let gate : c.gate.result ≡ summary_gate (spare_slot p.counts) =
-    c.gate.ensures ∙ ap summary_gate c.spare_slot.ensures in
+    let gate = c.gate.ensures ∙ ap summary_gate c.spare_slot.ensures in
     let n = length (recs_image (drop p.records c.args.recs.now)) in
     gates_torn p n c.gate.result gate _ _ c.requires.laid c.put_new_records.ensures.any_moment
 
 pub returns-in-Ok : goal.returns-in-Ok
 returns-in-Ok g c =
     let p = c.args.self.now in
-    let gate : c.gate.result ≡ summary_gate (spare_slot p.counts) =
-    c.gate.ensures ∙ ap summary_gate c.spare_slot.ensures in
+    let gate = c.gate.ensures ∙ ap summary_gate c.spare_slot.ensures in
     let n = length (recs_image (drop p.records c.args.recs.now)) in
     record {
       any_moment = λ def s all. log_moments p n c.gate.result gate _ _ c.requires.laid
@@ -44,8 +42,7 @@ returns-in-Ok g c =
 pub returns-in-Err-clause-any_moment : goal.returns-in-Err-clause-any_moment
 returns-in-Err-clause-any_moment g c = λ def s all.
     let p = c.args.self.now in
-    let gate : c.gate.result ≡ summary_gate (spare_slot p.counts) =
-    c.gate.ensures ∙ ap summary_gate c.spare_slot.ensures in
+    let gate = c.gate.ensures ∙ ap summary_gate c.spare_slot.ensures in
     let n = length (recs_image (drop p.records c.args.recs.now)) in
     log_moments p n c.gate.result gate _ _ c.requires.laid c.put_new_records.ensures.any_moment _
     c.close_gates.ensures.any_moment def s all

@@ -17,26 +17,18 @@ fit g c =
 
 pub returns-in_default-clause-any_moment : goal.returns-in_default-clause-any_moment
 returns-in_default-clause-any_moment g c = λ def s all goes.
-    let p = c.args.self.now in
-    let r = c.args.core.now.state in
-    let u = c.tuning-tuning.result in
-    let step = c.args.core.now.step in
-    let value = c.summary-summary.ensures.value in
     let fit = fit g (goal.at.returns-in_default-clause-any_moment g c).After-write_guarded in
     let at = c.place.ensures ∙ ap summary_place c.spare_slot-slot.ensures in
     let gate = c.gate.ensures ∙ ap summary_gate c.spare_slot-slot.ensures in
-    let bytes = c.summary_bytes.ensures ∙ ap summary_image value in
-    summary_moments p u step r fit c.requires.fresh c.requires.within c.requires.more _ _ c.requires.laid
-    c.requires.ready c.place.result c.gate.result c.summary_bytes.result at gate bytes
-    c.write_guarded.ensures.any_moment
+    let bytes = c.summary_bytes.ensures ∙ ap summary_image c.summary-summary.ensures.value in
+    summary_moments c.args.self.now _ _ _ fit c.requires.fresh c.requires.within c.requires.more _ _ c.requires.laid
+    c.requires.ready c.place.result c.gate.result c.summary_bytes.result at gate bytes c.write_guarded.ensures.any_moment
     def s all goes
 
 pub returns : goal.returns
 returns g c =
     let p = c.args.self.now in
     let r = c.args.core.now.state in
-    let u = c.tuning-tuning.result in
-    let step = c.args.core.now.step in
     let value = c.summary-summary.ensures.value in
     let fit = fit g (goal.at.returns g c).After-write_guarded in
     let at = c.place.ensures ∙ ap summary_place c.spare_slot-slot.ensures in
@@ -47,21 +39,21 @@ returns g c =
     let same = sym (summed_as p stale r c.spare_slot-slot.result c.summary-summary.result
     c.spare_slot-slot.ensures value) in
     record {
-      any_moment = λ def s all goes. summary_moments p u step r fit c.requires.fresh c.requires.within
+      any_moment = λ def s all goes. summary_moments p _ _ r fit c.requires.fresh c.requires.within
           c.requires.more _ _ c.requires.laid
           c.requires.ready c.place.result c.gate.result c.summary_bytes.result at gate bytes
           c.write_guarded.ensures.any_moment def s all goes;
-      durable = λ def s all goes. summary_durable p u step r fit c.requires.fresh c.requires.within
+      durable = λ def s all goes. summary_durable p _ _ r fit c.requires.fresh c.requires.within
           c.requires.more _ _ c.requires.laid
           c.requires.ready c.place.result c.gate.result c.summary_bytes.result at gate bytes
           c.write_guarded.ensures.any_moment c.in-Ok.ensures.settled c.in-Ok.ensures.reads def s all goes;
       overrun = λ def s all goes. subst (λ q. OverrunOn q new) same
-          (summary_overrun p u step r fit c.requires.fresh c.requires.within c.requires.more _ _
+          (summary_overrun p _ _ r fit c.requires.fresh c.requires.within c.requires.more _ _
           c.requires.laid
           c.requires.ready c.place.result c.gate.result c.summary_bytes.result at gate bytes
           c.write_guarded.ensures.any_moment c.in-Ok.ensures.settled c.in-Ok.ensures.reads stale def s all
           goes);
-      laid = subst (λ q. LaidOn q new) same (summary_laid p u step r fit c.requires.fresh c.requires.within
+      laid = subst (λ q. LaidOn q new) same (summary_laid p _ _ r fit c.requires.fresh c.requires.within
           c.requires.more _ _ c.requires.laid
           c.requires.ready c.place.result c.gate.result c.summary_bytes.result at gate bytes
           c.write_guarded.ensures.any_moment c.in-Ok.ensures.settled c.in-Ok.ensures.reads
