@@ -23,7 +23,7 @@ TOP = os.path.dirname(os.path.dirname(os.path.abspath(__file__)))
 PAGES = ["README.md", "docs/TOUR.md", "docs/RUNNING.md", "docs/FORMATS.md"]
 FOLDER = re.compile(r"<!-- in: (\S+) -->")
 INDENT = "    "
-LONGEST = 1200  # seconds that a command may take
+LONGEST = 1800  # seconds that a command may take
 
 
 class Shown:
@@ -88,7 +88,7 @@ def differences(page, shown, scratch, environment):
 
 
 def result_of(page, program):
-    """Whether a page prints what it shows, and the text for it."""
+    """Whether a page prints what it shows, and the lines about it."""
     with open(os.path.join(TOP, page)) as file:
         shown, stray = shown_in(file.read())
     text = ["%s:%d: a command that stands in no indented block" % (page, number) for number in stray]
