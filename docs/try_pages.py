@@ -1,0 +1,130 @@
+#!/usr/bin/env python3
+"""try_pages.py [--program PATH] [PAGE..]: runs the commands that the pages show, and compares what they print, byte for byte.
+
+The pages are README.md, docs/TOUR.md, docs/RUNNING.md and docs/FORMATS.md; names of pages choose some of them. A command stands in a
+block that is indented by four spaces, on a line that begins with `$ `, and its output on the lines behind it. Each page gets a scratch
+folder with a copy of examples/, tools/ and docs/. There its commands run in order, with `historian` and the tools on the path. A
+comment in the page, `<!-- in: examples/tags -->`, names the folder in which the blocks behind it run; at first that is the top.
+
+The number behind `evals=` may differ, because it depends on how threads take turns. A command in any other block is an error. It
+prints a line for each page, above it what differs, and ends with status 1 if anything did. Standard library alone."""
+import argparse
+import concurrent.futures
+import difflib
+import os
+import re
+import shlex
+import shutil
+import subprocess
+import sys
+import tempfile
+
+TOP = os.path.dirname(os.path.dirname(os.path.abspath(__file__)))
+PAGES = ["README.md", "docs/TOUR.md", "docs/RUNNING.md", "docs/FORMATS.md"]
+FOLDER = re.compile(r"<!-- in: (\S+) -->")
+INDENT = "    "
+LONGEST = 1800  # seconds that a command may take
+
+
+class Shown:
+    """A command that a page shows: its line, the folder in which it runs, and what it prints."""
+
+    def __init__(self, line, folder, command):
+        self.line, self.folder, self.command, self.output = line, folder, command, ""
+
+
+def shown_in(text):
+    """The commands of a page, and the lines with a command that stands in no indented block."""
+    shown, stray, folder, open_block = [], [], ".", False
+    for number, line in enumerate(text.splitlines(), 1):
+        folder = FOLDER.match(line).group(1) if FOLDER.match(line) else folder
+        if line.startswith(INDENT + "$ "):
+            shown.append(Shown(number, folder, line[len(INDENT) + 2:]))
+            open_block = True
+        elif not line.startswith(INDENT):
+            stray += [number] if line.lstrip().startswith("$ ") else []
+            open_block = False
+        elif open_block and shown[-1].command.endswith("\\") and not shown[-1].output:
+            shown[-1].command += "\n" + line[len(INDENT):]
+        elif open_block:
+            shown[-1].output += line[len(INDENT):] + "\n"
+    return shown, stray
+
+
+def lay(scratch, program):
+    """Copies what the commands use, and puts the program and the tools on the path: the environment of the commands."""
+    for name in ("examples", "tools", "docs"):
+        shutil.copytree(os.path.join(TOP, name), os.path.join(scratch, name))
+    os.mkdir(os.path.join(scratch, "bin"))
+    script = os.path.join(scratch, "bin", "historian")
+    with open(script, "w") as out:
+        out.write('#!/bin/sh\nexec %s "$@"\n' % program)
+    os.chmod(script, 0o755)
+    places = [os.path.join(scratch, "bin"), os.path.join(scratch, "tools"), os.environ.get("PATH", "")]
+    return dict(os.environ, PATH=os.pathsep.join(places), LC_ALL="C.UTF-8", TZ="UTC", PYTHONDONTWRITEBYTECODE="1")
+
+
+def printed(shown, scratch, environment):
+    """What a command prints, on standard error too."""
+    child = subprocess.run(["bash", "-c", shown.command], cwd=os.path.join(scratch, shown.folder), env=environment, text=True,
+                           stdin=subprocess.DEVNULL, stdout=subprocess.PIPE, stderr=subprocess.STDOUT, timeout=LONGEST)
+    return child.stdout
+
+
+def without_evals(text):
+    return re.sub(r"evals=\d+", "evals=", text)
+
+
+def differences(page, shown, scratch, environment):
+    """What differs of a command, as lines; none if it prints what the page shows."""
+    try:
+        got = printed(shown, scratch, environment)
+    except subprocess.TimeoutExpired:
+        return ["%s:%d: $ %s\n  took longer than %d seconds" % (page, shown.line, shown.command, LONGEST)]
+    if without_evals(got) == without_evals(shown.output):
+        return []
+    lines = difflib.unified_diff(shown.output.splitlines(), got.splitlines(), "page", "printed", lineterm="", n=1)
+    return ["%s:%d: $ %s" % (page, shown.line, shown.command)] + ["  " + line for line in lines]
+
+
+def result_of(page, program):
+    """Whether a page prints what it shows, and the lines about it."""
+    with open(os.path.join(TOP, page)) as file:
+        shown, stray = shown_in(file.read())
+    text = ["%s:%d: a command that stands in no indented block" % (page, number) for number in stray]
+    wrong = len(stray)
+    with tempfile.TemporaryDirectory(prefix="pages-") as scratch:
+        environment = lay(scratch, program)
+        for command in shown:
+            lines = differences(page, command, scratch, environment)
+            wrong += bool(lines)
+            text += lines
+    text.append("%-16s %2d commands, %s" % (page, len(shown), "%d wrong" % wrong if wrong else "each prints what the page shows"))
+    return wrong == 0, "\n".join(text)
+
+
+def program_of(text):
+    """The program's command with its first word as a path, or None if there is no such program."""
+    words = shlex.split(text)
+    found = shutil.which(words[0]) if words else None
+    return shlex.join([os.path.abspath(found)] + words[1:]) if found else None
+
+
+def main():
+    parser = argparse.ArgumentParser(description=__doc__, formatter_class=argparse.RawDescriptionHelpFormatter)
+    parser.add_argument("--program", default="historian", help="the built historian (default: on the path)")
+    parser.add_argument("pages", nargs="*", metavar="PAGE", help="of these pages alone")
+    settings = parser.parse_args()
+    program = program_of(settings.program)
+    if program is None:
+        sys.exit("there is no program %r: build it with `rt run` in crates/historian, or give its path with --program" % settings.program)
+    good = True
+    with concurrent.futures.ThreadPoolExecutor(len(PAGES)) as pool:
+        for passed, text in pool.map(lambda page: result_of(page, program), settings.pages or PAGES):
+            good = good and passed
+            print(text, flush=True)
+    return 0 if good else 1
+
+
+if __name__ == "__main__":
+    sys.exit(main())
