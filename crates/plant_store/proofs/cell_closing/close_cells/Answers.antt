@@ -8,6 +8,7 @@ use Rattle.plant_store.specs.CellNames.{texts}
 use Rattle.plant_store.proofs.CellBacks.{all_closed, begun, one_closed}
 use Rattle.plant_store.proofs.CellLabels.{text_at}
 use Rattle.plant_store.proofs.cell_closing.close_cells.Goals as goal
+use Rattle.plant_store.proofs.cell_closing.close_cells.Goals.{After-destroy_empty}
 
 pub loop-cell-init : goal.loop-cell-init
 loop-cell-init g c = record {
@@ -69,7 +70,7 @@ loop-cell-preserved g c =
     }
 
 -- all cells are closed
-closed : (g : _) (c : goal.After-destroy_empty g) → let now = g.S.Store.device_at c.loop-cell.store in
+closed : (g : _) (c : After-destroy_empty g) → let now = g.S.Store.device_at c.loop-cell.store in
     AreGivenBack g.S.Dev.Disk.trace (texts c.args.names.now) c.args.cells.items (g.S.Store.device_at c.args.store.now) now
     × AreHistoriesAt now (texts c.args.names.now) c.loop-cell.histories.items
 closed g c =

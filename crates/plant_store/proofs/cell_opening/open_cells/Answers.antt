@@ -5,6 +5,7 @@ use Rattle.plant_store.proofs.TagEndings.{of_all}
 use Rattle.plant_store.proofs.CellLabels.{apart_texts, as_many_names, places_front, places_whole}
 use Rattle.plant_store.proofs.CellHalts.{IsGivenUp, given_up}
 use Rattle.plant_store.proofs.cell_opening.open_cells.Goals as goal
+use Rattle.plant_store.proofs.cell_opening.open_cells.Goals.{After-close_cells}
 
 pub returns-in_default-clause-any_moment : goal.returns-in_default-clause-any_moment
 returns-in_default-clause-any_moment g c = λ k d there. still _ _
@@ -45,7 +46,7 @@ close_cells-requires-clause-places g c κs within = places_front (g.S.Store.has_
     c.open_all.ensures.places
 
 -- the opened cells are given back
-up : (g : _) (c : goal.After-close_cells g)
+up : (g : _) (c : After-close_cells g)
     → IsGivenUp c.args.tags.now (take (length c.open_all.new.cells.items) c.args.tags.now) (g.S.Store.device_at c.args.store.now)
     (g.S.Store.device_at c.open_all.new.store) (g.S.Store.device_at c.close_cells.new.store) (g.S.Store.fault_count c.args.store.now)
     (g.S.Store.fault_count c.close_cells.new.store) c.in-Err.why
