@@ -148,7 +148,7 @@ fn keep<R: Files<File = File> + AllocGlobal>(
     ensures { AllFresh places.new }
 {
     let alloc = folder.rt.alloc();
-    let kept = Kept::of_file(alloc, folder.read(name));
+    let kept = Kept::of_file(alloc, name, folder.read(name));
     insert(alloc, places, name, kept)?;
     Ok(())
 }
@@ -176,7 +176,7 @@ impl<R: Files<File = File> + AllocGlobal> Store for DirStore<R> {
         self.faults = self.faults.saturating_add(dev.counts.faults);
         let kept = Kept::of(dev);
         if kept.is_stopped {
-            self.folder.settle(name, &kept.mirror);
+            self.folder.settle(name, &kept.mirror, kept.is_unsynced);
         }
         let _ = exchange(&mut self.places, name, kept);
     }

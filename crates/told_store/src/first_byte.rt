@@ -19,6 +19,15 @@ const TEXT_LEN: usize = 5;
 
 const TEXT: usize = 9;
 
+// What the making of a tag's device writes, with all its lane slots.
+const TAG_MAKING: usize = 66_640;
+
+// Whether bytes of a tag's device begin with no open gate, and are more than its making leaves: so it was in use, whatever became of
+// its first bytes.
+pub(crate) fn is_past_making(name: &str, bytes: &[u8]) -> bool {
+    name.ends_with(".tag") && bytes.len() > TAG_MAKING && bytes[0] != OPEN
+}
+
 // Whether bytes are those of a device in use whose first byte is no longer its open gate. A device of one byte at most is new, and
 // so is one that begins with 00 unless a gate behind it was opened.
 pub(crate) fn has_lost_gate(bytes: &[u8]) -> bool

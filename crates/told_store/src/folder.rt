@@ -1,5 +1,5 @@
 // The files of the folder of devices. No clause says what a call of the system does, so these lines are to be read.
-use std::fs::{self, File, OpenOptions};
+use std::fs::{self, File, OpenOptions, Permissions};
 use std::io::{self, ErrorKind, Write};
 use std::os::unix::fs::{FileExt, MetadataExt};
 use std::rt::Files;
@@ -97,24 +97,45 @@ impl<R: Files<File = File> + AllocGlobal> Folder<R> {
         Ok(file)
     }
 
-    /// Writes the file of a device anew after a call on it has failed: what the system shows of it then may not be on the disk. Where
-    /// that fails too the file gets a mark, and the next run that can write it anew does so before it believes what it reads.
-    pub(crate) fn settle(&self, name: &str, bytes: &[u8]) {
-        if self.renew(name, bytes).is_err() {
-            let _ = self.remove(name, NEW);
+    /// Writes the file of a device anew after a call on it has failed. Where that fails too, and a sync was among the failed calls, the
+    /// file gets a mark, since what the system shows of it may not be on the disk: the next run that can write it anew does so before
+    /// it believes what it reads. No call has changed a file that may not be written.
+    pub(crate) fn settle(&self, name: &str, bytes: &[u8], is_unsynced: bool) {
+        let Err(error) = self.renew(name, bytes) else {
+            return;
+        };
+        if is_unsynced && !is_denied(error.kind()) {
             let _ = self.mark(name);
         }
     }
 
-    // Writes a new file, brings it to the disk, gives it the name of the old one, and takes the mark away.
+    // Writes a file anew: a new one, with the rights of the old one, takes its name, and its mark goes.
     fn renew(&self, name: &str, bytes: &[u8]) -> io::Result<()> {
-        let path = self.path(name, NEW)?;
-        let mut file = File::create(&self.rt, path.as_str())?;
-        file.write_all(bytes)?;
-        file.sync_all()?;
-        fs::rename(&self.rt, path.as_str(), self.path(name, "")?.as_str())?;
+        let old = self.open_plain(name, OpenOptions::new().read(true).write(true))?;
+        if let Err(error) = self.write_new(name, bytes, again(|| old.metadata())?.permissions()) {
+            let _ = self.remove(name, NEW);
+            return Err(error);
+        }
+        let path = self.path(name, "")?;
+        fs::rename(&self.rt, self.path(name, NEW)?.as_str(), path.as_str())?;
         self.sync_names()?;
         self.remove(name, MARK)?;
+        self.sync_names()
+    }
+
+    // Writes the new file, and brings it to the disk.
+    fn write_new(&self, name: &str, bytes: &[u8], rights: Permissions) -> io::Result<()> {
+        self.remove(name, NEW)?;
+        let mut file = File::create_new(&self.rt, self.path(name, NEW)?.as_str())?;
+        file.set_permissions(rights)?;
+        file.write_all(bytes)?;
+        file.sync_all()
+    }
+
+    // Marks the file of a device.
+    fn mark(&self, name: &str) -> io::Result<()> {
+        self.remove(name, MARK)?;
+        File::create_new(&self.rt, self.path(name, MARK)?.as_str())?.sync_all()?;
         self.sync_names()
     }
 
@@ -124,12 +145,6 @@ impl<R: Files<File = File> + AllocGlobal> Folder<R> {
             Err(error) if error.kind() != ErrorKind::NotFound => Err(error),
             _ => Ok(()),
         }
-    }
-
-    // Marks the file of a device: what it shows may not be on the disk.
-    fn mark(&self, name: &str) -> io::Result<()> {
-        File::create(&self.rt, self.path(name, MARK)?.as_str())?.sync_all()?;
-        self.sync_names()
     }
 
     // Opens a file that was read and has this length, for reads alone where it may not be written.

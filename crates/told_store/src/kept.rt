@@ -4,7 +4,7 @@ ghost use Rattle.disk_model.specs.Traces.{seen};
 ghost use Rattle.disk_model.specs.Stores.{empty_trace};
 ghost use Rattle.told_store.specs.Notes.{IsFresh, read_as, told_by};
 
-use crate::first_byte::has_lost_gate;
+use crate::first_byte::{has_lost_gate, is_past_making};
 use crate::host::{Host, record_of};
 use crate::record::Record;
 use crate::told_disk::{Counts, DirDisk};
@@ -13,14 +13,15 @@ use std::fs::OpenFile;
 use std::io;
 use std::os::unix::fs::FileExt;
 
-// What is kept of a device between two times that it is out: the record of its calls, its bytes, its clock, and whether it is not
-// to be handed out again.
+// What is kept of a device between two times that it is out: the record of its calls, its bytes, its clock, whether it is not to be
+// handed out again, and whether a sync of its file has failed.
 #[derive(Drop)]
 pub(crate) struct Kept {
     pub(crate) log: Record,
     pub(crate) mirror: Vec<u8>,
     pub(crate) ticks: u64,
     pub(crate) is_stopped: bool,
+    pub(crate) is_unsynced: bool,
     ghost mirrored: { mirror.items ≡ seen (Some (told_by log.notes)) },
     ghost counted: { length (told_by log.notes).calls ≡ ticks },
 }
@@ -36,6 +37,7 @@ impl Kept {
             mirror: bytes,
             ticks: 0,
             is_stopped: false,
+            is_unsynced: false,
         }
     }
 
@@ -50,13 +52,13 @@ impl Kept {
     }
 
     // A device whose file was read, or is refused: it could not be read, or its first byte was damaged.
-    pub(crate) fn of_file(alloc: Global, read: io::Result<Vec<u8>>) -> Kept
+    pub(crate) fn of_file(alloc: Global, name: &str, read: io::Result<Vec<u8>>) -> Kept
         ensures { IsFresh (told_by result.log.notes) }
     {
         let Ok(bytes) = read else {
             return Kept::stopped(alloc);
         };
-        if has_lost_gate(&bytes) {
+        if has_lost_gate(&bytes) || is_past_making(name, &bytes) {
             return Kept::stopped(alloc);
         }
         Kept::read(bytes)
@@ -79,6 +81,7 @@ impl Kept {
             mirror,
             ticks: counts.ticks,
             is_stopped: counts.is_stopped,
+            is_unsynced: counts.is_unsynced,
         }
     }
 
@@ -97,6 +100,7 @@ impl Kept {
                 ticks: self.ticks,
                 faults: 0,
                 is_stopped: self.is_stopped,
+                is_unsynced: self.is_unsynced,
             },
         }
     }

@@ -6,13 +6,14 @@ ghost use Rattle.disk_model.specs.Calls.{next_count, Rose, HasCause, HasLength, 
 use crate::calls::Calls;
 use disk_model::{Disk, Failed};
 
-// How many writes, cuts and syncs there were, how many calls have failed, and whether a write, a cut or a sync was among these.
-// A count stays at the end of its type.
+// How many writes, cuts and syncs there were, how many calls have failed, whether a write, a cut or a sync was among these, and
+// whether a sync of the file was. A count stays at the end of its type.
 #[derive(Drop)]
 pub(crate) struct Counts {
     pub(crate) ticks: u64,
     pub(crate) faults: u64,
     pub(crate) is_stopped: bool,
+    pub(crate) is_unsynced: bool,
 }
 
 impl Counts {
@@ -192,6 +193,7 @@ impl<C: Calls> Disk for DirDisk<C> {
             return Err(self.counts.stop());
         }
         if self.calls.flush().is_err() {
+            self.counts.is_unsynced = true;
             return Err(self.counts.stop());
         }
         Ok(())
