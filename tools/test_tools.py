@@ -53,12 +53,16 @@ def main():
     parser.add_argument("--only", nargs="+", default=[], metavar="NAME", help="the cases whose names begin so")
     settings = parser.parse_args()
     settings.kills = settings.kills or (300 if settings.long else 20)
+    return run_cases(kills.CASES + stops.CASES + daily.CASES + keeping.CASES, settings)
+
+
+def run_cases(cases, settings):
+    """Runs those cases that are asked for, some beside each other, and tells of each: the exit status."""
     program = program_of(settings.program)
     if program is None:
         print("there is no program %r: build it with `rt run` in crates/historian, or give its path with --program" % settings.program)
         print("0 passed, 1 failed")
         return 1
-    cases = kills.CASES + stops.CASES + daily.CASES + keeping.CASES
     if settings.only:
         cases = [case for case in cases if case.__name__.startswith(tuple(settings.only))]
     results = []

@@ -1,10 +1,7 @@
-// What no clause says: that calls succeed where there is memory, the images by hand, and files.
+// What no clause says: that calls succeed where there is memory, and the images by hand.
 use crate::spelled::{change, number};
-use disk_model::{DirDisk, DirStore, Disk, Failed, MemDisk, MemStore, Pick, Store, close_gates};
+use disk_model::{Disk, Failed, MemDisk, MemStore, Pick, Store, close_gates};
 use std::alloc::{AllocError, Global};
-use std::fs::{self, Metadata, OpenFile};
-use std::io;
-use std::os::unix::fs::FileExt;
 use std::process::Abort;
 use std::test::Fail;
 
@@ -139,85 +136,5 @@ fn devices_of_a_store_stop_together(rt: HostRuntime) -> Result<(), Fail> {
     assert_eq!(rt; (b.sync(), a.sync()), (Err(Failed), Err(Failed)));
     assert_eq!(rt; (a.faults(), b.faults()), (1, 1));
     assert_eq!(rt; before.sync(), Ok(()));
-    Ok(())
-}
-
-// A file of which each call fails.
-#[derive(Drop)]
-struct Broken;
-
-impl OpenFile for Broken {
-    fn metadata(&self) -> io::Result<Metadata> {
-        Err(io::Error::from(io::ErrorKind::Other))
-    }
-
-    fn set_len(&self, _size: u64) -> io::Result<()> {
-        Err(io::Error::from(io::ErrorKind::Other))
-    }
-
-    fn sync_all(&self) -> io::Result<()> {
-        Err(io::Error::from(io::ErrorKind::Other))
-    }
-
-    fn sync_data(&self) -> io::Result<()> {
-        Err(io::Error::from(io::ErrorKind::Other))
-    }
-}
-
-impl FileExt for Broken {
-    fn read_at(&self, _buf: &mut [u8], _offset: u64) -> io::Result<usize> {
-        Err(io::Error::from(io::ErrorKind::Other))
-    }
-
-    fn write_at(&self, _buf: &[u8], _offset: u64) -> io::Result<usize> {
-        Err(io::Error::from(io::ErrorKind::Other))
-    }
-}
-
-#[test]
-fn each_error_of_a_file_is_a_fault(rt: HostRuntime) {
-    let mut disk = DirDisk::new(Broken);
-    assert_eq!(rt; disk.len(), Err(Failed));
-    assert_eq!(rt; disk.read(0, &mut [0]), Err(Failed));
-    assert_eq!(rt; disk.write_at(0, b"a"), Err(Failed));
-    assert_eq!(rt; disk.cut(0), Err(Failed));
-    assert_eq!(rt; disk.sync(), Err(Failed));
-    assert_eq!(rt; (disk.clock(), disk.faults()), (3, 5));
-}
-
-#[test]
-fn files_of_a_folder_are_devices(rt: HostRuntime) -> Result<(), Fail> {
-    let mut store = DirStore::new(rt.clone()?);
-    let mut made = store.device("a.tag").map_err(|_| "failed")?;
-    assert_eq!(rt; made.write_at(0, b"abc"), Ok(()));
-    assert_eq!(rt; made.cut(2), Ok(()));
-    assert_eq!(rt; made.sync(), Ok(()));
-    store.give_back("a.tag", made);
-    let mut again = store.device("a.tag").map_err(|_| "failed")?;
-    let mut bytes = [0; 2];
-    assert_eq!(rt; (again.len(), again.clock()), (Ok(2), 0));
-    assert_eq!(rt; again.read(0, &mut bytes), Ok(()));
-    assert_eq!(rt; bytes.as_slice(), b"ab".as_slice());
-    assert_eq!(rt; again.read(1, &mut bytes), Err(Failed));
-    assert_eq!(rt; again.faults(), 1);
-    fs::remove_dir_all(&rt, "historian.d")?;
-    Ok(())
-}
-
-#[test]
-fn what_cannot_be_opened_stays_as_it_is(rt: HostRuntime) -> Result<(), Fail> {
-    fs::create_dir_all(&rt, "historian.d/folder.tag")?;
-    fs::write(&rt, "historian.d/closed.tag", b"abc")?;
-    let mut closed = fs::metadata(&rt, "historian.d/closed.tag")?.permissions();
-    closed.set_readonly(true);
-    fs::set_permissions(&rt, "historian.d/closed.tag", closed)?;
-    let mut store = DirStore::new(rt.clone()?);
-    assert!(rt; store.device("folder.tag").is_err());
-    let _ = store.device("closed.tag");
-    assert_eq!(rt;
-        fs::read(&rt, "historian.d/closed.tag")?.as_slice(),
-        b"abc".as_slice()
-    );
-    fs::remove_dir_all(&rt, "historian.d")?;
     Ok(())
 }

@@ -11,3 +11,5 @@ mod records;
 mod recovery;
 #[cfg(test)]
 mod spelled;
+#[cfg(test)]
+mod told;

@@ -65,7 +65,7 @@ const DAMAGED: &str = "\
 471=7 => Damaged { at: 464, byte: Some(0) }";
 
 // The tag T1 with the tuning of a name, where that is one.
-fn tag(name: &str) -> Option<TagDef> {
+pub fn tag(name: &str) -> Option<TagDef> {
     let (exc_dev, comp_dev) = match name {
         "plain" => (0, 0),
         "loose" => (0, 5),
@@ -87,7 +87,7 @@ fn tag(name: &str) -> Option<TagDef> {
 }
 
 // Opens a device.
-fn opened(
+pub fn opened(
     alloc: Global,
     dev: MemDisk,
     def: &TagDef,

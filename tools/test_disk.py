@@ -1,0 +1,36 @@
+#!/usr/bin/env python3
+"""test_disk.py --program PATH [--count N] [--only NAME ..]: what a built historian does when it is killed, when the power goes, when a
+call of the system fails, when two of it meet in one folder, and when a file of the folder is not as it should be.
+
+200 kills, 200 power cuts, 200 failing calls and 200 double sessions take some minutes with four free processors; `--count 20` is the
+short form. Power cuts and failing calls need strace. It prints a line for each case, and last `N passed, N failed`."""
+import argparse
+import os
+import sys
+
+sys.dont_write_bytecode = True
+HERE = os.path.dirname(os.path.abspath(__file__))
+sys.path[:0] = [HERE, os.path.join(HERE, "testing")]
+import disk_calls  # noqa: E402
+import disk_cuts  # noqa: E402
+import disk_double  # noqa: E402
+import disk_files  # noqa: E402
+import disk_kills  # noqa: E402
+import disk_renew  # noqa: E402
+from test_tools import run_cases  # noqa: E402
+
+
+def main():
+    parser = argparse.ArgumentParser(description=__doc__, formatter_class=argparse.RawDescriptionHelpFormatter)
+    parser.add_argument("--program", default="historian", help="the built historian (default: on the path)")
+    parser.add_argument("--count", type=int, default=200, help="how many of each kind")
+    parser.add_argument("--seed", type=int, default=1, help="of the random moments")
+    parser.add_argument("--jobs", type=int, default=min(4, os.cpu_count() or 1), help="cases beside each other")
+    parser.add_argument("--only", nargs="+", default=[], metavar="NAME", help="the cases whose names begin so")
+    settings = parser.parse_args()
+    cases = disk_kills.CASES + disk_cuts.CASES + disk_calls.CASES + disk_renew.CASES + disk_double.CASES + disk_files.CASES
+    return run_cases(cases, settings)
+
+
+if __name__ == "__main__":
+    sys.exit(main())

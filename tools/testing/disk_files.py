@@ -1,0 +1,266 @@
+"""disk_files.py: files that are not as they should be. What may only be read is read; a link, a file with two names, what is no file, a
+file of more than 1 GB, and one whose first byte is damaged are refused in a moment, and stay as they are."""
+import os
+import random
+import shutil
+import socket
+import stat
+import subprocess
+import time
+
+from disk_plant import COMMANDS, OPEN, TAGS, UNITS, Plant, base_text, check_same
+
+NOBODY = 65534
+MOST_SECONDS = 20
+OPENS = {"T1.tag": ("check", "trend", "run", "frames", "shifts"), "T3.tag": ("check", "trend", "run", "frames", "shifts"),
+         "shift.grp": ("trend", "run", "frames"), "plant.log": ("log",)}
+READS = ("check", "trend", "frames", "shifts")
+CALENDAR = b'zone = "CET-1"\nstarts = ["06:00", "18:00"]\ntags = ["T1"]\nmeasure = "avg"\n'
+
+
+def full_plant(folder, program):
+    """A plant with devices of tags, a group and a log."""
+    plant = Plant(folder, program)
+    plant.write("calendar.toml", CALENDAR)
+    plant.write("more.toml", base_text(names=TAGS + ("T4",)).encode())
+    for verb in ("run", "log"):
+        plant.told(verb)
+    return plant
+
+
+def state(plant):
+    """What stands in the folder: of each name its kind and rights, length, place, moment of change, and a link's target."""
+    found = {}
+    for name in sorted(os.listdir(plant.path("historian.d"))):
+        seen = os.lstat(plant.device(name))
+        target = os.readlink(plant.device(name)) if stat.S_ISLNK(seen.st_mode) else None
+        found[name] = seen.st_mode, seen.st_size, seen.st_ino, seen.st_mtime_ns, target
+    return found
+
+
+def refused(plant, name):
+    """Each command that opens a device tells it as a fault, in a moment, and leaves all devices as they are. Answers how many."""
+    before = state(plant)
+    for verb in OPENS[name]:
+        start = time.monotonic()
+        status, text = plant.call(*COMMANDS[verb])
+        took = time.monotonic() - start
+        assert (status, text) == (7, "fault: device %s\n" % UNITS[name]), "%s of %s: exit %d, %s" % (verb, name, status, text)
+        assert took < MOST_SECONDS, "%s of %s takes %.1f seconds" % (verb, name, took)
+        assert state(plant) == before, "%s beside a bad %s changes the folder" % (verb, name)
+    return len(OPENS[name])
+
+
+def damaged_first_bytes(folder, program, settings):
+    """A tag, a group or the log whose first byte is neither 00 nor an open gate is refused, and goes on once the byte is put back."""
+    draw, count = random.Random(settings.seed), 0
+    plant = full_plant(os.path.join(folder, "plant"), program)
+    wanted = plant.told("trend")
+    for name in OPENS:
+        good = plant.read("historian.d/" + name)
+        bits = [OPEN ^ 1 << bit for bit in range(8)]
+        for byte in draw.sample(bits, 2) + [draw.choice([b for b in range(1, 256) if b != OPEN])]:
+            plant.write("historian.d/" + name, bytes([byte]) + good[1:])
+            count += refused(plant, name)
+            assert plant.read("historian.d/" + name) == bytes([byte]) + good[1:]
+        plant.write("historian.d/" + name, good)
+    check_same(plant.told("trend"), wanted, "once the byte is put back")
+    return "%d refusals" % count
+
+
+def closed_first_bytes(folder, program, settings):
+    """A tag or the log whose first byte is 00, with a gate open behind it, is refused. With no gate open it is begun anew."""
+    count, plant = 0, full_plant(os.path.join(folder, "plant"), program)
+    for name in ("T1.tag", "plant.log"):
+        good = plant.read("historian.d/" + name)
+        plant.write("historian.d/" + name, b"\0" + good[1:])
+        count += refused(plant, name)
+        plant.write("historian.d/" + name, good)
+    good = plant.read("historian.d/T1.tag")
+    plant.write("historian.d/T1.tag", b"\0" + good[1:384] + bytes(len(good) - 384))
+    assert plant.told("check").startswith("tag T1 taken=0 ")
+    return "%d refusals" % count
+
+
+def zeroed_first_sectors(folder, program, settings):
+    """A tag's device whose first sector reads as zeros, with records behind its lane, is refused: no making is as long."""
+    plant = full_plant(os.path.join(folder, "plant"), program)
+    plant.told("retune")  # which puts the records behind the lane
+    good = plant.read("historian.d/T1.tag")
+    plant.write("historian.d/T1.tag", bytes(512) + good[512:])
+    return "%d refusals" % refused(plant, "T1.tag")
+
+
+def links_and_names(folder, program, settings):
+    """Links, to a device, to a text, to nothing and to themselves, files with two names, and what is no file."""
+    count = 0
+    plant = full_plant(os.path.join(folder, "plant"), program)
+    for name in OPENS:
+        for place, make in enumerate(KINDS):
+            path = plant.device(name)
+            shutil.move(path, plant.path("kept"))
+            outside = plant.path("outside%d" % place)
+            shutil.copy(plant.path("kept"), outside)
+            make(path, outside)
+            seen = plant.read(outside)
+            count += refused(plant, name)
+            assert plant.read(outside) == seen, "what stands behind %s was changed" % make.__name__
+            assert not os.path.exists(plant.path("nothing")), "a link to nothing made a file"
+            shutil.rmtree(path) if os.path.isdir(path) else os.remove(path)
+            shutil.move(plant.path("kept"), path)
+    plant.told("check")
+    return "%d refusals" % count
+
+
+def link_to_device(path, outside):
+    os.symlink(outside, path)
+
+
+def link_to_text(path, outside):
+    with open(outside, "w") as text:
+        text.write("no device\n")
+    os.symlink(outside, path)
+
+
+def link_to_nothing(path, outside):
+    os.symlink(os.path.join(os.path.dirname(outside), "nothing"), path)
+
+
+def link_to_itself(path, outside):
+    os.symlink(os.path.basename(path), path)
+
+
+def second_name(path, outside):
+    os.link(outside, path)
+
+
+def pipe(path, outside):
+    os.mkfifo(path)
+
+
+def end_point(path, outside):
+    with socket.socket(socket.AF_UNIX) as listener:
+        listener.bind(path)
+
+
+def subfolder(path, outside):
+    os.mkdir(path)
+
+
+KINDS = [link_to_device, link_to_text, link_to_nothing, link_to_itself, second_name, pipe, end_point, subfolder]
+
+
+def large_files(folder, program, settings):
+    """Files of 10 GB that take no room on the disk, of zeros and of a device with zeros behind it, are refused and take no memory."""
+    count, most = 0, 0
+    plant = full_plant(os.path.join(folder, "plant"), program)
+    for name in OPENS:
+        good = plant.read("historian.d/" + name)
+        for begin in (b"", good):
+            plant.write("historian.d/" + name, begin)
+            os.truncate(plant.device(name), 10 << 30)
+            most = max(most, memory_of(plant, COMMANDS[OPENS[name][-1]]))
+            count += refused(plant, name)
+            assert os.stat(plant.device(name)).st_blocks < 1000, "the file takes room now"
+        plant.write("historian.d/" + name, good)
+    assert most < 500_000, "%d KB of memory" % most
+    return "%d refusals, at most %d MB of memory" % (count, most // 1000)
+
+
+def memory_of(plant, words):
+    """How much memory a run takes at most, in KB."""
+    child = plant.start(*words)
+    used = os.wait4(child.pid, 0)[2].ru_maxrss
+    child.communicate()
+    return used
+
+
+def strangers(folder, program, settings):
+    """What lies in the folder and is asked by nobody disturbs nobody; the folder may be a link, but no file, and no link to nothing."""
+    plant = full_plant(os.path.join(folder, "plant"), program)
+    wanted = {verb: plant.told(verb) for verb in READS}
+    os.symlink("nothing", plant.device("a.tag"))
+    os.mkdir(plant.device("b.grp"))
+    os.mkfifo(plant.device("c.tag"))
+    plant.write("historian.d/d.tag", b"no device")
+    plant.write("historian.d/e.tag", b"")
+    os.truncate(plant.device("e.tag"), 10 << 30)
+    with open(os.fsencode(plant.path("historian.d")) + b"/\xff.tag", "wb") as out:
+        out.write(b"a name that is no text")
+    os.rename(plant.path("historian.d"), plant.path("elsewhere"))
+    os.symlink("elsewhere", plant.path("historian.d"))
+    for verb in READS:
+        check_same(plant.told(verb), wanted[verb], verb + " beside strangers")
+    os.remove(plant.path("historian.d"))
+    plant.write("historian.d", b"no folder")
+    assert plant.call(*COMMANDS["check"]) == (7, "fault: device tag 1\n") and plant.read("historian.d") == b"no folder"
+    os.remove(plant.path("historian.d"))
+    os.symlink("nothing", plant.path("historian.d"))
+    assert plant.call(*COMMANDS["check"]) == (7, "fault: device tag 1\n") and not os.path.exists(plant.path("nothing"))
+    return "%d commands" % len(READS)
+
+
+def reads_what_it_may(plant, wanted, **user):
+    """What reads answers as before, what has to write is a fault, and nothing changes."""
+    before = state(plant)
+    for verb in READS:
+        assert plant.call(*COMMANDS[verb], **user) == (0, wanted[verb]), "%s: %s" % (verb, plant.call(*COMMANDS[verb], **user))
+    faults = {COMMANDS["run"]: "tag 1", COMMANDS["log"]: "log", COMMANDS["retune"]: "tag 1", ("check", "more.toml"): "tag 4"}
+    for words, unit in faults.items():
+        assert plant.call(*words, **user) == (7, "fault: device %s\n" % unit), (words, plant.call(*words, **user))
+    assert state(plant) == before
+
+
+def for_everybody(folder, program):
+    """The program as a copy that each user may run, in a folder into which each may look."""
+    os.chmod(folder, 0o755)
+    first, *others = program.split()
+    copy = shutil.copy(first, os.path.join(folder, "program"))
+    os.chmod(copy, 0o755)
+    return " ".join([copy, *others])
+
+
+def reader():
+    """What starts a process as a user who owns nothing, where this one is root."""
+    return {"user": NOBODY, "group": NOBODY, "extra_groups": []} if os.getuid() == 0 else {}
+
+
+def may_only_be_read(plant):
+    """Lets nobody but root write to the devices and their folder."""
+    for name in os.listdir(plant.path("historian.d")):
+        os.chmod(plant.device(name), 0o444)
+    os.chmod(plant.path("historian.d"), 0o555)
+
+
+def read_only_files(folder, program, settings):
+    """A user who may only read, in a folder in which he may write nothing."""
+    plant = full_plant(os.path.join(folder, "plant"), for_everybody(folder, program))
+    wanted = {verb: plant.told(verb) for verb in READS}
+    may_only_be_read(plant)
+    try:
+        reads_what_it_may(plant, wanted, **reader())
+        os.chmod(plant.device("T1.tag"), 0)
+        assert plant.call(*COMMANDS["check"], **reader()) == (7, "fault: device tag 1\n")
+    finally:
+        os.chmod(plant.path("historian.d"), 0o755)
+    return "8 commands"
+
+
+def read_only_mount(folder, program, settings):
+    """The same on a file system that is mounted for reading alone, if one may be mounted here."""
+    place = os.path.join(folder, "small")
+    os.makedirs(place)
+    if subprocess.run(["mount", "-t", "tmpfs", "tmpfs", place], stderr=subprocess.DEVNULL).returncode:
+        return "no file system may be mounted here: not tried"
+    try:
+        plant = full_plant(os.path.join(place, "plant"), program)
+        wanted = {verb: plant.told(verb) for verb in READS}
+        subprocess.run(["mount", "-o", "remount,ro", place], check=True)
+        reads_what_it_may(plant, wanted)
+    finally:
+        subprocess.run(["umount", place], check=True)
+    return "8 commands"
+
+
+CASES = [damaged_first_bytes, closed_first_bytes, zeroed_first_sectors, links_and_names, large_files, strangers, read_only_files,
+         read_only_mount]

@@ -1,0 +1,251 @@
+"""disk_plant.py: a plant of three tags and a group for the tests of the disk, and what stands in its devices, read here by the rules of
+docs/FORMATS.md and not by the program.
+
+Each tag has all its values from one collector, so whatever a stop leaves of a tag has to be the first rows of its file. The line of
+`check` for the first k rows of a tag is found without any device, by `pack`."""
+import copy
+import os
+import random
+import shutil
+import struct
+import subprocess
+
+OPEN = 0xA5
+TAGS = ("T1", "T2", "T3")
+FILES = {"T1": "c1.csv", "T2": "c1.csv", "T3": "c2.csv"}
+EXC_DEV, EXC_MAX, COMP_DEV, COMP_MAX = 2, 600_000, 5, 28_800_000
+PERIOD, WINDOWS = 60_000, 18
+ROWS = 320  # of each tag: several batches of 64, and checkpoints where the lane is short
+TAG = '[[tag]]\nname = "%s"\nexc_dev = %d\nexc_max = %d\ncomp_dev = %d\ncomp_min = 0\ncomp_max = %d\n\n'
+GROUP = """[[group]]
+name = "shift"
+tags = ["T1", "T3"]
+start = 0
+period = %d
+
+[[group.calc]]
+name = "mean"
+formula = "avg('T1')"
+
+[[group.calc]]
+name = "gap"
+formula = "avg('T3') - calc('mean')"
+""" % PERIOD
+PLAN = ('[[collector]]\nfile = "c1.csv"\n\n[[collector]]\nfile = "c2.csv"\n\n[[reader]]\nfile = "asks.csv"\n\n'
+        '[[refresher]]\ngroup = "shift"\nturns = 3\n')
+ASKS = "".join("snap,%s\n" % name for name in TAGS) + "".join(
+    "row,shift,%s,%d\n" % (calc, window) for calc in ("mean", "gap") for window in range(0, WINDOWS, 2))
+COMMANDS = {"run": ("run", "base.toml", "plan.toml"), "log": ("log", "base.toml", "plan.toml"),
+            "check": ("check", "base.toml"), "trend": ("trend", "base.toml", "plan.toml"), "rows": ("log", "base.toml", "empty.toml"),
+            "frames": ("frames", "base.toml", "shift", "mean", "1"),
+            "shifts": ("shifts", "base.toml", "calendar.toml", "1971-01-01", "1"), "retune": ("check", "retuned.toml")}
+UNITS = {"T1.tag": "tag 1", "T2.tag": "tag 2", "T3.tag": "tag 3", "shift.grp": "group 1", "plant.log": "log"}
+KNOWN = {}  # the lines that were asked for already
+
+
+def base_text(comp_dev=COMP_DEV, names=TAGS):
+    """The base; another comp_dev retunes each tag."""
+    return "".join(TAG % (name, EXC_DEV, EXC_MAX, comp_dev, COMP_MAX) for name in names) + GROUP
+
+
+def rows_of(name):
+    """The values of a tag as times and values; some come late."""
+    draw, rows, value = random.Random(name), [], 500
+    for step in range(ROWS):
+        value += draw.randint(-6, 6)
+        late = 9_000 if step % 37 == 20 else 0
+        rows.append((3_000 * step - late + draw.randint(10, 900) if step > 4 else 3_000 * step, value))
+    return rows
+
+
+ALL = {name: rows_of(name) for name in TAGS}
+
+
+NOTHING, HALF, WHOLE = ({name: count for name in TAGS} for count in (0, ROWS // 2, ROWS))
+
+
+def file_text(file, stored, until):
+    """The rows of a collector's file, of each tag from those on that are stored already; tags that share a file take turns."""
+    rows = [(place, name, ALL[name][place]) for name in TAGS if FILES[name] == file for place in range(stored[name], until)]
+    return "".join("%s,%d,%d\n" % (name, t, v) for _, name, (t, v) in sorted(rows))
+
+
+def events_on(data):
+    """How many events stand on a tag's device: those of the summary that counts, and the batches behind it."""
+    if len(data) < 2 or data[0] != OPEN:
+        return 0
+    slots = number(data, 110, 4)
+    events = max((number(data, at, 8) for at, gate in ((128, 384), (256, 385)) if data[gate] == OPEN), default=0)
+    for slot in range(slots):
+        at = 400 + slots + 1034 * slot
+        if data[400 + slot] == OPEN and number(data, at, 8) == events:
+            events += number(data, at + 8, 2)
+    return events
+
+
+def rows_on_log(data):
+    """The rows of the log: tag, collector, row of its file, time and value."""
+    rows, at = [], 9 + number(data, 5, 4)
+    while len(data) > 1 and data[0] == OPEN and at < len(data) and data[at] == OPEN:
+        count = number(data, at + 9, 4)
+        rows += struct.iter_unpack(">IIQQq", data[at + 13:at + 13 + 32 * count])
+        at += 13 + 32 * count
+    return rows
+
+
+def number(data, at, width):
+    return int.from_bytes(data[at:at + width], "big")
+
+
+def new_device(name, slots):
+    """The bytes of a tag's new device with so many lane slots; the program makes 64."""
+    head = b"PHT1" + bytes([len(name)]) + name.encode().ljust(64, b"\0")
+    tuning = struct.pack(">5Q", EXC_DEV, EXC_MAX, COMP_DEV, 0, COMP_MAX)
+    return (bytes([OPEN]) + head + tuning + struct.pack(">I", slots)).ljust(400 + 1035 * slots, b"\0")
+
+
+class Plant:
+    """A plant's folder of a test, and the program."""
+
+    def __init__(self, folder, program):
+        self.folder, self.program = folder, program
+        os.makedirs(folder)
+        self.write("base.toml", base_text().encode())
+        self.write("retuned.toml", base_text(COMP_DEV + 1).encode())
+        self.write("plan.toml", PLAN.encode())
+        self.write("empty.toml", b"")
+        self.write("asks.csv", ASKS.encode())
+        self.deliver(NOTHING)
+
+    def copy(self, folder):
+        """The same plant in another folder."""
+        shutil.copytree(self.folder, folder)
+        other = copy.copy(self)
+        other.folder = folder
+        return other
+
+    def deliver(self, stored, until=ROWS):
+        """Writes the collectors' files, of each tag without the rows that are stored already."""
+        for file in set(FILES.values()):
+            self.write(file, file_text(file, stored, until).encode())
+
+    def path(self, *names):
+        return os.path.join(self.folder, *names)
+
+    def device(self, name):
+        return self.path("historian.d", name)
+
+    def write(self, name, data):
+        with open(self.path(name), "wb") as out:
+            out.write(data)
+
+    def read(self, name):
+        """The bytes of a file; none where it is missing."""
+        try:
+            with open(self.path(name), "rb") as data:
+                return data.read()
+        except FileNotFoundError:
+            return b""
+
+    def make_lanes(self, draw):
+        """Makes some of the devices beforehand, with short lanes, so that a session has many checkpoints."""
+        os.makedirs(self.path("historian.d"), exist_ok=True)
+        for name in TAGS:
+            slots = draw.choice((None, 1, 2, 4))
+            if slots:
+                self.write("historian.d/%s.tag" % name, new_device(name, slots))
+
+    def start(self, *words, under=(), **more):
+        """Starts the program, if asked to under another one such as strace."""
+        words = [*under, *self.program.split(), *words]
+        return subprocess.Popen(words, cwd=self.folder, stdout=subprocess.PIPE, stderr=subprocess.PIPE, text=True, **more)
+
+    def call(self, *words, under=(), **more):
+        """Runs the program to its end: exit status, and what it printed."""
+        child = self.start(*words, under=under, **more)
+        text, told = child.communicate(timeout=120)
+        return child.returncode, text + told
+
+    def told(self, verb):
+        """What a command prints, which has to end well."""
+        status, text = self.call(*COMMANDS[verb])
+        assert status == 0, "%s ends with %d: %s" % (verb, status, text[-2000:])
+        return text
+
+    def events(self):
+        """How many events stand on each tag's device."""
+        return {name: events_on(self.read("historian.d/%s.tag" % name)) for name in TAGS}
+
+    def lines(self, events):
+        """What `check` has to print where each tag took so many first rows."""
+        return "".join(self.line(name, events[name]) for name in TAGS)
+
+    def line(self, name, count):
+        """The line of a tag after its first rows, found by `pack`."""
+        if (name, count) not in KNOWN:
+            text = "".join("%d,%d\n" % row for row in ALL[name][:count])
+            words = ["pack", *map(str, (EXC_DEV, EXC_MAX, COMP_DEV, 0, COMP_MAX))]
+            told = subprocess.run([*self.program.split(), *words], input=text, capture_output=True, text=True, check=True).stdout
+            kept, late = told.count("kept,"), told.count("late,")
+            held = told.splitlines()[-1].removeprefix("held,") if count else "none"
+            KNOWN[name, count] = "tag %s taken=%d records=%d kept=%d late=%d held=%s\n" % (name, count, kept + late, kept, late, held)
+        return KNOWN[name, count]
+
+    def whole(self):
+        """The line of `check` and the replies of `trend` of a plant that nobody stopped."""
+        if "whole" not in KNOWN:
+            other = Plant(self.path("whole"), self.program)
+            other.told("run")
+            KNOWN["whole"] = other.told("check"), other.told("trend")
+            shutil.rmtree(other.folder)
+            assert KNOWN["whole"][0] == self.lines(WHOLE), KNOWN["whole"]
+        return KNOWN["whole"]
+
+    def audit(self, least):
+        """After a stop: of each tag the first rows, and no fewer than were there before it. Answers how many values there are."""
+        events = self.events()
+        for name in TAGS:
+            assert least[name] <= events[name] <= ROWS, "%s has %d of %d acknowledged values" % (name, events[name], least[name])
+        check_same(self.told("check"), self.lines(events), "check after a stop")
+        replies = self.told("trend").splitlines()
+        for place, name in enumerate(TAGS):
+            held = self.line(name, events[name]).split("held=")[1].strip()
+            wanted = "reply 1 %d snap %d %s" % (place + 1, events[name], held)
+            assert replies[place] == wanted, "trend after a stop: %s in place of %s" % (replies[place], wanted)
+        return sum(events.values())
+
+    def finish(self):
+        """Stores the rows that lack: then the plant is as one that nobody stopped."""
+        self.deliver(self.events())
+        self.told("run")
+        check, trend = self.whole()
+        check_same(self.told("check"), check, "check at the end")
+        check_same(self.told("trend"), trend, "trend at the end")
+
+    def logged(self):
+        """How many rows of each tag stand on the log: they are the first ones of its file."""
+        rows = {name: [] for name in TAGS}
+        for tag, _, _, t, v in rows_on_log(self.read("historian.d/plant.log")):
+            rows[TAGS[tag]].append((t, v))
+        for name, mine in rows.items():
+            assert mine == ALL[name][:len(mine)], "the rows of %s on the log are not the first ones of its file" % name
+        return {name: len(mine) for name, mine in rows.items()}
+
+    def audit_log(self, least):
+        """After a stop of `log`: of each tag the first rows, and no fewer than were there before it. Answers how many there are."""
+        counts = self.logged()
+        assert all(least[name] <= counts[name] for name in TAGS), "%s rows of %s acknowledged ones" % (counts, least)
+        check_same(self.told("rows"), self.lines(counts), "log after a stop")
+        return sum(counts.values())
+
+    def finish_log(self):
+        """Puts the rows that lack into the log."""
+        self.deliver(self.logged())
+        check_same(self.told("log"), self.lines(WHOLE), "log at the end")
+
+
+def check_same(got, wanted, what):
+    """Tells the first line that differs."""
+    if got != wanted:
+        pairs = [(a, b) for a, b in zip(got.splitlines(), wanted.splitlines()) if a != b]
+        raise AssertionError("%s: %r in place of %r" % (what, *(pairs or [(got[-200:], wanted[-200:])])[0]))
