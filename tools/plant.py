@@ -26,8 +26,8 @@ ADVICE = {
     4: "`name` is no tag, group or calculation of the base; `range` is a number out of its range, or FROM behind TO. Nothing was stored.",
     5: "That file is missing or cannot be read: look at its name and at who may read it. Nothing was stored.",
     6: "The program could not write its output. What it stored stays stored.",
-    7: "A call on that device failed: look at the disk, its room, who may write to historian.d, and `ulimit -n`. What is stored"
-       " stays stored, and the next feed goes on from there.",
+    7: "A call on that device failed, or its file was refused and left as it is (docs/TOUR.md, exit 7): look at the disk, its room, who"
+       " may write to historian.d, and `ulimit -n`. What is stored stays stored, and the next feed goes on from there.",
     8: "Copy that file away and put a good copy in its place (docs/RUNNING.md, Backup). Nothing is read or stored until then.",
     9: "That file belongs to a tag of another name or kind. Put the right file there, or give the tag the `step` it was made with.",
     11: "A group was saved over more records than its tags have now. If tags were put back from a backup, put the group's file back"

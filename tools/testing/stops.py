@@ -55,7 +55,8 @@ def wait_for(holds):
 
 
 def damaged_while_unfinished(folder, program, settings):
-    """A first byte that is damaged while a turn is unfinished: neither the feeder nor a question lets the program overwrite the device."""
+    """A damaged first byte, a first sector of zeros, an empty file and a missing one while a turn is unfinished: the feeder and a
+    question refuse before the program opens anything, and the file stays as it is."""
     trial, wanted = two_blocks(folder, program)
     assert trial.feed(how="half")[0] == 137
     good = bytes_of(trial.path("historian.d/FIC1.PV.tag"))
