@@ -47,7 +47,7 @@ LIMITS = {
 
 
 class Refusal(Exception):
-    """Why a tool ends: its exit status, and what it tells the person."""
+    """Why a tool ends: its exit status, and what it says to the person."""
 
     def __init__(self, status, text):
         super().__init__(text)
@@ -113,7 +113,7 @@ class Plant:
             raise Refusal(UNREADABLE, "%s: a base has [[tag]] tables, each with a name" % self.path(name)) from None
 
     def fed_base(self):
-        """The name of the base with which the devices were opened last: the feeder's copy, or base.toml where nothing was fed yet.
+        """The name of the base with which the devices were opened last: the feeder's copy, or base.toml if nothing was fed yet.
 
         Who reads with this one never retunes a tag, and so changes no device, even when base.toml was edited meanwhile."""
         if os.path.exists(self.path("feed.d", "base.new.toml")):
@@ -207,7 +207,7 @@ def try_lock(handle):
 
 
 def raise_open_files():
-    """Lets the program open 2,048 files where this account may: it holds one for each tag and group, and a few more."""
+    """Lets the program open 2,048 files if this account may: it holds one for each tag and group, and a few more."""
     soft, hard = resource.getrlimit(resource.RLIMIT_NOFILE)
     if 0 <= soft < 2_048:
         resource.setrlimit(resource.RLIMIT_NOFILE, (2_048 if hard == resource.RLIM_INFINITY else min(2_048, hard), hard))
