@@ -3,7 +3,7 @@
 
 Writes the text between the two marks in LAYERS.md anew: the crates by layer, highest first, each with its height (how many crates
 stand on one another up to it) and the crates that it stands on directly; then the longest chain. A crate on which another one
-below stands too is left out, and so are the suites of tests and the toolchain. With --check it writes nothing, and fails where
+below stands too is left out, and so are the suites of tests and the toolchain. With --check it writes nothing, and fails if
 the text differs."""
 import os
 import sys

@@ -9,7 +9,7 @@ first last)  snap,TAG  row,GROUP,CALC,K. Times are ISO 8601 or milliseconds; the
 twice the area, in value times milliseconds, and `total` is value times seconds, as the program has them.
 
 It asks with the base of the last feed and holds the plant's lock meanwhile, so it changes nothing in the archive. If a device is not as
-the last turn left it, it says so and asks nothing: the program would overwrite a device whose first byte is damaged."""
+the last turn left it, it says so and asks nothing: the program would begin a missing device anew, and finds few of the bits that flip."""
 import argparse
 import csv
 import os

@@ -3,7 +3,7 @@
 
 It works in turns. A turn takes the files of the inbox, writes their rows down in feed.d as the program takes them, grouped by tag,
 lets `historian run` store them, and moves the files to done/. After a stop of this tool, of the program or of the machine the next
-start finds the turn: `historian check` tells how many of its rows each tag has stored, which are the first ones, and the others are
+start finds the turn: `historian check` prints how many of its rows each tag has stored, which are the first ones, and the others are
 stored then. A row that cannot be read goes to refused/ with its number and the reason; all others go on.
 
 Exit status: 0 all is stored; 2 to 16 the program's own (docs/TOUR.md); 20 another process works on the plant; 21 the devices are not
@@ -104,7 +104,7 @@ def held_before(last, held, definition):
 
 def foreign(turn, name, what):
     """The refusal of a turn in which another program wrote."""
-    return Refusal(CHANGED, "turn %d was stopped, and since then %s %s. So nothing tells which rows are stored, and nothing was done."
+    return Refusal(CHANGED, "turn %d was stopped, and since then %s %s. So nobody can say which rows are stored, and nothing was done."
                    " Put the plant back from a backup (docs/RUNNING.md, Backup)." % (turn.number, name, what))
 
 

@@ -120,7 +120,7 @@ def axes(scale, trend, zone):
 
 
 def legend(trend, drawn, limit):
-    """One line that tells what is what; of points only the kinds that are there."""
+    """The legend, in one line; of points only the kinds that are there."""
     wide = "± (CompDev + %sExcDev)" % ("" if trend.step else "2 ")
     entries = [('<path d="M0,-4h16" stroke="%s" stroke-width="1.5"/>' % LINE, 16, "archive"),
                ('<rect y="-9" width="14" height="10" fill="%s"/>' % BAND, 14, "± CompDev"),
@@ -147,7 +147,7 @@ def mark(kind, x, y):
 
 
 def kinds_of(scale, trend):
-    """The points that are shown, with the kind of each. Without raw values nothing tells kept from late ones."""
+    """The points that are shown, with the kind of each. Without raw values kept and late ones look alike."""
     usual = "kept" if trend.raw else "point"
     return [("held" if point == trend.held else "late" if point[0] in trend.late else usual, point)
             for point in trend.points if scale.shows(point[0])]

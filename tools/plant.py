@@ -26,8 +26,8 @@ ADVICE = {
     4: "`name` is no tag, group or calculation of the base; `range` is a number out of its range, or FROM behind TO. Nothing was stored.",
     5: "That file is missing or cannot be read: look at its name and at who may read it. Nothing was stored.",
     6: "The program could not write its output. What it stored stays stored.",
-    7: "A call on that device failed: look at the disk, its room, who may write to historian.d, and `ulimit -n`. What is stored"
-       " stays stored, and the next feed goes on from there.",
+    7: "A call on that device failed, or its file was refused and left as it is (docs/TOUR.md, exit 7): look at the disk, its room, who"
+       " may write to historian.d, and `ulimit -n`. What is stored stays stored, and the next feed goes on from there.",
     8: "Copy that file away and put a good copy in its place (docs/RUNNING.md, Backup). Nothing is read or stored until then.",
     9: "That file belongs to a tag of another name or kind. Put the right file there, or give the tag the `step` it was made with.",
     11: "A group was saved over more records than its tags have now. If tags were put back from a backup, put the group's file back"
@@ -47,7 +47,7 @@ LIMITS = {
 
 
 class Refusal(Exception):
-    """Why a tool ends: its exit status, and what it tells the person."""
+    """Why a tool ends: its exit status, and what it says to the person."""
 
     def __init__(self, status, text):
         super().__init__(text)
@@ -113,7 +113,7 @@ class Plant:
             raise Refusal(UNREADABLE, "%s: a base has [[tag]] tables, each with a name" % self.path(name)) from None
 
     def fed_base(self):
-        """The name of the base with which the devices were opened last: the feeder's copy, or base.toml where nothing was fed yet.
+        """The name of the base with which the devices were opened last: the feeder's copy, or base.toml if nothing was fed yet.
 
         Who reads with this one never retunes a tag, and so changes no device, even when base.toml was edited meanwhile."""
         if os.path.exists(self.path("feed.d", "base.new.toml")):
@@ -207,7 +207,7 @@ def try_lock(handle):
 
 
 def raise_open_files():
-    """Lets the program open 2,048 files where this account may: it holds one for each tag and group, and a few more."""
+    """Lets the program open 2,048 files if this account may: it holds one for each tag and group, and a few more."""
     soft, hard = resource.getrlimit(resource.RLIMIT_NOFILE)
     if 0 <= soft < 2_048:
         resource.setrlimit(resource.RLIMIT_NOFILE, (2_048 if hard == resource.RLIM_INFINITY else min(2_048, hard), hard))

@@ -28,8 +28,8 @@ class BadField(Exception):
 def milliseconds(text, zone):
     """The milliseconds since 1970 of an ISO 8601 time, or of a whole number, which is milliseconds already.
 
-    What is finer than a millisecond is cut off. A time without an offset is taken in the zone, where one is given; a time that the
-    zone's clock shows twice or never, because it was changed, is refused: nothing tells which one is meant."""
+    What is finer than a millisecond is cut off. A time without an offset is taken in the zone, if one is given; a time that the
+    zone's clock shows twice or never, because it was changed, is refused: nobody can say which one is meant."""
     if text.isascii() and text.isdigit():
         return within_time(int(text[:20]), text)
     try:
@@ -46,7 +46,7 @@ def milliseconds(text, zone):
 
 
 def within_time(t, text):
-    """The same time, where the program can store it."""
+    """The same time, if the program can store it."""
     if not 0 <= t <= MOST_TIME:
         raise BadField("a time before 1970 or after 9999: %r" % text)
     return t

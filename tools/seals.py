@@ -1,8 +1,9 @@
 """seals.py: the sha256 of each device as the last turn left it, and copies of the whole plant.
 
 The program's files have no checksums. So a flipped bit, another program that wrote, or a file that was put back wrongly would go
-unseen, and a damaged first byte would make the program begin a device anew and overwrite it. The feeder compares these seals before
-it lets the program open anything. `sha256sum -c feed.d/seals` in the plant's folder compares them too."""
+unseen. The program refuses the device of a tag with values if its first byte was damaged. But it begins a device anew if its file is
+missing, is cut to one byte at most, or begins with a sector of zeros: what it held is gone then. The feeder compares these seals
+before it lets the program open anything. `sha256sum -c feed.d/seals` in the plant's folder compares them too."""
 import json
 import os
 import struct
@@ -89,8 +90,7 @@ def copy_of(plant, name, sha):
 
 
 def require_begun(plant, names):
-    """Ends with a refusal if one of these devices of tags no longer begins as one: the program would take it for new, and
-    overwrite it."""
+    """Ends with a refusal if one of these devices of tags no longer begins as one: the program would refuse it, or begin it anew."""
     for name in names:
         path = plant.path("historian.d", name + ".tag")
         start = b""
@@ -98,8 +98,8 @@ def require_begun(plant, names):
             with open(path, "rb") as device:
                 start = device.read(5)
         if start != b"\xa5PHT1":
-            raise Refusal(CHANGED, "historian.d/%s.tag is missing or does not begin as a device, and the program would overwrite it:"
-                          " nothing was done. Put the plant back from a backup (docs/RUNNING.md, Backup)." % name)
+            raise Refusal(CHANGED, "historian.d/%s.tag is missing or does not begin as a device: nothing was done, and no file was"
+                          " changed. Put the plant back from a backup (docs/RUNNING.md, Backup)." % name)
 
 
 def retuned(plant, name, definition, taken):

@@ -3,7 +3,7 @@
 
 The short form (two minutes at most) kills twenty times at random moments and at some of the program's and the feeder's calls; --long
 kills 300 times at random moments, and at each n-th write and sync of the program and each n-th sync, rename and removal of the feeder
-where strace is there. Each time the lines of `check` and the replies of `trend` have to be those of a plant that was never stopped,
+if strace is there. Each time the lines of `check` and the replies of `trend` have to be those of a plant that was never stopped,
 which the program makes by hand of the same rows. It prints a line for each case, and last `N passed, N failed`."""
 import argparse
 import concurrent.futures
@@ -49,7 +49,7 @@ def main():
     parser.add_argument("--kills", type=int, help="another number of kills at random moments")
     parser.add_argument("--longest", type=float, default=1.5, help="seconds until a kill at a random moment, at most")
     parser.add_argument("--seed", type=int, default=1, help="of the random moments")
-    parser.add_argument("--jobs", type=int, default=min(4, os.cpu_count() or 1), help="cases beside each other")
+    parser.add_argument("--jobs", type=int, default=min(4, os.cpu_count() or 1), help="cases at the same time")
     parser.add_argument("--only", nargs="+", default=[], metavar="NAME", help="the cases whose names begin so")
     settings = parser.parse_args()
     settings.kills = settings.kills or (300 if settings.long else 20)

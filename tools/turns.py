@@ -73,7 +73,7 @@ def unfinished(plant):
     except (ValueError, KeyError, FileNotFoundError):
         whole = False
     if not whole:
-        raise Refusal(CHANGED, "what stands in feed.d of an unfinished turn is damaged, so nothing tells which rows are stored, and"
+        raise Refusal(CHANGED, "what stands in feed.d of an unfinished turn is damaged, so nobody can say which rows are stored, and"
                       " nothing was done. Put the plant back from a backup (docs/RUNNING.md, Backup).")
     return turn
 

@@ -1,9 +1,9 @@
 #!/usr/bin/env python3
-"""run.py: times takes and commits of a cell beside plain code.
+"""run.py: times takes and commits of a cell, compared with plain code.
 
 Lays main.rattle as a crate into a copy of the crates that it stands on, builds it (`rt run`), and compiles plain.rs. A walk of
 a million values is taken without commits by both in turn, and by the plain one posting after each take as well; then one with
-a commit after each 64th on a file, beside the bare writes and syncs of such batches. It tells medians over the runs, the
+a commit after each 64th on a file, compared with the bare writes and syncs of such batches. It prints medians over the runs, the
 ratios, what was aimed at, and bytes a take. It runs by hand, never as a test; with a word it builds in that folder, and keeps
 it."""
 import os
@@ -86,7 +86,7 @@ def main():
         print("a take: ours %.1f ns  plain %.1f ns  %.2f times  aim 1.50 %s"
               % (ours / TAKES, other / TAKES, ours / other, "met" if ours <= 1.5 * other else "MISSED"))
         posts = median(scratch, plain, "posts", TAKES)
-        print("beside a plain program that posts too: %.1f ns, %.2f times" % (posts / TAKES, ours / posts))
+        print("compared with a plain program that posts too: %.1f ns, %.2f times" % (posts / TAKES, ours / posts))
         for name, each in [("ours", program), ("plain", plain)]:
             peak = min(run(scratch, [each, "takes", str(TAKES)])[1] for _ in range(RUNS))
             base = min(run(scratch, [each, "nothing", str(64)])[1] for _ in range(RUNS))

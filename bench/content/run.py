@@ -1,8 +1,8 @@
 #!/usr/bin/env python3
-"""run.py: times contents of pages, and windows over them, beside a plain sorted vector of a million points.
+"""run.py: times contents of pages, and windows over them, compared with a plain sorted vector of a million points.
 
 Lays main.rattle as a crate into a copy of the crates that it stands on, builds it (`rt run`), and runs each work in
-both ways, three times in turn. It tells medians, the ratio of the rates, what was aimed at, and bytes a point. It runs
+both ways, three times in turn. It prints medians, the ratio of the rates, what was aimed at, and bytes a point. It runs
 by hand, never as a test; with a word it builds in that folder, and keeps it."""
 import os
 import shutil

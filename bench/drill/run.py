@@ -1,7 +1,7 @@
 #!/usr/bin/env python3
 """run.py [PROGRAM]: times `drill 7 64 57500`, 3.68 million takes of 64 collectors at 64 tags in memory, on one processor and on four.
 
-PROGRAM is a built historian (crates/historian/out/historian, after `rt run` there). It tells medians over the runs, the rates, the
+PROGRAM is a built historian (crates/historian/out/historian, after `rt run` there). It prints medians over the runs, the rates, the
 memory at its peak, and how much faster four processors are than one; 2.5 times was aimed at. Every run has to print the same bytes,
 and 57,500 takes for each tag. More events are too many: the group may have 2,097,152 records of its tags, and 62,500 events a tag
 leave 2,269,568 (`fault: limit copies`). It runs by hand, never as a test, on a machine with four processors and nothing else at work."""

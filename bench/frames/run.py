@@ -1,8 +1,8 @@
 #!/usr/bin/env python3
-"""run.py: times single changes of a row's frames, beside going over the whole row after each.
+"""run.py: times single changes of a row's frames, compared with going over the whole row after each.
 
 Lays main.rattle as a crate into a copy of the crates that it stands on, builds it (`rt run`), and runs it over rows of
-100,000 and of 1,000,000 windows, with runs that are short, long, and as long as the row. It tells medians of the time a change,
+100,000 and of 1,000,000 windows, with runs that are short, long, and as long as the row. It prints medians of the time a change,
 what was aimed at (20 microseconds at 100,000 windows; at 1,000,000 at most 1.5 times that of 100,000), and how much faster than
 going over the row it is. It runs by hand, never as a test; with a word it builds in that folder, and keeps it; with a second
 word it takes that many windows in place of 100,000, and ten times as many in place of 1,000,000."""

@@ -2,10 +2,10 @@
 """run.py [PROGRAM [COMMAND..]]: refuses each growth of memory in turn, and says what the program did.
 
 PROGRAM is a built historian (crates/historian/out/historian, after `rt run` there). Each command runs over a small plant again and
-again: refuse.c refuses its first growth, then its second, until a run meets no refusal. A run that was refused one has to tell
+again: refuse.c refuses its first growth, then its second, until a run meets no refusal. A run that was refused one has to report
 `fault: memory` with its exit code, or to end as it does without a refusal, where the growth was not needed. After each refused
 session of `run` the tags are checked: their devices have to open. It runs by hand,
-never as a test; a program that answers otherwise is told, and the exit code is 1."""
+never as a test; a program that answers otherwise is named, and the exit code is 1."""
 import os
 import shutil
 import subprocess

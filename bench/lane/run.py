@@ -1,9 +1,9 @@
 #!/usr/bin/env python3
-"""run.py: times the durable queue on a file beside plain code.
+"""run.py: times the durable queue on a file, compared with plain code.
 
 Lays main.rattle and its proof as a crate into a copy of the crates that it stands on, builds it (`rt run`), and compiles
 plain.rs. Appends batches of 64 by both in turn, each with two writes and two syncs of the file's data; and scans a lane of
-65,536 full slots, beside a plain scan and beside reading the file into memory. It tells medians over the runs, the rates, and
+65,536 full slots, compared with a plain scan and with reading the file into memory. It prints medians over the runs, the rates, and
 what was aimed at; of scans also the processor's time, which another program's load does not change. It runs by hand, never as
 a test; with a word it builds in that folder, and keeps it."""
 import os
@@ -85,7 +85,7 @@ def appends(folder, program, plain):
             if count != 64 * BATCHES:
                 sys.exit("%s appended %d" % (each, count))
             told[each].append(took / 1e6 / BATCHES)
-    show("a batch of 64, beside plain", told[program], told[plain], 0.8)
+    show("a batch of 64, compared with plain", told[program], told[plain], 0.8)
 
 
 def scans(folder, program, plain):
@@ -100,10 +100,10 @@ def scans(folder, program, plain):
                 sys.exit("%s found %d" % (way, count))
             took[way].append(nanoseconds / 1e6)
             spent[way].append(processor * 1e3)
-    show("scan, beside reading the file", took["ours"], took["read"], 0.7)
-    show("scan, beside a plain scan", took["ours"], took["scan"], None)
-    show("the processor: beside reading", spent["ours"], spent["read"], 0.7)
-    show("the processor: beside a plain scan", spent["ours"], spent["scan"], None)
+    show("scan, compared with reading the file", took["ours"], took["read"], 0.7)
+    show("scan, compared with a plain scan", took["ours"], took["scan"], None)
+    show("the processor: compared with reading", spent["ours"], spent["read"], 0.7)
+    show("the processor: compared with a plain scan", spent["ours"], spent["scan"], None)
 
 
 def main():

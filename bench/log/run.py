@@ -1,9 +1,9 @@
 #!/usr/bin/env python3
-"""run.py [PROGRAM]: times `log` beside plain code with the same batches and calls, and beside one device a tag.
+"""run.py [PROGRAM]: times `log`, compared with plain code with the same batches and calls, and with one device a tag.
 
 PROGRAM is a built historian (crates/historian/out/historian, after `rt run` there). A million walk values of 64 tags in 16
 collectors go into one log; the same files through plain.c, a program in C that puts and commits as `log` does and makes no archive;
-and through `run`, where each tag has a device of its own. It tells medians over the runs, the rates, and what was aimed at. It
+and through `run`, where each tag has a device of its own. It prints medians over the runs, the rates, and what was aimed at. It
 runs by hand, never as a test, with all processors free and on the disk that devices are meant for."""
 import os
 import random
@@ -55,7 +55,7 @@ def timed(words, folder):
 
 
 def taken(text):
-    """How many values the tag lines tell as taken."""
+    """How many values the tag lines report as taken."""
     return sum(int(word[6:]) for line in text.splitlines() for word in line.split() if word.startswith("taken="))
 
 
@@ -74,7 +74,7 @@ def main():
             for verb in ("log", "run"):
                 took, text = timed([program, verb, "base.toml", "plan.toml"], folder)
                 if taken(text) != ROWS:
-                    sys.exit("%s: %d values are told as taken, and not %d" % (verb, taken(text), ROWS))
+                    sys.exit("%s: %d values are reported as taken, and not %d" % (verb, taken(text), ROWS))
                 times[verb].append(took)
         log, code, run = (statistics.median(times[name]) for name in ("log", "plain", "run"))
         print("%d rows, %d tags, %d collectors, %d blocks of the plain program" % (ROWS, TAGS, COLLECTORS, blocks))

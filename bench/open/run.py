@@ -1,9 +1,9 @@
 #!/usr/bin/env python3
 """run.py: times the opening of a device of a million records, and one average over its whole span.
 
-Runs `trend` of the program that `rt run` left in crates/historian (or of the program that is named) beside a plain program
-(`plain.c`, `cc` at its fastest) that keeps the same records and tests nothing, and beside `cat` of the device's file, seven times
-each in turn, with the file in the page cache. It tells medians, their ratios, what was aimed at, and the peak memory for each record.
+Runs `trend` of the program that `rt run` left in crates/historian (or of the program that is named), compared with a plain program
+(`plain.c`, `cc` at its fastest) that keeps the same records and tests nothing, and with `cat` of the device's file, seven times
+each in turn, with the file in the page cache. It prints medians, their ratios, what was aimed at, and the peak memory for each record.
 It runs by hand, never as a test."""
 import os
 import statistics

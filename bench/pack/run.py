@@ -1,8 +1,8 @@
 #!/usr/bin/env python3
-"""run.py: times `historian pack` beside two other packers, on 60 MB of lines.
+"""run.py: times `historian pack`, compared with two other packers, on 60 MB of lines.
 
 Builds the program (`rt run`), the plain packer (`rustc`, at its fastest) and the fast one (`cc`, at its fastest), makes series from a fixed
-seed, runs the three in turn, seven times each, compares what they print, and tells medians, ratios, and peak memory. It runs by hand, never
+seed, runs the three in turn, seven times each, compares what they print, and prints medians, ratios, and peak memory. It runs by hand, never
 as a test. The plain packer reads all of the input first, and its numerals with `str::parse`; the fast one tests nothing at all."""
 import os
 import random
@@ -79,7 +79,7 @@ def peak_memory(program, path):
 
 
 def compared(name, programs, path):
-    """Runs the programs in turn, and tells the medians of the first and its part of each other's."""
+    """Runs the programs in turn, and gives the medians of the first and its part of each other's."""
     seconds, printed = {p: [] for p in programs}, set()
     for _ in range(RUNS):
         for program in programs:
@@ -92,7 +92,7 @@ def compared(name, programs, path):
     peak = peak_memory(programs[0], path)
     medians = [statistics.median(seconds[p]) for p in programs]
     parts = "  ".join("%s %.3f s (%.2f)" % (os.path.basename(p), m, medians[0] / m) for p, m in zip(programs[1:], medians[1:]))
-    print("%-14s proved %.3f s  %s  peak %d KB, of it %d KB beside 24 bytes a record"
+    print("%-14s proved %.3f s  %s  peak %d KB, of it %d KB besides 24 bytes a record"
           % (name, medians[0], parts, peak, peak - records * 24 // 1024))
     return medians[0]
 

@@ -1,9 +1,9 @@
 #!/usr/bin/env python3
-"""run.py: times sheets that are told one record at a time, beside sheets made anew.
+"""run.py: times sheets that get one record at a time, compared with sheets made anew.
 
 Lays main.rattle as a crate, with the loop invariants that its proof needs, into a copy of the crates that it stands on,
 builds it (`rt run`), and runs it with 100,000 and with 1,000,000 kept records at first, and a thousand single records of
-each kind, three times in turn. It tells medians: a sheet made anew, one record, their ratio, and one record beside one of
+each kind, three times in turn. It prints medians: a sheet made anew, one record, their ratio, and one record compared with one of
 the smaller sheet. It runs by hand, never as a test; with a word it builds in that folder, and keeps it."""
 import os
 import shutil

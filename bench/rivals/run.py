@@ -1,5 +1,5 @@
 #!/usr/bin/env python3
-"""run.py [--values N] [--kind walk|flat|quarter] [--only NAME,..]: what a plant would pick instead, beside the historian.
+"""run.py [--values N] [--kind walk|flat|quarter] [--only NAME,..]: what a plant would pick instead, compared with the historian.
 
 One row for the program and for each rival, on the same values of one tag, each in a fresh folder and a process of its own. SQLite is
 always there; PostgreSQL (with PGBIN, the folder of its initdb), InfluxDB and VictoriaMetrics are where their packages are

@@ -1,8 +1,8 @@
 #!/usr/bin/env python3
-"""run.py: times the reading of collector rows beside a plain reader that nobody verified.
+"""run.py: times the reading of collector rows, compared with a plain reader that nobody verified.
 
 Lays main.rattle as a crate into a copy of the crates that it stands on, builds it (`rt run`), and runs both in turn, seven
-times each, on 60 MB of rows over 200 tags. It tells medians, their ratio, what was aimed at, and bytes a row beside the
+times each, on 60 MB of rows over 200 tags. It prints medians, their ratio, what was aimed at, and bytes a row besides the
 input. It runs by hand, never as a test; with a word it builds in that folder, and keeps it."""
 import os
 import random
@@ -79,7 +79,7 @@ def main():
         count, peak = proved[0][0][2], max(memory for _, memory in proved)
         print("reading and rows: proved %.3f s, plain %.3f s, %.2f times its time, aim 0.80" % (*whole, whole[0] / whole[1]))
         print("rows alone:       proved %.3f s, plain %.3f s, %.2f" % (*rows, rows[0] / rows[1]))
-        print("peak memory beside the input: %.1f bytes a row, aim 32" % ((peak * 1024 - os.path.getsize(path)) / count))
+        print("peak memory besides the input: %.1f bytes a row, aim 32" % ((peak * 1024 - os.path.getsize(path)) / count))
         print("load", os.getloadavg())
 
 

@@ -2,7 +2,7 @@
 """after.py [PROGRAM]: how long a session of `run` goes on once its workers have ended, where nothing lacks.
 
 Four million rows over 1,024 tags by 16 collectors, each by 64 rows of a tag in turn, on devices in memory (/dev/shm), so that the
-disk does not count. strace tells when the last worker's thread ends and when the report is written: between them lie the
+disk does not count. strace shows when the last worker's thread ends and when the report is written: between them lie the
 comparison of all openings and tapes with the files, what lacks (nothing), the end of every device, and the text. It runs by hand,
 never as a test, with all processors free."""
 import os
@@ -47,7 +47,7 @@ def after(program, folder):
     report = subprocess.run(words, cwd=folder, capture_output=True, check=True).stdout
     taken = sum(int(n) for n in re.findall(rb" taken=(\d+) ", report))
     if taken != ROWS:
-        sys.exit("%d values are told as taken, and not %d" % (taken, ROWS))
+        sys.exit("%d values are reported as taken, and not %d" % (taken, ROWS))
     ended = None
     with open(trace) as lines:
         for line in lines:

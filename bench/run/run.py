@@ -1,10 +1,10 @@
 #!/usr/bin/env python3
-"""run.py [PROGRAM]: times sessions of `run` beside bare devices and SQLite, on this disk.
+"""run.py [PROGRAM]: times sessions of `run`, compared with bare devices and SQLite, on this disk.
 
 PROGRAM is a built historian (crates/historian/out/historian, after `rt run` there, which is done where it is not). A walk of a
 million values goes into one tag, and into eight tags by eight collectors; the same into SQLite, in commits of 64 with a write-ahead
 log and full synchronous; and as bare batches of 64 as a lane has them, two writes and two syncs each. Then `trend` answers one and a
-thousand windows of the archive, and SQLite the same averages of the raw rows. It tells medians over the runs, ratios and what
+thousand windows of the archive, and SQLite the same averages of the raw rows. It prints medians over the runs, ratios and what
 was aimed at, bytes on the device and of memory a value. It runs by hand, never as a test, with all processors free."""
 import multiprocessing
 import os

@@ -2,7 +2,7 @@
 """show_faults.py PROGRAM [CASE..]: makes each fault, and compares exit status and line with what is kept in faults.txt.
 
 PROGRAM is the command that runs the program, `historian` on the path or a built one. Each case gets a fresh folder with a copy of the
-texts beside this script, and what its recipe below writes there; then its words are run. Standard library alone."""
+texts next to this script, and what its recipe below writes there; then its words are run. Standard library alone."""
 import os
 import shlex
 import shutil
@@ -50,7 +50,7 @@ TAG = '[[tag]]\nname = "T%d"\nexc_dev = 0\nexc_max = 0\ncomp_dev = 0\ncomp_min =
 GROUP = '[[group]]\nname = "g%d"\ntags = ["T0"]\nstart = 0\nperiod = 1\n'
 CALC = '[[group.calc]]\nname = "c%d"\nformula = "1"\n'
 
-# What each case writes beside the texts: a name, and its bytes, or None for a folder.
+# What each case writes besides the texts: a name, and its bytes, or None for a folder.
 RECIPES = {
     "tag_is_a_folder": lambda: {"historian.d/F1.tag": None},
     "group_is_a_folder": lambda: {"historian.d/u1.grp": None},

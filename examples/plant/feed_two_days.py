@@ -26,7 +26,7 @@ WORDS = {name: words for name, _, words in days.STEPS}
 
 
 def lay(folder):
-    """A plant's folder, and beside it the files of its loggers."""
+    """A plant's folder, and in it the files of its loggers."""
     os.makedirs(os.path.join(folder, "inbox"))
     os.makedirs(os.path.join(folder, "loggers"))
     for name in os.listdir(HERE):

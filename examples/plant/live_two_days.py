@@ -1,10 +1,10 @@
 #!/usr/bin/env python3
-"""live_two_days.py PROGRAM [--make]: two days of the plant through the program, in a fresh folder, beside what is kept.
+"""live_two_days.py PROGRAM [--make]: two days of the plant through the program, in a fresh folder, compared with what is kept.
 
 PROGRAM is the command that runs it, `historian` on the path or a built one. The collectors' files are made by make_days.py; then the
 steps below run one after the other over the same devices, and each output has to be the kept one byte for byte (how often the
-calculations were evaluated hangs on when the refresher comes, and is left out). With --make what was printed is kept. How far it is
-is told on standard error, if that is a terminal."""
+calculations were evaluated depends on when the refresher comes, and is left out). With --make what was printed is kept. How far it is
+is printed on standard error, if that is a terminal."""
 import os
 import re
 import shlex

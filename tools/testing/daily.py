@@ -1,5 +1,5 @@
 """daily.py: tests of what comes into a plant every day: times and decimals, refused rows, half-written files, wrong clocks, the same
-file twice, and what is told in words."""
+file twice, and what the tools print in words."""
 import csv
 import os
 import re
@@ -64,8 +64,8 @@ def refused_rows(folder, program, settings):
         assert why in reasons[number], (number, reasons)
     taken = dict(re.findall(r"tag (\S+) taken=(\d+)", trial.by_hand("check", "base.toml")))
     assert (taken["FIC1.PV"], taken["TIC3.PV"], taken["LIC4.PV"]) == ("2", "1", "1"), taken
-    mended = trial.read("refused/000001/y.csv").replace("I/O", "1.625")
-    trial.write("inbox/y-mended.csv", "".join(line + "\n" for line in mended.splitlines() if "fields" not in line))
+    corrected = trial.read("refused/000001/y.csv").replace("I/O", "1.625")
+    trial.write("inbox/y-corrected.csv", "".join(line + "\n" for line in corrected.splitlines() if "fields" not in line))
     assert "1 values of 1 tags stored, 0 refused" in trial.fed()
     assert "tag TIC3.PV taken=2 records=1 kept=1 late=0 held=1711670460000,1625" in trial.by_hand("check", "base.toml")
 

@@ -17,7 +17,7 @@ SPREAD = 3_000_000
 
 
 def found_by_seals(folder, program, settings):
-    """A flipped bit, wherever it is, a missing file and rows stored by hand are told by name before the program opens anything; the
+    """A flipped bit, wherever it is, a missing file and rows stored by hand are named before the program opens anything; the
     copy in backup/ is named, and with it all goes on."""
     trial, wanted = two_blocks(folder, program)
     copy = trial.fed("--backup").strip()
@@ -43,7 +43,7 @@ def found_by_seals(folder, program, settings):
 
 
 def run_by_hand(folder, program, settings):
-    """Rows that were stored by hand between two turns are told; --seal accepts them, and a group's file may be taken away."""
+    """Rows that were stored by hand between two turns are reported; --seal accepts them, and a group's file may be taken away."""
     trial, _ = two_blocks(folder, program)
     trial.store_by_hand([(1711800000000, "LIC4.PV", 5)])
     status, text = trial.feed()
@@ -90,7 +90,7 @@ def archive_is_full(folder, program, settings):
 
 
 def group_is_too_large(folder, program, settings):
-    """A group with too many windows never keeps rows from being stored: they are, and the limit is told in words."""
+    """A group with too many windows never keeps rows from being stored: they are, and the limit is explained."""
     trial = Trial(os.path.join(folder, "a"), program)
     trial.write("base.toml", base_text(group=GROUP.replace("900_000", "7")))
     trial.deliver(0)
@@ -103,7 +103,7 @@ def group_is_too_large(folder, program, settings):
     trial.write("base.toml", base_text())
     trial.deliver(1)
     trial.fed()
-    check_same(trial.answers(), expected(os.path.join(folder, "hand"), program, trial.rows), "after the group was mended")
+    check_same(trial.answers(), expected(os.path.join(folder, "hand"), program, trial.rows), "after the group was corrected")
 
 
 def questions(folder, program, settings):

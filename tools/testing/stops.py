@@ -11,7 +11,7 @@ from trial import Trial, base_text, check_put_away, check_same, children, expect
 
 
 def second_feeder(folder, program, settings):
-    """A second feeder, and one beside a script that holds the lock, end with a clear line and do nothing."""
+    """A second feeder, and one while a script holds the lock, end with a clear line and do nothing."""
     trial, wanted = two_blocks(folder, program)
     with open(trial.path("historian.d", "feed.lock"), "a") as lock:
         fcntl.flock(lock, fcntl.LOCK_EX)
@@ -22,11 +22,11 @@ def second_feeder(folder, program, settings):
     assert status == 20 and "feed.py, process %d" % first.pid in text, text
     trial.write("go", "")
     assert first.wait() == 0
-    check_same(trial.answers(), wanted, "beside a second feeder")
+    check_same(trial.answers(), wanted, "with a second feeder")
 
 
 def program_outlives_its_feeder(folder, program, settings):
-    """A feeder that is killed leaves a program that goes on: it keeps the lock, so that no feed begins beside it."""
+    """A feeder that is killed leaves a program that goes on: it keeps the lock, so that no feed begins meanwhile."""
     trial, wanted = two_blocks(folder, program)
     first = waiting_feed(trial)
     kill(first.pid)
@@ -55,7 +55,8 @@ def wait_for(holds):
 
 
 def damaged_while_unfinished(folder, program, settings):
-    """A first byte that is damaged while a turn is unfinished: neither the feeder nor a question lets the program overwrite the device."""
+    """A damaged first byte, a first sector of zeros, an empty file and a missing one while a turn is unfinished: the feeder and a
+    question refuse before the program opens anything, and the file stays as it is."""
     trial, wanted = two_blocks(folder, program)
     assert trial.feed(how="half")[0] == 137
     good = bytes_of(trial.path("historian.d/FIC1.PV.tag"))
@@ -173,7 +174,7 @@ def edited_base(folder, program, settings):
 
 
 def edited_and_run_by_hand(folder, program, settings):
-    """If the program is run by hand with the edited base before the turn is finished, nothing tells which rows are stored: the feeder
+    """If the program is run by hand with the edited base before the turn is finished, nobody can say which rows are stored: the feeder
     says so, names the tag and touches nothing."""
     trial, _ = two_blocks(folder, program)
     assert trial.feed(how="half")[0] == 137

@@ -1,4 +1,4 @@
-"""trial.py: a plant that is made up for the tests: eight tags over three days, in files as loggers write them; and ways to stop a feed.
+"""trial.py: a plant that is generated for the tests: eight tags over three days, in files as loggers write them; and ways to stop a feed.
 
 What must come out is found without the tools: the same rows as whole numbers in one collector's file, through the program alone."""
 import datetime
