@@ -1,8 +1,8 @@
 """seals.py: the sha256 of each device as the last turn left it, and copies of the whole plant.
 
 The program's files have no checksums. So a flipped bit, another program that wrote, or a file that was put back wrongly would go
-unseen. The program refuses the device of a tag with values if its first byte was damaged. But it begins a device anew if its file is
-missing, is cut to one byte at most, or begins with a sector of zeros: what it held is gone then. The feeder compares these seals
+unseen. The program refuses a device in use whose first byte was damaged. But it begins a device anew if its file is missing or is
+cut to one byte at most, and most devices that begin with a sector of zeros: what it held is gone then. The feeder compares these seals
 before it lets the program open anything. `sha256sum -c feed.d/seals` in the plant's folder compares them too."""
 import json
 import os

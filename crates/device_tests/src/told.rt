@@ -15,7 +15,8 @@ use told_store::{DirStore, Wanted};
 //
 // The first byte alone; then, behind a first byte 00, a tag's layout of 64 lane slots, with an open gate of a summary, between
 // the gates, of the lane's ends and behind them; a log's, of a text of two bytes, with an open gate before the first block,
-// there and behind it; and a group's, which is begun anew with gates open.
+// there and behind it; a group's, which is begun anew with gates open; and zeros, as many as the making of a tag's device writes,
+// and one more.
 const FILES: &str = "\
 0 => handed out
 1 0=164 => handed out
@@ -39,7 +40,9 @@ const FILES: &str = "\
 20 1=80 2=72 3=67 4=49 8=2 11=165 => refused
 20 1=80 2=72 3=67 4=49 8=2 12=165 => handed out
 8 1=80 2=72 3=67 4=49 => handed out
-20 1=80 2=72 3=71 4=49 8=2 11=165 => handed out";
+20 1=80 2=72 3=71 4=49 8=2 11=165 => handed out
+66640 => handed out
+66641 => refused";
 
 // The calls after which the making of a tag's device stops, and whether the store hands out each file that a crash leaves then:
 // with nothing of what was done since the last sync, all of it, or `-` or an open gate in place of each byte. Of the first byte

@@ -1,7 +1,7 @@
 // The files of the folder of devices. No clause says what a call of the system does, so these lines are to be read.
-use std::fs::{self, File, OpenOptions, Permissions};
+use std::fs::{self, File, Metadata, OpenOptions};
 use std::io::{self, ErrorKind, Write};
-use std::os::unix::fs::{FileExt, MetadataExt};
+use std::os::unix::fs::{FileExt, MetadataExt, fchown};
 use std::rt::Files;
 
 /// The folder of the devices, in the working folder.
@@ -109,10 +109,10 @@ impl<R: Files<File = File> + AllocGlobal> Folder<R> {
         }
     }
 
-    // Writes a file anew: a new one, with the rights of the old one, takes its name, and its mark goes.
+    // Writes a file anew: a new one, with the rights and the owner of the old one, takes its name, and its mark goes.
     fn renew(&self, name: &str, bytes: &[u8]) -> io::Result<()> {
         let old = self.open_plain(name, OpenOptions::new().read(true).write(true))?;
-        if let Err(error) = self.write_new(name, bytes, again(|| old.metadata())?.permissions()) {
+        if let Err(error) = self.write_new(name, bytes, &again(|| old.metadata())?) {
             let _ = self.remove(name, NEW);
             return Err(error);
         }
@@ -123,11 +123,12 @@ impl<R: Files<File = File> + AllocGlobal> Folder<R> {
         self.sync_names()
     }
 
-    // Writes the new file, and brings it to the disk.
-    fn write_new(&self, name: &str, bytes: &[u8], rights: Permissions) -> io::Result<()> {
+    // Writes the new file, and brings it to the disk. Where this user may not give it to the old one's owner, it keeps its own.
+    fn write_new(&self, name: &str, bytes: &[u8], old: &Metadata) -> io::Result<()> {
         self.remove(name, NEW)?;
         let mut file = File::create_new(&self.rt, self.path(name, NEW)?.as_str())?;
-        file.set_permissions(rights)?;
+        let _ = fchown(&file, Some(old.uid()), Some(old.gid()));
+        file.set_permissions(old.permissions())?;
         file.write_all(bytes)?;
         file.sync_all()
     }
