@@ -27,7 +27,7 @@ impl FailsOnce {
 impl Read for FailsOnce {
     fn read(&mut self, buf: &mut [u8]) -> io::Result<usize> {
         if self.fails() {
-            return Err(io::Error::from(io::ErrorKind::Interrupted));
+            return Err(io::Error::from(io::ErrorKind::WouldBlock));
         }
         if buf.is_empty() || self.at >= self.bytes.len() {
             return Ok(0);
@@ -41,7 +41,7 @@ impl Read for FailsOnce {
 impl Write for FailsOnce {
     fn write(&mut self, buf: &[u8]) -> io::Result<usize> {
         if self.fails() {
-            return Err(io::Error::from(io::ErrorKind::Interrupted));
+            return Err(io::Error::from(io::ErrorKind::WouldBlock));
         }
         let Some(first) = buf.first() else {
             return Ok(0);
