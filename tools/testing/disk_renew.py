@@ -74,7 +74,8 @@ def written_anew(folder, program, settings):
 
 
 def marked(folder, program, settings):
-    """Where the writing anew fails too a mark is left; the next command that may write does it, and takes the mark away."""
+    """Where the writing anew fails too a mark is left after a failed sync, and none after a failed write; the next command that may write
+    does it, and takes the mark away."""
     if not shutil.which("strace"):
         return "no strace here: not tried"
     draw = random.Random(settings.seed)
@@ -83,9 +84,13 @@ def marked(folder, program, settings):
         kind, number = draw.choice(list(RENEWALS.items()))
         before = node(plant, device)
         fail(plant, verb, device, [error, "%s:error=ENOSPC:when=%d" % (kind, number)])
-        assert device + ".fault" in left_over(plant) and node(plant, device) == before, (kind, left_over(plant))
+        is_marked = error.startswith("fdatasync")
+        assert (device + ".fault" in left_over(plant)) == is_marked and node(plant, device) == before, (error, kind, left_over(plant))
         plant.told("check" if verb == "run" else "rows")
-        assert not left_over(plant) and node(plant, device) != before, "%s: %s" % (kind, left_over(plant))
+        if kind == "rename" and not is_marked:
+            # A new file that could not be renamed stays until the next one is written.
+            os.remove(plant.device(device + ".new"))
+        assert not left_over(plant) and (node(plant, device) != before) == is_marked, "%s: %s" % (kind, left_over(plant))
     return "%d devices" % each_failure(folder, program, settings, look)
 
 
