@@ -13,6 +13,7 @@ struct FailsOnce {
     bytes: Vec<u8>,
     at: usize,
     calls_until: u64,
+    kind: io::ErrorKind,
 }
 
 impl FailsOnce {
@@ -27,7 +28,7 @@ impl FailsOnce {
 impl Read for FailsOnce {
     fn read(&mut self, buf: &mut [u8]) -> io::Result<usize> {
         if self.fails() {
-            return Err(io::Error::from(io::ErrorKind::WouldBlock));
+            return Err(io::Error::from(self.kind));
         }
         if buf.is_empty() || self.at >= self.bytes.len() {
             return Ok(0);
@@ -41,7 +42,7 @@ impl Read for FailsOnce {
 impl Write for FailsOnce {
     fn write(&mut self, buf: &[u8]) -> io::Result<usize> {
         if self.fails() {
-            return Err(io::Error::from(io::ErrorKind::WouldBlock));
+            return Err(io::Error::from(self.kind));
         }
         let Some(first) = buf.first() else {
             return Ok(0);
@@ -194,6 +195,7 @@ fn std_readers_are_sources(rt: HostRuntime) -> Result<(), Fail> {
             bytes: b"hello".to_vec(alloc)?,
             at: 0,
             calls_until: call,
+            kind: io::ErrorKind::WouldBlock,
         });
         let got = read_all(alloc, &mut once, 5).map(|all| all.len());
         assert_eq!(rt; got, Err(ReadNo::ReadFault), "at call {call}");
@@ -222,6 +224,7 @@ fn std_writers_are_sinks(rt: HostRuntime) -> Result<(), Fail> {
             bytes: Vec::new(alloc),
             at: 0,
             calls_until: call,
+            kind: io::ErrorKind::WouldBlock,
         });
         assert_eq!(rt;
             write_all(&mut once, b"hello"),
@@ -232,6 +235,37 @@ fn std_writers_are_sinks(rt: HostRuntime) -> Result<(), Fail> {
         assert_eq!(rt; bytes.as_slice(), want, "at call {call}");
     }
     Ok(())
+}
+
+#[test]
+fn a_read_that_is_interrupted_is_made_again(rt: HostRuntime) -> Result<(), Fail> {
+    let alloc = rt.alloc();
+    for call in [0u64, 3, 5] {
+        let mut once = StdSource::new(FailsOnce {
+            bytes: b"hello".to_vec(alloc)?,
+            at: 0,
+            calls_until: call,
+            kind: io::ErrorKind::Interrupted,
+        });
+        let got = read_all(alloc, &mut once, 5).map(|all| all.len());
+        assert_eq!(rt; got, Ok(5), "at call {call}");
+    }
+    Ok(())
+}
+
+#[test]
+fn a_write_that_is_interrupted_is_made_again(rt: HostRuntime) {
+    for call in [0u64, 3, 4] {
+        let mut once = StdSink::new(FailsOnce {
+            bytes: Vec::new(rt.alloc()),
+            at: 0,
+            calls_until: call,
+            kind: io::ErrorKind::Interrupted,
+        });
+        assert_eq!(rt; write_all(&mut once, b"hello"), Ok(()), "at call {call}");
+        let FailsOnce { bytes, .. } = once.into_inner();
+        assert_eq!(rt; bytes.as_slice(), b"hello".as_slice(), "at call {call}");
+    }
 }
 
 #[test]
