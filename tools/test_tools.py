@@ -47,7 +47,6 @@ def main():
     parser.add_argument("--program", default="historian", help="the built historian (default: on the path)")
     parser.add_argument("--long", action="store_true", help="300 kills, and one at each call")
     parser.add_argument("--kills", type=int, help="another number of kills at random moments")
-    parser.add_argument("--longest", type=float, default=1.5, help="seconds until a kill at a random moment, at most")
     parser.add_argument("--seed", type=int, default=1, help="of the random moments")
     parser.add_argument("--jobs", type=int, default=min(4, os.cpu_count() or 1), help="cases at the same time")
     parser.add_argument("--only", nargs="+", default=[], metavar="NAME", help="the cases whose names begin so")

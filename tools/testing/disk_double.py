@@ -4,8 +4,10 @@ import os
 import random
 import re
 import shutil
+import signal
 import time
 
+from disk_kills import duration
 from disk_plant import COMMANDS, ROWS, TAGS, WHOLE, Plant, check_same
 
 REFUSED = {"run": "fault: device tag 1\n", "retune": "fault: device tag 1\n", "trend": "fault: device tag 1\n",
@@ -13,13 +15,10 @@ REFUSED = {"run": "fault: device tag 1\n", "retune": "fault: device tag 1\n", "t
 CHANGES = re.compile(r"^\d+ +(pwrite64|ftruncate|mkdir|unlink|rename|fsync|fdatasync)\(|O_CREAT")
 
 
-def has_folder(child):
-    """Whether a process has the folder open, which it then locks at once."""
-    try:
-        names = [os.readlink("/proc/%d/fd/%s" % (child.pid, name)) for name in os.listdir("/proc/%d/fd" % child.pid)]
-    except OSError:
-        return False
-    return any(name.endswith("/historian.d") for name in names)
+def has_lock(child):
+    """Whether a process has locked a file or a folder."""
+    with open("/proc/locks") as locks:
+        return any(line.split()[4] == str(child.pid) for line in locks if "->" not in line)
 
 
 def second(plant, verb):
@@ -32,30 +31,33 @@ def second(plant, verb):
 
 
 def double(plant, verb, other, delay):
-    """Starts a session, and then another process: whether they met."""
+    """Starts a session, stops it a while after it locked the folder, starts another process, and lets the first one go on: whether
+    they met."""
     first = plant.start(*COMMANDS[verb])
-    while not has_folder(first) and first.poll() is None:
-        time.sleep(0.0005)
+    while not has_lock(first) and first.poll() is None:
+        time.sleep(0.0002)
     time.sleep(delay)
+    first.send_signal(signal.SIGSTOP)
+    have_met = has_lock(first)
     status, text, changes = second(plant, other)
-    have_met = first.poll() is None
+    first.send_signal(signal.SIGCONT)
     output = first.communicate()[0]
     assert first.returncode == 0, "the first one ends with %d: %s" % (first.returncode, output)
-    if status == 7:
+    assert status == (7 if have_met else 0), "the second one ends with %d: %s" % (status, text)
+    if have_met:
         assert text == REFUSED[other] and not changes, "the second one: %s, %s" % (text, changes[:3])
-    else:
-        assert status == 0 and not have_met, "the second one ends with %d beside the first: %s" % (status, text)
-    return status == 7, output
+    return have_met, output
 
 
 def doubles(folder, program, settings, verb, other):
     """Double sessions until there were enough that met."""
     draw, count, tried = random.Random(settings.seed), 0, 0
     lines = Plant(os.path.join(folder, "lines"), program).lines(WHOLE)
+    longest = duration(os.path.join(folder, "first"), program, verb) / 2
     while count < settings.count // 4:
         plant, tried = Plant(os.path.join(folder, str(tried)), program), tried + 1
         plant.make_lanes(draw)
-        is_refused, output = double(plant, verb, other, draw.uniform(0, 0.1))
+        is_refused, output = double(plant, verb, other, draw.uniform(0, longest))
         if is_refused:
             count += 1
             check_same(output[:len(lines)], lines, "the first one's lines")

@@ -3,6 +3,7 @@ of its own calls that change files. After each the archive has to be that of a p
 import os
 import random
 import shutil
+import time
 
 from trial import (LINES, STEPS, Trial, base_text, block_files, check_put_away, check_same, expected, feed_and_kill, two_blocks,
                    wait_for_orphans)
@@ -26,14 +27,22 @@ def undisturbed(folder, program, settings):
     check_put_away(trial, 2 * BLOCKS)
 
 
+def turn_seconds(folder, program):
+    """How long a feed of three days takes, a turn of it in the mean."""
+    trial, begin = three_days(folder, program), time.monotonic()
+    trial.fed()
+    return (time.monotonic() - begin) / len(os.listdir(trial.path("done")))
+
+
 def killed_at_random(folder, program, settings):
     """Feeder, program or both are killed at random moments, until the kills are used up; then the feed ends by itself."""
     draw, kills, plants = random.Random(settings.seed), 0, 0
+    longest = turn_seconds(os.path.join(folder, "timed"), program)
     while kills < settings.kills:
         trial, plants = three_days(os.path.join(folder, "fed%d" % plants), program), plants + 1
         wanted = expected(os.path.join(folder, "hand"), program, trial.rows)
         while kills < settings.kills and os.listdir(trial.path("inbox")):
-            kills += feed_and_kill(trial, draw.uniform(0.05, settings.longest), draw.choice(("feeder", "program", "both")))
+            kills += feed_and_kill(trial, draw.uniform(0.05, longest), draw.choice(("feeder", "program", "both")))
         wait_for_orphans(trial)
         trial.fed()
         check_same(trial.answers(), wanted, "after %d kills (seed %d)" % (kills, settings.seed))
