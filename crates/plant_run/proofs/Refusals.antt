@@ -1,4 +1,4 @@
--- Refusals of the commands are told as they are.
+-- Refusals of the commands are reported as they are.
 use Rattle.std.proofs.Common.{inl, inr, ℕ, ◌^◌, ◌<◌, List, ◌≢◌}
 use Rattle.plant_files.specs.Asked.{ToldFiles}
 use Rattle.store_commands.specs.Commands.{IsCheckRefusal, IsTrendRefusal, OfBase, OfGroup, OfPlan, OfReader, OfTag, OfMemory}
@@ -84,7 +84,7 @@ module _ (name plan_name : List ℕ) (told : ToldFiles) (old new : DeviceTraces)
   trend_no_fault (OfGroup base plan lists cores opened planned asked refused) = rows_no_output base.groups.items _ _ _ _ refused
   trend_no_fault (OfMemory same) = cc
 
-  -- a device fault is told where one was counted
+  -- a device fault is reported if one was counted
   pub check_rose : before < 2 ^ 64 → (unit : Unit) → IsCheckRefusal name told old new before now (DeviceFault unit) → Rose before now
   check_rose few unit (inl base) = absurd base.0
   check_rose few (Tag i) (inr (inl tags)) = tags.2.cause few

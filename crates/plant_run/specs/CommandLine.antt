@@ -8,7 +8,7 @@ use Rattle.plant_more.specs.Words.{AskedShifts, log_words, shift_words}
 use Rattle.plant_run.specs.declared.command_line.Form.{Form as FormOfWords}
 use Rattle.plant_run.specs.declared.command_line.Form.TheVariants as form
 
--- what f makes of the value, where there is one
+-- f of the value, if there is one
 infixl 10 ◌>>=◌
 abbrev pub ◌>>=◌ : {A B : Type 0} → Option A → (A → Option B) → Option B
 o >>= f = option_and_then f o
@@ -23,9 +23,16 @@ tuning_of exc_dev exc_max comp_dev comp_min comp_max = do
   comp_max' ← number_upto last_time comp_max
   Some (record { exc_dev = exc_dev'; exc_max = exc_max'; comp_dev = comp_dev'; comp_min = comp_min'; comp_max = comp_max' })
 
--- What a command line asks for: to pack with a tuning; to check the tags of a base; to answer the readers of a plan over it; to run a
--- plan; to log a plan, or no plan that is named; to tell shifts, or none that there are; to tell the frames of a group's calculation
--- that have at least so many windows; to run a drill by its number, of so many tags and so many events of each; or nothing that there is
+-- What a command line asks for:
+-- - `Pack`: to pack the input with this tuning.
+-- - `Check`: to check the tags of a base.
+-- - `Trend`: to answer the readers of a plan over a base.
+-- - `Run`: to run a plan over a base.
+-- - `Log`: to log a plan over a base. None if the words name no two files.
+-- - `Shifts`: to print the figures of shifts. None if the words do not say of which.
+-- - `Frames`: to print the frames of a group's calculation that have at least so many windows.
+-- - `Drill`: to run the drill with this number, with so many tags and so many events for each.
+-- - `Unknown`: no known command.
 pub data Form : Type 0 where
   Pack : Tuning → Form
   Check : List ℕ → Form
@@ -37,7 +44,7 @@ pub data Form : Type 0 where
   Drill : ℕ → ℕ → ℕ → Form
   Unknown : Form
 
--- what the code's form asks for
+-- the form that the code's form stands for
 abbrev pub asked : FormOfWords → Form
 asked (form.Pack tuning) = Pack tuning
 asked (form.Check base) = Check base.now
@@ -49,21 +56,21 @@ asked (form.Frames base group calc least) = Frames base.now group.now calc.now l
 asked (form.Drill number tags events) = Drill number tags events
 asked form.Unknown = Unknown
 
--- to pack with a tuning, where there is one
+-- `Pack` if there is a tuning
 abbrev pub packing : Option Tuning → Form
 packing None = Unknown
 packing (Some tuning) = Pack tuning
 
--- the most windows that frames may be asked to have at least
+-- the highest LEAST of `frames`
 abbrev pub most_least : ℕ
 most_least = 1_000_000
 
--- to tell the frames of at least so many windows, where they are a number
+-- `Frames` if LEAST is a number
 abbrev pub framing : List ℕ → List ℕ → List ℕ → Option ℕ → Form
 framing base group calc None = Unknown
 framing base group calc (Some least) = Frames base group calc least
 
--- the highest number of a drill, and how many tags and, of all its tags together, how many events it has at most
+-- the highest number of a drill; the most tags that it has; and the most events, all its tags together
 abbrev pub most_number : ℕ
 most_number = 2147483647
 
@@ -73,13 +80,13 @@ most_tags = 64
 abbrev pub most_events : ℕ
 most_events = 4000000
 
--- to run the drill of these numbers, where they are numbers, and its events not too many
+-- `Drill` if all three are numbers and the events of all tags together are not too many
 abbrev pub drilling : Option ℕ → Option ℕ → Option ℕ → Form
 drilling (Some number) (Some tags) (Some events) = if nat_le (tags * events) most_events then Drill number tags events else Unknown
 drilling number tags events = Unknown
 
--- what any words ask for but those of `log` and `shifts`: `check BASE`, `trend BASE PLAN`, `run BASE PLAN`, `drill NUMBER TAGS EVENTS`,
--- `frames BASE GROUP CALC LEAST`, or `pack EXCDEV EXCMAX COMPDEV COMPMIN COMPMAX`
+-- what words ask for that do not begin with `log` or `shifts`: `check BASE`, `trend BASE PLAN`, `run BASE PLAN`,
+-- `drill NUMBER TAGS EVENTS`, `frames BASE GROUP CALC LEAST`, or `pack EXCDEV EXCMAX COMPDEV COMPMIN COMPMAX`
 abbrev pub other_form : List (List ℕ) → Form
 other_form (verb ∷ base ∷ []) = if bytes_eq verb (codes "check") then Check base else Unknown
 other_form (verb ∷ base ∷ plan ∷ []) =
@@ -94,7 +101,7 @@ other_form (verb ∷ exc_dev ∷ exc_max ∷ comp_dev ∷ comp_min ∷ comp_max 
     if bytes_eq verb (codes "pack") then packing (tuning_of exc_dev exc_max comp_dev comp_min comp_max) else Unknown
 other_form words = Unknown
 
--- what a command line asks for: `log` and `shifts` name by their verb alone what is read of the words behind it
+-- what a command line asks for; the verbs `log` and `shifts` alone decide how the words after them are read
 abbrev pub form_of : List (List ℕ) → Form
 form_of [] = Unknown
 form_of (verb ∷ words) =

@@ -1,4 +1,5 @@
--- How a command that holds no session ends: what it has read and printed, and what became of the devices, in each status.
+-- How a command that holds no session ends: in each status, what it has read and printed, and what became of the
+-- devices.
 use Rattle.std.specs.Prelude.{◌≡◌, ℕ, List, Option, None}
 use Rattle.trend_num.specs.declared.point.Point.{Point}
 use Rattle.trend_num.specs.declared.tuning.Tuning.{Tuning}
@@ -21,7 +22,8 @@ use Rattle.store_commands.specs.FrameCommands.{AreFramesKept, IsFrames, IsFrames
 use Rattle.plant_more.specs.Endings.{AsksForNone, EndsOfShifts, EndsOver, IsUnread, KeepsForShifts, Scene, scene}
 use Rattle.plant_run.specs.CommandLine.{Form, Pack, Check, Trend, Log, Shifts, Frames, Unknown}
 
--- all of the input was read, and this is the text of what its history keeps. That is near all values of the history.
+-- All of the input was read, and this is the text of what its history keeps. What is kept is near all values of the
+-- history (`IsBounded`).
 pub record IsPacked (tuning : Tuning) (before now : Outside) (text : List ℕ) : Type 0 where
   pub points : List Point
   pub read : IsInputRead before now points
@@ -29,7 +31,7 @@ pub record IsPacked (tuning : Tuning) (before now : Outside) (text : List ℕ) :
   pub same : text ≡ archive_text (records (origin_of tuning) (history_of points)) (held (origin_of tuning) (history_of points))
   pub bounded : IsBounded (origin_of tuning) (history_of points)
 
--- why `pack` has no result: memory is wanted, and no read has failed; or it refuses the input so
+-- why `pack` has no result: there was no memory, and no read has failed; or it refuses the input with this status
 abbrev pub IsNotPacked : Tuning → Outside → Outside → Status → Type 0
 IsNotPacked tuning before now WantOfMemory = CountsNoFault before now
 IsNotPacked tuning before now status = IsPackRefusal tuning before now status
@@ -45,14 +47,14 @@ world input output files file_faults failed_name devices device_faults = record 
   scene = scene output files file_faults failed_name devices device_faults;
 }
 
--- words of this form ask for nothing that there is
+-- words of this form ask for no known command
 abbrev pub MeansNothing : Form → Type 0
 MeansNothing (Log named) = named ≡ None
 MeansNothing (Shifts asked) = AsksForNone asked
 MeansNothing Unknown = Unit {0}
 MeansNothing other = ⊥
 
--- a command of this form that leaves the input alone and holds no session ends in this status
+-- How a command of this form ends in this status. It is a command that leaves the input alone and holds no session.
 abbrev pub EndsAround : Form → Scene → Scene → Status → Type 0
 EndsAround (Check base) before now status =
     PrintsSo (IsChecked base before.files before.devices)
@@ -76,7 +78,8 @@ EndsAround (Frames base group calc least) before now status =
 EndsAround Unknown before now status = (status ≡ BadWords) × IsUnread before now status
 EndsAround other before now status = ⊥
 
--- a command of this form that holds no session ends in this status; `pack` alone reads the input, and it reads nothing else
+-- How a command of this form that holds no session ends in this status. Only `pack` reads the input, and it reads
+-- nothing else.
 abbrev pub EndsFor : Form → World → World → Status → Type 0
 EndsFor (Pack tuning) before now status =
     PrintsSo (IsPacked tuning before.input now.input) (IsNotPacked tuning before.input now.input)
@@ -84,7 +87,7 @@ EndsFor (Pack tuning) before now status =
     × (now.scene ≡ record before.scene { output = now.scene.output })
 EndsFor form before now status = EndsAround form before.scene now.scene status × (now.input ≡ before.input)
 
--- the devices after it: a command over stored archives keeps them, and any other leaves them alone
+-- the devices after the command: a command over stored archives keeps what they stand for, any other leaves them alone
 abbrev pub KeepsFor : Form → ToldFiles → DeviceTraces → DeviceTraces → Type 0
 KeepsFor (Check base) files old new = AreKept base files old new
 KeepsFor (Trend base plan) files old new = AreAllKept base files old new

@@ -1,5 +1,5 @@
--- What each command comes to: what is printed, and its session, if it holds one; and what the arguments of a process come to, with the
--- exit code.
+-- What each command does: what it prints, and its session, if it holds one. And what the arguments of a process lead
+-- to, with the exit code.
 use Rattle.std.specs.Prelude.{◌≡◌, ◌≢◌, ◌⊎◌, ℕ, List, [], None, Some, Option, Result, String, IfErr, IfOk, IfSome, OnOk, string_bytes}
 use Rattle.std.specs.Option.{IsSome}
 use Rattle.std.specs.declared.alloc.Global.{Global}
@@ -21,9 +21,10 @@ use Rattle.plant_run.specs.CommandLine.{Form, Run, Log, Drill, form_of}
 use Rattle.plant_run.specs.declared.program.Outcome.{Outcome}
 use Rattle.plant_run.specs.Run.{EndsFor, KeepsFor, World}
 
--- The run of the plan in a file over the base in another: its report is printed, or the line that tells why there is none; the input
--- is left alone. Where the devices were opened there is a session, whatever came of it, and what is promised of one; else there is a
--- cause, which is never the words. So many reads of files have failed as are told, and it is told whose.
+-- The run of the plan in one file over the base in another. It prints its report, or the line of its refusal. It leaves
+-- the input alone. If the devices were opened there is a session, however it ended, and the session's promise holds.
+-- Otherwise there is a cause, which is never the words. The count of failed file reads agrees with the answer, and so
+-- does the name of the file that failed.
 pub record IsRunSo {D : Type 0} (trace : D → Option Trace) (ticks faults : D → ℕ) (base plan : List ℕ) (before now : World)
     (stops_before stops_now : ℕ) (o : Outcome) : Type 0 where
   pub answer : Result (String Global) Status
@@ -42,21 +43,21 @@ pub record IsRunSo {D : Type 0} (trace : D → Option Trace) (ticks faults : D �
   pub understood : o.status ≢ BadWords
   pub input : now.input ≡ before.input
 
--- a session that wrote this log, and no archive of a tag or a group
+-- a session that wrote this log, and that has no tag, group or worker
 pub record IsOfLog (s : Session) (log : LogHistory) : Type 0 where
   pub log_is : s.log ≡ Some log
   pub no_tags : s.tags.items ≡ []
   pub no_groups : s.groups.items ≡ []
   pub no_notes : s.workers.items ≡ []
 
--- the log is handed on in a session, where there is one
+-- there is a session exactly if there is a log, and then the session has that log
 abbrev pub IsHandedOn : Option LogHistory → Option Session → Type 0
 IsHandedOn None None = Unit {0}
 IsHandedOn (Some log) (Some s) = IsOfLog s log
 IsHandedOn log session = ⊥
 
--- The logging of a plan, by the files of a base and a plan over it where these are named: what came of it is handed on, its status and
--- its log; the input is left alone.
+-- The logging of a plan over a base, from their files, if the words name them. The outcome has the status of `log` and
+-- its log. The input is left alone.
 pub record IsLogHandedOn {D : Type 0} (trace : D → Option Trace) (ticks faults : D → ℕ) (named : Option (List ℕ × List ℕ))
     (before now : World) (stops_before stops_now : ℕ) (o : Outcome) : Type 0 where
   pub came : LogOutcome
@@ -65,8 +66,9 @@ pub record IsLogHandedOn {D : Type 0} (trace : D → Option Trace) (ticks faults
   pub session : IsHandedOn came.log o.session
   pub input : now.input ≡ before.input
 
--- A drill: its report is printed, or the line that tells why there is none; nothing else outside has changed. Where its devices were
--- opened there is a session, whatever came of it, and what is promised of one; else memory was wanting. Its words are never told.
+-- A drill. It prints its report, or the line of its refusal. Nothing else outside has changed. If its devices were
+-- opened there is a session, however it ended, and the drill's promise holds. Otherwise there was no memory. The status
+-- is never `BadWords`.
 pub record IsDrillSo (number tags events : ℕ) (before now : World) (stops_before stops_now : ℕ) (o : Outcome) : Type 0 where
   pub answer : Result (String Global) Status
   pub held : OnOk answer (IsSome o.session)
@@ -80,14 +82,14 @@ pub record IsDrillSo (number tags events : ℕ) (before now : World) (stops_befo
   pub input : now.input ≡ before.input
   pub rest : now.scene ≡ record before.scene { output = now.scene.output }
 
--- A command that holds no session: it ends in this status, and a crash at any moment leaves this of the devices.
+-- A command that holds no session: how it ends in its status, and what a crash at any moment leaves of the devices.
 pub record IsAnswered (form : Form) (before now : World) (stops_before stops_now : ℕ) (o : Outcome) : Type 0 where
   pub ends : EndsFor form before now o.status
   pub devices : KeepsFor form before.scene.files before.scene.devices now.scene.devices
   pub alone : o.session ≡ None
   pub unstopped : stops_now ≡ stops_before
 
--- what comes of a command line that asks for this
+-- the outcome of a command line of this form
 abbrev pub ComesOf : {D : Type 0} → (D → Option Trace) → (D → ℕ) → (D → ℕ) → Form → World → World → ℕ → ℕ → Outcome → Type 0
 ComesOf trace ticks faults (Run base plan) before now stops_before stops_now o =
     IsRunSo trace ticks faults base plan before now stops_before stops_now o
@@ -97,7 +99,7 @@ ComesOf trace ticks faults (Drill number tags events) before now stops_before st
     IsDrillSo number tags events before now stops_before stops_now o
 ComesOf trace ticks faults form before now stops_before stops_now o = IsAnswered form before now stops_before stops_now o
 
--- this status is told with its exit code, and nothing else has changed
+-- the line of this status is printed, the exit code is that of the status, and nothing else has changed
 pub record IsUnrun (status : Status) (before now : World) (stops_before stops_now code : ℕ) : Type 0 where
   pub exit : code ≡ code_of status
   pub told : IsTold before.scene.output now.scene.output status
@@ -105,7 +107,7 @@ pub record IsUnrun (status : Status) (before now : World) (stops_before stops_no
   pub rest : now.scene ≡ record before.scene { output = now.scene.output }
   pub unstopped : stops_now ≡ stops_before
 
--- what comes of a command line of these words, with this exit code; or there was no memory for the words
+-- the outcome of a command line of these words, with this exit code; or there was no memory for the words
 abbrev pub ComesWithCode : {D : Type 0} → (D → Option Trace) → (D → ℕ) → (D → ℕ) → List (List ℕ) → World → World → ℕ → ℕ → ℕ
     → Type 0
 ComesWithCode trace ticks faults words before now stops_before stops_now code =

@@ -21,9 +21,9 @@ use std::process::ExitCode;
 use std::sync::Wait;
 use std::thread::Threads;
 
-/// Runs the program on the arguments of its process, of which the first is its name: what the others ask for is done, and
-/// the exit code is that of the status. Where the arguments are not to be had, since one of them is no text or there is no
-/// memory for them, nothing is read, and the line of that is printed.
+/// Runs the program on the arguments of its process, and returns the exit code of the status. The first argument is the
+/// program's name; the others are the words of the command line. `args` is an error if an argument is no text, or if
+/// there is no memory for them. Then the program reads nothing, and prints the line of that refusal.
 pub fn run_args<R: Threads + Wait + Sync, I: Source, F: Files, O: Sink, S: Store, P: Passes>(
     rt: &R,
     alloc: Global,
@@ -42,7 +42,7 @@ pub fn run_args<R: Threads + Wait + Sync, I: Source, F: Files, O: Sink, S: Store
         (world (I.meaning input.new) (O.meaning out.new) (F.told files.new) (F.fault_count files.new) (F.failed_name files.new)
         (S.device_at store.new) (S.fault_count store.new)) (P.stops passes.old) (P.stops passes.new) (exit_status result)) }
 
-    // No arguments.
+    // The arguments could not be read.
     ensures no_args_code { IfErr args (λ why. exit_status result ≡ code_of (status_of_args (error_kind why))) }
     ensures no_args_line { IfErr args (λ why.
         IsTold (O.meaning out.old) (O.meaning out.new) (status_of_args (error_kind why))) }
@@ -78,7 +78,7 @@ fn words_of(alloc: Global, given: Args) -> Result<Vec<String>, AllocError>
     given.skip(1).collect(alloc)
 }
 
-// The status of arguments that are not to be had.
+// The status for arguments that could not be read.
 fn status_of_args(kind: io::ErrorKind) -> Status
     ensures { result ≡ status_of_args kind }
 {

@@ -25,40 +25,41 @@ pub(crate) enum Form<'w> {
         base: &'w str,
         plan: &'w str,
     },
-    /// To log a plan: `log` reads the rest of these words.
+    /// To log a plan. The command `log` reads the words after its verb.
     Log(&'w [String]),
-    /// To tell shifts: `shifts` reads the rest of these words.
+    /// To print the figures of shifts. The command `shifts` reads the words after its verb.
     Shifts(&'w [String]),
-    /// To tell the frames of a calculation of a group of the base that have at least so many windows.
+    /// To print the frames of a calculation of a group of the base. A frame counts if it has at least `least` windows.
     Frames {
         base: &'w str,
         group: &'w str,
         calc: &'w str,
         least: u32,
     },
-    /// To run the drill of this number, of so many tags and so many events of each.
+    /// To run the drill with this number: so many tags, and so many events for each tag.
     Drill {
         number: u32,
         tags: u32,
         events: u32,
     },
-    /// Nothing that there is.
+    /// No known command.
     Unknown,
 }
 
-// The most windows that frames may be asked to have at least.
+// The highest LEAST of `frames`.
 const MOST_LEAST: u32 = 1_000_000;
 
 // The highest number of a drill.
 const MOST_NUMBER: u64 = (1 << 31) - 1;
 
-// How many tags a drill has at most.
+// The most tags of a drill.
 const MOST_TAGS: u32 = 64;
 
-// How many events a drill has at most, of all its tags together.
+// The most events of a drill, all its tags together.
 const MOST_EVENTS: u64 = 4_000_000;
 
-// What these words ask for. Words that begin with `log` or `shifts` are handed on whole, to the command that reads the rest.
+// Returns what these words ask for. Words that begin with `log` or `shifts` are passed on whole: their commands read
+// the rest.
 pub(crate) fn form_of(words: &[String]) -> Form<'_>
     ensures form { asked result ≡ form_of (map string_bytes words.now) }
     ensures ranged { FormInRange (asked result) }
@@ -100,7 +101,7 @@ pub(crate) fn form_of(words: &[String]) -> Form<'_>
     }
 }
 
-// To pack with a tuning, where there is one.
+// `Pack` if there is a tuning, otherwise `Unknown`.
 fn packing<'w>(tuning: Option<Tuning>) -> Form<'w>
     requires { IfSome tuning TuningInRange }
     ensures form { asked result ≡ packing tuning }
@@ -112,7 +113,7 @@ fn packing<'w>(tuning: Option<Tuning>) -> Form<'w>
     }
 }
 
-// To tell the frames of at least so many windows, where they are a number.
+// `Frames` if LEAST is a number in range, otherwise `Unknown`.
 fn framing<'w>(base: &'w str, group: &'w str, calc: &'w str, least: Option<u32>) -> Form<'w>
     requires { IfSome least (λ n. (1 ≤ n) × (n ≤ most_least)) }
     ensures form { asked result ≡ framing base.now group.now calc.now least }
@@ -129,7 +130,7 @@ fn framing<'w>(base: &'w str, group: &'w str, calc: &'w str, least: Option<u32>)
     }
 }
 
-// To run the drill of these numbers, where they are numbers, and its events not too many.
+// `Drill` if all three are numbers in range and the events of all tags together are not too many. Otherwise `Unknown`.
 fn drilling<'w>(number: Option<u64>, tags: Option<u32>, events: Option<u64>) -> Form<'w>
     requires number { IfSome number (λ n. n < 2 ^ 31) }
     requires tags { IfSome tags (λ n. (1 ≤ n) × (n ≤ most_tags)) }
@@ -149,7 +150,7 @@ fn drilling<'w>(number: Option<u64>, tags: Option<u32>, events: Option<u64>) -> 
     }
 }
 
-// The tuning of five numerals, or none where one is no numeral or out of its range.
+// Reads a tuning from five numerals. Returns `None` if one of them is no numeral or is out of its range.
 #[tactic(auto, unfolding(crate::specs::CommandLine::tuning_of))]
 fn tuning_of(
     exc_dev: &[u8],

@@ -26,25 +26,25 @@ use trend_num::Tuning;
 #[derive(Drop)]
 pub struct Outcome {
     pub status: Status,
-    /// What happened in the session: of `run` and `drill` where the devices were opened, of `log` where collectors were
-    /// started.
+    /// What happened in the session. `run` and `drill` have one if the devices were opened, `log` if collectors were
+    /// started. Other commands have none.
     pub session: Option<Session>,
 }
 
-/// Does what the words of a command line ask for, and tells how it went.
+/// Does what the words of a command line ask for, and returns how it ended.
 ///
-/// | words | what is done |
+/// | words | what the command does |
 /// |---|---|
-/// | `pack EXCDEV EXCMAX COMPDEV COMPMIN COMPMAX` | lines `TIME,VALUE` are read from `input` to its end, and the records that the archive of one tag keeps of them are printed, and the point that it holds |
-/// | `check BASE` | the tags of a base are opened, and a line of each is printed |
-/// | `trend BASE PLAN` | the tags are opened, and the queries of the plan's readers answered |
-/// | `run BASE PLAN` | the session of a plan: its collectors feed the tags of the base, its readers ask, its refreshers bring the groups up to date; the report is printed once every device is given back |
-/// | `log BASE PLAN` | the rows of the plan's collectors are put into one log of the whole plant |
-/// | `shifts BASE CALENDAR DAY DAYS` | the figures of the calendar's shifts on these days are told |
-/// | `frames BASE GROUP CALC LEAST` | when a calculation stayed true, as it was saved and as it is by now |
-/// | `drill NUMBER TAGS EVENTS` | the session of a plant that is made up, in memory |
+/// | `pack EXCDEV EXCMAX COMPDEV COMPMIN COMPMAX` | reads lines `TIME,VALUE` from `input` to its end; prints the records that the archive of one tag keeps of them, and the held point |
+/// | `check BASE` | opens the tags of a base, and prints one line for each |
+/// | `trend BASE PLAN` | opens the tags and groups, and prints the answers to the queries of the plan's readers |
+/// | `run BASE PLAN` | runs the session of a plan: its collectors feed the tags of the base, its readers ask, its refreshers bring the groups up to date; prints the report once every device is given back |
+/// | `log BASE PLAN` | puts the rows of the plan's collectors into one log of the whole plant |
+/// | `shifts BASE CALENDAR DAY DAYS` | prints the figures of the calendar's shifts on these days |
+/// | `frames BASE GROUP CALC LEAST` | prints when a calculation stayed true, as it was saved and as it is now |
+/// | `drill NUMBER TAGS EVENTS` | runs the session of a generated plant, in memory |
 ///
-/// Each refusal but that of a write prints its one line instead.
+/// A refused command prints its one line instead. A failed write is the exception: it prints no such line.
 pub fn run<R: Threads + Wait + Sync, I: Source, F: Files, O: Sink, S: Store, P: Passes>(
     rt: &R,
     alloc: Global,
@@ -55,7 +55,7 @@ pub fn run<R: Threads + Wait + Sync, I: Source, F: Files, O: Sink, S: Store, P: 
     store: &mut S,
     passes: &mut P,
 ) -> Outcome
-    // What the words ask for has come of them.
+    // The command did what the words ask for.
     ensures comes { ComesOf S.Dev.trace S.Dev.ticks S.Dev.fault_count (form_of (map string_bytes words.now))
         (world (I.meaning input.old) (O.meaning out.old) (F.told files.old) (F.fault_count files.old) (F.failed_name files.old)
         (S.device_at store.old) (S.fault_count store.old))
@@ -63,7 +63,7 @@ pub fn run<R: Threads + Wait + Sync, I: Source, F: Files, O: Sink, S: Store, P: 
         (S.device_at store.new) (S.fault_count store.new)) (P.stops passes.old) (P.stops passes.new) result }
     ensures files { F.told files.new ≡ F.told files.old }
 
-    // Words that ask for nothing are refused as such, and nothing but the output changes then.
+    // Words that ask for nothing are refused with `BadWords`, and nothing but the output changes then.
     ensures bad_words { (result.status ≡ Status.BadWords) ↔ MeansNothing (form_of (map string_bytes words.now)) }
     ensures untouched { result.status ≡ Status.BadWords → input.new ≡ input.old }
     ensures unread { result.status ≡ Status.BadWords → files.new ≡ files.old }
@@ -94,7 +94,7 @@ pub fn run<R: Threads + Wait + Sync, I: Source, F: Files, O: Sink, S: Store, P: 
     }
 }
 
-// A command that holds no session ended so.
+// The outcome of a command that holds no session.
 fn alone(status: Status) -> Outcome
     ensures status { result.status ≡ status }
     ensures alone { result.session ≡ None }
@@ -119,7 +119,7 @@ fn reported<O: Sink>(ran: Ran, out: &mut O) -> Outcome
     }
 }
 
-// How `log` ended, with the log in a session.
+// The outcome of `log`. The log that it wrote, if any, becomes a session.
 fn handed_on(alloc: Global, came: LogOutcome) -> Outcome
     ensures status { result.status ≡ came.status }
     ensures session { IsHandedOn came.log result.session }
@@ -131,7 +131,7 @@ fn handed_on(alloc: Global, came: LogOutcome) -> Outcome
     }
 }
 
-// The session of a log, if one was written.
+// A session with this log and nothing else. `None` if there is no log.
 fn session_of(alloc: Global, log: Option<LogHistory>) -> Option<Session>
     ensures { IsHandedOn log result }
 {
@@ -144,7 +144,7 @@ fn session_of(alloc: Global, log: Option<LogHistory>) -> Option<Session>
     })
 }
 
-// Packs the input, and prints what it keeps.
+// Packs the input, and prints the records and the held point that remain of it.
 fn run_pack<I: Source, O: Sink>(alloc: Global, tuning: Tuning, input: &mut I, out: &mut O) -> Status
     requires { TuningInRange tuning }
     ensures ends { PrintsSo (IsPacked tuning (I.meaning input.old) (I.meaning input.new))

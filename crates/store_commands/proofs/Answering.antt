@@ -52,7 +52,7 @@ snap_told cores groups i core within there =
     let found = slice_get_read cores (length cores) i core refl within there in
     ap (λ o. option_map_or snapshot_in o []) found
 
--- the group at a place tells the value of a calculation in a window
+-- the group at a place answers the value of a calculation in a window
 pub row_told : (cores : List Core) (groups : List GroupHistory) (i calc k : ℕ) (group : GroupHistory) → i < length groups
     → group ≡ get_or groups i group → told cores (rows_in groups) (Row i calc k) ≡ value_in (lists_of group.rows.items) calc k
 row_told cores groups i calc k group within there =

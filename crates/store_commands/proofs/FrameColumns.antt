@@ -5,7 +5,7 @@ use Rattle.std.proofs.lemmas.Bool.{cases_lt}
 use Rattle.std.proofs.lemmas.List.{take_more}
 use Rattle.std.proofs.lemmas.Option.{get_or_from_slice_get, slice_get-get_or, slice_get_within}
 
--- what stands in a list of lists
+-- what is in a list of lists
 pub read_at : {A : Type 0} (xss : List (List A)) (i k : ℕ) → i < length xss
     → option_and_then (λ xs. slice_get xs k) (slice_get xss i) ≡ slice_get (get_or xss i []) k
 read_at xss i k below = ap (option_and_then (λ xs. slice_get xs k)) (slice_get-get_or xss i [] below)

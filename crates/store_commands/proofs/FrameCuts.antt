@@ -1,4 +1,4 @@
--- The first records of inputs, and those behind them.
+-- The first records of inputs, and those after them.
 use Rattle.std.proofs.Common.{◌≡◌, ℕ, suc, inl, inr, ◌+◌, ◌<◌, ◌≤◌, All, List, [], ◌∷◌, length, get_or, take, drop, length-drop, length-take, refl, sym, ap, subst, arith}
 use Rattle.std.proofs.lemmas.Bool.{cases_lt}
 use Rattle.std.proofs.lemmas.List.Elements.{All-cons, All-drop, All-head, All-nil, All-tail, All-take}
@@ -7,7 +7,7 @@ use Rattle.trend_num.specs.declared.archive.Rec.{Rec}
 use Rattle.calc_refresh.specs.Sheet.{IsCopy}
 use Rattle.group_book.specs.Tapes.{cut, uncut}
 
--- the records behind those that can be copied can be
+-- if records can be copied, so can those after the first ones
 pub uncut_copied : (vs : List ℕ) (rss : List (List Rec)) → All IsCopy rss → All IsCopy (uncut vs rss)
 uncut_copied [] rss all = All-nil IsCopy
 uncut_copied (v ∷ vs) [] all = All-nil IsCopy

@@ -25,7 +25,7 @@ calc_named (d ∷ ds) k name below named =
 pub no_calc : (defs : List CalcDef) (name : List ℕ) → All (λ d. d.name ≢ name) defs → All (λ c. c.name ≢ name) (map calculation defs)
 no_calc defs name none = All-map (λ (c : Calculation). c.name ≢ name) calculation defs none
 
--- what stands at the place of a group is the group
+-- what is at the place of a group is the group
 pub named_group : (groups : List GroupDef) (group calc : List ℕ) (i k : ℕ) (g : GroupDef) → IsPlaced groups group calc i k
     → g ≡ get_or groups i g → IsNamed groups group calc g i k
 named_group groups group calc i k g placed is =

@@ -18,7 +18,7 @@ use Rattle.group_book.proofs.Causes.{sheet_refused}
 use Rattle.group_book.proofs.InputLists.{longer-uncut}
 use Rattle.store_commands.specs.Refreshing.{IsCutBook, IsOverIn, IsRefreshedOnce}
 
--- the first records of lists, and those behind them, are the lists
+-- the first records of lists, and those after them, are the lists
 whole_book : {D : Type 0} (records : List (List Rec)) (b : ToldBook D) → IsCutBook records b → length b.tags ≡ length b.sheet.copies
     → longer b.sheet.copies (uncut (versions_of b) (lists_at records b.tags)) ≡ lists_at records b.tags
 whole_book records b so inputs =

@@ -19,14 +19,14 @@ use Rattle.store_commands.specs.GroupRows.{AreGroupsTold, IsGroupRowsRefusal, ta
 
 -- ---- check
 
--- a base was read and opened, and this is a line for each of its tags
+-- a base was read, its tags were opened, and this text has a line for each of them
 pub record IsChecked (name : List ℕ) (told : ToldFiles) (old : DeviceTraces) (text : List ℕ) : Type 0 where
   pub base : Base
   pub cores : List Core
   pub opened : IsOpenedBase name told old base cores
   pub same : text ≡ check_text base.tags.items cores
 
--- the base is refused, and no device has changed; or its tags are. No memory may be found at any time
+-- the base is refused, and no device has changed; or its tags are refused; or there was not enough memory, at any time
 abbrev pub IsCheckRefusal : List ℕ → ToldFiles → DeviceTraces → DeviceTraces → ℕ → ℕ → Status → Type 0
 IsCheckRefusal name told old new before now why = (IsBaseRefusal (told name) why × AreUntouched old new)
     ⊎ (((base : Base) × IsBaseFile (told name) base × IsRefusal base.tags.items old new before now why)
@@ -34,8 +34,8 @@ IsCheckRefusal name told old new before now why = (IsBaseRefusal (told name) why
 
 -- ---- trend
 
--- a base was read and opened, the plan and the files of its readers were read, these are the rows of the groups, and these the
--- replies
+-- A base was read, and its tags were opened. The plan and the files of its readers were read. These are the rows of the
+-- groups, and the text has the replies.
 pub record IsTrend (name plan_name : List ℕ) (told : ToldFiles) (old : DeviceTraces) (text : List ℕ) : Type 0 where
   pub base : Base
   pub plan : Plan
@@ -48,8 +48,8 @@ pub record IsTrend (name plan_name : List ℕ) (told : ToldFiles) (old : DeviceT
   pub rows : AreGroupsTold base.groups.items (tag_records cores) old groups
   pub same : text ≡ trend_text cores groups lists
 
--- the refusals, in their order: of the base, of the plan, of a reader's file, of a tag, of a group. Before that of a tag no device
--- has changed
+-- The refusals, in their order: of the base, of the plan, of a reader's file, of a tag, of a group. A refusal before
+-- that of a tag changes no device. There may be not enough memory at any time.
 pub data IsTrendRefusal (name plan_name : List ℕ) (told : ToldFiles) (old new : DeviceTraces) (before now : ℕ) (why : Status) : Type 0 where
   OfBase : IsBaseRefusal (told name) why → AreUntouched old new → IsTrendRefusal name plan_name told old new before now why
   OfPlan : (base : Base) → IsBaseFile (told name) base
@@ -68,13 +68,16 @@ pub data IsTrendRefusal (name plan_name : List ℕ) (told : ToldFiles) (old new 
 
 -- ---- devices
 
--- each device but those of these tags and groups is as it was
+-- each device is as it was, except those of the base's tags and groups
 abbrev pub AreOtherDevicesSame : Base → DeviceTraces → DeviceTraces → Type 0
 AreOtherDevicesSame base old new = (n : List ℕ) → All (λ def. n ≢ device_name def.name) base.tags.items
     → All (λ g. n ≢ group.device_name g.name) base.groups.items → new n ≡ old n
 
--- no device has changed; or those of the base's tags and groups alone have, and a crash at any moment since leaves of each an image
--- that one before might have left, or that recovers or stands for the same, or, of a tag, that as it is opened
+-- Either no device has changed. Or only those of the base's tags and groups have, and a crash at any moment since then
+-- leaves of each one of these images:
+-- - one that a crash before the command might have left;
+-- - one that recovers the same (of a tag), or stands for the same (of a group);
+-- - of a tag, one that recovers the tag as it is opened.
 abbrev pub AreAllKept : List ℕ → ToldFiles → DeviceTraces → DeviceTraces → Type 0
 AreAllKept name told old new = AreUntouched old new
     ⊎ ((base : Base) × IsBaseFile (told name) base × AllStaySame base.tags.items old new

@@ -21,8 +21,8 @@ use Rattle.store_commands.specs.FrameLines.{TellsFrames}
 use Rattle.store_commands.specs.FrameNames.{IsNamed, IsNameRefusal}
 use Rattle.store_commands.specs.FrameRows.{AreFrameRows, IsFrameRowsRefusal}
 
--- a base was read and opened, the names stand for the calculation at place k of the group at place i, these are the saved row of the
--- calculation and the refreshed one, and the text tells of their frames
+-- A base was read, and its tags were opened. The names stand for the calculation at place k of the group at place i.
+-- These are the saved row of the calculation and the refreshed one. The text is about their frames.
 pub record IsFrames (name group_name calc_name : List ℕ) (least : ℕ) (told : ToldFiles) (old : DeviceTraces) (text : List ℕ) : Type 0 where
   pub base : Base
   pub g : GroupDef
@@ -36,8 +36,8 @@ pub record IsFrames (name group_name calc_name : List ℕ) (least : ℕ) (told :
   pub rows : AreFrameRows g k (input_records_of (tag_records cores) g) (group_trace_at old g) saved refreshed
   pub tells : TellsFrames g least saved refreshed text
 
--- the refusals, in their order: of the base, of the names, of a tag, of the group. Before that of a tag no device has changed. No
--- memory may be found at any time
+-- The refusals, in their order: of the base, of the names, of a tag, of the group. A refusal before that of a tag
+-- changes no device. There may be not enough memory at any time.
 pub data IsFramesRefusal (name group_name calc_name : List ℕ) (told : ToldFiles) (old new : DeviceTraces) (before now : ℕ) (why : Status)
     : Type 0 where
   OfBase : IsBaseRefusal (told name) why → AreUntouched old new
@@ -55,8 +55,11 @@ pub data IsFramesRefusal (name group_name calc_name : List ℕ) (told : ToldFile
 
 -- ---- devices
 
--- those of the base's tags and of the group of this name alone have changed, and a crash at any moment since leaves of each an image
--- that one before might have left, or that recovers or stands for the same, or, of a tag, that as it is opened
+-- Only the devices of the base's tags and of the group with this name have changed. A crash at any moment since then
+-- leaves of each one of these images:
+-- - one that a crash before the command might have left;
+-- - one that recovers the same (of a tag), or stands for the same (of the group);
+-- - of a tag, one that recovers the tag as it is opened.
 pub record HaveStayed (name group_name calc_name : List ℕ) (told : ToldFiles) (old new : DeviceTraces) : Type 0 where
   pub base : Base
   pub g : GroupDef
@@ -68,6 +71,6 @@ pub record HaveStayed (name group_name calc_name : List ℕ) (told : ToldFiles) 
   pub group_stays : During (group_trace_at old g) (group_trace_at new g) (BookStaysSame (group_definition_text g) (group_parts_of g) (group_trace_at old g))
   pub rest : (n : List ℕ) → All (λ def. n ≢ tag.device_name def.name) base.tags.items → n ≢ group.device_name g.name → new n ≡ old n
 
--- no device has changed; or those of the tags and of the group alone have, which stand for the same
+-- either no device has changed, or only those of the tags and of the group have, and these keep what they stand for
 abbrev pub AreFramesKept : List ℕ → List ℕ → List ℕ → ToldFiles → DeviceTraces → DeviceTraces → Type 0
 AreFramesKept name group_name calc_name told old new = AreUntouched old new ⊎ HaveStayed name group_name calc_name told old new

@@ -14,25 +14,25 @@ use Rattle.event_frames.specs.Edits.{AreEdits}
 use Rattle.event_frames.specs.Frames.{AreFrames}
 use Rattle.event_frames.specs.Row.{truths_of}
 
--- when a frame of a group's calculation begins, and when it ends, in milliseconds
+-- when a frame of a group's calculation begins, and when it ends, in milliseconds from 1970
 abbrev pub frame_from : GroupDef → Frame → ℕ
 frame_from g f = window_from (grid_of g.start g.period) f.from
 
 abbrev pub frame_to : GroupDef → Frame → ℕ
 frame_to g f = window_to (grid_of g.start g.period) f.upto
 
--- a frame that begins and ends at times, and whose windows can be counted
+-- a frame that begins and ends at times in range, and whose last window has a number below 2^63
 pub record IsFrameTimed (g : GroupDef) (f : Frame) : Type 0 where
   pub few : f.upto < 2 ^ 63
   pub begins : frame_from g f ≤ last_time
   pub ends : frame_to g f ≤ last_time
 
--- the frame of which an edit tells
+-- the frame of an edit
 abbrev pub frame_of : Edit → Frame
 frame_of (Gone f) = f
 frame_of (New f) = f
 
--- the line of a frame behind a word: `WORD FROM TO`, with ` open` where its last window is the last one there is
+-- the line of a frame after a word: `WORD FROM TO`, and ` open` after it if the frame has the last window that there is
 abbrev pub frame_text : List ℕ → GroupDef → Frame → List ℕ
 frame_text word g f = word ++ codes " " ++ decimal (frame_from g f) ++ codes " " ++ decimal (frame_to g f)
     ++ (if f.last then codes " open" else []) ++ codes "\n"
@@ -46,8 +46,8 @@ edit_text g (New f) = frame_text (codes "new") g f
 abbrev pub frames_text : GroupDef → List Edit → List Frame → List ℕ
 frames_text g edits frames = flat_map (edit_text g) edits ++ flat_map (frame_text (codes "frame") g) frames
 
--- A text tells of a calculation whose row was the one and is the other: what became of the frames that have at least so many
--- windows, and then the frames there are.
+-- This is the text about a calculation that had the first row and now has the second. It lists what became of the
+-- frames that have at least so many windows, and then the frames that there are now.
 pub record TellsFrames (g : GroupDef) (least : ℕ) (saved refreshed : List CalcValue) (text : List ℕ) : Type 0 where
   pub edits : List Edit
   pub frames : List Frame

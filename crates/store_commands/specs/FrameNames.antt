@@ -1,22 +1,22 @@
--- What the names of a group and of a calculation stand for.
+-- The group and the calculation that two names stand for.
 use Rattle.std.specs.Prelude.{◌≡◌, ◌≢◌, ℕ, List, All, Contains, Some, slice_get}
 use Rattle.calc_check.specs.Group.{names_of}
 use Rattle.tag_base.specs.declared.definition.GroupDef.{GroupDef}
 use Rattle.plant_status.specs.declared.status.Status.{Status}
 use Rattle.plant_status.specs.declared.status.Status.TheVariants.{BadName}
 
--- the group at place i has the one name, and its calculation at place k the other
+-- g is the group at place i and has the first name; its calculation at place k has the second
 pub record IsNamed (groups : List GroupDef) (group calc : List ℕ) (g : GroupDef) (i k : ℕ) : Type 0 where
   pub there : slice_get groups i ≡ Some g
   pub name : g.name ≡ group
   pub calculates : slice_get (names_of g.calcs.calcs) k ≡ Some calc
 
--- a calculation stands at place k of the group at place i
+-- the calculation with this name is at place k of the group at place i
 abbrev pub IsPlaced : List GroupDef → List ℕ → List ℕ → ℕ → ℕ → Type 0
 IsPlaced groups group calc i k = (g : GroupDef) × IsNamed groups group calc g i k
 
--- Why names stand for nothing: no group has the one, which is the third word of the command; or the group has no calculation of
--- the other, which is the fourth.
+-- Why names stand for nothing. No group has the first name, which is the third word of the command. Or the group has no
+-- calculation with the second name, which is the fourth word.
 pub data IsNameRefusal (groups : List GroupDef) (group calc : List ℕ) (why : Status) : Type 0 where
   NoGroup : why ≡ BadName 3 → All (λ g. g.name ≢ group) groups → IsNameRefusal groups group calc why
   NoCalculation : (g : GroupDef) → why ≡ BadName 4 → Contains groups g → g.name ≡ group

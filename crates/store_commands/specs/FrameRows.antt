@@ -1,4 +1,4 @@
--- The row of a calculation as its group's device stands for it, and after one refresh; and why there is none.
+-- The row of a calculation for which its group's device stands, and the row after one refresh; and why there is none.
 use Rattle.std.specs.Prelude.{◌≡◌, ℕ, ◌*◌, ◌^◌, ◌<◌, ◌≤◌, List, length, map, slice_get, Option, Some}
 use Rattle.trend_num.specs.declared.archive.Rec.{Rec}
 use Rattle.trend_num.specs.declared.refusal.What.TheVariants.{Cells, Copies}
@@ -21,9 +21,10 @@ use Rattle.plant_status.specs.declared.status.Status.TheVariants.{DeviceFault, D
 use Rattle.plant_status.specs.declared.unit.Unit.TheVariants.{Group}
 use Rattle.plant_store.specs.Groups.{group_parts_of, group_definition_text}
 
--- Of calculation k of a group with these saved versions and rows the saved row, and the one after a refresh from all these records
--- of its tags. Where the saved rows were those from scratch on the first records, as many as the versions say, the rows after the
--- refresh are those from scratch on all. There is a value for each complete window, of which there are no fewer than before.
+-- Both rows of calculation k of a group: the saved one, of these saved versions and rows, and the one after a refresh.
+-- The refresh is from all these records of its tags. The versions say how many first records the saved rows are of.
+-- If the saved rows are those from scratch on these, the rows after the refresh are those from scratch on all records.
+-- There is a value for each complete window. There are no fewer complete windows than before.
 pub record AreRefreshed (g : GroupDef) (k : ℕ) (versions : List ℕ) (rows : List (List CalcValue)) (recovered : List (List Rec))
     (saved refreshed : List CalcValue) : Type 0 where
   pub rows_then : List (List CalcValue)
@@ -35,22 +36,26 @@ pub record AreRefreshed (g : GroupDef) (k : ℕ) (versions : List ℕ) (rows : L
   pub saved_is : slice_get rows k ≡ Some saved
   pub refreshed_is : slice_get rows_then k ≡ Some refreshed
 
--- Of calculation k of a group, whose tags recovered these records, the saved row and the refreshed one. The group's device stood for
--- the saved versions and rows.
+-- The saved row and the refreshed row of calculation k of a group, whose tags recovered these records. The group's
+-- device stood for the saved versions and rows.
 pub record AreFrameRows (g : GroupDef) (k : ℕ) (recovered : List (List Rec)) (o : Option Trace) (saved refreshed : List CalcValue) : Type 0 where
   pub versions : List ℕ
   pub rows : List (List CalcValue)
   pub stood : Shows o (StandsForGroup (group_definition_text g) (group_parts_of g) versions rows)
   pub are : AreRefreshed g k versions rows recovered saved refreshed
 
--- how many cells a group has of these records
+-- how many cells a group has over these records
 abbrev pub cells_of : GroupDef → List (List Rec) → ℕ
 cells_of g recovered = complete_windows (grid_of g.start g.period) recovered * length g.calcs.calcs
 
--- Why there are no rows of the group at place i, where the store counted so many faults before and so many now: a call of its
--- device has failed; the bytes break its layout; a saved version is above the records of a tag, of which the records are told and
--- then the version; a saved row has not one value for each complete window, of which the windows are told and then the values;
--- there would be too many cells, or too many records of its tags; or memory is wanting.
+-- Why there are no rows of the group at place i. `before` and `now` are the faults that the store has counted.
+-- - `OfFault`: a call of its device has failed.
+-- - `OfDamage`: the bytes of its device break its layout.
+-- - `OfVersion`: a saved version is above the records of a tag. The status has the number of records, then the version.
+-- - `OfWindows`: a saved row has not one value for each complete window. The status has the number of windows, then
+--   that of the values.
+-- - `OfCells`, `OfCopies`: there would be too many cells, or too many records of its tags.
+-- - `OfMemory`: there was not enough memory.
 pub data IsFrameRowsRefusal (i : ℕ) (g : GroupDef) (recovered : List (List Rec)) (o : Option Trace) (before now : ℕ) (why : Status)
     : Type 0 where
   OfFault : why ≡ DeviceFault (Group i) → (before < 2 ^ 64 → Rose before now) → IsFrameRowsRefusal i g recovered o before now why

@@ -26,12 +26,12 @@ use Rattle.plant_status.specs.declared.status.Status.TheVariants.{DeviceFault, D
 use Rattle.plant_status.specs.declared.unit.Unit.TheVariants.{Group}
 use Rattle.plant_store.specs.Groups.{group_definition_text}
 
--- no version is above the records of its input
+-- no version is above the number of records of its input
 abbrev pub AreWithin : List ℕ → List (List Rec) → Type 0
 AreWithin versions recovered = (i : ℕ) (rs : List Rec) → i < length versions
     → slice_index versions i ≤ length (slice_index_or recovered i rs)
 
--- why what a group's device has saved was not read
+-- why the saved bytes of a group's device were not read
 pub data IsSavedRefusal (i : ℕ) (g : GroupDef) (o : Option Trace) (before now : ℕ) (why : Status) : Type 0 where
   DeviceFails : why ≡ DeviceFault (Group i) → (before < 2 ^ 64 → Rose before now) → IsSavedRefusal i g o before now why
   DeviceIsDamaged : (at : ℕ) (byte : Option ℕ) → why ≡ Damaged (Group i) at byte
@@ -39,19 +39,20 @@ pub data IsSavedRefusal (i : ℕ) (g : GroupDef) (o : Option Trace) (before now 
       → IsSavedRefusal i g o before now why
   OpeningWants : why ≡ WantOfMemory → IsSavedRefusal i g o before now why
 
--- a version of the group at place i is above the records of its input, or memory is wanting
+-- a version of the group at place i is above the records of its input, or there was not enough memory
 pub data IsAheadRefusal (i : ℕ) (versions : List ℕ) (recovered : List (List Rec)) (why : Status) : Type 0 where
   VersionIsAhead : (input found version : ℕ) → why ≡ Mismatch (Version i input) (Number found) (Number version)
       → IsAhead versions recovered input version found → IsAheadRefusal i versions recovered why
   CopyingWants : why ≡ WantOfMemory → IsAheadRefusal i versions recovered why
 
--- what a group is answered with whose device is not read
+-- the status if the device of the group at place i was not read
 abbrev pub scan_status : ℕ → ScanNo → Status
 scan_status i scan.DeviceFault = DeviceFault (Group i)
 scan_status i (scan.Damaged at byte) = Damaged (Group i) at byte
 scan_status i scan.WantOfMemory = WantOfMemory
 
--- why what the group at place i saved makes no sheet: a version is too high, or a row has not one value for each complete window
+-- Why what the group at place i saved makes no sheet: a version is too high, a row has not one value for each complete
+-- window, or there was not enough memory.
 pub data IsSheetRefusal (i : ℕ) (g : GroupDef) (versions : List ℕ) (rows : List (List CalcValue)) (recovered : List (List Rec))
     (why : Status) : Type 0 where
   OfAhead : IsAheadRefusal i versions recovered why → IsSheetRefusal i g versions rows recovered why
@@ -60,14 +61,14 @@ pub data IsSheetRefusal (i : ℕ) (g : GroupDef) (versions : List ℕ) (rows : L
       → IsSheetRefusal i g versions rows recovered why
   SheetWants : why ≡ WantOfMemory → IsSheetRefusal i g versions rows recovered why
 
--- a sheet has all these records, and rows from scratch stayed so
+-- a sheet now has all these records; if its rows were those from scratch, they still are
 pub record IsBroughtUp (old new : SheetState) (recovered : List (List Rec)) : Type 0 where
   pub group : new.group ≡ old.group
   pub grid : new.grid ≡ old.grid
   pub copies : new.copies ≡ recovered
   pub scratch : IsScratch old.group old.grid old.copies old.rows → IsScratch new.group new.grid new.copies new.rows
 
--- why a sheet with all these records is refused, of so many calculations on this grid
+-- why a sheet with all these records is refused, for so many calculations on this grid
 pub data IsLimitRefusal (grid : Grid) (calcs : ℕ) (recovered : List (List Rec)) (why : Status) : Type 0 where
   CellsAreOver : (number : ℕ) → why ≡ Limit Cells number → number ≡ complete_windows grid recovered * calcs → most_cells < number
       → IsLimitRefusal grid calcs recovered why
@@ -75,7 +76,7 @@ pub data IsLimitRefusal (grid : Grid) (calcs : ℕ) (recovered : List (List Rec)
       → IsLimitRefusal grid calcs recovered why
   RefreshWants : why ≡ WantOfMemory → IsLimitRefusal grid calcs recovered why
 
--- why what the group at place i saved is not brought up to all these records
+-- why the saved rows of the group at place i are not brought up to all these records
 pub data IsBringRefusal (i : ℕ) (g : GroupDef) (versions : List ℕ) (rows : List (List CalcValue)) (recovered : List (List Rec))
     (why : Status) : Type 0 where
   OfSheet : IsSheetRefusal i g versions rows recovered why → IsBringRefusal i g versions rows recovered why

@@ -1,4 +1,4 @@
--- What the groups of a base come to, refreshed once from what the tags have.
+-- The rows of the groups of a base, each refreshed once from the records of its tags.
 use Rattle.std.specs.Prelude.{◌≡◌, ℕ, ◌<◌, List, length, map, slice_index_or, Option}
 use Rattle.trend_num.specs.declared.archive.Rec.{Rec}
 use Rattle.trend_num.specs.declared.refusal.What.TheVariants.{Cells, Copies}
@@ -21,22 +21,23 @@ use Rattle.store_commands.specs.Replies.{Rows}
 abbrev pub tag_records : List Core → List (List Rec)
 tag_records cores = map (λ core. core.state.records) cores
 
--- These are the rows of a group after one refresh from all records of its tags. Where those that its device stood for were right,
--- they are the rows from scratch on all records, so there is one value for each complete window and no other.
+-- These are the rows of a group after one refresh from all records of its tags. If the rows that its device stood for
+-- were right, these are the rows from scratch on all records. So there is one value for each complete window, and no
+-- other.
 pub record IsGroupTold (g : GroupDef) (recovered : List (List Rec)) (o : Option Trace) (rows : Rows) : Type 0 where
   pub opening : GroupOpening
   pub opened : IsGroupOpening g recovered o opening
   pub scratch : IsRight g.calcs (grid_of g.start g.period) opening recovered
       → IsScratch g.calcs (grid_of g.start g.period) recovered rows
 
--- so are those of each group
+-- the same for each group
 pub record AreGroupsTold (groups : List GroupDef) (records : List (List Rec)) (old : DeviceTraces) (groups_rows : List Rows) : Type 0 where
   pub as_many : length groups_rows ≡ length groups
   pub each : (i : ℕ) (g : GroupDef) (r : Rows) → i < length groups
       → IsGroupTold (slice_index_or groups i g) (input_records_of records (slice_index_or groups i g))
       (group_trace_at old (slice_index_or groups i g)) (slice_index_or groups_rows i r)
 
--- all groups are opened, and the one at place i comes to too much
+-- all groups were opened, and the one at place i is over a limit
 pub record IsTooMuchAt (groups : List GroupDef) (records : List (List Rec)) (old : DeviceTraces) (i : ℕ) (P : List (List Rec) → Type 0)
     : Type 0 where
   pub g : GroupDef
@@ -46,7 +47,8 @@ pub record IsTooMuchAt (groups : List GroupDef) (records : List (List Rec)) (old
   pub opened : AreGroupsOpened (length groups) groups records old openings
   pub over : P (input_records_of records g)
 
--- Why there are no rows: a group is not opened, would have too many cells, or too many records of its tags; or memory is wanting.
+-- Why there are no rows: a group did not open, it would have too many cells or too many records of its tags, or there
+-- was not enough memory.
 pub data IsGroupRowsRefusal (groups : List GroupDef) (records : List (List Rec)) (old : DeviceTraces) (before now : ℕ) (why : Status)
     : Type 0 where
   OfOpening : IsRefusal groups records old before now why → IsGroupRowsRefusal groups records old before now why

@@ -1,8 +1,8 @@
 pub mod GroupRows
 pub mod Commands
--- what private functions alone cite
+-- only private functions cite it
 pub mod Refreshing
--- what readers are told
+-- what readers are answered
 pub mod Replies
 pub mod TagContents
 pub mod FrameNames

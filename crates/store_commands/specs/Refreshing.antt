@@ -16,7 +16,7 @@ use Rattle.plant_status.specs.declared.status.Status.TheVariants as status
 pub record IsCutBook {D : Type 0} (records : List (List Rec)) (b : Book D) : Type 0 where
   pub copies : b.sheet.copies ≡ cut (versions_of b) (lists_at records b.tags)
 
--- so has each
+-- the same for each book
 abbrev pub AreCutBooks : {D : Type 0} → List (List Rec) → List (Book D) → Type 0
 AreCutBooks records books = (i : ℕ) (b : Book _) → i < length books → IsCutBook records (slice_index_or books i b)
 
@@ -25,31 +25,31 @@ pub record IsRefreshedOnce {D : Type 0} (records : List (List Rec)) (old new : B
   pub copies : new.sheet.copies ≡ lists_at records old.tags
   pub changed : new ≡ record old { tape = new.tape; sheet = new.sheet }
 
--- so has each
+-- the same for each book
 abbrev pub AreRefreshedOnce : {D : Type 0} → List (List Rec) → List (Book D) → List (Book D) → Type 0
 AreRefreshedOnce records old new = (i : ℕ) (b : Book _) → i < length old
     → IsRefreshedOnce records (slice_index_or old i b) (slice_index_or new i b)
 
--- each has the device that it had
+-- each book has the device that it had
 pub record HaveDevicesOf {D : Type 0} (old new : List (Book D)) : Type 0 where
   pub as_many : length new ≡ length old
   pub each : (i : ℕ) (b : Book D) → (slice_index_or new i b).dev ≡ (slice_index_or old i b).dev
 
--- so many cells, or so many records, are too many
+-- why a refresh from all these records is refused: there would be too many cells or records, or no memory
 abbrev pub IsOverIn : List (List Rec) → RefreshNo → Type 0
 IsOverIn recovered (Ahead input version records) = ⊥
 IsOverIn recovered (CellLimit cells) = most_cells < cells
 IsOverIn recovered (CopyLimit records) = (records ≡ total_length recovered) × (most_copies < records)
 IsOverIn recovered WantOfMemory = Unit {0}
 
--- what a refused refresh is answered with
+-- the status of a refused refresh
 abbrev pub refresh_status : RefreshNo → Status
 refresh_status (Ahead input version records) = status.WantOfMemory
 refresh_status (CellLimit cells) = status.Limit Cells cells
 refresh_status (CopyLimit records) = status.Limit Copies records
 refresh_status WantOfMemory = status.WantOfMemory
 
--- a book is refused so
+-- one of the books refuses its refresh, with this status
 pub record IsOverSome {D : Type 0} (records : List (List Rec)) (books : List (Book D)) (s : Status) : Type 0 where
   pub i : ℕ
   pub why : RefreshNo

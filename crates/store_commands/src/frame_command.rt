@@ -17,10 +17,13 @@ use plant_status::Status;
 use plant_store::{group_device_names, open_base};
 use std::alloc::Global;
 
-/// What `frames` prints of the calculation `calc` of the group `group`, over the base in the file `name`: what became of
-/// the frames of its saved row by one refresh from all records of the tags, and then the frames there are; those of at
-/// least `least` windows. The device of each tag and of that group is opened, and made where there is none. Nothing is
-/// saved.
+/// Returns what `frames` prints of the calculation `calc` of the group `group`, over the base in the file `name`. The
+/// text first lists what became of the frames of the saved row by one refresh from all records of the tags. Then it
+/// lists the frames that there are now. Frames count if they have at least `least` windows. The command opens the
+/// device of each tag and of that group, and makes a device that is missing. It saves nothing.
+///
+/// The error is the first in this order: the base, a name that is unknown, a tag, the group. `WantOfMemory` may come at
+/// any time.
 pub fn frames<F: Files, S: Store>(
     alloc: Global,
     files: &mut F,

@@ -1,4 +1,4 @@
-// The records of a group's inputs: the first ones, which were taken into account, and those behind them.
+// The records of a group's inputs: the first ones, which its saved rows take into account, and those after them.
 ghost use Rattle.std.specs.Prelude.{◌≡◌, ◌^◌, ◌<◌, ◌≤◌, [], ◌∷◌, ◌++◌, All, IfErr, IfOk, OnOk, drop, length, map, slice_index_or, take};
 ghost use Rattle.calc_refresh.specs.Lists.{lists_of};
 ghost use Rattle.calc_refresh.specs.Sheet.{IsCopy};
@@ -11,7 +11,7 @@ use std::alloc::{AllocError, Global};
 use tag_core::TagCore;
 use trend_num::Rec;
 
-// Of each input the records of its tag.
+// The records of each input's tag.
 pub(crate) fn records_of<'a>(
     alloc: Global,
     inputs: &[u32],
@@ -30,8 +30,8 @@ pub(crate) fn records_of<'a>(
     Ok(records)
 }
 
-// The first records of each input, as many as its version says. A version above the records of its input is told with the place
-// of the group.
+// Copies the first records of each input, as many as its version says. If a version is above the number of records, the
+// error is `Mismatch` with the place of the group and the input: `kept` is the number of records, `told` the version.
 pub(crate) fn first_records(
     alloc: Global,
     group: u32,
@@ -66,7 +66,7 @@ pub(crate) fn first_records(
     Ok(first)
 }
 
-// The records of each input behind the first ones.
+// Copies the records of each input after the first ones.
 pub(crate) fn new_records(
     alloc: Global,
     versions: &[u32],
@@ -85,7 +85,7 @@ pub(crate) fn new_records(
     Ok(behind)
 }
 
-// Adds the first records of a list to others, so many.
+// Appends a list of the first `count` records.
 fn push_first(
     alloc: Global,
     lists: &mut Vec<Vec<Rec>>,
@@ -100,7 +100,7 @@ fn push_first(
     Ok(())
 }
 
-// Adds the records of a list behind so many to others.
+// Appends a list of the records after the first `count`.
 fn push_rest(
     alloc: Global,
     lists: &mut Vec<Vec<Rec>>,

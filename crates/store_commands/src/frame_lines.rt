@@ -9,7 +9,7 @@ use std::alloc::{AllocError, Global};
 use tag_base::GroupDef;
 use trend_num::WantOfMemory;
 
-// A line for each edit, and then one for each frame, of a calculation of this group.
+// Returns a line for each edit, and then one for each frame, of a calculation of this group.
 pub(crate) fn frames_text(
     alloc: Global,
     group: &GroupDef,
@@ -26,7 +26,7 @@ pub(crate) fn frames_text(
     Ok(text)
 }
 
-// Adds the line of each edit.
+// Appends the line of each edit.
 fn put_edits(text: &mut String, group: &GroupDef, edits: &[Edit]) -> Result<(), AllocError>
     requires { All (λ edit. IsFrameTimed group.now (frame_of edit)) edits.now }
     ensures { OnOk result (string_bytes text.new ≡ string_bytes text.old ++ flat_map (edit_text group.now) edits.now) }
@@ -37,7 +37,7 @@ fn put_edits(text: &mut String, group: &GroupDef, edits: &[Edit]) -> Result<(), 
     Ok(())
 }
 
-// Adds the line of an edit.
+// Appends the line of an edit.
 fn put_edit(text: &mut String, group: &GroupDef, edit: Edit) -> Result<(), AllocError>
     requires { IsFrameTimed group.now (frame_of edit) }
     ensures { OnOk result (string_bytes text.new ≡ string_bytes text.old ++ edit_text group.now edit) }
@@ -48,7 +48,7 @@ fn put_edit(text: &mut String, group: &GroupDef, edit: Edit) -> Result<(), Alloc
     }
 }
 
-// Adds the line of each frame.
+// Appends the line of each frame.
 fn put_frames(text: &mut String, group: &GroupDef, frames: &[Frame]) -> Result<(), AllocError>
     requires { All (IsFrameTimed group.now) frames.now }
     ensures { OnOk result (string_bytes text.new
@@ -60,7 +60,7 @@ fn put_frames(text: &mut String, group: &GroupDef, frames: &[Frame]) -> Result<(
     Ok(())
 }
 
-// Adds the line of a frame: when it begins and when it ends, in milliseconds from 1970, and whether it is open.
+// Appends the line of a frame: when it begins and when it ends, in milliseconds from 1970, and whether it is open.
 fn put_frame(
     text: &mut String,
     word: &str,

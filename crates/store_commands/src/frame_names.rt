@@ -1,4 +1,4 @@
-// A group and a calculation by their names.
+// Finds a group and a calculation by their names.
 ghost use Rattle.std.specs.Prelude.{◌≡◌, ◌≢◌, ◌<◌, All, IfErr, IfNone, IfOk, IfSome, length, slice_index_or};
 ghost use Rattle.calc_check.specs.declared.definition.CalcDef.{CalcDef};
 ghost use Rattle.tag_base.specs.declared.definition.GroupDef.{GroupDef};
@@ -17,8 +17,8 @@ pub(crate) struct CalcPlace {
     pub calc: usize,
 }
 
-// Where the calculation of this name is in the group of this name. Of a name that stands for nothing the word of the
-// command is told, counted from 1: the group's is word 3, the calculation's word 4.
+// Finds the calculation with this name in the group with this name. If a name is unknown, the error is `BadName` with
+// the number of its word in the command, counted from 1. The group is word 3, and the calculation is word 4.
 pub(crate) fn place_of(base: &Base, group: &str, calc: &str) -> Result<CalcPlace, Status>
     ensures placed { IfOk result (λ place. IsPlaced base.now.groups.items group.now calc.now place.group place.calc) }
     ensures refused { IfErr result (IsNameRefusal base.now.groups.items group.now calc.now) }
@@ -26,7 +26,7 @@ pub(crate) fn place_of(base: &Base, group: &str, calc: &str) -> Result<CalcPlace
     place_in(&base.groups, group, calc)
 }
 
-// The same, of these groups.
+// The same, in these groups.
 fn place_in(groups: &[GroupDef], group: &str, calc: &str) -> Result<CalcPlace, Status>
     ensures placed { IfOk result (λ place. IsPlaced groups.now group.now calc.now place.group place.calc) }
     ensures refused { IfErr result (IsNameRefusal groups.now group.now calc.now) }
@@ -40,7 +40,7 @@ fn place_in(groups: &[GroupDef], group: &str, calc: &str) -> Result<CalcPlace, S
     }
 }
 
-// The place of the group of a name.
+// The place of the first group with this name.
 fn group_place(groups: &[GroupDef], name: &[u8]) -> Option<usize>
     ensures there { IfSome result (λ i. i < length groups.now) }
     ensures named { IfSome result (λ i. (g : GroupDef) → (slice_index_or groups.now i g).name ≡ name.now) }
@@ -49,7 +49,7 @@ fn group_place(groups: &[GroupDef], name: &[u8]) -> Option<usize>
     groups.iter().position(|group| group.name.bytes() == name)
 }
 
-// The place of the calculation of a name.
+// The place of the first calculation with this name.
 fn calc_place(calcs: &[CalcDef], name: &[u8]) -> Option<usize>
     ensures there { IfSome result (λ i. i < length calcs.now) }
     ensures named { IfSome result (λ i. (c : CalcDef) → (slice_index_or calcs.now i c).name ≡ name.now) }

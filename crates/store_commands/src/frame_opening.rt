@@ -18,7 +18,7 @@ use plant_status::{Status, Unit};
 use std::alloc::Global;
 use tag_base::GroupDef;
 
-// What is saved on the device of the group at this place, which has this name.
+// Reads what is saved on the device of the group at this place. `name` is the device's name.
 pub(crate) fn saved_of<S: Store>(
     alloc: Global,
     store: &mut S,
@@ -47,7 +47,7 @@ pub(crate) fn saved_of<S: Store>(
     }
 }
 
-// The same, with what the device itself answers. It is made where there is none, and given back at once.
+// The same, with the device's own error. A missing device is made. The device is given back at once.
 fn open_saved<S: Store>(
     alloc: Global,
     store: &mut S,
@@ -84,7 +84,7 @@ fn open_saved<S: Store>(
     saved
 }
 
-// What a group is answered with whose device is not read.
+// The status if the device of the group at this place was not read.
 fn status_of(place: u32, why: ScanNo) -> Status
     ensures { result ≡ scan_status place why }
 {

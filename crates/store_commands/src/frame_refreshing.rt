@@ -1,4 +1,4 @@
-// What was saved of a group is brought up to all records of its tags.
+// Brings what was saved of a group up to all records of its tags.
 ghost use Rattle.std.specs.Prelude.{◌≡◌, ◌≢◌, ℕ, ◌^◌, ◌<◌, ◌≤◌, List, All, IfErr, IfOk, OnOk, length, map, vec_len};
 ghost use Rattle.disk_model.specs.Moments.{During};
 ghost use Rattle.plant_files.specs.Reading.{faults_told};
@@ -37,8 +37,8 @@ pub(crate) struct CalcRows {
     pub refreshed: Vec<CalcValue>,
 }
 
-// Both rows of the calculation at this place. The device of its group alone is opened, which has this name, and nothing is saved
-// there. `cores` are the tags of the base.
+// Returns both rows of the calculation at this place. Only the device of its group is opened, and nothing is saved
+// there. `name` is the device's name, and `cores` are the tags of the base.
 pub(crate) fn rows_of<S: Store>(
     alloc: Global,
     store: &mut S,
@@ -71,7 +71,7 @@ pub(crate) fn rows_of<S: Store>(
     bring_up(alloc, place, group, saved, &records)
 }
 
-// Both rows, of what was saved and of all records of the inputs.
+// Returns both rows, from what was saved and from all records of the inputs.
 fn bring_up(
     alloc: Global,
     place: CalcPlace,
@@ -106,7 +106,8 @@ fn bring_up(
     Ok(CalcRows { saved, refreshed })
 }
 
-// The sheet of the group at this place with its saved versions and rows, over the first records of its inputs.
+// Makes the sheet of the group at this place: its saved rows, over the first records of its inputs. Refuses a version
+// above the records of its input, and a row that has not one value for each complete window.
 fn sheet_of(
     alloc: Global,
     place: u32,

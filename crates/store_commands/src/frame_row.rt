@@ -22,7 +22,7 @@ pub(crate) fn row_of(alloc: Global, sheet: &Sheet, calc: u32) -> Result<Vec<Calc
     Ok(row)
 }
 
-// What makes one row another that is no shorter: each window with another value, and each that is new.
+// The changes from one row to another that is no shorter: each window with another value, and each new window.
 pub(crate) fn changes(
     alloc: Global,
     old: &[CalcValue],
@@ -44,7 +44,7 @@ pub(crate) fn changes(
     Ok(changes)
 }
 
-// Whether a row has this value in a window.
+// Whether a row has this value in window `k`.
 fn is_at(row: &[CalcValue], k: usize, value: CalcValue) -> bool
     ensures { IsTrue result ↔ (slice_get row.now k ≡ Some value) }
 {

@@ -1,4 +1,4 @@
-// A sheet is brought up to all records of its inputs.
+// Brings a sheet up to all records of its inputs.
 ghost use Rattle.std.specs.Prelude.{◌≡◌, ◌<◌, All, IfErr, OnOk, length, map};
 ghost use Rattle.calc_refresh.specs.Lists.{lists_of};
 ghost use Rattle.calc_refresh.specs.Refreshed.{IsRefreshed, IsRefreshToldOf, fault_after};
@@ -14,7 +14,7 @@ use std::marker::Brand;
 use std::sync::ledger::{Blank, Ledger};
 use trend_num::{Rec, Steps};
 
-// Takes the records behind these versions into account.
+// Takes the records after these versions into account. Refuses too many cells, and too many records.
 pub(crate) fn refresh(
     alloc: Global,
     sheet: &mut Sheet,
@@ -55,7 +55,7 @@ fn apply(sheet: &mut Sheet, more: &[Vec<Rec>]) -> Result<(), SheetNo>
     apply_on::<Brand>(sheet, more, Blank::new(1))
 }
 
-// The same, on the ledger of a blank.
+// The same, counting steps on the ledger of the blank.
 fn apply_on<L: Ledger>(sheet: &mut Sheet, more: &[Vec<Rec>], blank: Blank) -> Result<(), SheetNo>
     requires name { blank.name ≡ L.name }
     requires parts { blank.parts ≡ L.parts }

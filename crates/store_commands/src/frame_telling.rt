@@ -1,4 +1,4 @@
-// What is told of the frames of a calculation.
+// The text about the frames of a calculation.
 ghost use Rattle.std.specs.Prelude.{◌≡◌, ◌≤◌, IfOk, length, string_bytes};
 ghost use Rattle.store_commands.specs.FrameLines.{TellsFrames};
 ghost use Rattle.store_commands.specs.FrameSteps.{AreTimes};
@@ -10,7 +10,8 @@ use std::alloc::Global;
 use tag_base::GroupDef;
 use trend_num::WantOfMemory;
 
-// What is told of the frames of a calculation of this group.
+// Returns the text about a calculation of this group, from its saved row and its refreshed one. Frames count if they
+// have at least `least` windows.
 pub(crate) fn tell_frames(
     alloc: Global,
     group: &GroupDef,

@@ -1,4 +1,4 @@
-// The groups of a base, refreshed once from what the tags have.
+// The groups of a base, each refreshed once from the records of its tags.
 ghost use Rattle.std.specs.Prelude.{◌≡◌, ℕ, ◌^◌, ◌<◌, ◌≤◌, All, IfErr, IfOk, OnErr, OnOk, length, map};
 ghost use Rattle.calc_refresh.specs.Sheet.{IsCopy};
 ghost use Rattle.plant_files.specs.Reading.{faults_told};
@@ -19,8 +19,8 @@ use tag_base::GroupDef;
 use tag_core::TagCore;
 use trend_num::{Rec, WantOfMemory};
 
-// What becomes of the groups of a base: each is opened over its device, refreshed once from all records of its tags, and its
-// device is given back. `cores` are the tags of the base.
+// Opens each group over its device, refreshes it once from all records of its tags, and gives its device back. Returns
+// the groups' histories. `cores` are the tags of the base.
 pub(crate) fn histories_of<S: Store>(
     alloc: Global,
     store: &mut S,
@@ -68,7 +68,7 @@ fn records_of(alloc: Global, cores: &[TagCore]) -> Result<Vec<&[Rec]>, WantOfMem
     Ok(records)
 }
 
-// Refreshes each book once, from all records of its tags. It stops at the first one that cannot be.
+// Refreshes each book once, from all records of its tags. Stops at the first book that refuses.
 fn refresh_all<D: Disk>(books: &mut Vec<Book<D>>, records: &[&[Rec]]) -> Result<(), Status>
     requires copied { All (λ r. IsCopy r.now) records.now }
     requires cut { AreCutBooks (map (λ r. r.now) records.now) books.old.items }
@@ -84,7 +84,7 @@ fn refresh_all<D: Disk>(books: &mut Vec<Book<D>>, records: &[&[Rec]]) -> Result<
     Ok(())
 }
 
-// Takes all records of a group's tags into account.
+// Refreshes a group from all records of its tags. Changes nothing if it refuses.
 fn refresh_once<D: Disk>(book: &mut Book<D>, records: &[&[Rec]]) -> Result<(), RefreshNo>
     requires copied { All (λ r. IsCopy r.now) records.now }
     requires cut { IsCutBook (map (λ r. r.now) records.now) book.old }
@@ -95,8 +95,8 @@ fn refresh_once<D: Disk>(book: &mut Book<D>, records: &[&[Rec]]) -> Result<(), R
     book.refresh_from(records)
 }
 
-// The status of a refresh that is refused. `Ahead` never comes here, since a book's versions count records of these lists;
-// it is told as want of memory.
+// The status of a refused refresh. `Ahead` never comes here, because a book's versions count records of these lists.
+// The function reports it as `WantOfMemory`.
 fn refusal_of(no: RefreshNo) -> Status
     ensures { result ≡ refresh_status no }
 {

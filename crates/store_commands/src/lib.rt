@@ -1,27 +1,36 @@
-//! The commands over stored archives: `check`, `trend` and `frames`. They open, answer, and save nothing.
+//! The commands over stored archives: `check`, `trend` and `frames`. They open the devices and return a text. They save
+//! nothing.
 //!
-//! **Layer.** Below it stand the files of a plant (`plant_files`), its devices (`plant_store`), reads, frames and the lines of
-//! a report; above it the top call, which prints. No worker is started, and nothing waits.
+//! **Layer.** The crate uses the files of a plant (`plant_files`), its devices (`plant_store`), reads, frames and the
+//! lines of a report. The top call uses the crate, and prints. The commands start no worker, and wait for nothing.
 //!
-//! **`check`** reads the base of a plant, opens its tags over a store of devices, one after the other, and answers a line for
-//! each ([`check`]).
+//! **`check`** reads the base of a plant. It opens the tags over a store of devices, one after the other, and returns a
+//! line for each ([`check`]).
 //!
-//! **`trend`** reads a plan and the files of its readers too. It opens the tags, and then the groups over their devices, and
-//! refreshes each group once from all records of its tags ([`trend`]). The answer to each query is one line ([`trend_text`]): a
-//! tag's content is made of its records and closed by its held point, and read by its line or, of a step tag, by its stair; a
-//! group is answered from the rows that its history ends with, and `none` is printed of a window that has no value there.
-//! Readers are answered in their order, and the queries of each in theirs; both are numbered from 1. All memory for the
+//! **`trend`** reads a plan and the files of its readers too. It opens the tags, and then the groups over their
+//! devices. It refreshes each group once from all records of its tags ([`trend`]). The answer to each query is one line
+//! ([`trend_text`]):
+//! - A query of a tag reads the tag's content: its records, closed by its held point. It reads the line or, of a step
+//!   tag, the stair.
+//! - A query of a group reads the rows that the group's history ends with. For a window that has no value there it
+//!   prints `none`.
+//!
+//! Readers are answered in their order, and so are the queries of each. Both are numbered from 1. All memory for the
 //! contents is taken before the first answer.
 //!
-//! **`frames`** finds a group and a calculation by their names, opens the tags, and then the device of that one group
-//! ([`frames`]). It brings what was saved there up to all records of its tags, by one refresh. The model is two rows of the
-//! calculation: the one for which the device stood, and the one after the refresh. It answers what became of the frames of the
-//! first, and then the frames of the second.
+//! **`frames`** finds a group and a calculation by their names. It opens the tags, and then the device of that one
+//! group ([`frames`]). One refresh brings what was saved there up to all records of its tags. The model is two rows of
+//! the calculation: the one for which the device stood, and the one after the refresh. The text first lists what became
+//! of the frames of the first row, and then the frames of the second.
 //!
-//! **Promise.** `IsChecked`, `IsTrend` and `IsFrames` say what the text is, from the files and devices alone. A refusal is the
-//! first one in the order base, plan, readers' files (or names), tags, groups; before that of a tag no device has changed. A
-//! crash at any moment leaves of each device what one before might have left, or what recovers or stands for the same, or what
-//! recovers the tag as it is opened: of a device that tells its calls, and of fewer than 10^18 events.
+//! **Promise.** `IsChecked`, `IsTrend` and `IsFrames` state what the text is, from the files and devices alone. The
+//! refusal is the first in this order: base, plan, readers' files (or names), tags, groups. A refusal before the tags
+//! changes no device. A crash at any moment leaves of each device one of these:
+//! - what a crash before the command might have left;
+//! - what recovers the same, or stands for the same;
+//! - what recovers the tag as it is opened.
+//!
+//! The promise about crashes is for devices whose calls are known, and for fewer than 10^18 events.
 #![tactic(auto)]
 
 mod frame_command;

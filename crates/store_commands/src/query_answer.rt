@@ -18,7 +18,7 @@ use trend_report::ReplyText;
 use value_rows::Query;
 use weighted_total::answer;
 
-// The answer to a query of one of these tags, or of one of these groups.
+// Answers a query of one of these tags or groups.
 pub(crate) fn reply_to(
     alloc: Global,
     cores: &[TagCore],
@@ -44,7 +44,7 @@ pub(crate) fn reply_to(
     }
 }
 
-// The value of a calculation in a window, by the rows of its group.
+// The value of a calculation in a window, from the rows of its group. `None` if the rows have no such value.
 fn value_at(group: &GroupHistory, calc: u32, k: u64) -> Option<CalcValue>
     ensures { result ≡ cell_of (lists_of group.now.rows.items) calc k }
 {
@@ -56,7 +56,7 @@ fn value_at(group: &GroupHistory, calc: u32, k: u64) -> Option<CalcValue>
     }
 }
 
-// The newest state of a tag.
+// The snapshot of a tag.
 fn snapshot(core: &TagCore) -> Snap
     ensures taken { result.taken ≡ core.now.state.summary.taken }
     ensures held { result.held ≡ core.now.state.summary.held }
@@ -67,7 +67,7 @@ fn snapshot(core: &TagCore) -> Snap
     }
 }
 
-// What a tag answers to a question.
+// A tag's answer to a query.
 #[tactic(auto, using(crate::proofs::Answering::answer_told))]
 fn answer_of(
     alloc: Global,

@@ -14,9 +14,12 @@ use plant_status::Status;
 use plant_store::open_base;
 use std::alloc::Global;
 
-/// What `trend` prints: the answers to the queries of the readers of the plan in the file `plan_name`, over the base in the
-/// file `name`. The device of each tag and of each group is opened, and made where there is none. A group is answered after
-/// one refresh from all records of its tags, which is not saved.
+/// Returns what `trend` prints: the answers to the queries of the readers of the plan in the file `plan_name`, over the
+/// base in the file `name`. The command opens the device of each tag and of each group, and makes a device that is
+/// missing. A group answers after one refresh from all records of its tags. The refresh is not saved.
+///
+/// The error is the first in this order: the base, the plan, a reader's file, a tag, a group. `WantOfMemory` may come
+/// at any time.
 pub fn trend<F: Files, S: Store>(
     alloc: Global,
     files: &mut F,

@@ -8,7 +8,7 @@ use std::alloc::Global;
 use tag_core::TagCore;
 use trend_num::WantOfMemory;
 
-// The content of each tag.
+// Builds the content of each tag from its records.
 pub(crate) fn contents_of(alloc: Global, cores: &[TagCore]) -> Result<Vec<Content>, WantOfMemory>
     ensures { IfOk result (λ contents. AreContentsOf cores.now contents.items) }
 {
@@ -20,7 +20,7 @@ pub(crate) fn contents_of(alloc: Global, cores: &[TagCore]) -> Result<Vec<Conten
     Ok(contents)
 }
 
-// The content of a tag's records.
+// Builds the content of a tag from its records.
 fn content_of(alloc: Global, core: &TagCore) -> Result<Content, WantOfMemory>
     ensures { IfOk result (λ content. content.records ≡ listed core.now.state.records) }
 {

@@ -16,8 +16,9 @@ use plant_store::open_base;
 use std::alloc::Global;
 use trend_report::check_text;
 
-/// What `check` prints: a line for each tag of the base that the file of this name holds. The device of each tag is opened,
-/// and made where there is none.
+/// Returns what `check` prints: a line for each tag of the base in the file `name`. The command opens the device of
+/// each tag, and makes a device that is missing. The error is that of the base, or of the first tag that does not open.
+/// `WantOfMemory` may come at any time.
 pub fn check<F: Files, S: Store>(
     alloc: Global,
     files: &mut F,

@@ -13,8 +13,9 @@ use trend_num::WantOfMemory;
 use trend_report::reply_text;
 use value_rows::Query;
 
-/// What `trend` prints: the answers to the queries of the readers, in order, from the tags as they were
-/// opened and from the rows of the groups. A query asks one of these tags, or one of these groups.
+/// Returns what `trend` prints: the answers to the queries of the readers, in order. The answers come from the tags as
+/// they were opened, and from the rows of the groups. Each query is of one of these tags or groups. The error comes if
+/// there is not enough memory.
 pub fn trend_text(
     alloc: Global,
     cores: &[TagCore],
@@ -43,7 +44,7 @@ pub fn trend_text(
     Ok(text)
 }
 
-// Adds the replies to the queries of a reader.
+// Appends the replies to the queries of a reader.
 fn put_replies(
     alloc: Global,
     text: &mut String,
@@ -66,7 +67,7 @@ fn put_replies(
     Ok(())
 }
 
-// Adds a text.
+// Appends a text.
 fn put_text(text: &mut String, more: &str) -> Result<(), WantOfMemory>
     ensures { OnOk result (string_bytes text.new ≡ string_bytes text.old ++ more.now) }
 {

@@ -33,12 +33,12 @@ tables_of tables =
       groups = map (λ t. table_view t.now) tables.groups.items;
     }
 
--- one tag or more
+-- one table or more
 abbrev pub some_tables : List Members → Option (List Members)
 some_tables [] = None
 some_tables (ms ∷ mss) = Some (ms ∷ mss)
 
--- the tables of a document with the keys `tag` and, at will, `group`
+-- the tables of a document with the key `tag` and the optional key `group`
 abbrev pub base_arrays : Members → Option BaseForm
 base_arrays ms =
     if has_keys (codes "tag" ∷ []) (codes "group" ∷ []) ms
@@ -47,8 +47,8 @@ base_arrays ms =
     (option_and_then some_tables (tables_at (codes "tag") ms))
     else None
 
--- the tables of what was found in bytes: rule 1 asks for a document, rule 2 for its arrays; then how many
--- tags there are, and how many groups
+-- The tables of a document, if the bytes are one. Rule 1 asks for a document, and rule 2 for its arrays. Then the
+-- limits of tags and of groups are checked.
 abbrev pub base_tables : Option Members → Result BaseForm TextNo
 base_tables found =
     where_given found (broken 1 0) (λ ms.
@@ -62,12 +62,12 @@ abbrev pub IsBaseOf : List TagDef → List GroupDef → Result Base TextNo → T
 IsBaseOf tags groups (Ok base) = (base.tags.items ≡ tags) × (base.groups.items ≡ groups)
 IsBaseOf tags groups (Err why) = ⊥
 
--- what the tables of a base come to: the tags first, and then the groups
+-- the answer to the tables of a base: the tags come first, and then the groups
 abbrev pub TablesRead : BaseForm → Result Base TextNo → Type 0
 TablesRead tables = Follows (tags_after [] tables.tags)
     (λ tags answer. (groups : Result (List GroupDef) TextNo)
     × GroupsRead tags [] tables.groups groups × Follows groups (IsBaseOf tags) answer)
 
--- what bytes come to as a base
+-- the answer to bytes that are read as a base
 abbrev pub BaseRead : List ℕ → Result Base TextNo → Type 0
 BaseRead bytes = Follows (base_tables (document bytes)) TablesRead

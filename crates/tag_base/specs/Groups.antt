@@ -40,7 +40,7 @@ pub record CalcForm : Type 0 where
 abbrev pub formula_text_of : CalcText → CalcForm
 formula_text_of text = record { name = text.name; formula = string_bytes text.formula }
 
--- a group, of whose formulas only the texts are known
+-- a group whose formulas are not parsed yet
 pub record GroupForm : Type 0 where
   pub name : List ℕ
   pub inputs : List Input
@@ -58,21 +58,21 @@ formula_form_of g =
       calcs = map formula_text_of g.calcs.items;
     }
 
--- the place of the first group of a name
+-- the place of the first group with this name
 abbrev pub group_place : List GroupDef → List ℕ → Option ℕ
 group_place groups name = position (λ g. bytes_eq g.name name) groups
 
--- the name of a table, where it is one and no earlier group has it
+-- the name of a table, if it is one and no earlier group has it
 abbrev pub new_group_name : List GroupDef → Members → Option (List ℕ)
 new_group_name earlier ms =
     option_and_then (λ name. if is_none (group_place earlier name) then Some name else None)
     (name_at (codes "name") ms)
 
--- whether the tag at a place is among inputs
+-- whether the tag at a place is one of these inputs
 abbrev pub is_input : List Input → ℕ → Bool
 is_input inputs place = list_any (λ i. nat_eq i.place place) inputs
 
--- the tag at a place as an input, where it is no step tag and no earlier input
+-- the tag at a place as an input, unless it is a step tag or an input already
 abbrev pub new_input : List TagDef → List Input → ℕ → Option Input
 new_input tags earlier place =
     option_and_then (λ tag. if tag.step || is_input earlier place then None else Some (record { place = place; name = tag.name }))
@@ -86,7 +86,7 @@ named_input tags earlier name = option_and_then (new_input tags earlier) (tag_pl
 abbrev pub inputs_at : List TagDef → Members → Option (List Input)
 inputs_at tags ms = places_at (named_input tags) most_inputs (codes "tags") ms
 
--- a calculation of two texts, whose name no earlier one has
+-- the calculation of a table with a name and a formula, if no earlier one has the name
 abbrev pub calc_text : List CalcForm → Members → Option CalcForm
 calc_text earlier ms =
     if has_keys (codes "name" ∷ codes "formula" ∷ []) [] ms
@@ -112,8 +112,9 @@ calcs_at ms = option_and_then calcs_of (tables_at (codes "calc") ms)
 abbrev pub group_keys : List (List ℕ)
 group_keys = codes "name" ∷ codes "tags" ∷ codes "start" ∷ codes "period" ∷ codes "calc" ∷ []
 
--- the text of a group after some groups, by the rules of a group in their order: 6 its keys, 7 its name, 8
--- its inputs, 9 its start and period, 10 its calculations; and then how many these are
+-- The group of a table after some groups, with its formulas as texts. Its rules, in their order: 6 for its keys, 7 for
+-- its name, 8 for its inputs, 9 for its start and period, 10 for its calculations. Then the limit of calculations is
+-- checked.
 abbrev pub group_text : List TagDef → List GroupDef → Members → Result GroupForm TextNo
 group_text tags earlier ms =
     where_held (has_keys group_keys [] ms) (broken 6 (length earlier))
@@ -125,7 +126,7 @@ group_text tags earlier ms =
     limited Calcs most_calcs (length calcs)
     (Ok (record { name = name; inputs = inputs; start = start; period = period; calcs = calcs }))))))))
 
--- what holds of every such text over so many tags
+-- what holds for every such group over so many tags
 pub record IsSoundText (tags : ℕ) (text : GroupText) : Type 0 where
   pub inputs_are_tags : All (λ i. i.place < tags) text.inputs.items
   pub some_inputs : 1 ≤ vec_len text.inputs
@@ -138,21 +139,21 @@ pub record IsSoundText (tags : ℕ) (text : GroupText) : Type 0 where
 
 -- ---- its calculations
 
--- the calculations have the names of the texts, and the trees of their formulas
+-- the calculations have the names of the texts, and the trees that their formulas parse to
 abbrev pub Define : List CalcForm → List Calculation → Type 0
 Define [] [] = ⊤
 Define (text ∷ texts) (calc ∷ calcs) =
     (calc.name ≡ text.name) × IsFormula text.formula calc.tree × Define texts calcs
 Define texts calcs = ⊥
 
--- what is told of a text that is refused as a formula
+-- the refusal of a text that is no formula, in the group at a place
 abbrev pub told_of : ℕ → ParseNo → TextNo
 told_of place (parse_no.Long count) = BadText 11 place most_bytes
 told_of place (parse_no.Deep at) = BadText 11 place at
 told_of place (parse_no.Syntax at kind) = BadText 11 place at
 told_of place parse_no.WantOfMemory = WantOfMemory
 
--- the first of the texts that is no formula is refused, and this is told of it
+-- the first of the texts that is no formula is refused, with this reason
 pub record IsFirstRefused (place : ℕ) (texts : List CalcForm) (why : TextNo) : Type 0 where
   pub front : List CalcForm
   pub text : CalcForm
@@ -164,19 +165,19 @@ pub record IsFirstRefused (place : ℕ) (texts : List CalcForm) (why : TextNo) :
   pub cause : HasFormulaCause text.formula reason
   pub told : why ≡ told_of place reason
 
--- the texts are formulas, in which a name stands for nothing
+-- the texts are formulas, but a name in one of them is neither an input nor an earlier calculation
 pub record IsFaulty (inputs : List (List ℕ)) (texts : List CalcForm) : Type 0 where
   pub calcs : List Calculation
   pub defined : Define texts calcs
   pub fault : fault_of (record { inputs = inputs; calcs = calcs }) ≢ None
 
--- the calculations of texts, in which each name stands for something
+-- the calculations of texts, in which each name is an input or an earlier calculation
 pub record AreCalcs (inputs : List (List ℕ)) (texts : List CalcForm) (g : Group) : Type 0 where
   pub inputs_are : g.inputs ≡ inputs
   pub defined : Define texts g.calcs
   pub known : fault_of g ≡ None
 
--- what the calculations of the group at a place come to: rule 11 asks for formulas, and rule 12 for names
+-- the answer to the calculations of the group at a place: rule 11 asks for formulas, and rule 12 for known names
 abbrev pub CalcsRead : ℕ → List (List ℕ) → List CalcForm → Result Group TextNo → Type 0
 CalcsRead place inputs texts (Ok g) = AreCalcs inputs texts g
 CalcsRead place inputs texts (Err why) =
@@ -196,8 +197,11 @@ abbrev pub IsGroupAnswer : GroupForm → Group → Result GroupDef TextNo → Ty
 IsGroupAnswer text calcs (Ok g) = IsGroupOf text calcs g
 IsGroupAnswer text calcs (Err why) = ⊥
 
--- what holds of every group that is read, over so many tags: 1 to 64 inputs, each a tag, whose names the
--- calculations stand on; 1 to 64 calculations; a start that is a time; a period from 1 to the longest
+-- What holds for every group that is read, over so many tags:
+-- - It has 1 to 64 inputs. Each is a tag, and the calculations have a name for each.
+-- - It has 1 to 64 calculations.
+-- - Its start is a time.
+-- - Its period is from 1 to the longest, in milliseconds.
 pub record IsSoundGroup (tags : ℕ) (g : GroupDef) : Type 0 where
   pub inputs_are_tags : All (λ i. i < tags) g.inputs.items
   pub some_inputs : 1 ≤ length g.inputs.items
@@ -209,17 +213,17 @@ pub record IsSoundGroup (tags : ℕ) (g : GroupDef) : Type 0 where
   pub some_period : 1 ≤ g.period
   pub short_period : g.period ≤ longest_period
 
--- what the text of a group comes to, after so many groups
+-- the answer to the text of a group, after so many groups
 abbrev pub TextRead : ℕ → GroupForm → Result GroupDef TextNo → Type 0
 TextRead place text answer = (calcs : Result Group TextNo)
     × CalcsRead place (map (λ i. i.name) text.inputs) text.calcs calcs
     × Follows calcs (IsGroupAnswer text) answer
 
--- what the table of a group comes to, after some groups
+-- the answer to the table of a group, after some groups
 abbrev pub GroupRead : List TagDef → List GroupDef → Members → Result GroupDef TextNo → Type 0
 GroupRead tags earlier ms answer = Follows (group_text tags earlier ms) (TextRead (length earlier)) answer
 
--- what the tables of groups come to, in order, after some groups
+-- the answer to the tables of groups, in order, after some groups
 abbrev pub GroupsRead : List TagDef → List GroupDef → List Members → Result (List GroupDef) TextNo → Type 0
 GroupsRead tags earlier [] answer = answer ≡ Ok earlier
 GroupsRead tags earlier (ms ∷ mss) answer = (first : Result GroupDef TextNo)

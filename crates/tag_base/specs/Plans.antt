@@ -51,7 +51,7 @@ tables_of tables = record {
 abbrev pub plan_keys : List (List ℕ)
 plan_keys = codes "collector" ∷ codes "reader" ∷ codes "refresher" ∷ []
 
--- the tables of a document whose keys are among these three
+-- the tables of a document that has no other keys than these three
 abbrev pub plan_arrays : Members → Option PlanForm
 plan_arrays ms =
     if has_keys [] plan_keys ms
@@ -61,34 +61,34 @@ plan_arrays ms =
     (tables_if_there (codes "reader") ms)) (tables_if_there (codes "collector") ms)
     else None
 
--- 1 to 255 bytes
+-- whether bytes are a file name: 1 to 255 bytes
 abbrev pub is_file_name : List ℕ → Bool
 is_file_name bytes = nat_le 1 (length bytes) && nat_le (length bytes) 255
 
--- the name of the file of a table that has nothing else
+-- the file name of a table that has nothing else
 abbrev pub file_of : Members → Option (List ℕ)
 file_of ms =
     if has_keys (codes "file" ∷ []) [] ms
     then option_and_then (λ text. if is_file_name text then Some text else None) (string_at (codes "file") ms)
     else None
 
--- the files of tables, in order, after_step some files; each table is to keep this rule
+-- the files of tables, in order, after some files; a table that breaks the rule is refused with this number
 abbrev pub files_after : ℕ → List (List ℕ) → List Members → Result (List (List ℕ)) TextNo
 files_after rule earlier [] = Ok earlier
 files_after rule earlier (ms ∷ mss) =
     where_given (file_of ms) (broken rule (length earlier)) (λ file. files_after rule (earlier ++ file ∷ []) mss)
 
--- whether a refresher has the group at a place
+-- whether one of these refreshers has the group at a place
 abbrev pub is_refreshed : List Refresher → ℕ → Bool
 is_refreshed refreshers place = list_any (λ r. nat_eq r.group place) refreshers
 
--- the group that a table names, where no earlier refresher has it
+-- the place of the group that a table names, if no earlier refresher has it
 abbrev pub new_group : List GroupDef → List Refresher → Members → Option ℕ
 new_group groups earlier ms =
     option_and_then (λ place. if is_refreshed earlier place then None else Some place)
     (option_and_then (group_place groups) (string_at (codes "group") ms))
 
--- the refresher of a table, after_step some refreshers
+-- the refresher of a table, after some refreshers
 abbrev pub refresher_of : List GroupDef → List Refresher → Members → Option Refresher
 refresher_of groups earlier ms =
     if has_keys (codes "group" ∷ codes "turns" ∷ []) [] ms
@@ -103,8 +103,8 @@ refreshers_after groups earlier (ms ∷ mss) =
     where_given (refresher_of groups earlier ms) (broken 5 (length earlier))
     (λ r. refreshers_after groups (earlier ++ r ∷ []) mss)
 
--- the tables of what was found in bytes: rule 1 asks for a document, rule 2 for its arrays; then how many
--- collectors there are, and how many readers
+-- The tables of a document, if the bytes are one. Rule 1 asks for a document, and rule 2 for its arrays. Then the
+-- limits of collectors and of readers are checked.
 abbrev pub plan_tables : Option Members → Result PlanForm TextNo
 plan_tables found =
     where_given found (broken 1 0) (λ ms.
@@ -113,8 +113,7 @@ plan_tables found =
     (limited Readers most_files (length tables.readers)
     (Ok tables))))
 
--- the plan of bytes over the groups of a base: rule 3 is that of a collector, 4 that of a reader, 5 that of
--- a refresher
+-- the plan of bytes over the groups of a base; rule 3 is for collectors, 4 for readers, 5 for refreshers
 abbrev pub plan : List GroupDef → List ℕ → Result PlanParts TextNo
 plan groups bytes =
     after_step (plan_tables (document bytes)) (λ tables.

@@ -18,18 +18,18 @@ tag_keys = codes "name" ∷ codes "exc_dev" ∷ codes "exc_max" ∷
 abbrev pub free_tag_keys : List (List ℕ)
 free_tag_keys = codes "descriptor" ∷ codes "engunits" ∷ codes "step" ∷ []
 
--- nothing, or a text
+-- whether a value is missing, or is a text
 abbrev pub is_text_if_there : Option Data → Bool
 is_text_if_there None = true
 is_text_if_there (Some d) = is_some (as_str d)
 
--- a table with the keys of a tag, whose description and units are texts
+-- whether a table has the keys of a tag, and its description and units are texts if it has them
 abbrev pub has_tag_form : Members → Bool
 has_tag_form ms = has_keys tag_keys free_tag_keys ms
     && is_text_if_there (get_member (codes "descriptor") ms)
     && is_text_if_there (get_member (codes "engunits") ms)
 
--- five whole numbers in their ranges
+-- the tuning of a table, if its five numbers are whole numbers in their ranges
 abbrev pub tuning_at : Members → Option Tuning
 tuning_at ms =
     option_and_then (λ exc_dev. option_and_then (λ exc_max. option_and_then (λ comp_dev.
@@ -45,23 +45,23 @@ tuning_at ms =
     (number_at (codes "comp_dev") 0 largest_value ms)) (number_at (codes "exc_max") 0 last_time ms))
     (number_at (codes "exc_dev") 0 largest_value ms)
 
--- whether it is a step tag: false where nothing is said
+-- whether it is a step tag; a missing value means false
 abbrev pub step_of : Option Data → Option Bool
 step_of None = Some false
 step_of (Some d) = as_bool d
 
--- the place of the first tag of a name
+-- the place of the first tag with this name
 abbrev pub tag_place : List TagDef → List ℕ → Option ℕ
 tag_place tags name = position (λ t. bytes_eq t.name name) tags
 
--- the name of a table, where it is one and no earlier tag has it
+-- the name of a table, if it is one and no earlier tag has it
 abbrev pub new_tag_name : List TagDef → Members → Option (List ℕ)
 new_tag_name earlier ms =
     option_and_then (λ name. if is_none (tag_place earlier name) then Some name else None)
     (name_at (codes "name") ms)
 
--- the tag of a table after_step some tags, by the rules of a tag in their order: 3 its keys, 4 its name, 5 its
--- numbers and whether it is a step tag
+-- The tag of a table after some tags. Its rules, in their order: 3 for its keys, 4 for its name, 5 for its numbers and
+-- for whether it is a step tag.
 abbrev pub tag_of : List TagDef → Members → Result TagDef TextNo
 tag_of earlier ms =
     where_held (has_tag_form ms) (broken 3 (length earlier))
@@ -70,7 +70,7 @@ tag_of earlier ms =
     where_given (step_of (get_member (codes "step") ms)) (broken 5 (length earlier)) (λ step.
     Ok (record { name = name; tuning = tuning; step = step })))))
 
--- the tags of tables, in order, after_step some tags
+-- the tags of tables, in order, after some tags
 abbrev pub tags_after : List TagDef → List Members → Result (List TagDef) TextNo
 tags_after earlier [] = Ok earlier
 tags_after earlier (ms ∷ mss) = after_step (tag_of earlier ms) (λ tag. tags_after (earlier ++ tag ∷ []) mss)

@@ -1,4 +1,4 @@
-// The names, the numbers and the tables that stand at the keys of a table.
+// The names, the numbers and the tables at the keys of a table.
 ghost use Rattle.std.specs.Prelude.{◌≡◌, ◌≤◌, [], map, IfOk, IfSome, option_map};
 ghost use Rattle.toml.specs.View.{table_view, items_view};
 ghost use Rattle.tag_base.specs.Tables.{name_at, number_at, within, tables_at, tables_if_there, tables_after};
@@ -8,7 +8,7 @@ use toml::{Table, Value};
 use toml_tables::{items_at, string_at, value_at};
 use trend_num::{Name, WantOfMemory, name_from};
 
-// The name at a key, where it is a text that is a name.
+// The name at a key. `None` if there is no text at the key, or the text is no name.
 pub(crate) fn name_at(table: &Table, key: &str) -> Option<Name>
     ensures { result ≡ name_at key.now (table_view table.now) }
 {
@@ -18,7 +18,7 @@ pub(crate) fn name_at(table: &Table, key: &str) -> Option<Name>
     }
 }
 
-// The number at a key, where it is a whole number from the least to the most.
+// The whole number at a key. `None` if there is none, or if it is not from `least` to `most`, both included.
 pub(crate) fn number_at(table: &Table, key: &str, least: u64, most: u64) -> Option<u64>
     ensures number { result ≡ number_at key.now least most (table_view table.now) }
     ensures not_below { IfSome result (λ n. least ≤ n) }
@@ -33,7 +33,7 @@ pub(crate) fn number_at(table: &Table, key: &str, least: u64, most: u64) -> Opti
     }
 }
 
-// The number, where it is not below the least nor above the most.
+// The number, or `None` if it is below `least` or above `most`.
 fn within(number: i64, least: u64, most: u64) -> Option<u64>
     ensures number { result ≡ within least most number }
     ensures not_below { IfSome result (λ n. least ≤ n) }
@@ -48,7 +48,7 @@ fn within(number: i64, least: u64, most: u64) -> Option<u64>
     Some(number)
 }
 
-// The tables of the array at a key, where each of its items is a table.
+// The tables of the array at a key. `None` if there is no array, or if an item is no table.
 pub(crate) fn tables_at<'t>(
     alloc: Global,
     table: &'t Table,
@@ -64,7 +64,7 @@ pub(crate) fn tables_at<'t>(
     }
 }
 
-// The same, and an empty list where the key is not there.
+// The same for an optional key: an empty list if the key is missing.
 pub(crate) fn tables_if_there<'t>(
     alloc: Global,
     table: &'t Table,
@@ -80,7 +80,7 @@ pub(crate) fn tables_if_there<'t>(
     tables_at(alloc, table, key)
 }
 
-// The tables among items, where each of the items is one.
+// The items as tables. `None` if an item is no table.
 fn tables_of<'t>(alloc: Global, items: &'t [Value]) -> Result<Option<Vec<&'t Table>>, WantOfMemory>
     ensures { IfOk result (λ found.
         option_map (λ ts. map (λ t. table_view t.now) ts.items) found

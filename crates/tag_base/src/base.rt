@@ -1,4 +1,4 @@
-// From bytes to a base.
+// Reads a base from bytes.
 ghost use Rattle.std.specs.Prelude.{◌≡◌, ◌≤◌, false, vec_len, All, Err, IfOk, None, option_map, length};
 ghost use Rattle.std.specs.Str.{is_utf8};
 ghost use Rattle.toml.specs.View.{table_view};
@@ -30,8 +30,8 @@ struct BaseTables<'t> {
     groups: Vec<&'t Table>,
 }
 
-// The tables of a document with the keys `tag` and, at will, `group`, each an array of tables, the first
-// not empty.
+// The tables at the keys `tag` and `group` of a document. Each is an array of tables. `tag` has at least one table, and
+// `group` is optional. `None` if the document has another form or another key.
 fn base_arrays<'t>(alloc: Global, table: &'t Table) -> Result<Option<BaseTables<'t>>, WantOfMemory>
     ensures { IfOk result (λ found. option_map tables_of found ≡ base_arrays (table_view table.now)) }
 {
@@ -50,7 +50,8 @@ fn base_arrays<'t>(alloc: Global, table: &'t Table) -> Result<Option<BaseTables<
     Ok(Some(BaseTables { tags, groups }))
 }
 
-// The tables of the tags and of the groups, of which there are not too many.
+// The tables of the tags and of the groups. Refuses bytes that are no document, a document of another form, and too
+// many tags or groups, in this order.
 fn base_tables<'t>(alloc: Global, document: &'t Option<Table>) -> Result<BaseTables<'t>, TextNo>
     ensures none { document.now ≡ None → result ≡ Err (broken 1 0) }
     ensures tables { AnswersDue tables_of result (base_tables (option_map table_view document.now)) }
@@ -68,13 +69,13 @@ fn base_tables<'t>(alloc: Global, document: &'t Option<Table>) -> Result<BaseTab
     Ok(tables)
 }
 
-/// The base that bytes spell, or the first rule that they break, or the first count that is above its
-/// limit. The order is: that of the whole text, the counts of tags and of groups, each tag in turn, each
-/// group in turn.
+/// Reads a base from the bytes of a TOML text. The checks are in this order: the whole text, the counts of tags and of
+/// groups, each tag in turn, each group in turn. The first check that fails decides the error: `BadText` names the
+/// broken rule, and `Limit` the count above its limit. `WantOfMemory` comes if there is not enough memory.
 pub fn read_base(alloc: Global, bytes: &[u8]) -> Result<Base, TextNo>
     ensures base { AnswersOneDue (λ base. base) result (BaseRead bytes.now) }
 
-    // Bytes that are no text break the first rule, whatever memory there is.
+    // Bytes that are not UTF-8 break the first rule, however little memory there is.
     ensures no_text { is_utf8 bytes.now ≡ false → result ≡ Err (broken 1 0) }
     ensures sound { IfOk result (λ base. All (IsSoundGroup (length base.tags.items)) base.groups.items) }
     ensures tuned { IfOk result (λ base. All (λ tag. TuningInRange tag.tuning) base.tags.items) }

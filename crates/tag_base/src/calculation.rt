@@ -25,7 +25,8 @@ pub(crate) struct CalcText {
     pub(crate) formula: String,
 }
 
-// The calculation of a table, where it is two texts of which the first is a name that no earlier one has.
+// The calculation of a table with a name and a formula. `None` if the table has another form, or an earlier calculation
+// has the name.
 fn calc_text(
     alloc: Global,
     earlier: &[CalcText],
@@ -50,7 +51,7 @@ fn calc_text(
     Ok(Some(CalcText { name, formula }))
 }
 
-// Whether a calculation has a name.
+// Whether one of these calculations has this name.
 fn is_taken(calcs: &[CalcText], name: &Name) -> bool
     ensures { result ≡ list_any (λ c. bytes_eq c.name name.now) (map formula_text_of calcs.now) }
 {
@@ -62,7 +63,7 @@ fn is_taken(calcs: &[CalcText], name: &Name) -> bool
     false
 }
 
-// The calculations of tables.
+// The calculations of tables. `None` if one of the tables is no calculation.
 fn calcs_of(alloc: Global, tables: &[&Table]) -> Result<Option<Vec<CalcText>>, WantOfMemory>
     ensures calcs { IfOk result (λ found.
         option_map (λ calcs. map formula_text_of calcs.items) found
@@ -79,7 +80,7 @@ fn calcs_of(alloc: Global, tables: &[&Table]) -> Result<Option<Vec<CalcText>>, W
     Ok(Some(calcs))
 }
 
-// The calculations of the table of a group, where there is one or more.
+// The calculations of the table of a group. `None` if there are none, or if one of the tables is no calculation.
 pub(crate) fn calcs_at(alloc: Global, table: &Table) -> Result<Option<Vec<CalcText>>, WantOfMemory>
     ensures calcs { IfOk result (λ found.
         option_map (λ calcs. map formula_text_of calcs.items) found ≡ calcs_at (table_view table.now)) }
@@ -94,7 +95,8 @@ pub(crate) fn calcs_at(alloc: Global, table: &Table) -> Result<Option<Vec<CalcTe
     calcs_of(alloc, &tables)
 }
 
-// The calculations that texts define, or where the first text that is no formula is refused.
+// Parses the formulas of the group at a place. Refuses the first text that is no formula, with the byte at which it is
+// refused.
 fn defs_of(alloc: Global, place: u32, texts: &[CalcText]) -> Result<Vec<CalcDef>, TextNo>
     ensures defined { IfOk result (λ defs. Define (map formula_text_of texts.now) (map calculation defs.items)) }
     ensures as_many { IfOk result (λ defs. vec_len defs ≡ length texts.now) }
@@ -113,7 +115,7 @@ fn defs_of(alloc: Global, place: u32, texts: &[CalcText]) -> Result<Vec<CalcDef>
     Ok(defs)
 }
 
-// What is told of a formula that is refused.
+// The refusal of a formula that does not parse, in the group at a place.
 fn refusal(place: u32, why: ParseNo) -> TextNo
     ensures { result ≡ told_of place why }
 {
@@ -132,7 +134,7 @@ fn refusal(place: u32, why: ParseNo) -> TextNo
     }
 }
 
-// The checked calculations of the group at a place, or why they are refused.
+// Parses and checks the calculations of the group at a place.
 pub(crate) fn checked(
     alloc: Global,
     place: u32,

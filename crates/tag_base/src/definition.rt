@@ -4,10 +4,10 @@ ghost use Rattle.std.specs.Prelude.{◌≤◌, vec_len};
 use calc_check::Checked;
 use trend_num::{Name, TagDef};
 
-/// A group of calculations over tags, whose windows follow one another from a start on.
+/// A group of calculations over tags. Its windows follow one another, beginning at `start`.
 #[derive(Drop)]
 pub struct GroupDef {
-    /// The name that no other group has.
+    /// Its name, which no other group has.
     pub name: Name,
     /// The places of its tags in the base.
     pub inputs: Vec<u32>,
@@ -19,7 +19,7 @@ pub struct GroupDef {
     pub calcs: Checked,
 }
 
-/// The tags of a plant, and the groups of its calculations.
+/// A base: at most 1,024 tags of a plant, and at most 16 groups of its calculations.
 #[derive(Drop)]
 pub struct Base {
     pub tags: Vec<TagDef>,

@@ -20,7 +20,7 @@ impl Model for FileName {
 }
 
 impl FileName {
-    // The text as a name.
+    // Makes a name of a text.
     pub(crate) fn new(text: String) -> FileName
         requires some { 0 < length (string_bytes text) }
         requires short { length (string_bytes text) ≤ 255 }
@@ -29,7 +29,7 @@ impl FileName {
         FileName { text }
     }
 
-    /// Its text.
+    /// Returns the name as a text of 1 to 255 bytes.
     pub fn text(&self) -> &str
         ensures same { result.now ≡ self.now }
         ensures some { 0 < length result.now }

@@ -23,7 +23,7 @@ const MAX_CALCS: usize = 64;
 // The longest period, in milliseconds.
 const MAX_PERIOD: u64 = 1_000_000_000_000;
 
-// A group, of whose formulas only the texts are known.
+// A group whose formulas are not parsed yet.
 #[derive(Debug, Drop)]
 struct GroupText {
     name: Name,
@@ -33,7 +33,7 @@ struct GroupText {
     calcs: Vec<CalcText>,
 }
 
-// The place of the first group of a name.
+// The place of the first group with this name.
 pub(crate) fn group_place(groups: &[GroupDef], name: &[u8]) -> Option<usize>
     ensures place { result ≡ group_place groups.now name.now }
     ensures there { IfSome result (λ i. i < length groups.now) }
@@ -41,7 +41,7 @@ pub(crate) fn group_place(groups: &[GroupDef], name: &[u8]) -> Option<usize>
     groups.iter().position(|group| group.name.bytes() == name)
 }
 
-// The name of a table, where it is one and no earlier group has it.
+// The name of a group's table. `None` if it is no name, or if an earlier group has it.
 fn new_group_name(earlier: &[GroupDef], table: &Table) -> Option<Name>
     ensures { result ≡ new_group_name earlier.now (table_view table.now) }
 {
@@ -52,8 +52,8 @@ fn new_group_name(earlier: &[GroupDef], table: &Table) -> Option<Name>
     Some(name)
 }
 
-// The text of a group after some groups, or the first rule that its table breaks before its formulas are
-// read.
+// The group of a table that comes after some groups, with its formulas as texts. Refuses the first rule that the table
+// breaks, other than those of formulas, or too many calculations.
 fn group_text(
     alloc: Global,
     tags: &[TagDef],
@@ -110,7 +110,7 @@ fn names_of(alloc: Global, inputs: &[Input]) -> Result<Vec<Name>, WantOfMemory>
     Ok(names)
 }
 
-// The group of a table after some groups, or the first rule that the table breaks.
+// The group of a table that comes after some groups, or the first rule that the table breaks.
 fn group_of(
     alloc: Global,
     tags: &[TagDef],

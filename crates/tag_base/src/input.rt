@@ -6,21 +6,21 @@ use crate::tag::tag_place;
 use toml_tables::Places;
 use trend_num::{Name, TagDef};
 
-// An input of a group: the place of its tag, and the tag's name.
+// An input of a group: the place of its tag in the base, and the tag's name.
 #[derive(Clone, Copy, Debug, PartialEq, Eq)]
 pub(crate) struct Input {
     pub(crate) place: u32,
     pub(crate) name: Name,
 }
 
-// Whether the tag at a place is among inputs.
+// Whether the tag at a place is one of these inputs.
 fn is_input(inputs: &[Input], place: u32) -> bool
     ensures { result ≡ is_input inputs.now place }
 {
     inputs.iter().any(|input| input.place == place)
 }
 
-// The tag at a place as an input, where it is no step tag and no earlier input.
+// The tag at a place as an input. `None` if it is a step tag, or an input already.
 fn new_input(tags: &[TagDef], earlier: &[Input], place: usize) -> Option<Input>
     requires there { place < length tags.now }
     requires few_tags { length tags.now ≤ 1024 }
@@ -38,7 +38,7 @@ fn new_input(tags: &[TagDef], earlier: &[Input], place: usize) -> Option<Input>
     })
 }
 
-// The tags of a base, of which inputs are named.
+// The tags of a base, from which a group names its inputs.
 #[derive(Drop)]
 pub(crate) struct InputTags<'t> {
     pub(crate) tags: &'t [TagDef],

@@ -1,10 +1,11 @@
-//! The base and the plan of a plant, read from TOML.
+//! Reads the base and the plan of a plant from TOML.
 //!
-//! A base names the tags of a plant and the groups of its calculations, and a plan the files of a run. The
-//! model is the reading of a text by rules in a fixed order, stated in `specs/` over the document that
-//! `toml` gives: `read_base` and `read_plan` answer what it says, or the first rule that is broken with the
-//! place of its table, or the first count that is above its limit. A formula is read by `calc_parser`, and
-//! the calculations of a group are checked by `calc_check`.
+//! A base names the tags of a plant and the groups of its calculations. A plan names the files of a run.
+//!
+//! The model reads a text by rules in a fixed order. The rules are in `specs/`, over the document that `toml` returns.
+//! [`read_base`] and [`read_plan`] return what the text says. A text that breaks a rule is refused with the first rule
+//! that it breaks and the place of the table. A count above its limit is refused with the count. `calc_parser` reads
+//! each formula, and `calc_check` checks the calculations of a group.
 #![tactic(auto)]
 
 mod access;

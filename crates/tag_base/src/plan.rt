@@ -1,4 +1,4 @@
-// From bytes to a plan.
+// Reads a plan from bytes.
 ghost use Rattle.std.specs.Prelude.{◌≡◌, ◌≤◌, ◌<◌, [], false, map, length, Err, IfOk, None, option_map, All, vec_len, IfSome};
 ghost use Rattle.std.specs.Str.{is_utf8};
 ghost use Rattle.toml.specs.View.{table_view};
@@ -19,7 +19,7 @@ use trend_num::{WantOfMemory, What};
 // The most collectors of a plan, and the most readers.
 const MAX_FILES: usize = 16;
 
-// The most bytes of the name of a file.
+// The most bytes of a file's name.
 const MAX_NAME: usize = 255;
 
 // The most turns of a refresher.
@@ -33,7 +33,8 @@ struct PlanTables<'t> {
     refreshers: Vec<&'t Table>,
 }
 
-// The tables of a document whose keys are among these three, each an array of tables.
+// The tables of a document at `collector`, `reader` and `refresher`. Each key is optional, and holds an array of
+// tables. `None` if the document has another form or another key.
 fn plan_arrays<'t>(alloc: Global, table: &'t Table) -> Result<Option<PlanTables<'t>>, WantOfMemory>
     ensures { IfOk result (λ found. option_map tables_of found ≡ plan_arrays (table_view table.now)) }
 {
@@ -56,7 +57,8 @@ fn plan_arrays<'t>(alloc: Global, table: &'t Table) -> Result<Option<PlanTables<
     }))
 }
 
-// The tables of the collectors, the readers and the refreshers, of which the first two are not too many.
+// The tables of the collectors, the readers and the refreshers. Refuses bytes that are no document, a document of
+// another form, and too many collectors or readers, in this order.
 fn plan_tables<'t>(alloc: Global, document: &'t Option<Table>) -> Result<PlanTables<'t>, TextNo>
     ensures none { document.now ≡ None → result ≡ Err (broken 1 0) }
     ensures tables { AnswersDue tables_of result (plan_tables (option_map table_view document.now)) }
@@ -74,7 +76,8 @@ fn plan_tables<'t>(alloc: Global, document: &'t Option<Table>) -> Result<PlanTab
     Ok(tables)
 }
 
-// The file of a table that names one and has nothing else.
+// The file name of a table that has the key `file` alone. `None` if the table has another form, or the name is empty or
+// longer than 255 bytes.
 fn file_of(alloc: Global, table: &Table) -> Result<Option<FileName>, WantOfMemory>
     ensures { IfOk result (λ found. found ≡ file_of (table_view table.now)) }
 {
@@ -91,7 +94,7 @@ fn file_of(alloc: Global, table: &Table) -> Result<Option<FileName>, WantOfMemor
     Ok(Some(FileName::new(text)))
 }
 
-// The files of tables, or the first table that breaks the rule.
+// The files of tables. Refuses the first table that breaks this rule.
 fn files_of(alloc: Global, rule: u8, tables: &[&Table]) -> Result<Vec<FileName>, TextNo>
     ensures files { AnswersDue (λ files. files.items) result
         (files_after rule [] (map (λ t. table_view t.now) tables.now)) }
@@ -107,14 +110,14 @@ fn files_of(alloc: Global, rule: u8, tables: &[&Table]) -> Result<Vec<FileName>,
     Ok(files)
 }
 
-// Whether a refresher has the group at a place.
+// Whether one of these refreshers has the group at a place.
 fn is_refreshed(refreshers: &[Refresher], group: u32) -> bool
     ensures { result ≡ is_refreshed refreshers.now group }
 {
     refreshers.iter().any(|refresher| refresher.group == group)
 }
 
-// The place of the group that a table names, where no earlier refresher has it.
+// The place of the group that a table names. `None` if there is no such group, or an earlier refresher has it.
 fn new_group(groups: &[GroupDef], earlier: &[Refresher], table: &Table) -> Option<u32>
     requires { length groups.now ≤ 16 }
     ensures group { result ≡ new_group groups.now earlier.now (table_view table.now) }
@@ -133,8 +136,8 @@ fn new_group(groups: &[GroupDef], earlier: &[Refresher], table: &Table) -> Optio
     Some(place)
 }
 
-// The refresher of a table, where the table names a group that no earlier refresher has, and 0 to 1,000
-// turns.
+// The refresher of a table that names a group and 0 to 1,000 turns. `None` if the table has another form, or an earlier
+// refresher has the group.
 fn refresher_of(groups: &[GroupDef], earlier: &[Refresher], table: &Table) -> Option<Refresher>
     requires { length groups.now ≤ 16 }
     ensures refresher { result ≡ refresher_of groups.now earlier.now (table_view table.now) }
@@ -148,7 +151,7 @@ fn refresher_of(groups: &[GroupDef], earlier: &[Refresher], table: &Table) -> Op
     Some(Refresher { group, turns })
 }
 
-// The refreshers of tables, or the first table that breaks the rule.
+// The refreshers of tables. Refuses the first table that is none.
 fn refreshers_of(
     alloc: Global,
     groups: &[GroupDef],
@@ -169,13 +172,14 @@ fn refreshers_of(
     Ok(refreshers)
 }
 
-/// The plan that bytes spell over the groups of a base, or the first rule that they break, or the first
-/// count that is above its limit. The order is: that of the whole text, the counts of collectors and of
-/// readers, each collector in turn, each reader in turn, each refresher in turn.
+/// Reads a plan over the groups of a base from the bytes of a TOML text. The checks are in this order: the whole text,
+/// the counts of collectors and of readers, each collector, each reader, each refresher in turn. The first check that
+/// fails decides the error: `BadText` names the broken rule, and `Limit` the count above its limit. `WantOfMemory`
+/// comes if there is not enough memory.
 pub fn read_plan(alloc: Global, bytes: &[u8], base: &Base) -> Result<Plan, TextNo>
     ensures plan { AnswersDue plan_parts result (plan base.now.groups.items bytes.now) }
 
-    // Bytes that are no text break the first rule, whatever memory there is.
+    // Bytes that are not UTF-8 break the first rule, however little memory there is.
     ensures no_text { is_utf8 bytes.now ≡ false → result ≡ Err (broken 1 0) }
     ensures groups { IfOk result (λ plan.
         All (λ r. r.group < vec_len base.now.groups) plan.refreshers.items) }

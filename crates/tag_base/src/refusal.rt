@@ -6,18 +6,18 @@ use std::alloc::AllocFailed;
 use thiserror::Error;
 use trend_num::{WantOfMemory, What};
 
-/// Why a text is no base or no plan.
+/// Why a text is refused as a base or as a plan.
 #[derive(Debug, Clone, Copy, PartialEq, Eq, Error)]
 pub enum TextNo {
-    /// The table at `place`, counted from 0 in its own array, is the first that breaks a rule, and `rule`
-    /// the first rule that it breaks. Where the text as a whole breaks one, `place` is 0. `at` is the byte
-    /// of a formula at which it is refused, else 0.
+    /// The table at `place` is the first that breaks a rule, and `rule` is the first rule that it breaks. Places are
+    /// counted from 0 in the table's own array. If the text as a whole breaks the rule, `place` is 0. For a formula
+    /// that does not parse, `at` is the byte at which it is refused; otherwise it is 0.
     #[error("rule {rule} is broken at table {place}, byte {at}")]
     BadText { rule: u8, place: u32, at: u32 },
-    /// There are `number` of `what`, more than there may be.
+    /// There are `number` of `what`, which is above the limit.
     #[error("too many of {what:?}: {number}")]
     Limit { what: What, number: u64 },
-    /// There was no memory.
+    /// There was not enough memory.
     #[error("out of memory")]
     WantOfMemory,
 }
@@ -44,7 +44,7 @@ impl<T: Drop> From<AllocFailed<T>> for TextNo {
     }
 }
 
-// Refuses a count that is above its limit.
+// Returns `Limit` if the count is above its limit.
 pub(crate) fn limited(what: What, most: usize, count: usize) -> Result<(), TextNo>
     ensures answer { result ≡ limited what most count (Ok tt) }
     ensures within { OnOk result (count ≤ most) }
@@ -58,7 +58,7 @@ pub(crate) fn limited(what: What, most: usize, count: usize) -> Result<(), TextN
     Ok(())
 }
 
-// The refusal of the table at a place, which breaks a rule.
+// The refusal of the table at a place that breaks a rule.
 pub(crate) fn broken(rule: u8, place: usize) -> TextNo
     ensures { result ≡ broken rule place }
 {

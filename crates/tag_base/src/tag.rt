@@ -13,7 +13,7 @@ use toml::{Table, Value};
 use toml_tables::{has_keys, value_at};
 use trend_num::{MAX_DEV, MAX_T, Name, TagDef, Tuning};
 
-// Whether a value is not there, or is a text.
+// Whether a value is missing, or is a text.
 fn is_text_if_there(value: Option<&Value>) -> bool
     ensures { result ≡ is_text_if_there (option_map (λ v. view v.now) value.entry) }
 {
@@ -23,7 +23,7 @@ fn is_text_if_there(value: Option<&Value>) -> bool
     }
 }
 
-// Whether a table has the keys of a tag, and texts for its description and its units.
+// Whether a table has the keys of a tag. Its description and its units, if it has them, are texts.
 fn has_tag_form(table: &Table) -> bool
     ensures { result ≡ has_tag_form (table_view table.now) }
 {
@@ -37,7 +37,7 @@ fn has_tag_form(table: &Table) -> bool
         && is_text_if_there(value_at(table, "engunits"))
 }
 
-// The tuning of a table, where its five numbers are whole numbers in their ranges.
+// The tuning of a table. `None` if one of its five numbers is no whole number in its range.
 fn tuning_at(table: &Table) -> Option<Tuning>
     ensures tuning { result ≡ tuning_at (table_view table.now) }
     ensures tuned { IfSome result TuningInRange }
@@ -51,7 +51,8 @@ fn tuning_at(table: &Table) -> Option<Tuning>
     })
 }
 
-// Whether a value says step tag: it is not there, which says no, or it is a boolean.
+// Whether a tag is a step tag, from the value of its key `step`. A missing value means no. `None` if the value is no
+// boolean.
 fn step_of(value: Option<&Value>) -> Option<bool>
     ensures { result ≡ step_of (option_map (λ v. view v.now) value.entry) }
 {
@@ -61,7 +62,7 @@ fn step_of(value: Option<&Value>) -> Option<bool>
     }
 }
 
-// The place of the first tag of a name.
+// The place of the first tag with this name.
 pub(crate) fn tag_place(tags: &[TagDef], name: &[u8]) -> Option<usize>
     ensures place { result ≡ tag_place tags.now name.now }
     ensures there { IfSome result (λ i. i < length tags.now) }
@@ -69,7 +70,7 @@ pub(crate) fn tag_place(tags: &[TagDef], name: &[u8]) -> Option<usize>
     tags.iter().position(|tag| tag.name.bytes() == name)
 }
 
-// The name of a table, where it is one and no earlier tag has it.
+// The name of a tag's table. `None` if it is no name, or if an earlier tag has it.
 fn new_tag_name(earlier: &[TagDef], table: &Table) -> Option<Name>
     ensures { result ≡ new_tag_name earlier.now (table_view table.now) }
 {
@@ -80,7 +81,7 @@ fn new_tag_name(earlier: &[TagDef], table: &Table) -> Option<Name>
     Some(name)
 }
 
-// The tag of a table after some tags, or the first rule that it breaks.
+// The tag of a table that comes after some tags, or the first rule that the table breaks.
 fn tag_of(earlier: &[TagDef], table: &Table) -> Result<TagDef, TextNo>
     ensures tag { result ≡ tag_of earlier.now (table_view table.now) }
     ensures tuned { IfOk result (λ tag. TuningInRange tag.tuning) }

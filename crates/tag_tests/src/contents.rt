@@ -1,4 +1,4 @@
-// Contents worked by hand: of few records, and of as many as fill pages.
+// Contents worked out by hand: of few records, and of so many that they fill pages.
 ghost use Rattle.std.specs.Prelude.{IsTrue, All};
 ghost use Rattle.trend_num.specs.Ranges.{InRange};
 
@@ -10,8 +10,8 @@ use std::process::Abort;
 use std::test::Fail;
 use trend_num::in_range;
 
-// Records in the order in which they come, and what is listed. A late one, before which stands a star, takes the place
-// of a kept one, and no kept one takes its place.
+// Records in the order in which they come, and the points that the content lists. A star marks a late record. A late
+// record takes the place of a kept one with its time. A kept record does not take the place of a late one.
 const LISTED: &str = "\
 10,8 0,0 => 0,0 10,8
  =>
@@ -19,15 +19,16 @@ const LISTED: &str = "\
 *0,4 *0,6 => 0,6*
 5,1 7,2 *6,9 *1,1 7,3 => 1,1* 5,1 6,9* 7,3";
 
-// What stands around a time in the content (0,4), (10,8).
+// The points around a time in the content (0,4), (10,8). First how many points are before the time, and how many are
+// not after it. Then the last point before it, and the first one that is not before it.
 const AROUND: &str = "\
 0 => 0 1 None Some(Point { t: 0, v: 4 })
 9 => 1 1 Some(Point { t: 0, v: 4 }) Some(Point { t: 10, v: 8 })
 10 => 1 2 Some(Point { t: 0, v: 4 }) Some(Point { t: 10, v: 8 })
 11 => 2 2 Some(Point { t: 10, v: 8 }) None";
 
-// The pages of the points (2i,i) from the 101st to the 290th: the first and the last value, twice the area under the
-// line, and twice that under the stair.
+// The pages of the points (2i,i) from the 101st to the 290th. For each page: its first and last value, twice the area
+// under the line, and twice the area under the stair.
 const RUNS: &str = "\
 100 127 12258 12204
 128 255 97282 97028
@@ -49,7 +50,7 @@ fn records_are_listed_in_order_of_time(rt: HostRuntime) -> Result<(), Fail> {
     Ok(())
 }
 
-// What stands around a time.
+// The points around a time, as a text.
 fn around_told(alloc: Global, content: &Content, t: u64) -> Result<String, Fail> {
     let a = content.around(t);
     Ok(format!(in alloc; "{} {} {:?} {:?}", a.below, a.upto, a.before, a.after)?)
@@ -66,7 +67,7 @@ fn the_points_around_a_time_are_found(rt: HostRuntime) -> Result<(), Fail> {
     Ok(())
 }
 
-// So many kept points (2i,i).
+// Kept records of `count` points (2i,i).
 fn rising(alloc: Global, count: u32) -> Result<Vec<Rec>, AllocError> {
     let mut recs = Vec::new(alloc);
     for i in 0..count {
@@ -81,7 +82,7 @@ fn rising(alloc: Global, count: u32) -> Result<Vec<Rec>, AllocError> {
     Ok(recs)
 }
 
-// Whether the points of all these records are in range.
+// Whether the points of all records are in range.
 fn all_in_range(recs: &[Rec]) -> bool
     ensures { IsTrue result → All (λ r. InRange r.point) recs.now }
 {
@@ -93,7 +94,7 @@ fn all_in_range(recs: &[Rec]) -> bool
     true
 }
 
-// Holds the runs of a content of 130,000 points, from the 101st to the 290th, to their rows.
+// Compares the runs of a content of 130,000 points, from the 101st to the 290th, with the rows of `RUNS`.
 fn runs_are_told(rt: &impl Abort, alloc: Global, content: &Content) -> Result<(), Fail> {
     assert!(rt; content.len() == 130_000);
     let mut runs = content.runs(100, 290);

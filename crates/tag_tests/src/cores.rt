@@ -1,4 +1,4 @@
-// What cores keep of histories, worked by hand.
+// What cores keep of histories, worked out by hand.
 ghost use Rattle.std.specs.Prelude.{◌≡◌, ◌<◌};
 
 use crate::spelled::point;
@@ -11,13 +11,13 @@ use std::test::Fail;
 use tag_core::{Full, Steps, TagCore, Tuning, parts_ok};
 use trend_num::{Kind, tuning_ok};
 
-// The kind of a tag, its tuning, and what happens to it: values, and tunings that it gets. Then its records, with a star
-// at late ones, and the held point.
+// The kind of a tag, its tuning, and its events: values and new tunings. Then its records, with a star at late ones,
+// and the held point.
 //
-// Lines: a value that the line would miss ends the segment; a straight line is one segment; sooner than CompMin nothing is
-// kept; no segment is longer than CompMax. Late values are kept as they come, and the first pushes out the pending one.
-// Retunings: the held point is kept, and what comes later goes by the new deviation; a pending value is sent first.
-// Steps: the value after a step is kept, and one within CompDev of the hinge is not; not sooner than CompMin.
+// Lines: a value that the line would miss ends the segment. A straight line is one segment. Nothing is kept sooner than
+// CompMin. No segment is longer than CompMax. Late values are kept as they come, and the first sends the pending one.
+// Retunings: the held point is kept, and later values go by the new deviation. A pending value is sent first.
+// Steps: the value after a step is kept. A value within CompDev of the hinge is not kept, nor one sooner than CompMin.
 const HISTORIES: &str = "\
 line one 0,0 1,0 2,3 3,0 => 0,0 1,0 2,3 held 3,0
 line plain 0,0 10,10 20,20 30,31 => 0,0 20,20 held 30,31
@@ -32,7 +32,7 @@ line plain dull => none
 step two 0,10 10,11 20,15 30,14 => 0,10 20,15 held 30,14
 step wait 0,10 10,20 20,21 => 0,10 20,21 held 20,21";
 
-// The tuning of a name, where it is one.
+// The tuning with this name, or `None` if there is no such tuning.
 fn tuning_of(name: &str) -> Option<Tuning> {
     let (exc_dev, comp_dev, comp_min, comp_max) = match name {
         "plain" => (0, 0, 0, 1_000_000),
@@ -54,7 +54,8 @@ fn tuning_of(name: &str) -> Option<Tuning> {
     })
 }
 
-// What is kept of a row's history, as a core tells it that is made again of the parts of the one that took it.
+// What is kept of a row's history. One core takes the history. A second core is made from the first one's parts, and
+// the text is what the second has.
 fn compressed<L: Ledger>(
     rt: &impl Abort,
     alloc: Global,
@@ -74,7 +75,7 @@ fn compressed<L: Ledger>(
     kept(alloc, &again)
 }
 
-// Lets these events happen.
+// Passes these events to the core.
 fn take_all<L: Ledger>(
     rt: &impl Abort,
     core: &mut TagCore,
@@ -87,7 +88,7 @@ fn take_all<L: Ledger>(
     Ok(())
 }
 
-// Lets one event happen.
+// Passes one event to the core.
 fn happen<L: Ledger>(
     rt: &impl Abort,
     core: &mut TagCore,
@@ -105,7 +106,7 @@ fn happen<L: Ledger>(
     Ok(())
 }
 
-// The records and the held point of a core.
+// The records and the held point of a core, as a text.
 fn kept(alloc: Global, core: &TagCore) -> Result<String, Fail> {
     let mut told = String::new(alloc);
     for rec in core.recs() {
@@ -119,7 +120,7 @@ fn kept(alloc: Global, core: &TagCore) -> Result<String, Fail> {
     Ok(told)
 }
 
-// Each row ends as it says; counts on the ledger of the blank.
+// Checks that each row has the result that it gives. Counts on the ledger of the blank.
 fn all_told<L: Ledger>(rt: &impl Abort, alloc: Global, blank: Blank) -> Result<(), Fail>
     requires name { blank.name ≡ L.name }
     requires parts { blank.parts ≡ L.parts }

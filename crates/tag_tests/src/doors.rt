@@ -1,4 +1,4 @@
-// Doors worked by hand.
+// Doors worked out by hand.
 ghost use Rattle.std.specs.Prelude.{◌≡◌, ◌<◌, ◌↔◌, IsTrue};
 ghost use Rattle.trend_num.specs.Ranges.{InRange};
 
@@ -13,10 +13,14 @@ use trend_num::in_range;
 
 const HINGE: Point = Point { t: 0, v: 0 };
 
-// Values that come after (10,1), from the hinge (0,0) with deviation 1: whether the doors admit each, and the upper and
-// the lower door after the swing. At first the doors have the slopes 1/5 and 0. Raised and lowered by 1, (20,2) has 3/20
-// and 1/20, and both doors move; (40,5) has 3/20 and 1/10, and the upper door stays; (60,6) has 7/60 and 1/12, and the
-// lower one stays; (120,12) has 13/120 and 11/120; (110,12) has 13/110, which is steeper than 13/120, and 1/10.
+// Values that come after (10,1), from the hinge (0,0) with deviation 1. For each: whether the doors admit it, and the
+// upper and the lower door after the swing. At first the doors have the slopes 1/5 and 0. The slopes of each value,
+// raised and lowered by 1:
+// - (20,2) has 3/20 and 1/20, so both doors move.
+// - (40,5) has 3/20 and 1/10, so the upper door stays.
+// - (60,6) has 7/60 and 1/12, so the lower door stays.
+// - (120,12) has 13/120 and 11/120, so the lower door stays.
+// - (110,12) has 13/110 and 1/10. The first is steeper than 13/120, so both doors stay.
 const SWINGS: &str = "\
 20,2 => true 20,2 20,2
 40,5 => true 20,2 40,5
@@ -38,7 +42,7 @@ fn is_after(doors: &Doors, p: Point) -> bool
     in_range(p) && doors.hinge().t < p.t
 }
 
-// Walks the doors, and counts on the ledger of the blank.
+// Passes all rows to the doors. Counts on the ledger of the blank.
 fn walked<L: Ledger>(rt: &impl Abort, alloc: Global, blank: Blank) -> Result<(), Fail>
     requires name { blank.name ≡ L.name }
     requires parts { blank.parts ≡ L.parts }

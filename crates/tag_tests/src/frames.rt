@@ -1,4 +1,4 @@
-// Frames that are taken, given back, and taken again.
+// A frame of a pool is taken, given back, and taken again.
 use page_pool::{NoFrame, Pool};
 use std::test::Fail;
 

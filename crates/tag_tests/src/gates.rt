@@ -1,4 +1,4 @@
-// Offers in turn, worked by hand.
+// Offers to an exception test, one after the other, worked out by hand.
 use crate::spelled::point;
 use exception_test::{Gate, Tuning};
 use std::test::Fail;
@@ -11,8 +11,9 @@ const TUNING: Tuning = Tuning {
     comp_max: 0,
 };
 
-// The first value; as much as ExcDev is not far; far, after the pending value; late with nothing pending; a newer value
-// takes the place of the pending one; late with a value pending; as long as ExcMax is far.
+// In this order: the first value; a value exactly ExcDev away, which is not sent; one farther away, which is sent after
+// the pending value; a late one with nothing pending; two values, of which the newer replaces the pending one; a late
+// one with a value pending; one sooner than ExcMax; and one exactly ExcMax later, which is sent.
 const OFFERS: &str = "\
 10,0 => None Some(InOrder(Point { t: 10, v: 0 }))
 20,5 => None None

@@ -1,5 +1,5 @@
-//! Tests of one tag: numbers and the bytes that come in and go out, its exception test, compression, content, reads and windows, worked by
-//! hand.
+//! Tests of one tag, with results worked out by hand. They test numbers, the bytes that come in and go out, the
+//! exception test, compression, contents, reads and windows.
 #![tactic(auto)]
 
 #[cfg(test)]

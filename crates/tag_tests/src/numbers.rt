@@ -1,4 +1,4 @@
-// Numbers and names at their edges, and comparisons where both sides are equal, or nearly so.
+// Numbers and names at the edges of their ranges, and comparisons of sides that are equal or nearly so.
 ghost use Rattle.std.specs.Prelude.{◌≡◌, ◌<◌};
 
 use std::cmp::Ordering;
@@ -9,7 +9,7 @@ use std::sync::ledger::{Blank, Ledger};
 use std::test::Fail;
 use trend_num::{Point, Steps, deviates, in_range, line_at, name_from, numeral, slope_cmp};
 
-// 1 to 20 digits are a numeral; a `-` may stand before them.
+// A numeral is 1 to 20 digits, with an optional `-` before them.
 const NUMERALS: &str = "\
 0 => Some(0)
 -0 => Some(0)
@@ -20,7 +20,7 @@ const NUMERALS: &str = "\
 --1 => None
  => None";
 
-// 1 to 64 letters, digits, dots, underscores and hyphens are a name.
+// A name is 1 to 64 letters, digits, dots, underscores and hyphens.
 const NAMES: &str = "\
 FIC101.PV => true
 x_-.9Z => true
@@ -37,19 +37,19 @@ const POINTS: &str = "\
 0 1000000000000001 => false
 0 -1000000000000001 => false";
 
-// The ends of a line and a time, and what the line reads there.
+// The two ends of a line and a time, and the value of the line there.
 const LINES: &str = "\
 0 0 2 -1 1 => -1/2
 0 0 2 1 2 => 2/2
 10 5 20 25 15 => 150/10";
 
-// The time that stands next in a row.
+// Reads the next field of a row as a time.
 fn time(rt: &impl Abort, fields: &mut SplitWhitespace) -> u64 {
     let field = fields.next().expect(rt, "a field");
     field.parse::<u64>().expect(rt, "a time")
 }
 
-// The time and the value that stand next in a row.
+// Reads the next two fields of a row as a time and a value.
 fn point(rt: &impl Abort, fields: &mut SplitWhitespace) -> Point {
     let t = time(rt, fields);
     let field = fields.next().expect(rt, "a field");
@@ -108,7 +108,7 @@ fn a_line_reads_between_its_ends(rt: HostRuntime) -> Result<(), Fail> {
     Ok(())
 }
 
-// Compares, and counts on the ledger of the blank.
+// Compares deviations and slopes. Counts on the ledger of the blank.
 fn compared<L: Ledger>(rt: &impl Abort, blank: Blank)
     requires name { blank.name ≡ L.name }
     requires parts { blank.parts ≡ L.parts }

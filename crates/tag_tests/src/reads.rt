@@ -1,4 +1,4 @@
-// Reads of small contents, worked by hand.
+// Reads of small contents, worked out by hand.
 use crate::spelled::{content, number};
 use interp_read::{Reading, at, at_step, points};
 use late_insert::{Content, Kind, Point, Rec};
@@ -6,7 +6,7 @@ use std::alloc::Global;
 use std::process::Abort;
 use std::test::Fail;
 
-// Records and a time, and how the line and the stair through the points read there.
+// Records and a time, and what the line and the stair through the points read at that time.
 const READ: &str = "\
 5,4 15,8 @ 4 => Nothing Nothing
 5,4 15,8 @ 5 => Exact(4) Exact(4)
@@ -16,14 +16,14 @@ const READ: &str = "\
 0,-1000000000000000 253402300799999,1000000000000000 @ 1 => \
 Line(Frac { num: -253402300799997000000000000000, den: 253402300799999 }) Flat(-1000000000000000)";
 
-// From when to when, how many of the points at the times 0 to 256 are listed, and whether there are more.
+// Two times; how many of the points at the times 0 to 256 a list from one to the other has; and whether there are more.
 const LISTED: &str = "\
 2 256 => 255 false
 1 256 => 256 false
 0 256 => 256 true
 7 6 => 0 false";
 
-// How the line and the stair read at a time.
+// What the line and the stair read at a time, as a text.
 fn read_told(alloc: Global, content: &Content, t: u64) -> Result<String, Fail> {
     let line = at(content, None, t);
     let stair = at_step(content, None, t);
@@ -56,7 +56,7 @@ fn a_held_point_closes_the_content(rt: HostRuntime) -> Result<(), Fail> {
     Ok(())
 }
 
-// The content of a point at each of the times 0 to 256.
+// The content with one point at each of the times 0 to 256.
 fn each_time(rt: &impl Abort, alloc: Global) -> Result<Content, Fail> {
     let mut content = Content::new(alloc, 257)?;
     for t in 0..257u64 {
@@ -69,7 +69,7 @@ fn each_time(rt: &impl Abort, alloc: Global) -> Result<Content, Fail> {
     Ok(content)
 }
 
-// How many points are listed from a time to another, and whether there are more.
+// How many points a list from one time to another has, and whether there are more, as a text.
 fn list_told(alloc: Global, content: &Content, from: u64, to: u64) -> Result<String, Fail> {
     let found = points(alloc, content, None, from, to)?;
     Ok(format!(in alloc; "{} {}", found.list.len(), found.more)?)

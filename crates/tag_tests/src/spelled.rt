@@ -7,12 +7,12 @@ use std::process::Abort;
 use std::test::Fail;
 use trend_num::in_range;
 
-/// The number that a field spells.
+/// Reads a field as a number. The test aborts if it is none.
 pub fn number(rt: &impl Abort, field: &str) -> u64 {
     field.parse::<u64>().expect(rt, "a number")
 }
 
-/// The point `T,V`, which is in range.
+/// Reads a field `T,V` as a point, in milliseconds and value units. The test aborts if the field is no point in range.
 pub fn point(rt: &impl Abort, field: &str) -> Point
     ensures { InRange result }
 {
@@ -24,7 +24,7 @@ pub fn point(rt: &impl Abort, field: &str) -> Point
     p
 }
 
-// The record of a field; before a late one stands a star.
+// Reads a field as a record. A star before it means a late one.
 fn record(rt: &impl Abort, field: &str) -> Rec
     ensures { InRange result.point }
 {
@@ -40,7 +40,8 @@ fn record(rt: &impl Abort, field: &str) -> Rec
     }
 }
 
-/// The content of at most eight records.
+/// Makes the content of at most eight records, which fields with blanks between them spell. The test aborts if there
+/// are more.
 pub fn content(rt: &impl Abort, alloc: Global, fields: &str) -> Result<Content, Fail> {
     let mut content = Content::new(alloc, 8)?;
     for field in fields.split_whitespace() {

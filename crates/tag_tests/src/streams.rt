@@ -1,5 +1,4 @@
-// What no clause says: that calls succeed where there is memory, and what each of the types does
-// at a call.
+// Tests what no clause says: that calls succeed if there is memory, and what each of the types does at a call.
 use byte_io::*;
 use std::alloc::{AllocError, Global};
 use std::io::{Read, Write};
@@ -7,7 +6,7 @@ use std::process::Abort;
 use std::test::Fail;
 use std::{fs, io};
 
-// A reader that gives a byte a call, and a writer that takes one, except that one call fails.
+// A reader that returns one byte at each call, and a writer that takes one. One call fails instead.
 #[derive(Drop)]
 struct FailsOnce {
     bytes: Vec<u8>,
@@ -56,12 +55,12 @@ impl Write for FailsOnce {
     }
 }
 
-// The number of a call that fails, in a list of its own.
+// A list of one number, that of the call that fails.
 fn failing(alloc: Global, call: u64) -> Result<Vec<u64>, AllocError> {
     Ok(vec![in alloc; call]?)
 }
 
-// How many bytes there are, the call that fails, and the limit; then what is told, the calls, and the faults.
+// How many bytes there are, the call that fails, and the limit; then the result, the calls, and the faults.
 const READS: &str = "\
 0 9 0 => Ok(0) 1 0
 0 0 0 => Err(ReadFault) 1 1
@@ -76,7 +75,7 @@ const READS: &str = "\
 70000 9 65536 => Err(TooLong { limit: 65536 }) 2 0
 70000 9 65535 => Err(TooLong { limit: 65535 }) 1 0";
 
-// The name of a file, the call that fails, and the limit; then what is told, the calls, and the faults.
+// The name of a file, the call that fails, and the limit; then the result, the calls, and the faults.
 const FILES: &str = "\
 a.csv 9 5 => Ok(5) 2 0
 a.csv 9 4 => Err(TooLong { limit: 4 }) 1 0
@@ -86,14 +85,14 @@ long 9 70000 => Ok(70000) 3 0
 long 2 70000 => Err(ReadFault) 3 1
 long 9 69999 => Err(TooLong { limit: 69999 }) 2 0";
 
-// The call that fails, and what is written of "ab", "cd" and "ef" by then; the calls, and the faults.
+// The call that fails; then what is written of "ab", "cd" and "ef" before it, the calls, and the faults.
 const WRITES: &str = "\
 0 =>  1 1
 1 => ab 2 1
 2 => abcd 3 1
 3 => abcdef 3 0";
 
-// The first field of a row, and the two numbers behind it.
+// The first field of a row, and the two numbers after it.
 fn fields<'a>(rt: &impl Abort, given: &'a str) -> (&'a str, u64, u64) {
     let (first, rest) = given.split_once(' ').expect(rt, "a field");
     let (call, limit) = rest.split_once(' ').expect(rt, "two numbers");
@@ -119,7 +118,7 @@ fn reads_to_the_end_or_says_why_not(rt: HostRuntime) -> Result<(), Fail> {
     Ok(())
 }
 
-// Three files, the last of which has the name of the first, and the second more than one piece.
+// Three files. The third has the name of the first. The second is longer than one piece.
 fn three_files(alloc: Global, call: u64) -> Result<MemFiles, AllocError> {
     let files = vec![in alloc;
         (String::from_str(alloc, "a.csv")?, b"hello".to_vec(alloc)?),
@@ -189,7 +188,7 @@ fn std_readers_are_sources(rt: HostRuntime) -> Result<(), Fail> {
     let mut source = StdSource::new(first.chain(second));
     let all = read_all(alloc, &mut source, 5).map_err(|_| "refused")?;
     assert_eq!(rt; all.as_slice(), b"hello".as_slice());
-    // A read that fails once is told, and what comes after it is left in the reader.
+    // A read that fails once is reported. The bytes after it are left in the reader.
     for (call, left) in [(0u64, 5), (3, 2), (5, 0)] {
         let mut once = StdSource::new(FailsOnce {
             bytes: b"hello".to_vec(alloc)?,
@@ -212,13 +211,13 @@ fn std_writers_are_sinks(rt: HostRuntime) -> Result<(), Fail> {
     assert_eq!(rt; write_all(&mut sink, b"hello"), Ok(()));
     assert_eq!(rt; sink.into_inner().as_slice(), b"hello".as_slice());
 
-    // A writer with room for three bytes takes those, and then none.
+    // A writer with room for three bytes takes three, and then none.
     let mut room = [0; 3];
     let mut full = StdSink::new(room.as_mut_slice());
     assert_eq!(rt; write_all(&mut full, b"hello"), Err(WriteFault));
     assert_eq!(rt; room.as_slice(), b"hel".as_slice());
 
-    // A write that fails once is told, and no byte is written after it.
+    // A write that fails once is reported, and no byte is written after it.
     for (call, want) in [(0u64, b"".as_slice()), (3, b"hel"), (4, b"hell")] {
         let mut once = StdSink::new(FailsOnce {
             bytes: Vec::new(alloc),

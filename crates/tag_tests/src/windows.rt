@@ -1,4 +1,4 @@
-// Windows of small contents, worked by hand.
+// Windows of small contents, worked out by hand.
 ghost use Rattle.std.specs.Prelude.{◌<◌, ◌≤◌};
 ghost use Rattle.trend_num.specs.Ranges.{last_time};
 
@@ -22,8 +22,8 @@ const MEASURES: [Measure; 8] = [
     Measure::Last,
 ];
 
-// A line or a stair through points, and the begin and the end of a window: twice its area, its mean, total, least and
-// greatest value, its number of points, its first and its last value.
+// A line or a stair through points, and when a window begins and ends. Then twice its area, its mean, its total, its
+// least and its greatest value, its number of points, its first and its last value.
 const SMALL: &str = "\
 line 0,0 10,10 20,0 @ 5 15 => 150 8 0 5 10 1 5 5
 line 0,0 10,10 20,0 @ 15 25 => no no no no no no no no
@@ -34,14 +34,14 @@ line 0,1000000000000000 253402300799999,1000000000000000 @ 0 253402300799999 => 
 506804601599998000000000000000 1000000000000000 253402300799999000000000000 1000000000000000 1000000000000000 1 \
 1000000000000000 1000000000000000";
 
-// Windows over four pages (of 108, 64, 64 and 64), of points at the times 0 to 299 that are put in falling order, each of
-// which has its time modulo 7 as its value.
+// Windows over four pages (of 108, 64, 64 and 64 points). The points have the times 0 to 299, and come in falling
+// order. The value of each is its time modulo 7.
 const LARGE: &str = "\
 line 0 299 => 1789 3 1 0 6 299 0 5
 stair 0 299 => 1784 3 1 0 6 299 0 5
 stair 3 250 => 1484 3 1 0 6 247 3 5";
 
-// All measures of a window.
+// All measures of a window, as a text.
 fn measures(
     alloc: Global,
     content: &Content,
@@ -62,7 +62,7 @@ fn measures(
     Ok(told)
 }
 
-// All measures of the window that a field spells.
+// All measures of the window in a field `FROM TO`, as a text.
 fn window_of(
     rt: &impl Abort,
     alloc: Global,
@@ -89,7 +89,7 @@ fn a_window_has_each_measure(rt: HostRuntime) -> Result<(), Fail> {
     Ok(())
 }
 
-// The content of the points at the times 0 to 299, put in falling order.
+// The content of the points at the times 0 to 299, which come in falling order.
 fn falling(rt: &impl Abort, alloc: Global) -> Result<Content, Fail> {
     let mut content = Content::new(alloc, 300)?;
     for i in 0..300u64 {

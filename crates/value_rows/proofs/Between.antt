@@ -50,7 +50,7 @@ step_ends st.AfterQuote c = either (c == 34) _ _ (passes st.InQuoted act.Copy re
 step_ends st.InComment c = either (c == 10) _ _ (passes st.StartRecord act.Skip refl) (passes st.InComment act.Skip refl)
 step_ends st.AfterCr c = either (c == 10) _ _ (passes st.StartRecord act.Skip refl) (at_record c)
 
--- a record was read of these bytes: the reader stands between two records, and what is left is shorter, where there was a byte
+-- a record was read of these bytes: the reader is between two records, and what is left is shorter, if there was a byte
 pub record EndsRead (xs : List ℕ) (p : Read) : Type 0 where
   pub between : is_between p.1 ≡ true
   pub within : length p.2 ≤ length xs

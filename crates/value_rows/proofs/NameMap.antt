@@ -95,7 +95,7 @@ pub place_within : (names : List (List ℕ)) (name : List ℕ) (o : Option ℕ) 
 place_within names name None is = tt
 place_within names name (Some i) is = (position-Some (bytes_eq name) names i [] (sym is)).0
 
--- and what stands there is the name
+-- and what is there is the name
 place_holds : (names : List (List ℕ)) (name : List ℕ) (i : ℕ) → first_place_of names name ≡ Some i → (i < length names) × (name ≡ get_or names i [])
 place_holds names name i is =
     let at = position-Some (bytes_eq name) names i [] is in
@@ -119,7 +119,7 @@ place_hint names name i is below =
 pub no_hint : (names : List (List ℕ)) (i : ℕ) → length names ≤ i → IsHint names i
 no_hint names i past below = absurd (omega arith)
 
--- a hint at which the name stands is its place
+-- a hint at which the name is found is its place
 pub hint_holds : (names : List (List ℕ)) (slots : List ℕ) (slot i : ℕ) (name : List ℕ)
     → All (IsHint names) slots → slot < length slots → i ≡ get_or slots slot i → i < length names → name ≡ get_or names i [] → Some i ≡ first_place_of names name
 hint_holds names slots slot i name hints within here below same =

@@ -139,7 +139,7 @@ return_fed : (after : List ℕ)
 unfolding next_record
 return_fed after = refl
 
--- with a line feed behind them they are the first record
+-- with a line feed after them they are the first record
 fed_first : (name t v after : List ℕ) → IsBareField name → IsBareField t → IsBareField v
     → records_left start (name ++ 44 ∷ (t ++ 44 ∷ (v ++ 10 ∷ after))) ≡ (name ∷ t ∷ v ∷ []) ∷ records_left start after
 fed_first name t v after bare_name bare_t bare_v =
@@ -239,7 +239,7 @@ name_bare name is = record {
           | false ↦ λ e. absurd (false≢true (sym (list_all_at is_name_byte name i 0 below e) ∙ is.spelled))
         ] refl
 
--- a time and a value that were read, and the line that they stand in
+-- a time and a value that were read, and the line that they are in
 record IsRead (line : List ℕ) (p : Point) : Type 0 where
   t : List ℕ
   v : List ℕ

@@ -9,7 +9,8 @@ use Rattle.point_text.proofs.RowList.{all_read, rows_from-all, rows_from-bad, ro
 use Rattle.value_rows.specs.Reading.{rows_read}
 use Rattle.value_rows.specs.RowReader.{HasLeft, IsNext, ReadsRecords}
 
--- of records that read so, these rows were read, as many as told and no more than there may be; the reader has the others left
+-- of records that read so, these rows were read, as many as counted and no more than allowed; the reader has the others
+-- left
 pub record AreSoFar {R : Type 0} (P : R → Type 0) (row_of : ReadsRecords R) (all : List (Result R Reason)) (most : ℕ) (r : Reader (Bor (List ℕ))) (rows : List R) (count : ℕ) : Type 0 where
   pub left : List (List (List ℕ))
   pub stands : HasLeft r left

@@ -34,9 +34,9 @@ verb_words =
 abbrev pub verb_of : List ℕ → Option VerbOfRow
 verb_of word = lookup (bytes_eq word) verb_words
 
--- ---- what stands after a verb: reasons come in the order in which the fields are read
+-- ---- what follows a verb: reasons come in the order in which the fields are read
 
--- what f makes of the value that was read, where one was
+-- f of the value that was read, or the reason why none was
 infixl 10 ◌>>=◌
 abbrev pub ◌>>=◌ : {A B : Type 0} → Result A Reason → (A → Result B Reason) → Result B Reason
 Ok a >>= f = f a
@@ -82,7 +82,7 @@ window_row tags m tag from to = do
 abbrev pub last_window : ℕ
 last_window = 1000000000000
 
--- the place of the first group of this name
+-- the place of the first group with this name
 abbrev pub asked_group_place : List GroupNames → List ℕ → Option ℕ
 asked_group_place groups name = position (λ g. bytes_eq name g.name) groups
 
@@ -101,7 +101,7 @@ calc_row groups group calc k = do
 
 -- ---- records
 
--- what a verb asks of one further field, of two, and of three
+-- the query of a verb and one more field, of a verb and two, and of a verb and three
 abbrev pub one_field : List (List ℕ) → Option VerbOfRow → List ℕ → Result Query Reason
 one_field tags None a = Err Verb
 one_field tags (Some verb.Snap) a = snap_row tags a
@@ -126,12 +126,12 @@ query_row tags groups (verb ∷ a ∷ b ∷ []) = two_fields tags (verb_of verb)
 query_row tags groups (verb ∷ a ∷ b ∷ c ∷ []) = three_fields tags groups (verb_of verb) a b c
 query_row tags groups fields = Err Fields
 
--- a query of a tag, or of a group and a calculation, that are there
+-- a query of a tag, or of a group and a calculation, that exist
 abbrev pub IsQuery : List (List ℕ) → List GroupNames → Query → Type 0
 IsQuery tags groups (Tag tag query) = (tag < length tags) × IsTagQuery query
 IsQuery tags groups (Snap tag) = tag < length tags
 IsQuery tags groups (Row group calc k) = (group < length groups) × (calc < length (calc_names_at groups group)) × (k ≤ last_window)
 
--- the queries of a text, of at most `most` records
+-- the queries of a text of at most `most` records
 abbrev pub query_rows : List (List ℕ) → List GroupNames → ℕ → List ℕ → Result (List Query) RowNo
 query_rows tags groups most bytes = rows_of_text (query_row tags groups) most bytes

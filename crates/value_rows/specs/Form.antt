@@ -1,9 +1,9 @@
--- The fields of a record, as many as a form may have. For private functions: no public call cites it.
+-- The fields of a record, by their number. For private functions: no public call cites it.
 use Rattle.std.specs.Prelude.{◌≡◌, ◌≢◌, ℕ, List, [], ◌∷◌, length}
 use Rattle.value_rows.specs.declared.fields.Fields.{Fields}
 use Rattle.value_rows.specs.declared.fields.Fields.TheVariants.{Two, Three, Four, Other}
 
--- neither two nor three nor four
+-- there are neither two fields nor three nor four
 pub record AreOther (fields : List (List ℕ)) : Type 0 where
   pub not_two : length fields ≢ 2
   pub not_three : length fields ≢ 3

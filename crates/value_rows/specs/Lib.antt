@@ -4,6 +4,6 @@ pub mod Reading
 pub mod Raw
 -- rows of readers
 pub mod Asked
--- what private functions alone cite
+-- only private functions cite these
 pub mod Form
 pub mod RowReader

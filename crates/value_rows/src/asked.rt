@@ -19,27 +19,34 @@ use trend_num::{Measure, Name, Reason, TagQuery, numeral};
 // The number of the last window that may be asked for.
 const LAST_WINDOW: u64 = 1_000_000_000_000;
 
-/// What a reader asks. Tags, groups and calculations are told by their places.
+/// What a reader asks. Tags, groups and calculations are given by their places, counted from 0.
 #[derive(Clone, Copy, Debug, PartialEq, Eq)]
 pub enum Query {
-    /// A question about a tag's archive.
+    /// A query of a tag's archive.
     Tag { tag: u32, query: TagQuery },
-    /// The newest snapshot of a tag.
+    /// The snapshot of a tag.
     Snap { tag: u32 },
-    /// The value of a calculation of a group in its window of this number, from 0.
+    /// The value of a calculation of a group in its window `k`. Windows are numbered from 0.
     Row { group: u32, calc: u32, k: u64 },
 }
 
-/// The names of a group and of its calculations in order.
+/// The name of a group, and the names of its calculations in order.
 #[derive(Debug, Drop)]
 pub struct GroupNames {
     pub name: Name,
     pub calcs: Vec<Name>,
 }
 
-/// The queries of a text, of at most `most` records. A record is `at,TAG,T`, `points,TAG,FROM,TO`, a measure in place of
-/// `points`, `snap,TAG` or `row,GROUP,CALC,K`. Times are milliseconds from 1970; FROM is at most TO, and below it for a measure.
-/// K is the number of a window, from 0 to 10^12. A name stands for the first tag, group or calculation that has it.
+/// Reads the queries of a text of at most `most` records. A record is one of these:
+/// - `at,TAG,T`
+/// - `points,TAG,FROM,TO`, where FROM is at most TO
+/// - `MEASURE,TAG,FROM,TO`, where FROM is below TO
+/// - `snap,TAG`
+/// - `row,GROUP,CALC,K`, where K is the number of a window, from 0 to 10^12
+///
+/// Times are in milliseconds from 1970. A name stands for the first tag, group or calculation that has it. `BadRow`
+/// comes with the first bad record, counted from 1. `TooMany` comes if there are more records and none of the first
+/// `most` is bad. `WantOfMemory` comes if there is not enough memory.
 pub fn query_rows(
     alloc: Global,
     bytes: &[u8],
@@ -60,7 +67,7 @@ pub fn query_rows(
     }
 }
 
-// Records that begin with a verb.
+// Reads records that begin with a verb.
 #[derive(Drop)]
 struct QueryForm<'n> {
     tags: Places<'n>,
@@ -87,7 +94,7 @@ impl<'n> Form for QueryForm<'n> {
 }
 
 impl<'n> QueryForm<'n> {
-    // What a verb asks of one further field.
+    // The query of a verb and one more field.
     fn one_field(&self, verb: Option<Verb>, a: &[u8]) -> Result<Query, Reason>
         ensures query { result ≡ one_field self.now.tags verb a.now }
         ensures is_query { IfOk result (IsQuery self.now.tags self.now.groups.now) }
@@ -99,7 +106,7 @@ impl<'n> QueryForm<'n> {
         }
     }
 
-    // What a verb asks of two further fields.
+    // The query of a verb and two more fields.
     fn two_fields(&self, verb: Option<Verb>, a: &[u8], b: &[u8]) -> Result<Query, Reason>
         ensures query { result ≡ two_fields self.now.tags verb a.now b.now }
         ensures is_query { IfOk result (IsQuery self.now.tags self.now.groups.now) }
@@ -111,7 +118,7 @@ impl<'n> QueryForm<'n> {
         }
     }
 
-    // What a verb asks of three further fields.
+    // The query of a verb and three more fields.
     fn three_fields(
         &self,
         verb: Option<Verb>,
@@ -220,7 +227,7 @@ impl<'n> QueryForm<'n> {
         })
     }
 
-    // The place of the first group of a name.
+    // The place of the first group with this name.
     fn group_place(&self, name: &[u8]) -> Option<usize>
         ensures place { result ≡ asked_group_place self.now.groups.now name.now }
         ensures within { IfSome result (λ i. i < length self.now.groups.now) }
@@ -238,7 +245,7 @@ impl<'n> QueryForm<'n> {
     }
 }
 
-// The place of the first one of a name.
+// The place of the first of the names that is this one.
 fn place_among(names: &[Name], name: &[u8]) -> Option<usize>
     ensures place { result ≡ first_place_of names.now name.now }
     ensures within { IfSome result (λ i. i < length names.now) }

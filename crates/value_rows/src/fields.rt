@@ -1,11 +1,11 @@
-// The fields of a record, as many as a form may have.
+// The fields of a record, by their number.
 ghost use Rattle.std.specs.Prelude.{◌≡◌, ◌<◌, Some, length};
 ghost use Rattle.csv.specs.Records.{fields_of, field_at};
 ghost use Rattle.value_rows.specs.Form.{AreFields};
 
 use csv::ByteRecord;
 
-// The fields of a record, where they are two, three or four.
+// The fields of a record that has two, three or four. `Other` is any other number.
 #[derive(Clone, Copy)]
 pub(crate) enum Fields<'r> {
     Two(&'r [u8], &'r [u8]),
@@ -27,7 +27,7 @@ pub(crate) fn fields_in(row: &ByteRecord) -> Fields<'_>
     }
 }
 
-// The field at a place.
+// The field at a place, counted from 0.
 #[tactic(auto, using(crate::proofs::FieldList::field_there))]
 fn field(row: &ByteRecord, i: usize) -> &[u8]
     requires { i < length (fields_of row.now) }

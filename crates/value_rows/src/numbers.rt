@@ -5,7 +5,7 @@ ghost use Rattle.trend_num.specs.Ranges.{last_time};
 
 use trend_num::MAX_T;
 
-// The number, where it is from 0 to `most`, both included.
+// The number, or `None` if it is not from 0 to `most`, both included.
 pub(crate) fn natural_upto(most: u64, n: i128) -> Option<u64>
     ensures value { result ≡ natural_upto most n }
     ensures small { IfSome result (λ n. n ≤ most) }
@@ -17,7 +17,7 @@ pub(crate) fn natural_upto(most: u64, n: i128) -> Option<u64>
     }
 }
 
-// The number as a time in milliseconds from 1970, where it is one in range.
+// The number as a time in milliseconds from 1970, or `None` if it is out of range.
 pub(crate) fn time_of(n: i128) -> Option<u64>
     ensures value { result ≡ natural_upto last_time n }
     ensures time { IfSome result (λ t. t ≤ last_time) }

@@ -1,4 +1,4 @@
-// Names, looked up in a map.
+// Looks up the places of names.
 ghost use Rattle.std.specs.Prelude.{◌≡◌, ◌<◌, ◌^◌, All, length, replicate, IfOk, IfSome};
 ghost use Rattle.std.specs.BTreeMap.{BTreeMap};
 ghost use Rattle.trend_num.specs.Names.{IsName};
@@ -10,14 +10,15 @@ use std::collections::BTreeMap;
 use std::marker::Model;
 use trend_num::{Name, WantOfMemory};
 
-// How many slots there are. Of names that share one a single one stands there; the map has all.
+// How many slots there are. If names share a slot, it has the place of one of them. The map has the places of all
+// names.
 const SLOTS: usize = 4096;
 
-// What stands in a slot without a name: no place, since there are fewer names.
+// The entry of a slot without a name. It is no place, because there are fewer names.
 const NOBODY: u32 = u32::MAX;
 
-// Names, with a map from each to its place among them, and a table of slots where most of them are found at once. It is
-// seen as the names in order.
+// Names, with a map from each name to its place among them. A table of slots gives the places of most names without a
+// search in the map. The model is the list of the names, in order.
 #[derive(Drop)]
 pub(crate) struct Places<'n> {
     names: &'n [Name],
@@ -37,7 +38,7 @@ impl<'n> Model for Places<'n> {
 }
 
 impl<'n> Places<'n> {
-    // The places of these names.
+    // Makes the map and the slots of these names.
     pub(crate) fn new(alloc: Global, names: &'n [Name]) -> Result<Places<'n>, WantOfMemory>
         requires few { length names.now < 2 ^ 32 }
         ensures names { IfOk result (λ places. places ≡ names.now) }
@@ -47,7 +48,7 @@ impl<'n> Places<'n> {
         Ok(Places { names, map, hints })
     }
 
-    // The place of the first one of this name.
+    // The place of the first of the names that is this one.
     #[inline(always)]
     pub(crate) fn place(&self, name: &[u8]) -> Option<u32>
         ensures place { result ≡ first_place_of self.now name.now }
@@ -63,7 +64,7 @@ impl<'n> Places<'n> {
         self.place_in_map(name)
     }
 
-    // The same, of a name that does not stand in its slot.
+    // The same, for a name whose slot does not have its place.
     #[cold]
     fn place_in_map(&self, name: &[u8]) -> Option<u32>
         ensures place { result ≡ first_place_of self.now name.now }
@@ -74,7 +75,7 @@ impl<'n> Places<'n> {
     }
 }
 
-// The place of each name.
+// Makes the map from each name to its first place.
 fn map_of<'n>(alloc: Global, names: &'n [Name]) -> Result<BTreeMap<&'n [u8], u32>, WantOfMemory>
     requires few { length names.now < 2 ^ 32 }
     ensures places { IfOk result (λ map. ArePlaces map names.now) }
@@ -90,7 +91,7 @@ fn map_of<'n>(alloc: Global, names: &'n [Name]) -> Result<BTreeMap<&'n [u8], u32
     Ok(map)
 }
 
-// The place of a name in each slot, of the last one where several have the same slot.
+// Makes the slots, each with the place of its name. If names share a slot, it has the place of the last of them.
 fn hints_of<'n>(
     alloc: Global,
     names: &'n [Name],
@@ -110,14 +111,14 @@ fn hints_of<'n>(
     Ok(hints)
 }
 
-// Slots without a name.
+// Slots without any name.
 fn empty_slots(alloc: Global) -> Result<Vec<u32>, WantOfMemory>
     ensures { IfOk result (λ hints. hints.items ≡ replicate SLOTS NOBODY) }
 {
     Ok(Vec::from_elem(alloc, NOBODY, SLOTS)?)
 }
 
-// The slot of a name.
+// The slot of a name: a hash.
 #[inline(always)]
 fn slot_of(name: &[u8]) -> usize
     ensures { result < SLOTS }

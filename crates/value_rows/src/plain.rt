@@ -1,4 +1,4 @@
-// The rows that a collector's text begins with, read in one pass where they are plain.
+// Reads the plain rows that a collector's text begins with, in one pass.
 ghost use Rattle.std.specs.Prelude.{◌≡◌, ◌<◌, ◌≤◌, ◌++◌, ◌∷◌, All, length, map, IfOk, IfErr, IfSome};
 ghost use Rattle.point_text.specs.declared.failure.RowNo.TheVariants.{WantOfMemory};
 ghost use Rattle.value_rows.specs.Raw.{IsRawRow, raw_row};
@@ -11,8 +11,8 @@ use crate::reading::push;
 use point_text::{Front, RowNo, plain_point};
 use std::alloc::Global;
 
-// Rows that a text begins with, at most `most`, and the text behind them. How many they are is not promised: there may be
-// none, and rows like them may follow. What stands behind them is left to the reader of records.
+// Returns rows that a text begins with, at most `most`, and the text after them. How many rows it returns is not
+// promised: there may be none, and more such rows may follow. The reader of records reads the rest.
 pub(crate) fn front_rows<'b>(
     alloc: Global,
     tags: &Places<'_>,
@@ -26,7 +26,7 @@ pub(crate) fn front_rows<'b>(
     ensures refused { IfErr result (λ why. why ≡ WantOfMemory) }
 {
     let (rows, rest) = plain_rows(alloc, tags, bytes, most)?;
-    // A reader leaves out a mark at the begin of what it is handed, but none stands in the middle of a text.
+    // A reader leaves out a mark at the beginning of its text. In the middle of a text these bytes are no mark.
     if has_mark(bytes) || has_mark(rest) {
         return Ok((Vec::new(alloc), bytes));
     }
@@ -40,7 +40,7 @@ fn has_mark(text: &[u8]) -> bool
     text.len() >= 3 && text[0] == 0xef && text[1] == 0xbb && text[2] == 0xbf
 }
 
-// The plain rows that a text begins with, at most `most`, and the text behind them.
+// Returns the plain rows that a text begins with, at most `most`, and the text after them.
 fn plain_rows<'b>(
     alloc: Global,
     tags: &Places<'_>,
@@ -64,8 +64,8 @@ fn plain_rows<'b>(
     Ok((rows, rest))
 }
 
-// The row of a plain line that a text begins with, and what follows the line. Plain is a line of a name that is known, a
-// comma, and a plain line of a point. None says nothing of the text.
+// Returns the row of the plain line that a text begins with, and the text after the line. A plain line is a known name,
+// a comma, and a plain line of a point. `None` does not mean that the text is bad.
 #[inline(always)]
 fn plain_row<'b>(tags: &Places<'_>, text: &'b [u8], front: &mut Front) -> Option<(RawRow, &'b [u8])>
     ensures first { IfSome result (λ p. IsFirstRow (raw_row tags.now) text.now p.1.now p.0) }
@@ -78,7 +78,7 @@ fn plain_row<'b>(tags: &Places<'_>, text: &'b [u8], front: &mut Front) -> Option
     Some((RawRow { tag, point }, after))
 }
 
-// The bytes before a comma, and those behind it.
+// Returns the bytes before the first comma, and those after it.
 #[inline(always)]
 fn at_comma(text: &[u8]) -> Option<(&[u8], &[u8])>
     ensures { IfSome result (λ p. text.now ≡ p.0.now ++ 44 ∷ p.1.now) }

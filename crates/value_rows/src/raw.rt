@@ -17,17 +17,19 @@ use point_text::RowNo;
 use std::alloc::Global;
 use trend_num::{MAX_V, Name, Point, Reason, numeral};
 
-/// A raw value of a tag, which is told by its place among the tags.
+/// A raw value, and the tag that it is of.
 #[derive(Clone, Copy, Debug, PartialEq, Eq)]
 pub struct RawRow {
-    /// The place of its tag, counted from 0.
+    /// The place of the tag among the tags, counted from 0.
     pub tag: u32,
     /// The raw value.
     pub point: Point,
 }
 
-/// The raw values of a text of records `TAG,T,V`, of at most `most`. T is in milliseconds from 1970, V in value units. A tag is
-/// the first one of its name.
+/// Reads the raw values of a text of at most `most` records `TAG,T,V`. T is in milliseconds from 1970, V in value
+/// units. If tags share a name, the row is of the first. `BadRow` comes with the first bad record, counted from 1.
+/// `TooMany` comes if there are more records and none of the first `most` is bad. `WantOfMemory` comes if there is not
+/// enough memory.
 pub fn raw_rows(alloc: Global, bytes: &[u8], tags: &[Name], most: u64) -> Result<Vec<RawRow>, RowNo>
     requires { length tags.now < 2 ^ 32 }
     ensures rows { IfOk result (λ rows. raw_rows tags.now most bytes.now ≡ Ok rows.items) }
@@ -65,7 +67,8 @@ impl<'n> Form for RawForm<'n> {
     }
 }
 
-// The raw values of a text: first of the plain rows that it begins with, and then of the records behind them.
+// Reads the raw values of a text: first those of the plain rows that it begins with, then those of the records after
+// them.
 fn rows_of_form(
     alloc: Global,
     form: &RawForm<'_>,
@@ -80,7 +83,8 @@ fn rows_of_form(
     rows_behind(alloc, form, front, rest, most)
 }
 
-// The point of a time and a value.
+// Reads a time and a value as a point. The error is `Number` if one is no numeral, otherwise `Range` if one is out of
+// range.
 fn point_of(t: &[u8], v: &[u8]) -> Result<Point, Reason>
     ensures point { result ≡ point_read (numeral t.now) (numeral v.now) }
     ensures in_range { IfOk result InRange }

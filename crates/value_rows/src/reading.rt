@@ -11,22 +11,22 @@ use point_text::RowNo;
 use std::alloc::Global;
 use trend_num::Reason;
 
-// How each record of a file is read.
+// How the records of one kind of file are read.
 pub(crate) trait Form {
-    /// What a good record gives.
+    /// What a good record reads as.
     type Row: Copy + Drop;
 
     ghost row_of: { Self → List (List ℕ) → Result Self.Row Reason };
 
     ghost is_row: { Self → Self.Row → Type 0 };
 
-    /// The row of a record, or the first reason why it has none.
+    /// Reads a record as a row. The error is the first reason why it is none.
     fn read(&self, row: &ByteRecord) -> Result<Self::Row, Reason>
         ensures row { result ≡ row_of self.now (fields_of row.now) }
         ensures is_row { IfOk result (is_row self.now) };
 }
 
-// The rows of a text's records, of at most `most`.
+// Reads the rows of a text of at most `most` records.
 pub(crate) fn rows_of_text<F: Form>(
     alloc: Global,
     form: &F,
@@ -40,7 +40,8 @@ pub(crate) fn rows_of_text<F: Form>(
     rows_behind(alloc, form, Vec::new(alloc), bytes, most)
 }
 
-// Rows that were read before, and behind them those of a text's records: at most `most` in all.
+// Appends the rows of a text's records to `front`, the rows that were read before. At most `most` in all. Records are
+// counted from the first row of `front`.
 pub(crate) fn rows_behind<F: Form>(
     alloc: Global,
     form: &F,
@@ -88,7 +89,7 @@ fn records(alloc: Global, bytes: &[u8]) -> Reader<&[u8]>
         .from_reader(alloc, bytes)
 }
 
-// Reads the next record, and tells whether there was one.
+// Reads the next record into `row`. Returns whether there was one.
 fn read_next(reader: &mut Reader<&[u8]>, row: &mut ByteRecord) -> Result<bool, RowNo>
     requires { (left : List (List (List ℕ))) × HasLeft reader.old left }
     ensures next { IfOk result (λ found. (left : List (List (List ℕ))) → HasLeft reader.old left
@@ -101,13 +102,13 @@ fn read_next(reader: &mut Reader<&[u8]>, row: &mut ByteRecord) -> Result<bool, R
             if let ErrorKind::UnequalLengths { .. } = e.kind() {
                 unreachable!();
             }
-            // No contract rules out that a reader over bytes fails; it is answered as want of memory.
+            // No contract rules out that a reader over bytes fails. It is reported as want of memory.
             Err(RowNo::WantOfMemory)
         }
     }
 }
 
-// Adds a row to others.
+// Appends a row.
 #[inline(always)]
 pub(crate) fn push<R: Copy + Drop>(rows: &mut Vec<R>, row: R) -> Result<(), RowNo>
     ensures rows { IfOk result (λ _. rows.new.items ≡ rows.old.items ++ row ∷ []) }

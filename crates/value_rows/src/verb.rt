@@ -4,7 +4,7 @@ ghost use Rattle.value_rows.specs.Asked.{verb_of};
 
 use trend_num::Measure;
 
-// What a query asks.
+// What kind of query a verb asks for.
 #[derive(Clone, Copy, Debug, PartialEq, Eq)]
 pub(crate) enum Verb {
     At,

@@ -11,7 +11,7 @@ use Rattle.store_commands.proofs.FrameLimits.{cells_told, copies_told}
 use Rattle.store_commands.proofs.frame_sheet.refresh.Goals as goal
 use Rattle.store_commands.proofs.frame_sheet.refresh.Goals.{After-apply}
 
--- the copies with the records behind them are all records
+-- the copies with the records after them are all records
 whole : (c : After-apply) → longer c.args.sheet.now.copies (lists_of c.deref.result.now) ≡ map (λ r. r.now) c.args.records.now
 whole c =
     ap₂ (λ a b. longer a b) c.requires.copies (ap lists_of c.deref.ensures.value ∙ c.in-Ok.ensures.behind)

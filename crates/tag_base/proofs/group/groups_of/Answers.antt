@@ -7,7 +7,7 @@ use Rattle.tag_base.specs.Groups.{GroupRead, GroupsRead, IsSoundGroup}
 use Rattle.tag_base.proofs.group.groups_of.Goals as goal
 use Rattle.tag_base.proofs.group.groups_of.Goals.{After-group_of}
 
--- the table stands before those that are left
+-- the table comes before those that are left
 next : (c : After-group_of)
     → drop c.loop-table.table-index c.args.tables.now
     ≡ c.table-item.result ∷ drop (c.loop-table.table-index + 1) c.args.tables.now
@@ -15,7 +15,7 @@ next c =
     drop_more c.args.tables.now c.loop-table.table-index c.table-item.result c.loop-table-test.true
     ∙ ap (λ x. x ∷ drop (c.loop-table.table-index + 1) c.args.tables.now) (sym c.table-item.is)
 
--- A group that is read goes behind those so far.
+-- A group that is read goes after those so far.
 pub loop-table-preserved : goal.loop-table-preserved
 loop-table-preserved c =
     let t = c.table-item.result in
@@ -33,7 +33,7 @@ loop-table-preserved c =
       as_many = search rules;
     }
 
--- The table that is refused stands behind those of the groups so far.
+-- The table that is refused comes after those of the groups so far.
 pub returns-in_err-group-clause-groups : goal.returns-in_err-group-clause-groups
 returns-in_err-group-clause-groups c =
     let t = c.table-item.result in
