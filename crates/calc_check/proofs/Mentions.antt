@@ -18,7 +18,7 @@ pub any_named : (name : List ℕ) (ds : List CalcDef)
 any_named name [] = refl
 any_named name (d ∷ ds) = ap (λ b. bytes_eq name d.name || b) (any_named name ds)
 
--- as many definitions as calculations stand before the first one of a name
+-- there are as many definitions as calculations before the first one of a name
 before_named : (name : List ℕ) (ds : List CalcDef)
     → prefix_len (λ d. not (bytes_eq name d.name)) ds
     ≡ prefix_len (λ n. not (bytes_eq name n)) (names_of (map calculation ds))
@@ -29,7 +29,7 @@ before_named name (d ∷ ds) = ap (λ k. cond (not (bytes_eq name d.name)) (1 + 
 length_named : (ds : List CalcDef) → length (names_of (map calculation ds)) ≡ length ds
 length_named ds = length-map (map calculation ds) (λ c. c.name) ∙ length-map ds calculation
 
--- the definition of a name stands where its calculation does
+-- the definition of a name is at the place of its calculation
 pub place_named : (name : List ℕ) (ds : List CalcDef)
     → position (λ d. bytes_eq name d.name) ds ≡ position (bytes_eq name) (names_of (map calculation ds))
 place_named name ds =
@@ -47,7 +47,7 @@ first_in_front inputs before xs ys name found =
     among None p e = absurd (cc)
     among (Some m) p e = e
 
--- where all names of the front part stand for something, the first one is that of the other part
+-- if all names of the front part stand for something, the first one is that of the other part
 pub first_behind : (inputs before : List (List ℕ)) (xs ys : List Mention)
     → option_map mentioned (find (λ m. not (is_known inputs before m)) xs) ≡ None
     → option_map mentioned (find (λ m. not (is_known inputs before m)) (xs ++ ys))
@@ -85,7 +85,7 @@ upto_place : (ds : List CalcDef) (i : ℕ) (d : CalcDef) → i < length ds → g
     → names_of (map calculation (take (i + 1) ds)) ≡ names_of (map calculation (take i ds)) ++ d.name ∷ []
 upto_place ds i d within there = rw (take_more ds i d, there) (simp map-append)
 
--- what is told of a calculation at a place, where a name stands for nothing
+-- the refusal of a calculation at a place, if a name stands for nothing
 pub fault_told : (inputs : List (List ℕ)) (ds : List CalcDef) (i : ℕ) (d : CalcDef) (name : List ℕ)
     → i < length ds → get_or ds i d ≡ d
     → first_unknown inputs (names_of (map calculation (take i ds))) (tree_of d.expr) ≡ Some name

@@ -1,4 +1,4 @@
--- How the logic stores a group: as numbers, from which it is known again.
+-- How the logic stores a group: as numbers, from which the group can be recovered.
 use Rattle.std.specs.Prelude.{◌≡◌, ℕ, List, refl}
 use Rattle.std.proofs.Common.{ap, ap₂}
 use Rattle.std.specs.Coded.{Coded, code_by, coded×, coded_list, coded_ℕ, coded_ℤ}
@@ -12,7 +12,7 @@ use Rattle.calc_check.specs.Group.{Calculation, Group}
 abbrev name_code : Coded (List ℕ)
 name_code = coded_list coded_ℕ
 
--- a number for the form of a tree, and the numbers of its parts
+-- a number for the form of a tree, then the numbers of its parts
 abbrev pub stored : Tree → Gv
 stored (num n) = gcons (gnum 0) (coded_ℤ.code n)
 stored (window m name) = gcons (gnum 1) (gcons (measure.the_row.coded.code m) (name_code.code name))
@@ -23,7 +23,7 @@ stored (two o a b) = gcons (gnum 5) (gcons (op.the_row.coded.code o) (gcons (sto
 stored (compare c a b) = gcons (gnum 6) (gcons (cmp.the_row.coded.code c) (gcons (stored a) (stored b)))
 stored (choose c a b) = gcons (gnum 7) (gcons (stored c) (gcons (stored a) (stored b)))
 
--- two trees that are stored alike are one
+-- two trees that are stored alike are the same
 pub stored_once : (t u : Tree) → stored t ≡ stored u → t ≡ u
 stored_once (num m) (num n) e =
     let same : coded_ℤ.code m ≡ coded_ℤ.code n = cc in ap num (coded_ℤ.inj m n same)

@@ -18,7 +18,7 @@ pub record Group : Type 0 where
   pub inputs : List (List ℕ)
   pub calcs : List Calculation
 
--- what a definition defines
+-- the calculation that a definition defines
 abbrev pub calculation : CalcDef → Calculation
 calculation d = record { name = d.name; tree = tree_of d.expr }
 
@@ -30,7 +30,7 @@ group_of inputs defs = record { inputs = inputs; calcs = map calculation defs }
 abbrev pub names_of : List Calculation → List (List ℕ)
 names_of cs = map (λ c. c.name) cs
 
--- a name in a formula, which is to be that of an input, or that of an earlier calculation
+-- a name in a formula: it has to be the name of an input, or of an earlier calculation
 pub data Mention : Type 0 where
   input : List ℕ → Mention
   earlier : List ℕ → Mention
@@ -53,7 +53,7 @@ mentions (choose c a b) = mentions c ++ mentions a ++ mentions b
 abbrev pub is_among : List ℕ → List (List ℕ) → Bool
 is_among name names = list_any (bytes_eq name) names
 
--- whether a name stands for something, where these are the inputs and these the calculations before
+-- whether a name stands for something, given the names of the inputs and of the calculations before
 abbrev pub is_known : List (List ℕ) → List (List ℕ) → Mention → Bool
 is_known inputs before (input name) = is_among name inputs
 is_known inputs before (earlier name) = is_among name before
@@ -63,12 +63,12 @@ abbrev pub first_unknown : List (List ℕ) → List (List ℕ) → Tree → Opti
 first_unknown inputs before tree =
     option_map mentioned (find (λ m. not (is_known inputs before m)) (mentions tree))
 
--- what is told of such a name in the calculation at a place: it comes too early, where it is that of this or a
--- later one
+-- the refusal of such a name in the calculation at a place: `Forward` if it is that of this or a later one, otherwise
+-- `UnknownName`
 abbrev pub told : ℕ → List (List ℕ) → List ℕ → CheckNo
 told place coming name = if is_among name coming then Forward place name else UnknownName place name
 
--- what is told of the first name that stands for nothing, in the first of the calculations that has one
+-- the refusal of the first name that stands for nothing, in the first calculation that has one
 abbrev pub first_fault : List (List ℕ) → List (List ℕ) → List Calculation → Option CheckNo
 first_fault inputs before [] = None
 first_fault inputs before (c ∷ cs) = option_or
@@ -79,7 +79,7 @@ first_fault inputs before (c ∷ cs) = option_or
 abbrev pub fault_of : Group → Option CheckNo
 fault_of g = first_fault g.inputs [] g.calcs
 
--- a fault is what decides; want of memory may come at any time
+-- the refusal is the fault of the group; want of memory may come at any time
 abbrev pub IsToldOf : Option CheckNo → CheckNo → Type 0
 IsToldOf fault (UnknownName place name) = fault ≡ Some (UnknownName place name)
 IsToldOf fault (Forward place name) = fault ≡ Some (Forward place name)

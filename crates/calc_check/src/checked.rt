@@ -10,7 +10,7 @@ use std::alloc::Global;
 use std::marker::Model;
 use trend_num::{Name, WantOfMemory};
 
-/// Calculations of a group, in each of which every name stands for an input or an earlier calculation.
+/// Calculations of a group. Every name in them stands for an input or an earlier calculation.
 #[derive(Drop)]
 pub struct Checked {
     alloc: Global,
@@ -32,14 +32,14 @@ impl Model for Checked {
     ghost invariant = { λ c. fault_of (group_of c.inputs.items c.calcs.items) ≡ None };
 }
 
-/// Checks that every name in the formulas stands for something: a measured one for an input, and one after `calc`
-/// for an earlier calculation.
+/// Checks that every name in the formulas stands for something: a measured name for an input, and a name after `calc`
+/// for an earlier calculation. Otherwise it reports the first name that stands for nothing, or want of memory.
 pub fn check(alloc: Global, inputs: &[Name], calcs: Vec<CalcDef>) -> Result<Checked, CheckNo>
     requires { vec_len calcs < 2 ^ 32 }
     ensures kept { IfOk result (λ checked. checked ≡ group_of inputs.now calcs.items) }
     ensures known { IfOk result (λ checked. fault_of checked ≡ None) }
 
-    // The first fault is told whatever memory there is.
+    // The first fault is reported, no matter how much memory there is.
     ensures first { (why : CheckNo) → fault_of (group_of inputs.now calcs.items) ≡ Some why → result ≡ Err why }
     ensures fault { IfErr result (IsToldOf (fault_of (group_of inputs.now calcs.items))) }
 {
@@ -55,7 +55,7 @@ pub fn check(alloc: Global, inputs: &[Name], calcs: Vec<CalcDef>) -> Result<Chec
 }
 
 impl Checked {
-    /// The calculations in order.
+    /// Returns the calculations in order.
     pub fn defs(&self) -> &[CalcDef]
         ensures calcs { map calculation result.now ≡ self.now.calcs }
         ensures known { fault_of self.now ≡ None }
@@ -63,14 +63,14 @@ impl Checked {
         &self.calcs
     }
 
-    /// The names of the inputs in order.
+    /// Returns the names of the inputs in order.
     pub fn inputs(&self) -> &[Name]
         ensures { result.now ≡ self.now.inputs }
     {
         &self.inputs
     }
 
-    /// The same calculations again.
+    /// Returns a copy of the calculations. The one error is want of memory.
     pub fn copy(&self) -> Result<Checked, WantOfMemory>
         ensures { IfOk result (λ copy. copy ≡ self.now) }
     {
@@ -83,7 +83,7 @@ impl Checked {
         })
     }
 
-    /// Whether both have the same inputs and the same calculations, each in the same order.
+    /// Returns whether both have the same inputs and the same calculations, each in the same order.
     pub fn same(&self, other: &Checked) -> bool
         ensures { IsTrue result ↔ (self.now ≡ other.now) }
     {

@@ -14,7 +14,7 @@ pub struct CalcDef {
     pub expr: Expr,
 }
 
-// A copy of definitions.
+// Returns a copy of definitions.
 pub(crate) fn copied_defs(alloc: Global, defs: &[CalcDef]) -> Result<Vec<CalcDef>, WantOfMemory>
     ensures { IfOk result (λ copy. map calculation copy.items ≡ map calculation defs.now) }
 {
@@ -27,14 +27,14 @@ pub(crate) fn copied_defs(alloc: Global, defs: &[CalcDef]) -> Result<Vec<CalcDef
     Ok(copy)
 }
 
-// Whether two definitions have one name and one tree.
+// Returns whether two definitions have the same name and the same tree.
 fn is_same_def(a: &CalcDef, b: &CalcDef) -> bool
     ensures { IsTrue result ↔ (calculation a.now ≡ calculation b.now) }
 {
     same_name(&a.name, &b.name) && is_same(&a.expr, &b.expr)
 }
 
-// Whether the definitions of two lists are the same.
+// Returns whether two lists have the same definitions, in the same order.
 #[tactic(auto, using(crate::proofs::Mentions::same_at))]
 pub(crate) fn is_same_defs(a: &[CalcDef], b: &[CalcDef]) -> bool
     ensures { IsTrue result ↔ (map calculation a.now ≡ map calculation b.now) }
@@ -50,7 +50,7 @@ pub(crate) fn is_same_defs(a: &[CalcDef], b: &[CalcDef]) -> bool
     true
 }
 
-// Whether the names of two lists are the same.
+// Returns whether two lists have the same names, in the same order.
 pub(crate) fn is_same_names(a: &[Name], b: &[Name]) -> bool
     ensures { IsTrue result ↔ (a.now ≡ b.now) }
 {

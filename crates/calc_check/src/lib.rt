@@ -1,9 +1,9 @@
-//! The calculation language: the names of a group's formulas, checked.
+//! The calculation language: the check of the names in a group's formulas.
 //!
-//! Its model is a group: the names of its inputs, and its calculations in order, each a name and the tree of its formula.
-//! `check` takes calculations in each of which every name stands for an input or an earlier calculation, or tells the first
-//! name that does not, left to right in the first calculation with such a name. Nothing here knows a value, a content or a
-//! window. Only the copies take memory.
+//! The model is a group: the names of its inputs, and its calculations in order. A calculation is a name and the tree
+//! of its formula. `check` accepts calculations in which every name stands for an input or an earlier calculation.
+//! Otherwise it reports the first name that does not: the leftmost one of the first calculation that has such a name.
+//! The check knows no values, contents or windows. Only the copies take memory.
 #![tactic(auto)]
 
 mod checked;

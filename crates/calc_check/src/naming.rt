@@ -10,56 +10,56 @@ use crate::refusal::CheckNo;
 use calc_parser::Expr;
 use trend_num::Name;
 
-// Whether two names are one.
+// Returns whether two names are the same.
 pub(crate) fn is_same_name(a: &Name, b: &Name) -> bool
     ensures { result ≡ bytes_eq a.now b.now }
 {
     a.bytes() == b.bytes()
 }
 
-/// The place of a name among the inputs. None where it is none of them.
+/// Returns the place of a name among the inputs, or None if it is none of them.
 pub fn input_place(inputs: &[Name], name: &Name) -> Option<usize>
     ensures { result ≡ position (bytes_eq name.now) inputs.now }
 {
     inputs.iter().position(|input| is_same_name(name, input))
 }
 
-// The place of the definition of a name.
+// Returns the place of the definition that has this name.
 fn def_place(defs: &[CalcDef], name: &Name) -> Option<usize>
     ensures { result ≡ position (λ d. bytes_eq name.now d.name) defs.now }
 {
     defs.iter().position(|def| is_same_name(name, &def.name))
 }
 
-/// The place of the first calculation of a name. None where there is none.
+/// Returns the place of the first calculation with this name, or None if there is none.
 pub fn calc_place(calcs: &[CalcDef], name: &Name) -> Option<usize>
     ensures { result ≡ position (bytes_eq name.now) (names_of (map calculation calcs.now)) }
 {
     def_place(calcs, name)
 }
 
-// Whether a name is that of an input.
+// Returns whether a name is that of an input.
 fn is_input(inputs: &[Name], name: &Name) -> bool
     ensures { result ≡ is_among name.now inputs.now }
 {
     inputs.iter().any(|input| is_same_name(name, input))
 }
 
-// Whether a definition has a name.
+// Returns whether a definition has this name.
 fn is_defined(defs: &[CalcDef], name: &Name) -> bool
     ensures { result ≡ list_any (λ d. bytes_eq name.now d.name) defs.now }
 {
     defs.iter().any(|def| is_same_name(name, &def.name))
 }
 
-// Whether a name is that of a calculation.
+// Returns whether a name is that of a calculation.
 fn is_calc(calcs: &[CalcDef], name: &Name) -> bool
     ensures { result ≡ is_among name.now (names_of (map calculation calcs.now)) }
 {
     is_defined(calcs, name)
 }
 
-// The first name of a formula that stands for nothing.
+// Returns the first name in a formula that stands for nothing.
 #[tactic(auto, using(crate::proofs::Mentions::first_in_front, crate::proofs::Mentions::first_behind))]
 fn first_unknown(inputs: &[Name], before: &[CalcDef], e: &Expr) -> Option<Name>
     ensures { result ≡ first_unknown inputs.now (names_of (map calculation before.now)) (tree_of e.now) }
@@ -100,7 +100,7 @@ fn first_unknown(inputs: &[Name], before: &[CalcDef], e: &Expr) -> Option<Name>
     }
 }
 
-// What is told of a name that stands for nothing in the first of these calculations, which is at this place.
+// Returns the refusal of a name that stands for nothing in the first of these calculations, which is at this place.
 fn told(place: u32, coming: &[CalcDef], name: Name) -> CheckNo
     ensures { result ≡ told place (names_of (map calculation coming.now)) name }
 {
@@ -111,7 +111,7 @@ fn told(place: u32, coming: &[CalcDef], name: Name) -> CheckNo
     }
 }
 
-// What is told of the first name that stands for nothing.
+// Returns the refusal of the first name that stands for nothing, or None if there is none.
 #[tactic(auto, using(crate::proofs::Mentions::fault_after))]
 pub(crate) fn first_fault(inputs: &[Name], calcs: &[CalcDef]) -> Option<CheckNo>
     requires { length calcs.now < 2 ^ 32 }

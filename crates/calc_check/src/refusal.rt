@@ -3,16 +3,15 @@
 use std::alloc::AllocError;
 use trend_num::Name;
 
-/// What is wrong with the first name that stands for nothing, left to right in the first calculation with such a
-/// name.
+/// Why the first name that stands for nothing is refused: the leftmost such name of the first calculation that has one.
 #[derive(Clone, Copy, Debug, PartialEq, Eq)]
 pub enum CheckNo {
-    /// In this calculation: it is no input where it is measured, no earlier calculation where it stands after `calc`, and
-    /// not the name of this or a later one.
+    /// The name stands for nothing that this calculation may use: it is no input where it is measured, and no earlier
+    /// calculation after `calc`. It is not the name of this or a later calculation either.
     UnknownName { calc: u32, name: Name },
-    /// In this calculation: it is that of this or a later calculation.
+    /// The name in this calculation is that of this or a later calculation.
     Forward { calc: u32, name: Name },
-    /// No memory was found.
+    /// There was not enough memory.
     WantOfMemory,
 }
 

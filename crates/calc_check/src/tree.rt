@@ -6,14 +6,14 @@ use calc_parser::Expr;
 use std::alloc::Global;
 use trend_num::{WantOfMemory, same_name};
 
-// A tree in a box.
+// Puts a tree into a box.
 fn boxed(alloc: Global, e: Expr) -> Result<Box<Expr>, WantOfMemory>
     ensures { IfOk result (λ b. b.value ≡ e) }
 {
     Ok(Box::new(alloc, e)?)
 }
 
-// A copy of a tree.
+// Returns a copy of a tree.
 pub(crate) fn copied(alloc: Global, e: &Expr) -> Result<Expr, WantOfMemory>
     ensures { IfOk result (λ copy. tree_of copy ≡ tree_of e.now) }
 {
@@ -48,7 +48,7 @@ pub(crate) fn copied(alloc: Global, e: &Expr) -> Result<Expr, WantOfMemory>
     }
 }
 
-// Whether two trees are one.
+// Returns whether two trees are the same.
 pub(crate) fn is_same(a: &Expr, b: &Expr) -> bool
     ensures { IsTrue result ↔ (tree_of a.now ≡ tree_of b.now) }
 {

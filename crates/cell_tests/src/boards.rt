@@ -1,4 +1,4 @@
-// What no clause says of a board: that it is made, and that posters and lookers may be in different threads.
+// What no clause of a board shows: that it can be made, and that posters and lookers can be in different threads.
 ghost use Rattle.std.specs.Prelude.{◌≡◌, IfOk, length};
 ghost use Rattle.std.specs.Thread.{IsSync};
 ghost use Rattle.snapshot_table.specs.Boards.{LooksAt, PostsTo};
@@ -9,7 +9,7 @@ use std::sync::Wait;
 use std::test::Fail;
 use std::thread::{Threads, join};
 
-// A board of one tag, its poster and a looker.
+// Returns a board of one tag, its poster and a looker.
 fn small(rt: &impl Wait, alloc: Global) -> Result<(Board, Poster, Looker), WantOfMemory>
     ensures one { IfOk result (λ made. length made.0 ≡ 1) }
     ensures posts { IfOk result (λ made. PostsTo made.0 made.1) }
@@ -22,7 +22,7 @@ fn small(rt: &impl Wait, alloc: Global) -> Result<(Board, Poster, Looker), WantO
     }
 }
 
-// What a new board shows, and behind it snapshots in the order in which they are posted: how many events were taken, and the
+// What a new board shows, then snapshots in the order in which they are posted: how many events were taken, and the
 // time and the value of the held point.
 const ROWS: &str = "\
 0 none
@@ -36,7 +36,7 @@ const ROWS: &str = "\
 6 9 -9223372036854775808
 18446744073709551615 none";
 
-// The snapshot that a row spells.
+// Returns the snapshot that a row spells.
 fn snap_of(row: &str) -> Option<Snap> {
     let (taken, held) = row.split_once(' ')?;
     let taken = taken.parse().ok()?;
@@ -50,7 +50,7 @@ fn snap_of(row: &str) -> Option<Snap> {
     Some(Snap { taken, held })
 }
 
-// The first row that a look does not show once it is posted.
+// Returns the first row that a look does not show after it is posted.
 fn unshown<R: Wait>(rt: &R, board: &Board, poster: Poster, looker: Looker) -> Option<&'static str>
     requires one { length board.now ≡ 1 }
     requires posts { PostsTo board.now poster }
@@ -82,7 +82,7 @@ fn a_look_shows_what_was_posted_last(rt: HostRuntime) -> Result<(), Fail> {
     Ok(())
 }
 
-// Posts so many snapshots, each of one event more.
+// Posts so many snapshots, each with one event more.
 fn post_all<R: Wait>(rt: &R, board: &Board, poster: Poster, count: u64)
     requires { PostsTo board.now poster }
 {
@@ -101,7 +101,8 @@ fn post_all<R: Wait>(rt: &R, board: &Board, poster: Poster, count: u64)
     }
 }
 
-// Whether none of so many looks shows fewer events than the one before, and each shows a whole snapshot; and who looked.
+// Returns whether no look shows fewer events than the one before, and each shows a whole snapshot. Also returns the
+// looker.
 fn looks_rise<R: Wait>(rt: &R, board: &Board, looker: Looker, count: u64) -> (bool, Looker)
     requires one { length board.now ≡ 1 }
     requires looks { LooksAt board.now looker }
@@ -119,7 +120,8 @@ fn looks_rise<R: Wait>(rt: &R, board: &Board, looker: Looker, count: u64) -> (bo
     (rise, looker)
 }
 
-// A poster and a looker at work beside each other: whether the looks rose, and the events that one more look shows then.
+// Runs a poster and a looker at the same time. Returns whether the looks rose, and the events that one more look shows
+// then.
 fn beside<R: Threads + Wait + Sync>(rt: &R, alloc: Global) -> Result<(bool, u64), WantOfMemory> {
     let (board, poster, looker) = small(rt, alloc)?;
     let shown = &board;

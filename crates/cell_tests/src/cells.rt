@@ -1,4 +1,4 @@
-// Cells on devices in memory: rows by hand, refusals, and a crash after each call.
+// Cells on devices in memory: values written by hand, refusals, and a crash after each call.
 
 use disk_model::{Disk, MemDisk, Pick};
 use interp_read::Reply;
@@ -12,7 +12,7 @@ use trend_num::{
     Kind, Measure, Point, Reading, Rec, TagDef, TagQuery, Tuning, in_range, name_from,
 };
 
-// A tag with this CompDev, of steps or of lines, that sends each value which differs from the one sent before.
+// Returns a tag with this CompDev, of steps or of lines. It sends each value that differs from the one sent before.
 pub(crate) fn tag(step: bool, comp_dev: u64) -> Option<TagDef> {
     let tuning = Tuning {
         exc_dev: 0,
@@ -28,7 +28,7 @@ pub(crate) fn tag(step: bool, comp_dev: u64) -> Option<TagDef> {
     })
 }
 
-// A cell on this device, or the device if it is refused.
+// Returns a cell on this device, or the device if it is refused.
 fn opened(
     rt: &impl Wait,
     alloc: Global,
@@ -45,7 +45,7 @@ fn opened(
     open_cell(rt, alloc, dev, def, slots, room, board, poster).ok()
 }
 
-// Takes the values of a text such as `0,0 10,10`, as rows from 1 on of collector 0.
+// Takes the values of a text such as `0,0 10,10`, as rows of collector 0. The rows count from 1.
 fn take_all(rt: &impl Wait, cell: &mut Cell<MemDisk>, values: &str) -> Option<()> {
     for (row, value) in values.split(' ').enumerate() {
         let (t, v) = value.split_once(',')?;
@@ -61,7 +61,7 @@ fn take_all(rt: &impl Wait, cell: &mut Cell<MemDisk>, values: &str) -> Option<()
     Some(())
 }
 
-// A cell on a new device that has taken these values: one of a step tag, or one of lines that keeps each bend.
+// Returns a cell on a new device that has taken these values: one of a step tag, or one of lines that keeps each bend.
 pub(crate) fn filled(
     rt: &impl Wait,
     alloc: Global,
@@ -77,17 +77,17 @@ pub(crate) fn filled(
     Some(cell)
 }
 
-// What a commit acknowledges.
+// Commits, and returns what is acknowledged.
 fn commit(cell: &mut Cell<MemDisk>) -> Result<Acked, CommitNo> {
     cell.commit()
 }
 
-// So many values are acknowledged, and none waits.
+// Returns an answer in which so many values are acknowledged, and none waits.
 fn all_of(acked: u64) -> Result<Acked, CommitNo> {
     Ok(Acked { acked, waiting: 0 })
 }
 
-// Why a cell refuses a value.
+// Returns why a cell refuses a value.
 fn refusal(rt: &impl Wait, cell: &mut Cell<MemDisk>, row: u64, t: u64, v: i64) -> Option<TakeNo> {
     let p = Point { t, v };
     if !in_range(p) {
@@ -96,12 +96,12 @@ fn refusal(rt: &impl Wait, cell: &mut Cell<MemDisk>, row: u64, t: u64, v: i64) -
     cell.take(rt, 0, row, p).err()
 }
 
-// Why a cell hands out no records from a place on.
+// Returns why a cell hands out no records from a place on.
 fn ahead(cell: &mut Cell<MemDisk>, from: u32) -> Option<PullNo> {
     cell.pull(0, from).err()
 }
 
-// Whether a cell hands out just these records from its first place on.
+// Returns whether a cell hands out exactly these records from its first place on.
 fn pulls(cell: &mut Cell<MemDisk>, recs: &[Rec]) -> bool {
     match cell.pull(0, 0) {
         Ok(pulled) => pulled.recs.as_slice() == recs,
@@ -109,7 +109,7 @@ fn pulls(cell: &mut Cell<MemDisk>, recs: &[Rec]) -> bool {
     }
 }
 
-// What a cell reads at a time.
+// Returns what a cell reads at a time.
 fn reading(cell: &mut Cell<MemDisk>, t: u64) -> Option<Reading> {
     if t > trend_num::MAX_T {
         return None;
@@ -120,7 +120,7 @@ fn reading(cell: &mut Cell<MemDisk>, t: u64) -> Option<Reading> {
     }
 }
 
-// What a cell measures from one time to another.
+// Returns what a cell measures from one time to another.
 fn measured(cell: &mut Cell<MemDisk>, measure: Measure, from: u64, to: u64) -> Option<i128> {
     if from >= to || to > trend_num::MAX_T {
         return None;
@@ -135,7 +135,8 @@ fn measured(cell: &mut Cell<MemDisk>, measure: Measure, from: u64, to: u64) -> O
     }
 }
 
-// How many entries a tape has that ends with a commit, the calls of the device since the opening, and what is acknowledged.
+// Returns, for a tape that ends with a commit: the number of its entries, the calls of the device since the opening,
+// and the number of acknowledged events.
 fn last_commit(cell: &Cell<MemDisk>) -> Option<(usize, u64, u64)> {
     match cell.tape().last()? {
         Entry::Commit { moment, acked } => {
@@ -146,13 +147,13 @@ fn last_commit(cell: &Cell<MemDisk>) -> Option<(usize, u64, u64)> {
     }
 }
 
-// The device of a cell.
+// Returns the device of a cell.
 fn device_of(cell: Cell<MemDisk>) -> MemDisk {
     let (dev, _) = cell.into_history();
     dev
 }
 
-// A kept record.
+// Returns a kept record.
 fn kept(t: u64, v: i64) -> Rec {
     Rec {
         kind: Kind::Kept,
@@ -160,8 +161,8 @@ fn kept(t: u64, v: i64) -> Rec {
     }
 }
 
-// Whether the lane begins with an open gate and, in its first lane slot, the number 0 of the first value, in eight bytes,
-// and the count of three values, in two.
+// Returns whether the lane begins with an open gate, and its first lane slot with the number 0 of the first value
+// (eight bytes) and a count of three values (two bytes).
 fn holds_three(dev: &MemDisk) -> bool {
     dev.bytes().get(400).copied() == Some(0xa5)
         && dev.bytes().get(464..474) == Some([0, 0, 0, 0, 0, 0, 0, 0, 0, 3].as_slice())
@@ -171,7 +172,7 @@ fn holds_three(dev: &MemDisk) -> bool {
 fn a_batch_is_two_writes_and_two_syncs(rt: HostRuntime) -> Result<(), Fail> {
     let mut cell = filled(&rt, rt.alloc(), false, 64, 4, "0,0 10,10 20,20").ok_or("refused")?;
     assert_eq!(rt; commit(&mut cell), all_of(3));
-    // The second commit leaves nothing.
+    // The second commit leaves no entry.
     assert_eq!(rt; commit(&mut cell), all_of(3));
     assert_eq!(rt; last_commit(&cell), Some((4, 4, 3)));
     assert!(rt; holds_three(&device_of(cell)));
@@ -208,7 +209,7 @@ fn a_full_lane_goes_by_a_checkpoint(rt: HostRuntime) -> Result<(), Fail> {
     Ok(())
 }
 
-// A cell whose device stops after so many calls.
+// Returns a cell whose device stops after so many calls.
 fn stopping(
     rt: &impl Wait,
     alloc: Global,
@@ -221,13 +222,13 @@ fn stopping(
     opened(rt, alloc, dev, def, slots, 8)
 }
 
-// How many calls it takes to open a new device.
+// Returns how many calls it takes to open a new device.
 fn calls_of_opening(rt: &impl Wait, alloc: Global, def: &TagDef, slots: u32) -> Option<u64> {
     let cell = stopping(rt, alloc, def, slots, u64::MAX)?;
     Some(device_of(cell).calls())
 }
 
-// A cell that has taken 7 and whose device stops at the next call.
+// Returns a cell that has taken 7, on a device that stops at the next call.
 fn about_to_break(rt: &impl Wait, alloc: Global) -> Option<Cell<MemDisk>> {
     let def = tag(false, 0)?;
     let calls = calls_of_opening(rt, alloc, &def, 64)?;
@@ -236,7 +237,7 @@ fn about_to_break(rt: &impl Wait, alloc: Global) -> Option<Cell<MemDisk>> {
     Some(cell)
 }
 
-// Whether a cell is broken, by a fault of its device since the opening.
+// Returns whether a cell was broken by a fault of its device since the opening.
 fn broke(cell: &Cell<MemDisk>) -> bool {
     cell.broken() && cell.device_faults() > cell.opening().faults
 }
@@ -263,7 +264,7 @@ fn a_step_tag_answers_by_its_stair(rt: HostRuntime) -> Result<(), Fail> {
     Ok(())
 }
 
-// Six values, with a commit after each second one; the session ends at the first refusal. Tells how many were
+// Takes six values, with a commit after each second one. It stops at the first refusal. Returns how many values were
 // acknowledged.
 fn session(rt: &impl Wait, cell: &mut Cell<MemDisk>) -> u64 {
     let mut acked = 0;
@@ -279,7 +280,7 @@ fn session(rt: &impl Wait, cell: &mut Cell<MemDisk>) -> u64 {
     acked
 }
 
-// How many values a device has once it is opened.
+// Returns how many values a device has after it is opened.
 fn recovered(rt: &impl Wait, alloc: Global, dev: MemDisk, def: &TagDef) -> Option<u64> {
     let mut dev = dev;
     dev.stop_after(u64::MAX);
@@ -287,7 +288,7 @@ fn recovered(rt: &impl Wait, alloc: Global, dev: MemDisk, def: &TagDef) -> Optio
     Some(cell.summary().taken)
 }
 
-// Whether a device has so many values at least and at most, whatever a crash leaves of it.
+// Returns whether a device, whatever a crash leaves of it, has at least and at most so many values.
 fn keeps(
     rt: &impl Wait,
     alloc: Global,
@@ -305,7 +306,7 @@ fn keeps(
     Some(true)
 }
 
-// Whether a session on a device that stops after so many calls leaves all that it acknowledged.
+// Returns whether a session on a device that stops after so many calls keeps all that it acknowledged.
 fn survives(rt: &impl Wait, alloc: Global, def: &TagDef, calls: u64) -> Option<bool> {
     let mut cell = stopping(rt, alloc, def, 1, calls)?;
     let acked = session(rt, &mut cell);
@@ -313,7 +314,7 @@ fn survives(rt: &impl Wait, alloc: Global, def: &TagDef, calls: u64) -> Option<b
     keeps(rt, alloc, &device_of(cell), def, acked, taken)
 }
 
-// After how many calls behind its opening a device first loses what was acknowledged.
+// Returns after how many calls after its opening a device first loses acknowledged values.
 fn first_loss(rt: &impl Wait, alloc: Global, def: &TagDef, opening: u64) -> Option<u64> {
     for calls in 0..40u64 {
         if survives(rt, alloc, def, opening.saturating_add(calls)) != Some(true) {
@@ -331,7 +332,7 @@ fn a_crash_after_any_call_leaves_what_was_acknowledged(rt: HostRuntime) -> Resul
     Ok(())
 }
 
-// Takes late values, each of which is a record, until one is refused; tells why.
+// Takes late values, each of which is a record, until one is refused. Returns why.
 fn fill_up(rt: &impl Wait, cell: &mut Cell<MemDisk>) -> Option<TakeNo> {
     for row in 0..1_048_600 {
         if let Some(no) = refusal(rt, cell, row, 0, 0) {
@@ -352,7 +353,7 @@ fn a_tag_at_its_limit_of_records_answers_full(rt: HostRuntime) -> Result<(), Fai
     Ok(())
 }
 
-// Takes so many values as rows of a collector, each under the lock; tells how many were taken.
+// Takes so many values as rows of a collector, each under the lock. Returns how many were taken.
 fn take_under_lock<R: Wait>(
     rt: &R,
     cell: &Mutex<Cell<MemDisk>>,
@@ -372,7 +373,7 @@ fn take_under_lock<R: Wait>(
     taken
 }
 
-// Two collectors beside each other.
+// Runs two collectors at the same time.
 fn beside<R: Threads + Wait + Sync>(rt: &R, cell: &Mutex<Cell<MemDisk>>) -> (u32, u32) {
     join(
         rt,

@@ -1,4 +1,4 @@
-//! Tests of what lies under a tag's lock and beside it: the board of snapshots, and cells on devices that fail and crash.
+//! Tests of a tag's cell and of the board next to it: the board's snapshots, and cells on devices that fail and crash.
 #![tactic(auto)]
 
 #[cfg(test)]

@@ -1,4 +1,4 @@
-// What a session makes up once its workers have ended: the rows and the questions that a tape lacks, and commits.
+// What a session makes up after its workers have ended: the rows and questions that a tape lacks, and commits.
 ghost use Rattle.std.specs.Prelude.{◌≡◌, length};
 ghost use Rattle.collector_pool.specs.Work.{IsWorkOf};
 
@@ -18,7 +18,8 @@ use tag_cell::{Cell, TagOpening};
 use trend_num::TagQuery;
 use value_rows::Query;
 
-// The work of collectors, whose rows are parted by `;`, and of a reader that asks what stands at 5, and for a snapshot.
+// Returns the work of collectors, whose rows are separated by `;`, and of a reader. The reader asks for the value at 5,
+// and for a snapshot.
 fn work_of(alloc: Global, files: &str) -> Option<Work> {
     let mut collectors = Vec::new(alloc);
     for rows in files.split(';') {
@@ -65,12 +66,12 @@ fn make_up(
     commit_cells(cells)
 }
 
-// A cell that has taken the first row of collector 0, `0,0`, with room for so many takes.
+// Returns a cell with room for so many takes that has taken the first row of collector 0, `0,0`.
 fn begun(rt: &impl Wait, alloc: Global, room: u32) -> Option<Cell<MemDisk>> {
     filled(rt, alloc, false, 64, room, "0,0")
 }
 
-// Makes up what a begun cell lacks of these files, and tells what its tape has then, or why it is refused.
+// Makes up what a begun cell lacks of these files. Returns what its tape has then, or why it is refused.
 fn made_up(rt: &impl Wait, alloc: Global, room: u32, files: &str) -> Option<String> {
     let work = work_of(alloc, files)?;
     if !work.fits(1, 0) {

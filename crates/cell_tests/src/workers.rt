@@ -1,4 +1,4 @@
-// Sessions of workers over one tag in memory, whose passes hold them at their steps.
+// Sessions of workers over one tag in memory. Their passes hold the workers at their steps.
 ghost use Rattle.std.specs.Prelude.{◌≡◌, All, IfSome, length};
 ghost use Rattle.std.specs.Arc.{arc_value};
 ghost use Rattle.snapshot_table.specs.Boards.{LooksAt};
@@ -20,10 +20,10 @@ use test_rig::{Gates, PATIENT, Shut, lone_board};
 use trend_num::{CalcValue, Point, Snap, TagQuery, in_range, tuning_ok};
 use value_rows::{Query, RawRow};
 
-// How often a held worker looks whether the others have come before it is stopped, where they do not come.
+// How often a held worker checks whether the others have come. If they do not come, it is then stopped.
 const BRIEF: u64 = 10_000;
 
-// One group without calculations: a turn pulls from the first tag, and an answer is none.
+// One group without calculations. A turn pulls from the first tag, and a question gets no value.
 #[derive(Drop)]
 struct Puller {
     answers: AtomicU64,
@@ -66,7 +66,7 @@ impl GroupTurns<MemDisk> for Puller {
     }
 }
 
-// A board that two share.
+// Returns two shares of a board.
 fn twice(alloc: Global, board: Board) -> Option<(Arc<Board, Global>, Arc<Board, Global>)>
     ensures first { IfSome result (λ made. arc_value made.0 ≡ board) }
     ensures second { IfSome result (λ made. arc_value made.1 ≡ board) }
@@ -83,7 +83,7 @@ struct Ran {
     history: TagHistory,
 }
 
-// A session over one new tag that has room for so many takes. With `filled`, so many values are taken before it.
+// Runs a session over one new tag that has room for so many takes. With `filled`, so many values are taken before it.
 fn session_over<P: Passes, R: Threads + Wait + Sync>(
     rt: &R,
     alloc: Global,
@@ -109,7 +109,7 @@ fn session_over<P: Passes, R: Threads + Wait + Sync>(
     work_over(rt, alloc, cell, &board, lookers, work, passes)
 }
 
-// The same over a cell that is open.
+// Runs a session over a cell that is open.
 fn work_over<P: Passes, R: Threads + Wait + Sync>(
     rt: &R,
     alloc: Global,
@@ -136,7 +136,7 @@ fn work_over<P: Passes, R: Threads + Wait + Sync>(
     Some(Ran { notes, history })
 }
 
-// Takes so many values, each of which but the last is kept.
+// Takes so many values. Each but the last is kept.
 fn fill<R: Wait>(rt: &R, cell: &mut Cell<MemDisk>, count: u32) -> Option<()> {
     for i in 0..count {
         let p = Point {
@@ -151,7 +151,7 @@ fn fill<R: Wait>(rt: &R, cell: &mut Cell<MemDisk>, count: u32) -> Option<()> {
     Some(())
 }
 
-// The rows of a text such as `0,0 10,10`, of the first tag.
+// Returns the rows of a text such as `0,0 10,10`, of the first tag.
 pub(crate) fn rows_of(alloc: Global, text: &str) -> Option<Vec<RawRow>> {
     let mut rows = Vec::new(alloc);
     for value in text.split(' ') {
@@ -165,7 +165,7 @@ pub(crate) fn rows_of(alloc: Global, text: &str) -> Option<Vec<RawRow>> {
     Some(rows)
 }
 
-// So many rows of the first tag, each of one value more.
+// Returns so many rows of the first tag. Each value is one more than the last.
 fn rising(alloc: Global, count: u32) -> Option<Vec<RawRow>> {
     let mut rows = Vec::new(alloc);
     for i in 0..count {
@@ -178,7 +178,7 @@ fn rising(alloc: Global, count: u32) -> Option<Vec<RawRow>> {
     Some(rows)
 }
 
-// The work of these collectors alone.
+// Returns the work of these collectors alone.
 fn collecting(alloc: Global, collectors: Vec<Vec<RawRow>>) -> Work {
     Work {
         collectors,
@@ -188,7 +188,7 @@ fn collecting(alloc: Global, collectors: Vec<Vec<RawRow>>) -> Work {
     }
 }
 
-// Two collectors of these rows.
+// Returns the work of two collectors with these rows.
 fn two_collectors(alloc: Global, first: &str, second: &str) -> Option<Work> {
     let mut collectors = Vec::new(alloc);
     collectors.push(rows_of(alloc, first)?).ok()?;
@@ -196,14 +196,14 @@ fn two_collectors(alloc: Global, first: &str, second: &str) -> Option<Work> {
     Some(collecting(alloc, collectors))
 }
 
-// One collector of these rows.
+// Returns the work of one collector with these rows.
 fn one_collector(alloc: Global, rows: Vec<RawRow>) -> Option<Work> {
     let mut collectors = Vec::new(alloc);
     collectors.push(rows).ok()?;
     Some(collecting(alloc, collectors))
 }
 
-// A collector of two rows, a reader that asks these queries, and a refresher of two turns.
+// Returns the work of a collector of two rows, a reader that asks these queries, and a refresher of two turns.
 fn one_of_each(alloc: Global, queries: &[Query]) -> Option<Work> {
     let mut work = one_collector(alloc, rows_of(alloc, "0,0 1,5")?)?;
     work.readers
@@ -213,7 +213,7 @@ fn one_of_each(alloc: Global, queries: &[Query]) -> Option<Work> {
     Some(work)
 }
 
-// The entries of a tape in order: t, a, p and c for a take, an answer, a pull and a commit.
+// Returns the entries of a tape as letters, in order: t, a, p and c for a take, an answer, a pull and a commit.
 pub(crate) fn letters(alloc: Global, history: &TagHistory) -> Option<String> {
     let mut text = String::new(alloc);
     for entry in &history.tape {
@@ -228,7 +228,7 @@ pub(crate) fn letters(alloc: Global, history: &TagHistory) -> Option<String> {
     Some(text)
 }
 
-// The rows of the takes of a tape, in order.
+// Returns the rows of the takes of a tape, in order.
 fn taken_rows(alloc: Global, history: &TagHistory) -> Option<Vec<u64>> {
     let mut rows = Vec::new(alloc);
     for entry in &history.tape {
@@ -239,7 +239,7 @@ fn taken_rows(alloc: Global, history: &TagHistory) -> Option<Vec<u64>> {
     Some(rows)
 }
 
-// Whether the entry at the place of a note is the take that it tells.
+// Returns whether the entry at the place of a note is the take that the note records.
 fn stands(history: &TagHistory, collector: u32, note: &TakeNote) -> bool {
     match history.tape.get(note.place as usize) {
         Some(
@@ -254,7 +254,7 @@ fn stands(history: &TagHistory, collector: u32, note: &TakeNote) -> bool {
     }
 }
 
-// Whether each take of each note stands at its place on the tape.
+// Returns whether each take of each note is at its place on the tape.
 fn all_stand(ran: &Ran) -> bool {
     ran.notes.iter().all(|note| note
         .takes
@@ -262,7 +262,7 @@ fn all_stand(ran: &Ran) -> bool {
         .all(|take| stands(&ran.history, note.worker, take)))
 }
 
-// Whether the workers ended so.
+// Returns whether the workers ended like this.
 fn ended_by(ran: &Ran, endings: &[Ending]) -> bool {
     ran.notes.len() == endings.len()
         && ran
@@ -292,7 +292,7 @@ fn two_collectors_take_in_turn(rt: HostRuntime) -> Result<(), Fail> {
     Ok(())
 }
 
-// A collector that waits for another one that does not come.
+// Runs a collector that waits for another one that does not come.
 fn alone_at_a_gate<R: Threads + Wait + Sync>(rt: &R, alloc: Global) -> Option<(Ran, u64)> {
     let asked = AtomicU64::new(0);
     let mut gates = Gates {
@@ -332,7 +332,7 @@ fn a_shut_pass_halts_the_first_worker(rt: HostRuntime) -> Result<(), Fail> {
     Ok(())
 }
 
-// How often a letter stands at the begin of a text, of so many letters that are no commit.
+// Returns how often a letter occurs at the beginning of a text. Only so many letters count, and commits do not.
 fn count_of(letter: char, text: &str, among: usize) -> usize {
     text.chars()
         .filter(|c| *c != 'c')
@@ -378,7 +378,7 @@ fn a_collector_commits_after_64_rows_and_after_its_last(rt: HostRuntime) -> Resu
     Ok(())
 }
 
-// The most values that are taken while each but the last is kept.
+// The most values that a tag takes if each but the last is kept.
 const MOST_TAKEN: u32 = 1_048_576;
 
 #[test]
@@ -416,7 +416,8 @@ fn a_tape_without_room_ends_its_collector(rt: HostRuntime) -> Result<(), Fail> {
     Ok(())
 }
 
-// Whether a reader was told the snapshot of the one value that was taken, and an empty row of the group, at place 0 of its tape.
+// Returns whether a reader saw the snapshot of the one value that was taken, and an empty row of the group, at place 0
+// of its tape.
 fn told_a_snap_and_a_row(note: &WorkerNote) -> bool {
     match note.told.as_slice() {
         [

@@ -11,7 +11,7 @@ use trend_num::{Point, Sending, Tuning};
 /// What an exception test keeps of a tag.
 #[derive(Clone, Copy, Debug, PartialEq, Eq)]
 pub struct Gate {
-    /// The last value sent in order: the held point of the compression behind the gate.
+    /// The last value sent in order: the held point of the compression that comes after the gate.
     pub last: Option<Point>,
     /// The newest value in order after it, which was not sent.
     pub pending: Option<Point>,
@@ -22,12 +22,12 @@ pub struct Gate {
 pub struct Sent {
     /// A value that was pending, and is now sent in order.
     pub first: Option<Point>,
-    /// The value that was offered, where it is sent.
+    /// The value that was offered, if it is sent.
     pub second: Option<Sending>,
 }
 
 impl Gate {
-    /// A gate before any value.
+    /// Returns a gate that has seen no value.
     pub fn new() -> Gate
         ensures last { result.last ≡ None }
         ensures pending { result.pending ≡ None }
@@ -39,21 +39,21 @@ impl Gate {
         }
     }
 
-    /// Takes one raw value, and hands on what is now sent (exception reporting, by the attributes ExcDev and ExcMax of
+    /// Takes one raw value, and returns what is now sent (exception reporting, by the attributes ExcDev and ExcMax of
     /// the PI manuals).
     ///
     /// The first value is sent. A value that is not after the newest one is late: the pending value is sent in order,
-    /// and the late one as it comes. A value in order that is far from the last one sent is sent after the pending
-    /// one, and any other becomes the pending value.
+    /// then the late one as it comes. A value in order that is far from the last one sent is sent after the pending
+    /// one. Any other value becomes the pending one.
     #[inline(always)]
     pub fn offer(&mut self, tuning: &Tuning, p: Point) -> Sent
-        // By the rules, whatever the gate holds.
+        // By the rules, in whatever state the gate is.
         ensures last { self.new.last ≡ (offered tuning.now self.old.last self.old.pending p).last }
         ensures pending { self.new.pending ≡ (offered tuning.now self.old.last self.old.pending p).pending }
         ensures first { result.first ≡ (offered tuning.now self.old.last self.old.pending p).first }
         ensures second { result.second ≡ (offered tuning.now self.old.last self.old.pending p).second }
 
-        // Over any history of any tag that has this tuning in force.
+        // For any history of any tag that has this tuning in force.
         ensures stands { (o : Origin) (h : List Event) → in_force o h ≡ tuning.now
             → GateStands o self.old h → GateStands o self.new (Raw p ∷ h) }
         ensures sends { (o : Origin) (h : List Event) → in_force o h ≡ tuning.now
@@ -62,15 +62,15 @@ impl Gate {
         self.advance(tuning, p)
     }
 
-    /// Empties the pending place for a retuning, and hands on the value that was pending: it is now sent in order, under
-    /// the old tuning.
+    /// Empties the pending place for a retuning, and returns the value that was pending. That value is now sent in
+    /// order, under the old tuning.
     #[inline]
     pub fn flush(&mut self) -> Option<Point>
         ensures last { self.new.last ≡ option_or self.old.pending self.old.last }
         ensures pending { self.new.pending ≡ None }
         ensures first { result ≡ self.old.pending }
 
-        // Over any history of any tag, whatever tuning comes.
+        // For any history of any tag, and any new tuning.
         ensures stands { (o : Origin) (h : List Event) (u : Tuning) → GateStands o self.old h → GateStands o self.new (Tune u ∷ h) }
         ensures sends { (o : Origin) (h : List Event) (u : Tuning)
             → GateStands o self.old h → sent o (Tune u ∷ h) ≡ Tuned u ∷ pushed_out result ++ sent o h }
@@ -83,7 +83,7 @@ impl Gate {
         first
     }
 
-    // Goes on to the gate after one more value, in place, and hands on what is sent.
+    // Moves the gate past one more value, in place, and returns what is sent.
     #[inline(always)]
     fn advance(&mut self, tuning: &Tuning, p: Point) -> Sent
         ensures last { self.new.last ≡ (offered tuning.now self.old.last self.old.pending p).last }
@@ -127,7 +127,7 @@ impl Gate {
     }
 }
 
-// A gate whose last value is this one, with nothing pending.
+// Returns a gate whose last value is this one, with nothing pending.
 #[inline(always)]
 fn sent_last(p: Point) -> Gate
     ensures { result ≡ record { last = Some p; pending = None } }
@@ -160,7 +160,8 @@ fn late(first: Option<Point>, p: Point) -> Sent
     }
 }
 
-// Whether the value differs from the last one sent by more than ExcDev, or comes ExcMax after it or later.
+// Returns whether the value differs from the last one sent by more than ExcDev, or comes ExcMax milliseconds after it
+// or later.
 #[inline(always)]
 fn is_far(tuning: &Tuning, last: Point, p: Point) -> bool
     ensures { result ≡ is_far tuning.now last p }

@@ -1,10 +1,10 @@
-//! The exception test: which raw values of a tag are handed on.
+//! The exception test: which raw values of a tag are sent on.
 //!
-//! A gate keeps two places, the last value sent in order and the newest value after it that was not sent. Its model is
-//! that pair. For every gate, one offer follows the rules of `offered`; and a gate that stands for a history stands for
-//! the longer one after it, while what it hands on is exactly what that history sends more. At a retuning `flush` hands on
-//! the pending value and empties its place; the gate keeps no tuning, it is given one at each offer. Every value is
-//! answered, whatever its time, and no memory is taken.
+//! A gate keeps two places: the last value sent in order, and the newest value after it that was not sent. This pair is
+//! its model. Every offer follows the rules of `offered`. If a gate stands for a history, it stands after the offer for
+//! the history with the new value. What the gate then hands on is exactly what the longer history sends more than the
+//! first. At a retuning `flush` hands on the pending value and empties its place. The gate keeps no tuning; each offer
+//! brings one. The gate accepts a value of any time, and takes no memory.
 #![tactic(auto)]
 
 mod gate;

@@ -68,7 +68,7 @@ none_there zero id = refl
 none_there (suc n) zero = refl
 none_there (suc n) (suc id) = none_there n id
 
--- a place that holds a frame stands before the untouched ones
+-- a place that holds a frame is before the untouched ones
 in_front : (places : List (Option Frame)) (n id : ℕ) → IsHeld (places ++ replicate n None) id → IsHeld places id
 in_front [] n id held = let none = none_there n id in absurd cc
 in_front (o ∷ places) n zero held = held
@@ -93,7 +93,7 @@ by_test : (b : Bool) (f : Frame) → IsSome (cond b (Some f) None) → b ≡ tru
 by_test true f some = refl
 by_test false f some = absurd cc
 
--- so is the one that is read at a taken place, and its frame stands there
+-- so is the one that is read at a taken place, and its frame is there
 pub read_held : (frames : List PooledFrame) (place : ℕ) (s : PooledFrame) → s ≡ get_or frames place s → IsHeld (map held_in frames) place
     → (s.held ≡ true) × (get_or (map held_in frames) place None ≡ Some s.frame)
 read_held frames place s read held =

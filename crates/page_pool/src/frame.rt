@@ -5,8 +5,8 @@ ghost use Rattle.page_pool.specs.Pool.{empty_frame};
 /// How many points a frame has room for.
 pub const PAGE: usize = 128;
 
-/// A page of up to [`PAGE`] points: the first `len` places of two arrays, a mark for each point, and totals over them. The
-/// pool does not look at what is in it.
+/// A page of up to [`PAGE`] points: the first `len` places of two arrays, a mark for each point, and totals over the
+/// points. The pool does not look at the contents.
 #[derive(Clone, Copy, Debug, PartialEq, Eq)]
 pub struct Frame {
     /// How many points there are.
@@ -15,7 +15,7 @@ pub struct Frame {
     pub times: [u64; PAGE],
     /// The value of each point, in value units.
     pub values: [i64; PAGE],
-    /// A bit for each point, the first one the lowest: set where the point came late.
+    /// A bit for each point, the lowest for the first one: set if the point came late.
     pub late: u128,
     /// Twice the area under the line through the points, in value units times milliseconds.
     pub area: i128,
@@ -25,7 +25,7 @@ pub struct Frame {
     pub high: i64,
 }
 
-// A frame of no points.
+// Returns a frame of no points.
 pub(crate) fn empty() -> Frame
     ensures { result ≡ empty_frame }
 {

@@ -1,8 +1,8 @@
 //! A region of frames, each with room for a page of points.
 //!
-//! A pool is seen as a list of places: a place holds a frame that was taken, or is spare (None). All memory is taken
-//! when the pool is reserved; from then on taking a frame, giving it back and writing into it take none. A frame is
-//! taken exactly where a place is spare, and a call with an id changes the frame at its place alone: every other stays.
+//! The model of a pool is a list of places: a place holds a frame that was taken, or is spare (None). `reserve` takes
+//! all memory; to take a frame, give it back or write into it takes none. A frame can be taken exactly if a place is
+//! spare. A call with an id changes only the frame at its place.
 #![tactic(auto)]
 
 mod frame;

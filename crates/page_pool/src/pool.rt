@@ -1,4 +1,4 @@
-// The pool: its frames, and the ids that were given back.
+// The pool: its frames, and the ids that callers gave back.
 ghost use Rattle.std.specs.Prelude.{◌≡◌, ◌↔◌, ◌+◌, IfOk, OnOk, OnErr, IsErr, Some, None, replicate};
 ghost use Rattle.std.specs.Borrow.{sem};
 ghost use Rattle.page_pool.specs.Pool.{GivesFrame, IsHeld, TakesFrame, frame_at, spare_of};
@@ -9,7 +9,7 @@ use crate::frame::empty;
 use std::alloc::{AllocError, Global};
 use std::marker::Model;
 
-/// There is no memory for so many frames.
+/// There is not enough memory for the frames.
 #[derive(Clone, Copy, Debug, PartialEq, Eq)]
 pub struct WantOfMemory;
 
@@ -25,7 +25,7 @@ impl From<AllocError> for WantOfMemory {
 #[derive(Clone, Copy, Debug, PartialEq, Eq)]
 pub struct NoFrame;
 
-/// The place of a frame that was taken. It can't be copied; where it is dropped, its frame stays taken.
+/// The place of a frame that was taken. It cannot be copied. If it is dropped, its frame stays taken.
 #[derive(Debug, Drop)]
 pub struct FrameId {
     place: u32,
@@ -41,7 +41,7 @@ impl Model for FrameId {
     ghost invariant = { λ id. id.place < 2 ^ 32 };
 }
 
-// The frame at a place that was taken once, and whether it is taken now.
+// The frame at a place that was taken at least once, and whether it is taken now.
 #[derive(Drop)]
 struct PooledFrame {
     held: bool,
@@ -51,9 +51,9 @@ struct PooledFrame {
 /// A region of frames.
 #[derive(Drop)]
 pub struct Pool {
-    // The frames at the places that were taken once. The memory of the others is not touched yet.
+    // The frames at the places that were taken at least once. The memory of the others is not touched yet.
     frames: Vec<PooledFrame>,
-    // The ids that were given back.
+    // The ids that callers gave back.
     free: Vec<FrameId>,
     size: u32,
 }
@@ -72,7 +72,8 @@ impl Model for Pool {
 }
 
 impl Pool {
-    /// A pool of so many frames, all spare: no call on it takes more memory.
+    /// Returns a pool of `frames` frames, all spare. No later call on the pool takes memory. Answers [`WantOfMemory`]
+    /// if there is not enough memory for the frames.
     pub fn reserve(alloc: Global, frames: u32) -> Result<Pool, WantOfMemory>
         ensures value { IfOk result (λ pool. pool ≡ replicate frames None) }
         ensures spare { IfOk result (λ pool. spare_of pool ≡ frames) }
@@ -86,12 +87,12 @@ impl Pool {
         })
     }
 
-    /// Takes a frame, which is empty.
+    /// Takes a spare frame and returns its id. The frame is empty.
     pub fn take_frame(&mut self) -> Result<FrameId, NoFrame>
         ensures taken { IfOk result (λ id. TakesFrame self.old id self.new) }
         ensures spare { OnOk result (spare_of self.new + 1 ≡ spare_of self.old) }
 
-        // Refused, and unchanged, exactly where none is spare.
+        // `NoFrame` comes exactly if no frame is spare; the pool is then unchanged.
         ensures none_spare { IsErr result ↔ (spare_of self.old ≡ 0) }
         ensures unchanged { OnErr result (self.new ≡ self.old) }
     {
@@ -111,7 +112,7 @@ impl Pool {
         Ok(FrameId { place })
     }
 
-    /// Gives a frame back, which is then spare.
+    /// Gives a frame back, which makes it spare.
     pub fn give_frame(&mut self, id: FrameId)
         requires { IsHeld self.old id }
         ensures given { GivesFrame self.old id self.new }
@@ -121,14 +122,14 @@ impl Pool {
         self.free.push_reserved(id);
     }
 
-    /// How many frames are spare.
+    /// Returns how many frames are spare.
     pub fn spare(&self) -> u32
         ensures { result ≡ spare_of self.now }
     {
         self.size - self.frames.len() as u32 + self.free.len() as u32
     }
 
-    /// The frame of this id.
+    /// Returns the frame of this id.
     pub fn frame(&self, id: &FrameId) -> &Frame
         requires { IsHeld self.now id.now }
         ensures { frame_at self.now id.now ≡ Some result.now }
@@ -136,7 +137,7 @@ impl Pool {
         &self.frames[id.place as usize].frame
     }
 
-    /// The frame of this id, to be written into.
+    /// Returns the frame of this id for writing.
     pub fn frame_mut(&mut self, id: &FrameId) -> &mut Frame
         requires { IsHeld self.old id.now }
         ensures* writes_back { sem 𝓛 (LendsFrame self.entry id.now result) }

@@ -23,7 +23,7 @@ pub whole_again : {A : Type 0} (n : ℕ) (xs ys : List A) → length ys ≡ leng
     → take n (ys ++ drop (length ys) xs) ≡ ys
 whole_again n xs ys same count = grind (arith, common_steps)
 
--- the stops that passes have counted are those that the notes tell, where each note tells those of its pass
+-- the passes have counted the stops that the notes record, if each note records those of its pass
 pub stops_told : {S N : Type 0} (counted : S → ℕ) (note : S → N) (told : N → ℕ) (workers : List S) (before : ℕ)
     → All (λ s. counted s ≡ told (note s)) workers
     → sum_from before (map counted workers) ≡ fold (λ count n. sum_of_fault_counts count (told n)) before (map note workers)

@@ -1,4 +1,4 @@
--- What makes bytes one line, and which bytes it is made of.
+-- When bytes are one line, and which bytes a line may have.
 use Rattle.std.specs.Prelude.{◌≡◌, ℕ, Bool, true, ◌&&◌, List, ◌++◌, codes, nat_le}
 use Rattle.std.specs.List.{list_all}
 

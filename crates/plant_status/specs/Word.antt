@@ -1,4 +1,4 @@
--- The words that a line calls files, units, reasons, quantities and bytes by.
+-- The words that a line has for files, units, reasons, quantities and bytes.
 use Rattle.std.specs.Prelude.{ℕ, ◌+◌, ◌/◌, ◌%◌, List, [], ◌∷◌, ◌++◌, codes, nat_lt, Option, None, Some, if◌then◌else◌}
 use Rattle.std.specs.Fmt.{decimal}
 use Rattle.trend_num.specs.declared.refusal.Reason.{Reason}
@@ -29,7 +29,7 @@ unit_text Log = codes "log"
 abbrev pub hex_digit : ℕ → ℕ
 hex_digit d = if nat_lt d 10 then 48 + d else 87 + d
 
--- a byte as two digits, or the end where there is none
+-- a byte as two digits, or `end` if there is none
 abbrev pub byte_word : Option ℕ → List ℕ
 byte_word None = codes "end"
 byte_word (Some b) = hex_digit (b / 16) ∷ hex_digit (b % 16) ∷ []

@@ -1,4 +1,4 @@
-// A line in an array of its own, and the pieces that it is made of.
+// A line in an array of its own, and the pieces of which it is made.
 ghost use Rattle.std.specs.Prelude.{◌≡◌, ◌+◌, ◌<◌, ◌≤◌, [], ◌++◌, length, codes};
 ghost use Rattle.std.specs.Fmt.{decimal};
 ghost use Rattle.plant_status.specs.Line.{IsPrintable, IsLine};
@@ -29,7 +29,7 @@ impl Model for Line {
 
 #[tactic(auto, using(crate::proofs::Printable::printable))]
 impl Line {
-    /// The bytes of the line, its line feed among them.
+    /// Returns the bytes of the line, its line feed included.
     pub fn bytes(&self) -> &[u8]
         ensures same { result.now ≡ self.now }
         ensures short { length result.now ≤ 120 }
@@ -37,7 +37,7 @@ impl Line {
         self.text.as_str().as_bytes()
     }
 
-    // The empty line.
+    // Returns the empty line.
     pub(crate) fn empty() -> Self
         ensures { result ≡ [] }
     {
@@ -46,7 +46,7 @@ impl Line {
         }
     }
 
-    // The start of a line that tells of a fault.
+    // Returns the start of a line that reports a fault.
     pub(crate) fn fault(kind: &str) -> Self
         requires { length kind.now ≤ 20 }
         ensures text { result ≡ codes "fault: " ++ kind.now }
@@ -59,7 +59,7 @@ impl Line {
         line
     }
 
-    // The line with a space and a word after it.
+    // Appends a space and a word.
     pub(crate) fn word(mut self, word: &str) -> Self
         requires { length self + length word.now < 120 }
         ensures text { result ≡ self ++ codes " " ++ word.now }
@@ -71,7 +71,7 @@ impl Line {
         self
     }
 
-    // The line with a space and a number after it.
+    // Appends a space and a number.
     pub(crate) fn number(self, number: u64) -> Self
         requires { length self + 20 < 120 }
         ensures text { result ≡ self ++ codes " " ++ decimal number }
@@ -82,7 +82,7 @@ impl Line {
         self.word(digits.format(number))
     }
 
-    // The same of a number of ten digits at most.
+    // Appends a space and a number of at most ten digits.
     pub(crate) fn small(self, number: u32) -> Self
         requires { length self + 10 < 120 }
         ensures text { result ≡ self ++ codes " " ++ decimal number }
@@ -93,7 +93,7 @@ impl Line {
         self.word(digits.format(number))
     }
 
-    // The line with a space, a word, a space and a number of ten digits at most after it.
+    // Appends a space, a word, a space and a number of at most ten digits.
     pub(crate) fn named(self, word: &str, number: u32) -> Self
         requires { length self + length word.now + 11 < 120 }
         ensures text { result ≡ self ++ codes " " ++ word.now ++ codes " " ++ decimal number }
@@ -103,7 +103,7 @@ impl Line {
         self.word(word).small(number)
     }
 
-    // The line with a space and a tag, a group or the log after it.
+    // Appends a space and a tag, a group or the log.
     pub(crate) fn unit(self, unit: Unit) -> Self
         requires { length self + 27 < 120 }
         ensures text { result ≡ self ++ codes " " ++ unit_text unit }
@@ -117,7 +117,7 @@ impl Line {
         }
     }
 
-    // The line with a space and a byte after it, or `end` where there is none.
+    // Appends a space and a byte, or `end` if there is none.
     pub(crate) fn byte(self, byte: Option<u8>) -> Self
         requires { length self + 3 < 120 }
         ensures text { result ≡ self ++ codes " " ++ byte_word byte }
@@ -134,7 +134,7 @@ impl Line {
         }
     }
 
-    // The line with a space and the name of a file after it.
+    // Appends a space and the name of a file.
     pub(crate) fn file(self, file: FileId) -> Self
         requires { length self + 31 < 120 }
         ensures text { result ≡ self ++ codes " " ++ file_text file }
@@ -151,7 +151,7 @@ impl Line {
         }
     }
 
-    // The line, ended by its line feed.
+    // Returns the line with its line feed.
     pub(crate) fn end(mut self) -> Self
         requires { length self < 120 }
         ensures text { result ≡ self ++ codes "\n" }

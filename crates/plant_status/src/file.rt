@@ -1,4 +1,3 @@
-/// The files that the program reads.
 /// A file that the program reads. Collectors and readers are numbered from 0.
 #[derive(Clone, Copy, Debug, PartialEq, Eq)]
 pub enum FileId {

@@ -1,31 +1,31 @@
-// What lets workers go on, or stops them.
+// What lets workers continue, or stops them.
 ghost use Rattle.std.specs.Prelude.{◌≡◌, ℕ, true};
 ghost use Rattle.plant_status.specs.Pass.{stops_after, sum_of_fault_counts};
 
-/// What a worker asks before each of its steps.
+/// A worker asks this before each of its steps.
 pub trait Pass {
-    /// How many of its answers were false. At 2^64 - 1 the count stays.
+    /// How many of its answers were false. The count stops at 2^64 - 1.
     ghost stops: { Self → ℕ };
 
-    /// Whether the worker may take its step of this number, counted from 0. A worker whose pass answers false
+    /// Returns whether the worker may take the step with this number, counted from 0. After a false answer the worker
     /// makes no further step.
     fn pass(&mut self, step: u64) -> bool
         ensures { stops self.new ≡ stops_after result (stops self.old) };
 }
 
-/// Something that has a pass for each worker.
+/// The passes of all workers.
 pub trait Passes {
     type One: Pass + Send;
 
-    /// How many answers of the passes that were given back were false. At 2^64 - 1 the count stays.
+    /// How many answers of the passes that were given back were false. The count stops at 2^64 - 1.
     ghost stops: { Self → ℕ };
 
-    /// Hands out the pass of the worker of this number, counted from 0.
+    /// Returns the pass of the worker with this number, counted from 0.
     fn hand(&mut self, worker: u32) -> Self::One
         ensures fresh { Self.One.stops result ≡ 0 }
         ensures same { stops self.new ≡ stops self.old };
 
-    /// Takes a pass back, and counts what it stopped.
+    /// Takes a pass back, and counts how many answers of it were false.
     fn give_back(&mut self, one: Self::One)
         ensures { stops self.new ≡ sum_of_fault_counts (stops self.old) (Self.One.stops one) };
 }

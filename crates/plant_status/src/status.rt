@@ -17,15 +17,15 @@ pub enum Status {
     Done,
     /// The words of the command line are not understood.
     BadWords,
-    /// A base, a plan or a calendar breaks this rule first: in the table of this number, from 0, and at this byte of a
-    /// formula's text. Both are 0 where the rule is of the whole text. The line prints all three as they are.
+    /// A base, a plan or a calendar first breaks this rule. `place` is the number of the table, from 0, and `at` the
+    /// byte of a formula's text. Both are 0 if the rule concerns the whole text. The line prints all three as they are.
     BadText {
         file: FileId,
         rule: u8,
         place: u32,
         at: u32,
     },
-    /// A row of a file, counted from 1, is refused for its first reason. The line prints `row` as it is.
+    /// A row of a file, counted from 1, is refused; this is the first reason. The line prints `row` as it is.
     BadRow {
         file: FileId,
         row: u64,
@@ -41,26 +41,26 @@ pub enum Status {
     DeviceFault {
         unit: Unit,
     },
-    /// A device's bytes break its layout first at this place; the byte there, or none where the device ends
+    /// A device's bytes first break its layout at this place. `byte` is the byte there, or none if the device ends
     /// there.
     Damaged {
         unit: Unit,
         at: u64,
         byte: Option<u8>,
     },
-    /// The device of a tag is that of another one, or of one of another kind.
+    /// The device is that of another tag, or of a tag of another kind.
     OtherTag {
         tag: u32,
         found: TagDef,
         wanted: TagDef,
     },
-    /// A quantity is, or would be, over its limit. `number` is how many there are or would be, or the first number that
-    /// is too many. The line names both.
+    /// A quantity is over its limit, or would be. `number` is how many there are or would be, or the first number that
+    /// is too many. The line names the quantity and the number.
     Limit {
         what: What,
         number: u64,
     },
-    /// What is kept of a session, or of a device's bytes, differs from what was told.
+    /// What a session or a device's bytes have (`kept`) differs from what was expected there (`told`).
     Mismatch {
         place: Place,
         kept: Seen,
@@ -70,9 +70,10 @@ pub enum Status {
     Halted {
         worker: u32,
     },
-    /// No memory was found.
+    /// There was not enough memory.
     WantOfMemory,
-    /// The log is that of another plant: its tags' names, a line each, differ first at this byte, from 0, or end there.
+    /// The log is that of another plant. The names of its tags, a line each, first differ at this byte, from 0, or end
+    /// there.
     OtherPlant {
         at: u32,
     },
@@ -82,7 +83,7 @@ pub enum Status {
     },
 }
 
-/// The exit code of a status.
+/// Returns the exit code of a status.
 pub fn code(status: &Status) -> u8
     ensures { result ≡ code_of status.now }
 {
@@ -105,7 +106,7 @@ pub fn code(status: &Status) -> u8
     }
 }
 
-/// The line that a status prints. `Done` and `WriteFault` have none.
+/// Returns the line that a status prints. It is empty for `Done` and `WriteFault`.
 pub fn line(status: &Status) -> Line
     ensures text { result ≡ status_line_of status.now }
     ensures silent { IsSilent status.now → result ≡ [] }
@@ -149,7 +150,7 @@ pub fn line(status: &Status) -> Line
     }
 }
 
-// The line of a text that breaks a rule.
+// Returns the line for a text that breaks a rule.
 fn bad_text(file: FileId, rule: u8, place: u32, at: u32) -> Line
     ensures text { result ≡ status_line_of (Status.BadText file rule place at) }
     ensures one_line { IsLine result }

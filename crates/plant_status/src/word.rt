@@ -1,11 +1,11 @@
-// The words that a line calls reasons, quantities and digits by.
+// The words that a line has for reasons and quantities, and its digits.
 ghost use Rattle.std.specs.Prelude.{◌≡◌, ◌<◌, ◌≤◌, [], ◌∷◌, length};
 ghost use Rattle.plant_status.specs.Line.{IsPrintable};
 ghost use Rattle.plant_status.specs.Word.{hex_digit, reason_word, what_word};
 
 use trend_num::{Reason, What};
 
-// The digit of a number below 16.
+// Returns the digit of a number below 16.
 pub(crate) fn hex_digit(digit: u8) -> &'static str
     requires { digit < 16 }
     ensures digit { result.now ≡ hex_digit digit ∷ [] }
@@ -31,7 +31,7 @@ pub(crate) fn hex_digit(digit: u8) -> &'static str
     }
 }
 
-// The word of a reason.
+// Returns the word of a reason.
 pub(crate) fn reason_word(reason: Reason) -> &'static str
     ensures word { result.now ≡ reason_word reason }
     ensures short { length result.now ≤ 6 }
@@ -46,7 +46,7 @@ pub(crate) fn reason_word(reason: Reason) -> &'static str
     }
 }
 
-// The word of a quantity that has a limit.
+// Returns the word of a quantity that has a limit.
 pub(crate) fn what_word(what: What) -> &'static str
     ensures word { result.now ≡ what_word what }
     ensures short { length result.now ≤ 13 }

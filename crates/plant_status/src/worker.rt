@@ -4,19 +4,19 @@ ghost use Rattle.plant_status.specs.Pass.{sum_from};
 
 use crate::pass::{Pass, Passes};
 
-/// A worker of a run: it keeps its pass, and a note of what it did.
+/// A worker of a run. It keeps its pass, and a note of what it did.
 pub trait Worker<O, N> {
     ghost pass: { Self → O };
 
     ghost note: { Self → N };
 
-    /// Its pass and its note, once it has ended.
+    /// Returns its pass and its note. The worker has ended.
     fn leave(self) -> (O, N)
         ensures pass { result.0 ≡ pass self }
         ensures note { result.1 ≡ note self };
 }
 
-/// Gives back the pass of each worker, all of which have ended, and keeps their notes in order.
+/// Gives back the pass of each worker, and keeps their notes in order. All workers have ended.
 pub fn gather<P: Passes, N, S: Worker<P::One, N>>(
     workers: Vec<S>,
     passes: &mut P,

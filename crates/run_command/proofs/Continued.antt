@@ -1,4 +1,4 @@
--- Cells and books at the end of a session, beside those that were opened.
+-- Cells and books at the end of a session, compared with those that were opened.
 use Rattle.std.proofs.Common.{◌≡◌, ◌∙◌, ◌<◌, ℕ, List, [], All, arith, ap, sym, subst, length, map, get_or, refl, Vec, vec_len}
 use Rattle.std.proofs.lemmas.List.{get_or-map, length-map}
 use Rattle.std.specs.List.{AllZip}

@@ -1,4 +1,4 @@
--- A fault of a device that a session tells is one that the store counts.
+-- A fault of a device that a session reports is one that the store counts.
 use Rattle.std.proofs.Common.{◌≡◌, ◌+◌, ◌-◌, ◌<◌, ℕ, List, Option, Some, Result, Ok, Err, String, arith, subst, min}
 use Rattle.std.specs.Prelude.{◌^◌, IfErr, slice_get, true}
 use Rattle.std.specs.declared.alloc.Global.{Global}

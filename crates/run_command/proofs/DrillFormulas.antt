@@ -54,13 +54,13 @@ two_calcs mean spread mean_name mean_is spread_name spread_is =
     let make : List ℕ → Tree → Calculation = λ n t. record { name = n; tree = t } in
     ap₂ (λ (a b : Calculation). a ∷ b ∷ []) (ap₂ make mean_name mean_is) (ap₂ make spread_name spread_is)
 
--- nothing else is told where each name stands for something
+-- if each name stands for something, the one refusal is want of memory
 told_alone : (g : Group) (why : CheckNo) → fault_of g ≡ None → IsToldOf (fault_of g) why → why ≡ check_no.WantOfMemory
 told_alone g (check_no.UnknownName place name) none told = cc (none, told)
 told_alone g (check_no.Forward place name) none told = cc (none, told)
 told_alone g check_no.WantOfMemory none told = refl
 
--- nothing but want of memory is told of definitions that stand over names with the first tag's
+-- over names with the first tag's, the one refusal of the definitions is want of memory
 pub memory_alone : (names copied inputs : List (List ℕ)) (defs : List CalcDef) (why : CheckNo)
     → is_among (codes "D0") names ≡ true → inputs ≡ copied → copied ≡ names
     → ((ns : List (List ℕ)) → is_among (codes "D0") ns ≡ true → fault_of (group_of ns defs) ≡ None)
@@ -69,7 +69,7 @@ memory_alone names copied inputs defs why named same copies stand told =
     told_alone (group_of inputs defs) why
     (stand inputs (subst (λ ns. is_among (codes "D0") ns ≡ true) (sym (same ∙ copies)) named)) told
 
--- over names with the first tag's both calculations stand
+-- over names with the first tag's, the two calculations have no fault
 pub no_fault : (names : List (List ℕ)) (calcs : List Calculation) → is_among (codes "D0") names ≡ true
     → calcs ≡ record { name = codes "mean"; tree = mean_tree } ∷ record { name = codes "spread"; tree = spread_tree } ∷ []
     → fault_of (record { inputs = names; calcs = calcs }) ≡ None

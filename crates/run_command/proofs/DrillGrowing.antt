@@ -3,7 +3,7 @@ use Rattle.std.proofs.Common.{◌≡◌, ℕ, ◌+◌, List, ◌++◌, ◌∷◌
 use Rattle.std.specs.List.{range_with_len}
 use Rattle.std.proofs.lemmas.List.FromFn.{map-range_with_len_more}
 
--- what is made for so many places, and for the next one behind it, is made for one place more
+-- what is made for so many places, and for the next one after them, is made for one place more
 pub one_place_more : {X : Type 0} (f : ℕ → X) (n : ℕ) (xs more : List X) (x : X)
     → xs ≡ map f (range_with_len 0 n) → x ≡ f n → more ≡ xs ++ x ∷ [] → more ≡ map f (range_with_len 0 (n + 1))
 one_place_more {X} f n xs more x before here pushed =

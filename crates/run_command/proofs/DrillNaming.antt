@@ -9,7 +9,7 @@ use Rattle.std.proofs.lemmas.List.FromFn.{get_or-map-range_with_len, length-map-
 use Rattle.trend_num.specs.Names.{IsName, is_name_byte}
 use Rattle.run_command.specs.DrillPlant.{drill_tag, drill_tags}
 
--- a digit may stand in a name
+-- a digit may occur in a name
 digit_spelled : (n : ℕ) → n < 10 → is_name_byte (48 + n) ≡ true
 digit_spelled n below = grind (arith, nat_tests)
 

@@ -12,7 +12,7 @@ use Rattle.run_command.proofs.Understood.{of_undone}
 use Rattle.run_command.specs.Drills.{IsDrill, drill_status}
 use Rattle.run_command.specs.DrillPhases.{IsUndoneOfBoth, OfFirst, OfSecond}
 
--- what is told so was that
+-- a drill answers bad words only if that was the cause
 was_words : (cause : Status) → BadWords ≡ drill_status cause → cause ≡ BadWords
 was_words Done same = absurd (cc same)
 was_words BadWords same = refl

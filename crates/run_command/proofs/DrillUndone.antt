@@ -1,4 +1,4 @@
--- What the phases of a drill come to, and what is told of it.
+-- What the phases of a drill come to, and what the drill answers.
 use Rattle.std.proofs.Common.{◌≡◌, ◌≤◌, ℕ, List, false, Option, Result, Ok, Err, OnOk, IfErr, String, Global, arith, ap, length, refl, sym, subst}
 use Rattle.std.specs.Result.{is_err}
 use Rattle.disk_model.specs.Traces.{Trace}
@@ -31,7 +31,7 @@ pub few_notes : (D : Type 0) (w : Work) (before now : ℕ) (notes : List WorkerN
 few_notes D w before now notes (OfAll are stops) = omega (arith, are.count)
 few_notes D w before now notes (OfNone none stops) = omega (arith, ap length none)
 
--- a refused opening is told as one
+-- a refused opening is reported as one
 opening_kept : (why : Status) → IsOpening why → IsOpening (drill_status why)
 opening_kept Done is = is
 opening_kept BadWords is = is
@@ -49,7 +49,7 @@ opening_kept WantOfMemory is = is
 opening_kept (OtherPlant at) is = is
 opening_kept (BadName word) is = is
 
--- a cause is told of phases that are not done, or that no memory was found for the report
+-- the answer has a cause: the phases are not done, or no memory was found for the report
 pub both_told : {D : Type 0} (base : Base) (first second : Given) (s : Session) (opened : List (Cell D)) (opened_books : List (Book D))
     (cells : List (Cell D)) (books : List (Book D)) (notes : List WorkerNote) (came : Result (Unit {0}) Status)
     (told : Result (String Global) Status) → IsReported base second s came told

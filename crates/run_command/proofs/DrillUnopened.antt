@@ -182,7 +182,7 @@ of_devices : (base : Base) (new : DeviceTraces) (now : ℕ) (why : Status) → r
 of_devices base new now why (runs.OfPlant is kept) = of_plant base new now why is
 of_devices base new now why (runs.OfWant same untouched) = ap drill_status same
 
--- a drill whose devices are not opened is told of want of memory
+-- a drill whose devices are not opened answers want of memory
 pub wants_memory : (base : Base) (new : DeviceTraces) (now : ℕ) (why : Status) → IsDrillUnopened base fresh_devices new 0 now why
     → why ≡ WantOfMemory
 wants_memory base new now why is = is.told ∙ of_devices base new now is.cause is.unopened

@@ -360,7 +360,7 @@ module _ {D : Type 0} (trace : D → Option Trace) (ticks faults : D → ℕ) (b
       same = it.same ∙ (λ k. report base ((sym (length-map g.work.collectors.items _) ∙ ap length given.collectors) k) (given.readers k) s);
     }
 
--- in the only phase of a session there are no turns beside those of its refreshers
+-- in the only phase of a session there are no turns besides those of its refreshers
 only_phase : (base : Base) (rows : List (List RawRow)) (queries : List (List Query)) (refreshers : List Refresher) (s : Session)
     (text : List ℕ) → IsDoneSo (phase_item 0) (λ i. 0 + turns_in i refreshers) base rows queries s text
     → IsDoneSo take_item (λ i. turns_in i refreshers) base rows queries s text
@@ -379,7 +379,7 @@ pub if_done : {P : Type 0} {X Y : String Global → Type 0} (answer : Result (St
 if_done (Ok text) opened follows x = follows (opened (λ none. none)) text x
 if_done (Err why) opened follows x = tt
 
--- unless an opening is told to be another, each tag and group of a session that was held was opened as its device stood
+-- unless the answer reports a changed opening, each tag and group of a session was opened as what its device stood for
 pub held_opened : {D : Type 0} (trace : D → Option Trace) (ticks faults : D → ℕ) (base : Base) (g : Given) (old new : DeviceTraces)
     (before now : ℕ) (answer : Result (String Global) Status) (s : Session) → IsSessionHeld trace ticks faults base g old new before now answer s
     → (IsOfOpening answer → ⊥) → AreUnitsOpened base old s

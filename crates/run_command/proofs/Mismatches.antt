@@ -1,4 +1,4 @@
--- A refusal of an opening tells that it is one.
+-- A refusal of an opening reports that it is one.
 use Rattle.std.proofs.Common.{ℕ, List}
 use Rattle.plant_status.specs.declared.mismatch.Place.TheVariants as place
 use Rattle.plant_status.specs.declared.mismatch.Seen.{Seen}

@@ -1,4 +1,4 @@
--- What is answered of a session, beside what it came to.
+-- The answer of a session, compared with what it came to.
 use Rattle.std.proofs.Common.{◌≡◌, ◌<◌, ℕ, List, Option, None, Some, Result, Ok, Err, OnOk, IfErr, IfOk, String, string_bytes, sym, subst}
 use Rattle.std.specs.Prelude.{◌^◌, IfSome}
 use Rattle.std.specs.List.{AllZip}
@@ -26,14 +26,14 @@ some_weaker None follows p = tt
 some_weaker (Some x) follows p = follows x p
 
 module _ (base : Base) (g : Given) (s : Session) where
-  -- a refused opening is told as one
+  -- a refused opening is reported as one
   pub opening_told : (came : Result (Unit {0}) Status) (told : Result (String Global) Status) → IsReported base g s came told
       → IsOfOpening came → IsOfOpening told
   opening_told (Ok x) told is of = absurd of
   opening_told (Err why) told is of = subst (λ (r : Result (String Global) Status). IsOfOpening r) (sym is.refused) of
 
   module _ {D : Type 0} (cells : List (Cell D)) (books : List (Book D)) where
-    -- a text is told of a session that is done
+    -- a session that answers a text is done
     pub done_told : (came : Result (Unit {0}) Status) (told : Result (String Global) Status) → IsReported base g s came told
         → OnOk came (AreStepsMade g cells books) → OnOk came (ArePulled (lists_of g.inputs.items) cells books)
         → IfOk told (λ text. IsDone base g cells books s (string_bytes text))
@@ -61,7 +61,7 @@ pub counted_since : {D : Type 0} (faults : D → ℕ) (cells : List (Cell D)) (b
 counted_since faults cells books before opened now same counts few =
     subst (λ n. CountsClosed faults cells books n now) (same few) (counts (subst (λ n. n < 2 ^ 64) (sym (same few)) few))
 
--- what is told of a session that ended so, whose devices were opened and are given back
+-- the answer of a session that ended like this, whose devices were opened and are given back
 abbrev pub held_told : {D : Type 0} (trace : D → Option Trace) (ticks faults : D → ℕ) (base : Base) (g : Given) (old new : DeviceTraces)
     (before opening now : ℕ) (opened : List (Cell D)) (opened_books : List (Book D)) (e : EndedPhase D) (told : Result (String Global) Status)
     (s : Session) → AreUnitsOpen trace ticks faults base old opened opened_books

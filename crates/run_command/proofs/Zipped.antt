@@ -34,7 +34,7 @@ pub zip_same : {A : Type 0} (R : A → A → Type 0) → ((x : A) → R x x) →
 zip_same R same [] = tt
 zip_same R same (x ∷ xs) = (same x, zip_same R same xs)
 
--- what two relations, one behind the other, come to
+-- what two relations, one after the other, come to
 pub zip_on : {A B C : Type 0} (R : A → B → Type 0) (S : B → C → Type 0) (T : A → C → Type 0)
     → ((x : A) (y : B) (z : C) → R x y → S y z → T x z) → (xs : List A) (ys : List B) (zs : List C)
     → AllZip R xs ys → AllZip S ys zs → AllZip T xs zs

@@ -10,27 +10,29 @@ use Rattle.run_command.specs.Runs.{IsUndone}
 use Rattle.run_command.specs.Sessions.{AreNotes}
 use Rattle.run_command.specs.Steps.{AreStepsMade}
 
--- the notes of a phase stand behind those that were there; of its workers as many were stopped as the passes have counted more
+-- the notes of a phase follow those that were there; the passes count one more stop for each of its workers that was
+-- stopped
 pub record AreNotesBehind (D : Type 0) (work : Work) (before now : ℕ) (front notes : List WorkerNote) : Type 0 where
   pub more : List WorkerNote
   pub behind : notes ≡ front ++ more
   pub are : AreNotes D work before now more
 
--- the notes of the first phase, and behind them those of the second, if it was held
+-- the notes of the first phase, then those of the second, if it ran
 pub record AreNotesOfBoth (D : Type 0) (first second : Work) (before now : ℕ) (notes : List WorkerNote) : Type 0 where
   pub between : ℕ
   pub front : List WorkerNote
   pub are_first : AreNotes D first before between front
   pub are_second : AreNotesBehind D second between now front notes
 
--- why a phase is not done that goes on from these cells, books and notes
+-- why a phase that continues from these cells, books and notes is not done
 pub record IsUndoneBehind {D : Type 0} (g : Given) (cells : List (Cell D)) (books : List (Book D)) (front : List WorkerNote)
     (last : List (Cell D)) (last_books : List (Book D)) (notes : List WorkerNote) (why : Status) : Type 0 where
   pub more : List WorkerNote
   pub behind : notes ≡ front ++ more
   pub undone : IsUndone g cells books last last_books more why
 
--- why two phases are not done: the first is not; or it is, with these cells, books and notes, and the second is not
+-- why two phases are not done: the first is not; or the first is, with these cells, books and notes, and the second is
+-- not
 pub data IsUndoneOfBoth {D : Type 0} (first second : Given) (opened : List (Cell D)) (opened_books : List (Book D))
     (cells : List (Cell D)) (books : List (Book D)) (notes : List WorkerNote) (why : Status) : Type 0 where
   OfFirst : IsUndone first opened opened_books cells books notes why

@@ -1,4 +1,4 @@
--- What a drill comes to: its session, or why it holds none.
+-- What a drill comes to: its session, or why there is none.
 use Rattle.std.specs.Prelude.{◌≡◌, ℕ, ◌/◌, ◌<◌, List, [], All, length, replicate, slice_index_or, Option, Some, Result, Ok, Err, IfErr, IfOk, String, string_bytes}
 use Rattle.std.specs.List.{AllZip}
 use Rattle.std.specs.declared.alloc.Global.{Global}
@@ -38,18 +38,19 @@ pub record IsDrillBase (tags : ℕ) (base : Base) : Type 0 where
   pub one_group : length base.groups.items ≡ 1
   pub group : All (IsDrillGroup tags) base.groups.items
 
--- it and the work of the two phases: each collector has taken the first half of its events before the second
+-- the base, and the work of the two phases: before the second phase each collector has taken the first half of its
+-- events
 pub record IsDrillWork (number tags events : ℕ) (base : Base) (first second : Given) : Type 0 where
   pub base_is : IsDrillBase tags base
   pub good : IsGoodBase base
   pub first_is : IsWorkIn base 0 0 (drill_rows_of number tags 0 (events / 2)) [] [] first
   pub second_is : IsWorkIn base (events / 2) 1 (drill_rows_of number tags 0 events) [] [] second
 
--- the devices of a store in memory that has none yet: each name has one that holds nothing
+-- the devices of a new store in memory: each name has one that holds nothing
 abbrev pub fresh_devices : DeviceTraces
 fresh_devices name = Some empty_trace
 
--- a device in memory fails for want of memory alone, so that is told of it
+-- a device in memory fails only for want of memory, so the drill reports that
 abbrev pub drill_status : Status → Status
 drill_status (DeviceFault unit) = WantOfMemory
 drill_status why = why
@@ -60,15 +61,15 @@ drill_answer (Err why) = Err (drill_status why)
 
 -- ---- the session
 
--- why it is not done: what one of the phases is refused with
+-- why it is not done: the refusal of one of the phases
 pub record IsDrillUndone {D : Type 0} (first second : Given) (opened : List (Cell D)) (opened_books : List (Book D))
     (cells : List (Cell D)) (books : List (Book D)) (s : Session) (why : Status) : Type 0 where
   pub cause : Status
   pub told : why ≡ drill_status cause
   pub undone : IsUndoneOfBoth first second opened opened_books cells books s.workers.items cause
 
--- A session of two phases over a base, and what came of it: it was held, and is done with the second; as many workers were stopped as
--- the passes counted; and both phases are done, or there is a cause.
+-- A session of two phases over a base, and what came of it. It ran, and is done with the second phase. The passes
+-- counted as many stops as workers were stopped. Both phases are done, or the answer has a cause.
 pub record IsRunInPhases {D : Type 0} (trace : D → Option Trace) (ticks faults : D → ℕ) (base : Base) (first second : Given)
     (old new : DeviceTraces) (before now stops_before stops_now : ℕ) (answer : Result (String Global) Status) (s : Session)
     : Type 0 where
@@ -76,7 +77,7 @@ pub record IsRunInPhases {D : Type 0} (trace : D → Option Trace) (ticks faults
   pub notes : AreNotesOfBoth D first.work second.work stops_before stops_now s.workers.items
   pub undone : IfErr answer (IsDrillUndone first second held.opened held.opened_books held.cells held.books s)
 
--- what a device in memory tells: its calls, how many there were, and how many of them have failed
+-- what a device in memory records: its calls, their number, and how many of them have failed
 abbrev pub memory_trace : DiskState → Option Trace
 memory_trace d = Some d.trace
 
@@ -100,7 +101,7 @@ pub record IsDrill (number tags events stops_before stops_now : ℕ) (answer : R
 
 -- ---- what is promised of it
 
--- a tag is one of the drill's, and was opened as what a new device recovers: that of a tag of which nothing was taken
+-- a tag is one of the drill's; its opening is what a new device recovers, a tag that has taken nothing
 pub record IsTagNew (def : TagDef) (t : TagHistory) : Type 0 where
   pub def_is : t.def ≡ def
   pub nothing : Stands (record { tuning = def.tuning; step = def.step }) [] (opened_state t.opening)
@@ -113,15 +114,16 @@ pub record IsGroupNew (i : ℕ) (d : GroupDef) (g : GroupHistory) : Type 0 where
   pub versions : g.opening.versions.items ≡ replicate (length d.inputs.items) 0
   pub rows : lists_of g.opening.rows.items ≡ replicate (length d.calcs.calcs) []
 
--- so is each
+-- each tag and each group is new
 pub record AreNew (base : Base) (s : Session) : Type 0 where
   pub tags : AllZip IsTagNew base.tags.items s.tags.items
   pub groups : (i : ℕ) (d : GroupDef) (g : GroupHistory) → i < length s.groups.items
       → IsGroupNew i (slice_index_or base.groups.items i d) (slice_index_or s.groups.items i g)
 
--- Whatever the answer is, each tag and each group is sound, beside the calls of its device; unless an opening is told to be another,
--- each was new; and where there is a text, the session is done: each tag has taken of its collector all its events, those of each
--- phase numbered from 1, all is acknowledged, the group is up to date, was refreshed twice, and saved then; and the text is the report.
+-- Whatever the answer is, each tag and each group is sound, by the calls of its device. Each was new, unless the answer
+-- reports that an opening has changed. If there is a text, the session is done and the text is its report: each tag has
+-- taken all events of its collector, numbered from 1 in each phase, and all are acknowledged; the group is up to date,
+-- was refreshed twice, and was saved after that.
 pub record IsDrilled (number tags events : ℕ) (answer : Result (String Global) Status) (s : Session) : Type 0 where
   pub base : Base
   pub devices : DeviceTraces
@@ -134,7 +136,7 @@ pub record IsDrilled (number tags events : ℕ) (answer : Result (String Global)
 
 -- ---- no session
 
--- why the devices of a base are not out, as a drill tells it
+-- why the devices of a base are not open, as a drill reports it
 pub record IsDrillUnopened (base : Base) (old new : DeviceTraces) (before now : ℕ) (why : Status) : Type 0 where
   pub cause : Status
   pub told : why ≡ drill_status cause

@@ -1,4 +1,4 @@
--- How a session is refused whose workers did not all end by themselves.
+-- How a session is refused if not all of its workers ended by themselves.
 use Rattle.std.specs.Prelude.{◌≡◌, ◌≢◌, ℕ, ◌<◌, List, Any, length}
 use Rattle.std.specs.List.{AllWithin, HoldsAt}
 use Rattle.plant_status.specs.declared.status.Status.{Status}
@@ -6,7 +6,7 @@ use Rattle.plant_status.specs.declared.status.Status.TheVariants as status
 use Rattle.collector_pool.specs.declared.note.Ending.TheVariants.{Halted, WantOfMemory}
 use Rattle.collector_pool.specs.declared.note.WorkerNote.{WorkerNote}
 
--- the first worker that its pass stopped is told, or else that one found no memory
+-- either the first worker that its pass stopped is reported, or that a worker found no memory
 abbrev pub IsStop : List WorkerNote → Status → Type 0
 IsStop notes (status.Halted worker) = (place : ℕ) × (place < length notes)
     × HoldsAt (λ n. (n.worker ≡ worker) × (n.ending ≡ Halted)) notes place × AllWithin (λ n. n.ending ≢ Halted) notes 0 place

@@ -1,4 +1,4 @@
--- The promise of a session: what is so of each of its tags and groups, and of all of it once it is done.
+-- The promise of a session: what holds of each of its tags and groups, and of all of it once it is done.
 use Rattle.std.specs.Prelude.{◌≡◌, ◌≢◌, ℕ, ◌+◌, ◌^◌, ◌<◌, ◌≤◌, List, [], All, length, map, nat_eq, slice_index, slice_index_or, Option, Result, IfErr, IfOk, String, string_bytes, if◌then◌else◌}
 use Rattle.std.specs.List.{AllZip, sum_by}
 use Rattle.std.specs.declared.alloc.Global.{Global}
@@ -51,22 +51,22 @@ use Rattle.run_command.specs.Refusals.{IsOfOpening}
 
 -- ---- a tag
 
--- For a history of a tag of this origin: each entry of the tape says what the archive of that history, followed by the values taken
--- before it, gives; and what the archive keeps of all of them is near each of them.
+-- For a history of a tag of this origin: each entry of the tape agrees with the archive of that history followed by the
+-- values taken before the entry. What the archive keeps is near each of all the values.
 pub record IsKeptFor (org : Origin) (h : List Event) (t : TagHistory) : Type 0 where
   pub legal : IsLegal org h t.def t.opening t.tape.items (record { records = t.recs.items; summary = t.summary }) t.acked
   pub bounded : IsBounded org (followed h (map Raw (taken t.tape.items)))
 
--- So it is for every history for which the tag's opening stands. A crash at any moment since the opening leaves of the tag's device,
--- whose calls are these, the oldest values that were taken since, with all that are acknowledged. And each pull of a group ended
--- where the records ended that were acknowledged before it.
+-- This holds for every history for which the tag's opening stands. After a crash at any moment since the opening, the
+-- tag's device, with these calls, has the oldest values that were taken since, among them all acknowledged ones. Each
+-- pull of a group ended where the acknowledged records ended then.
 pub record IsTagSound (t : TagHistory) (trace : Option Trace) : Type 0 where
   pub kept : (org : Origin) (h : List Event) → org.step ≡ t.def.step → Stands org h (opened t.opening) → IsKeptFor org h t
   pub safe : IsSafe t.def t.opening t.tape.items (LeftSince trace)
   pub pulled : ArePullsDurable t.def t.opening t.tape.items
 
--- a tag is that of a base, and its opening stands for every history for which its device, whose calls were these, stood before, or
--- for that and a retuning
+-- a tag is that of a base; its opening stands for every history for which its device, with these calls, stood before,
+-- or for that history and a retuning
 pub record IsTagOpened (def : TagDef) (before : Option Trace) (t : TagHistory) : Type 0 where
   pub def_is : t.def ≡ def
   pub opening : (org : Origin) (h : List Event) → Shows before (λ c. ImageStands def org h c → StandsOpened def org h (opened t.opening))
@@ -76,25 +76,25 @@ pub record IsTagOpened (def : TagDef) (before : Option Trace) (t : TagHistory) :
 abbrev pub grid : GroupHistory → Grid
 grid g = grid_of g.def.start g.def.period
 
--- the group's rows are those from scratch on the records of its tags, and so is each reply, at the version that it had then, where
--- the opening's are
+-- if the opening's rows are those from scratch on the records of its tags, the group's rows and all replies are too, at
+-- the version that each had then
 abbrev pub IsGroupKept : GroupHistory → Type 0
 IsGroupKept g = IsGroupLegal g.def.calcs (grid g) g.opening g.tape.items g.versions.items (lists_of g.copies.items)
     (lists_of g.rows.items)
 
--- a crash at any moment since the opening leaves of the group's device, whose calls are these, one of the versions since the last
--- save before it, and its rows from scratch
+-- after a crash at any moment since the opening, the group's device, with these calls, has one of the versions since
+-- the last save before the crash, with its rows from scratch
 abbrev pub IsGroupKeptBy : GroupHistory → Option Trace → Type 0
 IsGroupKeptBy g trace = IsGroupSafe g.text.items g.def.calcs (grid g) g.opening (lists_of g.copies.items) g.tape.items (LeftSince trace)
 
--- so it is of each group. One with a definition text has a device, under its name
+-- each group is sound; one with a definition text has a device, under its name
 pub record AreGroupsSound (groups : List GroupDef) (devices : DeviceTraces) (histories : List GroupHistory) : Type 0 where
   pub as_many : length histories ≡ length groups
   pub kept : (i : ℕ) (g : GroupHistory) → i < length histories → IsGroupKept (slice_index_or histories i g)
   pub safe : (i : ℕ) (d : GroupDef) (g : GroupHistory) → i < length histories → (slice_index_or histories i g).text.items ≢ []
       → IsGroupKeptBy (slice_index_or histories i g) (group_trace_at devices (slice_index_or groups i d))
 
--- a group is that of a base at this place, and its opening is what its device, whose calls were these, stood for before
+-- a group is that of a base at this place; its opening is what its device, with these calls, stood for before
 pub record IsGroupOpened (i : ℕ) (d : GroupDef) (before : Option Trace) (g : GroupHistory) : Type 0 where
   pub number : g.group ≡ i
   pub def_is : g.def ≡ group_parts_of d
@@ -103,7 +103,7 @@ pub record IsGroupOpened (i : ℕ) (d : GroupDef) (before : Option Trace) (g : G
 
 -- ---- what was opened
 
--- each tag and each group was opened so
+-- each tag and each group was opened like that
 pub record AreUnitsOpened (base : Base) (before : DeviceTraces) (s : Session) : Type 0 where
   pub tags : AllZip (λ def t. IsTagOpened def (tag_trace_of before def) t) base.tags.items s.tags.items
   pub groups : (i : ℕ) (d : GroupDef) (g : GroupHistory) → i < length s.groups.items
@@ -118,9 +118,9 @@ entries t = t.tape.items
 abbrev pub turns : GroupHistory → List Turn
 turns g = g.tape.items
 
--- Each tag has taken of each collector the rows of its file that are its own, in their order, each once, and no others; an item tells
--- what a row leaves. So it is of the readers' questions, at tags and at groups. Each pull of a group ended at the version of the
--- refresh of its number. All that was taken is acknowledged.
+-- Each tag has taken from each collector exactly the rows of its file that are its own, in their order, each once. An
+-- item states what a row leaves. The same holds for the readers' questions, at tags and at groups. Each pull of a group
+-- ended at the version of the refresh with its number. All values that were taken are acknowledged.
 pub record IsMixed (item_of : ℕ → ℕ → RawRow → Option Item) (base : Base) (rows : List (List RawRow))
     (queries : List (List Query)) (s : Session) : Type 0 where
   pub takes : AreTapesWhole entries take_of item_of rows s.tags.items
@@ -140,15 +140,15 @@ tag_records_of s tag = slice_index_or (map (λ t. t.recs.items) s.tags.items) ta
 abbrev pub turns_in : ℕ → List Refresher → ℕ
 turns_in group refreshers = sum_by (λ r. if nat_eq r.group group then r.turns else 0) refreshers
 
--- A group has taken the records of its inputs' tags into account, all of them; it was refreshed once more than its refreshers have
--- turns; and it was saved then.
+-- A group has taken into account all records of its inputs' tags. It was refreshed once more than its refreshers have
+-- turns, and was saved after that.
 pub record IsGroupRefreshed (d : GroupDef) (turns : ℕ) (s : Session) (g : GroupHistory) : Type 0 where
   pub refreshed : length (refreshes g.tape.items) ≡ turns + 1
   pub copies : lists_of g.copies.items ≡ map (tag_records_of s) d.inputs.items
   pub saved : EndsInSave g.tape.items
 
--- a session that is done, whose groups have so many turns: each row and question had its turn, each group is up to date, and this is
--- its report
+-- a session that is done, whose groups have so many turns: each row and question had its turn, each group is up to
+-- date, and the text is its report
 pub record IsDoneSo (item_of : ℕ → ℕ → RawRow → Option Item) (turns_of : ℕ → ℕ) (base : Base) (rows : List (List RawRow))
     (queries : List (List Query)) (s : Session) (text : List ℕ) : Type 0 where
   pub mixed : IsMixed item_of base rows queries s
@@ -158,14 +158,14 @@ pub record IsDoneSo (item_of : ℕ → ℕ → RawRow → Option Item) (turns_of
 
 -- ---- the promise
 
--- where a fault of a device is told, the store's count of faults has risen, or stands at the end of its type
+-- if the answer reports a device fault, the store's count of faults has risen, or is at the end of its type
 abbrev pub IsFaultCounted : ℕ → ℕ → Status → Type 0
 IsFaultCounted before now why = (unit : Device) → why ≡ DeviceFault unit → HasRisen before now
 
--- The session of the plan in a file over the base in another, whose devices told such calls before and tell such calls now, and what
--- is answered of it. Whatever the answer is, each tag and each group is sound; unless an opening is told to be another, each was
--- opened as what its device stood for; and where there is a text, the session is done. The store counted so many faults before, and
--- so many now.
+-- The session of the plan in a file over the base in another, and its answer. The devices recorded such calls before,
+-- and record such calls now; the store counted so many faults before, and so many now. Whatever the answer is, each tag
+-- and each group is sound. Each was opened as what its device stood for, unless the answer reports that an opening has
+-- changed. If there is a text, the session is done.
 pub record IsPromised (name plan_name : List ℕ) (told : ToldFiles) (before now : DeviceTraces) (faults_before faults_now : ℕ)
     (answer : Result (String Global) Status) (s : Session) : Type 0 where
   pub base : Base

@@ -1,4 +1,4 @@
--- Why a session is refused once its workers have ended.
+-- Why a session is refused after its workers have ended.
 use Rattle.std.specs.Prelude.{◌≡◌, List, [], length, Vec, Result, Ok, Err, ⊤}
 use Rattle.std.specs.declared.alloc.Global.{Global}
 use Rattle.trend_num.specs.declared.refusal.WantOfMemory.{WantOfMemory as NoMemory}
@@ -27,8 +27,8 @@ use Rattle.run_command.specs.Endings.{IsStop}
 use Rattle.session_audit.specs.CellOpenings.{IsCellAsKept, IsTagMismatch}
 use Rattle.session_audit.specs.Openings.{AreAsKept}
 
--- what tapes have is not what the workers have to do: a take is not its collector's next row there, a question is not its reader's
--- next one there, or a group was refreshed more often than it has turns
+-- the tapes differ from what the workers have to do: a take is not its collector's next row there, a question is not
+-- its reader's next one there, or a group was refreshed more often than it has turns
 pub data IsFindingRefusal {D : Type 0} (g : Given) (cells : List (Cell D)) (books : List (Book D)) (s : Status) : Type 0 where
   OfTake : (works : List Reached) → AreOver (phase_item g.work.earlier) (length cells) (lists_of g.work.collectors.items) works
       → AreUnfound (length cells) works → IsTakeMismatch cells works s → IsFindingRefusal g cells books s
@@ -38,14 +38,14 @@ pub data IsFindingRefusal {D : Type 0} (g : Given) (cells : List (Cell D)) (book
       → AreUnfound (length books) works → IsRowAskMismatch books works s → IsFindingRefusal g cells books s
   OfTurns : IsTurnsMismatch g.turns.items books s → IsFindingRefusal g cells books s
 
--- what tapes lack is not done: a row is not taken, a commit or a refresh is refused, or no memory is found
+-- what the tapes lack cannot be done: a row is not taken, a commit or a refresh is refused, or no memory is found
 pub data IsMakingRefusal {D : Type 0} (g : Given) (cells : List (Cell D)) (books : List (Book D)) (s : Status) : Type 0 where
   OfTaking : IsTakeRefusal g.rooms.items cells s → AreUnlike s → IsMakingRefusal g cells books s
   OfCommit : IsCellRefusal cells s → IsMakingRefusal g cells books s
   OfRefresh : IsRefreshRefusal (durable_lists cells) (lists_of g.inputs.items) books s → IsMakingRefusal g cells books s
   OfMemory : s ≡ WantOfMemory → IsMakingRefusal g cells books s
 
--- the first of these, or that a worker was stopped, or what a group has is not what it pulled of its inputs' tags
+-- one of these two, or a worker was stopped, or what a group has is not what it pulled of its inputs' tags
 pub data IsRefused {D : Type 0} (g : Given) (notes : List WorkerNote) (cells : List (Cell D)) (books : List (Book D)) (s : Status)
     : Type 0 where
   OfFinding : IsFindingRefusal g cells books s → IsRefused g notes cells books s
@@ -53,9 +53,9 @@ pub data IsRefused {D : Type 0} (g : Given) (notes : List WorkerNote) (cells : L
   OfMaking : IsMakingRefusal g cells books s → IsRefused g notes cells books s
   OfPull : IsPullMismatch (lists_of g.inputs.items) cells books s → IsRefused g notes cells books s
 
--- ---- with the openings
+-- ---- comparison with the openings
 
--- a refusal is told of an opening that is not as it was kept
+-- the refusal is that of an opening that differs from its copy
 abbrev pub IsOpening : Status → Type 0
 IsOpening (Mismatch (Opening unit) kept told) = ⊤
 IsOpening other = ⊥
@@ -69,7 +69,7 @@ abbrev pub notes_of : Result (Vec WorkerNote Global) NoMemory → List WorkerNot
 notes_of (Ok notes) = notes.items
 notes_of (Err why) = []
 
--- an opening is not as it was kept, of a tag or of a group; or else one of the refusals above, or no worker began
+-- the opening of a tag or of a group differs from its copy; or one of the refusals above holds, or no worker began
 pub data IsSettlingRefusal {D : Type 0} (g : Given) (notes : List WorkerNote) (known : List Kept) (known_groups : List KeptGroup)
     (cells : List (Cell D)) (books : List (Book D)) (s : Status) : Type 0 where
   OfTag : IsTagMismatch cells known s → IsSettlingRefusal g notes known known_groups cells books s

@@ -2,7 +2,7 @@
 use Rattle.std.specs.Prelude.{◌≡◌, ℕ, ◌≤◌, [], vec_capacity}
 use Rattle.run_command.specs.declared.phase.Room.{Room}
 
--- each list is empty, and has room for so many cells or books
+-- each list is empty, and has room for the number of cells or books
 pub record HasRoomFor {D : Type 0} (cells books : ℕ) (r : Room D) : Type 0 where
   pub no_locked_cells : r.locked_cells.items ≡ []
   pub no_locked_books : r.locked_books.items ≡ []

@@ -1,4 +1,4 @@
--- What a run of a plan comes to: its session, or why it holds none.
+-- What a run of a plan comes to: its session, or why there is none.
 use Rattle.std.specs.Prelude.{◌≡◌, ◌≢◌, ℕ, ◌^◌, ◌<◌, List, [], length, map, Option, None, Result, Err, OnOk, IfErr, IfOk, String, string_bytes, slice_index_or}
 use Rattle.std.specs.List.{AllZip}
 use Rattle.std.specs.declared.alloc.Global.{Global}
@@ -45,23 +45,23 @@ AreDevicesUntouched old new = (n : List ℕ) → new n ≡ old n
 
 -- ---- no session
 
--- no device but those of a base's tags and groups has changed, and a crash at any moment since leaves of each an image that one before
--- might have left, or that recovers or stands for the same
+-- no device but those of a base's tags and groups has changed; an image that a crash at any moment since leaves of one
+-- of these could have been left before, or recovers or stands for the same
 pub record AreDevicesKept (base : Base) (old new : DeviceTraces) : Type 0 where
   pub tags : AllStaySame base.tags.items old new
   pub groups : AllGroupsStaySame base.groups.items old new
   pub others : AreRestSame base old new
 
--- why the devices of a base are not out: a tag or a group is not opened; or memory is wanting before
+-- why the devices of a base are not open: a tag or a group was not opened, or memory was wanting before
 pub data IsUnopened (base : Base) (old new : DeviceTraces) (before now : ℕ) (why : Status) : Type 0 where
   OfPlant : IsPlantRefusal base old new before now why → AreDevicesKept base old new → IsUnopened base old new before now why
   OfWant : why ≡ WantOfMemory → AreDevicesUntouched old new → IsUnopened base old new before now why
 
--- this is told of no file whose read has failed
+-- the status is no read fault of a file
 abbrev pub IsNoReadFault : Status → Type 0
 IsNoReadFault why = (which : FileId) → why ≢ ReadFault which
 
--- why no session is held: a file is refused, or the devices are not opened; or memory is wanting before
+-- why there is no session: a file is refused, the devices are not opened, or memory was wanting before
 pub data IsUnheld (name plan_name : List ℕ) (told : ToldFiles) (old new : DeviceTraces) (before now : ℕ) (why : Status) : Type 0 where
   OfFiles : IsPlanningRefusal name plan_name told why → AreDevicesUntouched old new
       → IsUnheld name plan_name told old new before now why
@@ -72,8 +72,8 @@ pub data IsUnheld (name plan_name : List ℕ) (told : ToldFiles) (old new : Devi
 
 -- ---- a session
 
--- The work of a phase over a base, whose collectors have these rows, whose readers these queries, and whose refreshers these turns.
--- There were so many phases before, in which each collector took so many of its rows.
+-- The work of a phase over a base: the collectors have these rows, the readers these queries, and the refreshers these
+-- turns. So many phases came before, in which each collector took so many of its rows.
 pub record IsWorkIn (base : Base) (earlier phases : ℕ) (rows : List (List RawRow)) (queries : List (List Query))
     (refreshers : List Refresher) (g : Given) : Type 0 where
   pub earlier_is : g.work.earlier ≡ earlier
@@ -84,7 +84,7 @@ pub record IsWorkIn (base : Base) (earlier phases : ℕ) (rows : List (List RawR
   pub inputs : lists_of g.inputs.items ≡ map (λ d. d.inputs.items) base.groups.items
   pub sized : AreGivenFor (length base.tags.items) (length base.groups.items) g
 
--- the work of a plan: its only phase
+-- the work of a plan, which has one phase
 abbrev pub IsGivenOf : Base → Plan → List (List RawRow) → List (List Query) → Given → Type 0
 IsGivenOf base plan rows queries g = IsWorkIn base 0 0 rows queries plan.refreshers.items g
 
@@ -96,22 +96,22 @@ pub record AreUnitsOpen {D : Type 0} (trace : D → Option Trace) (ticks faults 
   pub as_many_tags : length cells ≡ length base.tags.items
   pub as_many_groups : length books ≡ length base.groups.items
 
--- each book is of the definition of the group in its place
+-- each book has the definition of the group in its place
 abbrev pub AreDefined : {D : Type 0} → List GroupDef → List (Book D) → Type 0
 AreDefined {D} groups books = (i : ℕ) (g : GroupDef) (b : Book D) → i < length books
     → (slice_index_or books i b).def ≡ group_parts_of (slice_index_or groups i g)
 
--- a history is that of a group's device, which tells these calls
+-- a history is that of a group's device, which records these calls
 abbrev pub IsGroupHistoryAt : Option Trace → GroupHistory → Type 0
 IsGroupHistoryAt trace g = (ticks : ℕ) × (faults : ℕ) × IsGroupHistory g trace ticks faults
 
--- each history of a group that has a text is that of the device which a store has under the name of the group
+-- each history of a group that has a text is that of the device that a store has under the group's name
 pub record AreGroupHistoriesAt (groups : List GroupDef) (traces : DeviceTraces) (histories : List GroupHistory) : Type 0 where
   pub each : (i : ℕ) (d : GroupDef) (g : GroupHistory) → i < length histories → (slice_index_or histories i g).text.items ≢ []
       → IsGroupHistoryAt (group_trace_at traces (slice_index_or groups i d)) (slice_index_or histories i g)
 
--- The histories of a session are those of these cells and books. Each is that of the device which is under its name, no device but
--- those of the base's tags and groups has changed, and no log was written.
+-- The histories of a session are those of these cells and books. Each is that of the device under its name. No device
+-- but those of the base's tags and groups has changed, and no log was written.
 pub record IsOver {D : Type 0} (trace : D → Option Trace) (ticks faults : D → ℕ) (base : Base) (old new : DeviceTraces)
     (cells : List (Cell D)) (books : List (Book D)) (s : Session) : Type 0 where
   pub tags : AreHistoriesOf trace ticks faults cells s.tags.items
@@ -123,7 +123,7 @@ pub record IsOver {D : Type 0} (trace : D → Option Trace) (ticks faults : D �
   pub others : AreRestSame base old new
   pub no_log : s.log ≡ None
 
--- a cell is of the definition that another one is of, and was opened as that was
+-- a cell has the definition of another one, and the same opening
 pub record IsContinued {D : Type 0} (first last : Cell D) : Type 0 where
   pub def : last.def ≡ first.def
   pub summary : last.opening.summary ≡ first.opening.summary
@@ -131,7 +131,7 @@ pub record IsContinued {D : Type 0} (first last : Cell D) : Type 0 where
   pub moment : last.opening.moment ≡ first.opening.moment
   pub faults : last.opening.faults ≡ first.opening.faults
 
--- a book is of the group that another one is of, and was opened as that was
+-- a book has the group of another one, and the same opening
 pub record IsContinuedGroup {D : Type 0} (first last : Book D) : Type 0 where
   pub group : last.group ≡ first.group
   pub def : last.def ≡ first.def
@@ -141,15 +141,16 @@ pub record IsContinuedGroup {D : Type 0} (first last : Book D) : Type 0 where
   pub moment : last.opening.moment ≡ first.opening.moment
   pub faults : last.opening.faults ≡ first.opening.faults
 
--- A session that is done: each tape has what its collectors, readers and refreshers had to do, and no more; each group has what it
--- pulled of its tags; and this is its report.
+-- A session that is done: each tape has exactly what its collectors, readers and refreshers had to do, each group has
+-- what it pulled of its tags, and the text is its report.
 pub record IsDone {D : Type 0} (base : Base) (g : Given) (cells : List (Cell D)) (books : List (Book D)) (s : Session)
     (text : List ℕ) : Type 0 where
   pub made : AreStepsMade g cells books
   pub pulled : ArePulled (lists_of g.inputs.items) cells books
   pub same : text ≡ report base (length g.work.collectors.items) (lists_of g.work.readers.items) s
 
--- why a session is not done: what its workers left is refused beside copies of what was opened, or memory is wanting
+-- why a session is not done: what its workers left is refused by a comparison with copies of the openings, or memory is
+-- wanting
 pub data IsUndone {D : Type 0} (g : Given) (opened : List (Cell D)) (opened_books : List (Book D)) (cells : List (Cell D))
     (books : List (Book D)) (notes : List WorkerNote) (why : Status) : Type 0 where
   OfSettling : (known : List Kept) (known_groups : List KeptGroup) → AllZip IsCellCopied opened known → AllZip IsBookCopied opened_books known_groups
@@ -157,16 +158,17 @@ pub data IsUndone {D : Type 0} (g : Given) (opened : List (Cell D)) (opened_book
       → IsUndone g opened opened_books cells books notes why
   OfNone : why ≡ WantOfMemory → IsUndone g opened opened_books cells books notes why
 
--- what is answered of a session that came to this: its report, if it is done and there is memory for it; and else why there is none
+-- the answer of a session that came to this: its report, if it is done and there is memory for it; otherwise, why there
+-- is none
 pub record IsReported (base : Base) (g : Given) (s : Session) (came : Result Unit Status) (told : Result (String Global) Status) : Type 0 where
   pub text : OnOk came (IfOk told (λ text. string_bytes text
       ≡ report base (length g.work.collectors.items) (lists_of g.work.readers.items) s))
   pub want : OnOk came (IfErr told (λ why. why ≡ WantOfMemory))
   pub refused : IfErr came (λ why. told ≡ Err why)
 
--- A session over a base, and what came of it: the devices were opened, and are given back; unless an opening is told to be another,
--- each cell and book is the one that was opened; and where there is a text, the session is done. The store counts the faults of the
--- devices: so many before, and so many now.
+-- A session over a base, and what came of it. The devices were opened, and are given back. Each cell and book is the
+-- one that was opened, unless the answer reports that an opening has changed. If there is a text, the session is done.
+-- The store counts the faults of the devices: so many before, and so many now.
 pub record IsSessionHeld {D : Type 0} (trace : D → Option Trace) (ticks faults : D → ℕ) (base : Base) (g : Given) (old new : DeviceTraces)
     (before now : ℕ) (answer : Result (String Global) Status) (s : Session) : Type 0 where
   pub opened : List (Cell D)
@@ -180,8 +182,8 @@ pub record IsSessionHeld {D : Type 0} (trace : D → Option Trace) (ticks faults
   pub same_groups : (IsOfOpening answer → ⊥) → AllZip IsContinuedGroup opened_books books
   pub done : IfOk answer (λ text. IsDone base g cells books s (string_bytes text))
 
--- A session of this work over a base, and what came of it: it was held; as many workers were stopped as the passes counted; and it is
--- done, or there is a cause.
+-- A session of this work over a base, and what came of it. It ran. The passes counted as many stops as workers were
+-- stopped. The session is done, or the answer has a cause.
 pub record IsRun {D : Type 0} (trace : D → Option Trace) (ticks faults : D → ℕ) (base : Base) (g : Given) (old new : DeviceTraces)
     (before now : ℕ) (stops_before stops_now : ℕ) (answer : Result (String Global) Status) (s : Session) : Type 0 where
   pub held : IsSessionHeld trace ticks faults base g old new before now answer s

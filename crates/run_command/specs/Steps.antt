@@ -1,4 +1,4 @@
--- A session once its workers have ended, and what its cells and books are once all is done.
+-- A session after its workers have ended, and its cells and books once all is done.
 use Rattle.std.specs.Prelude.{◌≡◌, ℕ, ◌+◌, ◌^◌, ◌<◌, ◌≤◌, List, [], All, length, slice_index, slice_index_or}
 use Rattle.session_audit.specs.Agendas.{ask_item, phase_item, row_item}
 use Rattle.session_audit.specs.Found.{Reached}
@@ -20,10 +20,10 @@ use Rattle.collector_pool.specs.Work.{IsWorkOf}
 use Rattle.tag_base.specs.declared.schedule.Refresher.{Refresher}
 use Rattle.run_command.specs.declared.work.Given.{Given}
 
--- ---- what a session is held against
+-- ---- what a session is compared with
 
--- work for a plant of so many tags and groups, and of each tag how much of it is its own; and of each group how often it is refreshed
--- before its last refresh, once in each phase before and in the turns of its refreshers
+-- The work for a plant of so many tags and groups. It has the number of rows of each tag, and the number of refreshes
+-- of each group before its last one: one for each phase before, and the turns of its refreshers.
 pub record AreGivenFor (tags groups : ℕ) (g : Given) : Type 0 where
   pub work : IsWorkOf tags groups g.work
   pub rooms_are : length g.rooms.items ≡ tags
@@ -32,20 +32,20 @@ pub record AreGivenFor (tags groups : ℕ) (g : Given) : Type 0 where
   pub turns : (group : ℕ) → group < groups → slice_index g.turns.items group ≡ g.phases + turns_for group g.work.refreshers.items
   pub few_turns : (group : ℕ) → group < groups → slice_index g.turns.items group + 1 < 2 ^ 32
 
--- no more cells and books than there may be, the work that is given for them, and the tags of each group's inputs
+-- not too many cells and books, the work for them, and the tags of each group's inputs
 pub record AreReady {D : Type 0} (g : Given) (cells : List (Cell D)) (books : List (Book D)) : Type 0 where
   pub few_cells : length cells < 2 ^ 32
   pub few_books : length books < 2 ^ 32
   pub given : AreGivenFor (length cells) (length books) g
   pub inputs : AreInputs (length cells) (lists_of g.inputs.items) books
 
--- the progress of workers is over their rows: of collectors, of readers at tags, and of readers at groups
+-- there is the progress of workers over their rows: of collectors, of readers at tags, and of readers at groups
 pub record AreOverAll (tags groups : ℕ) (g : Given) (takes asks row_asks : List Reached) : Type 0 where
   pub collectors : AreOver (phase_item g.work.earlier) tags (lists_of g.work.collectors.items) takes
   pub readers : AreOver ask_item tags (lists_of g.work.readers.items) asks
   pub row_readers : AreOver row_item groups (lists_of g.work.readers.items) row_asks
 
--- how far each stands is known of each tape, and no group was refreshed more often than it has turns
+-- the progress of each worker agrees with each tape, and no group was refreshed more often than it has turns
 pub record AreFoundAll {D : Type 0} (g : Given) (cells : List (Cell D)) (books : List (Book D)) (takes asks row_asks : List Reached)
     : Type 0 where
   pub collectors : AreAllFound take_of cells takes
@@ -53,8 +53,9 @@ pub record AreFoundAll {D : Type 0} (g : Given) (cells : List (Cell D)) (books :
   pub row_readers : AreTapesFound book_tape row_ask_of books row_asks
   pub turns : IsWithinTurns g.turns.items books
 
--- Each tape shows of each worker all its rows that are due there, and of no other worker any; all takes are acknowledged; each
--- group has made its turns and one more, has as many records as no crash takes away, and was saved then.
+-- Each tape shows all rows of each worker that are due there, and none of any other worker. All takes are acknowledged.
+-- Each group has made its turns and one more, has as many records of its inputs as no crash takes away, and was saved
+-- after that.
 pub record AreStepsMade {D : Type 0} (g : Given) (cells : List (Cell D)) (books : List (Book D)) : Type 0 where
   pub takes : AreAllShown take_of (phase_item g.work.earlier) (lists_of g.work.collectors.items) cells
   pub asks : AreAllShown ask_of ask_item (lists_of g.work.readers.items) cells
@@ -75,19 +76,19 @@ pub record IsBookKept {D : Type 0} (old new : Book D) : Type 0 where
   pub tags : new.tags ≡ old.tags
   pub opening : new.opening ≡ old.opening
 
--- a group whose opening was kept has one tag for each of its inputs, at most 64, and there are these tags
+-- a group whose opening was copied has one tag for each of its inputs, at most 64, and all these tags exist
 pub record IsInputsFor (many : ℕ) (tags : List ℕ) (k : KeptGroup) : Type 0 where
   pub same : length tags ≡ k.def.inputs
   pub few : length tags ≤ 64
   pub known : All (λ tag. tag < many) tags
 
--- so has each
+-- each group has its tags like that
 pub record AreInputsFor (many : ℕ) (inputs : List (List ℕ)) (known : List KeptGroup) : Type 0 where
   pub as_many : length inputs ≡ length known
   pub each : (group : ℕ) (k : KeptGroup) → group < length known
       → IsInputsFor many (slice_index_or inputs group []) (slice_index_or known group k)
 
--- the group of a refresher and its turns, as a session has them and as a plan does
+-- the group of a refresher and its turns, in a session and in a plan
 abbrev pub turn_of : Refresh → ℕ × ℕ
 turn_of r = (r.group, r.turns)
 

@@ -1,4 +1,4 @@
-// A session ends: its devices are given back, and it is reported.
+// The end of a session: its devices are given back, and its report is made.
 ghost use Rattle.plant_store.specs.Closings.{CountsClosed};
 ghost use Rattle.plant_store.specs.Groups.{DeviceTraces};
 ghost use Rattle.plant_store.specs.Openings.{AreRestSame};
@@ -15,7 +15,7 @@ use session_report::{Session, report};
 use std::alloc::Global;
 use tag_base::Base;
 
-// Gives the devices of a session back whose last phase has ended, and reports it.
+// Gives back the devices of a session whose last phase has ended, and makes its report.
 pub(crate) fn close<S: Store>(
     alloc: Global,
     store: &mut S,
@@ -53,7 +53,7 @@ pub(crate) fn close<S: Store>(
     (report_of(alloc, base, given, answer, &session), session)
 }
 
-// The report of a session that is done, or why there is none.
+// Returns the report of a session that is done, or why there is none.
 fn report_of(
     alloc: Global,
     base: &Base,

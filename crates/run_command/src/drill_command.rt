@@ -1,4 +1,4 @@
-// The command `drill`: a plant that is made up, as a session of two phases.
+// The command `drill`: a generated plant, run as a session of two phases.
 ghost use Rattle.calc_refresh.specs.Lists.{lists_of};
 ghost use Rattle.plant_files.specs.PlanRows.{IsGoodBase};
 ghost use Rattle.plant_store.specs.Groups.{DeviceTraces};
@@ -29,9 +29,10 @@ use std::thread::Threads;
 use tag_base::Base;
 use trend_num::WantOfMemory;
 
-/// Runs a drill of so many tags, each with one collector of so many generated events, in two phases over devices in memory: the
-/// first half of each collector's events, rounded down, and then the rest. A session is returned whenever the devices were opened,
-/// and where they were not, memory was wanting. Want of memory is told of a device that fails, since these fail for nothing else.
+/// Runs a drill of `tags` tags, each with one collector of `events` generated events, over devices in memory. The first
+/// phase takes the first half of each collector's events, rounded down; the second takes the rest. Returns a session
+/// whenever the devices were opened. If there is none, the answer is want of memory. If a device fails, the answer is
+/// want of memory too, because a device in memory fails for nothing else.
 pub fn drill<P: Passes, R: Threads + Wait + Sync>(
     rt: &R,
     alloc: Global,
@@ -55,7 +56,7 @@ pub fn drill<P: Passes, R: Threads + Wait + Sync>(
     }
 }
 
-// Opens the devices of a drill in a store that has none yet, and holds its session.
+// Opens the devices of a drill in a store that has none yet, and runs its session.
 fn run_drill<P: Passes, R: Threads + Wait + Sync>(
     rt: &R,
     alloc: Global,
@@ -93,7 +94,7 @@ pub(crate) struct DrillWork {
     pub(crate) second: Given,
 }
 
-// Makes that of so many tags, each with so many events.
+// Makes the drill of so many tags, each with so many events.
 pub(crate) fn drill_of(
     alloc: Global,
     number: u32,
@@ -118,7 +119,8 @@ pub(crate) fn drill_of(
     })
 }
 
-// The work of a phase whose collectors have the first events of a drill, so many, of which they took so many in the phases before.
+// Returns the work of a phase whose collectors have the first `events` events of a drill. In the phases before they
+// took the first `earlier` of these.
 fn phase_of(
     alloc: Global,
     base: &Base,
@@ -134,7 +136,7 @@ fn phase_of(
     given_of(alloc, base, &[], rows, Vec::new(alloc), earlier, phases)
 }
 
-// Opens the devices of a base in a store, and holds the session of two phases over them.
+// Opens the devices of a base in a store, and runs the session of two phases over them.
 pub(crate) fn hold_in<S: Store, P: Passes, R: Threads + Wait + Sync>(
     rt: &R,
     alloc: Global,
@@ -180,7 +182,7 @@ pub(crate) fn hold_in<S: Store, P: Passes, R: Threads + Wait + Sync>(
     }
 }
 
-// Holds the session of a plant that is open, and gives its devices back.
+// Runs the session of a plant that is open, and gives its devices back.
 fn hold_drill<S: Store, P: Passes, R: Threads + Wait + Sync>(
     rt: &R,
     alloc: Global,
@@ -217,7 +219,7 @@ fn hold_drill<S: Store, P: Passes, R: Threads + Wait + Sync>(
     (drill_answer(answer), session)
 }
 
-// What is answered of a drill that came to this.
+// Returns the answer of a drill whose session ended with this answer: a device fault becomes want of memory.
 fn drill_answer(answer: Result<String, Status>) -> Result<String, Status>
     ensures { result ≡ drill_answer answer }
 {
@@ -227,7 +229,7 @@ fn drill_answer(answer: Result<String, Status>) -> Result<String, Status>
     }
 }
 
-// What is told of a refusal of a drill.
+// Returns the status that a drill reports for a refusal: a device fault becomes want of memory.
 fn drill_status(why: Status) -> Status
     ensures { result ≡ drill_status why }
 {

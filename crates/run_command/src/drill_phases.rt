@@ -21,8 +21,8 @@ use std::sync::Wait;
 use std::thread::Threads;
 use tag_cell::Cell;
 
-// Holds the first phase of a session over cells and books that are open, and the second one where the first is done. Neither has
-// readers. The notes are those of the workers of the first phase, and then those of the second.
+// Runs the first phase of a session over cells and books that are open. If it is done, runs the second one. Neither has
+// readers. The notes are those of the workers of the first phase, then those of the second.
 pub(crate) fn hold_both<D: Disk + Send, P: Passes, R: Threads + Wait + Sync>(
     rt: &R,
     alloc: Global,
@@ -46,15 +46,15 @@ pub(crate) fn hold_both<D: Disk + Send, P: Passes, R: Threads + Wait + Sync>(
     ensures books { vec_len result.books ≡ vec_len books }
     ensures notes { AreNotesOfBoth D first.now.work second.now.work (P.stops passes.old) (P.stops passes.new) result.notes.items }
 
-    // Where all is done.
+    // If all is done.
     ensures made { OnOk result.answer (AreStepsMade second.now result.cells.items result.books.items) }
     ensures pulled { OnOk result.answer (ArePulled (lists_of second.now.inputs.items) result.cells.items result.books.items) }
 
-    // Unless an opening is told to be another.
+    // Unless the answer reports that an opening has changed.
     ensures same_cells { (IsOfOpening result.answer → ⊥) → AllZip IsContinued cells.items result.cells.items }
     ensures same_books { (IsOfOpening result.answer → ⊥) → AllZip IsContinuedGroup books.items result.books.items }
 
-    // Why it is not done.
+    // Otherwise, why it is not done.
     ensures undone { IfErr result.answer (IsUndoneOfBoth first.now second.now cells.items books.items result.cells.items
         result.books.items result.notes.items) }
 {
@@ -84,8 +84,8 @@ pub(crate) fn hold_both<D: Disk + Send, P: Passes, R: Threads + Wait + Sync>(
     }
 }
 
-// Holds the second phase, over the cells and books that the first has left. Without memory for the notes of its workers none of these
-// begins.
+// Runs the second phase, over the cells and books that the first has left. If there is no memory for the notes of its
+// workers, none of them begins.
 fn go_on<D: Disk + Send, P: Passes, R: Threads + Wait + Sync>(
     rt: &R,
     alloc: Global,
@@ -149,7 +149,7 @@ fn go_on<D: Disk + Send, P: Passes, R: Threads + Wait + Sync>(
     }
 }
 
-// Adds notes behind others, for which there is room.
+// Appends notes to others, for which there is room.
 fn join(notes: &mut Vec<WorkerNote>, more: Vec<WorkerNote>)
     requires room { vec_len notes.old + vec_len more ≤ vec_capacity notes.old }
     ensures { notes.new.items ≡ notes.old.items ++ more.items }

@@ -1,4 +1,4 @@
-// The plant that a drill runs: its base of tags and one group, and the rows of its collectors.
+// The plant of a drill: its base of tags and one group, and the rows of its collectors.
 ghost use Rattle.calc_check.specs.Group.{calculation, fault_of, group_of, is_among};
 ghost use Rattle.calc_parser.specs.Formulas.{IsFormula};
 ghost use Rattle.calc_parser.specs.Tree.{Tree, tree_of};
@@ -19,8 +19,8 @@ use trend_num::{Name, Point, TagDef, Tuning, WantOfMemory, name_from};
 use trend_report::drill_rows;
 use value_rows::RawRow;
 
-// The base of a drill with so many tags: they are named `D0`, `D1` and so on, and one group `all` has each of them as an input,
-// and the calculations `mean` and `spread` of the first one in windows of half a second.
+// Returns the base of a drill with so many tags, named `D0`, `D1` and so on. Its one group `all` has each of them as an
+// input. The group has the calculations `mean` and `spread` of the first tag, in windows of 500 milliseconds.
 pub(crate) fn drill_base(alloc: Global, tags: u32) -> Result<Base, WantOfMemory>
     requires some { 1 ≤ tags }
     requires few { tags ≤ 64 }
@@ -29,7 +29,7 @@ pub(crate) fn drill_base(alloc: Global, tags: u32) -> Result<Base, WantOfMemory>
     ensures one_group { IfOk result (λ base. vec_len base.groups ≡ 1) }
     ensures groups { IfOk result (λ base. All (IsDrillGroup tags) base.groups.items) }
 
-    // It is such as a text could spell.
+    // A text could spell such a base.
     ensures tuned { IfOk result (λ base. All (λ def. TuningInRange def.tuning) base.tags.items) }
     ensures sound { IfOk result (λ base. All (IsSoundGroup (length base.tags.items)) base.groups.items) }
     ensures distinct { IfOk result (λ base. AllPairs (λ a b. a.name ≢ b.name) base.tags.items) }
@@ -45,7 +45,7 @@ pub(crate) fn drill_base(alloc: Global, tags: u32) -> Result<Base, WantOfMemory>
 // The length of a window, in milliseconds.
 const PERIOD: u64 = 500;
 
-// The group of so many tags, which are these.
+// Returns the group of so many tags, which are these.
 pub(crate) fn drill_group(
     alloc: Global,
     tags: u32,
@@ -66,14 +66,14 @@ pub(crate) fn drill_group(
     })
 }
 
-// The places of so many inputs.
+// Returns the places 0, 1, 2 and on of so many inputs.
 fn places(alloc: Global, inputs: u32) -> Result<Vec<u32>, WantOfMemory>
     ensures { IfOk result (λ places. places.items ≡ range_with_len 0 inputs) }
 {
     Ok((0..inputs).collect(alloc)?)
 }
 
-// The calculation of a formula.
+// Returns the calculation with this name and formula.
 fn calc(alloc: Global, name: &[u8], formula: &str) -> Result<CalcDef, WantOfMemory>
     requires name { IsName name.now }
     requires formula { (t : Tree) × IsFormula formula.now t }
@@ -91,7 +91,7 @@ fn calc(alloc: Global, name: &[u8], formula: &str) -> Result<CalcDef, WantOfMemo
     }
 }
 
-// The calculations. Over names with that of the first tag each name in them stands for something.
+// Returns the calculations. If the inputs include the first tag, each name in the formulas stands for something.
 fn calcs(alloc: Global) -> Result<Vec<CalcDef>, WantOfMemory>
     ensures defined { IfOk result (λ defs. Define drill_calcs (map calculation defs.items)) }
     ensures known { IfOk result (λ defs. (names : List (List ℕ)) → is_among (codes "D0") names ≡ true
@@ -106,7 +106,7 @@ fn calcs(alloc: Global) -> Result<Vec<CalcDef>, WantOfMemory>
     Ok(defs)
 }
 
-// The calculations over the tags, checked. The first tag is among these.
+// Checks the calculations over the tags, the first tag among them.
 fn checked(alloc: Global, tags: &[TagDef]) -> Result<Checked, WantOfMemory>
     requires { is_among (codes "D0") (map (λ tag. tag.name) tags.now) ≡ true }
     ensures { IfOk result (AreCalcs (map (λ tag. tag.name) tags.now) drill_calcs) }
@@ -128,8 +128,8 @@ fn names(alloc: Global, tags: &[TagDef]) -> Result<Vec<Name>, WantOfMemory>
     Ok(tags.iter().map(|tag| tag.name).collect(alloc)?)
 }
 
-// The rows of the collectors of a drill, one collector a tag: of each of so many tags its events from the one at the place `from`
-// on, up to the one at the place `to`, which is left out.
+// Returns the rows of a drill's collectors, one collector for each tag. Each has the tag's events from the place `from`
+// on, up to the place `to` and without it.
 pub(crate) fn drill_files(
     alloc: Global,
     number: u32,
@@ -151,7 +151,7 @@ pub(crate) fn drill_files(
     Ok(files)
 }
 
-// The rows of one tag.
+// Returns the rows of one tag.
 fn drill_file(
     alloc: Global,
     number: u32,
@@ -169,7 +169,7 @@ fn drill_file(
     Ok(file)
 }
 
-// The points behind so many, as rows of a tag.
+// Returns the points from the place `from` on, as rows of a tag.
 fn rows_behind(
     alloc: Global,
     tag: u32,
@@ -196,7 +196,7 @@ const TUNING: Tuning = Tuning {
     comp_max: 600_000,
 };
 
-// The name that bytes spell.
+// Returns the name that these bytes spell.
 pub(crate) fn spelled(bytes: &[u8]) -> Name
     requires { IsName bytes.now }
     ensures { result ≡ bytes.now }
@@ -207,7 +207,7 @@ pub(crate) fn spelled(bytes: &[u8]) -> Name
     }
 }
 
-// The name of the tag at a place.
+// Returns the name of the tag at a place.
 fn tag_name(alloc: Global, place: u32) -> Result<Name, WantOfMemory>
     ensures { IfOk result (λ name. name ≡ codes "D" ++ decimal place) }
 {
@@ -215,7 +215,7 @@ fn tag_name(alloc: Global, place: u32) -> Result<Name, WantOfMemory>
     Ok(spelled(text.as_bytes()))
 }
 
-// The tag at a place.
+// Returns the tag at a place.
 fn drill_tag(alloc: Global, place: u32) -> Result<TagDef, WantOfMemory>
     ensures { IfOk result (λ tag. tag ≡ drill_tag place) }
 {
@@ -227,7 +227,7 @@ fn drill_tag(alloc: Global, place: u32) -> Result<TagDef, WantOfMemory>
     })
 }
 
-// So many tags.
+// Returns so many tags.
 pub(crate) fn drill_tags(alloc: Global, tags: u32) -> Result<Vec<TagDef>, WantOfMemory>
     ensures { IfOk result (λ defs. defs.items ≡ drill_tags tags) }
 {

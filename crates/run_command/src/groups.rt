@@ -46,7 +46,7 @@ impl<D: Disk + Send> GroupTurns<D> for Groups<D> {
     }
 }
 
-// Refreshes a book, on the ledger of a blank.
+// Refreshes a book. Steps are counted on the ledger of a blank.
 fn refresh_on<L: Ledger, R: Wait, D: Disk>(
     rt: &R,
     book: &mut Book<D>,
@@ -64,7 +64,7 @@ fn refresh_on<L: Ledger, R: Wait, D: Disk>(
     }
 }
 
-// How a refused refresh is told.
+// Returns the refusal of a turn whose refresh was refused.
 fn turn_of_refresh(no: RefreshNo) -> TurnNo {
     match no {
         RefreshNo::Ahead {
@@ -82,7 +82,7 @@ fn turn_of_refresh(no: RefreshNo) -> TurnNo {
     }
 }
 
-// How a refused save is told.
+// Returns the refusal of a turn whose save was refused.
 fn turn_of_save(no: SaveNo) -> TurnNo {
     match no {
         SaveNo::Broken => TurnNo::Broken,

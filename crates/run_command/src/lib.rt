@@ -1,21 +1,29 @@
 //! The commands `run` and `drill`: a session of a plant, from its files to its report.
 //!
-//! **Layer.** Below it stand the devices of a base (`plant_store`), the workers (`collector_pool`), what is looked at once they have ended
-//! (`session_audit`) and the report (`session_report`); above it the top call alone.
+//! **Layer.** This crate builds on the devices of a base (`plant_store`), the workers (`collector_pool`), the checks
+//! after the workers (`session_audit`) and the report (`session_report`). Only the top call uses it.
 //!
-//! **A session** has one phase or more. [`run_plan`] reads a base and a plan, and makes of them the work of the workers (`work`). The
-//! devices of the base's tags and groups are opened (`opening`). In a phase (`phase`) collectors, readers and refreshers work beside each
-//! other. Once they have ended no worker's word counts but that its pass stopped it, that it found no memory, or which snapshot it was
-//! told: the cells and books are compared with what they were opened as, their tapes with the rows of the files, and what the tapes lack
-//! is done (`settle`). Then the devices are given back, and the report is made of the histories (`close`).
+//! **A session** has one phase or more:
 //!
-//! **A drill** is a session of two phases over devices in memory that hold nothing yet. [`drill`] generates its plant (`drill_plant`): some
-//! tags, one group over all of them, and the rows of one collector for each tag. In the first phase the collectors take the first half
-//! of their rows, and in the second the rest, over the same cells and the same book; after each phase all is committed and the group is
-//! refreshed once. The same numbers make the same plant and the same report each time.
+//! 1. [`run_plan`] reads a base and a plan, and makes the work of the workers from them (`work`).
+//! 2. The session opens the devices of the base's tags and groups (`opening`).
+//! 3. In a phase (`phase`) collectors, readers and refreshers work at the same time.
+//! 4. Once they have ended, the session settles (`settle`). It compares the cells and books with their openings,
+//!    compares their tapes with the rows of the files, and does what the tapes lack.
+//! 5. The session gives the devices back, and makes the report from the histories (`close`).
 //!
-//! **Promise.** `IsSession` says what a session of files comes to, `IsPromised` what a user may rely on of it, `IsUnheld` why none was held;
-//! `IsDrill` and `IsDrilled` say it of a drill. Want of memory may be told at any time.
+//! Of a worker's notes only three facts count: that its pass stopped it, that it found no memory, and which snapshot it
+//! was shown.
+//!
+//! **A drill** is a session of two phases over new devices in memory. [`drill`] generates its plant (`drill_plant`):
+//! some tags, one group over all of them, and the rows of one collector for each tag. In the first phase the collectors
+//! take the first half of their rows, and in the second the rest, over the same cells and the same book. At the end of
+//! each phase the session commits all values and refreshes the group once. The same numbers make the same plant and the
+//! same report each time.
+//!
+//! **Promise.** `IsSession` says what a session of files comes to. `IsPromised` says what a user may rely on, and
+//! `IsUnheld` why no session was held. `IsDrill` and `IsDrilled` say the same of a drill. Any call may report want of
+//! memory.
 #![tactic(auto)]
 
 mod close;

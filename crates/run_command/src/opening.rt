@@ -1,4 +1,4 @@
-// A session begins: its board is made, and the devices of its base are opened.
+// The beginning of a session: its board is made, and the devices of its base are opened.
 ghost use Rattle.plant_files.specs.PlanRows.{IsGoodBase};
 ghost use Rattle.plant_store.specs.Openings.{AreRestSame};
 ghost use Rattle.plant_store.specs.Shelves.{HasPlacesOf, IsShelfFor};
@@ -24,7 +24,7 @@ pub(crate) struct Boarding {
     pub(crate) lookers: Vec<Looker>,
 }
 
-// The board of so many tags, for so many readers.
+// Makes the board of so many tags, with a looker for each of so many readers.
 pub(crate) fn boarding_for<R: Wait>(
     rt: &R,
     alloc: Global,
@@ -45,7 +45,7 @@ pub(crate) fn boarding_for<R: Wait>(
     })
 }
 
-// What a session begins with: the devices of a base, which are out, and what gives them back; its board, and a looker for each
+// What a session begins with: the open devices of a base and what gives them back, its board, and a looker for each
 // reader.
 pub(crate) struct OpenSession<D: Disk> {
     pub(crate) shelf: Shelf,
@@ -54,7 +54,7 @@ pub(crate) struct OpenSession<D: Disk> {
     pub(crate) plant: OpenPlant<D>,
 }
 
-// Opens the devices of a base for a session with so many readers, each tag with room for so many takes.
+// Opens the devices of a base for a session with so many readers. Each tag gets room for the takes that `rooms` gives.
 pub(crate) fn open_session<S: Store, R: Wait>(
     rt: &R,
     alloc: Global,
@@ -66,7 +66,7 @@ pub(crate) fn open_session<S: Store, R: Wait>(
     requires good { IsGoodBase base.now }
     requires rooms { length rooms.now ≡ length base.now.tags.items }
 
-    // The devices are out, and what gives them back is there.
+    // The devices are open, and the result holds what gives them back.
     ensures opened { IfOk result (λ o. AreUnitsOpen S.Dev.trace S.Dev.ticks S.Dev.fault_count base.now (S.device_at store.old)
         o.plant.cells.items o.plant.books.items) }
     ensures defined { IfOk result (λ o. AreDefined base.now.groups.items o.plant.books.items) }
@@ -78,7 +78,8 @@ pub(crate) fn open_session<S: Store, R: Wait>(
     ensures lookers { IfOk result (λ o. vec_len o.lookers ≡ readers) }
     ensures looks { IfOk result (λ o. All (LooksAt (arc_value o.board)) o.lookers.items) }
 
-    // A refusal tells its first cause. No other device is changed, and no fault is counted where all are opened.
+    // A refusal reports its first cause. No device but those of the base's tags and groups is changed. If all devices
+    // open, no fault is counted.
     ensures refused { IfErr result (IsUnopened base.now (S.device_at store.old) (S.device_at store.new) (S.fault_count store.old)
         (S.fault_count store.new)) }
     ensures others { AreRestSame base.now (S.device_at store.old) (S.device_at store.new) }

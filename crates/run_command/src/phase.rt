@@ -31,8 +31,8 @@ use std::thread::Threads;
 use tag_cell::Cell;
 use trend_num::WantOfMemory;
 
-// Lets the workers of a phase work over cells and books that are open, beside each other, and does what they left undone. Without
-// memory no worker begins.
+// Runs the workers of a phase at the same time over cells and books that are open, then does what they left undone.
+// Without memory no worker begins.
 pub(crate) fn hold_phase<D: Disk + Send, P: Passes, R: Threads + Wait + Sync>(
     rt: &R,
     alloc: Global,
@@ -54,15 +54,15 @@ pub(crate) fn hold_phase<D: Disk + Send, P: Passes, R: Threads + Wait + Sync>(
     ensures books { vec_len result.books ≡ vec_len books }
     ensures notes { AreNotes D given.now.work (P.stops passes.old) (P.stops passes.new) result.notes.items }
 
-    // Where all is done.
+    // If all is done.
     ensures made { OnOk result.answer (AreStepsMade given.now result.cells.items result.books.items) }
     ensures pulled { OnOk result.answer (ArePulled (lists_of given.now.inputs.items) result.cells.items result.books.items) }
 
-    // Unless an opening is told to be another.
+    // Unless the answer reports that an opening has changed.
     ensures same_cells { (IsOfOpening result.answer → ⊥) → AllZip IsContinued cells.items result.cells.items }
     ensures same_books { (IsOfOpening result.answer → ⊥) → AllZip IsContinuedGroup books.items result.books.items }
 
-    // Why it is not done.
+    // Otherwise, why it is not done.
     ensures undone { IfErr result.answer (IsUndone given.now cells.items books.items result.cells.items result.books.items
         result.notes.items) }
 {
@@ -74,7 +74,7 @@ pub(crate) fn hold_phase<D: Disk + Send, P: Passes, R: Threads + Wait + Sync>(
     }
 }
 
-// A phase that no worker began, for want of memory.
+// Returns a phase in which no worker began, for want of memory.
 fn unready<D: Disk>(alloc: Global, cells: Vec<Cell<D>>, books: Vec<Book<D>>) -> EndedPhase<D>
     ensures cells { result.cells ≡ cells }
     ensures books { result.books ≡ books }
@@ -89,16 +89,16 @@ fn unready<D: Disk>(alloc: Global, cells: Vec<Cell<D>>, books: Vec<Book<D>>) -> 
     }
 }
 
-// A phase of a session at its end: its cells and books, what its workers noted, and how it went.
+// A phase of a session at its end: its cells and books, the notes of its workers, and how it ended.
 pub(crate) struct EndedPhase<D: Disk> {
     pub(crate) cells: Vec<Cell<D>>,
     pub(crate) books: Vec<Book<D>>,
-    /// None of them where no worker began.
+    /// Empty if no worker began.
     pub(crate) notes: Vec<WorkerNote>,
     pub(crate) answer: Result<(), Status>,
 }
 
-// Holds a phase over these cells and books, and brings it to its end.
+// Runs a phase over these cells and books, and settles it.
 pub(crate) fn hold<D: Disk + Send, P: Passes, R: Threads + Wait + Sync>(
     rt: &R,
     alloc: Global,
@@ -157,7 +157,7 @@ pub(crate) fn hold<D: Disk + Send, P: Passes, R: Threads + Wait + Sync>(
     }
 }
 
-// Only for the proof: the cells and books as slices. They are brought to their end.
+// Settles the cells and books. It exists only for the proof, which needs them as slices.
 fn settle_all<D: Disk, R: Wait>(
     rt: &R,
     alloc: Global,
@@ -194,7 +194,7 @@ fn settle_all<D: Disk, R: Wait>(
     )
 }
 
-// The notes of workers that began.
+// Returns the notes of the workers. There are none if no worker began.
 fn notes_in(alloc: Global, notes: Result<Vec<WorkerNote>, WantOfMemory>) -> Vec<WorkerNote>
     ensures { result.items ≡ notes_of notes }
 {
@@ -204,14 +204,14 @@ fn notes_in(alloc: Global, notes: Result<Vec<WorkerNote>, WantOfMemory>) -> Vec<
     }
 }
 
-// Copies of what cells and books were opened as, and room for them.
+// Copies of the openings of cells and books, and room for the cells and books.
 pub(crate) struct Ready<D: Disk> {
     pub(crate) tags: Vec<Kept>,
     pub(crate) groups: Vec<KeptGroup>,
     pub(crate) room: Room<D>,
 }
 
-// Makes that of these cells and books.
+// Makes the copies and the room for these cells and books.
 pub(crate) fn make_ready<D: Disk>(
     alloc: Global,
     cells: &[Cell<D>],
@@ -229,7 +229,7 @@ pub(crate) fn make_ready<D: Disk>(
     Ok(Ready { tags, groups, room })
 }
 
-// Room for so many cells and books.
+// Makes room for so many cells and books.
 fn room_for<D: Disk>(alloc: Global, cells: usize, books: usize) -> Result<Room<D>, WantOfMemory>
     ensures { IfOk result (HasRoomFor cells books) }
 {
@@ -250,7 +250,7 @@ fn room_for<D: Disk>(alloc: Global, cells: usize, books: usize) -> Result<Room<D
     })
 }
 
-// Two empty lists, each with room for so many items.
+// Returns two empty lists, each with room for so many items.
 fn two_lists<T, U>(alloc: Global, count: usize) -> Result<(Vec<T>, Vec<U>), WantOfMemory>
     ensures none { IfOk result (λ lists. lists.0.items ≡ []) }
     ensures none_of_the_other { IfOk result (λ lists. lists.1.items ≡ []) }
@@ -275,14 +275,14 @@ pub(crate) struct Room<D: Disk> {
     pub(crate) books: Vec<Book<D>>,
 }
 
-// What the workers of a session left, and what they noted; no note where no worker began.
+// What the workers of a session left, and their notes. There are no notes if no worker began.
 pub(crate) struct EndedWorkers<D: Disk> {
     pub(crate) cells: Vec<Cell<D>>,
     pub(crate) books: Vec<Book<D>>,
     pub(crate) notes: Result<Vec<WorkerNote>, WantOfMemory>,
 }
 
-// Runs the workers beside each other, over these cells and books, each under its lock.
+// Runs the workers at the same time over these cells and books, each under its lock.
 pub(crate) fn run_workers<D: Disk + Send, P: Passes, R: Threads + Wait + Sync>(
     rt: &R,
     alloc: Global,
@@ -336,7 +336,8 @@ pub(crate) fn run_workers<D: Disk + Send, P: Passes, R: Threads + Wait + Sync>(
     }
 }
 
-// Only for the proof: the cells as a slice, and the books as groups, under their locks.
+// Runs the workers. It exists only for the proof, which needs the cells as a slice and the books as groups, under their
+// locks.
 fn work_over<D: Disk + Send, P: Passes, R: Threads + Wait + Sync>(
     rt: &R,
     alloc: Global,

@@ -30,7 +30,7 @@ use std::sync::Wait;
 use std::thread::Threads;
 use tag_base::Base;
 
-/// What a run comes to: its report, or why there is none; and its session, if one was held.
+/// What a run comes to: its report, or why there is none; and its session, if there was one.
 #[derive(Drop)]
 pub struct Ran {
     pub answer: Result<String, Status>,
@@ -38,7 +38,7 @@ pub struct Ran {
 }
 
 impl Ran {
-    /// A run without a session, and why it has none.
+    /// Returns a run without a session, with the reason why it has none.
     pub fn refused(why: Status) -> Ran
         ensures answer { result.answer ≡ Err why }
         ensures none { result.session ≡ None }
@@ -50,9 +50,10 @@ impl Ran {
     }
 }
 
-/// Runs the plan in the file of the second name over the base in the file of the first: its collectors feed the tags, its
-/// readers ask, its refreshers bring the groups up to date, beside each other; what they left is made up, and reported. Every
-/// device is given back. A session is returned whenever the devices were opened, whatever came of it.
+/// Runs the plan in the file `plan_name` over the base in the file `name`. Collectors feed the tags, readers ask, and
+/// refreshers bring the groups up to date, all at the same time. Then the session does what they left undone, and makes
+/// the report. It gives every device back. Returns a session whenever the devices were opened, even if the answer is an
+/// error.
 pub fn run_plan<F: Files, S: Store, P: Passes, R: Threads + Wait + Sync>(
     rt: &R,
     alloc: Global,
@@ -73,7 +74,8 @@ pub fn run_plan<F: Files, S: Store, P: Passes, R: Threads + Wait + Sync>(
     ensures understood { IfErr result.answer (λ why. why ≢ Status.BadWords) }
     ensures stays { F.told files.new ≡ F.told files.old }
 
-    // One fault of the files is counted where a read has failed, and else none; and whose read that was.
+    // If a read has failed, one fault of the files is counted, and otherwise none. The last clause names the file whose
+    // read failed.
     ensures file_faults { result.session ≡ None → F.fault_count files.new ≡ faults_after result.answer (F.fault_count files.old) }
     ensures no_file_fault { IsSome result.session → F.fault_count files.new ≡ F.fault_count files.old }
     ensures whose { result.session ≡ None → IfErr result.answer (IsFaultOfPlanned name.now plan_name.now (F.told files.old)
@@ -85,7 +87,7 @@ pub fn run_plan<F: Files, S: Store, P: Passes, R: Threads + Wait + Sync>(
     }
 }
 
-// Makes the work of what was read of the files, and runs it.
+// Makes the work from what was read of the files, and runs it.
 fn run_read<S: Store, P: Passes, R: Threads + Wait + Sync>(
     rt: &R,
     alloc: Global,
@@ -118,7 +120,7 @@ fn run_read<S: Store, P: Passes, R: Threads + Wait + Sync>(
     }
 }
 
-// Opens the devices of a base, and holds the session of this work over them.
+// Opens the devices of a base, and runs the session of this work over them.
 fn run_given<S: Store, P: Passes, R: Threads + Wait + Sync>(
     rt: &R,
     alloc: Global,
@@ -151,7 +153,7 @@ fn run_given<S: Store, P: Passes, R: Threads + Wait + Sync>(
     }
 }
 
-// Holds the session of a plant that is open, and gives its devices back.
+// Runs the session of a plant that is open, and gives its devices back.
 fn hold_open<S: Store, P: Passes, R: Threads + Wait + Sync>(
     rt: &R,
     alloc: Global,

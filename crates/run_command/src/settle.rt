@@ -1,4 +1,4 @@
-// A session whose workers have ended is brought to its end.
+// The end of a phase: after its workers have ended, what they left undone is done.
 ghost use Rattle.calc_refresh.specs.Lists.{lists_of};
 ghost use Rattle.collector_pool.specs.declared.note.Ending.TheVariants.{Halted, WantOfMemory as NoMemory};
 ghost use Rattle.run_command.specs.Endings.{IsStop};
@@ -29,7 +29,7 @@ use std::sync::ledger::{Blank, Ledger};
 use tag_cell::Cell;
 use trend_num::{Steps, WantOfMemory};
 
-// Compares the cells and books with what was kept of their openings, and then brings them to what their workers had to do.
+// Compares the cells and books with the copies of their openings, then does what the workers left undone.
 pub(crate) fn settle<D: Disk, R: Wait>(
     rt: &R,
     alloc: Global,
@@ -62,7 +62,7 @@ pub(crate) fn settle<D: Disk, R: Wait>(
     }
 }
 
-// The same of cells and books that are as was kept of them.
+// Does what the workers left undone on cells and books whose openings agree with the copies.
 fn complete_all<D: Disk, R: Wait>(
     rt: &R,
     alloc: Global,
@@ -103,8 +103,8 @@ fn complete_all<D: Disk, R: Wait>(
     )
 }
 
-// Brings the cells and books to what their workers had to do: compares what the tapes have with it, and does what they lack. It
-// takes no worker's word but that its pass stopped it, or that it found no memory. Steps are counted on the ledger of the blank.
+// Compares the tapes of the cells and books with the work, then does what they lack. Of a worker's note it uses only
+// that its pass stopped it, or that it found no memory. Steps are counted on the ledger of the blank.
 fn complete<L: Ledger, D: Disk, R: Wait>(
     rt: &R,
     alloc: Global,
@@ -140,7 +140,7 @@ fn complete<L: Ledger, D: Disk, R: Wait>(
     compare_pulls(cells, books, &given.inputs)
 }
 
-// Finds the work of the workers on the tapes.
+// Finds the rows of the workers on the tapes.
 fn find_all<D: Disk>(
     cells: &[Cell<D>],
     books: &[Book<D>],
@@ -202,7 +202,7 @@ fn make_up<D: Disk, R: Wait, L: Ledger>(
     refresh_missing(alloc, cells, books, inputs, turns, steps)
 }
 
-// Looks whether the pass of no worker stopped it, and then whether none found no memory. The first that was stopped is told.
+// Checks that no worker was stopped by its pass, then that none found no memory. Reports the first that was stopped.
 fn check_endings(notes: &[WorkerNote]) -> Result<(), Status>
     ensures none_halted { OnOk result (All (λ n. n.ending ≢ Halted) notes.now) }
     ensures all_found { OnOk result (All (λ n. n.ending ≢ NoMemory) notes.now) }
@@ -219,7 +219,7 @@ fn check_endings(notes: &[WorkerNote]) -> Result<(), Status>
     Ok(())
 }
 
-// Whether a worker found no memory.
+// Returns whether a worker found no memory.
 fn any_wanted(notes: &[WorkerNote]) -> bool
     ensures { MatchBool result (Any (λ n. n.ending ≡ NoMemory) notes.now) (All (λ n. n.ending ≢ NoMemory) notes.now) }
 {

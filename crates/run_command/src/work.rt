@@ -1,4 +1,4 @@
-// What a session is held against, of the base and the plan of a plant and of the rows of their files.
+// What a session is compared with: the base and the plan of a plant, and the rows of their files.
 ghost use Rattle.calc_refresh.specs.Lists.{lists_of};
 ghost use Rattle.run_command.specs.Steps.{AreGivenFor, planned_turn, turn_of};
 ghost use Rattle.std.specs.Prelude.{IfOk, OnOk, length, map, slice_index, ℕ, ◌+◌, ◌<◌, ◌^◌, ◌≡◌};
@@ -10,24 +10,25 @@ use tag_base::{Base, GroupDef, Refresher};
 use trend_num::WantOfMemory;
 use value_rows::{Query, RawRow};
 
-// The work of a session's workers, and how much of it is of each tag and of each group.
+// The work of a session's workers, with counts for each tag and each group.
 #[derive(Drop)]
 pub(crate) struct Given {
     pub(crate) work: Work,
-    /// How many rows of the collectors are of each tag.
+    /// How many rows of the collectors each tag has.
     pub(crate) rooms: Vec<u32>,
-    /// How many phases of the session were before: at the end of each, every group was refreshed once.
+    /// How many phases the session had before. At the end of each, every group was refreshed once.
     pub(crate) phases: u32,
-    /// How many refreshes each group has before its last one: those of the phases before, and the turns of its refreshers.
+    /// How many refreshes each group has before its last one: one for each phase before, and the turns of its
+    /// refreshers.
     pub(crate) turns: Vec<u32>,
     /// The tags of each group's inputs.
     pub(crate) inputs: Vec<Vec<u32>>,
 }
 
-// The work of a phase of a session over a base, whose collectors take these rows, whose readers ask these queries, and whose
-// refreshers make these turns. There were so many phases before, in which each collector took so many of its rows. Work of other
-// tags or groups, of collectors that have fewer rows, or of more than 2^32 - 1 workers, and more than 2^32 - 2 turns of one group
-// are told as memory that is not there.
+// Returns the work of a phase over a base: the collectors' rows, the readers' queries and the refreshers' turns.
+// `phases` phases came before, in which each collector took the first `earlier` of its rows. Answers want of memory
+// also in these cases: the work names other tags or groups, a collector has fewer than `earlier` rows, there are more
+// than 2^32 - 1 workers, or a group has more than 2^32 - 2 turns.
 pub(crate) fn given_of(
     alloc: Global,
     base: &Base,
@@ -68,7 +69,7 @@ pub(crate) fn given_of(
     })
 }
 
-// The turns of refreshers.
+// Returns the turns of the refreshers.
 fn refreshers_of(alloc: Global, refreshers: &[Refresher]) -> Result<Vec<Refresh>, WantOfMemory>
     ensures { IfOk result (λ list. map turn_of list.items ≡ map planned_turn refreshers.now) }
 {
@@ -80,7 +81,8 @@ fn refreshers_of(alloc: Global, refreshers: &[Refresher]) -> Result<Vec<Refresh>
     Ok(list)
 }
 
-// Adds the last refreshes of so many phases to the turns of each group, if one more of each has a number too.
+// Adds the last refreshes of so many phases to the turns of each group. Answers want of memory if the sum of a group is
+// over 2^32 - 2.
 fn add_phases(turns: &mut [u32], phases: u32) -> Result<(), WantOfMemory>
     ensures as_many { length turns.new ≡ length turns.old }
     ensures added { OnOk result ((i : ℕ) → i < length turns.old
@@ -96,7 +98,7 @@ fn add_phases(turns: &mut [u32], phases: u32) -> Result<(), WantOfMemory>
     Ok(())
 }
 
-// The tags of each group's inputs.
+// Returns the tags of each group's inputs.
 fn inputs_of(alloc: Global, groups: &[GroupDef]) -> Result<Vec<Vec<u32>>, WantOfMemory>
     ensures { IfOk result (λ list. lists_of list.items ≡ map (λ d. d.inputs.items) groups.now) }
 {
@@ -107,7 +109,7 @@ fn inputs_of(alloc: Global, groups: &[GroupDef]) -> Result<Vec<Vec<u32>>, WantOf
     Ok(list)
 }
 
-// The same tags again.
+// Returns a copy of the tags.
 fn tags_of(alloc: Global, tags: &[u32]) -> Result<Vec<u32>, WantOfMemory>
     ensures { IfOk result (λ list. list.items ≡ tags.now) }
 {

@@ -1,4 +1,4 @@
--- Numbers that entries of a tape tell, gone over from the front.
+-- The numbers that entries of a tape have, gone over from the front.
 use Rattle.std.proofs.Common.{◌≡◌, ◌≢◌, ℕ, ◌+◌, ◌<◌, List, length, take, drop, get_or, Option, None, Some, refl, sym, subst, ◌∙◌}
 use Rattle.std.specs.Prelude.{slice_get}
 use Rattle.std.specs.Option.{option_map}
@@ -15,7 +15,7 @@ use Rattle.session_audit.proofs.PullNumbers.{apart_at, first_none, first_some, r
 abbrev pub number_of : Option Found → Option ℕ
 number_of o = option_map (λ f. f.number) o
 
--- it is what stands next in the list of all of them
+-- it is the next one in the list of all of them
 next_is : {E : Type 0} (numbers : List E → List ℕ) (tape : List E) (from n : ℕ) (all : List ℕ) (o : Option Found)
     → drop n all ≡ numbers (drop from tape) → IsNextOf numbers tape from o → number_of o ≡ slice_get all n
 next_is numbers tape from n all None same next = sym (first_none all n (same ∙ next))
@@ -54,7 +54,7 @@ same_end ends tape versions turns at of n None None kept told before next_kept n
 same_end ends tape versions turns at of n (Some f) refresh kept told before next_kept next_told none also = absurd (cc)
 same_end ends tape versions turns at of n None (Some f) kept told before next_kept next_told none also = absurd (cc)
 
--- behind one
+-- after one of them
 pub drop_next : {E : Type 0} (numbers : List E → List ℕ) (tape : List E) (from n : ℕ) (all : List ℕ) (f : Found)
     → drop n all ≡ numbers (drop from tape) → IsNextOf numbers tape from (Some f) → drop (n + 1) all ≡ numbers (drop f.past tape)
 drop_next numbers tape from n all f same next = rest_more all n f.number (numbers (drop f.past tape)) (same ∙ next.0)

@@ -29,7 +29,7 @@ each_set R joined first now at c d within step before = record {
   ];
 }
 
--- what stands in the same places of two lists is related up to a place, and so it is in that one
+-- the elements in the same places of two lists are related up to a place, and so are those in that one
 pub paired_next : {C K : Type 0} (R : C → K → Type 0) (xs : List C) (ks : List K) (at : ℕ) (x : C) (k : K) → at < length xs
     → length ks ≡ length xs → x ≡ get_or xs at x → k ≡ get_or ks at k
     → ((i : ℕ) (d : C) (e : K) → i < at → R (get_or xs i d) (get_or ks i e)) → R x k

@@ -1,4 +1,4 @@
--- The tapes of units, gone over one after another. `tape_of` tells the tape of a unit.
+-- The tapes of units, gone over one after another. `tape_of` has the tape of a unit.
 use Rattle.std.proofs.Common.{◌≡◌, ◌≢◌, ℕ, ◌+◌, ◌<◌, ◌≤◌, inl, inr, List, [], All, length, get_or, take, Option, Some, refl, sym, ap, subst, ◌∙◌, arith}
 use Rattle.std.specs.Prelude.{slice_get, option_and_then}
 use Rattle.std.specs.Option.{unwrap_or}
@@ -17,7 +17,7 @@ use Rattle.session_audit.specs.Workers.{AreOver, AreTapesFound}
 use Rattle.session_audit.specs.Starting.{AreUnfound}
 use Rattle.session_audit.specs.Finding.{AreSameRows, IsMismatchAt}
 
--- the tapes of the first tags were gone over, and those behind were not
+-- the tapes of the first tags were gone over, and those after them were not
 pub record AreFoundTo {C E : Type 0} (tape_of : C → List E) (work : E → Option Shown) (upto : ℕ) (cells : List C)
     (first now : List Reached) : Type 0 where
   pub same : AreSameRows first now

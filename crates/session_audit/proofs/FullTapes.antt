@@ -1,4 +1,4 @@
--- Rows that are not taken: a full tape that is told is one that lacks a row, so the two numbers are not the same.
+-- Rows that are not taken: a full tape that is reported lacks a row, so the two numbers are not the same.
 use Rattle.std.proofs.Common.{◌≡◌, ℕ, ◌<◌, List, length, get_or, IsSome, sym, ap, subst, ◌∙◌, arith}
 use Rattle.std.specs.Prelude.{slice_index}
 use Rattle.std.proofs.lemmas.Option.{get_or_from_slice_get, slice_get_within}

@@ -11,7 +11,7 @@ use Rattle.session_audit.specs.declared.book_opening.KeptGroup.{KeptGroup}
 use Rattle.session_audit.specs.BookOpenings.{DifferSo, IsBookAsKept, IsDefinedSo, IsBookDifference, IsSameOpening, items_of, windows_of}
 use Rattle.session_audit.specs.BookOpenings.IsBookDifference.{OfOpening}
 
--- the two numbers at the end, and what stands before them
+-- the two numbers at the end, and what comes before them
 ends_same : (xs ys : List ℕ) (a b c d : ℕ) → xs ++ a ∷ b ∷ [] ≡ ys ++ c ∷ d ∷ [] → (xs ≡ ys) × (b ≡ d)
 ends_same [] [] a b c d is = (refl, cc)
 ends_same [] (y ∷ ys) a b c d is =

@@ -9,7 +9,7 @@ use Rattle.session_audit.specs.Found.{AreLinked, IsChained}
 
 -- ---- the next row of a unit
 
--- behind all rows none is due
+-- after all rows none is due
 next_at_end : (unit : ℕ) (items : List (Option Item)) → IsNext unit items (length items) (length items)
 next_at_end unit items = record {
   order = omega arith;
@@ -94,7 +94,7 @@ linked_more items next at place item there within room known behind = record {
   ];
 }
 
--- where no unit has a row behind, each begins at the end
+-- after all rows, each unit begins at the end
 pub linked_none : (items : List (Option Item)) (next at : List ℕ) (units : ℕ) → at ≡ replicate units (length items)
     → AreLinked items next at (length items)
 linked_none items next at units is = record {

@@ -22,7 +22,7 @@ numbered_at f n (x ∷ rest) (suc i) a b within =
     let number : i + (n + 1) ≡ suc i + n = omega arith in
     numbered_at f (n + 1) rest i a b (omega arith) ∙ ap (λ k. f k (get_or rest i a)) number
 
--- the number of a row in its phase: the first ones keep theirs, and those behind them are numbered again
+-- the number of a row in its phase: the first ones keep theirs, and those after them are numbered again
 pub number_first : (earlier row : ℕ) → row ≤ earlier → number_in earlier row ≡ row
 number_first zero row upto = refl
 number_first (suc earlier) row upto = rw (within upto) refl

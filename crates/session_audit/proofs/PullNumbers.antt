@@ -71,7 +71,7 @@ first_none [] n is = slice_get_past [] n (omega arith)
 first_none (y ∷ l) zero is = absurd (cc)
 first_none (y ∷ l) (suc n) is = first_none l n is
 
--- behind the first of the rest
+-- after the first of the rest
 pub rest_more : {A : Type 0} (l : List A) (n : ℕ) (x : A) (rest : List A) → drop n l ≡ x ∷ rest → drop (n + 1) l ≡ rest
 rest_more [] zero x rest is = absurd (cc)
 rest_more [] (suc n) x rest is = absurd (cc)

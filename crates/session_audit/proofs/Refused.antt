@@ -28,7 +28,7 @@ so_at P cells tag d within so = record {
   so = so;
 }
 
--- what the status of a refused row tells
+-- what the status of a refused row reports
 pub take_refused : {D : Type 0} (rooms : List ℕ) (cells : List (ToldCell D)) (tag : ℕ) (d : ToldCell D) (why : TakeNo)
     → tag < length cells → take_refusal (get_or cells tag d) ≡ Some why
     → IsTakeRefusal rooms cells (take_status tag (get_or rooms tag 0) why)

@@ -15,7 +15,7 @@ use Rattle.session_audit.proofs.Numbers.{length-numbered}
 use Rattle.session_audit.proofs.Walking.{all_further, all_further_step, followed_here, found_beside, found_step}
 use Rattle.session_audit.specs.Workers.{AreOthersSame, AreTapesFound, IsCaughtTo, IsOver}
 
--- a unit has one entry more on its tape, which `tape_of` tells
+-- a unit has one entry more on its tape; `tape_of` has the tape
 pub record HasEntry {C E : Type 0} (tape_of : C → List E) (tag : ℕ) (e : E) (old new : List C) : Type 0 where
   pub before : C
   pub after : C

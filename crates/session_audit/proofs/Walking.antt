@@ -71,7 +71,7 @@ found_more unit old new seen step is known =
     ∙ (due_one unit old.items at within
     ∙ ap (λ l. due unit (take at old.items) ++ l) (due_some unit (get_or old.items at None) seen is)))
 
--- what stands next behind all that was found of a unit is the row that is due there
+-- the next row after all that was found of a unit is the row that is due there
 first_shown : (unit : ℕ) (x : Option Item) (rest : List (Option Item)) (o : Option Seen) → seen_at unit x ≡ o → IsSome o
     → slice_get (due unit (x ∷ rest)) 0 ≡ o
 first_shown unit x rest None is some = absurd (false≢true some)

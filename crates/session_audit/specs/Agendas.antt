@@ -1,4 +1,4 @@
--- What the rows of a worker leave on tapes, and which of them are due where.
+-- What the rows of a worker leave on tapes, and where they are due.
 use Rattle.std.specs.Prelude.{◌≡◌, ℕ, zero, suc, ◌+◌, ◌-◌, ◌<◌, ◌≤◌, List, [], ◌∷◌, length, filter_map, slice_index_or, Option, None, Some, IsSome, nat_eq, nat_le, if◌then◌else◌}
 use Rattle.value_rows.specs.declared.asked.Query.{Query}
 use Rattle.value_rows.specs.declared.asked.Query.TheVariants as query
@@ -12,7 +12,7 @@ use Rattle.session_audit.specs.declared.agenda.Rows.TheVariants.{Takes, Asks, Ro
 
 -- ---- rows
 
--- what f makes of each element and its number, where the first one has this number
+-- f applied to each element and its number; the first one has this number
 abbrev pub numbered : {A B : Type 0} → (ℕ → A → B) → ℕ → List A → List B
 numbered f n [] = []
 numbered f n (a ∷ rest) = f n a ∷ numbered f (n + 1) rest
@@ -21,13 +21,13 @@ numbered f n (a ∷ rest) = f n a ∷ numbered f (n + 1) rest
 abbrev pub take_item : ℕ → ℕ → RawRow → Option Item
 take_item collector row value = Some (record { unit = value.tag; seen = Take collector row value.point })
 
--- the number of a row in its phase, where the first rows, so many, are those of an earlier phase: the rows behind them are numbered
--- from 1 again
+-- the number of a row in its phase, if the first n rows are those of an earlier phase: the rows after them count from 1
+-- again
 abbrev pub number_in : ℕ → ℕ → ℕ
 number_in zero row = row
 number_in (suc earlier) row = if nat_le row (suc earlier) then row else row - suc earlier
 
--- the row of a collector that has taken so many in an earlier phase
+-- the row of a collector that has taken so many rows in an earlier phase
 abbrev pub phase_item : ℕ → ℕ → ℕ → RawRow → Option Item
 phase_item earlier collector row value = take_item collector (number_in earlier row) value
 
@@ -41,7 +41,7 @@ abbrev pub row_item : ℕ → ℕ → Query → Option Item
 row_item reader row (query.Row group calc k) = Some (record { unit = group; seen = Row reader row calc k })
 row_item reader row other = None
 
--- the rows of a worker. They are numbered from 1, in each phase
+-- the rows of a worker; they count from 1 in each phase
 abbrev pub items_in : ℕ → Rows → List (Option Item)
 items_in worker (Takes rows earlier) = numbered (phase_item earlier worker) 1 rows.now
 items_in worker (Asks queries) = numbered (ask_item worker) 1 queries.now
@@ -65,7 +65,7 @@ due unit items = filter_map (seen_at unit) items
 abbrev pub due_at : ℕ → List (Option Item) → ℕ → Option Seen
 due_at unit items place = seen_at unit (slice_index_or items place None)
 
--- the first place from one on at which a row is due at a unit, or the number of rows where there is none
+-- the first place, from one on, at which a row is due at a unit, or the number of rows if there is none
 pub record IsNext (unit : ℕ) (items : List (Option Item)) (from to : ℕ) : Type 0 where
   pub order : from ≤ to
   pub within : to ≤ length items

@@ -1,4 +1,4 @@
--- What is kept of a group as it was opened, and where its book differs from that.
+-- The copy of a group's opening, and where its book differs from the copy.
 use Rattle.std.specs.Prelude.{◌≡◌, ◌↔◌, ℕ, ◌<◌, Bool, true, List, [], ◌∷◌, ◌++◌, length, slice_get, slice_index_or, Some}
 use Rattle.std.specs.List.{count_by}
 use Rattle.trend_num.specs.declared.value.CalcValue.{CalcValue}
@@ -13,7 +13,7 @@ use Rattle.session_audit.specs.declared.book_opening.KeptGroup.{KeptGroup}
 use Rattle.session_audit.specs.OpeningNumbers.{AreApart}
 use Rattle.session_audit.specs.Openings.{IsOpeningMismatch}
 
--- of a book its group, its definition and its text are kept, and what it was opened as
+-- the copy has a book's group, definition and text, and its opening
 pub record IsBookCopied {D : Type 0} (b : ToldBook D) (k : KeptGroup) : Type 0 where
   pub group : k.group ≡ b.group
   pub def : k.def ≡ b.def
@@ -25,20 +25,20 @@ pub record IsBookCopied {D : Type 0} (b : ToldBook D) (k : KeptGroup) : Type 0 w
 
 -- ---- the same
 
--- it was opened so: the same versions and rows, at the same moment, after as many faults
+-- the openings are the same: the same versions and rows, at the same moment, after as many faults
 pub record IsSameOpening (o known : GroupOpening) : Type 0 where
   pub versions : o.versions.items ≡ known.versions.items
   pub rows : lists_of o.rows.items ≡ lists_of known.rows.items
   pub moment : o.moment ≡ known.moment
   pub faults : o.faults ≡ known.faults
 
--- a book is of the group, the definition and the text that were kept
+-- a book has the group, the definition and the text of the copy
 pub record IsDefinedSo {D : Type 0} (b : ToldBook D) (k : KeptGroup) : Type 0 where
   pub group : b.group ≡ k.group
   pub def : b.def ≡ k.def
   pub text : b.text ≡ k.text.items
 
--- and was opened so
+-- the book has the definition and the opening of the copy
 pub record IsBookAsKept {D : Type 0} (b : ToldBook D) (k : KeptGroup) : Type 0 where
   pub defined : IsDefinedSo b k
   pub opened : IsSameOpening b.opening k.opening
@@ -55,17 +55,17 @@ pub record ArePartsOf {D : Type 0} (b : ToldBook D) (k : KeptGroup) (marks : Lis
   pub calcs : (slice_get marks 4 ≡ Some true) ↔ (b.def.calcs ≡ k.def.calcs)
   pub text : (slice_get marks 5 ≡ Some true) ↔ (b.text ≡ k.text.items)
 
--- how many windows rows have
+-- how many windows the rows have
 abbrev pub windows_of : List (List CalcValue) → ℕ
 windows_of rows = length (slice_index_or rows 0 [])
 
--- the numbers of an opening: the faults, the moment, each version, the windows, and how many rows there are
+-- the numbers of an opening: the faults, the moment, each version, the windows, and the number of rows
 abbrev pub items_of : GroupOpening → List ℕ
 items_of o =
     let rows = lists_of o.rows.items in
     o.faults ∷ o.moment ∷ o.versions.items ++ windows_of rows ∷ length rows ∷ []
 
--- of the first places of two lists, each marked if both have the same there, so many are marked
+-- how many of the first places of two lists have the same in both; each such place is marked
 pub record AgreeIn {A : Type 0} (places : ℕ) (found known : List A) (n : ℕ) : Type 0 where
   pub marks : List Bool
   pub as_many : length marks ≡ places
@@ -74,7 +74,7 @@ pub record AgreeIn {A : Type 0} (places : ℕ) (found known : List A) (n : ℕ) 
 
 -- ---- the first difference
 
--- fewer parts of the definition than six are marked
+-- fewer than six parts of the definition are the same
 pub record PartsDiffer {D : Type 0} (b : ToldBook D) (k : KeptGroup) (kept told : Seen) : Type 0 where
   pub marks : List Bool
   pub parts : ArePartsOf b k marks
@@ -82,7 +82,7 @@ pub record PartsDiffer {D : Type 0} (b : ToldBook D) (k : KeptGroup) (kept told 
   pub kept_is : kept ≡ Number (count_by (λ m. m) marks)
   pub told_is : told ≡ Number 6
 
--- fewer rows than are known are the same
+-- fewer rows are the same than the copy has
 pub record RowsDiffer (found known : List (List CalcValue)) (kept told : Seen) : Type 0 where
   pub same : ℕ
   pub agree : AgreeIn (length known) found known same
@@ -90,17 +90,17 @@ pub record RowsDiffer (found known : List (List CalcValue)) (kept told : Seen) :
   pub kept_is : kept ≡ Number same
   pub told_is : told ≡ Number (length known)
 
--- two openings differ: first in a number, or else in the rows
+-- two openings differ: first in a number, otherwise in the rows
 pub data DifferSo (o known : GroupOpening) (kept told : Seen) : Type 0 where
   InNumber : (place : ℕ) → AreApart place (items_of o) (items_of known) kept told → DifferSo o known kept told
   InRows : items_of o ≡ items_of known → RowsDiffer (lists_of o.rows.items) (lists_of known.rows.items) kept told
       → DifferSo o known kept told
 
--- a book differs from what was kept of it: first in its definition, or else in its opening
+-- a book differs from its copy: first in its definition, otherwise in its opening
 pub data IsBookDifference {D : Type 0} (b : ToldBook D) (k : KeptGroup) (kept told : Seen) : Type 0 where
   OfDefinition : PartsDiffer b k kept told → IsBookDifference b k kept told
   OfOpening : IsDefinedSo b k → DifferSo b.opening k.opening kept told → IsBookDifference b k kept told
 
--- the book of a group differs from what was kept of it
+-- the book of a group differs from its copy
 abbrev pub IsGroupMismatch : {D : Type 0} → List (ToldBook D) → List KeptGroup → Status → Type 0
 IsGroupMismatch books known why = IsOpeningMismatch Group IsBookDifference books known why

@@ -16,44 +16,44 @@ use Rattle.group_book.specs.declared.refusal.SaveNo.TheVariants as save
 use Rattle.group_book.specs.InputLists.{IsListsRefusal, lists_at}
 use Rattle.group_book.specs.Told.{ToldBook as Book}
 
--- what a refused pull of an input is answered with
+-- the refusal of a refresh whose pull of an input was refused
 abbrev pub pull_refusal : ℕ → PullNo → RefreshNo
 pull_refusal input (pull.Ahead from acked) = Ahead input from acked
 pull_refusal input pull.WantOfMemory = WantOfMemory
 
--- what a refused refresh of a group is answered with
+-- the status of a refused refresh of a group
 abbrev pub refresh_status : ℕ → RefreshNo → Status
 refresh_status group (Ahead input version records) = status.Mismatch (Version group input) (Number records) (Number version)
 refresh_status group (CellLimit cells) = status.Limit Cells cells
 refresh_status group (CopyLimit records) = status.Limit Copies records
 refresh_status group WantOfMemory = status.WantOfMemory
 
--- what a refused save of a group is answered with
+-- the status of a refused save of a group
 abbrev pub save_status : ℕ → SaveNo → Status
 save_status group save.Broken = status.DeviceFault (Group group)
 save_status group save.DeviceFault = status.DeviceFault (Group group)
 save_status group save.WantOfMemory = status.WantOfMemory
 
--- a save is refused: the group's device has failed, or memory is wanting
+-- why a save is refused: the group's device has failed, or memory is wanting
 abbrev pub IsSaveCause : {D : Type 0} → Book D → SaveNo → Type 0
 IsSaveCause book save.Broken = book.failed ≡ true
 IsSaveCause book save.DeviceFault = book.failed ≡ true
 IsSaveCause book save.WantOfMemory = ⊤
 
--- a refused save of this group is answered
+-- the status is that of a refused save of this group
 pub record IsSaveRefusal {D : Type 0} (group : ℕ) (book : Book D) (s : Status) : Type 0 where
   pub why : SaveNo
   pub cause : IsSaveCause book why
   pub told : s ≡ save_status group why
 
--- a refused refresh of this group is answered, or a refused save
+-- the status is that of a refused refresh of this group, or of a refused save
 pub data IsBookRefusal {D : Type 0} (durables : List (List Rec)) (tags : List ℕ) (group : ℕ) (book : Book D) (s : Status)
     : Type 0 where
   OfRefresh : (why : RefreshNo) → IsListsRefusal (lists_at durables tags) book why → s ≡ refresh_status group why
       → IsBookRefusal durables tags group book s
   OfSave : IsSaveRefusal group book s → IsBookRefusal durables tags group book s
 
--- of one group
+-- the refusal is that of one group
 pub record IsRefreshRefusal {D : Type 0} (durables : List (List Rec)) (inputs : List (List ℕ)) (books : List (Book D))
     (s : Status) : Type 0 where
   pub group : ℕ

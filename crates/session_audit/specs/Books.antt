@@ -6,11 +6,11 @@ use Rattle.group_book.specs.declared.turn.Turn.{Turn}
 use Rattle.group_book.specs.declared.turn.Turn.TheVariants.{Ask}
 use Rattle.group_book.specs.Told.{ToldBook}
 
--- the tape of one
+-- the tape of a book
 abbrev pub book_tape : {D : Type 0} → ToldBook D → List Turn
 book_tape b = b.tape
 
--- a question for a value of one of so many groups, if it is for one
+-- a question for a value is about one of so many groups; any other question passes
 abbrev pub IsKnownRowAsk : ℕ → Query → Type 0
 IsKnownRowAsk groups (query.Row group calc k) = group < groups
 IsKnownRowAsk groups other = ⊤
@@ -22,18 +22,18 @@ abbrev pub IsAsk : Turn → Type 0
 IsAsk (Ask reader row calc k reply) = ⊤
 IsAsk other = ⊥
 
--- a turn that is none
+-- a turn that is no question
 abbrev pub IsNoAsk : Turn → Type 0
 IsNoAsk (Ask reader row calc k reply) = ⊥
 IsNoAsk other = ⊤
 
--- the tape is longer by questions, and nothing else has changed
+-- the tape has gained questions, and nothing else has changed
 pub record IsAskedMore {D : Type 0} (old new : ToldBook D) : Type 0 where
   pub more : List Turn
   pub each : All IsAsk more
   pub changed : new ≡ record old { tape = old.tape ++ more }
 
--- the tape is longer by turns that are no questions; the group and its definition, the tags and the opening stay
+-- the tape has gained turns that are no questions; the group, its definition, its tags and its opening stay
 pub record IsRefreshedMore {D : Type 0} (old new : ToldBook D) : Type 0 where
   pub more : List Turn
   pub each : All IsNoAsk more

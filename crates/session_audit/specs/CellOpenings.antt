@@ -1,4 +1,4 @@
--- What is kept of a cell as it was opened, and where it differs from that.
+-- The copy of a cell's opening, and where the cell differs from it.
 use Rattle.std.specs.Prelude.{◌≡◌, ◌≢◌, ℕ, ◌<◌, List, [], ◌∷◌, length, take, slice_get, Some, ⊤}
 use Rattle.trend_num.specs.declared.archive.Rec.{Rec}
 use Rattle.trend_num.specs.declared.tag_def.TagDef.{TagDef}
@@ -11,7 +11,7 @@ use Rattle.tag_cell.specs.Told.{ToldCell}
 use Rattle.session_audit.specs.declared.cell_opening.Kept.{Kept}
 use Rattle.session_audit.specs.Openings.{IsOpeningMismatch}
 
--- its definition is kept, and what it was opened as
+-- the copy has a cell's definition and its opening
 pub record IsCellCopied {D : Type 0} (c : ToldCell D) (k : Kept) : Type 0 where
   pub def : k.def ≡ c.def
   pub summary : k.opening.summary ≡ c.opening.summary
@@ -19,7 +19,7 @@ pub record IsCellCopied {D : Type 0} (c : ToldCell D) (k : Kept) : Type 0 where
   pub moment : k.opening.moment ≡ c.opening.moment
   pub faults : k.opening.faults ≡ c.opening.faults
 
--- it is of the definition that was kept, and was opened so
+-- a cell has the definition and the opening of the copy
 pub record IsCellAsKept {D : Type 0} (c : ToldCell D) (k : Kept) : Type 0 where
   pub def : c.def ≡ k.def
   pub summary : c.opening.summary ≡ k.opening.summary
@@ -34,14 +34,14 @@ abbrev pub opening_items : TagDef → TagOpening → List Seen
 opening_items def o =
     Def def ∷ Number o.faults ∷ Number o.moment ∷ Summary o.summary ∷ Number (length o.recs.items) ∷ []
 
--- one of them
+-- an item that can be compared
 abbrev pub IsItem : Seen → Type 0
 IsItem (Def def) = ⊤
 IsItem (Number number) = ⊤
 IsItem (Summary summary) = ⊤
 IsItem other = ⊥
 
--- the first place at which lists of items differ, and what stands there
+-- the first place at which lists of items differ, and what each list has there
 pub record FirstDiffer (found known : List Seen) (kept told : Seen) : Type 0 where
   pub place : ℕ
   pub before : take place found ≡ take place known
@@ -49,7 +49,7 @@ pub record FirstDiffer (found known : List Seen) (kept told : Seen) : Type 0 whe
   pub told_is : slice_get known place ≡ Some told
   pub differ : kept ≢ told
 
--- so many records are the same, and then another one was found than the next that is known, or none
+-- so many records are the same; then another record was found than the next known one, or none
 pub record RecordsDiffer (found known : List Rec) (kept told : Seen) : Type 0 where
   pub same : ℕ
   pub prefix : take same found ≡ take same known
@@ -58,13 +58,13 @@ pub record RecordsDiffer (found known : List Rec) (kept told : Seen) : Type 0 wh
   pub told_is : told ≡ Number (length known)
   pub fewer : same < length known
 
--- the first item that differs, of the definition, the faults, the moment, the state and the number of records; or else the
--- records
+-- the first difference: of the definition, the faults, the moment, the state and the number of records; otherwise, of
+-- the records
 pub data IsCellDifference {D : Type 0} (c : ToldCell D) (k : Kept) (kept told : Seen) : Type 0 where
   OfItem : FirstDiffer (opening_items c.def c.opening) (opening_items k.def k.opening) kept told → IsCellDifference c k kept told
   OfRecords : opening_items c.def c.opening ≡ opening_items k.def k.opening
       → RecordsDiffer c.opening.recs.items k.opening.recs.items kept told → IsCellDifference c k kept told
 
--- the cell of a tag differs from what was kept of it
+-- the cell of a tag differs from its copy
 abbrev pub IsTagMismatch : {D : Type 0} → List (ToldCell D) → List Kept → Status → Type 0
 IsTagMismatch cells known why = IsOpeningMismatch Tag IsCellDifference cells known why

@@ -16,19 +16,19 @@ use Rattle.tag_cell.specs.declared.entry.TakeNo.TheVariants as take_no
 use Rattle.tag_cell.specs.Told.{ToldCell}
 use Rattle.tag_cell.specs.Tapes.{taken}
 
--- the cell of this tag is so
+-- the cell of this tag has this property
 pub record IsSo {D : Type 0} (cells : List (ToldCell D)) (tag : ℕ) (P : ToldCell D → Type 0) : Type 0 where
   pub cell : ToldCell D
   pub there : slice_get cells tag ≡ Some cell
   pub so : P cell
 
--- how many rows of files are of a tag
+-- how many rows of the files are of a tag
 abbrev pub tag_rows : ℕ → List (List RawRow) → ℕ
 tag_rows tag [] = 0
 tag_rows tag (rows ∷ files) = count_by (λ r. nat_eq r.tag tag) rows + tag_rows tag files
 
--- a row is not taken: the tag's device has failed; its tape has as many takes as it has room for, and the number of the tag's
--- rows is told beside; or it could have too many records
+-- why a row is not taken: the tag's device has failed; or its tape has as many takes as it has room for, and the status
+-- also has the number of the tag's rows; or the tag could have too many records
 abbrev pub IsTakeRefusal : {D : Type 0} → List ℕ → List (ToldCell D) → Status → Type 0
 IsTakeRefusal rooms cells (DeviceFault (Tag tag)) = IsSo cells tag (λ c. c.journal.failed ≡ true)
 IsTakeRefusal rooms cells (Mismatch (Takes tag) kept told) = IsSo cells tag (λ c.
@@ -37,24 +37,24 @@ IsTakeRefusal rooms cells (Limit Records number) = (tag : ℕ) × IsSo cells tag
     (number ≡ length c.state.records) × (most_records < number + 2))
 IsTakeRefusal rooms cells other = ⊥
 
--- where a difference is told, the two are not the same
+-- if a status reports a difference, the two values are not the same
 abbrev pub AreUnlike : Status → Type 0
 AreUnlike (Mismatch place kept told) = kept ≢ told
 AreUnlike other = ⊤
 
--- what a row of a tag that is refused is answered with; so many rows are of that tag
+-- the status of a refused row of a tag that has so many rows
 abbrev pub take_status : ℕ → ℕ → TakeNo → Status
 take_status tag rows take_no.Broken = DeviceFault (Tag tag)
 take_status tag rows (take_no.RoomFull room) = Mismatch (Takes tag) (Number room) (Number rows)
 take_status tag rows (take_no.Full records) = Limit Records records
 
--- a commit is refused: the tag's device has failed, or memory is wanting
+-- why a commit is refused: the tag's device has failed, or memory is wanting
 abbrev pub IsCellRefusal : {D : Type 0} → List (ToldCell D) → Status → Type 0
 IsCellRefusal cells (DeviceFault (Tag tag)) = IsSo cells tag (λ c. c.journal.failed ≡ true)
 IsCellRefusal cells WantOfMemory = ⊤
 IsCellRefusal cells other = ⊥
 
--- what a refused commit of a tag is answered with
+-- the status of a refused commit of a tag
 abbrev pub commit_status : ℕ → CommitNo → Status
 commit_status tag commit.Broken = DeviceFault (Tag tag)
 commit_status tag commit.DeviceFault = DeviceFault (Tag tag)

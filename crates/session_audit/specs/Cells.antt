@@ -28,7 +28,7 @@ IsCommitEntry other = ⊥
 
 -- ---- cells that have gained entries
 
--- the tape is longer by entries of a kind; the definition and the opening stay
+-- the tape has gained entries of a kind; the definition and the opening stay
 pub record IsLonger {D : Type 0} (IsOf : Entry → Type 0) (old new : ToldCell D) : Type 0 where
   pub more : List Entry
   pub each : All IsOf more
@@ -36,7 +36,7 @@ pub record IsLonger {D : Type 0} (IsOf : Entry → Type 0) (old new : ToldCell D
   pub same_def : new.def ≡ old.def
   pub same_opening : new.opening ≡ old.opening
 
--- so it is of each cell
+-- each cell has gained entries like that
 abbrev pub AreLonger : {D : Type 0} → (Entry → Type 0) → List (ToldCell D) → List (ToldCell D) → Type 0
 AreLonger IsOf old new = AreEach (IsLonger IsOf) old new
 
@@ -45,21 +45,21 @@ AreLonger IsOf old new = AreEach (IsLonger IsOf) old new
 abbrev pub cell_tape : {D : Type 0} → ToldCell D → List Entry
 cell_tape c = c.tape
 
--- how far the rows of workers stand is known of each tape
+-- the progress of each worker agrees with each tape
 abbrev pub AreAllFound : {D : Type 0} → (Entry → Option Shown) → List (ToldCell D) → List Reached → Type 0
 AreAllFound work cells works = AreTapesFound cell_tape work cells works
 
--- each tape shows of each worker all its rows that are due there, and of no other worker any
+-- each tape shows exactly the rows of each worker that are due there, and none of any other worker
 abbrev pub AreAllShown : {D A : Type 0} → (Entry → Option Shown) → (ℕ → ℕ → A → Option Item) → List (List A) → List (ToldCell D)
     → Type 0
 AreAllShown work item_of files cells = AreTapesWhole cell_tape work item_of files cells
 
--- a question of one of so many tags, if it is of a tag
+-- a question about a tag is about one of so many tags, with times in range; any other question passes
 abbrev pub IsKnownAsk : ℕ → Query → Type 0
 IsKnownAsk tags (query.Tag tag asked) = (tag < tags) × IsTagQuery asked
 IsKnownAsk tags other = ⊤
 
--- a question about a tag whose times are in range, or another one
+-- the times of a question about a tag are in range; any other question passes
 abbrev pub IsFitAsk : Query → Type 0
 IsFitAsk (query.Tag tag asked) = IsTagQuery asked
 IsFitAsk other = ⊤

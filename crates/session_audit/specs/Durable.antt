@@ -7,11 +7,11 @@ use Rattle.tag_cell.specs.declared.entry.Entry.TheVariants.{Pull}
 use Rattle.tag_cell.specs.declared.history.TagOpening.{TagOpening}
 use Rattle.tag_cell.specs.Tapes.{done, cell_start, state_after, cell_walked}
 
--- those of the opening and of the takes that a tape's commits acknowledge
+-- the records of the opening, and of the takes that a tape's commits acknowledge
 abbrev pub durable_in : TagDef → TagOpening → List Entry → List Rec
 durable_in def o tape = (state_after def.step o (done o (cell_walked (cell_start o) tape))).records
 
--- each pull of a group on a tape ended where the records end that were durable then: those of the entries before it
+-- each pull of a group on a tape ended at the end of the records that were durable then, by the entries before it
 abbrev pub ArePullsDurable : TagDef → TagOpening → List Entry → Type 0
 ArePullsDurable def o tape = (place group from upto : ℕ) → slice_get tape place ≡ Some (Pull group from upto)
     → upto ≡ length (durable_in def o (take place tape))

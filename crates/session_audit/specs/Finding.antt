@@ -1,4 +1,4 @@
--- Rows that are found on the tapes of all cells and books, and the first entry that is another one.
+-- The first entry on the tapes of all cells and books that is not its worker's next row.
 use Rattle.std.specs.Prelude.{◌≡◌, ℕ, List, length, slice_get, slice_index_or, Option, Some}
 use Rattle.plant_status.specs.declared.mismatch.Place.TheVariants.{Take, Ask, RowAsk}
 use Rattle.plant_status.specs.declared.mismatch.Seen.{Seen}
@@ -13,30 +13,30 @@ use Rattle.session_audit.specs.Books.{book_tape}
 use Rattle.session_audit.specs.Cells.{cell_tape}
 use Rattle.session_audit.specs.GroupTapes.{row_ask_of}
 
--- the rows and the units of each worker are as they were
+-- the rows and the units of each worker have not changed
 pub record AreSameRows (old new : List Reached) : Type 0 where
   pub as_many : length new ≡ length old
   pub items : (worker : ℕ) (p : Reached) → (slice_index_or new worker p).items ≡ (slice_index_or old worker p).items
   pub units : (worker : ℕ) (p : Reached) → length (slice_index_or new worker p).at ≡ length (slice_index_or old worker p).at
 
--- an entry of a unit's tape, which `tape_of` tells, is not its worker's next row there
+-- an entry of a unit's tape (`tape_of` has the tape of a unit) is not its worker's next row there
 pub record IsMismatchAt {C E : Type 0} (tape_of : C → List E) (work : E → Option Shown) (units : List C)
     (works : List Reached) (unit place : ℕ) (kept told : Seen) : Type 0 where
   pub one : C
   pub there : slice_get units unit ≡ Some one
   pub differs : IsDifference work unit (tape_of one) works place kept told
 
--- it is a take
+-- the first such entry is a take
 abbrev pub IsTakeMismatch : {D : Type 0} → List (Cell D) → List Reached → Status → Type 0
 IsTakeMismatch cells works (Mismatch (Take tag place) kept told) = IsMismatchAt cell_tape take_of cells works tag place kept told
 IsTakeMismatch cells works other = ⊥
 
--- it is a question
+-- the first such entry is a question about a tag
 abbrev pub IsAskMismatch : {D : Type 0} → List (Cell D) → List Reached → Status → Type 0
 IsAskMismatch cells works (Mismatch (Ask tag place) kept told) = IsMismatchAt cell_tape ask_of cells works tag place kept told
 IsAskMismatch cells works other = ⊥
 
--- a question on a group's tape is not its reader's next one there
+-- the first such entry is a question on a group's tape
 abbrev pub IsRowAskMismatch : {D : Type 0} → List (Book D) → List Reached → Status → Type 0
 IsRowAskMismatch books works (Mismatch (RowAsk group place) kept told) =
     IsMismatchAt book_tape row_ask_of books works group place kept told

@@ -1,4 +1,4 @@
--- How far the rows of workers were found on tapes.
+-- How many rows of workers were found on tapes.
 use Rattle.std.specs.Prelude.{◌≡◌, ◌≢◌, ℕ, Bool, false, nat_le, ◌+◌, ◌^◌, ◌<◌, ◌≤◌, List, [], length, take, filter_map, slice_get, slice_index_or, slice_set, Option, None, Some, IfSome, option_and_then, nat_eq, ⊤, if◌then◌else◌}
 use Rattle.std.specs.Option.{option_map_or, unwrap_or}
 use Rattle.plant_status.specs.declared.mismatch.Seen.{Seen}
@@ -9,12 +9,13 @@ use Rattle.session_audit.specs.Agendas.{IsNext, due, due_at}
 
 -- ---- one worker
 
--- the rows of a worker, and for each unit the place of the row that is due there next: those before it were found there
+-- the rows of a worker, and for each unit the place of the row that is due there next; the rows before it were found
+-- there
 pub record Reached : Type 0 where
   pub items : List (Option Item)
   pub at : List ℕ
 
--- where the next row of a unit stands
+-- the place of the next row of a unit
 abbrev pub place_at : Reached → ℕ → ℕ
 place_at p unit = slice_index_or p.at unit 0
 
@@ -30,16 +31,16 @@ found p unit = due unit (take (place_at p unit) p.items)
 abbrev pub lacks : Reached → ℕ → Bool
 lacks p place = option_map_or (λ item. nat_le (place_at p item.unit) place) (slice_index_or p.items place None) false
 
--- none of the first rows lacks
+-- none of the first n rows is missing
 abbrev pub IsCaughtUp : ℕ → Reached → Type 0
 IsCaughtUp n p = (i : ℕ) → i < n → lacks p i ≡ false
 
--- from a place on, each row is linked to the next one of its unit, and each unit to its first row
+-- from a place on, each row has a link to the next row of its unit, and each unit a link to its first row
 pub record AreLinked (items : List (Option Item)) (next at : List ℕ) (place : ℕ) : Type 0 where
   pub first : (u : ℕ) → u < length at → IsNext u items place (slice_index_or at u 0)
   pub links : (i : ℕ) → place ≤ i → IfSome (slice_index_or items i None) (λ item. IsNext item.unit items (i + 1) (slice_index_or next i 0))
 
--- each row that is due has a unit that is known, and the next of that unit is told; so is the next one at each unit
+-- each row that is due has a known unit and a link to the unit's next row; each unit has a link to its next row
 pub record IsChained (items : List (Option Item)) (next at : List ℕ) : Type 0 where
   pub as_many : length next ≡ length items
   pub few : length items < 2 ^ 32
@@ -63,7 +64,7 @@ pub record IsAdvanced (unit : ℕ) (old new : Reached) : Type 0 where
 abbrev pub expected : List Reached → ℕ → ℕ → Option Seen
 expected works worker unit = option_and_then (λ p. next_due p unit) (slice_get works worker)
 
--- the entry of a worker is the row that was due next at a unit
+-- the entry of a worker is the row that was due next at a unit, and the row is now found
 pub record IsFollowed (worker unit : ℕ) (kept : Seen) (old new : List Reached) : Type 0 where
   pub before : Reached
   pub after : Reached
@@ -72,7 +73,7 @@ pub record IsFollowed (worker unit : ℕ) (kept : Seen) (old new : List Reached)
   pub advanced : IsAdvanced unit before after
   pub changed : new ≡ slice_set old worker after
 
--- it shows a row of a worker
+-- an entry shows a row of a worker
 abbrev pub IsWork : Seen → Type 0
 IsWork (Take collector row point) = ⊤
 IsWork (Ask reader row query) = ⊤
@@ -89,7 +90,7 @@ pub record IsOtherDue (works : List Reached) (worker unit : ℕ) (kept told : Se
 abbrev pub found_of : List Reached → ℕ → ℕ → List Seen
 found_of works worker unit = option_map_or (λ p. found p unit) (slice_get works worker) []
 
--- what an entry shows, if it is of this worker: `work` tells what an entry shows
+-- what an entry shows, if it is of this worker; `work` has what an entry shows
 abbrev pub seen_by : {E : Type 0} → (E → Option Shown) → ℕ → E → Option Seen
 seen_by work worker e = option_and_then (λ s. if nat_eq s.worker worker then Some s.seen else None) (work e)
 
@@ -101,18 +102,18 @@ tape_shows work worker tape = filter_map (seen_by work worker) tape
 pub record AreFound {E : Type 0} (work : E → Option Shown) (unit : ℕ) (tape : List E) (works : List Reached) : Type 0 where
   pub each : (worker : ℕ) → tape_shows work worker tape ≡ found_of works worker unit
 
--- more rows of a unit may have been found, and nothing else has changed
+-- more rows of a unit may be found, and nothing else has changed
 pub record IsFurther (unit : ℕ) (old new : Reached) : Type 0 where
   pub same_items : new.items ≡ old.items
   pub as_many : length new.at ≡ length old.at
   pub others : (v : ℕ) → v ≢ unit → place_at new v ≡ place_at old v
 
--- the same of each worker
+-- the same holds for each worker
 pub record AreFurther (unit : ℕ) (old new : List Reached) : Type 0 where
   pub as_many : length new ≡ length old
   pub each : (worker : ℕ) (p : Reached) → IsFurther unit (slice_index_or old worker p) (slice_index_or new worker p)
 
--- the entry at a place is not the next row of its worker at a unit: this is what it shows, and what was due
+-- the entry at a place is not the next row of its worker at a unit; this is what it shows, and what was due
 pub record IsDifference {E : Type 0} (work : E → Option Shown) (unit : ℕ) (tape : List E) (works : List Reached)
     (place : ℕ) (kept told : Seen) : Type 0 where
   pub entry : E

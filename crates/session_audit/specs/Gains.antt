@@ -1,4 +1,5 @@
--- Cells that gain entries, and books that answer questions, once and once more. What laws of this crate's traits say is proved here.
+-- What a cell gains and what a book answers, in no step and in two steps. The laws of this crate's traits are proved
+-- here.
 use Rattle.std.proofs.Common.{◌++◌, List, [], refl, sym, ap, ◌∙◌, append-nil, append_assoc}
 use Rattle.std.proofs.lemmas.List.Elements.{All-append, All-nil}
 use Rattle.tag_cell.specs.declared.entry.Entry.{Entry}
@@ -8,7 +9,7 @@ use Rattle.group_book.specs.Told.{ToldBook as Book}
 use Rattle.session_audit.specs.Books.{IsAsk, IsAskedMore}
 use Rattle.session_audit.specs.Cells.{IsLonger}
 
--- a cell that gained nothing
+-- a cell that has gained no entry
 pub longer_refl : {D : Type 0} (IsOf : Entry → Type 0) (c : Cell D) → IsLonger IsOf c c
 longer_refl IsOf c = record {
   more = [];
@@ -18,7 +19,7 @@ longer_refl IsOf c = record {
   same_opening = refl;
 }
 
--- a cell that gained entries twice
+-- a cell that has gained entries twice
 pub longer_trans : {D : Type 0} (IsOf : Entry → Type 0) (a b c : Cell D) → IsLonger IsOf a b → IsLonger IsOf b c
     → IsLonger IsOf a c
 longer_trans IsOf a b c first second = record {
@@ -29,7 +30,7 @@ longer_trans IsOf a b c first second = record {
   same_opening = second.same_opening ∙ first.same_opening;
 }
 
--- a book that answered nothing
+-- a book that has answered no question
 pub asked_refl : {D : Type 0} (b : Book D) → IsAskedMore b b
 asked_refl b = record {
   more = [];
@@ -37,7 +38,7 @@ asked_refl b = record {
   changed = ap (λ (l : List Turn). record b { tape = l }) (sym (append-nil b.tape));
 }
 
--- a book that answered twice
+-- a book that has answered questions twice
 pub asked_trans : {D : Type 0} (a b c : Book D) → IsAskedMore a b → IsAskedMore b c → IsAskedMore a c
 asked_trans {D = D} a b c first second = record {
   more = first.more ++ second.more;

@@ -1,4 +1,4 @@
--- How often groups were refreshed, beside the plan.
+-- How often groups were refreshed, compared with the plan.
 use Rattle.std.specs.Prelude.{◌≡◌, ℕ, ◌<◌, ◌≤◌, List, length, nat_eq, slice_get, slice_index, slice_index_or, Some, if◌then◌else◌}
 use Rattle.std.specs.List.{sum_by}
 use Rattle.plant_status.specs.declared.mismatch.Place.TheVariants.{Turns}
@@ -19,7 +19,7 @@ pub record IsWithinTurns {D : Type 0} (turns : List ℕ) (books : List (ToldBook
   pub each : (group : ℕ) (d : ToldBook D) → group < length books
       → length (refreshes (slice_index_or books group d).tape) ≤ slice_index turns group
 
--- this one was: so many refreshes are kept, and fewer turns are told
+-- this group was refreshed more often than it has turns; the status has both numbers
 pub record IsAboveTurns {D : Type 0} (turns : List ℕ) (books : List (ToldBook D)) (group : ℕ) (kept told : Seen) : Type 0 where
   pub book : ToldBook D
   pub there : slice_get books group ≡ Some book

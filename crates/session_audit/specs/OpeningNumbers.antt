@@ -8,7 +8,7 @@ use Rattle.plant_status.specs.declared.mismatch.Seen.TheVariants.{Nothing, Numbe
 abbrev pub seen_of : Option ℕ → Seen
 seen_of number = option_map_or Number number Nothing
 
--- this is the first place at which two lists differ, and what each has there, or nothing where it has ended
+-- the first place at which two lists differ, and what each has there, or nothing if it has ended
 pub record AreApart (place : ℕ) (found known : List ℕ) (kept told : Seen) : Type 0 where
   pub before : take place found ≡ take place known
   pub kept_is : kept ≡ seen_of (slice_get found place)

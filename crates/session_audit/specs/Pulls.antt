@@ -12,27 +12,27 @@ use Rattle.session_audit.specs.GroupTapes.{pulled, reached}
 
 -- ---- the same
 
--- what a book has of an input is what its group pulled of the tag: each pull ended at the version of the refresh of its
--- number, and the copy is the first of the tag's records
+-- a book has of an input what its group pulled of the tag: each pull ended at the version of the refresh with its
+-- number, and the copy is the start of the tag's records
 pub record IsPulledFrom {C D : Type 0} (group input : ℕ) (cell : Cell C) (book : Book D) : Type 0 where
   pub ends : pulled group cell.tape ≡ reached input book.tape
   pub copy : slice_index_or book.sheet.copies input []
       ≡ take (length (slice_index_or book.sheet.copies input [])) cell.state.records
 
--- so it is of each input; these are the tags of the inputs
+-- a book has of each input what its group pulled; these are the tags of the inputs
 pub record AreInputsPulled {C D : Type 0} (group : ℕ) (tags : List ℕ) (cells : List (Cell C)) (book : Book D) : Type 0 where
   pub each : (input : ℕ) (c : Cell C) → input < length tags
       → IsPulledFrom group input (slice_index_or cells (slice_index tags input) c) book
 
--- and of each group
+-- each group has what it pulled
 pub record ArePulled {C D : Type 0} (inputs : List (List ℕ)) (cells : List (Cell C)) (books : List (Book D)) : Type 0 where
   pub each : (group : ℕ) (b : Book D) → group < length books
       → AreInputsPulled group (slice_index_or inputs group []) cells (slice_index_or books group b)
 
 -- ---- the first difference
 
--- a pull ended elsewhere than the refresh of its number, or there is but one of the two; or fewer records of the copy are the
--- first of the tag's than it has
+-- a pull ended elsewhere than the refresh with its number, or only one of the two exists; or the records of the copy
+-- are not the start of the tag's records
 abbrev pub IsInputMismatch : {C D : Type 0} → ℕ → ℕ → Cell C → Book D → Status → Type 0
 IsInputMismatch group input cell book (Mismatch (Pull its_group its_input turn) kept told) = (its_group ≡ group)
     × (its_input ≡ input) × AreApart turn (pulled group cell.tape) (reached input book.tape) kept told
@@ -40,7 +40,7 @@ IsInputMismatch group input cell book (Mismatch (Version its_group its_input) ke
     × (its_input ≡ input) × RecordsDiffer cell.state.records (slice_index_or book.sheet.copies input []) kept told
 IsInputMismatch group input cell book other = ⊥
 
--- so it is at one input of a group
+-- the mismatch is at one input of a group
 pub record IsMismatchOf {C D : Type 0} (group : ℕ) (tags : List ℕ) (cells : List (Cell C)) (book : Book D) (s : Status)
     : Type 0 where
   pub input : ℕ
@@ -49,7 +49,7 @@ pub record IsMismatchOf {C D : Type 0} (group : ℕ) (tags : List ℕ) (cells : 
   pub there : slice_get cells (slice_index tags input) ≡ Some cell
   pub differs : IsInputMismatch group input cell book s
 
--- of one group
+-- the mismatch is of one group
 pub record IsPullMismatch {C D : Type 0} (inputs : List (List ℕ)) (cells : List (Cell C)) (books : List (Book D)) (s : Status)
     : Type 0 where
   pub group : ℕ
@@ -59,7 +59,7 @@ pub record IsPullMismatch {C D : Type 0} (inputs : List (List ℕ)) (cells : Lis
 
 -- ---- from a place of a tape on
 
--- the first of the numbers that a tape tells, if it tells one: `numbers` tells those of a tape
+-- the first of the numbers on a tape from a place on, if there is one; `numbers` has the numbers of a tape
 abbrev pub IsNextOf : {E : Type 0} → (List E → List ℕ) → List E → ℕ → Option Found → Type 0
 IsNextOf numbers tape from None = numbers (drop from tape) ≡ []
 IsNextOf numbers tape from (Some f) = (numbers (drop from tape) ≡ f.number ∷ numbers (drop f.past tape))

@@ -11,11 +11,11 @@ use Rattle.session_audit.specs.GroupTapes.{refreshes}
 
 -- ---- records that no crash takes away
 
--- those of each tag
+-- the records of each tag that no crash takes away
 abbrev pub durable_lists : {C : Type 0} → List (Cell C) → List (List Rec)
 durable_lists cells = map durable_records cells
 
--- how many there are of each of these tags
+-- how many of these each of the tags has
 abbrev pub durable_numbers : List (List Rec) → List ℕ → List ℕ
 durable_numbers durables tags = map (λ tag. length (slice_index_or durables tag [])) tags
 
@@ -26,7 +26,7 @@ abbrev pub IsPull : Entry → Type 0
 IsPull (Pull group from upto) = ⊤
 IsPull other = ⊥
 
--- a cell's tape is longer by pulls, and nothing else has changed
+-- a cell's tape has gained pulls, and nothing else has changed
 pub record IsPulledMore {C : Type 0} (old new : Cell C) : Type 0 where
   pub more : List Entry
   pub each : All IsPull more
@@ -39,20 +39,20 @@ pub record EndsInSave (tape : List Turn) : Type 0 where
   pub moment : ℕ
   pub is : tape ≡ before ++ Save number moment ∷ []
 
--- a book was saved, if it has a device
+-- a book was saved: its refreshes and its sheet have not changed, and if it has a device, its tape ends in a save
 pub record IsSavedOn {D : Type 0} (old new : Book D) : Type 0 where
   pub same_refreshes : refreshes new.tape ≡ refreshes old.tape
   pub same_sheet : new.sheet ≡ old.sheet
   pub last : IsSome new.dev → EndsInSave new.tape
 
--- a book has made its turns and one more, has as many records of each input as no crash takes away, and was saved then, if it
--- has a device
+-- a book has made its turns and one more, and has as many records of each input as no crash takes away of the tag; if
+-- it has a device, it was saved after that
 pub record IsRefreshedTo {D : Type 0} (durables : List (List Rec)) (tags : List ℕ) (turns : ℕ) (book : Book D) : Type 0 where
   pub refreshed : length (refreshes book.tape) ≡ turns + 1
   pub versions : versions_of book ≡ durable_numbers durables tags
   pub saved : IsSome book.dev → EndsInSave book.tape
 
--- so has each
+-- each book is like that
 pub record AreBooksRefreshed {D : Type 0} (durables : List (List Rec)) (inputs : List (List ℕ)) (turns : List ℕ)
     (books : List (Book D)) : Type 0 where
   pub each : (group : ℕ) (b : Book D) → group < length books

@@ -1,4 +1,4 @@
-// What tapes lack of the rows of workers is added.
+// Adds to tapes the entries of the rows that they lack.
 ghost use Rattle.std.specs.Prelude.{◌≡◌, ℕ, ◌+◌, ◌^◌, ◌<◌, List, All, IfErr, IsSome, OnErr, OnOk, length};
 ghost use Rattle.calc_refresh.specs.Lists.{lists_of};
 ghost use Rattle.session_audit.specs.Adding.{IsAdded, IsStopped};
@@ -8,13 +8,13 @@ ghost use Rattle.session_audit.specs.Workers.{AreOthersSame, AreOver, AreTapesFo
 use crate::kind::Taped;
 use crate::progress::Progress;
 
-// How the entry of a row is added to the tape that lacks it.
+// How to add the entry of a row to the tape that lacks it.
 pub(crate) trait Adding {
     ghost use Rattle.session_audit.specs.declared.agenda.Item.{Item};
     ghost use Rattle.session_audit.specs.declared.kind.Shown.{Shown};
     ghost use Rattle.std.specs.Prelude.{Option};
 
-    // What has the tapes.
+    // The unit that has the tape.
     type Unit: Taped;
 
     // A row of a worker's file.
@@ -26,7 +26,7 @@ pub(crate) trait Adding {
     // What an entry shows, and of which worker.
     ghost shows: { Self.Unit.Entry → Option Shown };
 
-    // What a row leaves on a tape, and on which: by the worker, the number of the row from 1, and the row.
+    // What a row leaves on a tape, and on which: from the worker, the number of the row (from 1), and the row.
     ghost item_of: { Self → ℕ → ℕ → Self.Row → Option Item };
 
     // A row that can be added.
@@ -58,8 +58,8 @@ pub(crate) trait Adding {
     ghost gains_twice: { (a b c : Self.Unit) → gains a b → gains b c → gains a c };
 }
 
-// Adds what tapes lack of the rows of all files, in the order of the files. It ends at the first row that is refused, whose unit is
-// told.
+// Adds the entries that tapes lack for the rows of all files, in the order of the files. It stops at the first row that
+// is refused, and returns its unit and the refusal.
 pub(crate) fn add_missing<A: Adding>(
     how: &A,
     units: &mut [A::Unit],
@@ -81,7 +81,7 @@ pub(crate) fn add_missing<A: Adding>(
     Ok(())
 }
 
-// Adds what tapes lack of the rows of one worker.
+// Adds the entries that tapes lack for the rows of one worker.
 fn add_file<A: Adding>(
     how: &A,
     units: &mut [A::Unit],
@@ -106,7 +106,7 @@ fn add_file<A: Adding>(
     Ok(())
 }
 
-// Adds the entry of the row at a place, if the tape where it is due lacks it.
+// Adds the entry of the row at a place, if the tape where the row is due lacks it.
 fn add_row<A: Adding>(
     how: &A,
     units: &mut [A::Unit],

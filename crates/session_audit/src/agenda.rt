@@ -1,4 +1,4 @@
-// The rows of a worker, as what they leave on tapes.
+// The rows of a worker, and what they leave on tapes.
 ghost use Rattle.std.specs.Prelude.{◌≡◌, ◌<◌, ◌^◌, length, None, Some, slice_index_or};
 ghost use Rattle.session_audit.specs.Agendas.{ask_item, items_of, number_in, row_item, take_item};
 
@@ -8,7 +8,7 @@ use value_rows::{Query, RawRow};
 /// The rows of a file, and which of them count.
 #[derive(Clone, Copy)]
 pub enum Rows<'a> {
-    /// The values of a collector, of which the first so many were its work in an earlier phase.
+    /// The values of a collector. The first so many of them were its work in an earlier phase.
     Takes(&'a [RawRow], u32),
     /// The questions of a reader about tags.
     Asks(&'a [Query]),
@@ -16,14 +16,14 @@ pub enum Rows<'a> {
     RowAsks(&'a [Query]),
 }
 
-/// The rows of one worker, which is numbered from 0 among the collectors or the readers.
+/// The rows of one worker. Its number counts from 0 among the collectors or the readers.
 #[derive(Clone, Copy)]
 pub struct Agenda<'a> {
     pub worker: u32,
     pub rows: Rows<'a>,
 }
 
-/// A row, where it counts: the tag or the group at which it is due, and what it leaves there.
+/// A row that counts: the tag or the group at which it is due, and what it leaves there.
 #[derive(Clone, Copy)]
 pub struct Item {
     pub unit: u32,
@@ -31,7 +31,7 @@ pub struct Item {
 }
 
 impl Agenda<'_> {
-    /// How many rows there are.
+    /// Returns how many rows there are.
     #[tactic(auto, using(crate::proofs::Numbers::takes_length, crate::proofs::Numbers::asks_length, crate::proofs::Numbers::row_asks_length))]
     pub fn len(&self) -> usize
         ensures { result ≡ length (items_of self.now) }
@@ -42,7 +42,7 @@ impl Agenda<'_> {
         }
     }
 
-    /// The row at a place, from 0.
+    /// Returns the row at a place, from 0, or None if the row does not count.
     #[tactic(auto, using(crate::proofs::Numbers::takes_length, crate::proofs::Numbers::asks_length, crate::proofs::Numbers::row_asks_length))]
     pub fn item(&self, place: usize) -> Option<Item>
         requires within { place < length (items_of self.now) }
@@ -60,7 +60,8 @@ impl Agenda<'_> {
     }
 }
 
-/// The number of a row in its phase, where the first rows, so many, are those of an earlier phase.
+/// Returns the number of a row in its phase. The first `earlier` rows are those of an earlier phase, and the rows after
+/// them count from 1 again.
 #[tactic(auto, using(crate::proofs::Numbers::number_first, crate::proofs::Numbers::number_again))]
 pub fn number_in(earlier: u32, row: u64) -> u64
     ensures { result ≡ number_in earlier row }
@@ -72,7 +73,7 @@ pub fn number_in(earlier: u32, row: u64) -> u64
     }
 }
 
-// A value of a collector.
+// Returns the item of a collector's value.
 fn take_item(collector: u32, row: u64, value: RawRow) -> Item
     ensures { Some result ≡ take_item collector row value }
 {
@@ -86,7 +87,7 @@ fn take_item(collector: u32, row: u64, value: RawRow) -> Item
     }
 }
 
-// A question of a reader, if it is about a tag.
+// Returns the item of a reader's question, if it is about a tag.
 fn ask_item(reader: u32, row: u64, query: Query) -> Option<Item>
     ensures { result ≡ ask_item reader row query }
 {
@@ -99,7 +100,7 @@ fn ask_item(reader: u32, row: u64, query: Query) -> Option<Item>
     }
 }
 
-// A question of a reader, if it is for a value of a calculation.
+// Returns the item of a reader's question, if it is for a value of a calculation.
 fn row_item(reader: u32, row: u64, query: Query) -> Option<Item>
     ensures { result ≡ row_item reader row query }
 {

@@ -1,4 +1,4 @@
-// The questions of readers that tapes lack are answered.
+// Asks the questions of readers that tapes lack.
 ghost use Rattle.std.specs.Prelude.{ℕ, ◌≡◌, List, All, OnOk, length};
 ghost use Rattle.value_rows.specs.declared.raw.RawRow.{RawRow};
 ghost use Rattle.calc_refresh.specs.Lists.{lists_of};
@@ -20,8 +20,8 @@ use tag_cell::Cell;
 use trend_num::WantOfMemory;
 use value_rows::Query;
 
-/// Answers each question of the readers about a tag that the tag's tape lacks, in the order of the files. The one error is
-/// want of memory.
+/// Answers each question of the readers about a tag that the tag's tape lacks, in the order of the files. The one error
+/// is want of memory.
 pub fn ask_missing<D: Disk>(
     cells: &mut [Cell<D>],
     files: &[Vec<Query>],
@@ -42,8 +42,8 @@ pub fn ask_missing<D: Disk>(
     }
 }
 
-/// Answers each question of the readers for a value of a group's calculations that the group's tape lacks, in the order of the
-/// files. The one error is want of memory.
+/// Answers each question of the readers for a value of a group's calculations that the group's tape lacks, in the order
+/// of the files. The one error is want of memory.
 pub fn ask_rows_missing<D: Disk>(
     books: &mut [Book<D>],
     files: &[Vec<Query>],
@@ -63,7 +63,7 @@ pub fn ask_rows_missing<D: Disk>(
     }
 }
 
-// Questions about tags are answered on their cells.
+// Answers questions about tags on their cells.
 #[derive(Drop)]
 struct TagAnswers<D: Disk> {
     cells: PhantomData<D>,
@@ -110,7 +110,7 @@ impl<D: Disk> Adding for TagAnswers<D> {
     ghost gains_twice = { longer_trans IsAskEntry };
 }
 
-// Questions for values of calculations are answered on the books of groups.
+// Answers questions for values of calculations on the books of groups.
 #[derive(Drop)]
 struct GroupAnswers<D: Disk> {
     books: PhantomData<D>,

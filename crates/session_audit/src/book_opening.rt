@@ -1,4 +1,4 @@
-// The opening of a book: it is kept, and the book is compared with it.
+// The copy of a book's opening, and the comparison of the book with it.
 ghost use Rattle.std.specs.Prelude.{◌≡◌, ◌↔◌, ℕ, ◌≤◌, IfErr, IfOk, IsTrue, OnOk, length, slice_get};
 ghost use Rattle.std.specs.List.{count_by};
 ghost use Rattle.calc_refresh.specs.Lists.{lists_of};
@@ -13,13 +13,13 @@ use plant_status::{Seen, Unit};
 use std::alloc::Global;
 use trend_num::WantOfMemory;
 
-/// What was kept of a group as it was opened: what its book was made with, and its opening.
+/// A copy of a group's opening, and of what its book was made with.
 #[derive(Drop)]
 pub struct KeptGroup {
     /// The group, counted from 0.
     pub group: u32,
     pub def: GroupDefParts,
-    /// The definition text of its device; empty without a device.
+    /// The definition text of its device; empty if it has no device.
     pub text: Vec<u8>,
     pub opening: GroupOpening,
 }
@@ -65,7 +65,7 @@ impl<D: Disk> Opened for Book<D> {
     }
 }
 
-// The same opening again.
+// Returns a copy of an opening.
 fn opening_copy(alloc: Global, opening: &GroupOpening) -> Result<GroupOpening, WantOfMemory>
     ensures versions { IfOk result (λ o. o.versions.items ≡ opening.now.versions.items) }
     ensures rows { IfOk result (λ o. lists_of o.rows.items ≡ lists_of opening.now.rows.items) }
@@ -83,7 +83,7 @@ fn opening_copy(alloc: Global, opening: &GroupOpening) -> Result<GroupOpening, W
     })
 }
 
-// The same rows again.
+// Returns a copy of rows.
 fn rows_copy(alloc: Global, rows: &[Vec<CalcValue>]) -> Result<Vec<Vec<CalcValue>>, WantOfMemory>
     ensures { IfOk result (λ list. lists_of list.items ≡ lists_of rows.now) }
 {
@@ -94,14 +94,14 @@ fn rows_copy(alloc: Global, rows: &[Vec<CalcValue>]) -> Result<Vec<Vec<CalcValue
     Ok(list)
 }
 
-// The same row again.
+// Returns a copy of a row.
 fn row_copy(alloc: Global, row: &[CalcValue]) -> Result<Vec<CalcValue>, WantOfMemory>
     ensures { IfOk result (λ list. list.items ≡ row.now) }
 {
     Ok(Vec::from_slice(alloc, row)?)
 }
 
-// Compares a book's definition, part by part, and then its opening, with what was kept of them.
+// Compares a book's definition with the copy, part by part, then its opening.
 fn compare_book<D: Disk>(book: &Book<D>, known: &KeptGroup) -> Result<(), Difference>
     ensures same { OnOk result (IsBookAsKept book.now known.now) }
     ensures differs { IfErr result (λ d. IsBookDifference book.now known.now d.kept d.told) }
@@ -116,7 +116,8 @@ fn compare_book<D: Disk>(book: &Book<D>, known: &KeptGroup) -> Result<(), Differ
     compare_opening(book.opening(), &known.opening)
 }
 
-// Which parts of a definition agree: the number, the inputs, the start, the period, the calculations, and the text.
+// Returns which parts of a definition are the same: the number, the inputs, the start, the period, the calculations,
+// and the text.
 fn same_parts<D: Disk>(book: &Book<D>, known: &KeptGroup) -> [bool; 6]
     ensures { ArePartsOf book.now known.now result }
 {
@@ -131,7 +132,7 @@ fn same_parts<D: Disk>(book: &Book<D>, known: &KeptGroup) -> [bool; 6]
     ]
 }
 
-// Compares openings, number by number, and then their rows.
+// Compares openings, number by number, then their rows.
 fn compare_opening(found: &GroupOpening, known: &GroupOpening) -> Result<(), Difference>
     ensures same { OnOk result (IsSameOpening found.now known.now) }
     ensures differs { IfErr result (λ d. DifferSo found.now known.now d.kept d.told) }
@@ -142,7 +143,7 @@ fn compare_opening(found: &GroupOpening, known: &GroupOpening) -> Result<(), Dif
     compare_rows(&found.rows, &known.rows)
 }
 
-// The first number of two openings that differs. One place more than there are numbers is looked at.
+// Compares the numbers of two openings, in turn. It looks at one place more than the copy has numbers.
 fn compare_numbers(found: &GroupOpening, known: &GroupOpening) -> Result<(), Difference>
     ensures same { OnOk result (items_of found.now ≡ items_of known.now) }
     ensures differs { IfErr result (λ d. (place : ℕ) × AreApart place (items_of found.now) (items_of known.now) d.kept d.told) }
@@ -159,7 +160,7 @@ fn compare_numbers(found: &GroupOpening, known: &GroupOpening) -> Result<(), Dif
     Ok(())
 }
 
-// A number of an opening.
+// Returns the number of an opening at a place.
 fn item_at(opening: &GroupOpening, place: usize) -> Option<u64>
     ensures { result ≡ slice_get (items_of opening.now) place }
 {
@@ -179,7 +180,7 @@ fn item_at(opening: &GroupOpening, place: usize) -> Option<u64>
     }
 }
 
-// How many windows rows have.
+// Returns how many windows the rows have.
 fn windows_of(rows: &[Vec<CalcValue>]) -> u64
     ensures { result ≡ windows_of (lists_of rows.now) }
 {
@@ -189,7 +190,7 @@ fn windows_of(rows: &[Vec<CalcValue>]) -> u64
     }
 }
 
-// A number, or nothing.
+// Returns a number, or `Nothing` if there is none.
 pub(crate) fn seen_of(number: Option<u64>) -> Seen
     ensures { result ≡ seen_of number }
 {
@@ -199,7 +200,7 @@ pub(crate) fn seen_of(number: Option<u64>) -> Seen
     }
 }
 
-// Compares rows. A difference has how many are the same (kept), and how many there are (told).
+// Compares rows. A difference has two numbers: how many rows are the same (`kept`), and how many there are (`told`).
 fn compare_rows(found: &[Vec<CalcValue>], known: &[Vec<CalcValue>]) -> Result<(), Difference>
     requires as_many { length found.now ≡ length known.now }
     ensures same { OnOk result (lists_of found.now ≡ lists_of known.now) }
@@ -215,7 +216,7 @@ fn compare_rows(found: &[Vec<CalcValue>], known: &[Vec<CalcValue>]) -> Result<()
     Ok(())
 }
 
-// How many rows are the same.
+// Returns how many rows are the same.
 fn count_same(found: &[Vec<CalcValue>], known: &[Vec<CalcValue>]) -> usize
     requires as_many { length found.now ≡ length known.now }
     ensures agree { AgreeIn (length known.now) (lists_of found.now) (lists_of known.now) result }
@@ -230,7 +231,7 @@ fn count_same(found: &[Vec<CalcValue>], known: &[Vec<CalcValue>]) -> usize
     count
 }
 
-// Whether two rows are the same.
+// Returns whether two rows are the same.
 fn same_row(a: &[CalcValue], b: &[CalcValue]) -> bool
     ensures { IsTrue result ↔ (a.now ≡ b.now) }
 {
@@ -245,14 +246,14 @@ fn same_row(a: &[CalcValue], b: &[CalcValue]) -> bool
     true
 }
 
-// Whether two values are the same.
+// Returns whether two values are the same.
 fn same_value(a: CalcValue, b: CalcValue) -> bool
     ensures { IsTrue result ↔ (a ≡ b) }
 {
     a == b
 }
 
-// How many are true.
+// Returns how many marks are true.
 fn count_true(marks: &[bool]) -> usize
     ensures { result ≡ count_by (λ m. m) marks.now }
 {

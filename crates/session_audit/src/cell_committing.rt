@@ -1,4 +1,4 @@
-// What waits on cells is acknowledged.
+// Commits the values that wait on cells.
 ghost use Rattle.std.specs.Prelude.{ℕ, ◌≡◌, ◌⊎◌, ◌^◌, ◌<◌, List, All, IfErr, OnOk, length, true};
 ghost use Rattle.value_rows.specs.declared.asked.Query.{Query};
 ghost use Rattle.value_rows.specs.declared.raw.RawRow.{RawRow};
@@ -13,8 +13,8 @@ use disk_model::Disk;
 use plant_status::{Status, Unit};
 use tag_cell::{Cell, CommitNo};
 
-/// Acknowledges what waits, cell by cell, until nothing does. It ends at the first tag whose device has failed, or where memory
-/// is wanting.
+/// Commits on each cell until no value waits. It stops at the first tag whose device has failed, or when memory is
+/// wanting.
 pub fn commit_cells<D: Disk>(cells: &mut [Cell<D>]) -> Result<(), Status>
     requires few { length cells.old < 2 ^ 32 }
     ensures none_waits { OnOk result (All (λ c. takes_waiting c ≡ 0) cells.new) }
@@ -33,7 +33,7 @@ pub fn commit_cells<D: Disk>(cells: &mut [Cell<D>]) -> Result<(), Status>
     Ok(())
 }
 
-// Acknowledges what waits on a cell.
+// Commits on a cell until no value waits.
 fn commit_cell<D: Disk>(cell: &mut Cell<D>) -> Result<(), CommitNo>
     ensures none_waits { OnOk result (takes_waiting cell.new ≡ 0) }
     ensures longer { IsLonger IsCommitEntry cell.old cell.new }
@@ -47,7 +47,7 @@ fn commit_cell<D: Disk>(cell: &mut Cell<D>) -> Result<(), CommitNo>
     }
 }
 
-// What a commit that is refused is answered with.
+// Returns the status of a refused commit.
 fn commit_status(tag: u32, no: CommitNo) -> Status
     ensures { result ≡ commit_status tag no }
 {

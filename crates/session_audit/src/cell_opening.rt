@@ -1,4 +1,4 @@
-// The opening of a cell: it is kept, and the cell is compared with it.
+// The copy of a cell's opening, and the comparison of the cell with it.
 ghost use Rattle.std.specs.Prelude.{◌≡◌, ◌↔◌, ◌≢◌, ◌<◌, ◌≤◌, All, IfErr, IsTrue, OnOk, length, slice_get, take};
 ghost use Rattle.session_audit.specs.CellOpenings.{FirstDiffer, IsItem, RecordsDiffer, opening_items};
 
@@ -9,7 +9,7 @@ use std::alloc::Global;
 use tag_cell::{Cell, TagOpening};
 use trend_num::{Rec, TagDef, WantOfMemory, same_name, same_rec, same_summary, same_tuning};
 
-/// What was kept of a tag as it was opened.
+/// A copy of a tag's opening, with its definition.
 #[derive(Drop)]
 pub struct Kept {
     pub def: TagDef,
@@ -58,7 +58,7 @@ impl<D: Disk> Opened for Cell<D> {
     }
 }
 
-// What is compared before the records, in turn.
+// Returns what is compared before the records, in turn.
 fn opening_items(def: &TagDef, opening: &TagOpening) -> [Seen; 5]
     ensures { result ≡ opening_items def.now opening.now }
 {
@@ -71,7 +71,7 @@ fn opening_items(def: &TagDef, opening: &TagOpening) -> [Seen; 5]
     ]
 }
 
-// The first of these that differ.
+// Compares these in turn, and returns the first that differs.
 fn compare_items(found: &[Seen; 5], known: &[Seen; 5]) -> Result<(), Difference>
     requires { All IsItem found.now }
     ensures same { OnOk result (found.now ≡ known.now) }
@@ -88,7 +88,7 @@ fn compare_items(found: &[Seen; 5], known: &[Seen; 5]) -> Result<(), Difference>
     Ok(())
 }
 
-// Whether two items are the same.
+// Returns whether two items are the same.
 fn same_item(a: &Seen, b: &Seen) -> bool
     requires { IsItem a.now }
     ensures { IsTrue result ↔ (a.now ≡ b.now) }
@@ -101,15 +101,15 @@ fn same_item(a: &Seen, b: &Seen) -> bool
     }
 }
 
-// Whether two definitions agree in name, tuning and kind.
+// Returns whether two definitions have the same name, tuning and kind.
 fn same_def(a: &TagDef, b: &TagDef) -> bool
     ensures { IsTrue result ↔ (a.now ≡ b.now) }
 {
     same_name(&a.name, &b.name) && same_tuning(&a.tuning, &b.tuning) && a.step == b.step
 }
 
-/// Compares records that are known with the first of those that were found. A difference has how many of the known ones are
-/// the same before it (kept), and how many are known (told).
+/// Compares records that are known with the first of those that were found. A difference has two numbers: how many of
+/// the known records are the same before it (`kept`), and how many are known (`told`).
 pub fn compare_records(found: &[Rec], known: &[Rec]) -> Result<(), Difference>
     ensures same { OnOk result (known.now ≡ take (length known.now) found.now) }
     ensures differs { IfErr result (λ d. RecordsDiffer found.now known.now d.kept d.told) }

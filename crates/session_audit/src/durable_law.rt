@@ -7,14 +7,14 @@ ghost use Rattle.tag_cell.specs.declared.history.TagOpening.{TagOpening};
 ghost use Rattle.tag_cell.specs.Replays.{IsTapeReplayed};
 ghost use Rattle.session_audit.specs.Durable.{ArePullsDurable, durable_in};
 
-/// Once all events of a tag are acknowledged, its records are all such as no crash takes away.
+/// After all events of a tag are acknowledged, no crash takes away any of its records.
 pub fn all_records_are_durable()
     ensures { (def : TagDef) (o : TagOpening) (tape : List Entry) (s : State) (acked : ℕ) → IsTapeReplayed def o tape s acked
         → s.summary.taken ≤ acked → durable_in def o tape ≡ s.records }
 {}
 
-/// Each pull of a group ended where the records ended that the tag had for good by then: those of its opening, and of the takes
-/// that the commits before the pull acknowledge.
+/// Each pull of a group ended at the end of the records that the tag had for good then: those of its opening, and of
+/// the takes that the commits before the pull acknowledge.
 pub fn what_was_pulled_is_durable()
     ensures { (def : TagDef) (o : TagOpening) (tape : List Entry) (s : State) (acked : ℕ) → IsTapeReplayed def o tape s acked
         → ArePullsDurable def o tape }

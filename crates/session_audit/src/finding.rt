@@ -1,4 +1,4 @@
-// The rows of workers are found on the tapes of all cells and books.
+// Finds the rows of workers on the tapes of all cells and books.
 ghost use Rattle.std.specs.Prelude.{◌≡◌, ◌^◌, ◌<◌, ℕ, List, IfErr, OnOk, length};
 ghost use Rattle.value_rows.specs.declared.asked.Query.{Query};
 ghost use Rattle.value_rows.specs.declared.raw.RawRow.{RawRow};
@@ -19,8 +19,8 @@ use group_book::Book;
 use plant_status::{Place, Status};
 use tag_cell::Cell;
 
-/// Finds the rows of collectors on the tapes, tag by tag. It ends at the first take that is not its collector's next row
-/// there.
+/// Finds the rows of collectors on the tapes, tag by tag. It stops at the first take that is not its collector's next
+/// row there.
 pub fn find_all_takes<D: Disk>(cells: &[Cell<D>], works: &mut [Progress<'_>]) -> Result<(), Status>
     requires few { length cells.now < 2 ^ 32 }
     requires unfound { AreUnfound (length cells.now) works.old }
@@ -40,8 +40,8 @@ pub fn find_all_takes<D: Disk>(cells: &[Cell<D>], works: &mut [Progress<'_>]) ->
     }
 }
 
-/// Finds the questions of readers on the tapes, tag by tag. It ends at the first one that is not its reader's next question
-/// there.
+/// Finds the questions of readers about tags on the tapes, tag by tag. It stops at the first one that is not its
+/// reader's next question there.
 pub fn find_all_asks<D: Disk>(cells: &[Cell<D>], works: &mut [Progress<'_>]) -> Result<(), Status>
     requires few { length cells.now < 2 ^ 32 }
     requires unfound { AreUnfound (length cells.now) works.old }
@@ -60,8 +60,8 @@ pub fn find_all_asks<D: Disk>(cells: &[Cell<D>], works: &mut [Progress<'_>]) -> 
     }
 }
 
-/// Finds the questions of readers for values of calculations on the groups' tapes, group by group. It ends at the first one that is
-/// not its reader's next question there.
+/// Finds the questions of readers for values of calculations on the groups' tapes, group by group. It stops at the
+/// first one that is not its reader's next question there.
 pub fn find_all_row_asks<D: Disk>(
     books: &[Book<D>],
     works: &mut [Progress<'_>],
@@ -84,7 +84,8 @@ pub fn find_all_row_asks<D: Disk>(
     }
 }
 
-// Finds the entries of one kind on the tapes, or the first that is another one, with its unit.
+// Finds the entries of one kind on the tapes. If an entry is not its worker's next row, it stops and returns the entry
+// with its unit.
 fn find_all<T: Taped, K: Kind<Entry = T::Entry>>(
     units: &[T],
     works: &mut [Progress<'_>],

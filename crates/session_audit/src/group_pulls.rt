@@ -1,4 +1,4 @@
-// What groups have of their inputs is compared with what they pulled of the tags.
+// Compares what groups have of their inputs with what they pulled of the tags.
 ghost use Rattle.std.specs.Prelude.{◌≡◌, ◌^◌, ◌<◌, ◌≤◌, All, IfErr, OnOk, length, slice_index};
 ghost use Rattle.std.specs.Option.{option_map};
 ghost use Rattle.calc_refresh.specs.Lists.{lists_of};
@@ -15,9 +15,9 @@ use group_book::{Book, Turn};
 use plant_status::{Place, Status};
 use tag_cell::{Cell, Entry};
 
-/// Compares each pull of a group on the tapes of its inputs' tags with the group's refresh of the same number, and the records
-/// that it has of each input with the tag's. `inputs` tells the tags of each group's inputs. It ends at the first difference,
-/// group by group and input by input, and pulls before records.
+/// Compares each pull of a group, on the tapes of its inputs' tags, with the group's refresh of the same number. It
+/// also compares the records that the group has of each input with the tag's. `inputs` has the tags of each group's
+/// inputs. It stops at the first difference. The order is group by group, input by input, and pulls before records.
 pub fn compare_pulls<C: Disk, D: Disk>(
     cells: &[Cell<C>],
     books: &[Book<D>],
@@ -35,7 +35,7 @@ pub fn compare_pulls<C: Disk, D: Disk>(
     Ok(())
 }
 
-// Compares what a group has of each of its inputs.
+// Compares what a group has of each of its inputs with what it pulled.
 fn compare_inputs<C: Disk, D: Disk>(
     cells: &[Cell<C>],
     book: &Book<D>,
@@ -54,7 +54,7 @@ fn compare_inputs<C: Disk, D: Disk>(
     Ok(())
 }
 
-// Compares what a group has of an input.
+// Compares what a group has of an input with what it pulled.
 fn compare_input<C: Disk, D: Disk>(
     cell: &Cell<C>,
     book: &Book<D>,
@@ -83,8 +83,8 @@ fn compare_input<C: Disk, D: Disk>(
     Ok(())
 }
 
-// Compares where the pulls of a group ended with the versions of an input that its refreshes reached, one after another. A
-// difference is told with its number.
+// Compares the ends of a group's pulls with the versions of an input that its refreshes reached, one after another.
+// Returns a difference with its number.
 fn compare_ends(
     tape: &[Entry],
     group: u32,
@@ -115,21 +115,21 @@ fn compare_ends(
     }
 }
 
-/// A number that an entry of a tape tells, and the place behind that entry.
+/// A number that an entry of a tape has, and the place after that entry.
 #[derive(Clone, Copy)]
 pub struct Found {
     pub past: usize,
     pub number: u64,
 }
 
-// The number of one, if there is one.
+// Returns the number of a find, if there is one.
 fn number_of(found: Option<Found>) -> Option<u64>
     ensures { result ≡ option_map (λ f. f.number) found }
 {
     Some(found?.number)
 }
 
-// Where the next pull of a group ended, from a place on.
+// Returns where the next pull of a group ended, from a place on.
 fn next_pull(tape: &[Entry], group: u32, from: usize) -> Option<Found>
     requires { from ≤ length tape.now }
     ensures { IsNextOf (pulled group) tape.now from result }
@@ -145,7 +145,7 @@ fn next_pull(tape: &[Entry], group: u32, from: usize) -> Option<Found>
     None
 }
 
-// Where a pull of a group ended.
+// Returns where a pull ended, if it is one of the group's.
 fn pull_of(entry: &Entry, its_group: u32) -> Option<u32>
     ensures { result ≡ pull_of its_group entry.now }
 {
@@ -155,7 +155,7 @@ fn pull_of(entry: &Entry, its_group: u32) -> Option<u32>
     }
 }
 
-// The version of an input that the next refresh reached, from a place on.
+// Returns the version of an input that the next refresh reached, from a place on.
 fn next_version(tape: &[Turn], input: u32, from: usize) -> Option<Found>
     requires { from ≤ length tape.now }
     ensures { IsNextOf (reached input) tape.now from result }
@@ -171,7 +171,7 @@ fn next_version(tape: &[Turn], input: u32, from: usize) -> Option<Found>
     None
 }
 
-// The version of an input, of these.
+// Returns the version of an input, or 0 if there is none.
 fn version_at(versions: &[u32], input: u32) -> u64
     ensures { result ≡ slice_index versions.now input }
 {

@@ -1,4 +1,4 @@
-// The refreshes that groups lack are made, and then one more and a save.
+// Makes the refreshes that groups lack, then one more and a save.
 ghost use Rattle.std.specs.Prelude.{ℕ, ◌≡◌, ◌^◌, ◌<◌, ◌≤◌, List, [], IfErr, IfOk, OnErr, OnOk, length, slice_index_or};
 ghost use Rattle.value_rows.specs.declared.asked.Query.{Query};
 ghost use Rattle.value_rows.specs.declared.raw.RawRow.{RawRow};
@@ -27,9 +27,10 @@ use std::sync::ledger::Ledger;
 use tag_cell::{Cell, PullNo, Pulled};
 use trend_num::Steps;
 
-/// Makes of each group the turns that its tape lacks, and then one more. Each pulls from the cell of each input, in the order of
-/// the inputs, and takes what was pulled into account. Then it saves the group. `inputs` tells the tags of each group's inputs,
-/// `turns` how many turns it has. It ends at the first group that cannot be refreshed or saved.
+/// Makes the turns that the tape of each group lacks, then one more, and saves the group. In a turn the group pulls
+/// from the cell of each input, in the order of the inputs, and takes what it pulled into account. `inputs` has the
+/// tags of each group's inputs, and `turns` the number of its turns. It stops at the first group that cannot be
+/// refreshed or saved.
 pub fn refresh_missing<C: Disk, D: Disk, L: Ledger>(
     alloc: Global,
     cells: &mut [Cell<C>],
@@ -106,7 +107,7 @@ fn save_group<D: Disk>(book: &mut Book<D>, group: u32) -> Result<(), Status>
     }
 }
 
-// What a save that is refused is answered with.
+// Returns the status of a refused save.
 fn save_status(group: u32, no: SaveNo) -> Status
     ensures { result ≡ save_status group no }
 {
@@ -118,7 +119,7 @@ fn save_status(group: u32, no: SaveNo) -> Status
     }
 }
 
-// Refreshes a group once: pulls from the cells of its inputs, and takes what was pulled into account.
+// Refreshes a group once: it pulls from the cells of its inputs, and takes what it pulled into account.
 fn refresh_once<C: Disk, D: Disk, L: Ledger>(
     alloc: Global,
     cells: &mut [Cell<C>],
@@ -143,7 +144,7 @@ fn refresh_once<C: Disk, D: Disk, L: Ledger>(
     }
 }
 
-// Pulls from the cells of a group's inputs, in their order, what goes on from the records that it has of each.
+// Pulls from the cells of a group's inputs, in their order, the records after those that the group has of each.
 fn pull_all<C: Disk, D: Disk>(
     alloc: Global,
     cells: &mut [Cell<C>],
@@ -169,7 +170,7 @@ fn pull_all<C: Disk, D: Disk>(
     Ok(pulled)
 }
 
-// Pulls from the cell of an input's tag what goes on from so many records.
+// Pulls from the cell of an input's tag the records from a place on.
 fn pull_one<C: Disk>(
     cells: &mut [Cell<C>],
     tag: u32,
@@ -188,7 +189,7 @@ fn pull_one<C: Disk>(
     }
 }
 
-// What a pull of an input that is refused is answered with.
+// Returns the refusal of a refresh whose pull of an input was refused.
 fn pull_refusal(input: u32, no: PullNo) -> RefreshNo
     ensures { result ≡ pull_refusal input no }
 {
@@ -202,7 +203,7 @@ fn pull_refusal(input: u32, no: PullNo) -> RefreshNo
     }
 }
 
-// What a refresh that is refused is answered with.
+// Returns the status of a refused refresh.
 fn refresh_status(group: u32, no: RefreshNo) -> Status
     ensures { result ≡ refresh_status group no }
 {

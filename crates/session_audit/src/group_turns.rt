@@ -1,4 +1,4 @@
-// How often groups were refreshed, beside the plan.
+// How often groups were refreshed, compared with the plan.
 ghost use Rattle.std.specs.Prelude.{◌≡◌, ℕ, ◌^◌, ◌<◌, ◌≤◌, All, IfErr, IfOk, OnOk, length, slice_index};
 ghost use Rattle.group_book.specs.Told.{ToldBook};
 ghost use Rattle.session_audit.specs.GroupTapes.{refreshes};
@@ -11,8 +11,8 @@ use plant_status::{Place, Seen, Status};
 use std::alloc::Global;
 use trend_num::WantOfMemory;
 
-/// How many turns the refreshers make of each of so many groups. More than 2^32 - 1 of one group are refused, as memory that is
-/// not there.
+/// Returns how many turns the refreshers make for each of `groups` groups. If a group has more than 2^32 - 1 turns, it
+/// answers want of memory.
 pub fn turns_of(
     alloc: Global,
     refreshers: &[Refresh],
@@ -31,7 +31,7 @@ pub fn turns_of(
     Ok(turns)
 }
 
-/// Looks whether no group was refreshed more often than it has turns. It ends at the first one that was.
+/// Checks that no group was refreshed more often than it has turns. It stops at the first group that was.
 pub fn compare_turns<D: Disk>(books: &[Book<D>], turns: &[u32]) -> Result<(), Status>
     requires turns { length turns.now ≡ length books.now }
     requires few { length books.now < 2 ^ 32 }
@@ -53,7 +53,7 @@ pub fn compare_turns<D: Disk>(books: &[Book<D>], turns: &[u32]) -> Result<(), St
     Ok(())
 }
 
-// How many refreshes a tape has.
+// Returns how many refreshes a tape has.
 pub(crate) fn count_refreshes(tape: &[Turn]) -> usize
     ensures count { result ≡ length (refreshes tape.now) }
     ensures within { result ≤ length tape.now }

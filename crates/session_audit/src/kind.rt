@@ -17,7 +17,7 @@ pub struct Shown {
     pub seen: Seen,
 }
 
-/// What has a tape: the cell of a tag, or the book of a group.
+/// Something that has a tape: the cell of a tag, or the book of a group.
 pub trait Taped {
     /// An entry of a tape.
     type Entry;
@@ -25,7 +25,7 @@ pub trait Taped {
     /// The tape.
     ghost tape_of: { Self → List Self.Entry };
 
-    /// What the calls so far left, the oldest first.
+    /// Returns the entries that the calls left, the oldest first.
     fn tape(&self) -> &[Self::Entry]
         ensures { result.now ≡ tape_of self.now };
 }
@@ -65,18 +65,18 @@ pub trait Kind {
     /// An entry of a tape.
     type Entry;
 
-    /// What a row leaves on a tape, and on which, if it is of this kind: by how many rows were the worker's in an earlier phase, the
-    /// worker, the number of the row from 1, and the row.
+    /// What a row leaves on a tape, and on which, if it is of this kind. The arguments are the number of rows from an
+    /// earlier phase, the worker, the number of the row from 1, and the row.
     ghost item_of: { ℕ → ℕ → ℕ → Self.Row → Option Item };
 
     /// What an entry shows, and of which worker, if it is of this kind.
     ghost shows: { Self.Entry → Option Shown };
 
-    /// The rows of a file, those that are of this kind. The first so many were the worker's in an earlier phase.
+    /// Returns the rows of a file that are of this kind. The first `earlier` were the worker's in an earlier phase.
     fn rows(rows: &[Self::Row], earlier: u32) -> Rows<'_>
         ensures { (worker : ℕ) → items_in worker result ≡ numbered (item_of earlier worker) 1 rows.now };
 
-    /// What an entry shows of a worker, if it is of this kind.
+    /// Returns what an entry shows of a worker, if it is of this kind.
     fn shown(entry: &Self::Entry) -> Option<Shown>
         ensures value { result ≡ shows entry.now }
         ensures work { IfSome result (λ s. IsWork s.seen) };
@@ -121,7 +121,7 @@ impl Kind for Takes {
     }
 }
 
-/// The questions of readers about tags, on the tapes of these.
+/// The questions of readers about tags, on the tapes of the tags.
 pub struct Asks;
 
 impl Kind for Asks {

@@ -1,33 +1,39 @@
-//! What a session does with its cells and books once its workers have ended: it compares them with their files, and does what
-//! lacks.
+//! What a session does once its workers have ended: it compares the cells and books with the workers' files, and adds
+//! what is missing.
 //!
-//! **Layer.** Below it stand cells (`tag_cell`), books (`group_book`) and the workers (`collector_pool`); above it
-//! `run_command`. The cells and books are held alone here, and of each only what its type keeps is known: no worker's word
-//! counts. It takes no lock.
+//! **Layer.** This crate builds on cells (`tag_cell`), books (`group_book`) and the workers (`collector_pool`);
+//! `run_command` uses it. It has the cells and books to itself, and takes no lock. It relies only on what their types
+//! guarantee, not on what a worker noted.
 //!
-//! **Model.** A worker's rows are an agenda: each is due at one tag or group, and a tape that has it shows it in one entry.
-//! [`Progress`] has for each tag or group which rows of one worker were found on its tape, and which is due next; it takes two
-//! tables, made beforehand: one of units, and one of rows. Four traits say what a tag and a group have in common: [`Opened`]
-//! (its opening can be compared with a copy), [`Taped`] (it has a tape), [`Kind`] (takes, questions about tags, or questions
-//! for values of calculations) and `Adding` (a row that lacks can be added).
+//! **Model.** The rows of a worker are an agenda. Each row is due at one tag or group, and leaves one entry on the tape
+//! there. [`Progress`] records, for each tag or group, which rows of one worker were found on its tape, and which row
+//! is due next. It has two tables, which are made before the search: one by unit, and one by row. Four traits state
+//! what tags and groups have in common:
+//!
+//! - [`Opened`]: its opening can be compared with a copy.
+//! - [`Taped`]: it has a tape.
+//! - [`Kind`]: a kind of work (takes, questions about tags, or questions for values of calculations).
+//! - `Adding`: a missing row can be added.
 //!
 //! **Steps**, in the order in which a session makes them:
 //!
-//! 1. [`copies_of`] copies the openings before the workers begin, and [`compare_all`] compares each with its copy.
-//! 2. [`collectors_of`], [`readers_of`] and [`row_askers_of`] make the progress of workers, of whose rows none is found yet (by
-//!    [`start`]); [`rooms_of`] counts the rows of each tag, and [`turns_of`] the turns of each group.
-//! 3. [`find_all_takes`], [`find_all_asks`] and [`find_all_row_asks`] go over each tape once (by [`find`]), and stop at the
-//!    first entry that is not its worker's next row there. [`compare_turns`] stops at a group that was refreshed more often
-//!    than the plan says.
-//! 4. [`take_missing`], [`ask_missing`] and [`ask_rows_missing`] do what the tapes lack, and [`commit_cells`] acknowledges
-//!    until nothing waits.
-//! 5. [`refresh_missing`] makes the refreshes that lack, and then one more and a save.
+//! 1. Before the workers begin, [`copies_of`] copies the openings. Once they have ended, [`compare_all`] compares each
+//!    opening with its copy.
+//! 2. [`collectors_of`], [`readers_of`] and [`row_askers_of`] make the progress of the workers (by [`start`]); no row
+//!    is found yet. [`rooms_of`] counts the rows of each tag, and [`turns_of`] the turns of each group.
+//! 3. [`find_all_takes`], [`find_all_asks`] and [`find_all_row_asks`] go over each tape once (by [`find`]). They stop
+//!    at the first entry that is not its worker's next row there. [`compare_turns`] stops at the first group that was
+//!    refreshed more often than the plan says.
+//! 4. [`take_missing`], [`ask_missing`] and [`ask_rows_missing`] do what the tapes lack. Then [`commit_cells`] commits
+//!    until no value waits.
+//! 5. [`refresh_missing`] makes the missing refreshes of each group, then one more and a save.
 //! 6. [`compare_pulls`] compares what each group has of its inputs with what it pulled of their tags.
 //!
-//! **Promise.** What is found is `AreFound`: the entries of each worker on a tape are the first of its rows there, in the
-//! file's order, and no other worker has one. Each step leaves entries of its own kind behind those that are there. At the end
-//! each tape shows of each worker just its rows that are due there, in the order of its file. What a group pulled, its tags had
-//! for good: a law ([`what_was_pulled_is_durable`]). A refusal is answered with its cause.
+//! **Promise.** What is found is `AreFound`: the entries of each worker on a tape are the first of its rows there, in
+//! the file's order, and no other worker has an entry. Each step appends entries of its own kind to the tapes, and
+//! removes none. At the end each tape shows exactly the rows of each worker that are due there, in the order of its
+//! file. A law ([`what_was_pulled_is_durable`]) says that no crash takes away a record that a group has pulled. Each
+//! refusal comes with its cause.
 #![tactic(auto)]
 
 mod adding;

@@ -10,13 +10,13 @@ use std::alloc::Global;
 use std::marker::Model;
 use trend_num::WantOfMemory;
 
-/// How far the rows of a worker were found, unit by unit: its tags, or its groups.
+/// How many rows of a worker were found at each of its units, its tags or its groups.
 #[derive(Drop)]
 pub struct Progress<'a> {
     agenda: Agenda<'a>,
-    // Of each unit the place of the row that is due next, or the number of rows.
+    // For each unit, the place of the row that is due next. If no row is left, this is the number of rows.
     at: Vec<u32>,
-    // Of each row the place of the next one of its unit, or the number of rows.
+    // For each row, the place of the next row of its unit. If there is none, this is the number of rows.
     next: Vec<u32>,
 }
 
@@ -33,7 +33,7 @@ impl<'a> Model for Progress<'a> {
 }
 
 impl<'a> Progress<'a> {
-    /// Of these rows, which are due at so many units, none is found yet.
+    /// Returns the progress over these rows at `units` units. No row is found yet. The one error is want of memory.
     pub fn new(alloc: Global, agenda: Agenda<'a>, units: u32) -> Result<Progress<'a>, WantOfMemory>
         requires few { length (items_of agenda) < 2 ^ 32 }
         requires units { (i : ℕ) → IfSome (slice_index_or (items_of agenda) i None) (λ item. item.unit < units) }
@@ -48,7 +48,7 @@ impl<'a> Progress<'a> {
         Ok(Progress { agenda, at, next })
     }
 
-    /// How many units there are.
+    /// Returns how many units there are.
     pub fn units(&self) -> usize
         ensures units { result ≡ length self.now.at }
         ensures next { (u : ℕ) → u < length self.now.at → IsNext u self.now.items (place_at self.now u) (place_at self.now u) }
@@ -56,7 +56,7 @@ impl<'a> Progress<'a> {
         self.at.len()
     }
 
-    /// The row that is due next at a unit.
+    /// Returns the row that is due next at a unit, or None if no row is left.
     pub fn next_due(&self, unit: u32) -> Option<Seen>
         requires { unit < length self.now.at }
         ensures due { result ≡ next_due self.now unit }
@@ -70,7 +70,7 @@ impl<'a> Progress<'a> {
         }
     }
 
-    /// The unit at which a row is due, where it was not found there yet.
+    /// Returns the unit at which a row is due, if the row was not found there yet.
     pub fn missing(&self, place: usize) -> Option<u32>
         requires { place < length self.now.items }
         ensures missing { IfSome result (IsLacking self.now place) }
@@ -82,7 +82,7 @@ impl<'a> Progress<'a> {
         }
     }
 
-    /// The row that is due next at a unit is found there.
+    /// Marks the row that is due next at a unit as found.
     pub fn advance(&mut self, unit: u32)
         requires known { unit < length self.old.at }
         requires due { IsSome (next_due self.old unit) }
@@ -93,7 +93,7 @@ impl<'a> Progress<'a> {
     }
 }
 
-// So many times one number.
+// Returns `count` times one number.
 fn table(alloc: Global, number: u32, count: usize) -> Result<Vec<u32>, WantOfMemory>
     ensures { IfOk result (λ v. v.items ≡ replicate count number) }
 {
@@ -118,7 +118,7 @@ fn link_all(agenda: &Agenda<'_>, at: &mut [u32], next: &mut [u32])
     }
 }
 
-// Links the row at a place, where those behind it are linked.
+// Links the row at a place. The rows after it are linked already.
 #[tactic(auto, using(crate::proofs::Links::linked_past, crate::proofs::Links::linked_more))]
 fn link(agenda: &Agenda<'_>, at: &mut [u32], next: &mut [u32], place: usize)
     requires few { length (items_of agenda.now) < 2 ^ 32 }

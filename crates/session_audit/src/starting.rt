@@ -1,4 +1,4 @@
-// The progress of workers of whose rows none was found yet.
+// The progress of workers before any row is found.
 ghost use Rattle.std.specs.Prelude.{◌≡◌, ◌↔◌, ℕ, ◌+◌, ◌^◌, ◌<◌, All, IfOk, IsTrue, OnOk, length, nat_eq, slice_index};
 ghost use Rattle.std.specs.List.{count_by};
 ghost use Rattle.calc_refresh.specs.Lists.{lists_of};
@@ -17,8 +17,8 @@ use std::alloc::Global;
 use trend_num::WantOfMemory;
 use value_rows::{Query, RawRow};
 
-/// The progress of each collector over its rows, of so many tags; the first rows of each, so many, were taken in an earlier phase.
-/// More than 2^32 - 1 files or rows are refused, as memory that is not there.
+/// Returns the progress of each collector over its rows, for so many tags. The first `earlier` rows of each were taken
+/// in an earlier phase. If there are more than 2^32 - 1 files or rows, it answers want of memory.
 #[tactic(auto, using(crate::proofs::Starts::takes_due))]
 pub fn collectors_of<'a>(
     alloc: Global,
@@ -33,8 +33,8 @@ pub fn collectors_of<'a>(
     start::<Takes>(alloc, files, earlier, tags)
 }
 
-/// The progress of each reader over the questions of its file, of so many tags. More than 2^32 - 1 files or questions are
-/// refused, as memory that is not there.
+/// Returns the progress of each reader over the questions of its file, for so many tags. If there are more than
+/// 2^32 - 1 files or questions, it answers want of memory.
 #[tactic(auto, using(crate::proofs::Starts::asks_due))]
 pub fn readers_of<'a>(
     alloc: Global,
@@ -48,8 +48,8 @@ pub fn readers_of<'a>(
     start::<Asks>(alloc, files, 0, tags)
 }
 
-/// The progress of each reader over the questions of its file for values of calculations, of so many groups. More than
-/// 2^32 - 1 files or questions are refused, as memory that is not there.
+/// Returns the progress of each reader over the questions of its file for values of calculations, for so many groups.
+/// If there are more than 2^32 - 1 files or questions, it answers want of memory.
 #[tactic(auto, using(crate::proofs::Starts::row_asks_due))]
 pub fn row_askers_of<'a>(
     alloc: Global,
@@ -63,8 +63,9 @@ pub fn row_askers_of<'a>(
     start::<RowAsks>(alloc, files, 0, groups)
 }
 
-/// The progress of each worker over the rows of its file that are of one kind, at so many units: tags, or groups; the first rows of
-/// each, so many, were its work in an earlier phase. More than 2^32 - 1 files or rows are refused, as memory that is not there.
+/// Returns the progress of each worker over the rows of its file that are of one kind, at so many units, which are tags
+/// or groups. The first `earlier` rows of each were its work in an earlier phase. If there are more than 2^32 - 1 files
+/// or rows, it answers want of memory.
 pub fn start<'a, K: Kind>(
     alloc: Global,
     files: &'a [Vec<K::Row>],
@@ -93,8 +94,8 @@ pub fn start<'a, K: Kind>(
     Ok(works)
 }
 
-/// How many rows of the files are of each of so many tags. More than 2^32 - 1 of one tag are refused, as memory that is not
-/// there.
+/// Returns how many rows of the files each of so many tags has. If a tag has more than 2^32 - 1 rows, it answers want
+/// of memory.
 pub fn rooms_of(alloc: Global, files: &[Vec<RawRow>], tags: u32) -> Result<Vec<u32>, WantOfMemory>
     requires { All (λ rows. All (IsRowOf tags) rows.items) files.now }
     ensures tags { IfOk result (λ rooms. length rooms.items ≡ tags) }
@@ -122,7 +123,7 @@ fn count_rows(rooms: &mut Vec<u32>, rows: &[RawRow]) -> Result<(), WantOfMemory>
     Ok(())
 }
 
-// Whether a number has places that are `u32`.
+// Returns whether a count is below 2^32.
 fn is_small(count: usize) -> bool
     ensures { IsTrue result ↔ (count < 2 ^ 32) }
 {

@@ -1,4 +1,4 @@
-// The rows of collectors that tapes lack are taken.
+// Takes the rows of collectors that tapes lack.
 ghost use Rattle.std.specs.Prelude.{◌≡◌, ℕ, ◌<◌, List, All, IfErr, OnOk, length, slice_index};
 ghost use Rattle.calc_refresh.specs.Lists.{lists_of};
 ghost use Rattle.session_audit.specs.Agendas.{phase_item};
@@ -19,9 +19,9 @@ use std::sync::Wait;
 use tag_cell::{Cell, TakeNo};
 use value_rows::RawRow;
 
-/// Takes each row of the collectors that the tape of its tag lacks, in the order of the files; the first rows of each, so many, are
-/// those of an earlier phase. It ends at the first row that is refused. `rooms` tells how many rows of the files are of each tag; a
-/// tape without room has fewer takes than that.
+/// Takes each row of the collectors that the tape of its tag lacks, in the order of the files. The first `earlier` rows
+/// of each collector are those of an earlier phase. It stops at the first row that is refused. `rooms` has the number
+/// of the files' rows for each tag. If a tape has no room for a take, it has fewer takes than that.
 pub fn take_missing<D: Disk, R: Wait>(
     rt: &R,
     cells: &mut [Cell<D>],
@@ -52,7 +52,8 @@ pub fn take_missing<D: Disk, R: Wait>(
     }
 }
 
-// Values of collectors are taken on the cells of their tags; so many rows of each collector are those of an earlier phase.
+// Takes values of collectors on the cells of their tags. The first `earlier` rows of each collector are those of an
+// earlier phase.
 #[derive(Drop)]
 struct Takings<'a, D: Disk, R: Wait> {
     rt: &'a R,
@@ -102,7 +103,7 @@ impl<'a, D: Disk, R: Wait> Adding for Takings<'a, D, R> {
     ghost gains_twice = { longer_trans IsTakeEntry };
 }
 
-// What a row that is refused is answered with.
+// Returns the status of a refused row.
 fn take_status(tag: u32, rows: u32, no: TakeNo) -> Status
     ensures { result ≡ take_status tag rows no }
 {

@@ -1,4 +1,4 @@
-// One walk over a tape, with the progress of each worker.
+// One walk over a tape, which updates the progress of each worker.
 ghost use Rattle.std.specs.Prelude.{◌≡◌, ◌↔◌, ◌<◌, All, IfErr, IfNone, IfSome, IsSomeAnd, IsTrue, MatchOption, OnErr, OnOk, OnSome, length};
 ghost use Rattle.session_audit.specs.Found.{AreFound, AreFurther, IsDifference, IsFollowed, IsOtherDue, IsUnfound, IsWork};
 
@@ -13,11 +13,12 @@ pub struct Differs {
     pub place: u64,
     /// What it shows.
     pub kept: Seen,
-    /// The row that was due in its place, or nothing where none was left.
+    /// The row that was due in its place, or nothing if none was left.
     pub told: Seen,
 }
 
-/// Finds the entries of one kind on the tape of a unit, a tag or a group, among the rows of their workers.
+/// Finds the entries of one kind on the tape of a unit, which is a tag or a group, and marks them as found. Stops at
+/// the first entry that is not its worker's next row there.
 pub fn find<K: Kind>(
     unit: u32,
     tape: &[K::Entry],
@@ -37,7 +38,8 @@ pub fn find<K: Kind>(
     Ok(())
 }
 
-// What the entry at a place of a unit's tape shows is the next row of its worker there, or another one was due.
+// Marks the row that the entry at a place shows as found, if it is the worker's next row at this unit. Otherwise it
+// returns what was due. If the entry shows no row, nothing changes.
 fn follow(
     works: &mut [Progress<'_>],
     unit: u32,
@@ -65,7 +67,7 @@ fn follow(
     }
 }
 
-// A worker's next row at a unit is this one, or what was due in its place.
+// Marks a worker's next row at a unit as found if it is this one. Otherwise it returns what was due.
 fn found_next(works: &mut [Progress<'_>], worker: u32, unit: u32, seen: &Seen) -> Option<Seen>
     requires known { All (λ p. unit < length p.at) works.old }
     requires work { IsWork seen.now }
@@ -87,7 +89,7 @@ fn found_next(works: &mut [Progress<'_>], worker: u32, unit: u32, seen: &Seen) -
     }
 }
 
-// Whether what is due is what is seen.
+// Returns whether the row that is due is this one.
 fn is_same(due: &Seen, seen: &Seen) -> bool
     requires { IsWork seen.now }
     ensures { IsTrue result ↔ (due.now ≡ seen.now) }

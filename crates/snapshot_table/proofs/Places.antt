@@ -1,4 +1,4 @@
--- What stands at a place of a board.
+-- What is at a place of a board.
 use Rattle.std.proofs.Common.{◌≡◌, ℕ, zero, suc, ◌+◌, ◌<◌, List, [], ◌∷◌, ◌++◌, length, map, get_or, refl, sym, ap, ◌∙◌, slice_get, Some, arith, take}
 use Rattle.std.proofs.lemmas.List.{take_more}
 use Rattle.std.proofs.Math.ListN.{get_or-map}
@@ -6,12 +6,12 @@ use Rattle.std.proofs.lemmas.Option.{get_or_from_slice_get, slice_get-get_or, sl
 use Rattle.atomic_table.specs.Seated.{TableId}
 use Rattle.snapshot_table.specs.Boards.{Posting, new_poster, new_posters}
 
--- the element at a place is seen as what stands there in the list of what all are seen as
+-- the model of the element at a place is at the same place in the list of all models
 pub seen_at : {A B : Type 0} (f : A → B) (xs : List A) (i : ℕ) (a : A) (b : B) → a ≡ get_or xs i a
     → slice_get (map f xs) i ≡ Some b → f a ≡ b
 seen_at f xs i a b is there = ap f is ∙ (sym (get_or-map f xs i a) ∙ get_or_from_slice_get (map f xs) i b (f a) there)
 
--- what the element at a place is seen as stands in the list of what all are seen as
+-- the model of the element at a place is in the list of all models, at that place
 pub stands_at : {A B : Type 0} (f : A → B) (xs : List A) (bs : List B) (i : ℕ) (a : A) → map f xs ≡ bs → a ≡ get_or xs i a
     → i < length bs → slice_get bs i ≡ Some (f a)
 stands_at f xs bs i a all is h = slice_get-get_or bs i (f a) h

@@ -1,11 +1,11 @@
--- The snapshot that the words of a cell are.
+-- The snapshot that the words of a cell hold.
 use Rattle.std.specs.Prelude.{ℕ, ℤ, pos, negsuc, if◌then◌else◌, nat_eq, Option, None, Some}
 use Rattle.trend_num.specs.declared.archive.Snap.{Snap}
 use Rattle.trend_num.specs.declared.point.Point.{Point}
 use Rattle.snapshot_table.specs.declared.words.Shown.{Shown}
 use Rattle.snapshot_table.specs.declared.words.TheConstants.{NO_POINT, NOT_NEGATIVE}
 
--- the value of a held point: its size where the kind is not negative, and else as far below -1 as the size tells
+-- the value of a held point: its size if the kind is not negative, otherwise -1 minus its size
 abbrev pub held_value_of : ℕ → ℕ → ℤ
 held_value_of kind size = if nat_eq kind NOT_NEGATIVE then pos size else negsuc size
 

@@ -15,7 +15,7 @@ use std::marker::Model;
 use std::sync::Wait;
 use trend_num::{Snap, WantOfMemory};
 
-/// The last snapshot of each tag of a plant. The tags are counted from 0.
+/// The last snapshot of each tag of a plant. Tags are counted from 0.
 #[derive(Drop)]
 pub struct Board {
     shelves: Vec<Shelf>,
@@ -30,8 +30,8 @@ impl Model for Board {
     ghost view = { λ b. map (λ c. c.table.shared.table_id) b.shelves.items };
 }
 
-/// A board of so many tags, with a poster for each tag in order, and a looker for each reader. Every tag shows that it has
-/// taken nothing.
+/// Returns a board of `tags` tags, a poster for each tag in order, and `readers` lookers. Each tag shows at first that
+/// it has taken no event. The one error is want of memory.
 pub fn new_board<R: Wait>(
     _rt: &R,
     alloc: Global,
@@ -47,7 +47,7 @@ pub fn new_board<R: Wait>(
     Ok((board, posters, lookers))
 }
 
-// A board of so many tags, and a poster for each.
+// Returns a board of so many tags, and a poster for each.
 fn tags_of(alloc: Global, tags: u32) -> Result<(Board, Vec<Poster>), WantOfMemory>
     ensures tags { IfOk result (λ made. length made.0 ≡ tags) }
     ensures posters { IfOk result (λ made. made.1.items ≡ new_posters 0 made.0) }
@@ -64,7 +64,7 @@ fn tags_of(alloc: Global, tags: u32) -> Result<(Board, Vec<Poster>), WantOfMemor
 }
 
 impl Board {
-    // One more tag, and its poster.
+    // Adds one more tag, and returns its poster.
     fn with_tag(&mut self, alloc: Global, tag: u32) -> Result<Poster, WantOfMemory>
         requires { length self.old ≡ tag }
         ensures longer { IfOk result (λ poster. self.new ≡ self.old ++ poster.cell ∷ []) }
@@ -79,7 +79,7 @@ impl Board {
         Ok(Poster { tag, last, pass })
     }
 
-    // So many lookers at each tag.
+    // Returns so many lookers, each of all tags.
     fn lookers(
         &self,
         alloc: Global,
@@ -98,7 +98,7 @@ impl Board {
         Ok(lookers)
     }
 
-    // A looker at each tag.
+    // Returns a looker of all tags.
     fn looker(&self, alloc: Global, posters: &mut Vec<Poster>) -> Result<Looker, WantOfMemory>
         requires { posters.old.items ≡ new_posters 0 self.now }
         ensures same { posters.new.items ≡ posters.old.items }
@@ -112,7 +112,7 @@ impl Board {
         Ok(Looker { passes })
     }
 
-    // A pass of one who looks at a tag.
+    // Returns a pass that may look at a tag.
     fn onlooker(&self, i: usize, poster: &mut Poster) -> Pass<Shown, View>
         requires posts { slice_get self.now i ≡ Some poster.old.cell }
         ensures same { poster.new ≡ poster.old }
@@ -122,7 +122,8 @@ impl Board {
         self.shelves[i].split_pass::<Onlooker>(&mut poster.pass)
     }
 
-    /// Posts a snapshot of the poster's tag, which is then its last one.
+    /// Posts a snapshot of the poster's tag; it is then the poster's last one. It must count no fewer events than the
+    /// one before.
     #[inline(always)]
     pub fn post<R: Wait>(&self, rt: &R, poster: &mut Poster, snap: Snap)
         requires here { PostsTo self.now poster.old }
@@ -134,8 +135,8 @@ impl Board {
         poster.last = snap;
     }
 
-    /// The snapshot that a tag shows: the words of one load of its cell, whole. It counts no fewer events than the last one
-    /// that this looker was shown of the tag.
+    /// Returns the snapshot that a tag shows, from one load of all words of its cell. It counts no fewer events than
+    /// the last one that this looker saw of the tag.
     pub fn look<R: Wait>(&self, rt: &R, looker: &mut Looker, tag: u32) -> Snap
         requires here { LooksAt self.now looker.old }
         requires tag { tag < length self.now }
@@ -147,7 +148,7 @@ impl Board {
     }
 }
 
-// One more item at the end of a list.
+// Appends an item to a list.
 fn push<T: Drop>(list: &mut Vec<T>, item: T) -> Result<(), WantOfMemory>
     ensures { OnOk result (list.new.items ≡ list.old.items ++ item ∷ []) }
 {

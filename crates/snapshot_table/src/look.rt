@@ -1,10 +1,10 @@
-// One who looks at a board.
+// The lookers of a board.
 use crate::rule::View;
 use crate::words::Shown;
 use crossbeam_utils::atomic::seq_cell::Pass;
 use std::marker::Model;
 
-/// Who may look at each tag of a board.
+/// A pass to look at each tag of a board.
 #[derive(Drop)]
 pub struct Looker {
     pub(crate) passes: Vec<Pass<Shown, View>>,

@@ -1,4 +1,4 @@
-// The one who posts for a tag.
+// The poster of a tag.
 ghost use Rattle.std.specs.Prelude.{◌≡◌};
 ghost use Rattle.trend_num.specs.declared.archive.Snap.{Snap};
 
@@ -8,7 +8,7 @@ use crossbeam_utils::atomic::seq_cell::Pass;
 use std::marker::Model;
 use trend_num::Snap;
 
-/// Who may post the snapshots of one tag.
+/// A pass to post the snapshots of one tag.
 #[derive(Drop)]
 pub struct Poster {
     pub(crate) tag: u32,
@@ -30,14 +30,14 @@ impl Model for Poster {
 }
 
 impl Poster {
-    /// The tag whose snapshots it posts, counted from 0.
+    /// Returns the number of the tag whose snapshots it posts, counted from 0.
     pub fn tag(&self) -> u32
         ensures { result ≡ self.now.tag }
     {
         self.tag
     }
 
-    /// The snapshot that it posted last.
+    /// Returns the snapshot that it posted last.
     pub fn last(&self) -> Snap
         ensures { result ≡ self.now.last }
     {

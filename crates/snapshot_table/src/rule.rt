@@ -1,4 +1,4 @@
-// The rule of a cell of the board, and its four steps: it is made, a look is split off, a post, a look.
+// The rule of a cell of the board, and its four steps: making it, splitting off a looker, a post and a look.
 ghost use Rattle.snapshot_table.specs.Snaps.{nothing};
 ghost use Rattle.snapshot_table.specs.Rules.{IsKept, Looks, Posts, looking, posting};
 
@@ -8,15 +8,15 @@ use crossbeam_utils::atomic::seq_cell::RuledSeqCell;
 use crossbeam_utils::rule::{Outcome, Protocol};
 use trend_num::Snap;
 
-/// What the holder of a pass knows. No value of it is made.
+/// What the holder of a pass knows. The program makes no value of this type.
 pub struct View {
-    // Whether it is the one who posts.
+    // Whether this is the one that posts.
     pub posts: bool,
-    // The snapshot that it posted or was shown last.
+    // The last snapshot that it posted or saw.
     pub snap: Snap,
 }
 
-/// The words are the last snapshot of the one who posts.
+/// The rule: the words are the last snapshot of the one that posts.
 pub struct LastPosted;
 
 impl Protocol<Shown, View> for LastPosted {
@@ -25,21 +25,21 @@ impl Protocol<Shown, View> for LastPosted {
     ghost first = { posting nothing };
 }
 
-/// The step of the one who posts: the words become its next snapshot.
+/// The step of the poster: the words become its next snapshot.
 pub struct Post;
 
 impl Outcome<Shown, View> for Post {
     ghost then = { Posts };
 }
 
-/// The step of one who looks: the words are read.
+/// The step of a looker: it reads the words.
 pub struct Look;
 
 impl Outcome<Shown, View> for Look {
     ghost then = { Looks };
 }
 
-/// A pass that looks is split off the one that posts.
+/// Splits a looking pass off the posting one.
 pub struct Onlooker;
 
 impl Split<View> for Onlooker {

@@ -5,14 +5,16 @@ ghost use Rattle.snapshot_table.specs.Snaps.{snap_of};
 use crossbeam_utils::atomic::seq_cell::Words;
 use trend_num::{Point, Snap};
 
-/// What the word `kind` says of the held point: there is none, or its value is not negative, or it is.
+/// What the word `kind` says of the held point. 0: there is none. 1: its value is not negative. 2: its value is
+/// negative.
 pub const NO_POINT: u64 = 0;
 
 pub const NOT_NEGATIVE: u64 = 1;
 
 pub const NEGATIVE: u64 = 2;
 
-/// The words of a snapshot. A value of -1 has the size 0, one of -2 the size 1 and so on.
+/// The words of a snapshot. If the value is negative, the size counts down from -1: -1 has the size 0, -2 the size 1
+/// and so on.
 #[derive(Clone, Copy)]
 pub struct Shown {
     pub taken: u64,
@@ -38,7 +40,7 @@ impl Words<4> for Shown {
     }
 }
 
-/// The words of a snapshot.
+/// Returns the words of a snapshot.
 pub fn shown_of(snap: Snap) -> Shown
     ensures value { snap_of result ≡ snap }
     ensures fits { result.size < 2 ^ 63 }
@@ -66,7 +68,7 @@ pub fn shown_of(snap: Snap) -> Shown
     }
 }
 
-/// The snapshot of these words.
+/// Returns the snapshot that these words hold.
 pub fn read_of(shown: Shown) -> Snap
     requires { shown.size < 2 ^ 63 }
     ensures { result ≡ snap_of shown }

@@ -49,16 +49,16 @@ take-parts tape tape' rest more next n is within few longer =
     ap (take (next + n)) longer ∙ (take-append-le (next + n) tape more reach
     ∙ (take-add next n tape ∙ ap (λ l. take next tape ++ take n l) (sym is)))
 
--- the state after the acknowledged values, from which the waiting ones go on
+-- the state after the acknowledged values, from which the waiting ones continue
 abbrev pub acked_state : TagDef → TagOpening → List Entry → ℕ → State
 acked_state def o tape next = state_after def.step o (taken (take next tape))
 
--- these values find room behind those
+-- these values find room after those
 fit_behind : (step : Bool) (s : State) (xs ys : List Event) → AllFit step s (xs ++ ys) → AllFit step (replay step s xs) ys
 fit_behind step s [] ys fit = fit
 fit_behind step s (x ∷ xs) ys fit = fit_behind step (after step s x) xs ys fit.1
 
--- the state goes on by the waiting values
+-- the state continues by the waiting values
 pub goes_by : (def : TagDef) (o : TagOpening) (tape rest : List Entry) (next : ℕ) (core : Core) (content : List Rec) (s : State) (acked : ℕ)
     → IsTapeReplayed def o tape core.state acked → IsInStep def o tape core content → rest ≡ drop next tape
     → GoesOnBy def (acked_state def o tape next) core.step core.state (taken rest)
@@ -260,7 +260,7 @@ commit_safe def o tape tape' trace next n m acked' safe longer within are counte
     (λ few. subst (λ (ps : List Point). AllRecover def trace (state_after def.step o ps)) values
     (recovers (omega (arith, few, ap length same))))
 
--- ---- what a commit tells
+-- ---- what a commit answers
 
 abbrev pub told : {D : Type 0} → TagDef → TagOpening → State → Logged D → ℕ → List Entry → ToldCell D
 told def o state journal room tape = record { def = def; opening = o; tape = tape; state = state; journal = journal; room = room }

@@ -44,7 +44,7 @@ take-beyond (x ∷ xs) ys n =
     let e : suc (length xs) + n ≡ suc (length xs + n) = omega arith in
     ap (λ (k : ℕ). take k (x ∷ (xs ++ ys))) e ∙ ap (λ l. x ∷ l) (take-beyond xs ys n)
 
--- what goes on from where the first values lead goes on by all of them
+-- what continues from where the first values lead continues by all of them
 pub part_behind : (def : TagDef) (s : State) (xs ys : List Point) (c : List ℕ)
     → RecoversPart def (replay def.step s (map Raw xs)) ys 0 c → RecoversPart def s (xs ++ ys) (length xs) c
 part_behind def s xs ys c is =
@@ -172,6 +172,6 @@ during_all def s r step points old new goes during =
     (λ c either. part_either def s r points (length points) c (le_refl (length points))
     (goes.state ∙ ap (λ (ps : List Point). replay def.step s (map Raw ps)) (sym (take-length points))) either) during
 
--- a core that goes on by values goes on by events
+-- a core that continues by values continues by events
 pub goes_from : (def : TagDef) (s r : State) (step : Bool) (points : List Point) → GoesOnBy def s step r points → GoesOnFrom def s step r
 goes_from def s r step points goes = (goes.same_step, (map Raw points, goes.state))

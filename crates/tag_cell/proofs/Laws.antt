@@ -12,7 +12,7 @@ use Rattle.tag_cell.specs.declared.history.TagOpening.{TagOpening}
 use Rattle.tag_cell.specs.Tapes.{CellWalk, cell_start, after_entry, taken, opened, state_after, done}
 use Rattle.tag_cell.specs.Replays.{Shown, IsTake, IsAnswer, IsPull, Fits, FitAll, replayed, shown_by, shown_of, shown_after, IsTapeReplayed, IsLegal}
 
--- two ways to tell what a tag shows agree, so an entry fits the one where it fits the other
+-- two accounts of what a tag shows agree, so an entry fits one of them if it fits the other
 same_fits : (f g : List Point → Shown) (step : Bool) (o : TagOpening) (w : CellWalk) (e : Entry)
     → ((ps : List Point) → f ps ≡ g ps) → Fits f step o w e → Fits g step o w e
 same_fits f g step o w (Take collector row p h n) same fits =

@@ -56,7 +56,7 @@ fit_front : (show : List Point → Shown) (step : Bool) (o : TagOpening) (w : Ce
 fit_front show step o w [] ys all = tt
 fit_front show step o w (e ∷ xs) ys all = (all.0, fit_front show step o (after_entry w e) xs ys all.1)
 
--- the last take tells how many records there are
+-- the last take states how many records there are
 last_records-are : (step : Bool) (o : TagOpening) (w : CellWalk) (es : List Entry) (n : ℕ) → FitAll (replayed step o) step o w es
     → n ≡ length (state_after step o w.points).records → last_records n es ≡ length (state_after step o (cell_walked w es).points).records
 last_records-are step o w [] n all is = is

@@ -13,7 +13,7 @@ use Rattle.tag_cell.specs.Replays.{Shown, Fits, FitAll}
 
 -- ---- walks
 
--- the walk goes on by the entry
+-- the walk continues by the entry
 pub walked-push : (w : CellWalk) (es : List Entry) (e : Entry) → cell_walked w (es ++ e ∷ []) ≡ after_entry (cell_walked w es) e
 walked-push w [] e = refl
 walked-push w (x ∷ es) e = walked-push (after_entry w x) es e

@@ -13,30 +13,31 @@ use Rattle.tag_cell.specs.declared.entry.Entry.{Entry}
 use Rattle.tag_cell.specs.declared.history.TagOpening.{TagOpening}
 use Rattle.tag_cell.specs.Tapes.{acked_at, opened, taken}
 
--- an image recovers a state followed by some of these values, the oldest of them, and so many at least
+-- an image recovers a state followed by the oldest of these values, `least` at least
 pub record RecoversPart (def : TagDef) (s : State) (points : List Point) (least : ℕ) (c : List ℕ) : Type 0 where
   pub count : ℕ
   pub enough : least ≤ count
   pub within : count ≤ length points
   pub recovered : Recovers def c (replay def.step s (map Raw (take count points)))
 
--- fewer than 10^18 events are taken, after all takes
+-- after all takes, fewer than 10^18 events are taken
 abbrev pub IsCountable : TagOpening → List Entry → Type 0
 IsCountable o tape = o.summary.taken + length (taken tape) < 10 ^ 18
 
--- At each moment since the opening an image that a crash then might have left, which `left` tells, recovers the opening
--- followed by the oldest takes, with all that the last commit at that moment or before it acknowledges
+-- `left` says which images a crash at a moment could have left. An image of any moment since the opening recovers the
+-- opening followed by the oldest takes. These include all that the last commit at that moment, or before it,
+-- acknowledged.
 pub record IsSafe (def : TagDef) (o : TagOpening) (tape : List Entry) (left : ℕ → List ℕ → Type 0) : Type 0 where
   pub images : IsCountable o tape → (t : ℕ) (c : List ℕ) → o.moment ≤ t → left t c
       → RecoversPart def (opened o) (taken tape) (acked_at t o.summary.taken tape - o.summary.taken) c
 
--- a core that goes on by these values from a state that a device recovers
+-- a core that continues by these values from a state that a device recovers
 pub record GoesOnBy (def : TagDef) (s : State) (step : Bool) (r : State) (points : List Point) : Type 0 where
   pub same_step : step ≡ def.step
   pub fits : AllFit def.step s (map Raw points)
   pub state : r ≡ replay def.step s (map Raw points)
 
--- how many of so many waiting values a commit writes: 64 at most where a lane slot is free, else all
+-- how many of so many waiting values a commit writes: at most 64 if a lane slot is free, otherwise all
 abbrev pub count_written : ℕ → ℕ → ℕ
 count_written free waiting = if nat_eq free 0 then waiting else min 64 waiting
 

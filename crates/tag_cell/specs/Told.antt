@@ -1,4 +1,4 @@
--- What a cell is seen as, and what its type keeps.
+-- The model of a cell, and what its type guarantees.
 use Rattle.std.specs.Prelude.{◌≡◌, ◌⊎◌, ℕ, ◌+◌, ◌-◌, ◌*◌, ◌^◌, ◌<◌, ◌≤◌, Bool, true, false, List, [], ◌∷◌, ◌++◌, All, length, take, map, Option, None, Some, nat_eq, nat_le, nat_lt, MatchBool, if◌then◌else◌}
 use Rattle.atomic_table.specs.Seated.{TableId}
 use Rattle.trend_num.specs.declared.archive.Rec.{Rec}
@@ -30,8 +30,8 @@ use Rattle.tag_cell.specs.Tapes.{cell_start, cell_walked, taken, done, last_reco
 use Rattle.tag_cell.specs.Replays.{IsTapeReplayed}
 use Rattle.tag_cell.specs.Crashes.{IsCountable, IsSafe, count_written}
 
--- a cell on a device of this type: the tag's definition, its opening, its tape, its state, what its journal tells, and how many
--- takes its tape has room for
+-- A cell on a device of this type: the tag's definition, opening, tape and state, the model of its journal, and the
+-- number of takes for which its tape has room.
 pub record ToldCell (D : Type 0) : Type 0 where
   pub def : TagDef
   pub opening : TagOpening
@@ -40,7 +40,7 @@ pub record ToldCell (D : Type 0) : Type 0 where
   pub journal : Logged D
   pub room : ℕ
 
--- ---- what its type keeps
+-- ---- what its type guarantees
 
 -- the core and the content are in step with the tape
 pub record IsInStep (def : TagDef) (o : TagOpening) (tape : List Entry) (core : Core) (content : List Rec) : Type 0 where
@@ -50,7 +50,7 @@ pub record IsInStep (def : TagDef) (o : TagOpening) (tape : List Entry) (core : 
   pub in_range : All InRange (taken tape)
   pub fits : AllFit def.step (opened o) (map Raw (taken tape))
 
--- there is room for each take to come: for two records in the core and in the content, and for its entry
+-- there is room for each take to come: for its entry, and for two records in the core and in the content
 pub record HasRoomForTakes (o : TagOpening) (tape : List Entry) (places takes room core_spare content_spare : ℕ) : Type 0 where
   pub takes_are : takes ≡ length (taken tape)
   pub within : takes ≤ room
@@ -59,13 +59,13 @@ pub record HasRoomForTakes (o : TagOpening) (tape : List Entry) (places takes ro
   pub tape_room : room + length tape ≤ places + takes
   pub small : o.summary.taken < 2 ^ 63
 
--- the entries from one place on wait to be acknowledged, and so many records are durable
+-- the entries from one place on wait to be acknowledged; so many records are durable
 pub record Waits (o : TagOpening) (tape : List Entry) (next durable acked : ℕ) : Type 0 where
   pub within : next ≤ length tape
   pub acked_are : acked ≡ o.summary.taken + length (taken (take next tape))
   pub durable_are : durable ≡ last_records (length o.recs.items) (take next tape)
 
--- the device keeps what is acknowledged, for as long as no call of it failed
+-- the device keeps what is acknowledged, while no call of it has failed
 pub record IsKept (def : TagDef) (o : TagOpening) (tape : List Entry) (next : ℕ) (failed : Bool) (trace : Option Trace)
     (ticks faults : ℕ) : Type 0 where
   pub recovers : failed ≡ false → IsCountable o tape
@@ -82,7 +82,7 @@ pub record IsPosted (board : List TableId) (p : Posting) (s : State) : Type 0 wh
 
 -- ---- refusals
 
--- why a cell does not take a value, if it does not
+-- why a cell does not take a value, or None if it takes it
 abbrev pub take_refusal : {D : Type 0} → ToldCell D → Option TakeNo
 take_refusal s =
     if s.journal.failed then Some Broken
@@ -100,7 +100,7 @@ pub record IsTakenBy {D : Type 0} (collector row : ℕ) (p : Point) (old new : T
     state = after old.def.step old.state (Raw p);
   }
 
--- the cell has answered this question so
+-- the cell has answered this question with this reply
 pub record IsAskedBy {D : Type 0} (reader row : ℕ) (query : TagQuery) (told : Reply) (old new : ToldCell D) : Type 0 where
   pub kept : Reply
   pub alike : AreAlike kept told
@@ -119,14 +119,14 @@ pub record AreTakesAcknowledged {D : Type 0} (before now : ℕ) (a : Acked) (old
   pub later : before < now
   pub same : new ≡ record old { journal = new.journal; tape = old.tape ++ Commit now a.acked ∷ [] }
 
--- a commit, at these clocks before it and after: nothing waited, and nothing changed; or so many values as are written at
--- once are acknowledged, and an entry tells it
+-- A commit; these are the clocks before it and after it. Either nothing waited, and nothing changed. Or as many values
+-- as one commit writes are acknowledged, and an entry states this.
 abbrev pub IsCommitted : {D : Type 0} → ℕ → ℕ → Acked → ToldCell D → ToldCell D → Type 0
 IsCommitted before now a old new =
     MatchBool (nat_eq (takes_waiting old) 0) ((new ≡ old) × (a ≡ record { acked = old.journal.acked; waiting = 0 }))
     (AreTakesAcknowledged before now a old new)
 
--- a cell whose device failed: nothing else changed
+-- the device of a cell failed; nothing else changed
 pub record IsCellFaulted {D : Type 0} (old new : ToldCell D) : Type 0 where
   pub failed : new.journal.failed ≡ true
   pub same_acked : new.journal.acked ≡ old.journal.acked
@@ -136,9 +136,9 @@ pub record IsCellFaulted {D : Type 0} (old new : ToldCell D) : Type 0 where
 abbrev pub durable_records : {D : Type 0} → ToldCell D → List Rec
 durable_records s = (state_after s.def.step s.opening (done s.opening (cell_walked (cell_start s.opening) s.tape))).records
 
--- ---- what is handed out at the end
+-- ---- what is returned at the end
 
--- the history of a cell on a device that tells these calls, this clock and these faults
+-- the history of a cell on a device with these calls, this clock and these faults
 pub record IsCellHistory (t : TagHistory) (trace : Option Trace) (ticks faults : ℕ) : Type 0 where
   pub replayed : IsTapeReplayed t.def t.opening t.tape.items (record { records = t.recs.items; summary = t.summary }) t.acked
   pub safe : IsSafe t.def t.opening t.tape.items (LeftSince trace)

@@ -19,7 +19,7 @@ use std::alloc::Global;
 use tag_core::TagCore;
 use trend_num::Point;
 
-// How many values a batch has at most.
+// The most values that a batch has.
 const MOST_IN_BATCH: usize = 64;
 
 impl From<PutNo> for CommitNo {
@@ -36,7 +36,7 @@ impl From<PutNo> for CommitNo {
     }
 }
 
-// The values that have waited longest, and how many entries were gone over for them.
+// The values that have waited longest, and the number of entries that they take up.
 #[derive(Drop)]
 pub(crate) struct Batch {
     pub points: [Point; MOST_IN_BATCH],
@@ -45,7 +45,7 @@ pub(crate) struct Batch {
 }
 
 impl Batch {
-    // Goes over one more entry.
+    // Goes past one more entry, and adds its value if it is a take.
     fn add(&mut self, entry: &Entry)
         requires room { self.old.count < 64 }
         requires few { self.old.entries < 2 ^ 64 - 1 }
@@ -62,7 +62,7 @@ impl Batch {
     }
 }
 
-// The oldest values of these entries, 64 at most.
+// Returns the oldest values of these entries, at most 64.
 pub(crate) fn oldest(rest: &[Entry]) -> Batch
     ensures within { result.entries ≤ length rest.now }
     ensures points { take result.count result.points ≡ taken (take result.entries rest.now) }
@@ -80,7 +80,7 @@ pub(crate) fn oldest(rest: &[Entry]) -> Batch
     batch
 }
 
-// How many records there are after the last take of these entries, or so many where there is none.
+// Returns how many records there are after the last take of these entries, or `records` if there is none.
 pub(crate) fn records_after(records: u32, entries: &[Entry]) -> u32
     ensures { result ≡ last_records records entries.now }
 {
@@ -93,8 +93,8 @@ pub(crate) fn records_after(records: u32, entries: &[Entry]) -> u32
     last
 }
 
-// Writes waiting values to the device: the oldest 64 or fewer as a batch, or, where the lane has no free slot, all of them by
-// a checkpoint. Answers for how many entries that is.
+// Writes waiting values to the device: the oldest 64 or fewer as a batch. If the lane has no free slot, it writes all
+// of them with a checkpoint. Returns how many entries that is.
 pub(crate) fn write_waiting<D: Disk>(
     alloc: Global,
     journal: &mut Journal<D>,
@@ -107,8 +107,9 @@ pub(crate) fn write_waiting<D: Disk>(
     requires small { core.now.state.summary.taken < 2 ^ 64 }
     requires in_range { All InRange (taken rest.now) }
 
-    // A crash at any moment leaves an image that recovers what each recovered before, followed by some of the values; at Ok,
-    // by those that were written. This is said of a core that has taken fewer than 10^18 events.
+    // An image that a crash leaves at any moment recovers what each image recovered before, followed by some of the
+    // values. At Ok these are the values that were written. The clauses hold for a core that has taken fewer than 10^18
+    // events.
     ensures any_moment { core.now.state.summary.taken < 10 ^ 18
         → (def : TagDef) (s : State) → AllRecover def (D.trace journal.old.dev) s
         → GoesOnBy def s core.now.step core.now.state (taken rest.now)

@@ -14,7 +14,7 @@ use std::sync::Arc;
 use tag_core::TagCore;
 use trend_num::{Rec, Summary, TagDef};
 
-/// A tag of a plant that runs.
+/// A tag of a running plant.
 #[derive(Drop)]
 pub struct Cell<D: Disk> {
     pub(crate) alloc: Global,
@@ -24,10 +24,10 @@ pub struct Cell<D: Disk> {
     pub(crate) journal: Journal<D>,
     pub(crate) opening: TagOpening,
     pub(crate) tape: Vec<Entry>,
-    // How many takes the tape has, and how many it may have.
+    // How many takes the tape has, and how many it can have.
     pub(crate) takes: u32,
     pub(crate) room: u32,
-    // The takes before this place of the tape are acknowledged, and this many records are theirs or the opening's.
+    // The takes before the place `next` of the tape are acknowledged; `durable` records are theirs or the opening's.
     pub(crate) next: usize,
     pub(crate) durable: u32,
     pub(crate) board: Arc<Board, Global>,
@@ -68,7 +68,7 @@ impl<D: Disk> Cell<D> {
     ghost use Rattle.trend_num.specs.Ranges.{InRange};
     ghost use Rattle.disk_model.specs.Calls.{Rose};
 
-    /// The records, the oldest first. There are fewer than 2^32, and their points are in range.
+    /// Returns the records, the oldest first. There are fewer than 2^32, and their points are in range.
     pub fn recs(&self) -> &[Rec]
         ensures records { result.now ≡ self.now.state.records }
         ensures short { length result.now < 2 ^ 32 }
@@ -79,42 +79,43 @@ impl<D: Disk> Cell<D> {
         self.core.recs()
     }
 
-    /// The state beside the records.
+    /// Returns the part of the state that is not records.
     pub fn summary(&self) -> Summary
         ensures { result ≡ self.now.state.summary }
     {
         self.core.summary()
     }
 
-    /// The tag as it was opened.
+    /// Returns what the tag was opened as.
     pub fn opening(&self) -> &TagOpening
         ensures { result.now ≡ self.now.opening }
     {
         &self.opening
     }
 
-    /// What the tag is.
+    /// Returns the definition of the tag.
     pub fn def(&self) -> &TagDef
         ensures { result.now ≡ self.now.def }
     {
         &self.def
     }
 
-    /// What the calls so far left, the oldest first.
+    /// Returns the entries that the calls left, the oldest first.
     pub fn tape(&self) -> &[Entry]
         ensures { result.now ≡ self.now.tape }
     {
         &self.tape
     }
 
-    /// How often a call of the device has failed.
+    /// Returns how many calls of the device have failed.
     pub fn device_faults(&self) -> u64
         ensures { result ≡ D.fault_count self.now.journal.dev }
     {
         self.journal.faults()
     }
 
-    /// Whether an earlier commit answered DeviceFault. The device has then more faults than as it was opened.
+    /// Returns whether an earlier commit answered DeviceFault. If so, the device has more faults than when it was
+    /// opened.
     pub fn broken(&self) -> bool
         ensures value { result ≡ self.now.journal.failed }
         ensures cause { IsTrue result → Rose self.now.opening.faults (D.fault_count self.now.journal.dev) }
@@ -122,7 +123,7 @@ impl<D: Disk> Cell<D> {
         self.journal.failed()
     }
 
-    /// The device, and all that happened to the tag since it was opened.
+    /// Returns the device, and the history of the tag since it was opened.
     pub fn into_history(self) -> (D, TagHistory)
         ensures device { result.0 ≡ self.journal.dev }
         ensures def { result.1.def ≡ self.def }

@@ -1,4 +1,4 @@
-// Values are acknowledged.
+// The commit of the values that wait.
 ghost use Rattle.std.specs.Prelude.{◌≡◌, ◌↔◌, Err, Ok, IfOk, IsErrOf, OnErr, false, true};
 ghost use Rattle.disk_model.specs.Calls.{CountsFault};
 ghost use Rattle.tag_cell.specs.declared.entry.CommitNo.TheVariants.{Broken, DeviceFault, WantOfMemory as NoMemory};
@@ -23,9 +23,10 @@ impl From<WantOfMemory> for CommitNo {
 }
 
 impl<D: Disk> Cell<D> {
-    /// Acknowledges the values that have waited longest: 64 or fewer as a batch, or, where the lane has no free slot, all of
-    /// them by a checkpoint. Where nothing waits, nothing is called and nothing changes. After a device fault the cell is
-    /// broken; after want of memory it is as it was, and nothing was called.
+    /// Acknowledges the values that have waited longest: 64 or fewer as a batch. If the lane has no free slot, it
+    /// acknowledges all of them with a checkpoint. If no value waits, it calls nothing and changes nothing.
+    /// `DeviceFault` breaks the cell, and `Broken` answers every commit after it. After `WantOfMemory` the cell is as
+    /// before, and the device was not called. Returns how many events are acknowledged, and how many values still wait.
     pub fn commit(&mut self) -> Result<Acked, CommitNo>
         ensures broken { IsErrOf result Broken ↔ (self.old.journal.failed ≡ true) }
         ensures idle { self.old.journal.failed ≡ false → takes_waiting self.old ≡ 0

@@ -1,4 +1,4 @@
-// What the calls of a cell leave on its tape, answer and refuse.
+// What calls of a cell leave on its tape, what they answer, and what they refuse.
 use interp_read::Reply;
 use trend_num::{Point, Rec, TagQuery};
 
@@ -32,7 +32,7 @@ pub enum Entry {
         group: u32,
         /// The place of the first record that was handed out.
         from: u32,
-        /// The place behind the last one.
+        /// The place after the last one.
         upto: u32,
     },
     /// Raw values were acknowledged.
@@ -44,14 +44,14 @@ pub enum Entry {
     },
 }
 
-/// Where the entry of a call stands on the tape.
+/// The place of a call's entry on the tape.
 #[derive(Clone, Copy, Debug, PartialEq, Eq)]
 pub struct Receipt {
-    /// Its place, counted from 0.
+    /// The place, counted from 0.
     pub place: u64,
 }
 
-/// What is acknowledged after a commit.
+/// What a commit has acknowledged.
 #[derive(Clone, Copy, Debug, PartialEq, Eq)]
 pub struct Acked {
     /// How many events of the tag no crash takes away.
@@ -63,7 +63,7 @@ pub struct Acked {
 /// Records that were handed out.
 #[derive(Drop)]
 pub struct Pulled {
-    /// The place behind the last of them.
+    /// The place after the last of them.
     pub upto: u32,
     pub recs: Vec<Rec>,
 }
@@ -75,16 +75,16 @@ pub enum TakeNo {
     Broken,
     /// The tape has as many takes as it has room for.
     RoomFull { room: u32 },
-    /// One more event could bring too many records; so many there are now.
+    /// One more event could bring too many records. There are `records` now.
     Full { records: u32 },
 }
 
 /// Why no records are handed out.
 #[derive(Clone, Copy, Debug, PartialEq, Eq)]
 pub enum PullNo {
-    /// The place is behind all records of the opening and of the acknowledged takes, of which there are `acked`.
+    /// The place is after all records of the opening and of the acknowledged takes. There are `acked` of these.
     Ahead { from: u32, acked: u32 },
-    /// No memory was found.
+    /// There was not enough memory.
     WantOfMemory,
 }
 
@@ -93,8 +93,8 @@ pub enum PullNo {
 pub enum CommitNo {
     /// An earlier commit answered DeviceFault.
     Broken,
-    /// A call of the device failed. The device is opened again before it is used.
+    /// A call of the device failed. It has to be opened again before it is used.
     DeviceFault,
-    /// No memory was found; nothing was called.
+    /// There was not enough memory; the device was not called.
     WantOfMemory,
 }

@@ -1,4 +1,4 @@
-// What a cell was opened with, and what it hands out at the end.
+// What a cell was opened with, and what it returns at the end.
 use crate::entry::Entry;
 use trend_num::{Rec, Summary, TagDef};
 
@@ -7,9 +7,9 @@ use trend_num::{Rec, Summary, TagDef};
 pub struct TagOpening {
     /// The records, the oldest first.
     pub recs: Vec<Rec>,
-    /// The state beside them.
+    /// The part of the state that is not records.
     pub summary: Summary,
-    /// The device's clock as the opening ended.
+    /// The device's clock at the end of the opening.
     pub moment: u64,
     /// How often a call of the device had failed.
     pub faults: u64,
@@ -24,7 +24,7 @@ pub struct TagHistory {
     pub tape: Vec<Entry>,
     /// The records at the end.
     pub recs: Vec<Rec>,
-    /// The state beside them at the end.
+    /// The part of the state at the end that is not records.
     pub summary: Summary,
     /// How many events are acknowledged at the end.
     pub acked: u64,

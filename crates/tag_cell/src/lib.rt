@@ -1,14 +1,24 @@
 //! One tag of a running plant, as it lies under its lock.
 //!
-//! A cell has the core of a tag, the content of its records, the journal of its device, the board on which it posts, and a
-//! tape: each call leaves one entry, which says what was taken, answered, handed out or acknowledged. The model is the tag's
-//! definition, its opening, its tape, its state, what the journal tells and the room of the tape. What is found under a lock
-//! is known by its type alone, so the type keeps all that a session knows once its workers have ended: the tape replays from
-//! the opening (`specs/Replays.antt`), the content is that of the records, the poster's last snapshot is the tag's own, and at
-//! each moment since the opening a crash leaves the opening followed by the oldest takes, with all that a commit had
-//! acknowledged by then (`specs/Crashes.antt`). A replayed history is legal for every history for which its opening stands;
-//! that is a law. A take needs no memory and, where the cell is not broken and has room, succeeds. A refused call changes
-//! nothing, but that a device fault breaks the cell: takes and commits are refused then, and questions and pulls go on.
+//! A cell has the core of a tag, the content of its records, the journal of its device, the board on which it posts,
+//! and a tape. Each call that succeeds leaves one entry on the tape: what was taken, answered, handed out or
+//! acknowledged. Only a commit for which no value waits leaves none. The model of a cell is the tag's definition,
+//! opening, tape and state, the model of its journal, and the room of its tape.
+//!
+//! Whoever takes the lock knows of the cell only what its type guarantees. So the type keeps all that a session knows
+//! once its workers have ended:
+//!
+//! - The tape replays from the opening (`specs/Replays.antt`).
+//! - The content is that of the records.
+//! - The last snapshot that the poster posted is the tag's own.
+//! - A crash at any moment since the opening leaves the opening followed by the oldest takes. These include all that a
+//!   commit had acknowledged by then (`specs/Crashes.antt`).
+//!
+//! By a law, a replayed tape is legal for every history for which its opening stands.
+//!
+//! A take needs no memory. It succeeds if the cell is not broken, and has room for the take and its records. A refused
+//! call changes nothing, with one exception: a device fault breaks the cell. A broken cell refuses takes and commits,
+//! and still serves questions and pulls.
 #![tactic(auto)]
 
 mod batch;

@@ -1,4 +1,4 @@
-// A cell is opened.
+// The opening of a cell.
 ghost use Rattle.std.specs.Prelude.{◌≡◌, ◌⊎◌, ◌*◌, ◌^◌, ◌<◌, ◌≤◌, [], IfOk, IfErr, Some, true, false, length};
 ghost use Rattle.std.specs.Arc.{arc_value};
 ghost use Rattle.trend_num.specs.Ranges.{TuningInRange};
@@ -24,8 +24,8 @@ use std::sync::{Arc, Wait};
 use tag_core::TagCore;
 use trend_num::{Snap, TagDef, WantOfMemory};
 
-/// Opens the device of a tag, with room for so many takes, and posts what the tag shows then. The poster is one of this
-/// board's, and has posted nothing. What a device is opened as, and why it is refused, is as `open_tag` says.
+/// Opens the device of a tag, with room for `room` takes, and posts what the tag shows at first. The poster has to be
+/// one of this board that has posted nothing. What the device is opened as, and why it is refused, follows `open_tag`.
 pub fn open_cell<D: Disk, R: Wait>(
     rt: &R,
     alloc: Global,
@@ -103,7 +103,7 @@ pub fn open_cell<D: Disk, R: Wait>(
     })
 }
 
-// There is no memory for a cell on this device.
+// Returns the device, with the refusal that there is no memory for a cell on it.
 fn refused<D: Disk>(dev: D) -> OpenFail<D>
     ensures dev { result.dev ≡ dev }
     ensures why { result.why ≡ NoMemory }
@@ -114,14 +114,14 @@ fn refused<D: Disk>(dev: D) -> OpenFail<D>
     }
 }
 
-// The content of a core's records, with room for those of so many takes more.
+// Returns the content of a core's records, with room for the records of so many more takes.
 fn content_of(alloc: Global, core: &TagCore, room: u32) -> Result<Content, WantOfMemory>
     requires { 2 * room ≤ core.now.spare }
     ensures content { IfOk result (λ content. content.records ≡ listed core.now.state.records) }
     ensures room { IfOk result (λ content. 2 * room ≤ content.spare) }
 {
     let recs = core.recs();
-    // The spare places are fewer than 2^32, so twice the room is.
+    // The core has fewer than 2^32 spare places, so twice the room is fewer too.
     let _spare = core.spare();
     Content::from_records(alloc, recs, 2 * room)
 }

@@ -1,4 +1,4 @@
-// Questions about a tag, and records for a group.
+// Questions about a tag, and records that a group pulls.
 ghost use Rattle.std.specs.Prelude.{◌≡◌, ◌↔◌, ℕ, ◌+◌, ◌-◌, ◌^◌, ◌<◌, ◌≤◌, [], ◌∷◌, ◌++◌, All, drop, take, Err, IfOk, IsErrOf, OnErr, OnOk, length, vec_len, vec_capacity};
 ghost use Rattle.trend_num.specs.Queries.{IsTagQuery};
 ghost use Rattle.trend_num.specs.Ranges.{InRange};
@@ -28,8 +28,8 @@ impl From<WantOfMemory> for PullNo {
 }
 
 impl<D: Disk> Cell<D> {
-    /// Answers a question about the closed content, of a step tag by its stair. The one error is want of memory; the cell is
-    /// then as it was.
+    /// Answers a question about the closed content. Of a step tag it uses the stair. Leaves an entry with the answer on
+    /// the tape. The one error is want of memory; the cell is then as before.
     pub fn ask(
         &mut self,
         reader: u32,
@@ -57,8 +57,9 @@ impl<D: Disk> Cell<D> {
         Ok((Receipt { place }, copy))
     }
 
-    /// Hands out the records of the opening and of the acknowledged takes, from a place on. `Ahead` exactly where the place
-    /// is behind all of them. The cell is as it was after an error.
+    /// Returns the records of the opening and of the acknowledged takes, from the place `from` on. `Ahead` comes
+    /// exactly if the place is after all of these. `WantOfMemory` can come at any other time. After an error the cell
+    /// is as before.
     pub fn pull(&mut self, group: u32, from: u32) -> Result<Pulled, PullNo>
         ensures ahead { (length (durable_records self.old) < from) ↔ (result ≡ Err (Ahead from (length (durable_records self.old)))) }
         ensures carried { (f a : ℕ) → IsErrOf result (Ahead f a)
@@ -83,7 +84,7 @@ impl<D: Disk> Cell<D> {
     }
 }
 
-// Makes a place on a tape, beside those for so many takes to come.
+// Makes a place on a tape, in addition to those for so many takes to come.
 pub(crate) fn make_places(tape: &mut Vec<Entry>, takes_to_come: u32) -> Result<(), WantOfMemory>
     ensures same { tape.new.items ≡ tape.old.items }
     ensures room { OnOk result (vec_len tape.old + takes_to_come + 1 ≤ vec_capacity tape.new) }
@@ -93,7 +94,7 @@ pub(crate) fn make_places(tape: &mut Vec<Entry>, takes_to_come: u32) -> Result<(
     Ok(())
 }
 
-// The records from one place on, before another.
+// Returns a copy of the records from one place up to another.
 fn copied(alloc: Global, recs: &[Rec], from: u32, upto: u32) -> Result<Vec<Rec>, WantOfMemory>
     requires order { from ≤ upto }
     requires within { upto ≤ length recs.now }

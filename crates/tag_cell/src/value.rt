@@ -1,4 +1,4 @@
-// A raw value is taken.
+// The take of a raw value.
 ghost use Rattle.std.specs.Prelude.{◌≡◌, ◌↔◌, ◌+◌, ◌-◌, ◌^◌, ◌<◌, ◌≤◌, [], ◌∷◌, ◌++◌, All, IfOk, IfErr, IsErr, None, OnErr, OnOk, Some, MatchResult, length, fold};
 ghost use Rattle.trend_num.specs.declared.point.Point.{Point};
 ghost use Rattle.trend_num.specs.Limits.{most_records};
@@ -32,8 +32,9 @@ impl From<Full> for TakeNo {
 }
 
 impl<D: Disk> Cell<D> {
-    /// Takes a raw value, and posts what the tag shows after it. It is refused where the cell is broken, else where the tape
-    /// has no room for a take, else where the records could become too many; the cell is then as it was.
+    /// Takes a raw value, and posts what the tag shows after it. It is refused if the cell is broken (`Broken`), else
+    /// if the tape has no room for a take (`RoomFull`), else if the tag could have too many records (`Full`). After a
+    /// refusal the cell is as before.
     pub fn take<R: Wait>(
         &mut self,
         rt: &R,
@@ -72,7 +73,7 @@ impl<D: Disk> Cell<D> {
     }
 }
 
-// Takes a raw value into a core and the content of its records, and answers the point that closes the line after it.
+// Takes a raw value into a core and the content of its records. Returns the point that closes the line after it.
 #[inline(always)]
 fn take_value<L: Ledger>(
     core: &mut TagCore,

@@ -7,7 +7,7 @@ use Rattle.tag_cell.proofs.Tapes.{last_records-more}
 use Rattle.tag_cell.proofs.batch.records_after.Goals.{in-Take, in_default}
 use Rattle.tag_cell.proofs.batch.records_after.Goals as goal
 
--- an entry that is no take tells no number of records
+-- an entry that is no take has no number of records
 quiet : (n : ℕ) (e : Entry) → ((collector row : ℕ) (p h : Point) (k : ℕ) → e ≡ Take collector row p h k → ⊥) → last_records n (e ∷ []) ≡ n
 quiet n (Take collector row p h k) not = absurd (not collector row p h k refl)
 quiet n (Ask reader row q a) not = refl

@@ -26,7 +26,7 @@ not_idle g c none =
     let shown = ap (λ (t : ToldCell _). takes_waiting t) c.self.view_is in
     omega (arith, count, shown, none, c.if-acked-taken.false, c.acked-acked.ensures, c.taken-taken.ensures)
 
--- the entries that are handed on are those behind the last commit
+-- the entries that are handed on are those after the last commit
 from : (g : given.Over) (c : After-deref g)
     → take (length c.deref.result.now - c.self.inside.next) (drop c.self.inside.next c.deref.result.now)
     ≡ drop c.self.inside.next c.self.inside.tape.items
